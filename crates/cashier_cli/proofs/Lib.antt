@@ -1,0 +1,3 @@
+pub mod IsolationFacts
+pub mod LineFacts
+pub mod SheetFacts

@@ -1,0 +1,104 @@
+-- What a parse of the program's own command line says.
+use Rattle.std.proofs.Common.{◌≡◌, ◌≢◌, ◌∙◌, inl, inr, ap, sym, refl, subst, true, ℕ, List, [], Option, Some, None, IfSome, IfNone, Result, IfErr, IfOk, option_map, option_and_then, codes}
+use Rattle.std.specs.Option.{ok_or}
+use Rattle.clap.specs.Words.{App, Row, Text, fault_of, first_of, found_of, is_simple, is_simple_and_free, kind_of, matches_of, rows_of, subcommand_name_of, subcommand_of, subcommand_rows_of}
+use Rattle.clap.specs.Kinds.{HasKind, Kinds}
+use Rattle.clap.specs.declared.error.Error.{Error}
+use Rattle.clap.specs.declared.error.kind.ErrorKind.TheVariants.{OutOfMemory}
+use Rattle.clap.specs.declared.parser.matches.ArgMatches.{ArgMatches}
+use Rattle.clap.proofs.OnLiterals.{clap_on_literals}
+use Rattle.trust_base.specs.Texts.{day_of}
+use Rattle.cashier_cli.specs.Program.{Gives, LeavesNoPlan, Means, MeansNothing, program, sheet_app, today_rule}
+use Rattle.cashier_cli.specs.declared.command.CliFault.{CliFault}
+use Rattle.cashier_cli.specs.declared.command.CliFault.TheVariants as faults
+use Rattle.cashier_cli.specs.declared.command.Task.{Task}
+
+is_simple_program : is_simple program ≡ true
+unfolding clap_on_literals program sheet_app today_rule
+is_simple_program = refl
+
+is_free_program : is_simple_and_free program ≡ true
+unfolding clap_on_literals program sheet_app today_rule
+is_free_program = refl
+
+parses : (a : App) (words : List Text) → a ≡ program → (is_simple_and_free a ≡ true → fault_of a words ≡ []) → fault_of program words ≡ []
+parses a words same kinds = sym (ap (λ (x : App). fault_of x words) same) ∙ kinds (ap is_simple_and_free same ∙ is_free_program)
+
+-- an error of the parse that is not want of memory: the command line does not take the words
+pub fails : (a : App) (words : List Text) (e : Error) → a ≡ program → (is_simple_and_free a ≡ true → HasKind (fault_of a words) e) → kind_of e ≢ OutOfMemory
+    → fault_of program words ≡ [] → ⊥
+fails a words e same kinds memory none =
+    let has = subst (λ (x : App). HasKind (fault_of x words) e) same (kinds (ap is_simple_and_free same ∙ is_free_program)) in
+    elim (subst (λ (k : Kinds). HasKind k e) none has) [
+      | inl m ↦ memory m
+      | inr h ↦ absurd h
+    ]
+
+twice : {X Y Z : Type 0} (f : Y → Z) (g : X → Y) (o : Option X) → option_map f (option_map g o) ≡ option_map (λ x. f (g x)) o
+twice f g None = refl
+twice f g (Some x) = refl
+
+-- the name of the command that a parse met, also beside its rows
+name_in_rows : (m : ArgMatches) → option_map (λ (q : Text × List Row). q.0) (subcommand_rows_of m) ≡ subcommand_name_of m
+name_in_rows m = twice _ _ _
+
+-- the values of a parse are those of the command line
+abbrev HasValues : App → List Text → ArgMatches → Type 0
+HasValues a words m = is_simple a ≡ true → (rows_of (found_of m) ≡ matches_of a words) × (subcommand_rows_of m ≡ subcommand_of a words)
+
+rows_are : (a : App) (words : List Text) (m : ArgMatches) → a ≡ program → HasValues a words m → rows_of (found_of m) ≡ matches_of program words
+rows_are a words m same has = (has (ap is_simple same ∙ is_simple_program)).0 ∙ ap (λ (x : App). matches_of x words) same
+
+name_is : (a : App) (words : List Text) (m : ArgMatches) → a ≡ program → HasValues a words m
+    → subcommand_name_of m ≡ option_map (λ (q : Text × List Row). q.0) (subcommand_of program words)
+name_is a words m same has =
+    sym (name_in_rows m) ∙ ap (option_map (λ (q : Text × List Row). q.0)) ((has (ap is_simple same ∙ is_simple_program)).1 ∙ ap (λ (x : App). subcommand_of x words) same)
+
+given : (rows rows2 : List Row) (name name2 : Option Text) (today : ℕ) (task : Task) → rows ≡ rows2 → name ≡ name2 → Gives rows name today task → Gives rows2 name2 today task
+given rows rows2 name name2 today task r n g = record {
+  day = sym (ap (λ (x : List Row). option_and_then day_of (first_of (codes "today") x)) r) ∙ g.day;
+  named = sym n ∙ g.named;
+}
+
+-- what the values of a parse give is what the words mean
+pub means : (a : App) (words : List Text) (m : ArgMatches) → a ≡ program → (is_simple_and_free a ≡ true → fault_of a words ≡ []) → HasValues a words m
+    → (today : ℕ) (task : Task) → Gives (rows_of (found_of m)) (subcommand_name_of m) today task → Means words today task
+means a words m same kinds has today task g = record {
+  parses = parses a words same kinds;
+  gives = given _ _ _ _ today task (rows_are a words m same has) (name_is a words m same has) g;
+}
+
+-- and the other way round
+pub gives : (a : App) (words : List Text) (m : ArgMatches) → a ≡ program → HasValues a words m
+    → (today : ℕ) (task : Task) → Means words today task → Gives (rows_of (found_of m)) (subcommand_name_of m) today task
+gives a words m same has today task says =
+    given _ _ _ _ today task (sym (rows_are a words m same has)) (sym (name_is a words m same has)) says.gives
+
+-- what becomes of a fact of a value that may be missing
+pub ok_after : {X E : Type 0} (o : Option X) (r : Result X E) (e : E) (P Q : X → Type 0) → r ≡ ok_or o e → ((x : X) → P x → Q x) → IfSome o P → IfOk r Q
+ok_after None r e P Q same to h = rw same tt
+ok_after (Some x) r e P Q same to h = rw same (to x h)
+
+pub err_after : {X E : Type 0} (o : Option X) (r : Result X E) (e : E) (P : Type 0) (Q : E → Type 0) → r ≡ ok_or o e → IfNone o P → (P → Q e) → IfErr r Q
+err_after None r e P Q same h to = rw same (to h)
+err_after (Some x) r e P Q same h to = rw same tt
+
+-- a fault that is Line only where the words mean nothing
+pub leaves : (words : List Text) (fault : CliFault) → (fault ≡ faults.Line → MeansNothing words) → LeavesNoPlan words fault
+leaves words faults.Line h = h refl
+leaves words faults.Memory h = tt
+
+-- no word, no day
+pub no_word : (o : Option Text) (day : ℕ) → o ≡ None → option_and_then day_of o ≡ Some day → ⊥
+no_word None day e h = cc
+no_word (Some w) day e h = cc
+
+-- a word that is no day's
+pub no_day : (o : Option Text) (w : Text) (day : ℕ) → o ≡ Some w → day_of w ≡ None → option_and_then day_of o ≡ Some day → ⊥
+no_day None w day e n h = cc
+no_day (Some v) w day e n h = cc
+
+-- a word that is a day's
+pub a_day : (o : Option Text) (w : Text) (day : ℕ) → o ≡ Some w → day_of w ≡ Some day → option_and_then day_of o ≡ Some day
+a_day None w day e d = cc
+a_day (Some v) w day e d = cc

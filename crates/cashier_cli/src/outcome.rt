@@ -1,0 +1,68 @@
+// How a run of the program ends.
+
+ghost use Rattle.std.specs.Prelude.{◌≡◌, option_map};
+ghost use Rattle.cashier_cli.specs.Outcome.{exit_status, notice, sheet_outcome, words_outcome};
+
+use crate::sheet::SheetEnd;
+use std::io::ErrorKind;
+
+/// How a run of the program ended.
+#[derive(Clone, Copy, PartialEq, Eq, Debug)]
+pub enum Outcome {
+    /// All was done.
+    Done,
+    /// Something was refused.
+    Refused,
+    /// The command line names no run.
+    CommandLine,
+    /// A read or a write failed.
+    FileFault,
+    /// A growth was refused.
+    MemoryFault,
+}
+
+/// The exit status: 0 done, 1 something was refused, 2 the command line, 3 a fault.
+pub fn status_of(outcome: Outcome) -> u8
+    ensures { result ≡ exit_status outcome }
+{
+    match outcome {
+        Outcome::Done => 0,
+        Outcome::Refused => 1,
+        Outcome::CommandLine => 2,
+        Outcome::FileFault | Outcome::MemoryFault => 3,
+    }
+}
+
+/// What standard error is told of an outcome, without the line's end.
+pub fn notice_of(outcome: Outcome) -> Option<&'static str>
+    ensures { option_map (λ s. s.now) result ≡ notice outcome }
+{
+    match outcome {
+        Outcome::Done | Outcome::Refused => None,
+        Outcome::CommandLine => Some("usage: cashier_cli --today DAY sheet"),
+        Outcome::FileFault => Some("file fault"),
+        Outcome::MemoryFault => Some("memory fault"),
+    }
+}
+
+/// The outcome of a run whose words were not read: want of memory, or a word that is no text.
+pub fn outcome_of_words(kind: ErrorKind) -> Outcome
+    ensures { result ≡ words_outcome kind }
+{
+    match kind {
+        ErrorKind::OutOfMemory => Outcome::MemoryFault,
+        _ => Outcome::CommandLine,
+    }
+}
+
+/// The outcome of a sheet's run.
+pub fn outcome_of_sheet(end: SheetEnd) -> Outcome
+    ensures { result ≡ sheet_outcome end }
+{
+    match end {
+        SheetEnd::Done => Outcome::Done,
+        SheetEnd::Refused => Outcome::Refused,
+        SheetEnd::ReadFault | SheetEnd::WriteFault => Outcome::FileFault,
+        SheetEnd::NoMemory => Outcome::MemoryFault,
+    }
+}

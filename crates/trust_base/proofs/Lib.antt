@@ -1,0 +1,10 @@
+pub mod WholeFacts
+pub mod AmountFacts
+pub mod FixedFacts
+pub mod ReadFacts
+pub mod NameFacts
+pub mod EntryFacts
+pub mod DayFacts
+pub mod CsvRecords
+pub mod SignedFacts
+pub mod CivilDayFacts

@@ -1,0 +1,33 @@
+-- The texts on a bank's lines.
+use Rattle.std.specs.Prelude.{ℕ, Bool, ◌&&◌, nat_le, List, length, Option}
+use Rattle.std.specs.List.{list_all}
+use Rattle.std.specs.Str.{is_utf8}
+use Rattle.trust_base.specs.Names.{text_if}
+
+-- a printed ASCII character or a space
+abbrev pub is_printed_byte : ℕ → Bool
+is_printed_byte b = nat_le 0x20 b && nat_le b 0x7E
+
+-- the greatest length of a reference, in bytes
+abbrev pub MAX_BANK_TEXT : ℕ
+MAX_BANK_TEXT = 64
+
+-- the greatest length of a line's text, in bytes
+abbrev pub MAX_LINE_TEXT : ℕ
+MAX_LINE_TEXT = 1000
+
+-- at most 64 bytes, each a printed ASCII character or a space
+unfoldable pub is_bank_text : List ℕ → Bool
+is_bank_text bs = nat_le (length bs) MAX_BANK_TEXT && list_all is_printed_byte bs
+
+-- at most 1000 bytes of UTF-8
+unfoldable pub is_line_text : List ℕ → Bool
+is_line_text bs = nat_le (length bs) MAX_LINE_TEXT && is_utf8 bs
+
+-- the reference of a text
+abbrev pub bank_text_of : List ℕ → Option (List ℕ)
+bank_text_of bs = text_if (is_bank_text bs) bs
+
+-- the line's text of a text
+abbrev pub line_text_of : List ℕ → Option (List ℕ)
+line_text_of bs = text_if (is_line_text bs) bs

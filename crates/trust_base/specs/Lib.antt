@@ -1,0 +1,7 @@
+pub mod CsvRecords
+pub mod Limits
+pub mod Streams
+pub mod Texts
+pub mod Names
+pub mod BankTexts
+pub mod Refusals

@@ -1,0 +1,31 @@
+// Writing a text.
+
+ghost use Rattle.std.specs.Prelude.{ℕ, ◌<◌, length, take, OnOk, OnErr};
+ghost use Rattle.std.specs.Io.KnownBytes.{Appends};
+
+use std::io::Write;
+
+/// A write failed, or took no byte.
+#[derive(Clone, Copy, PartialEq, Eq, Debug)]
+pub struct WriteFault;
+
+/// Writes a text, by one write after another. Any error of a write is a fault, an interrupted one
+/// too, and so is a write that takes no byte. At a fault a front of the text was written.
+pub fn send<W: Write>(writer: &mut W, text: &[u8]) -> Result<(), WriteFault>
+    ensures ok { OnOk result (Appends (W.contents writer.old) (W.contents writer.new) text.now) }
+    ensures err { OnErr result ((n : ℕ) × (n < length text.now)
+        × Appends (W.contents writer.old) (W.contents writer.new) (take n text.now)) }
+{
+    let mut done = 0;
+    for _ in 0..text.len() {
+        if done == text.len() {
+            break;
+        }
+        match writer.write(&text[done..]) {
+            Ok(0) => return Err(WriteFault),
+            Ok(n) => done += n,
+            Err(_) => return Err(WriteFault),
+        }
+    }
+    Ok(())
+}

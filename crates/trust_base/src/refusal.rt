@@ -1,0 +1,278 @@
+// Why something is not done.
+
+ghost use Rattle.std.specs.Prelude.{◌≡◌, ◌≤◌};
+ghost use Rattle.trust_base.specs.Refusals.{is_fault, number_of, status_of};
+
+use crate::{CivilDay, Day, EntryNo};
+use std::alloc::{AllocError, AllocFailed};
+
+/// A field of a request, by which a refusal names what is not of its form.
+#[derive(Clone, Copy, Debug, PartialEq, Eq)]
+pub enum Field {
+    /// The number of the matter.
+    Matter,
+    /// The number of the entry.
+    Entry,
+    /// The day.
+    Day,
+    /// The body as a whole.
+    Body,
+    /// The client's label.
+    Client,
+    /// The first lawyer.
+    Lawyer,
+    /// The person of a seat.
+    Person,
+    /// The role of a seat.
+    Role,
+    /// The amount.
+    Amount,
+    /// Who a deposit comes from.
+    Source,
+    /// What a deposit or a fee is for.
+    Description,
+    /// The kind of fund that a payment comes from.
+    From,
+    /// The entry of that fund.
+    Of,
+    /// Who is paid.
+    Payee,
+    /// What a payment is for.
+    Purpose,
+    /// The check or transfer of a payment.
+    Instrument,
+    /// The kind of fund that a claim is on.
+    On,
+    /// Who claims.
+    Claimant,
+    /// Why it is claimed.
+    Reason,
+    /// The client's part of a claim.
+    ToClient,
+    /// The record of a sheet as a whole.
+    Record,
+    /// The first record of a statement.
+    Header,
+}
+
+/// A rule of the policy: who may ask what.
+#[derive(Clone, Copy, Debug, PartialEq, Eq)]
+pub enum Rule {
+    /// Reading a matter.
+    Read,
+    /// Raising and settling a dispute over a fee.
+    Dispute,
+    /// Raising a claim on the general fund.
+    Claim,
+    /// Proposing a payment.
+    Propose,
+    /// What a lawyer signs.
+    Sign,
+    /// What the cashier's office does.
+    Office,
+    /// What concerns the firm.
+    Firm,
+}
+
+/// Why something is not done. Refusals are tried in the order of their numbers.
+#[derive(Clone, Copy, Debug, PartialEq, Eq)]
+pub enum Refusal {
+    /// 1: a message that is not of its form.
+    BadMessage,
+    /// 2: a message without a length.
+    LengthRequired,
+    /// 3: a body, sheet or file above its limit.
+    TooLarge,
+    /// 4: no route has this path.
+    NoRoute,
+    /// 5: the path has a route of another method.
+    BadMethod,
+    /// 6: it is not told who asks.
+    NoCaller,
+    /// 7: a field is not of its form.
+    BadField(Field),
+    /// 8: there is no such matter, or the person has no seat there.
+    NoMatter,
+    /// 9: the matter was purged.
+    Purged,
+    /// 10: the policy says no, by this rule.
+    NotAllowed(Rule),
+    /// 11: the matter was opened before.
+    AlreadyOpen,
+    /// 12: the matter is closed.
+    Closed,
+    /// 13: the day is before the matter's last one, which is carried.
+    DateBackwards(Day),
+    /// 14: the entry's number is not the next one, which is carried; none after 9999.
+    WrongNumber(Option<EntryNo>),
+    /// 15: there is no such entry.
+    NoEntry,
+    /// 16: the entry is of another kind.
+    WrongKind,
+    /// 17: the entry is not in the state that it takes.
+    WrongState,
+    /// 18: cash may not be paid out.
+    PayeeIsCash,
+    /// 19: the fund may not pay this payee.
+    WrongPayee,
+    /// 20: the client's part does not fit the claim or the offer.
+    BadSplit,
+    /// 21: the amount exceeds what is left of its fund, which is carried in cents.
+    Short(u64),
+    /// 22: the person has a seat.
+    SeatTaken,
+    /// 23: the person has none.
+    NoSeat,
+    /// 24: the only lawyer's seat would go.
+    LastLawyer,
+    /// 25: money or a pending payment stands in the matter.
+    NotEmpty,
+    /// 26: the matter may not be purged before the day that is carried.
+    TooEarly(CivilDay),
+    /// 27: no closing balance of the day is kept.
+    NoStatement,
+    /// 28: a matter of that period was purged.
+    PeriodPurged,
+    /// 29: the store refused a statement or a transaction.
+    Store,
+    /// 30: a growth was refused.
+    Memory,
+}
+
+/// Why a call of the store failed.
+#[derive(Clone, Copy, Debug, PartialEq, Eq)]
+pub enum StoreFault {
+    /// A statement or a transaction was refused, or a stored row stands for nothing.
+    Store,
+    /// A growth was refused.
+    Memory,
+}
+
+impl Refusal {
+    /// The number, from 1 to 30.
+    pub fn number(&self) -> u8
+        ensures value { result ≡ number_of self.now }
+        ensures bound { result ≤ 30 }
+    {
+        match self {
+            Refusal::BadMessage => 1,
+            Refusal::LengthRequired => 2,
+            Refusal::TooLarge => 3,
+            Refusal::NoRoute => 4,
+            Refusal::BadMethod => 5,
+            Refusal::NoCaller => 6,
+            Refusal::BadField(_) => 7,
+            Refusal::NoMatter => 8,
+            Refusal::Purged => 9,
+            Refusal::NotAllowed(_) => 10,
+            Refusal::AlreadyOpen => 11,
+            Refusal::Closed => 12,
+            Refusal::DateBackwards(_) => 13,
+            Refusal::WrongNumber(_) => 14,
+            Refusal::NoEntry => 15,
+            Refusal::WrongKind => 16,
+            Refusal::WrongState => 17,
+            Refusal::PayeeIsCash => 18,
+            Refusal::WrongPayee => 19,
+            Refusal::BadSplit => 20,
+            Refusal::Short(_) => 21,
+            Refusal::SeatTaken => 22,
+            Refusal::NoSeat => 23,
+            Refusal::LastLawyer => 24,
+            Refusal::NotEmpty => 25,
+            Refusal::TooEarly(_) => 26,
+            Refusal::NoStatement => 27,
+            Refusal::PeriodPurged => 28,
+            Refusal::Store => 29,
+            Refusal::Memory => 30,
+        }
+    }
+
+    /// The HTTP status (RFC 9110, section 15) of the answer.
+    pub fn status(&self) -> u16
+        ensures { result ≡ status_of self.now }
+    {
+        match self {
+            Refusal::BadMessage => 400,
+            Refusal::LengthRequired => 411,
+            Refusal::TooLarge => 413,
+            Refusal::NoRoute => 404,
+            Refusal::BadMethod => 405,
+            Refusal::NoCaller => 401,
+            Refusal::BadField(_) => 422,
+            Refusal::NoMatter => 404,
+            Refusal::Purged => 410,
+            Refusal::NotAllowed(_) => 403,
+            Refusal::NoEntry => 404,
+            Refusal::PayeeIsCash => 422,
+            Refusal::WrongPayee => 422,
+            Refusal::BadSplit => 422,
+            Refusal::NoStatement => 404,
+            Refusal::Store => 503,
+            Refusal::Memory => 503,
+            _ => 409,
+        }
+    }
+}
+
+impl Refusal {
+    /// Whether it tells of a fault: only a call of the store or a growth can bring it.
+    pub fn is_fault(&self) -> bool
+        ensures { result ≡ is_fault self.now }
+    {
+        matches!(self, Refusal::Store | Refusal::Memory)
+    }
+}
+
+impl From<StoreFault> for Refusal {
+    ghost use Rattle.trust_base.specs.Refusals.{refused_by};
+
+    ghost from_gives = { λ fault refusal. refusal ≡ refused_by fault };
+
+    fn from(fault: StoreFault) -> Self {
+        match fault {
+            StoreFault::Store => Refusal::Store,
+            StoreFault::Memory => Refusal::Memory,
+        }
+    }
+}
+
+impl From<AllocError> for StoreFault {
+    ghost use Rattle.trust_base.specs.declared.refusal.StoreFault.TheVariants.{Memory as memory_fault};
+
+    ghost from_gives = { λ _ fault. fault ≡ memory_fault };
+
+    fn from(_: AllocError) -> Self {
+        StoreFault::Memory
+    }
+}
+
+impl<T: Drop> From<AllocFailed<T>> for StoreFault {
+    ghost use Rattle.trust_base.specs.declared.refusal.StoreFault.TheVariants.{Memory as memory_fault};
+
+    ghost from_gives = { λ _ fault. fault ≡ memory_fault };
+
+    fn from(_: AllocFailed<T>) -> Self {
+        StoreFault::Memory
+    }
+}
+
+impl From<AllocError> for Refusal {
+    ghost use Rattle.trust_base.specs.declared.refusal.Refusal.TheVariants.{Memory as memory_refusal};
+
+    ghost from_gives = { λ _ refusal. refusal ≡ memory_refusal };
+
+    fn from(_: AllocError) -> Self {
+        Refusal::Memory
+    }
+}
+
+impl<T: Drop> From<AllocFailed<T>> for Refusal {
+    ghost use Rattle.trust_base.specs.declared.refusal.Refusal.TheVariants.{Memory as memory_refusal};
+
+    ghost from_gives = { λ _ refusal. refusal ≡ memory_refusal };
+
+    fn from(_: AllocFailed<T>) -> Self {
+        Refusal::Memory
+    }
+}

@@ -1,0 +1,274 @@
+// The texts of refusals.
+
+ghost use Rattle.std.specs.Prelude.{◌≡◌, ◌≤◌, ◌<◌, ◌+◌, ◌^◌, ℕ, ◌∷◌, ◌++◌, [], length, take, OnOk, OnErr};
+ghost use Rattle.std.specs.Fmt.{decimal};
+ghost use Rattle.std.specs.Io.KnownBytes.{Appends};
+ghost use Rattle.arrayvec.specs.ArrayVec.{array_vec_len};
+ghost use Rattle.trust_base.specs.Texts.{amount_text, day_text};
+ghost use Rattle.trust_base.specs.Refusals.{field_name, leading_member, middle_member, name_member, name_of, next_text, number_member, refusal_text, rule_name, trailing_member};
+
+use crate::day::day_bytes;
+use crate::{EntryNo, Field, Refusal, Rule, WriteFault, send};
+use arrayvec::ArrayVec;
+use itoa::Buffer;
+use std::io::Write;
+
+/// The text of a refusal, which takes no memory.
+pub type RefusalText = ArrayVec<u8, 128>;
+
+// Appends a piece that has room.
+fn push_piece(text: &mut RefusalText, piece: &[u8])
+    requires { array_vec_len text.old + length piece.now ≤ 128 }
+    ensures items { text.new.items ≡ text.old.items ++ piece.now }
+    ensures len { array_vec_len text.new ≡ array_vec_len text.old + length piece.now }
+{
+    match text.try_extend_from_slice(piece) {
+        Ok(()) => (),
+        Err(_) => unreachable!(),
+    }
+}
+
+// Appends a number.
+fn push_number(text: &mut RefusalText, number: u64)
+    requires { array_vec_len text.old ≤ 108 }
+    ensures items { text.new.items ≡ text.old.items ++ decimal number }
+    ensures len { array_vec_len text.new ≤ array_vec_len text.old + 20 }
+{
+    let mut buffer = Buffer::new();
+    push_piece(text, buffer.format(number).as_bytes());
+}
+
+// Appends a sum of cents.
+fn push_amount(text: &mut RefusalText, cents: u64)
+    requires { array_vec_len text.old ≤ 100 }
+    ensures items { text.new.items ≡ text.old.items ++ amount_text cents }
+    ensures len { array_vec_len text.new ≤ array_vec_len text.old + 23 }
+{
+    push_number(text, cents / 100);
+    let end = [
+        b'.',
+        b'0' + (cents % 100 / 10) as u8,
+        b'0' + (cents % 100 % 10) as u8,
+    ];
+    push_piece(text, &end);
+}
+
+impl Field {
+    /// The name.
+    pub fn name(self) -> &'static str
+        ensures value { result.now ≡ field_name self }
+        ensures bound { length result.now ≤ 11 }
+    {
+        match self {
+            Field::Matter => "matter",
+            Field::Entry => "entry",
+            Field::Day => "day",
+            Field::Body => "body",
+            Field::Client => "client",
+            Field::Lawyer => "lawyer",
+            Field::Person => "person",
+            Field::Role => "role",
+            Field::Amount => "amount",
+            Field::Source => "source",
+            Field::Description => "description",
+            Field::From => "from",
+            Field::Of => "of",
+            Field::Payee => "payee",
+            Field::Purpose => "purpose",
+            Field::Instrument => "instrument",
+            Field::On => "on",
+            Field::Claimant => "claimant",
+            Field::Reason => "reason",
+            Field::ToClient => "to_client",
+            Field::Record => "record",
+            Field::Header => "header",
+        }
+    }
+}
+
+impl Rule {
+    /// The name.
+    pub fn name(self) -> &'static str
+        ensures value { result.now ≡ rule_name self }
+        ensures bound { length result.now ≤ 7 }
+    {
+        match self {
+            Rule::Read => "read",
+            Rule::Dispute => "dispute",
+            Rule::Claim => "claim",
+            Rule::Propose => "propose",
+            Rule::Sign => "sign",
+            Rule::Office => "office",
+            Rule::Firm => "firm",
+        }
+    }
+}
+
+// Appends the day of a member and the member's end.
+fn push_day_end(text: &mut RefusalText, number: u32)
+    requires room { array_vec_len text.old ≤ 100 }
+    requires short { number < 100_000_000 }
+    ensures items { text.new.items ≡ text.old.items ++ day_text number ++ 34 ∷ 44 ∷ [] }
+    ensures len { array_vec_len text.new ≡ array_vec_len text.old + 12 }
+{
+    push_piece(text, &day_bytes(number));
+    push_piece(text, b"\",");
+}
+
+// Appends the next entry's number, or null.
+fn push_next(text: &mut RefusalText, next: Option<EntryNo>)
+    requires { array_vec_len text.old ≤ 100 }
+    ensures items { text.new.items ≡ text.old.items ++ next_text next }
+    ensures len { array_vec_len text.new ≤ array_vec_len text.old + 6 }
+{
+    match next {
+        Some(entry) => {
+            push_piece(text, b"\"");
+            push_piece(text, &entry.digits());
+            push_piece(text, b"\"");
+        }
+        None => push_piece(text, b"null"),
+    }
+}
+
+impl Refusal {
+    /// The name.
+    pub fn name(&self) -> &'static str
+        ensures value { result.now ≡ name_of self.now }
+        ensures bound { length result.now ≤ 14 }
+    {
+        match self {
+            Refusal::BadMessage => "BadMessage",
+            Refusal::LengthRequired => "LengthRequired",
+            Refusal::TooLarge => "TooLarge",
+            Refusal::NoRoute => "NoRoute",
+            Refusal::BadMethod => "BadMethod",
+            Refusal::NoCaller => "NoCaller",
+            Refusal::BadField(_) => "BadField",
+            Refusal::NoMatter => "NoMatter",
+            Refusal::Purged => "Purged",
+            Refusal::NotAllowed(_) => "NotAllowed",
+            Refusal::AlreadyOpen => "AlreadyOpen",
+            Refusal::Closed => "Closed",
+            Refusal::DateBackwards(_) => "DateBackwards",
+            Refusal::WrongNumber(_) => "WrongNumber",
+            Refusal::NoEntry => "NoEntry",
+            Refusal::WrongKind => "WrongKind",
+            Refusal::WrongState => "WrongState",
+            Refusal::PayeeIsCash => "PayeeIsCash",
+            Refusal::WrongPayee => "WrongPayee",
+            Refusal::BadSplit => "BadSplit",
+            Refusal::Short(_) => "Short",
+            Refusal::SeatTaken => "SeatTaken",
+            Refusal::NoSeat => "NoSeat",
+            Refusal::LastLawyer => "LastLawyer",
+            Refusal::NotEmpty => "NotEmpty",
+            Refusal::TooEarly(_) => "TooEarly",
+            Refusal::NoStatement => "NoStatement",
+            Refusal::PeriodPurged => "PeriodPurged",
+            Refusal::Store => "Store",
+            Refusal::Memory => "Memory",
+        }
+    }
+
+    // Appends what is carried under a key before the name's.
+    fn push_leading(&self, text: &mut RefusalText)
+        requires { array_vec_len text.old ≤ 1 }
+        ensures items { text.new.items ≡ text.old.items ++ leading_member self.now }
+        ensures len { array_vec_len text.new ≤ array_vec_len text.old + 34 }
+    {
+        match self {
+            Refusal::BadField(field) => {
+                push_piece(text, b"\"field\":\"");
+                push_piece(text, field.name().as_bytes());
+                push_piece(text, b"\",");
+            }
+            Refusal::DateBackwards(last) => {
+                push_piece(text, b"\"last\":\"");
+                push_day_end(text, last.get());
+            }
+            Refusal::Short(left) => {
+                push_piece(text, b"\"left\":\"");
+                push_amount(text, *left);
+                push_piece(text, b"\",");
+            }
+            Refusal::TooEarly(day) => {
+                push_piece(text, b"\"day\":\"");
+                push_day_end(text, day.get());
+            }
+            _ => (),
+        }
+    }
+
+    // Appends what is carried under a key between the name's and the number's.
+    fn push_middle(&self, text: &mut RefusalText)
+        requires { array_vec_len text.old ≤ 58 }
+        ensures items { text.new.items ≡ text.old.items ++ middle_member self.now }
+        ensures len { array_vec_len text.new ≤ array_vec_len text.old + 14 }
+    {
+        if let Refusal::WrongNumber(next) = self {
+            push_piece(text, b",\"next\":");
+            push_next(text, *next);
+        }
+    }
+
+    // Appends what is carried under a key behind the number's.
+    fn push_trailing(&self, text: &mut RefusalText)
+        requires { array_vec_len text.old ≤ 103 }
+        ensures items { text.new.items ≡ text.old.items ++ trailing_member self.now }
+        ensures len { array_vec_len text.new ≤ array_vec_len text.old + 17 }
+    {
+        if let Refusal::NotAllowed(rule) = self {
+            push_piece(text, b",\"rule\":\"");
+            push_piece(text, rule.name().as_bytes());
+            push_piece(text, b"\"");
+        }
+    }
+
+    // Appends the name under its key.
+    fn push_name(&self, text: &mut RefusalText)
+        requires { array_vec_len text.old ≤ 35 }
+        ensures items { text.new.items ≡ text.old.items ++ name_member self.now }
+        ensures len { array_vec_len text.new ≤ array_vec_len text.old + 23 }
+    {
+        push_piece(text, b"\"name\":\"");
+        push_piece(text, self.name().as_bytes());
+        push_piece(text, b"\"");
+    }
+
+    // Appends the number under its key.
+    fn push_number_member(&self, text: &mut RefusalText)
+        requires { array_vec_len text.old ≤ 72 }
+        ensures items { text.new.items ≡ text.old.items ++ number_member self.now }
+        ensures len { array_vec_len text.new ≤ array_vec_len text.old + 31 }
+    {
+        push_piece(text, b",\"refusal\":");
+        push_number(text, self.number() as u64);
+    }
+
+    /// The refusal as a compact JSON object (RFC 8259), its keys in ascending byte order.
+    #[tactic(auto, unfolding(crate::specs::Refusals::refusal_text))]
+    pub fn json(&self) -> RefusalText
+        ensures { result.items ≡ refusal_text self.now }
+    {
+        let mut text = RefusalText::new();
+        push_piece(&mut text, b"{");
+        self.push_leading(&mut text);
+        self.push_name(&mut text);
+        self.push_middle(&mut text);
+        self.push_number_member(&mut text);
+        self.push_trailing(&mut text);
+        push_piece(&mut text, b"}");
+        text
+    }
+
+    /// Writes the refusal's JSON text. At a fault a front of it was written. Takes no memory.
+    pub fn write_json<W: Write>(&self, writer: &mut W) -> Result<(), WriteFault>
+        ensures ok { OnOk result (Appends (W.contents writer.old) (W.contents writer.new) (refusal_text self.now)) }
+        ensures err { OnErr result ((n : ℕ) × (n < length (refusal_text self.now))
+            × Appends (W.contents writer.old) (W.contents writer.new) (take n (refusal_text self.now))) }
+    {
+        let text = self.json();
+        send(writer, text.as_slice())
+    }
+}

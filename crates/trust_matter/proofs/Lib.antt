@@ -1,0 +1,2 @@
+pub mod PoolFacts
+pub mod LawFacts

@@ -1,0 +1,215 @@
+// Entries, sums, persons, labels and the texts of a bank's lines.
+
+use std::alloc::Global;
+use std::test::Fail;
+use trust_base::{
+    BankAmount, BankText, CentsOrZero, Day, EntryNo, Label, Line, LineText, PersonId, is_bank_text,
+    is_label, is_line_text, is_person,
+};
+
+#[test]
+fn entries_of_texts(rt: HostRuntime) {
+    for (text, want) in [("0001", 1), ("0042", 42), ("9999", 9_999)] {
+        let read = EntryNo::read(text.as_bytes()).map(EntryNo::get);
+        assert_eq!(rt; read, Some(want), "of {text}");
+    }
+    for text in ["0000", "001", "00001", "000a", "", "+001", "0001\n", " 001"] {
+        assert!(rt; EntryNo::read(text.as_bytes()).is_none(), "of {text}");
+    }
+}
+
+#[test]
+fn sums_of_texts(rt: HostRuntime) {
+    for (text, want) in [
+        ("0.00", 0),
+        ("0.01", 1),
+        ("20.00", 2_000),
+        ("999999999.99", 99_999_999_999),
+    ] {
+        let read = CentsOrZero::read(text.as_bytes()).map(CentsOrZero::get);
+        assert_eq!(rt; read, Some(want), "of {text}");
+    }
+    for text in ["00.00", "0", "0.0", "-0.00", "-1.00", "1000000000.00", ""] {
+        assert!(rt; CentsOrZero::read(text.as_bytes()).is_none(), "of {text}");
+    }
+}
+
+#[test]
+fn bank_amounts_of_texts(rt: HostRuntime) {
+    for (text, want) in [
+        ("0.00", 0),
+        ("500.00", 50_000),
+        ("-12.00", -1_200),
+        ("-0.01", -1),
+        ("9999999999999999.99", 999_999_999_999_999_999),
+        ("-9999999999999999.99", -999_999_999_999_999_999),
+    ] {
+        let read = BankAmount::read(text.as_bytes()).map(BankAmount::get);
+        assert_eq!(rt; read, Some(want), "of {text}");
+    }
+    for text in [
+        "-0.00",
+        "--1.00",
+        "+1.00",
+        "-",
+        "",
+        "- 1.00",
+        "-01.00",
+        "10000000000000000.00",
+        "-10000000000000000.00",
+        "1.00-",
+    ] {
+        assert!(rt; BankAmount::read(text.as_bytes()).is_none(), "of {text}");
+    }
+}
+
+#[test]
+fn persons(rt: HostRuntime) {
+    for text in [
+        "lee",
+        "a",
+        "-",
+        ".",
+        "cashier2",
+        "ada.chen-2",
+        "abcdefghijklmnopqrstuvwxyz012345",
+    ] {
+        assert!(rt; is_person(text.as_bytes()), "of {text}");
+    }
+    for text in [
+        "cashier",
+        "",
+        "Lee",
+        "lee ",
+        "l_e",
+        "lée",
+        "abcdefghijklmnopqrstuvwxyz0123456",
+    ] {
+        assert!(rt; !is_person(text.as_bytes()), "of {text}");
+    }
+}
+
+#[test]
+fn labels(rt: HostRuntime) {
+    for text in [
+        "Ada Chen",
+        " ",
+        "\u{A0}",
+        "a\u{2028}b",
+        "é",
+        "\"quoted\" \\",
+        "Ā\u{100}",
+    ] {
+        assert!(rt; is_label(text.as_bytes()), "of {text}");
+    }
+    for text in [
+        "", "a\tb", "a\nb", "\u{0}", "\u{1F}", "\u{7F}", "\u{80}", "a\u{9F}",
+    ] {
+        assert!(rt; !is_label(text.as_bytes()), "of {text}");
+    }
+    assert!(rt; is_label(&[b'x'; 80]));
+    assert!(rt; !is_label(&[b'x'; 81]));
+    assert!(rt; !is_label(b"\xC2"), "cut character");
+    assert!(rt; !is_label(b"\xFF"), "no UTF-8");
+}
+
+#[test]
+fn texts_of_lines(rt: HostRuntime) {
+    for text in ["", " ", "OPEN", "M000001-0001", "~"] {
+        assert!(rt; is_bank_text(text.as_bytes()), "of {text}");
+    }
+    for text in ["a\tb", "\u{7F}", "é"] {
+        assert!(rt; !is_bank_text(text.as_bytes()), "of {text}");
+    }
+    assert!(rt; is_bank_text(&[b'x'; 64]));
+    assert!(rt; !is_bank_text(&[b'x'; 65]));
+    assert!(rt; is_line_text("a\t\n\u{0}é".as_bytes()));
+    assert!(rt; is_line_text(&[b'x'; 1000]));
+    assert!(rt; !is_line_text(&[b'x'; 1001]));
+    assert!(rt; !is_line_text(b"a\xFF"));
+}
+
+fn label_of(alloc: Global, text: &str) -> Result<Label, Fail> {
+    Ok(Label::read(alloc, text.as_bytes())?.ok_or("a label")?)
+}
+
+#[test]
+fn cash_and_firm(rt: HostRuntime) -> Result<(), Fail> {
+    for text in ["cash", "Cash", " Cash ", "   CASH", "cAsH "] {
+        assert!(rt; label_of(rt.alloc(), text)?.is_cash(), "of {text}");
+    }
+    for text in ["Cash Ltd", "\u{A0}cash", "ca sh", " ", "cashh", "FIRM"] {
+        assert!(rt; !label_of(rt.alloc(), text)?.is_cash(), "of {text}");
+    }
+    assert!(rt; label_of(rt.alloc(), "FIRM")?.is_firm());
+    for text in ["Firm", "FIRM ", " FIRM", "firm"] {
+        assert!(rt; !label_of(rt.alloc(), text)?.is_firm(), "of {text}");
+    }
+    Ok(())
+}
+
+#[test]
+fn persons_in_order(rt: HostRuntime) -> Result<(), Fail> {
+    let names = ["-a", ".a", "0", "a", "a-", "ab", "b"];
+    let mut persons = Vec::new(rt.alloc());
+    for name in names {
+        persons.push(PersonId::read(rt.alloc(), name.as_bytes())?.ok_or("a person")?)?;
+    }
+    for (i, one) in persons.iter().enumerate() {
+        for (j, other) in persons.iter().enumerate() {
+            assert_eq!(rt; one.is_before(other), i < j);
+            assert_eq!(rt; one.is_same(other), i == j);
+        }
+    }
+    Ok(())
+}
+
+fn line(alloc: Global, bank_ref: &str) -> Result<Line, Fail> {
+    Ok(Line {
+        date: Day::read(b"2024-01-12").ok_or("a day")?,
+        reference: BankText::read(alloc, b"M000001-0001")?.ok_or("a reference")?,
+        bank_ref: BankText::read(alloc, bank_ref.as_bytes())?.ok_or("a reference")?,
+        amount: BankAmount::read(b"-500.00").ok_or("an amount")?,
+        text: LineText::read(alloc, b"returned")?.ok_or("a text")?,
+    })
+}
+
+#[test]
+fn copied_lines(rt: HostRuntime) -> Result<(), Fail> {
+    let one = line(rt.alloc(), "B1")?;
+    let same = one.copied()?;
+    assert!(rt; one.is_same(&same));
+    assert!(rt; !one.is_same(&line(rt.alloc(), "B2")?));
+    assert_eq!(rt; same.text.into_vec().as_slice(), b"returned".as_slice());
+    Ok(())
+}
+
+#[test]
+fn kept_bytes(rt: HostRuntime) -> Result<(), Fail> {
+    let taken = Label::from_vec(Vec::from_slice(rt.alloc(), b"top up")?);
+    let Ok(label) = taken else {
+        return Err(Fail::from("not taken"));
+    };
+    assert_eq!(rt; label.copied()?.as_slice(), b"top up".as_slice());
+    let refused = PersonId::from_vec(Vec::from_slice(rt.alloc(), b"cashier")?);
+    let Err(bytes) = refused else {
+        return Err(Fail::from("taken"));
+    };
+    assert_eq!(rt; bytes.as_slice(), b"cashier".as_slice());
+    Ok(())
+}
+
+#[test]
+fn printed_sums(rt: HostRuntime) -> Result<(), Fail> {
+    let entry = EntryNo::read(b"0042").ok_or("an entry")?;
+    let sum = CentsOrZero::read(b"0.00").ok_or("a sum")?;
+    let amount = BankAmount::read(b"-12.05").ok_or("an amount")?;
+    let text = format!(in rt.alloc(); "{entry} {sum} {amount}")?;
+    assert_eq!(rt; text.as_str(), "0042 0.00 -12.05");
+    let mut out = Vec::new(rt.alloc());
+    entry.write_to(&mut out)?;
+    sum.write_to(&mut out)?;
+    amount.write_to(&mut out)?;
+    assert_eq!(rt; out.as_slice(), b"00420.00-12.05".as_slice());
+    Ok(())
+}

@@ -1,0 +1,175 @@
+// Texts and their values, and streams that fault.
+
+ghost use Rattle.std.specs.Prelude.{◌≡◌, nat_lt};
+
+use std::test::Fail;
+use trust_base::{
+    Cents, Day, Dollars, MatterNo, ReadFault, TrialReader, TrialWriter, WriteFault, read_whole,
+    send, write_amount,
+};
+
+#[test]
+fn amounts_of_texts(rt: HostRuntime) {
+    for (text, want) in [
+        ("0.01", 1),
+        ("0.50", 50),
+        ("500.00", 50_000),
+        ("999999999.99", 99_999_999_999),
+    ] {
+        let read = Cents::read(text.as_bytes()).map(Cents::get);
+        assert_eq!(rt; read, Some(want), "of {text}");
+    }
+}
+
+#[test]
+fn no_amounts(rt: HostRuntime) {
+    for text in [
+        "0500.00",
+        "500",
+        ".50",
+        "+1.00",
+        "1.000",
+        "0.00",
+        "-1.00",
+        "1000000000.00",
+        "",
+        "1.00\n",
+        " 1.00",
+        "00.50",
+        "1,00",
+        "1.0a",
+        "é.00",
+    ] {
+        assert!(rt; Cents::read(text.as_bytes()).is_none(), "of {text}");
+    }
+}
+
+#[test]
+fn matters_of_texts(rt: HostRuntime) {
+    for (text, want) in [("000001", 1), ("004711", 4_711), ("999999", 999_999)] {
+        let read = MatterNo::read(text.as_bytes()).map(MatterNo::get);
+        assert_eq!(rt; read, Some(want), "of {text}");
+    }
+    for text in [
+        "00001", "000000", "0000001", "00000a", "", " 00001", "00001\n",
+    ] {
+        assert!(rt; MatterNo::read(text.as_bytes()).is_none(), "of {text}");
+    }
+}
+
+#[test]
+fn days_of_texts(rt: HostRuntime) {
+    for (text, want) in [
+        ("2000-01-01", 20_000_101),
+        ("2000-02-29", 20_000_229),
+        ("2024-02-29", 20_240_229),
+        ("2199-12-31", 21_991_231),
+    ] {
+        let read = Day::read(text.as_bytes()).map(Day::get);
+        assert_eq!(rt; read, Some(want), "of {text}");
+    }
+}
+
+#[test]
+fn no_days(rt: HostRuntime) {
+    for text in [
+        "2023-02-29",
+        "2100-02-29",
+        "2200-01-01",
+        "1999-12-31",
+        "2024-1-10",
+        "2024-13-01",
+        "2024-00-10",
+        "2024-01-00",
+        "2024-04-31",
+        "20240110",
+        "2024-01-10\n",
+        "2024/01/10",
+        "-024-01-10",
+        "",
+    ] {
+        assert!(rt; Day::read(text.as_bytes()).is_none(), "of {text}");
+    }
+}
+
+#[test]
+fn texts_of_values(rt: HostRuntime) -> Result<(), Fail> {
+    let mut out = Vec::new(rt.alloc());
+    Cents::read(b"12.05")
+        .ok_or("an amount")?
+        .write_to(&mut out)?;
+    out.push(b' ')?;
+    MatterNo::read(b"000042")
+        .ok_or("a matter")?
+        .write_to(&mut out)?;
+    out.push(b' ')?;
+    Day::read(b"2024-02-29").ok_or("a day")?.write_to(&mut out)?;
+    for sum in [0, 5, -5, -123_456, 100_000_000_000_000_000_000_000] {
+        out.push(b' ')?;
+        write_amount(sum, &mut out)?;
+    }
+    let want = "12.05 000042 2024-02-29 0.00 0.05 -0.05 -1234.56 1000000000000000000000.00";
+    assert_eq!(rt; out.as_slice(), want.as_bytes());
+    Ok(())
+}
+
+#[test]
+fn printed_values(rt: HostRuntime) -> Result<(), Fail> {
+    let matter = MatterNo::read(b"000042").ok_or("a matter")?;
+    let day = Day::read(b"2024-02-29").ok_or("a day")?;
+    let sum = Dollars(-1_205);
+    let text = format!(in rt.alloc(); "{matter} {day} {sum}")?;
+    assert_eq!(rt; text.as_str(), "000042 2024-02-29 -12.05");
+    Ok(())
+}
+
+// The order of days is that of their numbers.
+fn is_before(a: Day, b: Day) -> bool
+    ensures { result ≡ nat_lt a b }
+{
+    a < b
+}
+
+#[test]
+fn days_in_order(rt: HostRuntime) -> Result<(), Fail> {
+    let earlier = Day::read(b"2023-12-31").ok_or("a day")?;
+    let later = Day::read(b"2024-01-01").ok_or("a day")?;
+    assert!(rt; is_before(earlier, later));
+    assert!(rt; !is_before(later, earlier));
+    let date = later.date();
+    assert_eq!(rt; (date.year(), date.month(), date.day()), (2024, 1, 1));
+    Ok(())
+}
+
+#[test]
+fn whole_inputs(rt: HostRuntime) -> Result<(), Fail> {
+    let text = b"take,000001,500.00";
+    let mut steady = TrialReader::new(text, 7, 100);
+    let read = read_whole(rt.alloc(), &mut steady, 18);
+    let Ok(Some(bytes)) = read else {
+        return Err(Fail::from("not read"));
+    };
+    assert_eq!(rt; bytes.as_slice(), text.as_slice());
+    let mut long = TrialReader::new(text, 7, 100);
+    assert!(rt; matches!(read_whole(rt.alloc(), &mut long, 17), Ok(None)));
+    let mut faulty = TrialReader::new(text, 7, 2);
+    let fault = read_whole(rt.alloc(), &mut faulty, 18);
+    assert!(rt; matches!(fault, Err(ReadFault::Reader)));
+    Ok(())
+}
+
+#[test]
+fn sent_texts(rt: HostRuntime) {
+    let text = b"ok 000001 500.00\n";
+    for (most, good, count) in [(5, 100, 17), (17, 1, 17), (5, 2, 10), (0, 100, 0)] {
+        let mut writer = TrialWriter::new(rt.alloc(), most, good);
+        let sent = send(&mut writer, text);
+        let whole = count == text.len();
+        assert_eq!(rt;
+            sent == Err(WriteFault),
+            !whole,
+            "of {most} bytes at each call"
+        );
+        assert!(rt; writer.as_slice() == &text[..count]);
+    }
+}
