@@ -1,29 +1,47 @@
 -- What the lines of a sheet are, record after record.
-use Rattle.std.proofs.Common.{◌≡◌, ◌∙◌, ◌<◌, ◌+◌, ◌++◌, ◌||◌, not, ℕ, ℤ, pos, ◌≤ℤ◌, Bool, true, false, List, [], ◌∷◌, length, take, Option, Some, None, Result, Ok, Err, IfSome, refl, sym, ap, arith, append_assoc, length-append}
+use Rattle.std.proofs.Common.{◌≡◌, ◌∙◌, ◌<◌, ◌≤◌, ◌+◌, ◌++◌, nat_lt, IfSome, ◌∷◌, ◌&&◌, ◌||◌, not, cond, ℕ, Bool, true, false, List, [], length, take, Option, Some, None, Result, Ok, Err, refl, sym, ap, arith, append_assoc, length-append}
 use Rattle.std.proofs.Math.Seq.{take-append-add, take-append_seam}
-use Rattle.std.proofs.lemmas.Int.{ints}
+use Rattle.std.proofs.KnownBytes.{Appends-trans}
+use Rattle.std.proofs.lemmas.Bool.Decides.{nat_tests}
 use Rattle.std.proofs.lemmas.List.{append-nil, take-append-le}
-use Rattle.std.specs.Bool.{MatchBool}
+use Rattle.std.specs.Io.KnownBytes.{Appends}
 use Rattle.std.specs.List.{concat}
-use Rattle.std.specs.String.{string_bytes}
-use Rattle.trust_matter.specs.Pool.{IsPoolOf, PoolState, Posting, accepts, ledger_of, pool_of, posted_for}
-use Rattle.trust_matter.specs.Laws.{HasNoDebt}
-use Rattle.trust_matter.proofs.LawFacts.{no_debt-accepted, pool_of-no_debt}
-use Rattle.cashier_cli.specs.Sheet.{Answers, all_accepted, answer, answer_posting, asked_of, lines_from, ok_line, posting_of, postings_after, refused_line, sheet_records, step}
-use Rattle.cashier_cli.specs.declared.record.Answer.{Answer}
-use Rattle.cashier_cli.specs.declared.record.Asked.{Asked}
-use Rattle.cashier_cli.specs.declared.record.Field.{Field}
+use Rattle.trust_base.specs.Refusals.{is_fault}
+use Rattle.trust_base.specs.Texts.{matter_of}
+use Rattle.trust_base.specs.declared.refusal.Field.{Field}
+use Rattle.trust_base.specs.declared.refusal.Refusal.{Refusal}
+use Rattle.trust_base.specs.declared.refusal.Refusal.TheVariants.{BadField, Store, Memory}
+use Rattle.trust_firm.specs.Firm.{Firm}
+use Rattle.trust_desk.specs.Counts.{counted_body, counted_refusal}
+use Rattle.trust_desk.specs.FirmStep.{Steps, Stopped, firm_step}
+use Rattle.trust_desk.specs.Heard.{Asks, Heard, Unread}
+use Rattle.trust_desk.specs.Replies.{is_fault_body, is_fault_reply, refused}
+use Rattle.trust_desk.specs.declared.requests.Body.{Body}
+use Rattle.trust_desk.specs.declared.requests.Body.TheVariants.{Json, Refused}
+use Rattle.trust_desk.specs.declared.requests.Reply.{Reply}
+use Rattle.trust_desk.specs.declared.requests.Request.{Request}
+use Rattle.trust_desk.specs.declared.requests.Request.TheVariants.{Matter}
+use Rattle.cashier_cli.specs.Records.{Reads, asked_of, text_at}
+use Rattle.cashier_cli.specs.Sheet.{Cut, CutsLine, Ends, LargeEnds, Leaves, RunEnds, SHEET_LIMIT, sheet_records, all_accepted, body_line, body_verdict, firm_from, heard_as, heard_of, is_accepting, lines_from, record_step, refusal_line, reply_line, verdict_on}
+use Rattle.cashier_cli.specs.declared.sheet.SheetEnd.{SheetEnd}
+use Rattle.cashier_cli.specs.declared.verdict.Verdict.TheVariants as verdict
 
--- ---- one posting
+-- ---- parts of a text that is written piece after piece
 
-pub accepted_answer : (postings : List Posting) (p : Posting) (pool : PoolState) (a : Answer) (ledger : ℤ) → accepts postings p ≡ true
-    → IsPoolOf pool (postings ++ p ∷ []) → ledger ≡ ledger_of (postings ++ p ∷ []) (posted_for p)
-    → (string_bytes a.line ≡ ok_line (posted_for p) ledger) × (a.accepted ≡ true) → Answers (answer_posting postings p) pool a
-accepted_answer postings p pool a ledger allowed after is told = rw allowed (after, told.0 ∙ ap (ok_line (posted_for p)) is, told.1)
+-- a proper front of a text was written
+abbrev pub IsCut : Option (List ℕ) → Option (List ℕ) → List ℕ → Type 0
+IsCut old new text = (n : ℕ) × (n < length text) × Appends old new (take n text)
 
-pub refused_answer : (postings : List Posting) (p : Posting) (pool : PoolState) (a : Answer) → accepts postings p ≡ false
-    → IsPoolOf pool postings → (string_bytes a.line ≡ refused_line postings p) × (a.accepted ≡ false) → Answers (answer_posting postings p) pool a
-refused_answer postings p pool a refused same told = rw refused (same, told.0, told.1)
+pub cut-first : (old new : Option (List ℕ)) (text more : List ℕ) → IsCut old new text → IsCut old new (text ++ more)
+cut-first old new text more (n, less, part) =
+    let front : take n (text ++ more) ≡ take n text = take-append-le n text more (omega arith) in
+    let size = length-append text more in
+    (n, omega arith, rw front part)
+
+pub cut-later : (old mid new : Option (List ℕ)) (text more : List ℕ) → Appends old mid text → IsCut mid new more → IsCut old new (text ++ more)
+cut-later old mid new text more before (n, less, part) =
+    let size = length-append text more in
+    (length text + n, omega arith, rw (take-append-add text more n) (Appends-trans old mid new text (take n more) before part))
 
 -- ---- lines
 
@@ -34,62 +52,212 @@ concat-append (x ∷ xs) ys = ap (λ (rest : List ℕ). x ++ rest) (concat-appen
 pub concat-push : (xs : List (List ℕ)) (line : List ℕ) → concat (xs ++ line ∷ []) ≡ concat xs ++ line
 concat-push xs line = concat-append xs (line ∷ []) ∙ ap (λ (end : List ℕ). concat xs ++ end) (append-nil line)
 
--- the lines so far and those of what is left, after one more record
-pub lines-more : (all done : List (List ℕ)) (postings : List Posting) (r : List (List ℕ)) (left rest : List (List (List ℕ))) → left ≡ r ∷ rest
-    → done ++ lines_from postings left ≡ all → (done ++ (step postings r).line ∷ []) ++ lines_from (step postings r).postings rest ≡ all
-lines-more all done postings r left rest e so = append_assoc done ((step postings r).line ∷ []) (lines_from (step postings r).postings rest) ∙ rw e at so
+pub lines-push : (day : ℕ) (firm : Firm) (past : List (List (List ℕ))) (r : List (List ℕ))
+    → lines_from day firm (past ++ r ∷ []) ≡ lines_from day firm past ++ reply_line (record_step day (firm_from day firm past) r).reply ∷ []
+lines-push day firm [] r = refl
+lines-push day firm (p ∷ past) r = ap (λ (lines : List (List ℕ)). reply_line (record_step day firm p).reply ∷ lines) (lines-push day (record_step day firm p).firm past r)
 
--- and whether each was accepted
-pub accepted-more : (all refused : Bool) (postings : List Posting) (r : List (List ℕ)) (left rest : List (List (List ℕ))) (accepted : Bool) → left ≡ r ∷ rest
-    → MatchBool refused (all ≡ false) (all ≡ all_accepted postings left) → accepted ≡ (step postings r).accepted
-    → MatchBool (refused || not accepted) (all ≡ false) (all ≡ all_accepted (step postings r).postings rest)
-accepted-more all true postings r left rest accepted e so a = so
-accepted-more all false postings r left rest true e so a = rw (e, ← a) at so
-accepted-more all false postings r left rest false e so a = rw (e, ← a) at so
+pub firm-push : (day : ℕ) (firm : Firm) (past : List (List (List ℕ))) (r : List (List ℕ))
+    → firm_from day firm (past ++ r ∷ []) ≡ (record_step day (firm_from day firm past) r).firm
+firm-push day firm [] r = refl
+firm-push day firm (p ∷ past) r = firm-push day (record_step day firm p).firm past r
 
--- the lines so far are the first of all
-pub first_lines : (all done rest : List (List ℕ)) → done ++ rest ≡ all → take (length done) all ≡ done
-first_lines all done rest e = rw (← e) (take-append_seam done rest)
-
--- a part of the next line, after the lines so far
-pub part_of_lines : (all done rest : List (List ℕ)) (line : List ℕ) (n : ℕ) → done ++ (line ∷ rest) ≡ all → n < length line
-    → (k : ℕ) × (k < length (concat all)) × (take k (concat all) ≡ concat done ++ take n line)
-part_of_lines all done rest line n e h =
-    let text : concat done ++ (line ++ concat rest) ≡ concat all = sym (concat-append done (line ∷ rest)) ∙ ap concat e in
-    let front : take n (line ++ concat rest) ≡ take n line = take-append-le n line (concat rest) (omega arith) in
-    let size : length (concat all) ≡ length (concat done) + (length line + length (concat rest)) = sym (ap length text) ∙ simp length-append in
-    (length (concat done) + n, omega arith, rw (← text) (take-append-add (concat done) (line ++ concat rest) n ∙ ap (λ (more : List ℕ). concat done ++ more) front))
-
--- at the end of the records all lines are told
-pub all_lines : (all done : List (List ℕ)) (postings : List Posting) (left : List (List (List ℕ))) → left ≡ [] → done ++ lines_from postings left ≡ all → done ≡ all
-all_lines all done postings left e so = sym (append-nil done) ∙ rw e at so
-
--- ---- ledgers are not below zero
-
-no_debt-answer : (postings : List Posting) (p : Posting) → HasNoDebt postings → HasNoDebt (answer_posting postings p).postings
-no_debt-answer postings p was = by (accepts postings p) refl
+pub accepted-push : (day : ℕ) (firm : Firm) (past : List (List (List ℕ))) (r : List (List ℕ))
+    → all_accepted day firm (past ++ r ∷ []) ≡ (all_accepted day firm past && is_accepting (record_step day (firm_from day firm past) r).reply.body)
+accepted-push day firm [] r = by (is_accepting (record_step day firm r).reply.body)
   where
-    by : (b : Bool) → accepts postings p ≡ b → HasNoDebt (answer_posting postings p).postings
-    by true e = rw e (no_debt-accepted postings p was e)
-    by false e = rw e was
+    by : (b : Bool) → cond b true false ≡ b
+    by true = refl
+    by false = refl
+accepted-push day firm (p ∷ past) r = by (is_accepting (record_step day firm p).reply.body) (accepted-push day (record_step day firm p).firm past r)
+  where
+    by : (b : Bool)
+        → all_accepted day (record_step day firm p).firm (past ++ r ∷ [])
+        ≡ (all_accepted day (record_step day firm p).firm past && is_accepting (record_step day (firm_from day (record_step day firm p).firm past) r).reply.body)
+        → cond b (all_accepted day (record_step day firm p).firm (past ++ r ∷ [])) false
+        ≡ (cond b (all_accepted day (record_step day firm p).firm past) false && is_accepting (record_step day (firm_from day (record_step day firm p).firm past) r).reply.body)
+    by true e = e
+    by false e = refl
 
-no_debt-step : (postings : List Posting) (asked : Result Asked Field) → HasNoDebt postings → HasNoDebt (answer postings asked).postings
-no_debt-step postings (Err f) was = was
-no_debt-step postings (Ok asked) was = no_debt-answer postings (posting_of asked) was
+-- the records so far are the first of all
+pub first_records : (all past rest : List (List (List ℕ))) → past ++ rest ≡ all → take (length past) all ≡ past
+first_records all past rest e = rw (← e) (take-append_seam past rest)
 
-no_debt-after : (postings : List Posting) (records : List (List (List ℕ))) → HasNoDebt postings → HasNoDebt (postings_after postings records)
-no_debt-after postings [] was = was
-no_debt-after postings (r ∷ rest) was = no_debt-after (step postings r).postings rest (no_debt-step postings (asked_of r) was)
+-- ---- what the desk hears
 
-no_debt-none : HasNoDebt []
-no_debt-none m = omega (arith, ints)
+pub heard-read : (fields : List (List ℕ)) (request : Request) → asked_of fields ≡ Ok request → heard_of fields ≡ Asks request
+unfolding heard_of
+heard-read fields request e = ap (λ (o : Result Request Field). heard_as o (matter_of (text_at fields 1))) e
 
--- of whatever sheet, after each record
-pub ledgers-sheet : (o : Option (List ℕ)) → IfSome o (λ bytes. (n m : ℕ) → pos 0 ≤ℤ ledger_of (postings_after [] (take n (sheet_records bytes))) m)
-ledgers-sheet None = tt
-ledgers-sheet (Some bytes) = λ n m. no_debt-after [] (take n (sheet_records bytes)) no_debt-none m
+heard-bad : (fields : List (List ℕ)) (f : Field) → asked_of fields ≡ Err f → heard_of fields ≡ Unread (matter_of (text_at fields 1)) (BadField f)
+unfolding heard_of
+heard-bad fields f e = ap (λ (o : Result Request Field). heard_as o (matter_of (text_at fields 1))) e
 
-pub pool-sheet : (o : Option (List ℕ)) → IfSome o (λ bytes. (n : ℕ) → pos 0 ≤ℤ pool_of (postings_after [] (take n (sheet_records bytes))))
-pool-sheet None = tt
-pool-sheet (Some bytes) =
-    λ n. pool_of-no_debt (postings_after [] (take n (sheet_records bytes))) (no_debt-after [] (take n (sheet_records bytes)) no_debt-none)
+stopped-same : (firm : Firm) (h : Heard) → Stopped firm h firm
+stopped-same firm (Asks (Matter m caller a)) = refl
+stopped-same firm (Unread named r) = refl
+
+-- a record that could not be read is refused, and changes nothing
+pub refused-step : (day : ℕ) (firm : Firm) (fields : List (List ℕ)) (r : Refusal) → Reads (asked_of fields) (Err r) → Steps day firm (heard_of fields) (refused r) firm
+refused-step day firm fields (BadField f) h = rw (heard-bad fields f h) (refl, refl)
+refused-step day firm fields Memory h = stopped-same firm (heard_of fields)
+refused-step day firm fields _ h = absurd h
+
+-- ---- verdicts
+
+stopped-is : (firm after : Firm) (h : Heard) → Stopped firm h after → after ≡ firm
+stopped-is firm after (Asks (Matter m caller a)) s = s
+stopped-is firm after (Unread named r) s = s
+
+steps-fault : (day : ℕ) (firm after : Firm) (h : Heard) (reply : Reply) → is_fault_reply reply ≡ true → Steps day firm h reply after → after ≡ firm
+steps-fault day firm after h reply e steps = stopped-is firm after h (rw e at steps)
+
+steps-plain : (day : ℕ) (firm after : Firm) (h : Heard) (reply : Reply) → is_fault_reply reply ≡ false → Steps day firm h reply after
+    → (reply ≡ (firm_step day firm h).reply) × (after ≡ (firm_step day firm h).firm)
+steps-plain day firm after h reply e steps = rw e at steps
+
+refused-plain : (r : Refusal) → verdict_on r ≡ verdict.Refused → is_fault r ≡ false
+refused-plain Store e = cc
+refused-plain Memory e = cc
+refused-plain _ e = refl
+
+pub refused-body : (b : Body) → body_verdict b ≡ verdict.Refused → (is_fault_body b ≡ false) × (is_accepting b ≡ false)
+refused-body (Json text) e = cc
+refused-body (Refused r) e = (refused-plain r e, refl)
+
+accepted-none : (r : Refusal) → verdict_on r ≡ verdict.Accepted → ⊥
+accepted-none Store e = cc
+accepted-none Memory e = cc
+accepted-none _ e = cc
+
+pub accepted-body : (b : Body) → body_verdict b ≡ verdict.Accepted → (is_fault_body b ≡ false) × (is_accepting b ≡ true)
+accepted-body (Json text) e = (refl, refl)
+accepted-body (Refused r) e = absurd (accepted-none r e)
+
+store-only : (r : Refusal) → verdict_on r ≡ verdict.Store → r ≡ Store
+store-only Store e = refl
+store-only Memory e = cc
+store-only _ e = cc
+
+pub store-body : (b : Body) → body_verdict b ≡ verdict.Store → b ≡ Refused Store
+store-body (Json text) e = cc
+store-body (Refused r) e = ap Refused (store-only r e)
+
+memory-only : (r : Refusal) → verdict_on r ≡ verdict.Memory → r ≡ Memory
+memory-only Store e = cc
+memory-only Memory e = refl
+memory-only _ e = cc
+
+pub memory-body : (b : Body) → body_verdict b ≡ verdict.Memory → b ≡ Refused Memory
+memory-body (Json text) e = cc
+memory-body (Refused r) e = ap Refused (memory-only r e)
+
+-- what does not tell of a fault counts none
+counted-other : (r : Refusal) (n : ℕ) → is_fault r ≡ false → counted_refusal r n ≡ n
+counted-other Store n e = cc
+counted-other Memory n e = cc
+counted-other _ n e = refl
+
+pub counted-plain : (b : Body) (n : ℕ) → is_fault_body b ≡ false → counted_body b n ≡ n
+counted-plain (Json text) n e = refl
+counted-plain (Refused r) n e = counted-other r n e
+
+-- ---- one more record
+
+pub kept-on : (off on : Bool) (b : Body) → is_accepting b ≡ true → on ≡ off → on ≡ (off || not (is_accepting b))
+kept-on true on b e same = same
+kept-on false on b e same = rw e same
+
+pub turned-on : (off on : Bool) (b : Body) → is_accepting b ≡ false → on ≡ true → on ≡ (off || not (is_accepting b))
+turned-on true on b e same = same
+turned-on false on b e same = rw e same
+
+not-and : (a b : Bool) → (not a || not b) ≡ not (a && b)
+not-and true b = refl
+not-and false b = refl
+
+abbrev pub SoFar : ℕ → Firm → List (List (List ℕ)) → Firm → Option (List ℕ) → Option (List ℕ) → Bool → Type 0
+SoFar day before past firm old new refused =
+    Appends old new (concat (lines_from day before past)) × (firm ≡ firm_from day before past) × (refused ≡ not (all_accepted day before past))
+
+pub so_far-more : (day : ℕ) (before firm after : Firm) (past : List (List (List ℕ))) (r : List (List ℕ)) (old mid new : Option (List ℕ)) (reply : Reply) (off on : Bool)
+    → SoFar day before past firm old mid off → Steps day firm (heard_of r) reply after → is_fault_reply reply ≡ false
+    → Appends mid new (reply_line reply) → on ≡ (off || not (is_accepting reply.body)) → SoFar day before (past ++ r ∷ []) after old new on
+so_far-more day before firm after past r old mid new reply off on (written, is, was) steps plain sent now =
+    let went = rw is at steps in
+    let (same, left) = steps-plain day (firm_from day before past) after (heard_of r) reply plain went in
+    let all = all_accepted day before past in
+    let lines = ap concat (lines-push day before past r) ∙ concat-push (lines_from day before past) (reply_line (record_step day (firm_from day before past) r).reply) in
+    let text = lines ∙ ap (λ (x : Reply). concat (lines_from day before past) ++ reply_line x) (sym same) in (
+      rw text (Appends-trans old mid new (concat (lines_from day before past)) (reply_line reply) written sent),
+      left ∙ sym (firm-push day before past r),
+      now ∙ ap (λ (b : Bool). b || not (is_accepting reply.body)) was ∙ not-and all (is_accepting reply.body)
+          ∙ ap not (ap (λ (x : Reply). all && is_accepting x.body) same ∙ sym (accepted-push day before past r)),
+    )
+
+-- ---- where a run stops
+
+abbrev pub cut-at : (all past left rest : List (List (List ℕ))) (r : List (List ℕ)) → past ++ left ≡ all → left ≡ r ∷ rest → Cut all
+cut-at all past left rest r e first = record { past = past; here = r; later = rest; parts = rw first at e }
+
+-- a record that was answered by a fault: its line is written, and nothing is changed
+pub stops : (day : ℕ) (before firm after : Firm) (past : List (List (List ℕ))) (r : List (List ℕ)) (old mid new : Option (List ℕ)) (reply : Reply) (off : Bool) (fault : Refusal)
+    → SoFar day before past firm old mid off → Steps day firm (heard_of r) reply after → reply.body ≡ Refused fault → is_fault fault ≡ true
+    → Appends mid new (reply_line reply) → Leaves day before past (refusal_line fault) after old new
+stops day before firm after past r old mid new reply off fault (written, is, was) steps body e sent =
+    let line : reply_line reply ≡ refusal_line fault = ap (body_line reply.status) body in
+    record {
+      written = Appends-trans old mid new _ _ written (rw line at sent);
+      firm = steps-fault day firm after (heard_of r) reply (ap is_fault_body body ∙ e) steps ∙ is;
+    }
+
+-- whole lines of the first records
+pub leaves-past : (day : ℕ) (before firm : Firm) (past : List (List (List ℕ))) (old new : Option (List ℕ)) (off : Bool)
+    → SoFar day before past firm old new off → Leaves day before past [] firm old new
+leaves-past day before firm past old new off (written, is, was) = record { written = rw (append-nil (concat (lines_from day before past))) written; firm = is }
+
+pub leaves-first : (day : ℕ) (before firm : Firm) (all past left : List (List (List ℕ))) (old new : Option (List ℕ)) (off : Bool) → past ++ left ≡ all
+    → SoFar day before past firm old new off → (k : ℕ) × Leaves day before (take k all) [] firm old new
+leaves-first day before firm all past left old new off e so =
+    (length past, rw (first_records all past left e) (leaves-past day before firm past old new off so))
+
+-- a part of a record's line
+pub cuts-line : (day : ℕ) (before firm after : Firm) (past : List (List (List ℕ))) (r : List (List ℕ)) (old mid new : Option (List ℕ)) (reply : Reply) (off : Bool)
+    → SoFar day before past firm old mid off → Steps day firm (heard_of r) reply after → IsCut mid new (reply_line reply) → CutsLine day before past r after old new
+cuts-line day before firm after past r old mid new reply off (written, is, was) steps (n, less, part) = record {
+  reply = reply;
+  steps = rw is at steps;
+  count = n;
+  proper = less;
+  written = Appends-trans old mid new _ _ written part;
+}
+
+-- at the end of the records all were run
+pub past-all : (all past left : List (List (List ℕ))) → past ++ left ≡ all → left ≡ [] → past ≡ all
+past-all all past left e none = sym (append-nil past) ∙ rw none at e
+
+-- whether all was accepted, by what was kept of it
+pub all-refused : (all : Bool) → true ≡ not all → all ≡ false
+all-refused true e = cc
+all-refused false e = refl
+
+pub none-refused : (all : Bool) → false ≡ not all → all ≡ true
+none-refused true e = refl
+none-refused false e = cc
+
+-- ---- a whole sheet, of bytes that are known or not
+
+pub ends-run : (known : Option (List ℕ)) (items : List ℕ) (day : ℕ) (before after : Firm) (old new : Option (List ℕ)) (e : SheetEnd)
+    → IfSome known (λ all. (items ≡ all) × (length all ≤ SHEET_LIMIT)) → RunEnds day before (sheet_records items) after old new e
+    → IfSome known (λ bytes. Ends day before bytes after old new e)
+ends-run None items day before after old new e read h = tt
+ends-run (Some bytes) items day before after old new e (same, short) h =
+    let within : nat_lt SHEET_LIMIT (length bytes) ≡ false = grind (arith, nat_tests) in
+    rw within (rw same at h)
+
+pub ends-large : (known : Option (List ℕ)) (day : ℕ) (firm : Firm) (old new : Option (List ℕ)) (e : SheetEnd)
+    → IfSome known (λ all. SHEET_LIMIT < length all) → LargeEnds firm firm old new e → IfSome known (λ bytes. Ends day firm bytes firm old new e)
+ends-large None day firm old new e long h = tt
+ends-large (Some bytes) day firm old new e long h =
+    let beyond : nat_lt SHEET_LIMIT (length bytes) ≡ true = grind (arith, nat_tests) in
+    rw beyond h

@@ -1,3 +1,4 @@
 pub mod Outcome
 pub mod Program
+pub mod Records
 pub mod Sheet

@@ -1,128 +1,93 @@
--- What a day sheet does: the line of each record, and the postings that it leaves.
-use Rattle.std.specs.Prelude.{◌≡◌, ◌<◌, ◌≤◌, ℕ, ℤ, Bool, true, false, List, [], ◌∷◌, ◌++◌, Option, Some, None, Result, Ok, Err, codes, length, nat_lt, take, if◌then◌else◌}
+-- What a day sheet prints, and the firm that it leaves.
+use Rattle.std.specs.Prelude.{◌≡◌, ◌<◌, ◌⊎◌, ℕ, Bool, true, false, List, [], ◌∷◌, ◌++◌, Option, Result, Ok, Err, length, nat_lt, take, if◌then◌else◌, MatchBool}
+use Rattle.std.specs.Fmt.{decimal}
 use Rattle.std.specs.Io.KnownBytes.{Appends}
 use Rattle.std.specs.List.{concat, filter}
-use Rattle.std.specs.Str.{bytes_eq}
-use Rattle.std.specs.String.{string_bytes}
 use Rattle.csv.specs.Reading.{default_config, records, strip_bom}
-use Rattle.trust_base.specs.Limits.{IsMatterNo}
-use Rattle.trust_base.specs.Texts.{amount_of, matter_of, matter_text, signed_text}
-use Rattle.trust_matter.specs.Pool.{IsPoolOf, Pay, PoolState, Posting, Take, accepts, left_for, ledger_of, posted_for}
-use Rattle.cashier_cli.specs.declared.record.Answer.{Answer}
-use Rattle.cashier_cli.specs.declared.record.Asked.{Asked}
-use Rattle.cashier_cli.specs.declared.record.Asked.TheVariants as ask
-use Rattle.cashier_cli.specs.declared.record.Field.{Field}
-use Rattle.cashier_cli.specs.declared.record.Field.TheVariants as field
+use Rattle.trust_base.specs.Refusals.{refusal_text, status_of}
+use Rattle.trust_base.specs.Texts.{matter_of}
+use Rattle.trust_base.specs.declared.refusal.Field.{Field}
+use Rattle.trust_base.specs.declared.refusal.Refusal.{Refusal}
+use Rattle.trust_base.specs.declared.refusal.Refusal.TheVariants.{BadField, TooLarge, Store, Memory}
+use Rattle.trust_firm.specs.Firm.{Firm, of}
+use Rattle.trust_desk.specs.FirmStep.{Stepped, Steps, firm_step}
+use Rattle.trust_desk.specs.Heard.{Asks, Heard, Unread, is_the}
+use Rattle.trust_desk.specs.declared.requests.Body.{Body}
+use Rattle.trust_desk.specs.declared.requests.Body.TheVariants.{Json, Refused}
+use Rattle.trust_desk.specs.declared.requests.Reply.{Reply}
+use Rattle.trust_desk.specs.declared.requests.Request.{Request}
+use Rattle.cashier_cli.specs.Records.{asked_of, text_at}
 use Rattle.cashier_cli.specs.declared.sheet.SheetEnd.{SheetEnd}
 use Rattle.cashier_cli.specs.declared.sheet.SheetEnd.TheVariants as end
+use Rattle.cashier_cli.specs.declared.verdict.Verdict.{Verdict}
+use Rattle.cashier_cli.specs.declared.verdict.Verdict.TheVariants as verdict
 
--- ---- what a record asks
+-- ---- one record
 
--- the ask of a verb, once its matter and its amount are read
-abbrev pub with_parts : (ℕ → ℕ → Asked) → Option ℕ → Option ℕ → Result Asked Field
-with_parts make None amount = Err field.Matter
-with_parts make (Some m) None = Err field.Amount
-with_parts make (Some m) (Some a) = Ok (make m a)
+abbrev pub heard_as : Result Request Field → Option ℕ → Heard
+heard_as (Ok request) named = Asks request
+heard_as (Err f) named = Unread named (BadField f)
 
--- what three fields ask: a verb, a matter and an amount
-abbrev pub asked_of_three : List ℕ → List ℕ → List ℕ → Result Asked Field
-asked_of_three verb matter amount =
-    if bytes_eq verb (codes "take") then with_parts ask.Take (matter_of matter) (amount_of amount)
-    else if bytes_eq verb (codes "pay") then with_parts ask.Pay (matter_of matter) (amount_of amount)
-    else Err field.Record
+-- what the desk hears of a record: its request, or its refusal; a record names the matter of its second field
+unfoldable pub heard_of : List (List ℕ) → Heard
+heard_of fields = heard_as (asked_of fields) (matter_of (text_at fields 1))
 
--- what a record asks, or the first field that is not of its form
-abbrev pub asked_of : List (List ℕ) → Result Asked Field
-asked_of [] = Err field.Record
-asked_of (v ∷ []) = Err field.Record
-asked_of (v ∷ m ∷ []) = Err field.Record
-asked_of (v ∷ m ∷ a ∷ []) = asked_of_three v m a
-asked_of (v ∷ m ∷ a ∷ more ∷ rest) = Err field.Record
-
--- the posting that is asked for
-abbrev pub posting_of : Asked → Posting
-posting_of (ask.Take m a) = Take m a
-posting_of (ask.Pay m a) = Pay m a
+-- what a record does to a firm on a day
+abbrev pub record_step : ℕ → Firm → List (List ℕ) → Stepped
+record_step day firm fields = firm_step day firm (heard_of fields)
 
 -- ---- lines
 
--- the name of a field
-abbrev pub field_text : Field → List ℕ
-field_text field.Record = codes "record"
-field_text field.Matter = codes "matter"
-field_text field.Amount = codes "amount"
+-- a status, a space, a body and a line feed
+unfoldable pub line_of : ℕ → List ℕ → List ℕ
+line_of status body = decimal status ++ (32 ∷ (body ++ 10 ∷ []))
 
--- an accepted record: its matter, and the ledger after it
-abbrev pub ok_line : ℕ → ℤ → List ℕ
-ok_line m ledger = codes "ok " ++ matter_text m ++ codes " " ++ signed_text ledger ++ codes "\n"
+abbrev pub refusal_line : Refusal → List ℕ
+refusal_line r = line_of (status_of r) (refusal_text r)
 
--- a payment that exceeds what is left
-abbrev pub short_line : ℤ → List ℕ
-short_line left = codes "refused 21 Short " ++ signed_text left ++ codes "\n"
+abbrev pub body_line : ℕ → Body → List ℕ
+body_line status (Json text) = line_of status text
+body_line status (Refused r) = refusal_line r
 
--- a field that is not of its form
-abbrev pub bad_line : Field → List ℕ
-bad_line f = codes "refused 7 BadField " ++ field_text f ++ codes "\n"
+-- the line of a reply
+abbrev pub reply_line : Reply → List ℕ
+reply_line reply = body_line reply.status reply.body
 
--- a sheet above the limit
-abbrev pub too_large_line : List ℕ
-too_large_line = codes "refused 3 TooLarge\n"
+-- ---- verdicts
 
--- ---- records
+abbrev pub verdict_on : Refusal → Verdict
+verdict_on Store = verdict.Store
+verdict_on Memory = verdict.Memory
+verdict_on _ = verdict.Refused
 
--- what a record leaves: the accepted postings, its line, and whether it was accepted
-pub record Answered : Type 0 where
-  pub postings : List Posting
-  pub line : List ℕ
-  pub accepted : Bool
+abbrev pub body_verdict : Body → Verdict
+body_verdict (Json text) = verdict.Accepted
+body_verdict (Refused r) = verdict_on r
 
--- an accepted posting is the last one of those accepted
-abbrev pub accept : List Posting → Posting → Answered
-accept postings p =
-    record { postings = postings ++ p ∷ []; line = ok_line (posted_for p) (ledger_of (postings ++ p ∷ []) (posted_for p)); accepted = true }
+-- whether a reply accepts, refuses or tells of a fault
+abbrev pub verdict_of : Reply → Verdict
+verdict_of reply = body_verdict reply.body
 
--- a refused record leaves the postings as they were
-abbrev pub refuse : List Posting → List ℕ → Answered
-refuse postings line = record { postings = postings; line = line; accepted = false }
+abbrev pub is_accepting : Body → Bool
+is_accepting (Json text) = true
+is_accepting (Refused r) = false
 
--- the line of a refused posting: a take past the limit, or a payment that exceeds what is left
-abbrev pub refused_line : List Posting → Posting → List ℕ
-refused_line postings (Take m a) = bad_line field.Amount
-refused_line postings (Pay m a) = short_line (left_for postings m)
+-- ---- all records
 
--- what a posting does, after those that were accepted
-abbrev pub answer_posting : List Posting → Posting → Answered
-answer_posting postings p = if accepts postings p then accept postings p else refuse postings (refused_line postings p)
+-- the lines of records, one for each
+abbrev pub lines_from : ℕ → Firm → List (List (List ℕ)) → List (List ℕ)
+lines_from day firm [] = []
+lines_from day firm (r ∷ rest) = reply_line (record_step day firm r).reply ∷ lines_from day (record_step day firm r).firm rest
 
--- what an ask does, or a field that is not of its form
-abbrev pub answer : List Posting → Result Asked Field → Answered
-answer postings (Err f) = refuse postings (bad_line f)
-answer postings (Ok asked) = answer_posting postings (posting_of asked)
+-- the firm once records were run
+abbrev pub firm_from : ℕ → Firm → List (List (List ℕ)) → Firm
+firm_from day firm [] = firm
+firm_from day firm (r ∷ rest) = firm_from day (record_step day firm r).firm rest
 
--- what a record does
-abbrev pub step : List Posting → List (List ℕ) → Answered
-step postings fields = answer postings (asked_of fields)
-
--- an answer of the program is this one
-abbrev pub Answers : Answered → PoolState → Answer → Type 0
-Answers told pool a = IsPoolOf pool told.postings × (string_bytes a.line ≡ told.line) × (a.accepted ≡ told.accepted)
-
--- ---- a whole sheet
-
--- the lines of records, one for each, after these postings
-abbrev pub lines_from : List Posting → List (List (List ℕ)) → List (List ℕ)
-lines_from postings [] = []
-lines_from postings (r ∷ rest) = (step postings r).line ∷ lines_from (step postings r).postings rest
-
--- the postings that were accepted once records were run
-abbrev pub postings_after : List Posting → List (List (List ℕ)) → List Posting
-postings_after postings [] = postings
-postings_after postings (r ∷ rest) = postings_after (step postings r).postings rest
-
--- whether each record was accepted
-abbrev pub all_accepted : List Posting → List (List (List ℕ)) → Bool
-all_accepted postings [] = true
-all_accepted postings (r ∷ rest) = if (step postings r).accepted then all_accepted (step postings r).postings rest else false
+-- whether each record is accepted
+abbrev pub all_accepted : ℕ → Firm → List (List (List ℕ)) → Bool
+all_accepted day firm [] = true
+all_accepted day firm (r ∷ rest) = if is_accepting (record_step day firm r).reply.body then all_accepted day (record_step day firm r).firm rest else false
 
 -- the records of a sheet, as CSV, with a byte order mark taken off
 abbrev pub sheet_records : List ℕ → List (List (List ℕ))
@@ -132,25 +97,60 @@ sheet_records bytes = records default_config (strip_bom bytes)
 abbrev pub SHEET_LIMIT : ℕ
 SHEET_LIMIT = 4194304
 
--- the lines of a sheet: above the limit no record is run
-abbrev pub sheet_lines : List ℕ → List (List ℕ)
-sheet_lines bytes = if nat_lt SHEET_LIMIT (length bytes) then too_large_line ∷ [] else lines_from [] (sheet_records bytes)
+-- ---- the end of a run
 
--- what a sheet prints
-abbrev pub sheet_text : List ℕ → List ℕ
-sheet_text bytes = concat (sheet_lines bytes)
+-- these records were run and no others: their lines were written, and more behind them, and the firm is the one
+-- that they leave
+pub record Leaves (day : ℕ) (before : Firm) (past : List (List (List ℕ))) (more : List ℕ) (after : Firm) (old new : Option (List ℕ)) : Type 0 where
+  pub written : Appends old new (concat (lines_from day before past) ++ more)
+  pub firm : after ≡ firm_from day before past
 
--- whether nothing of a sheet was refused
-abbrev pub is_accepted : List ℕ → Bool
-is_accepted bytes = if nat_lt SHEET_LIMIT (length bytes) then false else all_accepted [] (sheet_records bytes)
+-- the records before one, that one, and those behind it
+pub record Cut (all : List (List (List ℕ))) : Type 0 where
+  pub past : List (List (List ℕ))
+  pub here : List (List ℕ)
+  pub later : List (List (List ℕ))
+  pub parts : past ++ here ∷ later ≡ all
+
+-- a record was run, and of its line a proper front was written
+pub record CutsLine (day : ℕ) (before : Firm) (past : List (List (List ℕ))) (here : List (List ℕ)) (after : Firm) (old new : Option (List ℕ)) : Type 0 where
+  pub reply : Reply
+  pub steps : Steps day (firm_from day before past) (heard_of here) reply after
+  pub count : ℕ
+  pub proper : count < length (reply_line reply)
+  pub written : Appends old new (concat (lines_from day before past) ++ take count (reply_line reply))
+
+-- how a run of these records ends, the firm before and after, and what a writer was given by then: all lines; nothing
+-- before a read failed; where a write failed a front of that record's line; where the store or memory was refused
+-- the lines before, and the refusal's own where a record was answered so
+abbrev pub RunEnds : ℕ → Firm → List (List (List ℕ)) → Firm → Option (List ℕ) → Option (List ℕ) → SheetEnd → Type 0
+RunEnds day before all after old new end.Done = Leaves day before all [] after old new × (all_accepted day before all ≡ true)
+RunEnds day before all after old new end.Refused = Leaves day before all [] after old new × (all_accepted day before all ≡ false)
+RunEnds day before all after old new end.ReadFault = Leaves day before [] [] after old new
+RunEnds day before all after old new end.WriteFault = (cut : Cut all) × CutsLine day before cut.past cut.here after old new
+RunEnds day before all after old new end.Store = (cut : Cut all) × Leaves day before cut.past (refusal_line Store) after old new
+RunEnds day before all after old new end.NoMemory =
+    ((k : ℕ) × Leaves day before (take k all) [] after old new) ⊎ ((cut : Cut all) × Leaves day before cut.past (refusal_line Memory) after old new)
+
+-- how a sheet above the limit ends, of which no record is run: by one line
+abbrev pub LargeEnds : Firm → Firm → Option (List ℕ) → Option (List ℕ) → SheetEnd → Type 0
+LargeEnds before after old new end.Done = ⊥
+LargeEnds before after old new end.Refused = Appends old new (refusal_line TooLarge) × (after ≡ before)
+LargeEnds before after old new end.ReadFault = Appends old new [] × (after ≡ before)
+LargeEnds before after old new end.WriteFault = (n : ℕ) × (n < length (refusal_line TooLarge)) × Appends old new (take n (refusal_line TooLarge)) × (after ≡ before)
+LargeEnds before after old new end.Store = ⊥
+LargeEnds before after old new end.NoMemory = Appends old new [] × (after ≡ before)
+
+-- how a sheet ends
+abbrev pub Ends : ℕ → Firm → List ℕ → Firm → Option (List ℕ) → Option (List ℕ) → SheetEnd → Type 0
+Ends day before bytes after old new e =
+    MatchBool (nat_lt SHEET_LIMIT (length bytes)) (LargeEnds before after old new e) (RunEnds day before (sheet_records bytes) after old new e)
 
 -- ---- the lines of one matter
 
--- whether a record names a matter: its second field is the matter's six digits, whatever the others are
-abbrev pub names : ℕ → List (List ℕ) → Bool
-names m [] = false
-names m (v ∷ []) = false
-names m (v ∷ t ∷ rest) = bytes_eq t (matter_text m)
+-- a record names a matter: its second field is the matter's six digits, whatever the others are
+abbrev pub names_matter : ℕ → List (List ℕ) → Bool
+names_matter m fields = is_the m (matter_of (text_at fields 1))
 
 -- the lines at the records that pass a test
 abbrev pub lines_at : (List (List ℕ) → Bool) → List (List (List ℕ)) → List (List ℕ) → List (List ℕ)
@@ -158,28 +158,9 @@ lines_at test [] lines = []
 lines_at test (r ∷ rest) [] = []
 lines_at test (r ∷ rest) (line ∷ lines) = if test r then line ∷ lines_at test rest lines else lines_at test rest lines
 
--- the records of a sheet that name a matter
-abbrev pub records_naming : ℕ → List ℕ → List (List (List ℕ))
-records_naming m bytes = filter (names m) (sheet_records bytes)
-
--- the lines that a sheet prints at them
-abbrev pub lines_naming : ℕ → List ℕ → List (List ℕ)
-lines_naming m bytes = lines_at (names m) (sheet_records bytes) (sheet_lines bytes)
-
--- the lines of a matter depend on its own records alone: two sheets within the limit that hold the same records of a
--- matter, among whatever others, print the same lines at them
+-- the lines of a matter depend on its own rows and records alone: two firms with the same rows of a matter, and
+-- records of which the same name it, among whatever others, print the same lines at them
 abbrev pub OwnRecordsAlone : Type 0
 OwnRecordsAlone =
-    (m : ℕ) (a b : List ℕ) → IsMatterNo m → length a ≤ SHEET_LIMIT → length b ≤ SHEET_LIMIT
-    → records_naming m a ≡ records_naming m b → lines_naming m a ≡ lines_naming m b
-
--- ---- the end of a run
-
--- how a run ends whose lines are these, and what a writer was given by then:
--- all lines, nothing before a read failed, a part where a write failed, whole lines where memory was refused
-abbrev pub Ends : List (List ℕ) → Bool → Option (List ℕ) → Option (List ℕ) → SheetEnd → Type 0
-Ends lines accepted old new end.Done = Appends old new (concat lines) × (accepted ≡ true)
-Ends lines accepted old new end.Refused = Appends old new (concat lines) × (accepted ≡ false)
-Ends lines accepted old new end.ReadFault = Appends old new []
-Ends lines accepted old new end.WriteFault = (n : ℕ) × (n < length (concat lines)) × Appends old new (take n (concat lines))
-Ends lines accepted old new end.NoMemory = (k : ℕ) × Appends old new (concat (take k lines))
+    (m day : ℕ) (f g : Firm) (a b : List (List (List ℕ))) → of m f ≡ of m g → filter (names_matter m) a ≡ filter (names_matter m) b
+    → lines_at (names_matter m) a (lines_from day f a) ≡ lines_at (names_matter m) b (lines_from day g b)

@@ -5,13 +5,15 @@ mod command;
 mod outcome;
 mod program;
 mod record;
+mod reply_line;
 mod sheet;
 mod sheet_laws;
 #[cfg(test)]
 mod sheet_tests;
+mod verdict;
 
 use outcome::{Outcome, notice_of, outcome_of_words, status_of};
-use program::{run_words, texts_of};
+use program::{run_in_memory, texts_of};
 use std::io;
 use std::process::ExitCode;
 use std::rt::Env;
@@ -28,7 +30,7 @@ fn run(rt: &(impl Env + Input + Print + AllocGlobal)) -> Outcome {
     let Ok(texts) = texts_of(rt.alloc(), words.as_slice()) else {
         return Outcome::MemoryFault;
     };
-    run_words(
+    run_in_memory(
         rt.alloc(),
         texts.as_slice(),
         &mut rt.reader(),

@@ -17,6 +17,8 @@ pub enum Outcome {
     CommandLine,
     /// A read or a write failed.
     FileFault,
+    /// The store refused a call.
+    StoreFault,
     /// A growth was refused.
     MemoryFault,
 }
@@ -29,7 +31,7 @@ pub fn status_of(outcome: Outcome) -> u8
         Outcome::Done => 0,
         Outcome::Refused => 1,
         Outcome::CommandLine => 2,
-        Outcome::FileFault | Outcome::MemoryFault => 3,
+        Outcome::FileFault | Outcome::StoreFault | Outcome::MemoryFault => 3,
     }
 }
 
@@ -41,6 +43,7 @@ pub fn notice_of(outcome: Outcome) -> Option<&'static str>
         Outcome::Done | Outcome::Refused => None,
         Outcome::CommandLine => Some("usage: cashier_cli --today DAY sheet"),
         Outcome::FileFault => Some("file fault"),
+        Outcome::StoreFault => Some("store fault"),
         Outcome::MemoryFault => Some("memory fault"),
     }
 }
@@ -63,6 +66,7 @@ pub fn outcome_of_sheet(end: SheetEnd) -> Outcome
         SheetEnd::Done => Outcome::Done,
         SheetEnd::Refused => Outcome::Refused,
         SheetEnd::ReadFault | SheetEnd::WriteFault => Outcome::FileFault,
+        SheetEnd::Store => Outcome::StoreFault,
         SheetEnd::NoMemory => Outcome::MemoryFault,
     }
 }

@@ -1,16 +1,22 @@
 // A day sheet.
 
-ghost use Rattle.std.specs.Prelude.{◌≡◌, ◌≤ℤ◌, ℕ, pos, false, [], ◌∷◌, take, IfSome};
+ghost use Rattle.std.specs.Prelude.{◌≡◌, ◌≢◌, IfSome, []};
 ghost use Rattle.std.specs.Io.KnownBytes.{Appends};
-ghost use Rattle.trust_matter.specs.Pool.{ledger_of, pool_of};
-ghost use Rattle.cashier_cli.specs.Sheet.{Ends, all_accepted, is_accepted, lines_from, postings_after, sheet_lines, sheet_records, too_large_line};
+ghost use Rattle.trust_base.specs.declared.refusal.StoreFault.TheVariants as faults;
+ghost use Rattle.trust_firm.specs.Firm.{Firm};
+ghost use Rattle.trust_firm.specs.FirmSound.{FirmSound};
+ghost use Rattle.trust_store.specs.Books.{counted_fault};
+ghost use Rattle.cashier_cli.specs.Sheet.{Ends, LargeEnds, RunEnds, sheet_records};
 
-use crate::record::run_record;
+use crate::record::answer_record;
+use crate::reply_line::{write_refusal, write_reply};
+use crate::verdict::{Verdict, verdict_of};
 use csv::ReaderBuilder;
 use std::alloc::Global;
 use std::io::{Read, Write};
-use trust_base::{ReadFault, read_whole, send};
-use trust_matter::Pool;
+use trust_base::{Day, ReadFault, Refusal, read_whole};
+use trust_desk::Desk;
+use trust_store::Book;
 
 /// How a sheet ended.
 #[derive(Clone, Copy, PartialEq, Eq, Debug)]
@@ -21,9 +27,12 @@ pub enum SheetEnd {
     Refused,
     /// A read failed: no record was run, and nothing was written.
     ReadFault,
-    /// A write failed: a part of the lines was written.
+    /// A write failed: a part of the lines was written. The changes of the record whose line was cut stay.
     WriteFault,
-    /// A growth was refused: the lines of the first records were written, each whole.
+    /// A record was answered Store: its line was written, and no later record was run.
+    Store,
+    /// A growth was refused: the lines of the first records were written, each whole, and the line of the record
+    /// that was answered Memory, if one was.
     NoMemory,
 }
 
@@ -31,10 +40,20 @@ pub enum SheetEnd {
 const SHEET_MOST: usize = 4_194_304;
 
 // Runs the records of a sheet.
-fn run_records<W: Write>(alloc: Global, bytes: &[u8], writer: &mut W) -> SheetEnd
-    ensures { Ends (lines_from [] (sheet_records bytes.now)) (all_accepted [] (sheet_records bytes.now)) (W.contents writer.old) (W.contents writer.new) result }
+fn run_records<W: Write, B: Book>(
+    alloc: Global,
+    bytes: &[u8],
+    writer: &mut W,
+    desk: &mut Desk<B>,
+    day: Day,
+) -> SheetEnd
+    requires { B.clean desk.old → FirmSound (B.firm desk.old) }
+    ensures ends { B.clean desk.new → RunEnds day (B.firm desk.old) (sheet_records bytes.now) (B.firm desk.new) (W.contents writer.old) (W.contents writer.new) result }
+    ensures read { result ≢ SheetEnd.ReadFault }
+    ensures sound { B.clean desk.new → FirmSound (B.firm desk.new) }
+    ensures was_clean { B.clean desk.new → B.clean desk.old }
+    ensures cause { B.clean desk.new → result ≡ SheetEnd.Store → B.refusals desk.new ≡ counted_fault faults.Store (B.refusals desk.old) }
 {
-    let mut pool = Pool::new(alloc);
     let mut refused = false;
     let rdr = ReaderBuilder::new()
         .has_headers(false)
@@ -44,13 +63,16 @@ fn run_records<W: Write>(alloc: Global, bytes: &[u8], writer: &mut W) -> SheetEn
         let Ok(row) = row else {
             return SheetEnd::NoMemory;
         };
-        let Ok(answer) = run_record(alloc, &row, &mut pool) else {
-            return SheetEnd::NoMemory;
-        };
-        let Ok(()) = send(writer, answer.line.as_bytes()) else {
+        let reply = answer_record(alloc, &row, desk, day);
+        let Ok(()) = write_reply(writer, &reply) else {
             return SheetEnd::WriteFault;
         };
-        refused |= !answer.accepted;
+        match verdict_of(&reply) {
+            Verdict::Accepted => (),
+            Verdict::Refused => refused = true,
+            Verdict::Store => return SheetEnd::Store,
+            Verdict::Memory => return SheetEnd::NoMemory,
+        }
     }
     if refused {
         SheetEnd::Refused
@@ -61,26 +83,41 @@ fn run_records<W: Write>(alloc: Global, bytes: &[u8], writer: &mut W) -> SheetEn
 
 // Answers a sheet above the limit.
 fn refuse_whole<W: Write>(writer: &mut W) -> SheetEnd
-    ensures { Ends (too_large_line ∷ []) false (W.contents writer.old) (W.contents writer.new) result }
+    ensures ends { (firm : Firm) → LargeEnds firm firm (W.contents writer.old) (W.contents writer.new) result }
+    ensures read { result ≢ SheetEnd.ReadFault }
+    ensures stored { result ≢ SheetEnd.Store }
 {
-    let Ok(()) = send(writer, b"refused 3 TooLarge\n".as_slice()) else {
+    let Ok(()) = write_refusal(writer, &Refusal::TooLarge) else {
         return SheetEnd::WriteFault;
     };
     SheetEnd::Refused
 }
 
-/// Runs a day sheet over an empty pool: reads it whole, and writes a line for each of its records.
+/// Runs a day sheet over a desk on a business day: reads it whole, and writes a line for each of its records, which
+/// the cashier asks.
 ///
 /// A sheet above 4,194,304 bytes runs no record and is answered by one line. What is written is a function of the
-/// sheet's bytes, however the reads and writes are cut. After each record every ledger is at least zero, and so is the pool.
-pub fn run_sheet<R: Read, W: Write>(alloc: Global, reader: &mut R, writer: &mut W) -> SheetEnd
-    ensures ends { IfSome (R.remaining reader.old) (λ bytes. Ends (sheet_lines bytes) (is_accepted bytes) (W.contents writer.old) (W.contents writer.new) result) }
-    ensures unread { result ≡ SheetEnd.ReadFault → Appends (W.contents writer.old) (W.contents writer.new) [] }
-    ensures ledgers { IfSome (R.remaining reader.old) (λ bytes. (n m : ℕ) → pos 0 ≤ℤ ledger_of (postings_after [] (take n (sheet_records bytes))) m) }
-    ensures pool { IfSome (R.remaining reader.old) (λ bytes. (n : ℕ) → pos 0 ≤ℤ pool_of (postings_after [] (take n (sheet_records bytes)))) }
+/// sheet's bytes, the firm's rows before and the day, however the reads and writes are cut.
+pub fn run_sheet<R: Read, W: Write, B: Book>(
+    alloc: Global,
+    reader: &mut R,
+    writer: &mut W,
+    desk: &mut Desk<B>,
+    day: Day,
+) -> SheetEnd
+    // A book whose store is clean holds sound rows.
+    requires { B.clean desk.old → FirmSound (B.firm desk.old) }
+
+    ensures ends { B.clean desk.new → IfSome (R.remaining reader.old) (λ bytes. Ends day (B.firm desk.old) bytes (B.firm desk.new) (W.contents writer.old) (W.contents writer.new) result) }
+    ensures unread { result ≡ SheetEnd.ReadFault → Appends (W.contents writer.old) (W.contents writer.new) [] × (desk.new ≡ desk.old) }
+    ensures sound { B.clean desk.new → FirmSound (B.firm desk.new) }
+    ensures was_clean { B.clean desk.new → B.clean desk.old }
+
+    // It ends by Store only where a call of the book was refused.
+    ensures cause { B.clean desk.new → result ≡ SheetEnd.Store → B.refusals desk.new ≡ counted_fault faults.Store (B.refusals desk.old) }
 {
     match read_whole(alloc, reader, SHEET_MOST) {
-        Ok(Some(bytes)) => run_records(alloc, bytes.as_slice(), writer),
+        Ok(Some(bytes)) => run_records(alloc, bytes.as_slice(), writer, desk, day),
         Ok(None) => refuse_whole(writer),
         Err(ReadFault::Reader) => SheetEnd::ReadFault,
         Err(ReadFault::Memory) => SheetEnd::NoMemory,

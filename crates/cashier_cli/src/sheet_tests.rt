@@ -1,138 +1,259 @@
 // Day sheets from bytes to bytes.
 
+ghost use Rattle.trust_firm.specs.FirmSound.{FirmSound};
+
 use crate::sheet::{SheetEnd, run_sheet};
+use std::alloc::Global;
 use std::process::Abort;
 use std::test::Fail;
-use trust_base::{Cents, MatterNo, TrialReader, TrialWriter};
-use trust_matter::{Pool, PoolFault};
+use trust_base::{Day, TrialReader, TrialWriter};
+use trust_desk::Desk;
+use trust_store::{PlainBook, RefusingBook};
 
-// A sheet's lines and its end, whatever number of bytes a read gives.
+fn day(rt: &impl Abort) -> Day {
+    Day::read(b"2024-01-10").expect(rt, "a day")
+}
+
+fn new_desk(alloc: Global) -> Desk<PlainBook>
+    ensures { FirmSound result }
+{
+    Desk::new(PlainBook::new(alloc))
+}
+
+// A sheet's lines and its end over a firm without rows, whatever number of bytes a read gives and a write takes.
 fn check(rt: &(impl Abort + AllocGlobal), sheet: &[u8], lines: &[u8], end: SheetEnd) {
     for most in [1, 2, 7, 4096] {
         let mut reader = TrialReader::new(sheet, most, u64::MAX);
         let mut writer = TrialWriter::new(rt.alloc(), most, u64::MAX);
-        assert_eq!(rt; run_sheet(rt.alloc(), &mut reader, &mut writer), end);
+        let mut desk = new_desk(rt.alloc());
+        let told = run_sheet(rt.alloc(), &mut reader, &mut writer, &mut desk, day(rt));
         assert_eq!(rt; writer.as_slice(), lines);
+        assert_eq!(rt; told, end);
     }
 }
 
-const FIRST_DAY: &[u8] = b"take,000001,500.00\npay,000002,200.00\npay,000001,600.00\n";
+// The lines of a sheet over a matter that is open: those behind the first.
+fn check_open(
+    rt: &(impl Abort + AllocGlobal),
+    records: &[u8],
+    lines: &[u8],
+    end: SheetEnd,
+) -> Result<(), Fail> {
+    let mut sheet = Vec::new(rt.alloc());
+    sheet.extend_from_slice(OPENING)?;
+    sheet.extend_from_slice(records)?;
+    let mut told = Vec::new(rt.alloc());
+    told.extend_from_slice(OPENED)?;
+    told.extend_from_slice(lines)?;
+    check(rt, sheet.as_slice(), told.as_slice(), end);
+    Ok(())
+}
+
+const OPENING: &[u8] = b"open,000001,,Ada Chen,lee\n";
+
+const OPENED: &[u8] =
+    b"201 {\"available\":\"0.00\",\"claims\":\"0.00\",\"client\":\"Ada Chen\",\"closed\":null,\"disputed\":\"0.00\",\"entries\":0,\"fees\":\"0.00\",\"held\":\"0.00\",\"matter\":\"000001\",\"opened\":\"2024-01-10\",\"seats\":[{\"person\":\"lee\",\"role\":\"lawyer\"}],\"total\":\"0.00\"}\n";
+
+const RECORD: &[u8] = b"422 {\"field\":\"record\",\"name\":\"BadField\",\"refusal\":7}\n";
 
 #[test]
-fn pays_out_of_the_own_ledger(rt: HostRuntime) {
-    let lines = b"ok 000001 500.00\nrefused 21 Short 0.00\nrefused 21 Short 500.00\n";
-    check(&rt, FIRST_DAY, lines, SheetEnd::Refused);
-    let accepted = b"take,000001,500.00\npay,000001,500.00\n";
-    let lines = b"ok 000001 500.00\nok 000001 0.00\n";
-    check(&rt, accepted, lines, SheetEnd::Done);
+fn opens_a_matter_once(rt: HostRuntime) -> Result<(), Fail> {
+    let shown =
+        b"200 {\"available\":\"0.00\",\"claims\":\"0.00\",\"client\":\"Ada Chen\",\"closed\":null,\"disputed\":\"0.00\",\"entries\":0,\"fees\":\"0.00\",\"held\":\"0.00\",\"matter\":\"000001\",\"opened\":\"2024-01-10\",\"seats\":[{\"person\":\"lee\",\"role\":\"lawyer\"}],\"total\":\"0.00\"}\n";
+    check_open(&rt, b"show,000001,\n", shown, SheetEnd::Done)?;
+    let again = b"409 {\"name\":\"AlreadyOpen\",\"refusal\":11}\n";
+    check_open(&rt, OPENING, again, SheetEnd::Refused)
 }
 
 #[test]
-fn prints_nothing_for_an_empty_sheet(rt: HostRuntime) {
-    check(&rt, b"", b"", SheetEnd::Done);
-    check(&rt, b"\n\r\n", b"", SheetEnd::Done);
+fn books_a_deposit_once(rt: HostRuntime) -> Result<(), Fail> {
+    let records =
+        b"deposit,000001,0001,500.00,Ada Chen,retainer\ndeposit,000001,0001,500.00,Ada Chen,retainer\ndeposit,000001,0001,500.01,Ada Chen,retainer\n";
+    let lines =
+        b"201 {\"amount\":\"500.00\",\"day\":\"2024-01-10\",\"description\":\"retainer\",\"entry\":\"0001\",\"kind\":\"deposit\",\"matter\":\"000001\",\"source\":\"Ada Chen\"}\n200 {\"amount\":\"500.00\",\"day\":\"2024-01-10\",\"description\":\"retainer\",\"entry\":\"0001\",\"kind\":\"deposit\",\"matter\":\"000001\",\"source\":\"Ada Chen\"}\n409 {\"name\":\"WrongNumber\",\"next\":\"0002\",\"refusal\":14}\n";
+    check_open(&rt, records, lines, SheetEnd::Refused)
+}
+
+#[test]
+fn takes_amounts_of_nine_digits(rt: HostRuntime) -> Result<(), Fail> {
+    let most = b"deposit,000001,0001,999999999.99,Ada Chen,retainer\n";
+    let line =
+        b"201 {\"amount\":\"999999999.99\",\"day\":\"2024-01-10\",\"description\":\"retainer\",\"entry\":\"0001\",\"kind\":\"deposit\",\"matter\":\"000001\",\"source\":\"Ada Chen\"}\n";
+    check_open(&rt, most, line, SheetEnd::Done)?;
+    let more = b"deposit,000001,0001,1000000000.00,Ada Chen,retainer\n";
+    let line = b"422 {\"field\":\"amount\",\"name\":\"BadField\",\"refusal\":7}\n";
+    check_open(&rt, more, line, SheetEnd::Refused)
+}
+
+#[test]
+fn cancels_a_deposit(rt: HostRuntime) -> Result<(), Fail> {
+    let records =
+        b"deposit,000001,0001,500.00,Ada Chen,retainer\ncancel,000001,0001\nentry,000001,0001\n";
+    let lines =
+        b"201 {\"amount\":\"500.00\",\"day\":\"2024-01-10\",\"description\":\"retainer\",\"entry\":\"0001\",\"kind\":\"deposit\",\"matter\":\"000001\",\"source\":\"Ada Chen\"}\n200 {\"amount\":\"500.00\",\"bank_day\":null,\"bank_ref\":null,\"day\":\"2024-01-10\",\"description\":\"retainer\",\"entry\":\"0001\",\"kind\":\"deposit\",\"matter\":\"000001\",\"source\":\"Ada Chen\",\"state\":\"cancelled\",\"undone\":\"2024-01-10\"}\n200 {\"amount\":\"500.00\",\"bank_day\":null,\"bank_ref\":null,\"day\":\"2024-01-10\",\"description\":\"retainer\",\"entry\":\"0001\",\"kind\":\"deposit\",\"matter\":\"000001\",\"source\":\"Ada Chen\",\"state\":\"cancelled\",\"undone\":\"2024-01-10\"}\n";
+    check_open(&rt, records, lines, SheetEnd::Done)
+}
+
+#[test]
+fn seats_and_drops_persons(rt: HostRuntime) -> Result<(), Fail> {
+    let taken = b"409 {\"name\":\"SeatTaken\",\"refusal\":22}\n";
+    check_open(&rt, b"seat,000001,,lee,client\n", taken, SheetEnd::Refused)?;
+    let none = b"409 {\"name\":\"NoSeat\",\"refusal\":23}\n";
+    check_open(&rt, b"drop,000001,,bob\n", none, SheetEnd::Refused)?;
+    let last = b"409 {\"name\":\"LastLawyer\",\"refusal\":24}\n";
+    check_open(&rt, b"drop,000001,,lee\n", last, SheetEnd::Refused)?;
+    let seated =
+        b"200 {\"available\":\"0.00\",\"claims\":\"0.00\",\"client\":\"Ada Chen\",\"closed\":null,\"disputed\":\"0.00\",\"entries\":0,\"fees\":\"0.00\",\"held\":\"0.00\",\"matter\":\"000001\",\"opened\":\"2024-01-10\",\"seats\":[{\"person\":\"ada\",\"role\":\"client\"},{\"person\":\"lee\",\"role\":\"lawyer\"}],\"total\":\"0.00\"}\n";
+    check_open(&rt, b"seat,000001,,ada,client\n", seated, SheetEnd::Done)
+}
+
+// A record whose field of that name is not of its form.
+fn check_field(rt: &(impl Abort + AllocGlobal), name: &[u8], sheet: &[u8]) -> Result<(), Fail> {
+    let mut line = Vec::new(rt.alloc());
+    line.extend_from_slice(b"422 {\"field\":\"".as_slice())?;
+    line.extend_from_slice(name)?;
+    line.extend_from_slice(b"\",\"name\":\"BadField\",\"refusal\":7}\n".as_slice())?;
+    check(rt, sheet, line.as_slice(), SheetEnd::Refused);
+    Ok(())
+}
+
+#[test]
+fn names_the_field_that_is_not_of_its_form(rt: HostRuntime) -> Result<(), Fail> {
+    check_field(&rt, b"matter", b"open,12,,Ada Chen,lee\n")?;
+    check_field(&rt, b"client", b"open,000001,,,Lee\n")?;
+    check_field(&rt, b"lawyer", b"open,000001,,Ada Chen,cashier\n")?;
+    check_field(&rt, b"person", b"seat,000001,,,judge\n")?;
+    check_field(&rt, b"role", b"seat,000001,,lee,judge\n")?;
+    check_field(&rt, b"person", b"drop,000001,,Lee\n")?;
+    check_field(&rt, b"entry", b"deposit,000001,,5,,\n")?;
+    check_field(&rt, b"amount", b"deposit,000001,0001,0500.00,Ada Chen,\n")?;
+    check_field(&rt, b"source", b"deposit,000001,0001,500.00,,\n")?;
+    check_field(
+        &rt,
+        b"description",
+        b"deposit,000001,0001,500.00,Ada Chen,\n",
+    )?;
+    check_field(&rt, b"entry", b"cancel,000001,1\n")?;
+    check_field(&rt, b"entry", b"entry,000001,\n")
+}
+
+#[test]
+fn names_the_record_first_of_all(rt: HostRuntime) {
+    for sheet in [
+        b"give,12,,x\n".as_slice(),
+        b"show,000001\n",
+        b"open,12,,Ada Chen,lee,\n",
+        b"open,12,0001,Ada Chen,lee\n",
+        b"show,000001,0001\n",
+        b"drop,12,,\xff\n",
+        b"\xff,000001,\n",
+    ] {
+        check(&rt, sheet, RECORD, SheetEnd::Refused);
+    }
 }
 
 #[test]
 fn reads_what_csv_reads(rt: HostRuntime) {
-    let taken = b"ok 000001 500.00\n";
-    check(&rt, b"\"take\",000001,\"500.00\"", taken, SheetEnd::Done);
-    check(&rt, b"take,000001,\"500.00", taken, SheetEnd::Done);
-    check(
-        &rt,
-        b"\xef\xbb\xbftake,000001,500.00\n",
-        taken,
-        SheetEnd::Done,
-    );
-    let twice = b"ok 000001 1.00\nok 000001 2.00\n";
-    check(
-        &rt,
-        b"take,000001,1.00\r\ntake,000001,1.00\r\n",
-        twice,
-        SheetEnd::Done,
-    );
-    check(
-        &rt,
-        b"take,000001,1.00\rtake,000001,1.00\r",
-        twice,
-        SheetEnd::Done,
-    );
-}
-
-#[test]
-fn names_the_field_that_is_not_of_its_form(rt: HostRuntime) {
-    let record = b"refused 7 BadField record\n";
-    let matter = b"refused 7 BadField matter\n";
-    let amount = b"refused 7 BadField amount\n";
-    check(&rt, b"take,000001\n", record, SheetEnd::Refused);
-    check(&rt, b"take,000001,1.00,\n", record, SheetEnd::Refused);
-    check(&rt, b"give,000001,1.00\n", record, SheetEnd::Refused);
-    check(&rt, b"\xff,000001,1.00\n", record, SheetEnd::Refused);
-    check(&rt, b"take,1,0500.00\n", matter, SheetEnd::Refused);
-    check(&rt, b"take,\xff,1.00\n", matter, SheetEnd::Refused);
-    check(&rt, b"pay,000001,0500.00\n", amount, SheetEnd::Refused);
-    check(&rt, b"pay,000001,\xff\n", amount, SheetEnd::Refused);
+    check(&rt, b"", b"", SheetEnd::Done);
+    check(&rt, b"\n\r\n", b"", SheetEnd::Done);
+    for sheet in [
+        b"\"open\",000001,\"\",\"Ada Chen\",lee".as_slice(),
+        b"open,000001,,Ada Chen,\"lee",
+        b"\xef\xbb\xbfopen,000001,,Ada Chen,lee\n",
+        b"open,000001,,Ada Chen,lee\r\n",
+        b"\ropen,000001,,Ada Chen,lee\r",
+    ] {
+        check(&rt, sheet, OPENED, SheetEnd::Done);
+    }
 }
 
 #[test]
 fn runs_no_record_of_a_sheet_above_the_limit(rt: HostRuntime) -> Result<(), Fail> {
     let mut sheet = Vec::new(rt.alloc());
-    sheet.extend_from_slice(b"take,000001,500.00\n".as_slice())?;
+    sheet.extend_from_slice(OPENING)?;
     sheet.resize(4_194_304, b'x')?;
+    let mut told = Vec::new(rt.alloc());
+    told.extend_from_slice(OPENED)?;
+    told.extend_from_slice(RECORD)?;
     let mut writer = TrialWriter::new(rt.alloc(), usize::MAX, u64::MAX);
-    let end = run_sheet(rt.alloc(), &mut sheet.as_slice(), &mut writer);
+    let mut desk = new_desk(rt.alloc());
+    let end = run_sheet(
+        rt.alloc(),
+        &mut sheet.as_slice(),
+        &mut writer,
+        &mut desk,
+        day(&rt),
+    );
     assert_eq!(rt; end, SheetEnd::Refused);
-    let lines = b"ok 000001 500.00\nrefused 7 BadField record\n".as_slice();
-    assert_eq!(rt; writer.as_slice(), lines);
+    assert_eq!(rt; writer.as_slice(), told.as_slice());
 
     sheet.push(b'x')?;
     let mut writer = TrialWriter::new(rt.alloc(), usize::MAX, u64::MAX);
-    let end = run_sheet(rt.alloc(), &mut sheet.as_slice(), &mut writer);
+    let mut desk = new_desk(rt.alloc());
+    let end = run_sheet(
+        rt.alloc(),
+        &mut sheet.as_slice(),
+        &mut writer,
+        &mut desk,
+        day(&rt),
+    );
     assert_eq!(rt; end, SheetEnd::Refused);
-    assert_eq!(rt; writer.as_slice(), b"refused 3 TooLarge\n".as_slice());
+    let line = b"413 {\"name\":\"TooLarge\",\"refusal\":3}\n".as_slice();
+    assert_eq!(rt; writer.as_slice(), line);
     Ok(())
 }
 
 #[test]
 fn writes_nothing_where_a_read_fails(rt: HostRuntime) {
-    let mut reader = TrialReader::new(FIRST_DAY, 7, 3);
+    let mut reader = TrialReader::new(OPENING, 7, 3);
     let mut writer = TrialWriter::new(rt.alloc(), usize::MAX, u64::MAX);
-    let end = run_sheet(rt.alloc(), &mut reader, &mut writer);
+    let mut desk = new_desk(rt.alloc());
+    let end = run_sheet(rt.alloc(), &mut reader, &mut writer, &mut desk, day(&rt));
     assert_eq!(rt; end, SheetEnd::ReadFault);
-    assert_eq!(rt; writer.as_slice(), b"".as_slice());
+    assert!(rt; writer.as_slice().is_empty());
 }
 
 #[test]
-fn ends_where_a_write_fails(rt: HostRuntime) {
-    let mut writer = TrialWriter::new(rt.alloc(), usize::MAX, 1);
-    let end = run_sheet(rt.alloc(), &mut FIRST_DAY, &mut writer);
-    assert_eq!(rt; end, SheetEnd::WriteFault);
-    assert_eq!(rt; writer.as_slice(), b"ok 000001 500.00\n".as_slice());
-
+fn keeps_the_change_whose_line_was_cut(rt: HostRuntime) {
+    let mut desk = new_desk(rt.alloc());
+    let sheet = b"open,000001,,Ada Chen,lee\ndrop,000001,,lee\n";
     let mut writer = TrialWriter::new(rt.alloc(), 4, 1);
-    let end = run_sheet(rt.alloc(), &mut FIRST_DAY, &mut writer);
+    let end = run_sheet(
+        rt.alloc(),
+        &mut sheet.as_slice(),
+        &mut writer,
+        &mut desk,
+        day(&rt),
+    );
     assert_eq!(rt; end, SheetEnd::WriteFault);
-    assert_eq!(rt; writer.as_slice(), b"ok 0".as_slice());
+    assert_eq!(rt; writer.as_slice(), b"201".as_slice());
 
-    let mut writer = TrialWriter::new(rt.alloc(), 0, u64::MAX);
-    let end = run_sheet(rt.alloc(), &mut FIRST_DAY, &mut writer);
-    assert_eq!(rt; end, SheetEnd::WriteFault);
-    assert_eq!(rt; writer.as_slice(), b"".as_slice());
+    let mut writer = TrialWriter::new(rt.alloc(), usize::MAX, u64::MAX);
+    let end = run_sheet(rt.alloc(), &mut OPENING, &mut writer, &mut desk, day(&rt));
+    assert_eq!(rt; end, SheetEnd::Refused);
+    let again = b"409 {\"name\":\"AlreadyOpen\",\"refusal\":11}\n".as_slice();
+    assert_eq!(rt; writer.as_slice(), again);
 }
 
 #[test]
-fn takes_of_a_matter_end_at_their_limit(rt: HostRuntime) -> Result<(), Fail> {
-    let matter = MatterNo::read(b"000001").ok_or("a matter")?;
-    let most = Cents::read(b"999999999.99").ok_or("an amount")?;
-    let last = Cents::read(b"10000.00").ok_or("an amount")?;
-    let cent = Cents::read(b"0.01").ok_or("an amount")?;
-    let mut pool = Pool::new(rt.alloc());
-    for _ in 0..1_000_000 {
-        let _ = pool.take(matter, most);
-    }
-    assert_eq!(rt; pool.take(matter, last), Ok(100_000_000_000_000_000));
-    assert_eq!(rt; pool.take(matter, cent), Err(PoolFault::PastLimit));
-    assert_eq!(rt; pool.pay(matter, last), Ok(99_999_999_999_000_000));
-    assert_eq!(rt; pool.take(matter, cent), Err(PoolFault::PastLimit));
-    Ok(())
+fn ends_where_the_store_is_refused(rt: HostRuntime) {
+    let mut desk = Desk::new(RefusingBook::new(PlainBook::new(rt.alloc()), 1));
+    let sheet = b"show,000001,\nopen,000001,,Ada Chen,lee\nshow,000001,\n";
+    let mut writer = TrialWriter::new(rt.alloc(), usize::MAX, u64::MAX);
+    let end = run_sheet(
+        rt.alloc(),
+        &mut sheet.as_slice(),
+        &mut writer,
+        &mut desk,
+        day(&rt),
+    );
+    assert_eq!(rt; end, SheetEnd::Store);
+    let lines =
+        b"404 {\"name\":\"NoMatter\",\"refusal\":8}\n503 {\"name\":\"Store\",\"refusal\":29}\n".as_slice();
+    assert_eq!(rt; writer.as_slice(), lines);
+
+    let mut writer = TrialWriter::new(rt.alloc(), usize::MAX, u64::MAX);
+    let end = run_sheet(rt.alloc(), &mut OPENING, &mut writer, &mut desk, day(&rt));
+    assert_eq!(rt; end, SheetEnd::Done);
+    assert_eq!(rt; writer.as_slice(), OPENED);
 }

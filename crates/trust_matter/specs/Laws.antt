@@ -1,28 +1,90 @@
--- Laws of ledgers and of the pool, over any list of postings.
-use Rattle.std.specs.Prelude.{◌≡◌, ◌≤ℤ◌, ◌<ℤ◌, ℕ, pos, nat_le, int_le, ◌+◌, Bool, true, List, [], ◌∷◌}
-use Rattle.trust_matter.specs.Pool.{Pay, Posting, TAKES_LIMIT, Take, accepts, are_accepted, ledger_of, pool_of, takes_of}
+-- Laws over the definitions.
+use Rattle.std.specs.Prelude.{◌≡◌, ◌≤◌, ◌<◌, ◌⊎◌, Bool, true, false, List, [], ◌∷◌, ◌++◌, map, length, pos, ◌+ℤ◌, ◌≤ℤ◌, Option, Some, None, IsSome}
+use Rattle.trust_base.specs.declared.refusal.Refusal.{Refusal}
+use Rattle.trust_base.specs.declared.refusal.Refusal.TheVariants as refusals
+use Rattle.trust_base.specs.Refusals.{number_of}
+use Rattle.trust_matter.specs.declared.rows.Entry.{Entry}
+use Rattle.trust_matter.specs.Rows.{Rows, as_made}
+use Rattle.trust_matter.specs.Balances.{held, available, disputed, fees, claims, total}
+use Rattle.trust_matter.specs.Sound.{Sound, AreBacked}
+use Rattle.trust_matter.specs.Facts.{Facts, Asked, facts_of}
+use Rattle.trust_matter.specs.Conditions.{is_repeat, number_made}
+use Rattle.trust_matter.specs.Step.{conditions, refusal_of, refusal, rows_after, HasAmount}
 
--- no ledger is below zero
-abbrev pub HasNoDebt : List Posting → Type 0
-HasNoDebt postings = (m : ℕ) → pos 0 ≤ℤ ledger_of postings m
+-- no ask leaves a matter unsound
+abbrev pub SoundForEver : Type 0
+SoundForEver = (rows : Rows) (a : Asked) → HasAmount a.ask → Sound rows → Sound (rows_after rows a)
 
--- where no ledger is below zero, the pool is not either
-abbrev pub LedgersMakeThePool : Type 0
-LedgersMakeThePool = (postings : List Posting) → HasNoDebt postings → pos 0 ≤ℤ pool_of postings
+-- the refusal stands in a table with a condition that holds
+abbrev pub Stands : List (Bool × Refusal) → Refusal → Type 0
+Stands [] r = ⊥
+Stands (c ∷ cs) r = ((c.0 ≡ true) × (c.1 ≡ r)) ⊎ Stands cs r
 
--- the rule of the pool alone: a payment is accepted where the sum of the pool covers it
-abbrev pub accepts_by_pool : List Posting → Posting → Bool
-accepts_by_pool postings (Take m a) = nat_le (takes_of postings m + a) TAKES_LIMIT
-accepts_by_pool postings (Pay m a) = int_le (pos a) (pool_of postings)
+-- the condition of the refusal holds
+abbrev pub Holds : Facts → Asked → Refusal → Type 0
+Holds f a r = Stands (conditions f a) r
 
--- 500.00 taken in for one matter, and 200.00 of it paid out for another
-abbrev pub another_pays : List Posting
-another_pays = Take 1 50000 ∷ Pay 2 20000 ∷ []
+-- the least number whose condition holds; of a repeat one of those up to 10
+pub record IsLeast (f : Facts) (a : Asked) (r : Refusal) : Type 0 where
+  pub holds : Holds f a r
+  pub least : (q : Refusal) → Holds f a q → number_of r ≤ number_of q
+  pub repeat : is_repeat f a ≡ true → number_of r ≤ 10
 
--- the rule of the pool accepts that, the pool stays above zero, and a ledger falls below it
-abbrev pub PoolHidesADebt : Type 0
-PoolHidesADebt = (are_accepted accepts_by_pool [] another_pays ≡ true) × (pos 0 ≤ℤ pool_of another_pays) × (ledger_of another_pays 2 <ℤ pos 0)
+-- what is refused is refused by the least number whose condition holds
+abbrev pub LeastRefusal : Type 0
+LeastRefusal = (f : Facts) (a : Asked) (r : Refusal) → refusal_of f a ≡ Some r → IsLeast f a r
 
--- the rule of the own ledger accepts no list that brings a ledger below zero
-abbrev pub AcceptedHaveNoDebt : Type 0
-AcceptedHaveNoDebt = (postings : List Posting) → are_accepted accepts [] postings ≡ true → HasNoDebt postings
+-- where nothing is refused no condition holds, or for a repeat none up to 10
+abbrev pub NoneHolds : Type 0
+NoneHolds = (f : Facts) (a : Asked) (r : Refusal) → refusal_of f a ≡ None → Holds f a r → (is_repeat f a ≡ true) × (10 < number_of r)
+
+-- what the bank holds is what is available, disputed, left of fees and left of claims; and none of these is
+-- below zero
+pub record IsCovered (es : List Entry) : Type 0 where
+  pub sum : total es ≡ ((available es +ℤ disputed es) +ℤ fees es) +ℤ claims es
+  pub held : pos 0 ≤ℤ held es
+  pub available : pos 0 ≤ℤ available es
+  pub disputed : pos 0 ≤ℤ disputed es
+  pub fees : pos 0 ≤ℤ fees es
+  pub claims : pos 0 ≤ℤ claims es
+  pub total : pos 0 ≤ℤ total es
+
+abbrev pub Covered : Type 0
+Covered = (es : List Entry) → AreBacked es → IsCovered es
+
+-- the entries as they were made, in the order of their numbers
+abbrev pub made_in : Rows → List Entry
+made_in rows = map as_made rows.entries
+
+-- what was made stays, and more may follow
+abbrev pub Grows : Rows → Rows → Type 0
+Grows rows later = (more : List Entry) × (made_in later ≡ made_in rows ++ more)
+
+-- no ask takes away an entry, or changes its kind, its day or what was asked
+abbrev pub MadeStays : Type 0
+MadeStays = (rows : Rows) (a : Asked) → Grows rows (rows_after rows a)
+
+-- the rows after asks, one after the other
+abbrev pub all_after : Rows → List Asked → Rows
+all_after rows [] = rows
+all_after rows (a ∷ more) = all_after (rows_after rows a) more
+
+-- the ask comes again, and changes nothing
+pub record IsSpent (rows : Rows) (a : Asked) : Type 0 where
+  pub repeat : is_repeat (facts_of rows a.ask) a ≡ true
+  pub unchanged : rows_after rows a ≡ rows
+
+-- an ask that makes an entry and was accepted is spent, whoever asks it again on whatever day, and whatever
+-- was asked in between
+abbrev pub AtMostOnce : Type 0
+AtMostOnce = (rows : Rows) (a again : Asked) (between : List Asked) → IsSome (number_made a.ask) → refusal rows a ≡ None → again.ask ≡ a.ask → IsSpent (all_after (rows_after rows a) between) again
+
+-- the ask is refused, and no number is told to be the next
+abbrev pub TellsNoNumber : Option Refusal → Type 0
+TellsNoNumber None = ⊥
+TellsNoNumber (Some (refusals.WrongNumber next)) = next ≡ None
+TellsNoNumber (Some r) = Unit {0}
+
+-- a matter of 9,999 entries takes no other
+abbrev pub FullTakesNone : Type 0
+FullTakesNone = (rows : Rows) (a : Asked) → length rows.entries ≡ 9_999 → IsSome (number_made a.ask) → is_repeat (facts_of rows a.ask) a ≡ false → TellsNoNumber (refusal rows a)

@@ -1,7 +1,33 @@
-//! One pool of money with a ledger for each matter, and its laws.
+//! The machine of one matter, which keeps its totals and some of its entries.
 #![tactic(auto)]
 
-mod pool;
-pub mod pool_laws;
+pub mod asks;
+mod bank_line;
+pub mod cases;
+pub mod change;
+mod copies;
+pub mod deciding;
+pub mod edits;
+mod keep;
+pub mod laws;
+pub mod matter;
+mod movement;
+mod named;
+pub mod rows;
+mod seats;
+pub mod shares;
+pub mod totals;
+mod whole;
 
-pub use pool::{Pool, PoolFault};
+pub use asks::{Ask, Caller, DepositAsk, OpenAsk};
+pub use bank_line::BankLine;
+pub use change::{Change, Left, Movement, Moves};
+pub use deciding::decide;
+pub use edits::{Edit, Numbered, Opening};
+pub use matter::{Balances, Figures, Kept, Matter};
+pub use rows::{
+    Against, Claim, ClaimState, ClearedPayment, Clearing, Deposit, DepositState, Entry, Fee, Fund,
+    Head, Payment, PaymentState, Role, Seat, Settlement, VoidedPayment,
+};
+pub use totals::{balances, claim_left, fee_left};
+pub use whole::whole_holds_all;

@@ -1,14 +1,15 @@
-use Rattle.std.proofs.Common.{◌∙◌, ◌++◌, ℕ, List, [], ◌∷◌, length, Some, Bor, refl, inl, inr, rules}
-use Rattle.std.specs.Io.KnownBytes.{Appends}
-use Rattle.std.proofs.KnownBytes.{Appends-nil, Appends-trans}
+use Rattle.std.proofs.Common.{◌≡◌, ◌∙◌, ◌++◌, ◌||◌, not, false, ℕ, List, [], ◌∷◌, Some, Bor, refl, sym, inl, inr, append_assoc}
+use Rattle.std.proofs.KnownBytes.{Appends-nil}
 use Rattle.csv.specs.Reading.{Reached, default_config, strip_bom}
 use Rattle.csv.specs.Records.{fields_of}
 use Rattle.csv.specs.declared.parser.State.{State}
 use Rattle.csv.proofs.ReadFacts.{rows-end, rows-more}
 use Rattle.trust_base.proofs.CsvRecords.{rest-none, rest-reached}
-use Rattle.cashier_cli.specs.Sheet.{step}
-use Rattle.cashier_cli.proofs.SheetFacts.{accepted-more, all_lines, concat-push, first_lines, lines-more, part_of_lines}
+use Rattle.trust_desk.specs.Replies.{is_fault_reply}
+use Rattle.cashier_cli.specs.Sheet.{is_accepting}
+use Rattle.cashier_cli.proofs.SheetFacts.{accepted-body, all-refused, counted-plain, cut-at, cuts-line, kept-on, turned-on, leaves-first, leaves-past, memory-body, none-refused, past-all, refused-body, so_far-more, stops, store-body}
 use Rattle.cashier_cli.proofs.sheet.run_records.Goals as goal
+use Rattle.cashier_cli.proofs.sheet.run_records.Goals.{in-Accepted, in-Refused}
 
 start : (s : State) (y : List ℕ) → Reached default_config s y [] s y
 unfolding Reached
@@ -27,78 +28,103 @@ loop-row-init g c =
       ready = inr (inr (rw (f, e) at fr.has_headers, fr.headers));
       turns = left;
       config = rw (f, e) at fr.config ∙ c.new.ensures.config;
-      left = (strip_bom c.args.bytes.now, [], [], fr.source, c.new-pool.ensures, Appends-nil _, rw fr.state refl, rw fr.state refl);
+      was_clean = λ clean. clean;
+      sound = c.requires;
+      count = λ _. refl;
+      left = (strip_bom c.args.bytes.now, fr.source, λ _. ([], rw fr.state refl, Appends-nil _, refl, refl));
     })
 
 -- the lines so far are whole
-pub returns-in_default : goal.returns-in_default
-returns-in_default g c =
-    let (y, done, postings, source, pool, bytes, lines, accepted) = c.loop-row.invariant.left in
-    (length done, rw (first_lines _ done _ lines) bytes)
+pub returns-in_default-clause-ends : goal.returns-in_default-clause-ends
+returns-in_default-clause-ends g c = λ clean.
+    let (y, source, so_far) = c.loop-row.invariant.left in
+    let (past, parts, written, is, was) = so_far clean in
+    inl (leaves-first _ _ _ _ past _ _ _ _ parts (written, is, was))
 
-pub returns-in_default-run_record : goal.returns-in_default-run_record
-returns-in_default-run_record g c =
-    let (y, done, postings, source, pool, bytes, lines, accepted) = c.loop-row.invariant.left in
-    (length done, rw (first_lines _ done _ lines) bytes)
-
--- and then a part of the next line
-pub returns-in_default-send : goal.returns-in_default-send
-returns-in_default-send g c =
+-- a record was read, and then a part of its line was written
+pub returns-in_default-write_reply-clause-ends : goal.returns-in_default-write_reply-clause-ends
+returns-in_default-write_reply-clause-ends g c = λ clean.
     let inv = c.loop-row.invariant in
-    let (y, done, postings, source, pool, bytes, lines, accepted) = inv.left in
+    let (y, source, so_far) = inv.left in
     let s = rw (c.in-Some.is, c.in-Ok.is) at ((c.next.ensures.steps inv.turns inv.plain).0 inv.ready) in
     let f = fields_of c.in-Ok.row in
     let (z, at_z, reached) = rows-more (λ (s : Bor (List ℕ)). Some s.now) c.loop-row.row-iterator.rdr c.next.new.self.rdr f default_config c.loop-row.row-iterator.rdr.state y y [] inv.config source (start c.loop-row.row-iterator.rdr.state y) s.0 in
     let first = rest-reached c.loop-row.row-iterator.rdr.state c.next.new.self.rdr.state y z f reached in
-    let (now, line, went) = c.in-Ok-run_record.ensures.ok postings pool in
-    let text = c.as_bytes.ensures.value ∙ line in
-    let (n, less, sent) = rw text at c.in_default-send.ensures.err in
-    let (k, within, part) = part_of_lines _ done _ (step postings f).line n (rw first at lines) less in
-    (k, within, rw part (Appends-trans _ _ _ _ _ bytes sent))
+    let (past, parts, written, is, was) = so_far (c.answer_record-reply.ensures.was_clean clean) in
+    (cut-at _ past _ _ f parts first, cuts-line _ _ _ _ past f _ _ _ c.answer_record-reply.result _ (written, is, was) (c.answer_record-reply.ensures.step clean) c.in_default-write_reply.ensures.err)
+
+pub returns-in-Store-clause-ends : goal.returns-in-Store-clause-ends
+returns-in-Store-clause-ends g c = λ clean.
+    let inv = c.loop-row.invariant in
+    let (y, source, so_far) = inv.left in
+    let s = rw (c.in-Some.is, c.in-Ok.is) at ((c.next.ensures.steps inv.turns inv.plain).0 inv.ready) in
+    let f = fields_of c.in-Ok.row in
+    let (z, at_z, reached) = rows-more (λ (s : Bor (List ℕ)). Some s.now) c.loop-row.row-iterator.rdr c.next.new.self.rdr f default_config c.loop-row.row-iterator.rdr.state y y [] inv.config source (start c.loop-row.row-iterator.rdr.state y) s.0 in
+    let first = rest-reached c.loop-row.row-iterator.rdr.state c.next.new.self.rdr.state y z f reached in
+    let (past, parts, written, is, was) = so_far (c.answer_record-reply.ensures.was_clean clean) in
+    let body = store-body c.answer_record-reply.result.body (sym c.verdict_of.ensures ∙ c.in-Store.is) in
+    (cut-at _ past _ _ f parts first, stops _ _ _ _ past f _ _ _ c.answer_record-reply.result _ _ (written, is, was) (c.answer_record-reply.ensures.step clean) body refl c.in-Ok-write_reply.ensures.ok)
+
+pub returns-in-Memory-clause-ends : goal.returns-in-Memory-clause-ends
+returns-in-Memory-clause-ends g c = λ clean.
+    let inv = c.loop-row.invariant in
+    let (y, source, so_far) = inv.left in
+    let s = rw (c.in-Some.is, c.in-Ok.is) at ((c.next.ensures.steps inv.turns inv.plain).0 inv.ready) in
+    let f = fields_of c.in-Ok.row in
+    let (z, at_z, reached) = rows-more (λ (s : Bor (List ℕ)). Some s.now) c.loop-row.row-iterator.rdr c.next.new.self.rdr f default_config c.loop-row.row-iterator.rdr.state y y [] inv.config source (start c.loop-row.row-iterator.rdr.state y) s.0 in
+    let first = rest-reached c.loop-row.row-iterator.rdr.state c.next.new.self.rdr.state y z f reached in
+    let (past, parts, written, is, was) = so_far (c.answer_record-reply.ensures.was_clean clean) in
+    let body = memory-body c.answer_record-reply.result.body (sym c.verdict_of.ensures ∙ c.in-Memory.is) in
+    inr (cut-at _ past _ _ f parts first, stops _ _ _ _ past f _ _ _ c.answer_record-reply.result _ _ (written, is, was) (c.answer_record-reply.ensures.step clean) body refl c.in-Ok-write_reply.ensures.ok)
 
 pub loop-row-preserved : goal.loop-row-preserved
 loop-row-preserved g c =
     let inv = c.loop-row.invariant in
-    let (y, done, postings, source, pool, bytes, lines, accepted) = inv.left in
+    let (y, source, so_far) = inv.left in
     let s = rw (c.in-Some.is, c.in-Ok.is) at ((c.next.ensures.steps inv.turns inv.plain).0 inv.ready) in
     let f = fields_of c.in-Ok.row in
     let (z, at_z, reached) = rows-more (λ (s : Bor (List ℕ)). Some s.now) c.loop-row.row-iterator.rdr c.next.new.self.rdr f default_config c.loop-row.row-iterator.rdr.state y y [] inv.config source (start c.loop-row.row-iterator.rdr.state y) s.0 in
     let first = rest-reached c.loop-row.row-iterator.rdr.state c.next.new.self.rdr.state y z f reached in
-    let (now, line, went) = c.in-Ok-run_record.ensures.ok postings pool in
-    let text = c.as_bytes.ensures.value ∙ line in
-    let sent : Appends (g.W.Write.contents c.loop-row.writer) (g.W.Write.contents c.send.new.writer) c.as_bytes.result.now = search rules in
+    let reply = c.answer_record-reply.result in
+    let (plain, now) : (is_fault_reply reply ≡ false) × (c.match-verdict_of.refused ≡ (c.loop-row.refused || not (is_accepting reply.body))) =
+    elim c.match-verdict_of.branch [
+      | in-Accepted w ↦ let b = accepted-body reply.body (sym c.verdict_of.ensures ∙ w.in-Accepted.is) in (b.0, kept-on c.loop-row.refused _ reply.body b.1 w.refused-is)
+      | in-Refused w ↦ let b = refused-body reply.body (sym c.verdict_of.ensures ∙ w.in-Refused.is) in (b.0, turned-on c.loop-row.refused _ reply.body b.1 w.refused-is)
+    ] in
     record {
       plain = s.0.3 ∙ inv.plain;
       ready = inl s.1;
       turns = s.2;
       config = s.0.2 ∙ inv.config;
+      was_clean = λ clean. inv.was_clean (c.answer_record-reply.ensures.was_clean clean);
+      sound = c.answer_record-reply.ensures.sound;
+      count = λ clean. c.answer_record-reply.ensures.cause clean ∙ counted-plain reply.body _ plain ∙ inv.count (c.answer_record-reply.ensures.was_clean clean);
       left = (
         z,
-        done ++ (step postings f).line ∷ [],
-        (step postings f).postings,
         at_z,
-        now,
-        rw (concat-push done (step postings f).line, ← text) (Appends-trans _ _ _ _ _ bytes sent),
-        lines-more _ done postings f _ _ first lines,
-        accepted-more _ c.loop-row.refused postings f _ _ c.in-Ok-run_record.answer.accepted first accepted went,
+        λ clean.
+            let (past, parts, written, is, was) = so_far (c.answer_record-reply.ensures.was_clean clean) in
+            let more = so_far-more _ _ _ _ past f _ _ _ reply _ _ (written, is, was) (c.answer_record-reply.ensures.step clean) plain c.in-Ok-write_reply.ensures.ok now in
+            (past ++ f ∷ [], append_assoc past (f ∷ []) _ ∙ rw first at parts, more.0, more.1, more.2),
       );
     }
 
-pub returns-then-refused : goal.returns-then-refused
-returns-then-refused g c =
+pub returns-then-refused-clause-ends : goal.returns-then-refused-clause-ends
+returns-then-refused-clause-ends g c = λ clean.
     let inv = c.loop-row.invariant in
-    let (y, done, postings, source, pool, bytes, lines, accepted) = inv.left in
+    let (y, source, so_far) = inv.left in
+    let (past, parts, written, is, was) = so_far clean in
     let s = rw c.in-None.is at ((c.next.ensures.steps inv.turns inv.plain).0 inv.ready) in
     let end = rows-end (λ (s : Bor (List ℕ)). Some s.now) c.loop-row.row-iterator.rdr c.next.new.self.rdr [] default_config y inv.config source s in
-    let all = all_lines _ done postings _ (rest-none c.loop-row.row-iterator.rdr.state y end) lines in
-    (rw (← all) bytes, rw c.if-refused.true at accepted)
+    let all = past-all _ past _ parts (rest-none c.loop-row.row-iterator.rdr.state y end) in
+    rw (← all) (leaves-past _ _ _ past _ _ _ (written, is, was), all-refused _ (sym c.if-refused.true ∙ was))
 
-pub returns : goal.returns
-returns g c =
+pub returns-else-refused-clause-ends : goal.returns-else-refused-clause-ends
+returns-else-refused-clause-ends g c = λ clean.
     let inv = c.loop-row.invariant in
-    let (y, done, postings, source, pool, bytes, lines, accepted) = inv.left in
+    let (y, source, so_far) = inv.left in
+    let (past, parts, written, is, was) = so_far clean in
     let s = rw c.in-None.is at ((c.next.ensures.steps inv.turns inv.plain).0 inv.ready) in
     let end = rows-end (λ (s : Bor (List ℕ)). Some s.now) c.loop-row.row-iterator.rdr c.next.new.self.rdr [] default_config y inv.config source s in
-    let none = rest-none c.loop-row.row-iterator.rdr.state y end in
-    let all = all_lines _ done postings _ none lines in
-    (rw (← all) bytes, rw none at (rw c.if-refused.false at accepted))
+    let all = past-all _ past _ parts (rest-none c.loop-row.row-iterator.rdr.state y end) in
+    rw (← all) (leaves-past _ _ _ past _ _ _ (written, is, was), none-refused _ (sym c.if-refused.false ∙ was))

@@ -1,26 +1,8 @@
-use Rattle.cashier_cli.proofs.SheetFacts.{ledgers-sheet, pool-sheet}
+use Rattle.cashier_cli.proofs.SheetFacts.{ends-large, ends-run}
 use Rattle.cashier_cli.proofs.sheet.run_sheet.Goals as goal
 
-pub returns-in-Ok-Some-clause-ledgers : goal.returns-in-Ok-Some-clause-ledgers
-returns-in-Ok-Some-clause-ledgers g c = ledgers-sheet _
+pub returns-in-Ok-Some-clause-ends : goal.returns-in-Ok-Some-clause-ends
+returns-in-Ok-Some-clause-ends g c = λ clean. ends-run _ c.in-Ok-Some.bytes.items _ _ _ _ _ _ (rw c.in-Ok-Some.field-0-is at c.in-Ok-Some.ensures.bytes) (rw c.as_slice.ensures.value at (c.run_records.ensures.ends clean))
 
-pub returns-in-Ok-Some-clause-pool : goal.returns-in-Ok-Some-clause-pool
-returns-in-Ok-Some-clause-pool g c = pool-sheet _
-
-pub returns-in-Ok-None-clause-ledgers : goal.returns-in-Ok-None-clause-ledgers
-returns-in-Ok-None-clause-ledgers g c = ledgers-sheet _
-
-pub returns-in-Ok-None-clause-pool : goal.returns-in-Ok-None-clause-pool
-returns-in-Ok-None-clause-pool g c = pool-sheet _
-
-pub returns-in-Err-Reader-clause-ledgers : goal.returns-in-Err-Reader-clause-ledgers
-returns-in-Err-Reader-clause-ledgers g c = ledgers-sheet _
-
-pub returns-in-Err-Reader-clause-pool : goal.returns-in-Err-Reader-clause-pool
-returns-in-Err-Reader-clause-pool g c = pool-sheet _
-
-pub returns-in-Err-Memory-clause-ledgers : goal.returns-in-Err-Memory-clause-ledgers
-returns-in-Err-Memory-clause-ledgers g c = ledgers-sheet _
-
-pub returns-in-Err-Memory-clause-pool : goal.returns-in-Err-Memory-clause-pool
-returns-in-Err-Memory-clause-pool g c = pool-sheet _
+pub returns-in-Ok-None-clause-ends : goal.returns-in-Ok-None-clause-ends
+returns-in-Ok-None-clause-ends g c = λ _. ends-large _ _ _ _ _ _ (rw c.in-Ok-None.field-0-is at c.in-Ok-None.ensures.bytes) (c.refuse_whole.ensures.ends _)

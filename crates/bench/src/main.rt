@@ -1,0 +1,61 @@
+//! Books deposits at the desk. With the argument `deposits` it measures what one of them takes.
+#![tactic(auto)]
+
+mod deposits;
+mod measuring;
+
+use anyhow::{Context, Result};
+use deposits::Load;
+use measuring::{booked, middle_of_three};
+use std::rt::{Clock, Env};
+use trust_base::Day;
+
+const SMALL: Load = Load {
+    matters: 2,
+    each: 10,
+};
+
+const THOUSAND: Load = Load {
+    matters: 100,
+    each: 10,
+};
+
+const TEN_THOUSAND: Load = Load {
+    matters: 100,
+    each: 100,
+};
+
+// Prints what a deposit takes among 1,000 and among 10,000, and how often the one goes into the other.
+fn measure(rt: &(impl AllocGlobal + Clock + Print), day: Day) -> Result<()> {
+    let alloc = rt.alloc();
+    let few = middle_of_three(rt, alloc, THOUSAND, day)?;
+    let many = middle_of_three(rt, alloc, TEN_THOUSAND, day)?;
+    println!(rt; "deposits over 100 matters, one run on a book of lists, middle of 3 rounds:")?;
+    println!(rt; "1000: {few} ns each")?;
+    println!(rt; "10000: {many} ns each")?;
+    let hundredths = many
+        .checked_mul(100)
+        .and_then(|scaled| scaled.checked_div(few))
+        .context("no time was taken")?;
+    println!(rt; "ratio: {hundredths} hundredths")?;
+    Ok(())
+}
+
+fn run(rt: &(impl AllocGlobal + Clock + Env + Print)) -> Result<()> {
+    let alloc = rt.alloc();
+    let day = Day::read(b"2024-01-10").context("a day")?;
+    let words: Vec<String> = std::env::args(rt)?.collect(alloc)?;
+    if words.iter().any(|word| word.as_str() == "deposits") {
+        return measure(rt, day);
+    }
+    let done = booked(rt, alloc, SMALL, day)?.booked;
+    println!(rt;
+        "bench: {done} deposits over {} matters: done",
+        SMALL.matters
+    )?;
+    Ok(())
+}
+
+fn main(rt: HostRuntime) -> Result<()> {
+    run(&rt)
+}

@@ -1,0 +1,64 @@
+// Runs of deposits over a book of lists, and the time that they take.
+
+use crate::deposits::{Load, bookings, openings};
+use anyhow::{Result, ensure};
+use std::alloc::Global;
+use std::rt::Clock;
+use std::time::Instant;
+use trust_base::Day;
+use trust_desk::{Desk, End, Reply, RunEnd};
+use trust_store::PlainBook;
+
+/// The deposits that were booked, and what the run of them took.
+#[derive(Clone, Copy, Debug)]
+pub struct Measured {
+    pub booked: usize,
+    pub nanoseconds: u128,
+}
+
+impl Measured {
+    /// The nanoseconds of one request, rounded down.
+    pub fn of_each(&self) -> u128 {
+        match self.nanoseconds.checked_div(self.booked as u128) {
+            Some(nanoseconds) => nanoseconds,
+            None => 0,
+        }
+    }
+}
+
+fn is_made(reply: &Reply) -> bool {
+    reply.status == 201
+}
+
+// Fails where a request of a run was not answered, or refused.
+fn all_made(ended: &RunEnd) -> Result<()> {
+    ensure!(ended.end == End::Done, "memory was refused");
+    ensure!(ended.replies.iter().all(is_made), "a request was refused");
+    Ok(())
+}
+
+/// Opens the matters of an empty book, and books the deposits by one run, which is measured.
+pub fn booked(rt: &impl Clock, alloc: Global, load: Load, day: Day) -> Result<Measured> {
+    let mut desk = Desk::new(PlainBook::new(alloc));
+    all_made(&desk.run(alloc, &openings(alloc, load.matters)?, day))?;
+    let requests = bookings(alloc, load)?;
+    let start = Instant::now(rt)?;
+    let ended = desk.run(alloc, &requests, day);
+    let taken = start.elapsed(rt)?;
+    all_made(&ended)?;
+    Ok(Measured {
+        booked: ended.replies.len(),
+        nanoseconds: taken.as_nanos(),
+    })
+}
+
+/// The nanoseconds of one request: the middle one of three rounds.
+pub fn middle_of_three(rt: &impl Clock, alloc: Global, load: Load, day: Day) -> Result<u128> {
+    let mut rounds = [
+        booked(rt, alloc, load, day)?.of_each(),
+        booked(rt, alloc, load, day)?.of_each(),
+        booked(rt, alloc, load, day)?.of_each(),
+    ];
+    rounds.sort_unstable();
+    Ok(rounds[1])
+}

@@ -1,0 +1,5 @@
+pub mod FieldFacts
+pub mod HeaderFacts
+pub mod LimitFacts
+pub mod ReadingFacts
+pub mod ReferenceFacts

@@ -1,0 +1,40 @@
+use Rattle.std.proofs.Common.{◌≡◌, ◌+◌, ap, true, false, Some, None, option_map}
+use Rattle.statement_csv.specs.Reading.{PassesHeader, items_left, records_left}
+use Rattle.statement_csv.proofs.ReadingFacts.{gives-begun, gives-end, gives-item}
+use Rattle.csv.specs.Records.{fields_of}
+use Rattle.statement_csv.proofs.lines.read_next.Goals as goal
+use Rattle.statement_csv.proofs.lines.read_next.Goals.{then-awaits_header+in_ok-pass_header, else-awaits_header}
+
+pub returns-then-not-branch-clause-gives : goal.returns-then-not-branch-clause-gives
+returns-then-not-branch-clause-gives g c =
+    let old = records_left c.args.records.now in
+    let mid = records_left c.if-awaits_header.records in
+    let after = option_map (items_left false (c.args.number + 1)) (records_left c.read_row.new.records) in
+    let passed : c.args.awaits_header ≡ true → PassesHeader old mid = λ is. elim c.if-awaits_header.branch [
+      | then-awaits_header+in_ok-pass_header w ↦ rw w.records-is w.in_ok-pass_header.ensures.left
+      | else-awaits_header w ↦ let no = w.if-awaits_header.false in cc
+    ] in
+    let kept : c.args.awaits_header ≡ false → mid ≡ old = λ is. elim c.if-awaits_header.branch [
+      | then-awaits_header+in_ok-pass_header w ↦ let yes = w.if-awaits_header.true in cc
+      | else-awaits_header w ↦ ap records_left w.records-is
+    ] in
+    let gives = rw c.if-not-branch.true at c.in_ok-read_row.ensures.gives in
+    gives-begun c.args.awaits_header c.args.number old mid after None passed kept (gives-end c.args.number mid (records_left c.read_row.new.records) after (fields_of c.read_row.new.row) gives)
+
+pub returns-in-Ok-clause-gives : goal.returns-in-Ok-clause-gives
+returns-in-Ok-clause-gives g c =
+    let old = records_left c.args.records.now in
+    let mid = records_left c.if-awaits_header.records in
+    let new = records_left c.read_row.new.records in
+    let after = option_map (items_left false (c.args.number + 1)) new in
+    let passed : c.args.awaits_header ≡ true → PassesHeader old mid = λ is. elim c.if-awaits_header.branch [
+      | then-awaits_header+in_ok-pass_header w ↦ rw w.records-is w.in_ok-pass_header.ensures.left
+      | else-awaits_header w ↦ let no = w.if-awaits_header.false in cc
+    ] in
+    let kept : c.args.awaits_header ≡ false → mid ≡ old = λ is. elim c.if-awaits_header.branch [
+      | then-awaits_header+in_ok-pass_header w ↦ let yes = w.if-awaits_header.true in cc
+      | else-awaits_header w ↦ ap records_left w.records-is
+    ] in
+    let gives = rw c.if-not-branch.false at c.in_ok-read_row.ensures.gives in
+    let item = gives-item c.args.number mid new (fields_of c.read_row.new.row) gives in
+    gives-begun c.args.awaits_header c.args.number old mid after (Some c.in-Ok.item) passed kept (rw c.in-Ok.ensures item)

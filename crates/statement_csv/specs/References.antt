@@ -1,0 +1,39 @@
+-- Whose line a reference makes it.
+use Rattle.std.specs.Prelude.{◌==◌, ◌&&◌, ℕ, List, ◌∷◌, ◌++◌, length, slice_index, slice_range, Option, Some, None, if◌then◌else◌, option_and_then, option_map, codes}
+use Rattle.std.specs.Str.{bytes_eq}
+use Rattle.trust_base.specs.Texts.{entry_of, entry_text, matter_of, matter_text}
+use Rattle.statement_csv.specs.declared.owner.Named.{Named}
+use Rattle.statement_csv.specs.declared.owner.Owner.{Owner}
+use Rattle.statement_csv.specs.declared.owner.Owner.TheVariants as owner
+
+-- an entry of a matter
+abbrev pub named : ℕ → ℕ → Named
+named matter entry = record { matter = matter; entry = entry }
+
+-- the entry whose matter and number these texts are
+abbrev pub entry_of_texts : List ℕ → List ℕ → Option Named
+entry_of_texts matter entry = option_and_then (λ m. option_map (named m) (entry_of entry)) (matter_of matter)
+
+-- the entry that a reference names: `M`, the six digits of the matter, `-` and the four digits of the entry
+unfoldable pub entry_named : List ℕ → Option Named
+entry_named reference =
+    if (length reference == 12) && (slice_index reference 0 == 77) && (slice_index reference 7 == 45)
+    then entry_of_texts (slice_range reference 1 7) (slice_range reference 8 12)
+    else None
+
+-- the owner by the entry named
+abbrev pub owner_by : Option Named → Owner
+owner_by (Some entry) = owner.Entry entry
+owner_by None = owner.Nobody
+
+-- the reference that names an entry
+abbrev pub reference_text : ℕ → ℕ → List ℕ
+reference_text matter entry = 77 ∷ (matter_text matter ++ 45 ∷ entry_text entry)
+
+-- whose a line is, by its reference
+unfoldable pub owner_of : List ℕ → Owner
+owner_of reference =
+    if bytes_eq reference (codes "OPEN") then owner.Opening
+    else if bytes_eq reference (codes "CLOSE") then owner.Closing
+    else if bytes_eq reference (codes "FIRM") then owner.Firm
+    else owner_by (entry_named reference)

@@ -1,0 +1,58 @@
+// The items of a statement.
+
+ghost use Rattle.std.specs.Prelude.{◌≡◌, IfOk};
+ghost use Rattle.csv.specs.Records.{fields_of};
+ghost use Rattle.statement_csv.specs.Items.{item_of, item_of_line};
+
+use crate::line::read_line;
+use crate::owner::{Named, Owner, read_owner};
+use csv::ByteRecord;
+use std::alloc::{AllocError, Global};
+use trust_base::Line;
+use trust_matter::BankLine;
+
+/// An item of a statement: what one record after the header stands for.
+#[derive(Drop, Debug)]
+pub enum Item {
+    /// The balance at the start of a day: the reference is `OPEN`.
+    Opening(Line),
+    /// The balance at the end of a day: the reference is `CLOSE`.
+    Closing(Line),
+    /// A line whose reference names an entry of a matter, as `M000001-0001`.
+    OfMatter(BankLine),
+    /// A line of the firm's own money: the reference is `FIRM`.
+    OfFirm(Line),
+    /// A line with another reference.
+    Stray(Line),
+    /// A record that is no line, by its number; the first record after the header has number 1.
+    Unreadable(u64),
+}
+
+// The item of a line, which stands in the record with this number.
+fn item_by_owner(line: Line, number: u64) -> Item
+    ensures { result ≡ item_of_line number line }
+{
+    match read_owner(line.reference.as_slice()) {
+        Owner::Opening => Item::Opening(line),
+        Owner::Closing => Item::Closing(line),
+        _ if line.bank_ref.as_slice().is_empty() => Item::Unreadable(number),
+        Owner::Firm => Item::OfFirm(line),
+        Owner::Entry(Named { matter, entry }) => Item::OfMatter(BankLine {
+            matter,
+            entry,
+            line,
+        }),
+        Owner::Nobody => Item::Stray(line),
+    }
+}
+
+/// The item of the record with this number.
+#[tactic(auto, unfolding(crate::specs::Items::item_of))]
+pub(crate) fn read_item(alloc: Global, row: &ByteRecord, number: u64) -> Result<Item, AllocError>
+    ensures { IfOk result (λ item. item ≡ item_of number (fields_of row.now)) }
+{
+    match read_line(alloc, row)? {
+        Some(line) => Ok(item_by_owner(line, number)),
+        None => Ok(Item::Unreadable(number)),
+    }
+}

@@ -1,0 +1,15 @@
+//! The items of a bank's statement, read record by record.
+#![tactic(auto)]
+
+mod fault;
+mod header;
+mod item;
+mod limited;
+mod line;
+mod lines;
+mod owner;
+
+pub use fault::ReadFault;
+pub use item::Item;
+pub use limited::Whole;
+pub use lines::Lines;

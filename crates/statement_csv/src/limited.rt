@@ -1,0 +1,158 @@
+// A reader that stops at the greatest length of a statement.
+
+ghost use Rattle.std.specs.Prelude.{◌≡◌, IsTrue, IfOk, OnErr, option_to_list, List, ℕ, Option, None};
+ghost use Rattle.std.specs.Io.KnownBytes.{Consumes, IsAtEnd, Keeps};
+
+use std::io;
+use std::io::{Error, ErrorKind, Read};
+use std::marker::{Brand, Model, PhantomData};
+
+/// The bytes of a whole statement, as its reader tells them before the first read; none where nobody tells.
+///
+/// A proof picks them at a call that passes `Brand`; without a pick none are told.
+pub trait Whole {
+    ghost bytes: { Option (List ℕ) };
+}
+
+impl Whole for Brand {
+    ghost use Rattle.std.specs.Prelude.{None};
+
+    ghost bytes = { None };
+}
+
+// How the reading goes.
+#[derive(Clone, Copy, PartialEq, Eq, Debug)]
+enum Course {
+    // More bytes may come.
+    Open,
+    // The reader ended.
+    Ended,
+    // This byte came after the last one that a statement may have.
+    Longer(u8),
+    // A read failed.
+    Failed,
+}
+
+/// A reader of the bytes of a statement, of at most 4,194,304 bytes. At one byte more, and where a read of the
+/// reader underneath fails, it answers an error, and the same from then on with no further read.
+///
+/// Contracts see it as the bytes that are left, where the reader tells them.
+#[derive(Drop)]
+pub(crate) struct Limited<R: Read, K: Whole> {
+    inner: R,
+    given: usize,
+    course: Course,
+    whole: PhantomData<K>,
+}
+
+impl<R: Read, K: Whole> Model for Limited<R, K> {
+    ghost use Rattle.std.specs.Prelude.{List, Option, ℕ};
+    ghost use Rattle.std.specs.Io.KnownBytes.{prepend_known};
+    ghost use Rattle.statement_csv.specs.Limits.{IsReading, beyond};
+
+    ghost Value = { Option (List ℕ) };
+
+    ghost view = { λ a. prepend_known (beyond a.course) (R.remaining a.inner) };
+
+    ghost invariant = { λ a. IsReading K.bytes (R.remaining a.inner) a.given a.course };
+}
+
+// The greatest length of a statement, in bytes.
+const MAX_BYTES: usize = 4_194_304;
+
+// The next byte of a reader, where it has not ended.
+fn next_byte<R: Read>(inner: &mut R) -> io::Result<Option<u8>>
+    ensures byte { IfOk result (λ next. Consumes (R.remaining inner.old) (R.remaining inner.new) (option_to_list next)) }
+    ensures end { IfOk result (λ next. next ≡ None → IsAtEnd (R.remaining inner.new)) }
+    ensures err { OnErr result (Keeps (R.remaining inner.old) (R.remaining inner.new)) }
+{
+    let mut one = [0u8];
+    match inner.read(&mut one)? {
+        0 => Ok(None),
+        _ => Ok(Some(one[0])),
+    }
+}
+
+impl<R: Read, K: Whole> Limited<R, K> {
+    ghost use Rattle.statement_csv.specs.Limits.{IsTooLong, IsWithin};
+
+    /// A reader of a statement of which nothing was read.
+    pub(crate) fn new(inner: R) -> Limited<R, K>
+        requires { Keeps K.bytes (R.remaining inner) }
+        ensures { result ≡ R.remaining inner }
+    {
+        Limited {
+            inner,
+            given: 0,
+            course: Course::Open,
+            whole: PhantomData,
+        }
+    }
+
+    /// Whether a byte came beyond the greatest length.
+    pub(crate) fn is_too_long(&self) -> bool
+        ensures { IsTrue result → IsTooLong K.bytes }
+    {
+        matches!(self.course, Course::Longer(_))
+    }
+
+    /// Whether the reader ended within the greatest length.
+    pub(crate) fn has_ended(&self) -> bool
+        ensures { IsTrue result → IsWithin K.bytes }
+    {
+        matches!(self.course, Course::Ended)
+    }
+
+    /// Whether a read of the reader underneath failed.
+    pub(crate) fn has_failed(&self) -> bool {
+        matches!(self.course, Course::Failed)
+    }
+}
+
+impl<R: Read, K: Whole> Read for Limited<R, K> {
+    ghost remaining = { λ bytes. bytes };
+
+    fn read(&mut self, buf: &mut [u8]) -> io::Result<usize> {
+        match self.course {
+            Course::Open => {}
+            Course::Ended => return Ok(0),
+            Course::Longer(_) | Course::Failed => return Err(Error::from(ErrorKind::Other)),
+        }
+        let room = MAX_BYTES - self.given;
+        if room > 0 {
+            let most = room.min(buf.len());
+            match self.inner.read(&mut buf[..most]) {
+                Ok(0) => {
+                    if most > 0 {
+                        self.course = Course::Ended;
+                    }
+                    Ok(0)
+                }
+                Ok(n) => {
+                    self.given += n;
+                    Ok(n)
+                }
+                Err(e) => {
+                    self.course = Course::Failed;
+                    Err(e)
+                }
+            }
+        } else {
+            match next_byte(&mut self.inner) {
+                Ok(None) => {
+                    self.course = Course::Ended;
+                    Ok(0)
+                }
+                Ok(Some(byte)) => {
+                    self.given += 1;
+                    self.course = Course::Longer(byte);
+                    Err(Error::from(ErrorKind::Other))
+                }
+                Err(e) => {
+                    self.course = Course::Failed;
+                    Err(e)
+                }
+            }
+        }
+    }
+}

@@ -1,0 +1,235 @@
+// The items of a statement, one at a time.
+
+ghost use Rattle.std.specs.Prelude.{◌≡◌, ◌≢◌, ◌+◌, Err, IfErr, IfOk, IsSome, is_none, IsTrue, None, Ok, OnOk, Some, option_map, false, true};
+ghost use Rattle.std.specs.Io.KnownBytes.{Keeps};
+ghost use Rattle.csv.specs.Records.{fields_of};
+ghost use Rattle.statement_csv.specs.declared.fault.ReadFault.{ReadFault};
+ghost use Rattle.statement_csv.specs.declared.fault.ReadFault.TheVariants.{BadHeader, Limit};
+ghost use Rattle.statement_csv.specs.Limits.{IsTooLong, IsWithin};
+ghost use Rattle.statement_csv.specs.Reading.{Gives, GivesRecord, HasNoHeader, IsLive, LacksHeader, PassesHeader, ToldBy, items_left, records_left};
+
+use crate::fault::ReadFault;
+use crate::header::is_header;
+use crate::item::{Item, read_item};
+use crate::limited::{Limited, Whole};
+use csv::{ByteRecord, Reader, ReaderBuilder};
+use std::alloc::Global;
+use std::io::Read;
+use std::marker::{Brand, Model};
+
+// How far the reading came.
+#[derive(Clone, Copy, PartialEq, Eq, Debug)]
+enum Stage {
+    // The header comes next.
+    Header,
+    // Items come next.
+    Items,
+    // The end was reached.
+    Ended,
+    // A fault ended it.
+    Stopped(ReadFault),
+}
+
+/// The items of a statement, read record by record through `csv`. One record is kept, never the file.
+///
+/// Contracts see the fault that ended the reading, whether the end was reached, and the items that are still to come
+/// where the reader tells its bytes. `K` names the whole statement in a proof, so that `next` can speak of its length.
+pub struct Lines<R: Read, K: Whole = Brand> {
+    alloc: Global,
+    records: Reader<Limited<R, K>>,
+    row: ByteRecord,
+    number: u64,
+    stage: Stage,
+}
+
+impl<R: Read, K: Whole> Model for Lines<R, K> {
+    ghost use Rattle.statement_csv.specs.Reading.{IsSound, Reading, reading_of};
+
+    ghost Value = { Reading };
+
+    ghost view = { λ a. reading_of a.stage a.number a.records };
+
+    ghost invariant = { λ a. IsSound K.bytes a.stage a.records };
+}
+
+// One call, so that a caller's proof sees no field where it lets a value go.
+impl<R: Read + Drop, K: Whole> Drop for Lines<R, K> {
+    fn drop(self) {
+        let Self {
+            alloc: _,
+            records: _,
+            row: _,
+            number: _,
+            stage: _,
+        } = self;
+    }
+}
+
+// Why a read of a record was refused.
+fn cause<R: Read, K: Whole>(source: &Limited<R, K>) -> ReadFault
+    ensures told { ToldBy K.bytes result }
+    ensures other { result ≢ BadHeader }
+{
+    if source.is_too_long() {
+        ReadFault::Limit
+    } else if source.has_failed() {
+        ReadFault::Reader
+    } else {
+        ReadFault::Memory
+    }
+}
+
+// Reads the next record, and tells whether there was one.
+fn read_row<R: Read, K: Whole>(
+    records: &mut Reader<Limited<R, K>>,
+    row: &mut ByteRecord,
+) -> Result<bool, ReadFault>
+    requires { IsLive records.old }
+    ensures live { IfOk result (λ found. IsTrue found → IsLive records.new) }
+    ensures gives { IfOk result (λ found. GivesRecord (records_left records.old) (records_left records.new) found (fields_of row.new)) }
+    ensures end { (result ≡ Ok false) → IsWithin K.bytes }
+    ensures told { IfErr result (λ fault. ToldBy K.bytes fault) }
+    ensures other { IfErr result (λ fault. fault ≢ BadHeader) }
+{
+    let Ok(found) = records.read_byte_record(row) else {
+        return Err(cause(records.get_ref()));
+    };
+    if !found && !records.get_ref().has_ended() {
+        return Err(ReadFault::Memory);
+    }
+    Ok(found)
+}
+
+// Reads the first record, which has to be the header.
+fn pass_header<R: Read, K: Whole>(
+    records: &mut Reader<Limited<R, K>>,
+    row: &mut ByteRecord,
+) -> Result<(), ReadFault>
+    requires { IsLive records.old }
+    ensures live { OnOk result (IsLive records.new) }
+    ensures left { OnOk result (PassesHeader (records_left records.old) (records_left records.new)) }
+    ensures told { IfErr result (λ fault. ToldBy K.bytes fault) }
+    ensures header { (result ≡ Err BadHeader) → HasNoHeader (records_left records.old) }
+{
+    if read_row(records, row)? && is_header(row) {
+        Ok(())
+    } else {
+        Err(ReadFault::BadHeader)
+    }
+}
+
+// Reads the next item, which has this number, after the header where that comes first.
+fn read_next<R: Read, K: Whole>(
+    alloc: Global,
+    records: &mut Reader<Limited<R, K>>,
+    row: &mut ByteRecord,
+    awaits_header: bool,
+    number: u64,
+) -> Result<Option<Item>, ReadFault>
+    requires { IsLive records.old }
+    ensures live { IfOk result (λ found. IsSome found → IsLive records.new) }
+    ensures gives { IfOk result (λ found. Gives (option_map (items_left awaits_header number) (records_left records.old))
+        (option_map (items_left false (number + 1)) (records_left records.new)) found) }
+    ensures end { (result ≡ Ok None) → IsWithin K.bytes }
+    ensures told { IfErr result (λ fault. ToldBy K.bytes fault) }
+    ensures header { (result ≡ Err BadHeader) → LacksHeader (option_map (items_left awaits_header number) (records_left records.old)) }
+{
+    if awaits_header {
+        pass_header(records, row)?;
+    }
+    if !read_row(records, row)? {
+        return Ok(None);
+    }
+    match read_item(alloc, row, number) {
+        Ok(item) => Ok(Some(item)),
+        Err(_) => Err(ReadFault::Memory),
+    }
+}
+
+impl<R: Read> Lines<R> {
+    ghost use Rattle.statement_csv.specs.Items.{items};
+
+    /// The items of a statement of which nothing was read. Takes no memory.
+    pub fn new(alloc: Global, reader: R) -> Lines<R>
+        ensures fault { result.fault ≡ None }
+        ensures is_ended { result.is_ended ≡ false }
+        ensures left { result.left ≡ option_map items (R.remaining reader) }
+    {
+        Lines::of_whole(alloc, reader)
+    }
+}
+
+impl<R: Read, K: Whole> Lines<R, K> {
+    ghost use Rattle.statement_csv.specs.Items.{items};
+    ghost use Rattle.statement_csv.specs.Reading.{Gives, LacksHeader};
+
+    /// The same, where a proof names the statement's bytes by `K`. Takes no memory.
+    pub fn of_whole(alloc: Global, reader: R) -> Lines<R, K>
+        requires { Keeps K.bytes (R.remaining reader) }
+        ensures fault { result.fault ≡ None }
+        ensures is_ended { result.is_ended ≡ false }
+        ensures left { result.left ≡ option_map items (R.remaining reader) }
+    {
+        Lines {
+            alloc,
+            records: ReaderBuilder::new()
+                .has_headers(false)
+                .flexible(true)
+                .from_reader(alloc, Limited::new(reader)),
+            row: ByteRecord::new(alloc),
+            number: 1,
+            stage: Stage::Header,
+        }
+    }
+
+    /// The next item, or none at the end and from then on. Where no item comes for a fault, the same fault is answered
+    /// from then on: `BadHeader` where the first record is not `date,reference,bank_ref,amount,text` or there is none,
+    /// `Limit` where a byte comes beyond 4,194,304, `Reader` where a read failed, `Memory` where a growth was refused.
+    ///
+    /// No clause says that `Reader` and `Memory` come only there: `csv` tells nothing of its reader after an error.
+    pub fn next(&mut self) -> Result<Option<Item>, ReadFault>
+        ensures next { IfOk result (λ found. Gives self.old.left self.new.left found) }
+        ensures within { (result ≡ Ok None) → IsWithin K.bytes }
+        ensures course { IfOk result (λ found. (self.new.fault ≡ None) × (self.new.is_ended ≡ is_none found)) }
+        ensures stays_ended { (self.old.is_ended ≡ true) → result ≡ Ok None }
+
+        ensures fault { IfErr result (λ fault. self.new.fault ≡ Some fault) }
+        ensures again { (fault : ReadFault) → self.old.fault ≡ Some fault → result ≡ Err fault }
+        ensures header { (result ≡ Err BadHeader) → LacksHeader self.old.left }
+        ensures limit { (result ≡ Err Limit) → IsTooLong K.bytes }
+    {
+        let awaits_header = match self.stage {
+            Stage::Header => true,
+            Stage::Items => false,
+            Stage::Ended => return Ok(None),
+            Stage::Stopped(fault) => return Err(fault),
+        };
+        match read_next(
+            self.alloc,
+            &mut self.records,
+            &mut self.row,
+            awaits_header,
+            self.number,
+        ) {
+            Ok(Some(item)) => match self.number.checked_add(1) {
+                Some(number) => {
+                    self.number = number;
+                    self.stage = Stage::Items;
+                    Ok(Some(item))
+                }
+                None => {
+                    self.stage = Stage::Stopped(ReadFault::Memory);
+                    Err(ReadFault::Memory)
+                }
+            },
+            Ok(None) => {
+                self.stage = Stage::Ended;
+                Ok(None)
+            }
+            Err(fault) => {
+                self.stage = Stage::Stopped(fault);
+                Err(fault)
+            }
+        }
+    }
+}

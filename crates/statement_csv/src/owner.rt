@@ -1,0 +1,67 @@
+// Whose line a reference makes it.
+
+ghost use Rattle.std.specs.Prelude.{◌≡◌, ◌≢◌, ℕ, IfNone, IfSome};
+ghost use Rattle.trust_base.specs.Limits.{IsEntryNo, IsMatterNo};
+ghost use Rattle.statement_csv.specs.References.{entry_named, owner_of, reference_text};
+
+use trust_base::{EntryNo, MatterNo};
+
+/// An entry of a matter.
+#[derive(Clone, Copy, PartialEq, Eq, Debug)]
+pub(crate) struct Named {
+    pub(crate) matter: MatterNo,
+    pub(crate) entry: EntryNo,
+}
+
+/// Whose a line is.
+#[derive(Clone, Copy, PartialEq, Eq, Debug)]
+pub(crate) enum Owner {
+    /// The balance at the start of a day.
+    Opening,
+    /// The balance at the end of a day.
+    Closing,
+    /// The firm's own money.
+    Firm,
+    /// An entry of a matter.
+    Entry(Named),
+    /// Nobody that is known here.
+    Nobody,
+}
+
+// The entry that a reference names: `M`, the six digits of the matter, `-`, the four digits of the entry.
+#[tactic(auto, unfolding(crate::specs::References::entry_named))]
+fn read_named(reference: &[u8]) -> Option<Named>
+    ensures value { result ≡ entry_named reference.now }
+    ensures some { IfSome result (λ named. reference_text named.matter named.entry ≡ reference.now) }
+    ensures none { IfNone result ((m e : ℕ) → IsMatterNo m → IsEntryNo e → reference_text m e ≢ reference.now) }
+{
+    if reference.len() != 12 || reference[0] != b'M' || reference[7] != b'-' {
+        return None;
+    }
+    let Some(matter) = MatterNo::read(&reference[1..7]) else {
+        return None;
+    };
+    let Some(entry) = EntryNo::read(&reference[8..12]) else {
+        return None;
+    };
+    Some(Named { matter, entry })
+}
+
+/// Whose a line with this reference is.
+#[tactic(auto, unfolding(crate::specs::References::owner_of))]
+pub(crate) fn read_owner(reference: &[u8]) -> Owner
+    ensures { result ≡ owner_of reference.now }
+{
+    if reference == b"OPEN".as_slice() {
+        Owner::Opening
+    } else if reference == b"CLOSE".as_slice() {
+        Owner::Closing
+    } else if reference == b"FIRM".as_slice() {
+        Owner::Firm
+    } else {
+        match read_named(reference) {
+            Some(named) => Owner::Entry(named),
+            None => Owner::Nobody,
+        }
+    }
+}

@@ -1,0 +1,10 @@
+pub mod TextFacts
+pub mod ObjectFacts
+pub mod Refused
+pub mod Own
+pub mod Runs
+pub mod AlwaysCovered
+pub mod Once
+pub mod OfRows
+pub mod ReadBack
+pub mod BodiesRead

@@ -1,0 +1,99 @@
+-- What a refusal of the plan is.
+use Rattle.std.proofs.Common.{◌≡◌, ◌⊎◌, inl, inr, ℕ, Bool, true, false, cond, Option, Some, None, refl, sym, ap, ◌∙◌, subst}
+use Rattle.trust_base.specs.declared.refusal.Refusal.{Refusal}
+use Rattle.trust_base.specs.declared.refusal.Refusal.TheVariants as refusals
+use Rattle.trust_base.specs.declared.refusal.StoreFault.{StoreFault}
+use Rattle.trust_base.specs.declared.refusal.StoreFault.TheVariants as faults
+use Rattle.trust_base.specs.Refusals.{is_fault, refused_by}
+use Rattle.trust_matter.specs.declared.asks.Ask.{Ask}
+use Rattle.trust_matter.specs.Facts.{Asked, number_of}
+use Rattle.trust_matter.specs.Shares.{number_or_none}
+use Rattle.trust_matter.specs.Sound.{Sound}
+use Rattle.trust_matter.specs.Parts.{Part, IsPart, holds_for}
+use Rattle.trust_matter.specs.Rows.{Rows}
+use Rattle.trust_matter.specs.Step.{MayRefuse, refusal}
+use Rattle.trust_firm.specs.Firm.{Firm, of, after_edit, after_change}
+use Rattle.trust_firm.specs.FirmSound.{FirmSound}
+use Rattle.trust_store.specs.Books.{counted_fault}
+use Rattle.trust_store.specs.Named.{IsPartFor}
+use Rattle.trust_store.proofs.Named.{named-held}
+use Rattle.trust_desk.specs.declared.planning.Planned.{Planned}
+use Rattle.trust_desk.specs.FirmStep.{after_asked}
+use Rattle.trust_desk.specs.Counts.{is_store, counted_refusal}
+use Rattle.trust_desk.specs.Plan.{IsAccepted, IsPlanned, IsRefused}
+
+-- the refusal is the ask's or a fault, and none of the store
+pub record IsTold (o : Option Refusal) (r : Refusal) : Type 0 where
+  pub why : (is_fault r ≡ true) ⊎ (o ≡ Some r)
+  pub told : is_store r ≡ false
+
+pub plan-refuses : (o : Option Refusal) (r : Refusal) → MayRefuse o r → IsTold o r
+plan-refuses o refusals.BadMessage h = record { why = inr h; told = refl }
+plan-refuses o refusals.LengthRequired h = record { why = inr h; told = refl }
+plan-refuses o refusals.TooLarge h = record { why = inr h; told = refl }
+plan-refuses o refusals.NoRoute h = record { why = inr h; told = refl }
+plan-refuses o refusals.BadMethod h = record { why = inr h; told = refl }
+plan-refuses o refusals.NoCaller h = record { why = inr h; told = refl }
+plan-refuses o (refusals.BadField f) h = record { why = inr h; told = refl }
+plan-refuses o refusals.NoMatter h = record { why = inr h; told = refl }
+plan-refuses o refusals.Purged h = record { why = inr h; told = refl }
+plan-refuses o (refusals.NotAllowed f) h = record { why = inr h; told = refl }
+plan-refuses o refusals.AlreadyOpen h = record { why = inr h; told = refl }
+plan-refuses o refusals.Closed h = record { why = inr h; told = refl }
+plan-refuses o (refusals.DateBackwards f) h = record { why = inr h; told = refl }
+plan-refuses o (refusals.WrongNumber f) h = record { why = inr h; told = refl }
+plan-refuses o refusals.NoEntry h = record { why = inr h; told = refl }
+plan-refuses o refusals.WrongKind h = record { why = inr h; told = refl }
+plan-refuses o refusals.WrongState h = record { why = inr h; told = refl }
+plan-refuses o refusals.PayeeIsCash h = record { why = inr h; told = refl }
+plan-refuses o refusals.WrongPayee h = record { why = inr h; told = refl }
+plan-refuses o refusals.BadSplit h = record { why = inr h; told = refl }
+plan-refuses o (refusals.Short f) h = record { why = inr h; told = refl }
+plan-refuses o refusals.SeatTaken h = record { why = inr h; told = refl }
+plan-refuses o refusals.NoSeat h = record { why = inr h; told = refl }
+plan-refuses o refusals.LastLawyer h = record { why = inr h; told = refl }
+plan-refuses o refusals.NotEmpty h = record { why = inr h; told = refl }
+plan-refuses o (refusals.TooEarly f) h = record { why = inr h; told = refl }
+plan-refuses o refusals.NoStatement h = record { why = inr h; told = refl }
+plan-refuses o refusals.PeriodPurged h = record { why = inr h; told = refl }
+plan-refuses o refusals.Store h = absurd h
+plan-refuses o refusals.Memory h = record { why = inl refl; told = refl }
+
+-- what the plan refuses changes nothing
+pub plan-refused : (firm new : Firm) (m : ℕ) (a : Asked) (rows : Rows) (r : Refusal) → new ≡ firm → rows ≡ of m firm → MayRefuse (refusal rows a) r → IsRefused firm m a r new
+plan-refused firm new m a rows r same is h =
+    record { why = subst (λ (x : Rows). (is_fault r ≡ true) ⊎ (refusal x a ≡ Some r)) is (plan-refuses (refusal rows a) r h).why; leaves = same }
+
+pub not-counted : (b : Bool) (x n : ℕ) → b ≡ false → cond b x n ≡ n
+not-counted true x n h = absurd (cc)
+not-counted false x n h = refl
+
+-- nor is it counted by the store
+pub plan-uncounted : (o : Option Refusal) (r : Refusal) (n : ℕ) → MayRefuse o r → counted_refusal r n ≡ n
+plan-uncounted o r n h = not-counted (is_store r) _ n (plan-refuses o r h).told
+
+-- a fault of the book changes nothing
+pub fault-refused : (firm new : Firm) (m : ℕ) (a : Asked) (fault : StoreFault) (r : Refusal) → r ≡ refused_by fault → new ≡ firm → IsRefused firm m a r new
+fault-refused firm new m a faults.Store r is same = record { why = inl (ap is_fault is); leaves = same }
+fault-refused firm new m a faults.Memory r is same = record { why = inl (ap is_fault is); leaves = same }
+
+-- and is counted as the book counts it
+pub fault-counted : (fault : StoreFault) (r : Refusal) (n : ℕ) → r ≡ refused_by fault → counted_refusal r n ≡ counted_fault fault n
+fault-counted faults.Store r n is = ap (λ x. counted_refusal x n) is
+fault-counted faults.Memory r n is = ap (λ x. counted_refusal x n) is
+
+-- What is read of a matter.
+
+-- what holds of all sound rows of which the part is one holds of those that it was read from
+pub at-part : (P : Rows → Type 0) (firm : Firm) (m : ℕ) (ask : Ask) (entry : Option ℕ) (part : Part) → number_or_none entry ≡ number_of ask → FirmSound firm → IsPartFor (of m firm) entry None part → ((rows : Rows) → Sound rows → IsPart part rows → holds_for part ask ≡ true → P rows) → P (of m firm)
+at-part P firm m ask entry part same sound is all = all (of m firm) (sound.matters m) is.is_part (named-held (of m firm) ask entry None part same is)
+
+-- what is planned and written is the step
+pub plan-accepted : (firm new : Firm) (m : ℕ) (a : Asked) (p : Planned) → IsPlanned m (of m firm) a p → new ≡ after_change m p.change firm → IsAccepted firm m a p.reply new
+plan-accepted firm new m a p is written =
+    let d = is.decided in
+    record {
+      accepted = d.accepted;
+      says = is.reply;
+      leaves = written ∙ ((λ i. after_edit m (d.edit i) (d.last i) firm) ∙ sym (ap (λ o. after_asked o m a firm) d.accepted));
+    }

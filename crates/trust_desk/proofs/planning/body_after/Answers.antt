@@ -1,0 +1,19 @@
+use Rattle.std.proofs.Common.{inl, inr, IfOk, sym, subst}
+use Rattle.trust_matter.specs.declared.asks.Ask.{Ask}
+use Rattle.trust_matter.specs.Facts.{number_of}
+use Rattle.trust_desk.specs.Replies.{body_of}
+use Rattle.trust_desk.specs.Plan.{IsTextOf}
+use Rattle.trust_desk.proofs.planning.body_after.Goals as goal
+
+pub returns-in-Deposit : goal.returns-in-Deposit
+returns-in-Deposit c =
+    let P : Ask → Type 0 = λ a. IfOk c.made_body.result (λ bytes. IsTextOf c.args.matter.now (number_of a) (λ rows. body_of c.args.no rows a) bytes.items) in
+    subst P (sym c.in-Deposit.is) c.made_body.ensures
+
+pub returns-in-CancelDeposit : goal.returns-in-CancelDeposit
+returns-in-CancelDeposit c =
+    let P : Ask → Type 0 = λ a. IfOk c.shown_body.result (λ bytes. IsTextOf c.args.matter.now (number_of a) (λ rows. body_of c.args.no rows a) bytes.items) in
+    elim c.in-CancelDeposit.is [
+      | inl is ↦ subst P (sym is) c.shown_body.ensures
+      | inr is ↦ subst P (sym is) c.shown_body.ensures
+    ]

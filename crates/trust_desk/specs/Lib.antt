@@ -1,0 +1,13 @@
+pub mod Json
+pub mod Values
+pub mod Bodies
+pub mod Replies
+pub mod Heard
+pub mod FirmStep
+pub mod Solo
+pub mod Isolation
+pub mod NeverBelowZero
+pub mod OnceOnly
+pub mod Counts
+pub mod Plan
+pub mod BodyLaws

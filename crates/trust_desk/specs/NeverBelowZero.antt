@@ -1,0 +1,31 @@
+-- No client's money ever pays another's debt.
+use Rattle.std.specs.Prelude.{ℕ, List, [], ◌∷◌, pos, ◌≤ℤ◌}
+use Rattle.trust_matter.specs.Balances.{ledger}
+use Rattle.trust_matter.specs.Step.{HasAmount}
+use Rattle.trust_firm.specs.Firm.{Firm, of}
+use Rattle.trust_firm.specs.FirmSound.{FirmSound}
+use Rattle.trust_desk.specs.declared.requests.Request.TheVariants.{Matter}
+use Rattle.trust_desk.specs.Heard.{Heard, Asks, Unread}
+use Rattle.trust_desk.specs.FirmStep.{firm_step}
+
+-- the amounts in what is heard are amounts
+abbrev pub HasAmounts : Heard → Type 0
+HasAmounts (Asks (Matter m caller ask)) = HasAmount ask
+HasAmounts (Unread named refusal) = Unit {0}
+
+abbrev pub AllHaveAmounts : List Heard → Type 0
+AllHaveAmounts [] = Unit {0}
+AllHaveAmounts (h ∷ hs) = HasAmounts h × AllHaveAmounts hs
+
+-- the firm is sound, and no matter's ledger is below zero
+pub record IsCovered (firm : Firm) : Type 0 where
+  pub sound : FirmSound firm
+  pub ledgers : (m : ℕ) → pos 0 ≤ℤ ledger (of m firm).entries
+
+-- so it is before and after each step
+abbrev pub AlwaysCovered : ℕ → Firm → List Heard → Type 0
+AlwaysCovered day firm [] = IsCovered firm
+AlwaysCovered day firm (h ∷ hs) = IsCovered firm × AlwaysCovered day (firm_step day firm h).firm hs
+
+abbrev pub NeverBelowZero : Type 0
+NeverBelowZero = (day : ℕ) (firm : Firm) (hs : List Heard) → FirmSound firm → AllHaveAmounts hs → AlwaysCovered day firm hs

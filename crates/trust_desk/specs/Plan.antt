@@ -1,0 +1,55 @@
+-- What is made of an ask before anything is written.
+use Rattle.std.specs.Prelude.{ℕ, ◌≡◌, ◌⊎◌, Bool, true, false, List, Some, None, Result, Ok, Err}
+use Rattle.trust_base.specs.declared.refusal.Refusal.{Refusal}
+use Rattle.trust_base.specs.Refusals.{is_fault}
+use Rattle.trust_matter.specs.declared.asks.Ask.{Ask}
+use Rattle.trust_matter.specs.declared.edits.Edit.{Edit}
+use Rattle.trust_matter.specs.declared.edits.Edit.TheVariants as edit
+use Rattle.trust_matter.specs.Rows.{Rows}
+use Rattle.trust_matter.specs.Facts.{Asked}
+use Rattle.trust_matter.specs.Sound.{Sound}
+use Rattle.trust_matter.specs.Parts.{Part, IsPart, is_held_or_none}
+use Rattle.trust_matter.specs.Step.{refusal, IsDecided, MayRefuse}
+use Rattle.trust_firm.specs.Firm.{Firm, of}
+use Rattle.trust_desk.specs.declared.requests.Reply.{Reply}
+use Rattle.trust_desk.specs.declared.planning.Planned.{Planned}
+use Rattle.trust_desk.specs.Replies.{reply_of, success_of}
+use Rattle.trust_desk.specs.FirmStep.{after_ask}
+
+abbrev pub is_nothing : Edit → Bool
+is_nothing edit.Nothing = true
+is_nothing _ = false
+
+-- the status of an accepted ask, by what it edits
+abbrev pub success_by : Ask → Edit → ℕ
+success_by a e = success_of a (is_nothing e)
+
+-- the bytes are this text of all sound rows of which the matter is a part, where it holds entry n
+abbrev pub IsTextOf : Part → ℕ → (Rows → List ℕ) → List ℕ → Type 0
+IsTextOf m n text bytes = (rows : Rows) → Sound rows → IsPart m rows → is_held_or_none m n ≡ true → bytes ≡ text rows
+
+-- the change that the rows decide on, and the reply that they give
+pub record IsPlanned (m : ℕ) (rows : Rows) (a : Asked) (p : Planned) : Type 0 where
+  pub decided : IsDecided rows a p.change
+  pub reply : p.reply ≡ reply_of m rows a
+
+-- what is planned: the change and the reply, or the refusal
+abbrev pub Plans : ℕ → Rows → Asked → Result Planned Refusal → Type 0
+Plans m rows a (Ok p) = IsPlanned m rows a p
+Plans m rows a (Err r) = MayRefuse (refusal rows a) r
+
+-- the ask is accepted, and its edit is made
+pub record IsAccepted (firm : Firm) (m : ℕ) (a : Asked) (reply : Reply) (new : Firm) : Type 0 where
+  pub accepted : refusal (of m firm) a ≡ None
+  pub says : reply ≡ reply_of m (of m firm) a
+  pub leaves : new ≡ after_ask m a firm
+
+-- the ask is refused, by the table or for a fault, and nothing changes
+pub record IsRefused (firm : Firm) (m : ℕ) (a : Asked) (r : Refusal) (new : Firm) : Type 0 where
+  pub why : (is_fault r ≡ true) ⊎ (refusal (of m firm) a ≡ Some r)
+  pub leaves : new ≡ firm
+
+-- what becomes of an ask
+abbrev pub Ends : Firm → ℕ → Asked → Firm → Result Reply Refusal → Type 0
+Ends firm m a new (Ok reply) = IsAccepted firm m a reply new
+Ends firm m a new (Err r) = IsRefused firm m a r new

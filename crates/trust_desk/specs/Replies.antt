@@ -1,0 +1,78 @@
+-- Replies, by a matter's rows.
+use Rattle.std.specs.Prelude.{ℕ, Bool, false, List, [], Option, Some, None, if◌then◌else◌}
+use Rattle.trust_base.specs.declared.refusal.Refusal.{Refusal}
+use Rattle.trust_base.specs.Refusals.{status_of, is_fault}
+use Rattle.trust_matter.specs.declared.rows.Entry.{Entry}
+use Rattle.trust_matter.specs.declared.asks.Ask.{Ask}
+use Rattle.trust_matter.specs.declared.asks.Ask.TheVariants as ask
+use Rattle.trust_matter.specs.Rows.{Rows, entry_at}
+use Rattle.trust_matter.specs.Balances.{left_of}
+use Rattle.trust_matter.specs.Facts.{Asked, facts_of}
+use Rattle.trust_matter.specs.Conditions.{is_repeat}
+use Rattle.trust_matter.specs.Step.{refusal, rows_after}
+use Rattle.trust_desk.specs.declared.requests.Reply.{Reply}
+use Rattle.trust_desk.specs.declared.requests.Body.{Body}
+use Rattle.trust_desk.specs.declared.requests.Body.TheVariants.{Json, Refused}
+use Rattle.trust_desk.specs.Bodies.{matter_body, receipt_body, entry_body}
+
+-- the reply to what is refused
+abbrev pub refused : Refusal → Reply
+refused r = record { status = status_of r; body = Refused r }
+
+-- Faults.
+
+abbrev pub is_fault_body : Body → Bool
+is_fault_body (Json text) = false
+is_fault_body (Refused r) = is_fault r
+
+-- only a call of the store, or a growth, can bring this reply
+abbrev pub is_fault_reply : Reply → Bool
+is_fault_reply reply = is_fault_body reply.body
+
+-- Accepted asks.
+
+-- the entry as it was made, in JSON
+abbrev pub made_text : ℕ → ℕ → Option Entry → List ℕ
+made_text m n None = []
+made_text m n (Some e) = receipt_body m n e
+
+-- the entry as it is, in JSON, with what is left of it
+abbrev pub shown_text : ℕ → ℕ → List Entry → Option Entry → List ℕ
+shown_text m n es None = []
+shown_text m n es (Some e) = entry_body m n e (left_of es n e)
+
+-- what is told of the rows of matter m after an ask: of the matter, of the entry as it was made, or of the
+-- entry as it is
+abbrev pub body_of : ℕ → Rows → Ask → List ℕ
+body_of m rows (ask.OpenMatter a) = matter_body m rows
+body_of m rows (ask.AddSeat s) = matter_body m rows
+body_of m rows (ask.DropSeat p) = matter_body m rows
+body_of m rows (ask.Deposit a) = made_text m a.number (entry_at rows.entries a.number)
+body_of m rows (ask.CancelDeposit n) = shown_text m n rows.entries (entry_at rows.entries n)
+body_of m rows ask.Show = matter_body m rows
+body_of m rows (ask.ShowEntry n) = shown_text m n rows.entries (entry_at rows.entries n)
+
+-- 201 where something is made, which a repeat does not
+abbrev pub success_of : Ask → Bool → ℕ
+success_of (ask.OpenMatter a) again = 201
+success_of (ask.AddSeat s) again = 200
+success_of (ask.DropSeat p) again = 200
+success_of (ask.Deposit a) again = if again then 200 else 201
+success_of (ask.CancelDeposit n) again = 200
+success_of ask.Show again = 200
+success_of (ask.ShowEntry n) again = 200
+
+-- the reply to an accepted ask
+abbrev pub accepted : ℕ → Rows → Asked → Reply
+accepted m rows a = record {
+  status = success_of a.ask (is_repeat (facts_of rows a.ask) a);
+  body = Json (body_of m (rows_after rows a) a.ask);
+}
+
+abbrev pub replied : Option Refusal → ℕ → Rows → Asked → Reply
+replied None m rows a = accepted m rows a
+replied (Some r) m rows a = refused r
+
+-- the reply that the rows of matter m alone give to an ask
+abbrev pub reply_of : ℕ → Rows → Asked → Reply
+reply_of m rows a = replied (refusal rows a) m rows a

@@ -1,0 +1,16 @@
+//! The desk of the firm: who asks what of which matter, and what is answered.
+#![tactic(auto)]
+
+mod bodies;
+mod desk;
+mod entries;
+mod json_text;
+pub mod laws;
+mod planning;
+mod receipts;
+pub mod requests;
+mod texts;
+
+pub use bodies::{ImportCounts, entry_body, import_body, matter_body, receipt_body};
+pub use desk::Desk;
+pub use requests::{Body, End, JsonText, Reply, Request, RunEnd};

@@ -1,0 +1,113 @@
+-- A change of a sound firm leaves it sound.
+use Rattle.std.proofs.Common.{◌≡◌, ◌≢◌, ℕ, ◌+◌, ◌<◌, ◌≤◌, Bool, true, false, List, [], ◌∷◌, ◌++◌, length, take, Option, Some, None, refl, sym, ap, ◌∙◌, subst, arith, append-nil, length-append, ◌⊎◌, inl, inr}
+use Rattle.std.specs.Prelude.{pos, ◌+ℤ◌, ◌≤ℤ◌, ◌==◌}
+use Rattle.std.proofs.lemmas.Int.{ints}
+use Rattle.std.proofs.lemmas.Bool.{cases_lt}
+use Rattle.std.proofs.lemmas.Bool.Decides.{nat_tests}
+use Rattle.std.proofs.lemmas.List.{take-append-le, take_all}
+use Rattle.trust_matter.specs.declared.edits.Edit.{Edit}
+use Rattle.trust_matter.specs.declared.edits.Edit.TheVariants as edit
+use Rattle.trust_matter.specs.declared.change.Movement as change
+use Rattle.trust_matter.specs.Rows.{Rows, entry_at}
+use Rattle.trust_matter.specs.Balances.{ledger}
+use Rattle.trust_matter.specs.Events.{events_in}
+use Rattle.trust_matter.specs.Sound.{Sound}
+use Rattle.trust_matter.specs.Laws.{Covered}
+use Rattle.trust_matter.specs.Changes.{changed_by, movement_of, AreMoved, IsPlace}
+use Rattle.trust_firm.specs.declared.movement.Movement.{Movement}
+use Rattle.trust_firm.specs.Firm.{Firm, of, joined_movement, moved_by, rewritten_by, after_edit}
+use Rattle.trust_firm.specs.Journal.{events_moved, firm_events, amount_for, moved_for}
+use Rattle.trust_firm.specs.FirmSound.{FirmSound, StaysSound}
+use Rattle.trust_firm.proofs.Sums.{sum-append}
+use Rattle.trust_firm.proofs.Changed.{edit-cases, of-rewritten_by, of_other-rewritten_by}
+use Rattle.trust_firm.proofs.Told.{events-append, firm-append, joined-other, joined-firm, moved-other, events-told, ledger-told}
+
+-- no ledger of a sound matter is below zero
+pub ledger-least : Covered → (rows : Rows) → Sound rows → pos 0 ≤ℤ ledger rows.entries
+ledger-least covered rows sound = let c = covered rows.entries sound.backed in omega (arith, ints, c.total, c.held)
+
+-- a list with one element more, or none: up to a place it is the old list so far, or the whole
+take-more : {A : Type 0} (xs : List A) (y : A) (k : ℕ) → (take k (xs ++ y ∷ []) ≡ take k xs) ⊎ (take k (xs ++ y ∷ []) ≡ xs ++ y ∷ [])
+take-more xs y k = cases (cases_lt k (length xs + 1))
+  where
+    cases : (k < length xs + 1) ⊎ (length xs + 1 ≤ k) → (take k (xs ++ y ∷ []) ≡ take k xs) ⊎ (take k (xs ++ y ∷ []) ≡ xs ++ y ∷ [])
+    cases (inl lt) = inl (take-append-le k xs (y ∷ []) (omega arith))
+    cases (inr le) = inr (let long = length-append xs (y ∷ []) in take_all k (xs ++ y ∷ []) (omega (arith, long)))
+
+-- the sums so far, where the whole is at least zero
+covered-more : (k : ℕ) (m : ℕ) (xs : List Movement) (n : ℕ) (o : Option change.Movement) → ((j : ℕ) → pos 0 ≤ℤ moved_for k (take j xs)) → pos 0 ≤ℤ moved_for k (xs ++ joined_movement m o) → pos 0 ≤ℤ moved_for k (take n (xs ++ joined_movement m o))
+covered-more k m xs n None so_far whole = subst (λ (ys : List Movement). pos 0 ≤ℤ moved_for k (take n ys)) (sym (append-nil xs)) (so_far n)
+covered-more k m xs n (Some v) so_far whole = cases (take-more xs _ n)
+  where
+    cases : (take n (xs ++ joined_movement m (Some v)) ≡ take n xs) ⊎ (take n (xs ++ joined_movement m (Some v)) ≡ xs ++ joined_movement m (Some v)) → pos 0 ≤ℤ moved_for k (take n (xs ++ joined_movement m (Some v)))
+    cases (inl is) = subst (λ (ys : List Movement). pos 0 ≤ℤ moved_for k ys) (sym is) (so_far n)
+    cases (inr is) = subst (λ (ys : List Movement). pos 0 ≤ℤ moved_for k ys) (sym is) whole
+
+module _ (m : ℕ) (e : Edit) (last : ℕ) (firm : Firm) (sound : FirmSound firm) (place : IsPlace (of m firm) e) (left : Sound (changed_by e last (of m firm))) (are_moved : AreMoved (of m firm).entries e (movement_of (of m firm).entries e)) where
+  abbrev old : Rows
+  old = of m firm
+
+  abbrev after : Firm
+  after = rewritten_by m e last firm
+
+  own : of m after ≡ changed_by e last old
+  own = of-rewritten_by m e last firm
+
+  matters : (k : ℕ) → Sound (of k after)
+  matters k = cases (k == m) refl
+    where
+      cases : (b : Bool) → (k == m) ≡ b → Sound (of k after)
+      cases true same_test = let same : k ≡ m = grind (arith, nat_tests) in subst Sound (sym (ap (λ n. of n after) same ∙ own)) left
+      cases false other_test = let apart : k ≢ m = grind (arith, nat_tests) in subst Sound (sym (of_other-rewritten_by k m e last firm apart)) (sound.matters k)
+
+  events : (k n : ℕ) → events_moved k n after.movements ≡ events_in (entry_at (of k after).entries n)
+  events k n = events-append k n firm.movements (moved_by m e old) ∙ cases (k == m) refl
+    where
+      cases : (b : Bool) → (k == m) ≡ b → events_moved k n firm.movements ++ events_moved k n (moved_by m e old) ≡ events_in (entry_at (of k after).entries n)
+      cases true same_test =
+          let same : k ≡ m = grind (arith, nat_tests) in
+          let here : events_moved m n firm.movements ++ events_moved m n (moved_by m e old) ≡ events_in (entry_at (of m after).entries n) =
+          ap (λ xs. xs ++ events_moved m n (moved_by m e old)) (sound.events m n)
+          ∙ (sym (events-told m old e n place are_moved) ∙ ap (λ (r : Rows). events_in (entry_at r.entries n)) (sym own)) in
+          subst (λ j. events_moved j n firm.movements ++ events_moved j n (moved_by m e old) ≡ events_in (entry_at (of j after).entries n)) (sym same) here
+      cases false other_test =
+          let apart : k ≢ m = grind (arith, nat_tests) in
+          ap (λ xs. events_moved k n firm.movements ++ xs) (joined-other m k n (movement_of old.entries e) apart)
+          ∙ (append-nil (events_moved k n firm.movements) ∙ (sound.events k n ∙ ap (λ (r : Rows). events_in (entry_at r.entries n)) (sym (of_other-rewritten_by k m e last firm apart))))
+
+  own_money : firm_events after.movements ≡ []
+  own_money = firm-append firm.movements (moved_by m e old) ∙ (λ i. sound.own i ++ joined-firm m (movement_of old.entries e) i)
+
+  ledgers : (k : ℕ) → moved_for k after.movements ≡ ledger (of k after).entries
+  ledgers k = sum-append (amount_for k) firm.movements (moved_by m e old) ∙ cases (k == m) refl
+    where
+      cases : (b : Bool) → (k == m) ≡ b → moved_for k firm.movements +ℤ moved_for k (moved_by m e old) ≡ ledger (of k after).entries
+      cases true same_test =
+          let same : k ≡ m = grind (arith, nat_tests) in
+          let here : moved_for m firm.movements +ℤ moved_for m (moved_by m e old) ≡ ledger (of m after).entries =
+          ap (λ z. z +ℤ moved_for m (moved_by m e old)) (sound.ledgers m)
+          ∙ (sym (ledger-told m old e place are_moved) ∙ ap (λ (r : Rows). ledger r.entries) (sym own)) in
+          subst (λ j. moved_for j firm.movements +ℤ moved_for j (moved_by m e old) ≡ ledger (of j after).entries) (sym same) here
+      cases false other_test =
+          let apart : k ≢ m = grind (arith, nat_tests) in
+          let none = moved-other m k (movement_of old.entries e) apart in
+          let same : moved_for k firm.movements +ℤ moved_for k (moved_by m e old) ≡ moved_for k firm.movements = omega (arith, ints, none) in
+          same ∙ (sound.ledgers k ∙ ap (λ (r : Rows). ledger r.entries) (sym (of_other-rewritten_by k m e last firm apart)))
+
+  covered : Covered → (k n : ℕ) → pos 0 ≤ℤ moved_for k (take n after.movements)
+  covered law k n = covered-more k m firm.movements n (movement_of old.entries e) (sound.covered k) (subst (λ z. pos 0 ≤ℤ z) (sym (ledgers k)) (ledger-least law (of k after) (matters k)))
+
+  pub sound-rewritten : Covered → FirmSound after
+  sound-rewritten law = record { matters = matters; events = events; own = own_money; ledgers = ledgers; covered = covered law }
+
+-- an edit that fits and leaves its matter sound
+pub edit-sound : Covered → (m : ℕ) (e : Edit) (last : ℕ) (firm : Firm) → FirmSound firm → IsPlace (of m firm) e → Sound (changed_by e last (of m firm)) → AreMoved (of m firm).entries e (movement_of (of m firm).entries e) → FirmSound (after_edit m e last firm)
+edit-sound law m e last firm sound place left are_moved = cases (edit-cases m e last firm)
+  where
+    cases : (e ≡ edit.Nothing) × (after_edit m e last firm ≡ firm) ⊎ (after_edit m e last firm ≡ rewritten_by m e last firm) → FirmSound (after_edit m e last firm)
+    cases (inl same) = subst FirmSound (sym same.1) sound
+    cases (inr to) = subst FirmSound (sym to) (sound-rewritten m e last firm sound place left are_moved law)
+
+pub stays-sound : Covered → StaysSound
+stays-sound law m change firm sound is =
+    edit-sound law m change.edit change.last firm sound is.place is.sound (subst (λ o. AreMoved (of m firm).entries change.edit o) is.movement is.moved)

@@ -1,0 +1,50 @@
+-- What holds of a firm's rows at every moment.
+use Rattle.std.specs.Prelude.{◌≡◌, ◌≢◌, ℕ, [], take, pos, ◌≤ℤ◌}
+use Rattle.trust_matter.specs.Rows.{entry_at}
+use Rattle.trust_matter.specs.Balances.{ledger}
+use Rattle.trust_matter.specs.Events.{events_in}
+use Rattle.trust_matter.specs.Sound.{Sound}
+use Rattle.trust_matter.specs.Changes.{MatterChange, changed, IsChange}
+use Rattle.trust_firm.specs.Firm.{Firm, of, put, after_change}
+use Rattle.trust_firm.specs.Journal.{events_moved, firm_events, moved_for, ledger_sum, journal_sum}
+
+-- each matter is sound; the movements of each entry are its events, each once and in order, and there are no
+-- others; those of a matter add up to its ledger, and at no place of the list to less than zero
+pub record FirmSound (firm : Firm) : Type 0 where
+  pub matters : (m : ℕ) → Sound (of m firm)
+  pub events : (m n : ℕ) → events_moved m n firm.movements ≡ events_in (entry_at (of m firm).entries n)
+  pub own : firm_events firm.movements ≡ []
+  pub ledgers : (m : ℕ) → moved_for m firm.movements ≡ ledger (of m firm).entries
+  pub covered : (m k : ℕ) → pos 0 ≤ℤ moved_for m (take k firm.movements)
+
+-- the rows of each matter stand together, in order, the matters by number
+abbrev pub IsInOrder : Firm → Type 0
+IsInOrder firm = (m : ℕ) → put m (of m firm) firm.rows ≡ firm.rows
+
+-- A change of a matter is a change of that matter alone.
+
+abbrev pub ChangesOwn : Type 0
+ChangesOwn = (m : ℕ) (change : MatterChange) (firm : Firm) → of m (after_change m change firm) ≡ changed change (of m firm)
+
+abbrev pub ChangesNoOther : Type 0
+ChangesNoOther = (n m : ℕ) (change : MatterChange) (firm : Firm) → n ≢ m → of n (after_change m change firm) ≡ of n firm
+
+-- Soundness and order are kept.
+
+abbrev pub StaysSound : Type 0
+StaysSound = (m : ℕ) (change : MatterChange) (firm : Firm) → FirmSound firm → IsChange (of m firm) change → FirmSound (after_change m change firm)
+
+abbrev pub StaysInOrder : Type 0
+StaysInOrder = (m : ℕ) (change : MatterChange) (firm : Firm) → IsInOrder firm → IsInOrder (after_change m change firm)
+
+-- No client's money pays another's debt.
+
+-- the ledgers of all matters add up to at least zero, as do the movements at every place of their list; and
+-- all movements add up to the ledgers
+pub record IsSolvent (firm : Firm) : Type 0 where
+  pub ledgers : pos 0 ≤ℤ ledger_sum firm
+  pub journal : (k : ℕ) → pos 0 ≤ℤ journal_sum (take k firm.movements)
+  pub agree : journal_sum firm.movements ≡ ledger_sum firm
+
+abbrev pub SoundIsSolvent : Type 0
+SoundIsSolvent = (firm : Firm) → FirmSound firm → IsSolvent firm

@@ -1,0 +1,68 @@
+-- What the movements of a firm say of a matter and of an entry.
+use Rattle.std.specs.Prelude.{ℕ, Bool, true, false, cond, ◌==◌, ◌&&◌, List, [], ◌∷◌, map, ℤ, pos, ◌+ℤ◌}
+use Rattle.std.specs.List.{filter}
+use Rattle.trust_matter.specs.declared.rows.Entry.{Entry}
+use Rattle.trust_matter.specs.Shares.{total_share, held_share}
+use Rattle.trust_matter.specs.Events.{Event}
+use Rattle.trust_firm.specs.declared.movement.Movement.{Movement}
+use Rattle.trust_firm.specs.declared.movement.Owner.{Owner}
+use Rattle.trust_firm.specs.declared.movement.Owner.TheVariants as owner
+use Rattle.trust_firm.specs.Firm.{Row, HeadRow, SeatRow, EntryRow, Firm}
+
+-- one share for each element, added up
+abbrev pub sum_of : {A : Type 0} → (A → ℤ) → List A → ℤ
+sum_of share [] = pos 0
+sum_of share (x ∷ xs) = share x +ℤ sum_of share xs
+
+-- a movement's day and amount
+abbrev pub event_of : Movement → Event
+event_of v = record { day = v.day; amount = v.amount }
+
+-- Who moved.
+
+abbrev pub is_of_entry : ℕ → ℕ → Owner → Bool
+is_of_entry m n (owner.Matter k j) = k == m && j == n
+is_of_entry m n owner.Firm = false
+
+abbrev pub is_of_matter : ℕ → Owner → Bool
+is_of_matter m (owner.Matter k j) = k == m
+is_of_matter m owner.Firm = false
+
+abbrev pub is_of_firm : Owner → Bool
+is_of_firm (owner.Matter k j) = false
+is_of_firm owner.Firm = true
+
+-- the movements of entry n of matter m, in order
+abbrev pub events_moved : ℕ → ℕ → List Movement → List Event
+events_moved m n movements = map event_of (filter (λ v. is_of_entry m n v.owner) movements)
+
+-- the movements of the firm's own money, in order
+abbrev pub firm_events : List Movement → List Event
+firm_events movements = map event_of (filter (λ v. is_of_firm v.owner) movements)
+
+-- Sums.
+
+-- what a movement adds to a matter
+abbrev pub amount_for : ℕ → Movement → ℤ
+amount_for m v = cond (is_of_matter m v.owner) v.amount (pos 0)
+
+-- what the movements of a matter add up to
+abbrev pub moved_for : ℕ → List Movement → ℤ
+moved_for m movements = sum_of (amount_for m) movements
+
+-- what an entry adds to the ledger of its matter
+abbrev pub ledger_share : Entry → ℤ
+ledger_share e = total_share e +ℤ held_share e
+
+abbrev pub row_share : Row → ℤ
+row_share (HeadRow head) = pos 0
+row_share (SeatRow seat) = pos 0
+row_share (EntryRow number entry) = ledger_share entry
+
+-- the ledgers of all matters, added up over the joined rows
+abbrev pub ledger_sum : Firm → ℤ
+ledger_sum firm = sum_of (λ p. row_share p.1) firm.rows
+
+-- all movements, added up
+abbrev pub journal_sum : List Movement → ℤ
+journal_sum movements = sum_of (λ v. v.amount) movements

@@ -1,0 +1,3 @@
+pub mod Firm
+pub mod FirmSound
+pub mod Journal

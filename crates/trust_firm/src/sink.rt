@@ -1,0 +1,33 @@
+// Who takes rows, one after the other.
+
+ghost use Rattle.std.specs.Prelude.{◌≡◌, ℕ, OnOk, OnErr};
+ghost use Rattle.trust_firm.specs.Firm.{Row, HeadRow, SeatRow, EntryRow};
+
+use std::alloc::AllocError;
+use trust_base::{EntryNo, MatterNo};
+use trust_matter::{Entry, Head, Seat};
+
+/// Takes the rows of a firm in order, one call for each kind of row. A row that is refused for want of memory
+/// leaves it as it was.
+pub trait RowSink {
+    ghost use Rattle.std.specs.Prelude.{ℕ};
+    ghost use Rattle.trust_firm.specs.Firm.{Row};
+
+    /// What a row of a matter makes of it.
+    ghost stepped: { Self → ℕ × Row → Self };
+
+    /// Takes the head of a matter.
+    fn head(&mut self, matter: MatterNo, head: &Head) -> Result<(), AllocError>
+        ensures ok { OnOk result (self.new ≡ stepped self.old (matter, HeadRow head.now)) }
+        ensures err { OnErr result (self.new ≡ self.old) };
+
+    /// Takes a seat of a matter.
+    fn seat(&mut self, matter: MatterNo, seat: &Seat) -> Result<(), AllocError>
+        ensures ok { OnOk result (self.new ≡ stepped self.old (matter, SeatRow seat.now)) }
+        ensures err { OnErr result (self.new ≡ self.old) };
+
+    /// Takes the entry of a number of a matter.
+    fn entry(&mut self, matter: MatterNo, number: EntryNo, entry: &Entry) -> Result<(), AllocError>
+        ensures ok { OnOk result (self.new ≡ stepped self.old (matter, EntryRow number entry.now)) }
+        ensures err { OnErr result (self.new ≡ self.old) };
+}

@@ -1,0 +1,93 @@
+-- What is decided on what is kept is decided on the rows.
+use Rattle.std.proofs.Common.{◌≡◌, ℕ, true, refl, ap, sym, ◌∙◌, subst, Result, Ok, Err, IfOk, OnErr, Option, None}
+use Rattle.trust_base.specs.declared.refusal.Refusal.{Refusal}
+use Rattle.trust_matter.specs.declared.rows.Head.{Head}
+use Rattle.trust_matter.specs.declared.rows.Entry.{Entry}
+use Rattle.trust_matter.specs.declared.edits.Edit.{Edit}
+use Rattle.trust_matter.specs.declared.edits.Edit.TheVariants as edit
+use Rattle.trust_matter.specs.declared.change.Moves.{Moves}
+use Rattle.trust_matter.specs.declared.change.Movement.{Movement}
+use Rattle.trust_matter.specs.Rows.{Rows, entry_at}
+use Rattle.trust_matter.specs.Facts.{Facts, Asked, number_of, other_of}
+use Rattle.trust_matter.specs.Events.{events_of, events_in}
+use Rattle.trust_matter.specs.Sound.{Sound}
+use Rattle.trust_matter.specs.Parts.{Part, IsPart, kept_at, kept_facts, entry_in, holds_for, is_held_or_none}
+use Rattle.trust_matter.specs.Changes.{MatterChange, IsChange, AreSmallMoves, moved_beyond, movement_of, AreMoved}
+use Rattle.trust_matter.specs.Moves.{EditMoved, IsMade, movement_kept}
+use Rattle.trust_matter.specs.Step.{HasAmount, IsDecided, Decides, MayRefuse, Gives, refusal, refusal_of, decided, edit_on, last_after}
+use Rattle.trust_matter.proofs.Parts.{facts-same, both}
+use Rattle.trust_matter.proofs.Moved.{changes-are}
+use Rattle.trust_matter.proofs.NeverStore.{never-store}
+use Rattle.trust_matter.proofs.Steps.{IsStep, step}
+
+-- what an edit moves is told by what is kept
+movement-same : (m : Part) (rows : Rows) (e : Edit) (v : Moves) → IsPart m rows → EditMoved m e v → movement_kept m e ≡ movement_of rows.entries e
+movement-same m rows edit.Nothing v p h = refl
+movement-same m rows (edit.Open o) v p h = refl
+movement-same m rows (edit.Seat s) v p h = refl
+movement-same m rows (edit.Unseat q) v p h = refl
+movement-same m rows (edit.Append x) v p h = refl
+movement-same m rows (edit.Exchange x) v p h =
+    let k = h.0 in
+    let kept = h.1.kept in
+    let there = (p.kept x.number k kept).there in
+    let same : entry_in (kept_at m x.number) ≡ entry_at rows.entries x.number = rw kept (sym there) in
+    ap (λ (o : Option Entry). moved_beyond x.number (events_in o) (events_of x.entry)) same
+
+-- the change made by what is kept is one of the rows
+change-is : (m : Part) (rows : Rows) (a : Asked) (c : MatterChange) → IsPart m rows → Sound rows → IsStep rows a c.edit c.last → EditMoved m c.edit c.moves → c.movement ≡ movement_kept m c.edit → IsChange rows c
+change-is m rows a c p s t moved movement =
+    let all = changes-are m rows (other_of a.ask (entry_at rows.entries (number_of a.ask))) (number_of a.ask) c.edit c.moves p s.backed t.may moved in
+    let same : c.movement ≡ movement_of rows.entries c.edit = movement ∙ movement-same m rows c.edit c.moves p moved in
+    let P : Option Movement → Type 0 = λ o. AreMoved rows.entries c.edit o in
+    record {
+      place = t.place;
+      sound = t.sound;
+      not_before = t.not_before;
+      seen = t.seen;
+      movement = same;
+      moved = subst P (sym same) t.moved;
+      figures = all.1;
+      lefts = all.2;
+    }
+
+decided-ok : (m : Part) (rows : Rows) (a : Asked) (e : Edit) (c : MatterChange) → holds_for m a.ask ≡ true → HasAmount a.ask → refusal_of (kept_facts m a.ask) a ≡ None → e ≡ decided (kept_facts m a.ask) a → IsMade m e (last_after m.head e a.day) c → Sound rows → IsPart m rows → IsDecided rows a c
+decided-ok m rows a e c h amount accepted is made s p =
+    let same = facts-same m rows a.ask s.backed.named p h in
+    let on-rows : refusal rows a ≡ None = sym (ap (λ (f : Facts). refusal_of f a) same) ∙ accepted in
+    let of-rows : e ≡ edit_on rows a = is ∙ ap (λ (f : Facts). decided f a) same in
+    let edit-is : c.edit ≡ edit_on rows a = made.of_edit ∙ of-rows in
+    let head-is : last_after m.head e a.day ≡ last_after rows.head e a.day = ap (λ (o : Option Head). last_after o e a.day) p.head in
+    let last-is : c.last ≡ last_after rows.head (edit_on rows a) a.day = made.on_day ∙ head-is ∙ ap (λ (x : Edit). last_after rows.head x a.day) of-rows in
+    let E : Edit → Type 0 = λ x. IsStep rows a x (last_after rows.head (edit_on rows a) a.day) in
+    let L : ℕ → Type 0 = λ n. IsStep rows a c.edit n in
+    let M : Edit → Type 0 = λ x. EditMoved m x c.moves in
+    let V : Edit → Type 0 = λ x. c.movement ≡ movement_kept m x in
+    record {
+      accepted = on-rows;
+      edit = edit-is;
+      last = last-is;
+      change = change-is m rows a c p s
+          (subst L (sym last-is) (subst E (sym edit-is) (step rows a s amount on-rows)))
+          (subst M (sym made.of_edit) made.moved)
+          (subst V (sym made.of_edit) made.movement);
+    }
+
+-- an accepted edit is the change of the rows, or the want of one that is there
+pub decided-made : (m : Part) (a : Asked) (e : Edit) (r : Result MatterChange Refusal) → holds_for m a.ask ≡ true → HasAmount a.ask → Gives (kept_facts m a.ask) a (Ok e) → IfOk r (λ c. IsMade m e (last_after m.head e a.day) c) → OnErr r ((v : Moves) → AreSmallMoves v → EditMoved m e v → ⊥) → (rows : Rows) → Sound rows → IsPart m rows → Decides rows a r
+decided-made m a e (Ok c) h amount g made none rows s p = decided-ok m rows a e c h amount g.0 g.1 made s p
+decided-made m a e (Err r) h amount g made none rows s p =
+    let same = facts-same m rows a.ask s.backed.named p h in
+    let on-rows : refusal rows a ≡ None = sym (ap (λ (f : Facts). refusal_of f a) same) ∙ g.0 in
+    let of-rows : e ≡ edit_on rows a = g.1 ∙ ap (λ (f : Facts). decided f a) same in
+    let entry = ap (λ (f : Facts). f.entry) same in
+    let parts = both (is_held_or_none m (number_of a.ask)) (is_held_or_none m (other_of a.ask (entry_in (kept_at m (number_of a.ask))))) h in
+    let P : Option Entry → Type 0 = λ w. is_held_or_none m (other_of a.ask w) ≡ true in
+    let M : Edit → Type 0 = λ x. (v : Moves) → AreSmallMoves v → EditMoved m x v → ⊥ in
+    absurd (never-store m rows (other_of a.ask (entry_at rows.entries (number_of a.ask))) (number_of a.ask) (edit_on rows a) s.backed p (step rows a s amount on-rows).may (subst P entry parts.1) parts.0 (subst M of-rows none))
+
+-- a refusal by what is kept is that of the rows
+pub decided-refused : (m : Part) (a : Asked) (r : Refusal) → holds_for m a.ask ≡ true → Gives (kept_facts m a.ask) a (Err r) → (rows : Rows) → Sound rows → IsPart m rows → Decides rows a (Err r)
+decided-refused m a r h g rows s p =
+    let P : Facts → Type 0 = λ f. MayRefuse (refusal_of f a) r in
+    subst P (facts-same m rows a.ask s.backed.named p h) g

@@ -1,0 +1,142 @@
+-- The table of refusals gives the least number whose condition holds.
+use Rattle.std.proofs.Common.{◌≡◌, ◌⊎◌, ℕ, ◌≤◌, Bool, true, false, List, [], ◌∷◌, ◌++◌, Option, Some, None, refl, sym, subst, ◌∙◌, inl, inr, ⊎_elim, arith, rules, cond}
+use Rattle.std.proofs.Math.Nat.{le_refl}
+use Rattle.std.proofs.lemmas.Bool.{false≢true}
+use Rattle.trust_base.specs.declared.refusal.Refusal.{Refusal}
+use Rattle.trust_base.specs.Refusals.{number_of}
+use Rattle.trust_matter.specs.Facts.{Facts, Asked}
+use Rattle.trust_matter.specs.Conditions.{has_no_seat, is_not_allowed, is_opened_already, is_closed, goes_backwards, is_not_next, is_not_there, is_of_another_kind, is_in_another_state, has_a_seat_already, has_none_to_drop, would_lose_its_last_lawyer, is_repeat}
+use Rattle.trust_matter.specs.Step.{first, conditions, early_conditions, later_conditions}
+use Rattle.trust_matter.specs.Laws.{Stands, LeastRefusal, NoneHolds as NoRefusal}
+
+-- the numbers do not fall
+abbrev pub Rises : ℕ → List (Bool × Refusal) → Type 0
+Rises n [] = Unit {0}
+Rises n (c ∷ cs) = (n ≤ number_of c.1) × Rises (number_of c.1) cs
+
+-- no condition holds
+abbrev pub NoneHolds : {R : Type 0} → List (Bool × R) → Type 0
+NoneHolds [] = Unit {0}
+NoneHolds (c ∷ cs) = (c.0 ≡ false) × NoneHolds cs
+
+none_hold : (cs : List (Bool × Refusal)) → first cs ≡ None → NoneHolds cs
+none_hold [] h = tt
+none_hold ((true, r) ∷ cs) h = absurd (cc)
+none_hold ((false, r) ∷ cs) h = (refl, none_hold cs h)
+
+-- no condition of the table holds
+pub record Passes (f : Facts) (a : Asked) : Type 0 where
+  pub seat : has_no_seat f a ≡ false
+  pub allowed : is_not_allowed f a ≡ false
+  pub not_opened : is_opened_already f a ≡ false
+  pub not_closed : is_closed f a ≡ false
+  pub forwards : goes_backwards f a ≡ false
+  pub next : is_not_next f a ≡ false
+  pub there : is_not_there f a ≡ false
+  pub kind : is_of_another_kind f a ≡ false
+  pub state : is_in_another_state f a ≡ false
+  pub seat_free : has_a_seat_already f a ≡ false
+  pub seat_taken : has_none_to_drop f a ≡ false
+  pub lawyer_left : would_lose_its_last_lawyer f a ≡ false
+
+pub passes : (f : Facts) (a : Asked) → first (conditions f a) ≡ None → Passes f a
+passes f a h =
+    let n : NoneHolds (conditions f a) = none_hold (conditions f a) h in
+    let l : NoneHolds (later_conditions f a) = n.1.1 in
+    record {
+      seat = n.0;
+      allowed = n.1.0;
+      not_opened = l.0;
+      not_closed = l.1.0;
+      forwards = l.1.1.0;
+      next = l.1.1.1.0;
+      there = l.1.1.1.1.0;
+      kind = l.1.1.1.1.1.0;
+      state = l.1.1.1.1.1.1.0;
+      seat_free = l.1.1.1.1.1.1.1.0;
+      seat_taken = l.1.1.1.1.1.1.1.1.0;
+      lawyer_left = l.1.1.1.1.1.1.1.1.1.0;
+    }
+
+pub first_stands : (cs : List (Bool × Refusal)) (r : Refusal) → first cs ≡ Some r → Stands cs r
+first_stands [] r h = absurd (cc)
+first_stands ((true, q) ∷ cs) r h = inl (refl, (cc))
+first_stands ((false, q) ∷ cs) r h = inr (first_stands cs r h)
+
+above : (n : ℕ) (cs : List (Bool × Refusal)) (q : Refusal) → Rises n cs → Stands cs q → n ≤ number_of q
+above n [] q up h = absurd h
+above n (c ∷ cs) q up (inl h) = subst (λ (x : Refusal). n ≤ number_of x) h.1 up.0
+above n (c ∷ cs) q up (inr h) = let rest : number_of c.1 ≤ number_of q = above (number_of c.1) cs q up.1 h in let here : n ≤ number_of c.1 = up.0 in omega arith
+
+some_same : (x y : Refusal) → Some x ≡ Some y → x ≡ y
+some_same x y d = cc
+
+pub first_least : (n : ℕ) (cs : List (Bool × Refusal)) (r q : Refusal) → Rises n cs → first cs ≡ Some r → Stands cs q → number_of r ≤ number_of q
+first_least n [] r q up h at = absurd at
+first_least n ((true, p) ∷ cs) r q up h at = subst (λ (x : Refusal). number_of x ≤ number_of q) (some_same p r h) (above (number_of p) ((true, p) ∷ cs) q (le_refl _, up.1) at)
+first_least n ((false, p) ∷ cs) r q up h (inl at) = absurd (false≢true at.0)
+first_least n ((false, p) ∷ cs) r q up h (inr at) = first_least (number_of p) cs r q up.1 h at
+
+pub first_none_stands : (cs : List (Bool × Refusal)) (q : Refusal) → first cs ≡ None → Stands cs q → ⊥
+first_none_stands [] q h at = at
+first_none_stands ((true, p) ∷ cs) q h at = absurd (cc)
+first_none_stands ((false, p) ∷ cs) q h (inl at) = false≢true at.0
+first_none_stands ((false, p) ∷ cs) q h (inr at) = first_none_stands cs q h at
+
+pub table_rises : (f : Facts) (a : Asked) → Rises 0 (conditions f a)
+table_rises f a = search rules
+
+-- the first of the front is the first of all
+first_of_front : (xs ys : List (Bool × Refusal)) (r : Refusal) → first xs ≡ Some r → first (xs ++ ys) ≡ Some r
+first_of_front [] ys r h = absurd (cc)
+first_of_front ((true, q) ∷ xs) ys r h = h
+first_of_front ((false, q) ∷ xs) ys r h = first_of_front xs ys r h
+
+-- no number is above n
+abbrev AreUpTo : ℕ → List (Bool × Refusal) → Type 0
+AreUpTo n [] = Unit {0}
+AreUpTo n (c ∷ cs) = (number_of c.1 ≤ n) × AreUpTo n cs
+
+below : (n : ℕ) (cs : List (Bool × Refusal)) (q : Refusal) → AreUpTo n cs → Stands cs q → number_of q ≤ n
+below n [] q up h = absurd h
+below n (c ∷ cs) q up (inl h) = subst (λ (x : Refusal). number_of x ≤ n) h.1 up.0
+below n (c ∷ cs) q up (inr h) = below n cs q up.1 h
+
+stands_apart : (xs ys : List (Bool × Refusal)) (q : Refusal) → Stands (xs ++ ys) q → Stands xs q ⊎ Stands ys q
+stands_apart [] ys q h = inr h
+stands_apart (x ∷ xs) ys q (inl h) = inl (inl h)
+stands_apart (x ∷ xs) ys q (inr h) = ⊎_elim (λ (l : Stands xs q). inl (inr l)) (λ (r : Stands ys q). inr r) (stands_apart xs ys q h)
+
+-- of a repeat only the early conditions are tried
+choose : (b : Bool) (xs ys : List (Bool × Refusal)) (r : Option Refusal) → first (cond b xs ys) ≡ r → ((b ≡ true) × (first xs ≡ r)) ⊎ ((b ≡ false) × (first ys ≡ r))
+choose true xs ys r h = inl (refl, h)
+choose false xs ys r h = inr (refl, h)
+
+pub refuses_least : LeastRefusal
+refuses_least f a r h =
+    ⊎_elim
+    (λ (x : (is_repeat f a ≡ true) × (first (early_conditions f a) ≡ Some r)).
+    let all = first_of_front (early_conditions f a) (later_conditions f a) r x.1 in record {
+      holds = first_stands (conditions f a) r all;
+      least = λ q at. first_least 0 (conditions f a) r q (table_rises f a) all at;
+      repeat = λ _. below 10 (early_conditions f a) r (search rules) (first_stands (early_conditions f a) r x.1);
+    })
+    (λ (x : (is_repeat f a ≡ false) × (first (conditions f a) ≡ Some r)). record {
+      holds = first_stands (conditions f a) r x.1;
+      least = λ q at. first_least 0 (conditions f a) r q (table_rises f a) x.1 at;
+      repeat = λ yes. absurd (false≢true (sym x.0 ∙ yes));
+    })
+    (choose (is_repeat f a) (early_conditions f a) (conditions f a) (Some r) h)
+
+pub none_holds : NoRefusal
+none_holds f a r h at =
+    ⊎_elim
+    (λ (x : (is_repeat f a ≡ true) × (first (early_conditions f a) ≡ None)). (
+      x.0,
+      ⊎_elim
+          (λ (l : Stands (early_conditions f a) r). absurd (first_none_stands (early_conditions f a) r x.1 l))
+          (λ (l : Stands (later_conditions f a) r). let from : 11 ≤ number_of r = above 11 (later_conditions f a) r (search rules) l in omega (arith, from))
+          (stands_apart (early_conditions f a) (later_conditions f a) r at),
+    ))
+    (λ (x : (is_repeat f a ≡ false) × (first (conditions f a) ≡ None)). absurd (first_none_stands (conditions f a) r x.1 at))
+    (choose (is_repeat f a) (early_conditions f a) (conditions f a) None h)

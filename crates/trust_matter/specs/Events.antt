@@ -1,0 +1,45 @@
+-- What an entry moves in the journal, and when.
+use Rattle.std.specs.Prelude.{ℕ, List, [], ◌∷◌, ℤ, pos, ◌-ℤ◌, Option, Some, None}
+use Rattle.trust_matter.specs.declared.rows.DepositState.{DepositState}
+use Rattle.trust_matter.specs.declared.rows.DepositState.TheVariants as deposit
+use Rattle.trust_matter.specs.declared.rows.PaymentState.{PaymentState}
+use Rattle.trust_matter.specs.declared.rows.PaymentState.TheVariants as payment
+use Rattle.trust_matter.specs.declared.rows.Entry.{Entry}
+use Rattle.trust_matter.specs.declared.rows.Entry.TheVariants as entry
+
+-- an amount in cents on a day: above zero received, below zero paid out
+pub record Event : Type 0 where
+  pub day : ℕ
+  pub amount : ℤ
+
+abbrev pub received : ℕ → ℕ → Event
+received day amount = record { day = day; amount = pos amount }
+
+abbrev pub paid_out : ℕ → ℕ → Event
+paid_out day amount = record { day = day; amount = pos 0 -ℤ pos amount }
+
+-- a cancelling takes the amount out again; a clearing moves nothing
+abbrev pub cancelling : DepositState → ℕ → List Event
+cancelling deposit.Held amount = []
+cancelling (deposit.Cleared c) amount = []
+cancelling (deposit.Cancelled day) amount = paid_out day amount ∷ []
+
+-- an issue pays the amount out, a voiding takes it back
+abbrev pub payments : PaymentState → ℕ → List Event
+payments payment.Proposed amount = []
+payments payment.Declined amount = []
+payments (payment.Issued day) amount = paid_out day amount ∷ []
+payments (payment.Cleared c) amount = paid_out c.issued amount ∷ []
+payments (payment.Voided v) amount = paid_out v.issued amount ∷ received v.undone amount ∷ []
+
+-- what an entry has moved so far, in order
+unfoldable pub events_of : Entry → List Event
+events_of (entry.Deposit d) = received d.book d.amount ∷ cancelling d.state d.amount
+events_of (entry.Payment p) = payments p.state p.amount
+events_of (entry.Fee f) = []
+events_of (entry.Claim c) = []
+
+-- what an entry has moved that may not be there
+abbrev pub events_in : Option Entry → List Event
+events_in None = []
+events_in (Some e) = events_of e

@@ -1,0 +1,83 @@
+-- Who may ask what: a set of standings and rules, and the rule of each ask.
+use Rattle.std.specs.Prelude.{Bool, true, false, ◌&&◌, List, [], ◌∷◌, Option, Some, None}
+use Rattle.std.specs.List.{list_any}
+use Rattle.std.specs.Option.{option_map}
+use Rattle.trust_base.specs.declared.refusal.Rule.{Rule}
+use Rattle.trust_base.specs.declared.refusal.Rule.TheVariants as rule
+use Rattle.trust_matter.specs.declared.rows.Role.{Role}
+use Rattle.trust_matter.specs.declared.rows.Role.TheVariants as role
+use Rattle.trust_matter.specs.declared.rows.Seat.{Seat}
+use Rattle.trust_matter.specs.declared.asks.Caller.{Caller}
+use Rattle.trust_matter.specs.declared.asks.Caller.TheVariants as caller
+use Rattle.trust_matter.specs.declared.asks.Ask.{Ask}
+use Rattle.trust_matter.specs.declared.asks.Ask.TheVariants as ask
+use Rattle.trust_matter.specs.Rows.{role_in}
+
+-- what a caller is to a matter
+pub data Standing : Type 0 where
+  Client : Standing
+  Lawyer : Standing
+  Cashier : Standing
+
+-- the rule that an ask comes under
+abbrev pub rule_of : Ask → Rule
+rule_of (ask.OpenMatter a) = rule.Office
+rule_of (ask.AddSeat s) = rule.Office
+rule_of (ask.DropSeat p) = rule.Office
+rule_of (ask.Deposit a) = rule.Office
+rule_of (ask.CancelDeposit n) = rule.Office
+rule_of ask.Show = rule.Read
+rule_of (ask.ShowEntry n) = rule.Read
+
+-- the policy: each standing with each rule under which it may ask
+abbrev pub policy : List (Standing × Rule)
+policy =
+    (Client, rule.Read)
+    ∷ (Client, rule.Dispute)
+    ∷ (Lawyer, rule.Read)
+    ∷ (Lawyer, rule.Claim)
+    ∷ (Lawyer, rule.Propose)
+    ∷ (Lawyer, rule.Sign)
+    ∷ (Cashier, rule.Read)
+    ∷ (Cashier, rule.Claim)
+    ∷ (Cashier, rule.Propose)
+    ∷ (Cashier, rule.Office)
+    ∷ (Cashier, rule.Firm)
+    ∷ []
+
+abbrev pub same_standing : Standing → Standing → Bool
+same_standing Client Client = true
+same_standing Lawyer Lawyer = true
+same_standing Cashier Cashier = true
+same_standing _ _ = false
+
+abbrev pub same_rule : Rule → Rule → Bool
+same_rule rule.Read rule.Read = true
+same_rule rule.Dispute rule.Dispute = true
+same_rule rule.Claim rule.Claim = true
+same_rule rule.Propose rule.Propose = true
+same_rule rule.Sign rule.Sign = true
+same_rule rule.Office rule.Office = true
+same_rule rule.Firm rule.Firm = true
+same_rule _ _ = false
+
+-- the policy has this standing with this rule
+abbrev pub has : Standing → Rule → Bool
+has s r = list_any (λ p. same_standing p.0 s && same_rule p.1 r) policy
+
+abbrev pub standing_in : Role → Standing
+standing_in role.Client = Client
+standing_in role.Lawyer = Lawyer
+
+-- what the caller is to the matter; a person without a seat is nothing to it
+abbrev pub standing_of : List Seat → Caller → Option Standing
+standing_of seats caller.Cashier = Some Cashier
+standing_of seats (caller.Person p) = option_map standing_in (role_in seats p)
+
+abbrev pub some_has : Option Standing → Rule → Bool
+some_has None r = false
+some_has (Some s) r = has s r
+
+-- the policy allows the caller to ask under this rule
+abbrev pub allows : List Seat → Caller → Rule → Bool
+allows seats c r = some_has (standing_of seats c) r

@@ -1,0 +1,150 @@
+-- What an ask is answered and what it changes: a table of refusals, of which the least number is given.
+use Rattle.std.specs.Prelude.{◌≡◌, ℕ, Bool, List, [], ◌∷◌, ◌++◌, Option, Some, None, if◌then◌else◌, Result, Ok, Err}
+use Rattle.trust_base.specs.Limits.{IsAmount}
+use Rattle.trust_base.specs.declared.refusal.Refusal.{Refusal}
+use Rattle.trust_base.specs.declared.refusal.Refusal.TheVariants as refusals
+use Rattle.trust_matter.specs.declared.rows.Role.TheVariants as role
+use Rattle.trust_matter.specs.declared.rows.Head.{Head}
+use Rattle.trust_matter.specs.declared.rows.DepositState.TheVariants as deposit
+use Rattle.trust_matter.specs.declared.rows.Entry.{Entry}
+use Rattle.trust_matter.specs.declared.rows.Entry.TheVariants as entry
+use Rattle.trust_matter.specs.declared.asks.OpenAsk.{OpenAsk}
+use Rattle.trust_matter.specs.declared.asks.DepositAsk.{DepositAsk}
+use Rattle.trust_matter.specs.declared.asks.Ask.{Ask}
+use Rattle.trust_matter.specs.declared.asks.Ask.TheVariants as ask
+use Rattle.trust_matter.specs.declared.edits.Opening.{Opening}
+use Rattle.trust_matter.specs.declared.edits.Edit.{Edit}
+use Rattle.trust_matter.specs.declared.edits.Edit.TheVariants as edit
+use Rattle.trust_matter.specs.Rows.{Rows, last_of, next_number}
+use Rattle.trust_matter.specs.Policy.{rule_of}
+use Rattle.trust_matter.specs.Facts.{Facts, Asked, facts_of}
+use Rattle.trust_matter.specs.Conditions.{has_no_seat, is_not_allowed, is_opened_already, is_closed, goes_backwards, is_not_next, is_not_there, is_of_another_kind, is_in_another_state, has_a_seat_already, has_none_to_drop, would_lose_its_last_lawyer, is_repeat}
+use Rattle.trust_matter.specs.Changes.{MatterChange, IsChange, changed_by}
+
+-- The refusals.
+
+-- each refusal with its condition, in the order of their numbers: those that are tried of a repeat too
+abbrev pub early_conditions : Facts → Asked → List (Bool × Refusal)
+early_conditions f a =
+    (has_no_seat f a, refusals.NoMatter)
+    ∷ (is_not_allowed f a, refusals.NotAllowed (rule_of a.ask))
+    ∷ []
+
+-- and those behind
+abbrev pub later_conditions : Facts → Asked → List (Bool × Refusal)
+later_conditions f a =
+    (is_opened_already f a, refusals.AlreadyOpen)
+    ∷ (is_closed f a, refusals.Closed)
+    ∷ (goes_backwards f a, refusals.DateBackwards (last_of f.head))
+    ∷ (is_not_next f a, refusals.WrongNumber (next_number f.count))
+    ∷ (is_not_there f a, refusals.NoEntry)
+    ∷ (is_of_another_kind f a, refusals.WrongKind)
+    ∷ (is_in_another_state f a, refusals.WrongState)
+    ∷ (has_a_seat_already f a, refusals.SeatTaken)
+    ∷ (has_none_to_drop f a, refusals.NoSeat)
+    ∷ (would_lose_its_last_lawyer f a, refusals.LastLawyer)
+    ∷ []
+
+abbrev pub conditions : Facts → Asked → List (Bool × Refusal)
+conditions f a = early_conditions f a ++ later_conditions f a
+
+-- the conditions that are tried
+abbrev pub tried : Facts → Asked → List (Bool × Refusal)
+tried f a = if is_repeat f a then early_conditions f a else conditions f a
+
+-- the first whose condition holds
+abbrev pub first : List (Bool × Refusal) → Option Refusal
+first [] = None
+first (c ∷ cs) = if c.0 then Some c.1 else first cs
+
+abbrev pub refusal_of : Facts → Asked → Option Refusal
+refusal_of f a = first (tried f a)
+
+-- the refusal of an ask that comes through the early conditions
+abbrev pub late_refusal : Facts → Asked → Option Refusal
+late_refusal f a = if is_repeat f a then None else first (later_conditions f a)
+
+-- What changes.
+
+abbrev pub opening : OpenAsk → ℕ → Opening
+opening a day = record { head = record { client = a.client; opened = day; closed = None; last = day }; seat = record { person = a.lawyer; role = role.Lawyer } }
+
+abbrev pub deposit_of : DepositAsk → ℕ → Entry
+deposit_of a day = entry.Deposit (record { book = day; amount = a.amount; source = a.source; description = a.description; state = deposit.Held })
+
+abbrev pub cancelled : ℕ → Option Entry → ℕ → Edit
+cancelled n (Some (entry.Deposit d)) day = edit.Exchange (record { number = n; entry = entry.Deposit (record d { state = deposit.Cancelled day }) })
+cancelled n _ day = edit.Nothing
+
+-- what an ask changes that is neither refused nor a repeat
+abbrev pub edit_of : Ask → Option Entry → ℕ → Edit
+edit_of (ask.OpenMatter a) e day = edit.Open (opening a day)
+edit_of (ask.AddSeat s) e day = edit.Seat s
+edit_of (ask.DropSeat p) e day = edit.Unseat p
+edit_of (ask.Deposit a) e day = edit.Append (record { number = a.number; entry = deposit_of a day })
+edit_of (ask.CancelDeposit n) e day = cancelled n e day
+edit_of ask.Show e day = edit.Nothing
+edit_of (ask.ShowEntry n) e day = edit.Nothing
+
+-- what an accepted ask changes
+abbrev pub decided : Facts → Asked → Edit
+decided f a = if is_repeat f a then edit.Nothing else edit_of a.ask f.entry a.day
+
+-- the last day after an edit that was asked for
+abbrev pub last_after : Option Head → Edit → ℕ → ℕ
+last_after (Some h) edit.Nothing day = h.last
+last_after h _ day = day
+
+-- The step.
+
+-- the refusal of an ask
+abbrev pub refusal : Rows → Asked → Option Refusal
+refusal rows a = refusal_of (facts_of rows a.ask) a
+
+-- the edit of an ask that is not refused
+abbrev pub edit_on : Rows → Asked → Edit
+edit_on rows a = decided (facts_of rows a.ask) a
+
+abbrev pub after : Option Refusal → Edit → ℕ → Rows → Rows
+after None e day rows = changed_by e (last_after rows.head e day) rows
+after (Some r) e day rows = rows
+
+-- the rows after an ask
+abbrev pub rows_after : Rows → Asked → Rows
+rows_after rows a = after (refusal rows a) (edit_on rows a) a.day rows
+
+-- an amount in an ask is one
+abbrev pub HasAmount : Ask → Type 0
+HasAmount (ask.Deposit a) = IsAmount a.amount
+HasAmount _ = Unit {0}
+
+-- the ask is accepted, and the change is that of the rows
+pub record IsDecided (rows : Rows) (a : Asked) (c : MatterChange) : Type 0 where
+  pub accepted : refusal rows a ≡ None
+  pub edit : c.edit ≡ edit_on rows a
+  pub last : c.last ≡ last_after rows.head (edit_on rows a) a.day
+  pub change : IsChange rows c
+
+-- a refusal that may be answered: that of the ask, want of memory where it has none, and never a fault of the store
+abbrev pub MayRefuse : Option Refusal → Refusal → Type 0
+MayRefuse refused refusals.Memory = refused ≡ None
+MayRefuse refused refusals.Store = ⊥
+MayRefuse refused r = refused ≡ Some r
+
+-- what is answered: the change, the refusal, or want of memory where the ask is accepted
+abbrev pub Decides : Rows → Asked → Result MatterChange Refusal → Type 0
+Decides rows a (Ok c) = IsDecided rows a c
+Decides rows a (Err r) = MayRefuse (refusal rows a) r
+
+-- the refusal if there is one, else the edit or want of memory
+abbrev pub Answers : Option Refusal → Edit → Result Edit Refusal → Type 0
+Answers refused made (Ok e) = (refused ≡ None) × (e ≡ made)
+Answers refused made (Err r) = MayRefuse refused r
+
+-- what is answered of the edit, decided on facts
+abbrev pub Gives : Facts → Asked → Result Edit Refusal → Type 0
+Gives f a result = Answers (refusal_of f a) (decided f a) result
+
+-- the same of an ask that comes through the early conditions
+abbrev pub GivesLate : Facts → Asked → Result Edit Refusal → Type 0
+GivesLate f a result = Answers (late_refusal f a) (decided f a) result

@@ -1,0 +1,38 @@
+//! Laws over the definitions, each the contract of a function with nothing to do.
+
+ghost use Rattle.trust_matter.specs.Laws.{SoundForEver, LeastRefusal, NoneHolds, Covered, MadeStays, AtMostOnce, FullTakesNone};
+
+/// No ask leaves a matter unsound.
+pub fn sound_for_ever()
+    ensures { SoundForEver }
+{}
+
+/// A refusal is the one of the least number whose condition holds, and where none is given none holds, but
+/// for those that are not tried of a repeat.
+pub fn least_refusal()
+    ensures least { LeastRefusal }
+    ensures none { NoneHolds }
+{}
+
+/// In sound rows what the bank holds is what is available, disputed, left of fees and left of claims, and
+/// no balance is below zero.
+pub fn sound_is_covered()
+    ensures { Covered }
+{}
+
+/// No ask takes an entry away, or changes its kind, its day or what was asked: entries are only added, and
+/// change their state.
+pub fn made_stays()
+    ensures { MadeStays }
+{}
+
+/// An ask that makes an entry and was accepted changes nothing when it comes again, whatever was asked in
+/// between: it is a repeat.
+pub fn at_most_once()
+    ensures { AtMostOnce }
+{}
+
+/// A matter of 9,999 entries takes no other: what is no repeat is refused, and no next number is told.
+pub fn full_takes_none()
+    ensures { FullTakesNone }
+{}

@@ -1,0 +1,79 @@
+-- Whole matters that are kept one by one, by number, and the joined rows that they stand for.
+use Rattle.std.specs.Prelude.{ℕ, suc, ◌≡◌, ◌<◌, ◌==◌, nat_lt, List, [], ◌∷◌, ◌++◌, Option, Some, None, Result, Ok, Err, if◌then◌else◌, slice_get}
+use Rattle.std.specs.List.{AllByRecursion}
+use Rattle.trust_matter.specs.declared.matter.Kept as matter
+use Rattle.trust_matter.specs.Rows.{Rows, unopened}
+use Rattle.trust_matter.specs.Sound.{Sound}
+use Rattle.trust_matter.specs.Parts.{Part, IsWhole, entries_kept}
+use Rattle.trust_firm.specs.Firm.{Row, EntryRow, pairs}
+use Rattle.trust_store.specs.declared.plain.KeptMatter.{KeptMatter}
+
+-- the rows of a matter that keeps all its entries
+abbrev pub rows_kept : Part → Rows
+rows_kept part = record { head = part.head; seats = part.seats; entries = entries_kept part.kept }
+
+-- the rows of all matters, joined
+abbrev pub joined : List KeptMatter → List (ℕ × Row)
+joined [] = []
+joined (k ∷ ks) = pairs k.number (rows_kept k.matter) ++ joined ks
+
+-- kept entries as rows of a matter
+abbrev pub kept_pairs : ℕ → List matter.Kept → List (ℕ × Row)
+kept_pairs m [] = []
+kept_pairs m (k ∷ ks) = (m, EntryRow k.number k.entry) ∷ kept_pairs m ks
+
+-- Their order.
+
+-- the number is below each of theirs
+abbrev pub IsBefore : ℕ → List KeptMatter → Type 0
+IsBefore m [] = Unit {0}
+IsBefore m (k ∷ ks) = (m < k.number) × IsBefore m ks
+
+-- by number, each once
+abbrev pub Ascends : List KeptMatter → Type 0
+Ascends [] = Unit {0}
+Ascends (k ∷ ks) = IsBefore k.number ks × Ascends ks
+
+-- a sound matter that keeps all its entries
+pub record IsKeptWhole (k : KeptMatter) : Type 0 where
+  pub whole : IsWhole k.matter (rows_kept k.matter)
+  pub sound : Sound (rows_kept k.matter)
+
+-- sound matters with all their entries, by number, each once
+pub record AreKeptWhole (ks : List KeptMatter) : Type 0 where
+  pub ascends : Ascends ks
+  pub whole : AllByRecursion IsKeptWhole ks
+
+-- One of them.
+
+-- how many stand before the number
+abbrev pub place : ℕ → List KeptMatter → ℕ
+place m [] = 0
+place m (k ∷ ks) = if nat_lt k.number m then suc (place m ks) else 0
+
+-- where the matter of the number stands, or would stand
+abbrev pub told : ℕ → ℕ → Option KeptMatter → Result ℕ ℕ
+told m i None = Err i
+told m i (Some k) = if k.number == m then Ok i else Err i
+
+abbrev pub seek : ℕ → List KeptMatter → Result ℕ ℕ
+seek m ks = told m (place m ks) (slice_get ks (place m ks))
+
+-- the rows of the matter of the number
+abbrev pub rows_in : ℕ → List KeptMatter → Rows
+rows_in m [] = unopened
+rows_in m (k ∷ ks) = if nat_lt k.number m then rows_in m ks else (if k.number == m then rows_kept k.matter else unopened)
+
+-- with this for the matter of the number, in its place among the others
+abbrev pub kept_with : ℕ → Part → List KeptMatter → List KeptMatter
+kept_with m part [] = record { number = m; matter = part } ∷ []
+kept_with m part (k ∷ ks) =
+    if nat_lt k.number m
+    then k ∷ kept_with m part ks
+    else (if k.number == m then record { number = m; matter = part } ∷ ks else record { number = m; matter = part } ∷ k ∷ ks)
+
+-- the matter of the number is kept whole with these rows, and the others as they were
+pub record IsKeptAs (m : ℕ) (rows : Rows) (old new : List KeptMatter) : Type 0 where
+  pub part : Part
+  pub whole : IsWhole part rows
+  pub kept : new ≡ kept_with m part old

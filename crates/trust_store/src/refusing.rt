@@ -1,0 +1,117 @@
+// A book that refuses a write, for tests.
+
+ghost use Rattle.std.specs.Prelude.{◌≡◌, ◌==◌, ◌-◌};
+ghost use Rattle.trust_store.specs.Books.{counted_fault};
+
+use crate::Book;
+use std::alloc::Global;
+use trust_base::{EntryNo, MatterNo, StoreFault};
+use trust_firm::RowSink;
+use trust_matter::{Change, Edit, Matter};
+
+/// Answers Store to its nth write, and hands each other call on. A change that is nothing is no write.
+#[derive(Debug, Drop)]
+pub struct RefusingBook<B: Book> {
+    inner: B,
+    writes_left: u64,
+    refusals: u64,
+}
+
+impl<B: Book> RefusingBook<B> {
+    /// A book that refuses the nth write, and none where this is 0.
+    pub fn new(inner: B, nth: u64) -> RefusingBook<B>
+        ensures { result ≡ record { inner = inner; writes_left = nth; refusals = 0 } }
+    {
+        RefusingBook {
+            inner,
+            writes_left: nth,
+            refusals: 0,
+        }
+    }
+
+    /// The book that it hands its calls on to.
+    pub fn into_inner(self) -> B
+        ensures { result ≡ self.inner }
+    {
+        let RefusingBook {
+            inner,
+            writes_left: _,
+            refusals: _,
+        } = self;
+        inner
+    }
+}
+
+impl<B: Book> Book for RefusingBook<B> {
+    ghost firm = { λ b. B.firm b.inner };
+
+    ghost clean = { λ b. B.clean b.inner };
+
+    ghost refusals = { λ b. b.refusals };
+
+    fn matter(&mut self, alloc: Global, matter: MatterNo) -> Result<Matter, StoreFault> {
+        match self.inner.matter(alloc, matter) {
+            Ok(found) => Ok(found),
+            Err(fault) => Err(told(&mut self.refusals, fault)),
+        }
+    }
+
+    fn matter_for(
+        &mut self,
+        alloc: Global,
+        matter: MatterNo,
+        entry: Option<EntryNo>,
+        other: Option<EntryNo>,
+    ) -> Result<Matter, StoreFault> {
+        match self.inner.matter_for(alloc, matter, entry, other) {
+            Ok(found) => Ok(found),
+            Err(fault) => Err(told(&mut self.refusals, fault)),
+        }
+    }
+
+    fn write_change(
+        &mut self,
+        alloc: Global,
+        matter: MatterNo,
+        change: &Change,
+    ) -> Result<(), StoreFault> {
+        if let Edit::Nothing = change.edit() {
+            return Ok(());
+        }
+        if is_refused(&mut self.writes_left) {
+            return Err(told(&mut self.refusals, StoreFault::Store));
+        }
+        match self.inner.write_change(alloc, matter, change) {
+            Ok(()) => Ok(()),
+            Err(fault) => Err(told(&mut self.refusals, fault)),
+        }
+    }
+
+    fn each_row<S: RowSink>(&mut self, sink: &mut S) -> Result<(), StoreFault> {
+        match self.inner.each_row(sink) {
+            Ok(()) => Ok(()),
+            Err(fault) => Err(told(&mut self.refusals, fault)),
+        }
+    }
+}
+
+// Whether a write is the one to be refused, where so many are left up to that one.
+fn is_refused(writes_left: &mut u64) -> bool
+    ensures refused { result ≡ (writes_left.old == 1) }
+    ensures counted { writes_left.new ≡ writes_left.old - 1 }
+{
+    let refused = *writes_left == 1;
+    *writes_left = writes_left.saturating_sub(1);
+    refused
+}
+
+// Counts a fault that is told.
+fn told(refusals: &mut u64, fault: StoreFault) -> StoreFault
+    ensures same { result ≡ fault }
+    ensures count { refusals.new ≡ counted_fault fault refusals.old }
+{
+    if fault == StoreFault::Store {
+        *refusals = refusals.saturating_add(1);
+    }
+    fault
+}
