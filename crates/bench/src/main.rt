@@ -1,12 +1,15 @@
-//! Books deposits at the desk. With the argument `deposits` it measures what one of them takes.
+//! Books deposits at the desk. With the argument `deposits` it measures what one of them takes. With `statement 1` or
+//! `statement 4` it imports a statement of the bank of nearly so many mebibytes, so that the memory of that can be measured.
 #![tactic(auto)]
 
 mod deposits;
 mod measuring;
+mod statement;
 
 use anyhow::{Context, Result};
 use deposits::Load;
 use measuring::{booked, middle_of_three};
+use statement::imported;
 use std::rt::{Clock, Env};
 use trust_base::Day;
 
@@ -41,12 +44,32 @@ fn measure(rt: &(impl AllocGlobal + Clock + Print), day: Day) -> Result<()> {
     Ok(())
 }
 
+const MEBIBYTE: usize = 1_048_576;
+
+// Imports a statement and prints what became of its lines.
+fn import(rt: &(impl AllocGlobal + Print), len: usize, day: Day) -> Result<()> {
+    let reply = imported(rt.alloc(), len, day)?;
+    println!(rt;
+        "statement of at most {len} bytes: {} applied, {} repeated",
+        reply.applied, reply.repeated
+    )?;
+    Ok(())
+}
+
+fn has(words: &[String], wanted: &str) -> bool {
+    words.iter().any(|word| word.as_str() == wanted)
+}
+
 fn run(rt: &(impl AllocGlobal + Clock + Env + Print)) -> Result<()> {
     let alloc = rt.alloc();
     let day = Day::read(b"2024-01-10").context("a day")?;
     let words: Vec<String> = std::env::args(rt)?.collect(alloc)?;
-    if words.iter().any(|word| word.as_str() == "deposits") {
+    if has(&words, "deposits") {
         return measure(rt, day);
+    }
+    if has(&words, "statement") {
+        let mebibytes = if has(&words, "4") { 4 } else { 1 };
+        return import(rt, mebibytes * MEBIBYTE, day);
     }
     let done = booked(rt, alloc, SMALL, day)?.booked;
     println!(rt;

@@ -30,8 +30,8 @@ fn is_made(reply: &Reply) -> bool {
     reply.status == 201
 }
 
-// Fails where a request of a run was not answered, or refused.
-fn all_made(ended: &RunEnd) -> Result<()> {
+/// Fails where a request of a run was not answered, or refused.
+pub fn all_made(ended: &RunEnd) -> Result<()> {
     ensure!(ended.end == End::Done, "memory was refused");
     ensure!(ended.replies.iter().all(is_made), "a request was refused");
     Ok(())

@@ -4,11 +4,9 @@ use Rattle.std.specs.List.{filter}
 use Rattle.trust_base.specs.Texts.{matter_of}
 use Rattle.trust_base.specs.declared.refusal.Field.{Field}
 use Rattle.trust_matter.specs.declared.asks.Ask.{Ask}
-use Rattle.trust_matter.specs.Rows.{Rows}
 use Rattle.trust_firm.specs.Firm.{Firm, of}
-use Rattle.trust_desk.specs.Heard.{is_the, names, own_of}
-use Rattle.trust_desk.specs.Solo.{own_reply, own_rows}
-use Rattle.trust_desk.proofs.Own.{other-rows, own-reply, own-rows}
+use Rattle.trust_desk.specs.Heard.{concerns, is_the, names}
+use Rattle.trust_desk.proofs.Own.{other-rows, same-reply, same-rows}
 use Rattle.cashier_cli.specs.Records.{ask_of, asked_of, by_cashier, of_matter, of_verb, text_at, verb_in}
 use Rattle.cashier_cli.specs.Sheet.{OwnRecordsAlone, heard_as, heard_of, lines_at, lines_from, names_matter, record_step, reply_line}
 use Rattle.cashier_cli.specs.declared.record.Verb.{Verb}
@@ -31,23 +29,34 @@ same_matter : (m : ℕ) (fields : List (List ℕ)) → names m (heard_of fields)
 unfolding heard_of asked_of
 same_matter m fields = of_some m (verb_in fields) fields
 
+-- and so is the matter that it concerns
+concerned_by_cashier : (m n : ℕ) (asked : Result Ask Field) → concerns m (heard_as (by_cashier n asked) (Some n)) ≡ is_the m (Some n)
+concerned_by_cashier m n (Err f) = refl
+concerned_by_cashier m n (Ok a) = refl
+
+concerned_read : (m : ℕ) (read : Option ℕ) (asked : Result Ask Field) → concerns m (heard_as (of_matter read asked) read) ≡ is_the m read
+concerned_read m None asked = refl
+concerned_read m (Some n) asked = concerned_by_cashier m n asked
+
+concerned_some : (m : ℕ) (verb : Option Verb) (fields : List (List ℕ)) → concerns m (heard_as (of_verb verb fields) (matter_of (text_at fields 1))) ≡ names_matter m fields
+concerned_some m None fields = refl
+concerned_some m (Some v) fields = concerned_read m (matter_of (text_at fields 1)) (ask_of v fields)
+
+same_concern : (m : ℕ) (fields : List (List ℕ)) → concerns m (heard_of fields) ≡ names_matter m fields
+unfolding heard_of asked_of
+same_concern m fields = concerned_some m (verb_in fields) fields
+
 -- ---- one record
 
 own_line : (m day : ℕ) (f g : Firm) (r : List (List ℕ)) → names_matter m r ≡ true → of m f ≡ of m g
     → reply_line (record_step day f r).reply ≡ reply_line (record_step day g r).reply
-own_line m day f g r e same =
-    let named = same_matter m r ∙ e in
-    let reply = own-reply m day f (heard_of r) named ∙ ap (λ (rows : Rows). own_reply m rows (own_of day (heard_of r))) same ∙ sym (own-reply m day g (heard_of r) named) in
-    ap reply_line reply
+own_line m day f g r e same = ap reply_line (same-reply m day f g (heard_of r) (same_matter m r ∙ e) same)
 
-own_firm : (m day : ℕ) (f g : Firm) (r : List (List ℕ)) → names_matter m r ≡ true → of m f ≡ of m g
-    → of m (record_step day f r).firm ≡ of m (record_step day g r).firm
-own_firm m day f g r e same =
-    let named = same_matter m r ∙ e in
-    own-rows m day f (heard_of r) named ∙ ap (λ (rows : Rows). own_rows rows (own_of day (heard_of r))) same ∙ sym (own-rows m day g (heard_of r) named)
+own_firm : (m day : ℕ) (f g : Firm) (r : List (List ℕ)) → of m f ≡ of m g → of m (record_step day f r).firm ≡ of m (record_step day g r).firm
+own_firm m day f g r same = same-rows m day f g (heard_of r) same
 
 other_firm : (m day : ℕ) (f g : Firm) (r : List (List ℕ)) → names_matter m r ≡ false → of m f ≡ of m g → of m (record_step day f r).firm ≡ of m g
-other_firm m day f g r e same = other-rows m day f (heard_of r) (same_matter m r ∙ e) ∙ same
+other_firm m day f g r e same = other-rows m day f (heard_of r) (same_concern m r ∙ e) ∙ same
 
 -- ---- all records
 
@@ -63,7 +72,7 @@ solo m day (r ∷ rest) f g same = by (names_matter m r) refl (solo m day rest)
     by true e more =
         rw e (
         ap (λ (line : List ℕ). line ∷ lines_at (names_matter m) rest (lines_from day (record_step day f r).firm rest)) (own_line m day f g r e same)
-        ∙ ap (λ (lines : List (List ℕ)). reply_line (record_step day g r).reply ∷ lines) (more (record_step day f r).firm (record_step day g r).firm (own_firm m day f g r e same))
+        ∙ ap (λ (lines : List (List ℕ)). reply_line (record_step day g r).reply ∷ lines) (more (record_step day f r).firm (record_step day g r).firm (own_firm m day f g r same))
         )
     by false e more = rw e (more (record_step day f r).firm g (other_firm m day f g r e same))
 

@@ -1,3 +1,4 @@
 pub mod IsolationFacts
 pub mod LineFacts
 pub mod SheetFacts
+pub mod StatementFacts

@@ -1,5 +1,6 @@
 -- What the lines of a sheet are, record after record.
 use Rattle.std.proofs.Common.{◌≡◌, ◌∙◌, ◌<◌, ◌≤◌, ◌+◌, ◌++◌, nat_lt, IfSome, ◌∷◌, ◌&&◌, ◌||◌, not, cond, ℕ, Bool, true, false, List, [], length, take, Option, Some, None, Result, Ok, Err, refl, sym, ap, arith, append_assoc, length-append}
+use Rattle.std.specs.Prelude.{⊤}
 use Rattle.std.proofs.Math.Seq.{take-append-add, take-append_seam}
 use Rattle.std.proofs.KnownBytes.{Appends-trans}
 use Rattle.std.proofs.lemmas.Bool.Decides.{nat_tests}
@@ -20,8 +21,10 @@ use Rattle.trust_desk.specs.declared.requests.Body.{Body}
 use Rattle.trust_desk.specs.declared.requests.Body.TheVariants.{Json, Refused}
 use Rattle.trust_desk.specs.declared.requests.Reply.{Reply}
 use Rattle.trust_desk.specs.declared.requests.Request.{Request}
-use Rattle.trust_desk.specs.declared.requests.Request.TheVariants.{Matter}
-use Rattle.cashier_cli.specs.Records.{Reads, asked_of, text_at}
+use Rattle.trust_desk.specs.declared.requests.Request.TheVariants.{Import, Matter}
+use Rattle.trust_matter.specs.declared.asks.Ask.{Ask}
+use Rattle.cashier_cli.specs.Records.{Reads, ask_of, asked_of, by_cashier, of_matter, of_verb, text_at, verb_in}
+use Rattle.cashier_cli.specs.declared.record.Verb.{Verb}
 use Rattle.cashier_cli.specs.Sheet.{Cut, CutsLine, Ends, LargeEnds, Leaves, RunEnds, SHEET_LIMIT, sheet_records, all_accepted, body_line, body_verdict, firm_from, heard_as, heard_of, is_accepting, lines_from, record_step, refusal_line, reply_line, verdict_on}
 use Rattle.cashier_cli.specs.declared.sheet.SheetEnd.{SheetEnd}
 use Rattle.cashier_cli.specs.declared.verdict.Verdict.TheVariants as verdict
@@ -93,24 +96,50 @@ heard-bad : (fields : List (List ℕ)) (f : Field) → asked_of fields ≡ Err f
 unfolding heard_of
 heard-bad fields f e = ap (λ (o : Result Request Field). heard_as o (matter_of (text_at fields 1))) e
 
-stopped-same : (firm : Firm) (h : Heard) → Stopped firm h firm
-stopped-same firm (Asks (Matter m caller a)) = refl
-stopped-same firm (Unread named r) = refl
+-- what is heard is of one matter, or names one or none: no import
+abbrev IsNoImport : Heard → Type 0
+IsNoImport (Asks (Matter m caller a)) = ⊤
+IsNoImport (Asks (Import caller statement)) = ⊥
+IsNoImport (Unread named r) = ⊤
+
+-- no record asks for an import
+by_cashier-none : (n : ℕ) (asked : Result Ask Field) (named : Option ℕ) → IsNoImport (heard_as (by_cashier n asked) named)
+by_cashier-none n (Err f) named = tt
+by_cashier-none n (Ok a) named = tt
+
+of_matter-none : (read : Option ℕ) (asked : Result Ask Field) (named : Option ℕ) → IsNoImport (heard_as (of_matter read asked) named)
+of_matter-none None asked named = tt
+of_matter-none (Some n) asked named = by_cashier-none n asked named
+
+of_verb-none : (verb : Option Verb) (fields : List (List ℕ)) (named : Option ℕ) → IsNoImport (heard_as (of_verb verb fields) named)
+of_verb-none None fields named = tt
+of_verb-none (Some v) fields named = of_matter-none (matter_of (text_at fields 1)) (ask_of v fields) named
+
+record-none : (fields : List (List ℕ)) → IsNoImport (heard_of fields)
+unfolding heard_of asked_of
+record-none fields = of_verb-none (verb_in fields) fields (matter_of (text_at fields 1))
+
+stopped-same : (day : ℕ) (firm : Firm) (h : Heard) → IsNoImport h → Stopped day firm h firm
+stopped-same day firm (Asks (Matter m caller a)) none = refl
+stopped-same day firm (Asks (Import caller statement)) none = absurd none
+stopped-same day firm (Unread named r) none = refl
 
 -- a record that could not be read is refused, and changes nothing
 pub refused-step : (day : ℕ) (firm : Firm) (fields : List (List ℕ)) (r : Refusal) → Reads (asked_of fields) (Err r) → Steps day firm (heard_of fields) (refused r) firm
 refused-step day firm fields (BadField f) h = rw (heard-bad fields f h) (refl, refl)
-refused-step day firm fields Memory h = stopped-same firm (heard_of fields)
+refused-step day firm fields Memory h = stopped-same day firm (heard_of fields) (record-none fields)
 refused-step day firm fields _ h = absurd h
 
 -- ---- verdicts
 
-stopped-is : (firm after : Firm) (h : Heard) → Stopped firm h after → after ≡ firm
-stopped-is firm after (Asks (Matter m caller a)) s = s
-stopped-is firm after (Unread named r) s = s
+stopped-is : (day : ℕ) (firm after : Firm) (h : Heard) → IsNoImport h → Stopped day firm h after → after ≡ firm
+stopped-is day firm after (Asks (Matter m caller a)) none s = s
+stopped-is day firm after (Asks (Import caller statement)) none s = absurd none
+stopped-is day firm after (Unread named r) none s = s
 
-steps-fault : (day : ℕ) (firm after : Firm) (h : Heard) (reply : Reply) → is_fault_reply reply ≡ true → Steps day firm h reply after → after ≡ firm
-steps-fault day firm after h reply e steps = stopped-is firm after h (rw e at steps)
+steps-fault : (day : ℕ) (firm after : Firm) (fields : List (List ℕ)) (reply : Reply) → is_fault_reply reply ≡ true → Steps day firm (heard_of fields) reply after
+    → after ≡ firm
+steps-fault day firm after fields reply e steps = stopped-is day firm after (heard_of fields) (record-none fields) (rw e at steps)
 
 steps-plain : (day : ℕ) (firm after : Firm) (h : Heard) (reply : Reply) → is_fault_reply reply ≡ false → Steps day firm h reply after
     → (reply ≡ (firm_step day firm h).reply) × (after ≡ (firm_step day firm h).firm)
@@ -208,7 +237,7 @@ stops day before firm after past r old mid new reply off fault (written, is, was
     let line : reply_line reply ≡ refusal_line fault = ap (body_line reply.status) body in
     record {
       written = Appends-trans old mid new _ _ written (rw line at sent);
-      firm = steps-fault day firm after (heard_of r) reply (ap is_fault_body body ∙ e) steps ∙ is;
+      firm = steps-fault day firm after r reply (ap is_fault_body body ∙ e) steps ∙ is;
     }
 
 -- whole lines of the first records

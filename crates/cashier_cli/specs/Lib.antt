@@ -2,3 +2,4 @@ pub mod Outcome
 pub mod Program
 pub mod Records
 pub mod Sheet
+pub mod Statement

@@ -1,10 +1,12 @@
 -- How a run of the program ends for its caller: the exit status and the notice on standard error.
-use Rattle.std.specs.Prelude.{◌≡◌, ◌⊎◌, ℕ, List, [], Option, Some, None, codes, ⊤}
+use Rattle.std.specs.Prelude.{◌≡◌, ◌⊎◌, ℕ, List, [], Option, Some, None, IfSome, codes, ⊤}
+use Rattle.std.specs.Borrow.{Bor}
 use Rattle.std.specs.Io.KnownBytes.{Appends}
 use Rattle.clap.specs.Words.{Text}
 use Rattle.trust_firm.specs.Firm.{Firm}
 use Rattle.cashier_cli.specs.Program.{Means}
 use Rattle.cashier_cli.specs.Sheet.{Ends}
+use Rattle.cashier_cli.specs.Statement.{StatementEnds}
 use Rattle.cashier_cli.specs.declared.command.Task.TheVariants as task
 use Rattle.cashier_cli.specs.declared.outcome.Outcome.{Outcome}
 use Rattle.cashier_cli.specs.declared.outcome.Outcome.TheVariants as outcome
@@ -12,6 +14,8 @@ use Rattle.std.specs.declared.io.ErrorKind.{ErrorKind}
 use Rattle.std.specs.declared.io.ErrorKind.TheVariants as kind
 use Rattle.cashier_cli.specs.declared.sheet.SheetEnd.{SheetEnd}
 use Rattle.cashier_cli.specs.declared.sheet.SheetEnd.TheVariants as sheet
+use Rattle.cashier_cli.specs.declared.statement.StatementEnd.{StatementEnd}
+use Rattle.cashier_cli.specs.declared.statement.StatementEnd.TheVariants as statement
 
 -- 0 done, 1 something was refused, 2 the command line, 3 a fault
 abbrev pub exit_status : Outcome → ℕ
@@ -26,7 +30,7 @@ exit_status outcome.MemoryFault = 3
 abbrev pub notice : Outcome → Option (List ℕ)
 notice outcome.Done = None
 notice outcome.Refused = None
-notice outcome.CommandLine = Some (codes "usage: cashier_cli --today DAY sheet")
+notice outcome.CommandLine = Some (codes "usage: cashier_cli --today DAY (sheet | import FILE)")
 notice outcome.FileFault = Some (codes "file fault")
 notice outcome.StoreFault = Some (codes "store fault")
 notice outcome.MemoryFault = Some (codes "memory fault")
@@ -45,6 +49,15 @@ sheet_outcome sheet.WriteFault = outcome.FileFault
 sheet_outcome sheet.Store = outcome.StoreFault
 sheet_outcome sheet.NoMemory = outcome.MemoryFault
 
+-- what the end of an import is to the program
+abbrev pub statement_outcome : StatementEnd → Outcome
+statement_outcome statement.Done = outcome.Done
+statement_outcome statement.Refused = outcome.Refused
+statement_outcome statement.ReadFault = outcome.FileFault
+statement_outcome statement.WriteFault = outcome.FileFault
+statement_outcome statement.Store = outcome.StoreFault
+statement_outcome statement.NoMemory = outcome.MemoryFault
+
 -- the words were understood, and their task began
 abbrev pub HasBegun : Outcome → Type 0
 HasBegun outcome.Done = ⊤
@@ -54,13 +67,37 @@ HasBegun outcome.FileFault = ⊤
 HasBegun outcome.StoreFault = ⊤
 HasBegun outcome.MemoryFault = ⊥
 
+-- the file of a path was not opened, and nothing was done
+pub record IsUnopened (before after : Firm) (old new : Option (List ℕ)) (told : Outcome) : Type 0 where
+  pub outcome : told ≡ outcome.FileFault
+  pub written : Appends old new []
+  pub firm : after ≡ before
+
+-- the statement of these bytes, where they are known, was imported, and that ended with this outcome
+pub record IsImported (day : ℕ) (before : Firm) (bytes : Option (List ℕ)) (after : Firm) (old new : Option (List ℕ)) (told : Outcome) : Type 0 where
+  pub size : Option ℕ
+  pub end : StatementEnd
+  pub outcome : statement_outcome end ≡ told
+  pub ends : StatementEnds day before size bytes after old new end
+
+-- what became of a file that is to be imported
+abbrev pub FileEnds : ℕ → Firm → Option (List ℕ) → Firm → Option (List ℕ) → Option (List ℕ) → Outcome → Type 0
+FileEnds day before bytes after old new told = IsImported day before bytes after old new told ⊎ IsUnopened before after old new told
+
 -- the words mean that a sheet is run on a day, and it ended with that outcome
-pub record RanSheet (words : List Text) (bytes : List ℕ) (before after : Firm) (old new : Option (List ℕ)) (told : Outcome) : Type 0 where
+pub record RanSheet (words : List Text) (input : Option (List ℕ)) (before after : Firm) (old new : Option (List ℕ)) (told : Outcome) : Type 0 where
   pub today : ℕ
   pub means : Means words today task.Sheet
   pub end : SheetEnd
   pub outcome : sheet_outcome end ≡ told
-  pub ends : Ends today before bytes after old new end
+  pub ends : IfSome input (λ bytes. Ends today before bytes after old new end)
+
+-- the words mean that the statement of a path is imported on a day, and that ended with that outcome
+pub record RanImport (words : List Text) (known : Text → Option (List ℕ)) (before after : Firm) (old new : Option (List ℕ)) (told : Outcome) : Type 0 where
+  pub today : ℕ
+  pub path : Bor (List ℕ)
+  pub means : Means words today (task.Import path)
+  pub ends : FileEnds today before (known path.now) after old new told
 
 -- memory was refused before anything was run
 pub record RanNothing (before after : Firm) (old new : Option (List ℕ)) (told : Outcome) : Type 0 where
@@ -68,6 +105,7 @@ pub record RanNothing (before after : Firm) (old new : Option (List ℕ)) (told 
   pub written : Appends old new []
   pub firm : after ≡ before
 
--- what became of the words, the sheet on standard input and the firm
-abbrev pub Ran : List Text → List ℕ → Firm → Firm → Option (List ℕ) → Option (List ℕ) → Outcome → Type 0
-Ran words bytes before after old new told = RanSheet words bytes before after old new told ⊎ RanNothing before after old new told
+-- what became of the words, the sheet on standard input, the files of paths and the firm
+abbrev pub Ran : List Text → Option (List ℕ) → (Text → Option (List ℕ)) → Firm → Firm → Option (List ℕ) → Option (List ℕ) → Outcome → Type 0
+Ran words input known before after old new told =
+    RanSheet words input before after old new told ⊎ (RanImport words known before after old new told ⊎ RanNothing before after old new told)

@@ -1,10 +1,11 @@
 -- What a record of a day sheet asks.
-use Rattle.std.specs.Prelude.{◌≡◌, ℕ, Bool, true, false, ◌&&◌, ◌||◌, ◌==◌, List, [], length, codes, Option, Some, None, unwrap_or, Result, Ok, Err, if◌then◌else◌, ⊤}
+use Rattle.std.specs.Prelude.{◌≡◌, ℕ, Bool, true, false, ◌&&◌, ◌||◌, ◌==◌, List, [], length, codes, Option, Some, None, option_map, unwrap_or, Result, Ok, Err, if◌then◌else◌, ⊤}
 use Rattle.std.specs.List.{list_all}
+use Rattle.std.specs.Option.{ok_or}
 use Rattle.std.specs.Str.{bytes_eq, is_utf8}
 use Rattle.csv.specs.Records.{field_at}
 use Rattle.trust_base.specs.Names.{label_of, person_of}
-use Rattle.trust_base.specs.Texts.{amount_of, entry_of, matter_of}
+use Rattle.trust_base.specs.Texts.{amount_of, amount_or_zero_of, entry_of, matter_of}
 use Rattle.trust_base.specs.declared.refusal.Field.{Field}
 use Rattle.trust_base.specs.declared.refusal.Field.TheVariants as field
 use Rattle.trust_base.specs.declared.refusal.Refusal.{Refusal}
@@ -12,6 +13,9 @@ use Rattle.trust_base.specs.declared.refusal.Refusal.TheVariants.{BadField, Memo
 use Rattle.trust_matter.specs.declared.asks.Ask.{Ask}
 use Rattle.trust_matter.specs.declared.asks.Ask.TheVariants as ask
 use Rattle.trust_matter.specs.declared.asks.Caller.TheVariants.{Cashier}
+use Rattle.trust_matter.specs.declared.rows.Against.TheVariants as against
+use Rattle.trust_matter.specs.declared.rows.Fund.{Fund}
+use Rattle.trust_matter.specs.declared.rows.Fund.TheVariants as fund
 use Rattle.trust_matter.specs.declared.rows.Role.{Role}
 use Rattle.trust_matter.specs.declared.rows.Role.TheVariants as role
 use Rattle.trust_desk.specs.Values.{role_name}
@@ -30,6 +34,9 @@ verb_of bs =
     else if bytes_eq bs (codes "drop") then Some verb.Drop
     else if bytes_eq bs (codes "deposit") then Some verb.Deposit
     else if bytes_eq bs (codes "cancel") then Some verb.Cancel
+    else if bytes_eq bs (codes "propose") then Some verb.Propose
+    else if bytes_eq bs (codes "claim") then Some verb.Claim
+    else if bytes_eq bs (codes "award") then Some verb.Award
     else if bytes_eq bs (codes "entry") then Some verb.Entry
     else if bytes_eq bs (codes "show") then Some verb.Show
     else None
@@ -41,6 +48,9 @@ count_of verb.Seat = 5
 count_of verb.Drop = 4
 count_of verb.Deposit = 6
 count_of verb.Cancel = 3
+count_of verb.Propose = 9
+count_of verb.Claim = 6
+count_of verb.Award = 4
 count_of verb.Entry = 3
 count_of verb.Show = 3
 
@@ -51,6 +61,9 @@ names_entry verb.Seat = false
 names_entry verb.Drop = false
 names_entry verb.Deposit = true
 names_entry verb.Cancel = true
+names_entry verb.Propose = true
+names_entry verb.Claim = true
+names_entry verb.Award = true
 names_entry verb.Entry = true
 names_entry verb.Show = false
 
@@ -109,6 +122,50 @@ abbrev pub cancelling : Option ℕ → Result Ask Field
 cancelling None = Err field.Entry
 cancelling (Some number) = Ok (ask.CancelDeposit number)
 
+-- the general fund, which is of no entry
+abbrev pub general_of : List ℕ → Option Fund
+general_of of = if length of == 0 then Some fund.General else None
+
+-- the fund of a payment: its kind is told first, and then the entry that it is of
+abbrev pub fund_in : List ℕ → List ℕ → Result Fund Field
+fund_in from of =
+    if bytes_eq from (codes "general") then ok_or (general_of of) field.Of
+    else if bytes_eq from (codes "fee") then ok_or (option_map fund.Fee (entry_of of)) field.Of
+    else if bytes_eq from (codes "claim") then ok_or (option_map fund.Claim (entry_of of)) field.Of
+    else Err field.From
+
+-- to propose a payment of an amount from a fund, to a payee, for a purpose, by an instrument
+abbrev pub proposing : Option ℕ → Option ℕ → Result Fund Field → Option (List ℕ) → Option (List ℕ) → Option (List ℕ) → Result Ask Field
+proposing None amount from payee purpose instrument = Err field.Entry
+proposing (Some number) None from payee purpose instrument = Err field.Amount
+proposing (Some number) (Some amount) (Err f) payee purpose instrument = Err f
+proposing (Some number) (Some amount) (Ok from) None purpose instrument = Err field.Payee
+proposing (Some number) (Some amount) (Ok from) (Some payee) None instrument = Err field.Purpose
+proposing (Some number) (Some amount) (Ok from) (Some payee) (Some purpose) None = Err field.Instrument
+proposing (Some number) (Some amount) (Ok from) (Some payee) (Some purpose) (Some instrument) =
+    Ok (ask.Propose (record { number = number; amount = amount; fund = from; payee = payee; purpose = purpose; instrument = instrument }))
+
+-- the same, by the fields of a record
+abbrev pub proposing_in : List (List ℕ) → Result Ask Field
+proposing_in fields =
+    proposing (entry_of (text_at fields 2)) (amount_of (text_at fields 3)) (fund_in (text_at fields 4) (text_at fields 5))
+    (label_of (text_at fields 6)) (label_of (text_at fields 7)) (label_of (text_at fields 8))
+
+-- to raise a claim of an amount on the general fund, by a claimant, for a reason
+abbrev pub claiming : Option ℕ → Option ℕ → Option (List ℕ) → Option (List ℕ) → Result Ask Field
+claiming None amount claimant reason = Err field.Entry
+claiming (Some number) None claimant reason = Err field.Amount
+claiming (Some number) (Some amount) None reason = Err field.Claimant
+claiming (Some number) (Some amount) (Some claimant) None = Err field.Reason
+claiming (Some number) (Some amount) (Some claimant) (Some reason) =
+    Ok (ask.RaiseClaim (record { number = number; amount = amount; against = against.General claimant; reason = reason }))
+
+-- to award a part of the claim of that number to the client
+abbrev pub awarding : Option ℕ → Option ℕ → Result Ask Field
+awarding None part = Err field.Entry
+awarding (Some number) None = Err field.ToClient
+awarding (Some number) (Some part) = Ok (ask.Award (record { number = number; to_client = part }))
+
 -- to show the entry of that number
 abbrev pub showing : Option ℕ → Result Ask Field
 showing None = Err field.Entry
@@ -121,6 +178,9 @@ ask_of verb.Seat fields = seating (person_of (text_at fields 3)) (role_of (text_
 ask_of verb.Drop fields = dropping (person_of (text_at fields 3))
 ask_of verb.Deposit fields = depositing (entry_of (text_at fields 2)) (amount_of (text_at fields 3)) (label_of (text_at fields 4)) (label_of (text_at fields 5))
 ask_of verb.Cancel fields = cancelling (entry_of (text_at fields 2))
+ask_of verb.Propose fields = proposing_in fields
+ask_of verb.Claim fields = claiming (entry_of (text_at fields 2)) (amount_of (text_at fields 3)) (label_of (text_at fields 4)) (label_of (text_at fields 5))
+ask_of verb.Award fields = awarding (entry_of (text_at fields 2)) (amount_or_zero_of (text_at fields 3))
 ask_of verb.Entry fields = showing (entry_of (text_at fields 2))
 ask_of verb.Show fields = Ok ask.Show
 

@@ -1,9 +1,10 @@
 // How a run of the program ends.
 
 ghost use Rattle.std.specs.Prelude.{◌≡◌, option_map};
-ghost use Rattle.cashier_cli.specs.Outcome.{exit_status, notice, sheet_outcome, words_outcome};
+ghost use Rattle.cashier_cli.specs.Outcome.{exit_status, notice, sheet_outcome, statement_outcome, words_outcome};
 
 use crate::sheet::SheetEnd;
+use crate::statement::StatementEnd;
 use std::io::ErrorKind;
 
 /// How a run of the program ended.
@@ -41,7 +42,7 @@ pub fn notice_of(outcome: Outcome) -> Option<&'static str>
 {
     match outcome {
         Outcome::Done | Outcome::Refused => None,
-        Outcome::CommandLine => Some("usage: cashier_cli --today DAY sheet"),
+        Outcome::CommandLine => Some("usage: cashier_cli --today DAY (sheet | import FILE)"),
         Outcome::FileFault => Some("file fault"),
         Outcome::StoreFault => Some("store fault"),
         Outcome::MemoryFault => Some("memory fault"),
@@ -68,5 +69,18 @@ pub fn outcome_of_sheet(end: SheetEnd) -> Outcome
         SheetEnd::ReadFault | SheetEnd::WriteFault => Outcome::FileFault,
         SheetEnd::Store => Outcome::StoreFault,
         SheetEnd::NoMemory => Outcome::MemoryFault,
+    }
+}
+
+/// The outcome of an import.
+pub fn outcome_of_statement(end: StatementEnd) -> Outcome
+    ensures { result ≡ statement_outcome end }
+{
+    match end {
+        StatementEnd::Done => Outcome::Done,
+        StatementEnd::Refused => Outcome::Refused,
+        StatementEnd::ReadFault | StatementEnd::WriteFault => Outcome::FileFault,
+        StatementEnd::Store => Outcome::StoreFault,
+        StatementEnd::NoMemory => Outcome::MemoryFault,
     }
 }

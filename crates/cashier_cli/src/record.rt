@@ -1,23 +1,26 @@
 // One record of a day sheet.
 
-ghost use Rattle.std.specs.Prelude.{◌≡◌, [], unwrap_or};
+ghost use Rattle.std.specs.Prelude.{◌≡◌};
 ghost use Rattle.std.specs.List.{list_all};
 ghost use Rattle.std.specs.Str.{is_utf8};
-ghost use Rattle.csv.specs.Records.{field_at, fields_of};
-ghost use Rattle.trust_base.specs.Names.{label_of, person_of};
-ghost use Rattle.trust_base.specs.Texts.{amount_of, entry_of};
+ghost use Rattle.csv.specs.Records.{fields_of};
 ghost use Rattle.trust_firm.specs.FirmSound.{FirmSound};
 ghost use Rattle.trust_desk.specs.Counts.{counted_reply};
 ghost use Rattle.trust_desk.specs.FirmStep.{Steps};
 ghost use Rattle.cashier_cli.specs.Records as spec;
-ghost use Rattle.cashier_cli.specs.Records.{Reads, ask_of, asked_of, cancelling, depositing, dropping, opening, seating, showing, verb_in, verb_of};
+ghost use Rattle.cashier_cli.specs.Records.{Reads, ask_of, asked_of, verb_in, verb_of};
 ghost use Rattle.cashier_cli.specs.Sheet.{heard_of};
 
+use crate::fields::{bad, field_bytes};
+use crate::record_asks::{
+    read_awarding, read_cancelling, read_claiming, read_depositing, read_dropping, read_opening,
+    read_proposing, read_seating, read_showing,
+};
 use csv::ByteRecord;
 use std::alloc::Global;
-use trust_base::{Cents, Day, EntryNo, Field, Label, MatterNo, PersonId, Refusal};
+use trust_base::{Day, Field, MatterNo, Refusal};
 use trust_desk::{Desk, Reply, Request};
-use trust_matter::{Ask, Caller, DepositAsk, OpenAsk, Role, Seat};
+use trust_matter::{Ask, Caller};
 use trust_store::Book;
 
 /// The verbs of records.
@@ -33,6 +36,12 @@ pub enum Verb {
     Deposit,
     /// Cancel a deposit.
     Cancel,
+    /// Propose a payment.
+    Propose,
+    /// Raise a claim on the general fund.
+    Claim,
+    /// Award a part of a claim to the client.
+    Award,
     /// Show an entry.
     Entry,
     /// Show a matter.
@@ -52,6 +61,12 @@ fn read_verb(name: &[u8]) -> Option<Verb>
         Some(Verb::Deposit)
     } else if name == b"cancel".as_slice() {
         Some(Verb::Cancel)
+    } else if name == b"propose".as_slice() {
+        Some(Verb::Propose)
+    } else if name == b"claim".as_slice() {
+        Some(Verb::Claim)
+    } else if name == b"award".as_slice() {
+        Some(Verb::Award)
     } else if name == b"entry".as_slice() {
         Some(Verb::Entry)
     } else if name == b"show".as_slice() {
@@ -67,8 +82,9 @@ fn count_of(verb: Verb) -> usize
 {
     match verb {
         Verb::Open | Verb::Seat => 5,
-        Verb::Drop => 4,
-        Verb::Deposit => 6,
+        Verb::Drop | Verb::Award => 4,
+        Verb::Deposit | Verb::Claim => 6,
+        Verb::Propose => 9,
         Verb::Cancel | Verb::Entry | Verb::Show => 3,
     }
 }
@@ -76,14 +92,11 @@ fn count_of(verb: Verb) -> usize
 fn names_entry(verb: Verb) -> bool
     ensures { result ≡ spec.names_entry verb }
 {
-    matches!(verb, Verb::Deposit | Verb::Cancel | Verb::Entry)
-}
-
-// A field of a record, empty where there is none.
-fn field_bytes(row: &ByteRecord, i: usize) -> &[u8]
-    ensures { result.now ≡ unwrap_or (field_at (fields_of row.now) i) [] }
-{
-    row.get(i).unwrap_or(&[])
+    match verb {
+        Verb::Open | Verb::Seat | Verb::Drop | Verb::Show => false,
+        Verb::Deposit | Verb::Cancel | Verb::Propose | Verb::Claim | Verb::Award | Verb::Entry =>
+            true,
+    }
 }
 
 fn is_text(field: &[u8]) -> bool
@@ -116,104 +129,6 @@ fn verb_of_record(row: &ByteRecord) -> Option<Verb>
     if is_of_form { Some(verb) } else { None }
 }
 
-fn bad(field: Field) -> Refusal
-    ensures { result ≡ Refusal.BadField field }
-{
-    Refusal::BadField(field)
-}
-
-fn read_role(text: &[u8]) -> Option<Role>
-    ensures { result ≡ spec.role_of text.now }
-{
-    if text == b"client".as_slice() {
-        Some(Role::Client)
-    } else if text == b"lawyer".as_slice() {
-        Some(Role::Lawyer)
-    } else {
-        None
-    }
-}
-
-fn read_opening(alloc: Global, client: &[u8], lawyer: &[u8]) -> Result<Ask, Refusal>
-    ensures { Reads (opening (label_of client.now) (person_of lawyer.now)) result }
-{
-    let Some(client) = Label::read(alloc, client)? else {
-        return Err(bad(Field::Client));
-    };
-    let Some(lawyer) = PersonId::read(alloc, lawyer)? else {
-        return Err(bad(Field::Lawyer));
-    };
-    Ok(Ask::OpenMatter(OpenAsk { client, lawyer }))
-}
-
-fn read_seating(alloc: Global, person: &[u8], role: &[u8]) -> Result<Ask, Refusal>
-    ensures { Reads (seating (person_of person.now) (spec.role_of role.now)) result }
-{
-    let Some(person) = PersonId::read(alloc, person)? else {
-        return Err(bad(Field::Person));
-    };
-    let Some(role) = read_role(role) else {
-        return Err(bad(Field::Role));
-    };
-    Ok(Ask::AddSeat(Seat { person, role }))
-}
-
-fn read_dropping(alloc: Global, person: &[u8]) -> Result<Ask, Refusal>
-    ensures { Reads (dropping (person_of person.now)) result }
-{
-    match PersonId::read(alloc, person)? {
-        Some(person) => Ok(Ask::DropSeat(person)),
-        None => Err(bad(Field::Person)),
-    }
-}
-
-fn read_depositing(
-    alloc: Global,
-    number: &[u8],
-    amount: &[u8],
-    source: &[u8],
-    description: &[u8],
-) -> Result<Ask, Refusal>
-    ensures { Reads (depositing (entry_of number.now) (amount_of amount.now) (label_of source.now) (label_of description.now)) result }
-{
-    let Some(number) = EntryNo::read(number) else {
-        return Err(bad(Field::Entry));
-    };
-    let Some(amount) = Cents::read(amount) else {
-        return Err(bad(Field::Amount));
-    };
-    let Some(source) = Label::read(alloc, source)? else {
-        return Err(bad(Field::Source));
-    };
-    let Some(description) = Label::read(alloc, description)? else {
-        return Err(bad(Field::Description));
-    };
-    Ok(Ask::Deposit(DepositAsk {
-        number,
-        amount,
-        source,
-        description,
-    }))
-}
-
-fn read_cancelling(number: &[u8]) -> Result<Ask, Refusal>
-    ensures { Reads (cancelling (entry_of number.now)) result }
-{
-    match EntryNo::read(number) {
-        Some(number) => Ok(Ask::CancelDeposit(number)),
-        None => Err(bad(Field::Entry)),
-    }
-}
-
-fn read_showing(number: &[u8]) -> Result<Ask, Refusal>
-    ensures { Reads (showing (entry_of number.now)) result }
-{
-    match EntryNo::read(number) {
-        Some(number) => Ok(Ask::ShowEntry(number)),
-        None => Err(bad(Field::Entry)),
-    }
-}
-
 fn read_ask(alloc: Global, verb: Verb, row: &ByteRecord) -> Result<Ask, Refusal>
     ensures { Reads (ask_of verb (fields_of row.now)) result }
 {
@@ -230,6 +145,15 @@ fn read_ask(alloc: Global, verb: Verb, row: &ByteRecord) -> Result<Ask, Refusal>
             field_bytes(row, 5),
         ),
         Verb::Cancel => read_cancelling(number),
+        Verb::Propose => read_proposing(alloc, row),
+        Verb::Claim => read_claiming(
+            alloc,
+            number,
+            field_bytes(row, 3),
+            field_bytes(row, 4),
+            field_bytes(row, 5),
+        ),
+        Verb::Award => read_awarding(number, field_bytes(row, 3)),
         Verb::Entry => read_showing(number),
         Verb::Show => Ok(Ask::Show),
     }

@@ -9,9 +9,9 @@ use std::io::Write;
 use trust_base::{Refusal, WriteFault, send};
 use trust_desk::{Body, Reply};
 
-// Writes a status, a space, a body and the line's end.
+/// Writes a status, a space, a body and the line's end. At a fault a proper front of it was written. Takes no memory.
 #[tactic(auto, unfolding(crate::specs::Sheet::line_of))]
-fn write_line<W: Write>(writer: &mut W, status: u16, body: &[u8]) -> Result<(), WriteFault>
+pub fn write_line<W: Write>(writer: &mut W, status: u16, body: &[u8]) -> Result<(), WriteFault>
     ensures ok { OnOk result (Appends (W.contents writer.old) (W.contents writer.new) (line_of status body.now)) }
     ensures err { OnErr result ((n : ℕ) × (n < length (line_of status body.now))
         × Appends (W.contents writer.old) (W.contents writer.new) (take n (line_of status body.now))) }

@@ -107,6 +107,55 @@ fn seats_and_drops_persons(rt: HostRuntime) -> Result<(), Fail> {
     check_open(&rt, b"seat,000001,,ada,client\n", seated, SheetEnd::Done)
 }
 
+const PROPOSED: &[u8] =
+    b"201 {\"amount\":\"100.00\",\"day\":\"2024-01-10\",\"entry\":\"0001\",\"from\":\"general\",\"instrument\":\"1001\",\"kind\":\"payment\",\"matter\":\"000001\",\"of\":null,\"payee\":\"Cash Ltd\",\"purpose\":\"filing fee\"}\n";
+
+#[test]
+fn proposes_a_payment(rt: HostRuntime) -> Result<(), Fail> {
+    let records =
+        b"deposit,000001,0001,500.00,Ada Chen,retainer\npropose,000001,0002,100.00,general,,Court Clerk,filing fee,1001\n";
+    let lines =
+        b"201 {\"amount\":\"500.00\",\"day\":\"2024-01-10\",\"description\":\"retainer\",\"entry\":\"0001\",\"kind\":\"deposit\",\"matter\":\"000001\",\"source\":\"Ada Chen\"}\n201 {\"amount\":\"100.00\",\"day\":\"2024-01-10\",\"entry\":\"0002\",\"from\":\"general\",\"instrument\":\"1001\",\"kind\":\"payment\",\"matter\":\"000001\",\"of\":null,\"payee\":\"Court Clerk\",\"purpose\":\"filing fee\"}\n";
+    check_open(&rt, records, lines, SheetEnd::Done)?;
+    let firm = b"propose,000001,0001,100.00,general,,Cash Ltd,filing fee,1001\n";
+    check_open(&rt, firm, PROPOSED, SheetEnd::Done)
+}
+
+#[test]
+fn pays_neither_cash_nor_a_payee_of_another_fund(rt: HostRuntime) -> Result<(), Fail> {
+    let cash = b"422 {\"name\":\"PayeeIsCash\",\"refusal\":18}\n";
+    let record = b"propose,000001,0001,100.00,general,, Cash ,filing fee,1001\n";
+    check_open(&rt, record, cash, SheetEnd::Refused)?;
+    let record = b"claim,000001,0001,100.00,cash,leaking roof\n";
+    check_open(&rt, record, cash, SheetEnd::Refused)?;
+    let payee = b"422 {\"name\":\"WrongPayee\",\"refusal\":19}\n";
+    let record = b"propose,000001,0001,100.00,general,,FIRM,filing fee,1001\n";
+    check_open(&rt, record, payee, SheetEnd::Refused)
+}
+
+#[test]
+fn draws_on_funds_that_are_there(rt: HostRuntime) -> Result<(), Fail> {
+    let none = b"404 {\"name\":\"NoEntry\",\"refusal\":15}\n";
+    let record = b"propose,000001,0001,100.00,fee,0001,FIRM,fee,1001\n";
+    check_open(&rt, record, none, SheetEnd::Refused)?;
+    let kind = b"409 {\"name\":\"WrongKind\",\"refusal\":16}\n";
+    let mut lines = Vec::new(rt.alloc());
+    lines.extend_from_slice(PROPOSED)?;
+    lines.extend_from_slice(kind)?;
+    let records =
+        b"propose,000001,0001,100.00,general,,Cash Ltd,filing fee,1001\npropose,000001,0002,100.00,claim,0001,FIRM,fee,1001\n";
+    check_open(&rt, records, lines.as_slice(), SheetEnd::Refused)
+}
+
+#[test]
+fn raises_and_awards_claims(rt: HostRuntime) -> Result<(), Fail> {
+    let short = b"409 {\"left\":\"0.00\",\"name\":\"Short\",\"refusal\":21}\n";
+    let record = b"claim,000001,0001,120.00,Roof Builders,leaking roof\n";
+    check_open(&rt, record, short, SheetEnd::Refused)?;
+    let none = b"404 {\"name\":\"NoEntry\",\"refusal\":15}\n";
+    check_open(&rt, b"award,000001,0001,0.00\n", none, SheetEnd::Refused)
+}
+
 // A record whose field of that name is not of its form.
 fn check_field(rt: &(impl Abort + AllocGlobal), name: &[u8], sheet: &[u8]) -> Result<(), Fail> {
     let mut line = Vec::new(rt.alloc());
@@ -134,7 +183,31 @@ fn names_the_field_that_is_not_of_its_form(rt: HostRuntime) -> Result<(), Fail> 
         b"deposit,000001,0001,500.00,Ada Chen,\n",
     )?;
     check_field(&rt, b"entry", b"cancel,000001,1\n")?;
+    check_field(&rt, b"claimant", b"claim,000001,0001,5.00,,\n")?;
+    check_field(&rt, b"reason", b"claim,000001,0001,5.00,Roof Builders,\n")?;
+    check_field(&rt, b"to_client", b"award,000001,0001,-1.00\n")?;
     check_field(&rt, b"entry", b"entry,000001,\n")
+}
+
+#[test]
+fn names_the_fields_of_a_payment_in_order(rt: HostRuntime) -> Result<(), Fail> {
+    check_field(&rt, b"entry", b"propose,000001,,,,x,,,\n")?;
+    check_field(&rt, b"amount", b"propose,000001,0001,,,x,,,\n")?;
+    check_field(&rt, b"from", b"propose,000001,0001,5.00,General,x,,,\n")?;
+    check_field(&rt, b"of", b"propose,000001,0001,5.00,general,0001,,,\n")?;
+    check_field(&rt, b"of", b"propose,000001,0001,5.00,fee,,,,\n")?;
+    check_field(&rt, b"of", b"propose,000001,0001,5.00,claim,1,,,\n")?;
+    check_field(&rt, b"payee", b"propose,000001,0001,5.00,fee,0001,,,\n")?;
+    check_field(
+        &rt,
+        b"purpose",
+        b"propose,000001,0001,5.00,general,,Court Clerk,,\n",
+    )?;
+    check_field(
+        &rt,
+        b"instrument",
+        b"propose,000001,0001,5.00,general,,Court Clerk,filing fee,\n",
+    )
 }
 
 #[test]

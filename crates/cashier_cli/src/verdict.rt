@@ -19,7 +19,8 @@ pub enum Verdict {
     Memory,
 }
 
-fn verdict_on(refusal: &Refusal) -> Verdict
+/// What a refusal says of what was asked.
+pub fn verdict_on(refusal: &Refusal) -> Verdict
     ensures { result ≡ spec.verdict_on refusal.now }
 {
     match refusal {

@@ -8,3 +8,4 @@ pub mod DayFacts
 pub mod CsvRecords
 pub mod SignedFacts
 pub mod CivilDayFacts
+pub mod LineFacts

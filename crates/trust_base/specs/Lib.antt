@@ -5,3 +5,4 @@ pub mod Texts
 pub mod Names
 pub mod BankTexts
 pub mod Refusals
+pub mod LineOrder

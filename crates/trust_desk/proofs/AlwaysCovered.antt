@@ -1,17 +1,27 @@
 -- No step leaves a firm unsound.
-use Rattle.std.proofs.Common.{◌≡◌, ℕ, [], ◌∷◌, Option, Some, None, refl}
+use Rattle.std.proofs.Common.{◌≡◌, ℕ, List, [], ◌∷◌, Option, Some, None, refl}
 use Rattle.trust_base.specs.declared.refusal.Refusal.{Refusal}
+use Rattle.trust_matter.specs.declared.bank_line.BankLine.{BankLine}
+use Rattle.trust_matter.specs.declared.line_verdict.LineEdit.{LineEdit}
+use Rattle.trust_matter.specs.declared.line_verdict.LineEdit.TheVariants as told
 use Rattle.trust_matter.specs.Facts.{Asked}
+use Rattle.trust_matter.specs.LineStep.{line_on, last_seen}
 use Rattle.trust_matter.specs.Step.{HasAmount, refusal, edit_on, last_after}
 use Rattle.trust_matter.proofs.Covered.{sound-covered}
 use Rattle.trust_matter.proofs.Steps.{step}
-use Rattle.trust_firm.specs.Firm.{Firm, of}
+use Rattle.trust_firm.specs.Firm.{Firm, of, after_edit}
 use Rattle.trust_firm.specs.FirmSound.{FirmSound}
 use Rattle.trust_firm.proofs.Kept.{edit-sound, ledger-least}
-use Rattle.trust_desk.specs.declared.requests.Request.TheVariants.{Matter}
+use Rattle.statement_csv.specs.declared.item.Item.{Item}
+use Rattle.statement_csv.specs.declared.item.Item.TheVariants as item
+use Rattle.trust_desk.specs.declared.requests.Request.TheVariants.{Matter, Import}
+use Rattle.trust_desk.specs.ItemStep.{after_told, after_item, after_items}
+use Rattle.trust_desk.specs.ImportStep.{imported}
 use Rattle.trust_desk.specs.Heard.{Heard, Asks, Unread, asked_on}
 use Rattle.trust_desk.specs.FirmStep.{after_asked, after_ask, firm_step}
-use Rattle.trust_desk.specs.NeverBelowZero.{HasAmounts, IsCovered, NeverBelowZero}
+use Rattle.trust_desk.specs.NeverBelowZero.{HasAmounts, IsCovered, AlwaysCoveredBy, IsCoveredIn, NeverBelowZero}
+use Rattle.trust_desk.proofs.Items.{sound-after_stray, sound-after_match}
+use Rattle.trust_desk.proofs.LineFacts.{line-fits}
 
 pub sound-after_ask : (m : ℕ) (a : Asked) (firm : Firm) → HasAmount a.ask → FirmSound firm → FirmSound (after_ask m a firm)
 sound-after_ask m a firm amount sound = cases (refusal (of m firm) a) refl
@@ -22,13 +32,47 @@ sound-after_ask m a firm amount sound = cases (refusal (of m firm) a) refl
         edit-sound sound-covered m (edit_on (of m firm) a) (last_after (of m firm).head (edit_on (of m firm) a) a.day) firm sound s.place s.sound s.moved
     cases (Some r) told = sound
 
+-- Items.
+
+sound-after_told : (day : ℕ) (l : BankLine) (e : LineEdit) (firm : Firm) → line_on (of l.matter firm) l day ≡ e → FirmSound firm → FirmSound (after_told l e firm)
+sound-after_told day l (told.Applied e) firm applied sound =
+    let last = last_seen (of l.matter firm).head l.line in
+    let s = line-fits (of l.matter firm) l day e (sound.matters l.matter) applied in
+    sound-after_match (after_edit l.matter e last firm) l.line (edit-sound sound-covered l.matter e last firm sound s.place s.sound s.moved)
+sound-after_told day l told.Repeat firm repeat sound = sound-after_match firm l.line sound
+sound-after_told day l (told.Unmatched r) firm unmatched sound = sound-after_stray firm l.line sound
+
+pub sound-after_item : (day : ℕ) (firm : Firm) (it : Item) → FirmSound firm → FirmSound (after_item day firm it)
+sound-after_item day firm (item.Opening line) sound = sound-after_stray firm line sound
+sound-after_item day firm (item.Closing line) sound = sound-after_stray firm line sound
+sound-after_item day firm (item.OfMatter l) sound = sound-after_told day l (line_on (of l.matter firm) l day) firm refl sound
+sound-after_item day firm (item.OfFirm line) sound = sound-after_stray firm line sound
+sound-after_item day firm (item.Stray line) sound = sound-after_stray firm line sound
+sound-after_item day firm (item.Unreadable number) sound = sound
+
+pub sound-after_items : (day : ℕ) (firm : Firm) (items : List Item) → FirmSound firm → FirmSound (after_items day firm items)
+sound-after_items day firm [] sound = sound
+sound-after_items day firm (it ∷ items) sound = sound-after_items day (after_item day firm it) items (sound-after_item day firm it sound)
+
+-- Steps.
+
 pub sound-firm_step : (day : ℕ) (firm : Firm) (h : Heard) → HasAmounts h → FirmSound firm → FirmSound (firm_step day firm h).firm
 sound-firm_step day firm (Asks (Matter m caller ask)) amount sound = sound-after_ask m (asked_on day caller ask) firm amount sound
+sound-firm_step day firm (Asks (Import caller statement)) amount sound = sound-after_items day firm (imported caller statement) sound
 sound-firm_step day firm (Unread n r) amount sound = sound
 
 covered : (firm : Firm) → FirmSound firm → IsCovered firm
 covered firm sound = record { sound = sound; ledgers = λ m. ledger-least sound-covered (of m firm) (sound.matters m) }
 
+covered-by : (day : ℕ) (firm : Firm) (items : List Item) → FirmSound firm → AlwaysCoveredBy day firm items
+covered-by day firm [] sound = covered firm sound
+covered-by day firm (it ∷ items) sound = (covered firm sound, covered-by day (after_item day firm it) items (sound-after_item day firm it sound))
+
+covered-in : (day : ℕ) (firm : Firm) (h : Heard) → FirmSound firm → IsCoveredIn day firm h
+covered-in day firm (Asks (Matter m caller ask)) sound = covered firm sound
+covered-in day firm (Asks (Import caller statement)) sound = covered-by day firm (imported caller statement) sound
+covered-in day firm (Unread n r) sound = covered firm sound
+
 pub always-covered : NeverBelowZero
 always-covered day firm [] sound amounts = covered firm sound
-always-covered day firm (h ∷ hs) sound amounts = (covered firm sound, always-covered day (firm_step day firm h).firm hs (sound-firm_step day firm h amounts.0 sound) amounts.1)
+always-covered day firm (h ∷ hs) sound amounts = (covered-in day firm h sound, always-covered day (firm_step day firm h).firm hs (sound-firm_step day firm h amounts.0 sound) amounts.1)

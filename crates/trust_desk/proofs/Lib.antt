@@ -1,8 +1,13 @@
 pub mod TextFacts
 pub mod ObjectFacts
 pub mod Refused
+pub mod Items
+pub mod ItemsRead
+pub mod OwnItems
 pub mod Own
+pub mod ImportSteps
 pub mod Runs
+pub mod LineFacts
 pub mod AlwaysCovered
 pub mod Once
 pub mod OfRows

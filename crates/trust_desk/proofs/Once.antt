@@ -1,50 +1,50 @@
--- What was asked and accepted is a repeat after every run.
+-- What was asked and accepted, and a line that was applied, are repeats after every run.
 use Rattle.std.proofs.Common.{◌≡◌, ℕ, Bool, true, false, cond, List, [], ◌∷◌, ◌++◌, Option, Some, None, refl, sym, ap, ◌∙◌, subst}
 use Rattle.std.specs.Prelude.{MatchBool}
 use Rattle.trust_base.specs.declared.refusal.Refusal.{Refusal}
 use Rattle.trust_matter.specs.declared.edits.Edit.{Edit}
 use Rattle.trust_matter.specs.declared.edits.Edit.TheVariants as edit
+use Rattle.trust_matter.specs.declared.line_verdict.LineEdit.{LineEdit}
+use Rattle.trust_matter.specs.declared.line_verdict.LineEdit.TheVariants as told
 use Rattle.trust_matter.specs.Rows.{Rows}
 use Rattle.trust_matter.specs.Facts.{Asked, facts_of}
 use Rattle.trust_matter.specs.Conditions.{is_repeat}
 use Rattle.trust_matter.specs.Step.{refusal, edit_on, last_after, rows_after}
-use Rattle.trust_matter.specs.Laws.{all_after, IsSpent}
-use Rattle.trust_matter.proofs.Repeats.{at-most-once}
+use Rattle.trust_matter.specs.LineStep.{line_on, rows_after_line, IsApplied}
+use Rattle.trust_matter.specs.Laws.{IsSpent}
 use Rattle.trust_firm.specs.Firm.{Firm, of, after_edit}
-use Rattle.trust_desk.specs.declared.requests.Request.TheVariants.{Matter}
+use Rattle.statement_csv.specs.declared.item.Item.TheVariants as item
+use Rattle.trust_desk.specs.declared.requests.Request.TheVariants.{Matter, Import}
 use Rattle.trust_desk.specs.declared.requests.Reply.{Reply}
-use Rattle.trust_desk.specs.Heard.{Heard, Asks, Unread, names, own_of, asked_on}
+use Rattle.trust_desk.specs.declared.importing.Counted.TheVariants as counted
+use Rattle.trust_desk.specs.ItemStep.{after_told, after_item, after_items, counted_as}
+use Rattle.trust_desk.specs.Heard.{Heard, Asks, Unread, Own, own_of, own_of_items}
 use Rattle.trust_desk.specs.Replies.{is_fault_reply}
 use Rattle.trust_desk.specs.FirmStep.{after_asked, after_ask, firm_step, Stopped, Steps, Runs}
-use Rattle.trust_desk.specs.Solo.{own_rows}
-use Rattle.trust_desk.specs.OnceOnly.{DayRun, RunsOn, OnceOnly}
-use Rattle.trust_desk.proofs.Own.{of-after_ask, own-rows, other-rows, stopped-same}
+use Rattle.trust_desk.specs.Solo.{solo_rows}
+use Rattle.trust_desk.specs.OnceOnly.{DayRun, RunsOn, OnceOnly, LineOnceOnly}
+use Rattle.trust_desk.proofs.LineFacts.{spent-later, repeat-later}
+use Rattle.trust_desk.proofs.OwnItems.{solo_rows-append, of-after_items, of-after_line}
+use Rattle.trust_desk.proofs.Own.{of-after_ask, own-rows}
 
--- later rows are those after some asks
+-- later rows are those after some of what comes to a matter
 abbrev IsLater : Rows → Rows → Type 0
-IsLater rows later = (asks : List Asked) × (later ≡ all_after rows asks)
-
-all_after-append : (rows : Rows) (xs ys : List Asked) → all_after rows (xs ++ ys) ≡ all_after (all_after rows xs) ys
-all_after-append rows [] ys = refl
-all_after-append rows (x ∷ xs) ys = all_after-append (rows_after rows x) xs ys
+IsLater rows later = (owns : List Own) × (later ≡ solo_rows rows owns)
 
 later-more : (a b c : Rows) → IsLater a b → IsLater b c → IsLater a c
-later-more a b c ab bc = (ab.0 ++ bc.0, bc.1 ∙ (ap (λ rows. all_after rows bc.0) ab.1 ∙ sym (all_after-append a ab.0 bc.0)))
+later-more a b c ab bc = (ab.0 ++ bc.0, bc.1 ∙ (ap (λ rows. solo_rows rows bc.0) ab.1 ∙ sym (solo_rows-append a ab.0 bc.0)))
 
-own-later : (day : ℕ) (rows : Rows) (h : Heard) → IsLater rows (own_rows rows (own_of day h))
-own-later day rows (Asks (Matter m caller ask)) = (asked_on day caller ask ∷ [], refl)
-own-later day rows (Unread n r) = ([], refl)
+stopped-later : (m day : ℕ) (firm new : Firm) (h : Heard) → Stopped day firm h new → IsLater (of m firm) (of m new)
+stopped-later m day firm new (Asks (Matter n caller ask)) is = ([], ap (of m) is)
+stopped-later m day firm new (Asks (Import caller statement)) is = (own_of_items m day is.1.front, ap (of m) is.1.leaves ∙ of-after_items m day firm is.1.front)
+stopped-later m day firm new (Unread n r) is = ([], ap (of m) is)
 
 step-later : (m day : ℕ) (firm new : Firm) (h : Heard) (reply : Reply) → Steps day firm h reply new → IsLater (of m firm) (of m new)
 step-later m day firm new h reply step = cases (is_fault_reply reply) step
   where
-    named : (b : Bool) → names m h ≡ b → new ≡ (firm_step day firm h).firm → IsLater (of m firm) (of m new)
-    named true to_it is = let own = own-later day (of m firm) h in (own.0, ap (of m) is ∙ (own-rows m day firm h to_it ∙ own.1))
-    named false other is = ([], ap (of m) is ∙ other-rows m day firm h other)
-
-    cases : (b : Bool) → MatchBool b (Stopped firm h new) ((reply ≡ (firm_step day firm h).reply) × (new ≡ (firm_step day firm h).firm)) → IsLater (of m firm) (of m new)
-    cases true is = ([], ap (of m) (stopped-same firm new h is))
-    cases false is = named (names m h) refl is.1
+    cases : (b : Bool) → MatchBool b (Stopped day firm h new) ((reply ≡ (firm_step day firm h).reply) × (new ≡ (firm_step day firm h).firm)) → IsLater (of m firm) (of m new)
+    cases true is = stopped-later m day firm new h is
+    cases false is = (own_of m day h, ap (of m) is.1 ∙ own-rows m day firm h)
 
 run-later : (m day : ℕ) (firm new : Firm) (hs : List Heard) (replies : List Reply) → Runs day firm hs replies new → IsLater (of m firm) (of m new)
 run-later m day firm new [] [] run = ([], ap (of m) run)
@@ -58,6 +58,8 @@ runs-later m firm new [] run = ([], ap (of m) run)
 runs-later m firm new (r ∷ runs) run =
     later-more (of m firm) (of m run.0) (of m new) (run-later m r.day firm run.0 r.heard r.replies run.1) (runs-later m run.0 new runs run.2)
 
+-- An ask.
+
 -- a repeat changes nothing of the firm
 unchanged : (o : Option Refusal) (m : ℕ) (a : Asked) (firm : Firm) → edit_on (of m firm) a ≡ edit.Nothing → after_asked o m a firm ≡ firm
 unchanged None m a firm none = ap (λ (e : Edit). after_edit m e (last_after (of m firm).head e a.day) firm) none
@@ -70,6 +72,27 @@ nothing false e h = absurd (cc)
 pub once-only : OnceOnly
 once-only m a again firm new between makes accepted runs same =
     let later = runs-later m (after_ask m a firm) new between runs in
-    let rows : of m new ≡ all_after (rows_after (of m firm) a) later.0 = later.1 ∙ ap (λ r. all_after r later.0) (of-after_ask m a firm) in
-    let spent : IsSpent (of m new) again = subst (λ (r : Rows). IsSpent r again) (sym rows) (at-most-once (of m firm) a again later.0 makes accepted same) in
+    let rows : of m new ≡ solo_rows (rows_after (of m firm) a) later.0 = later.1 ∙ ap (λ r. solo_rows r later.0) (of-after_ask m a firm) in
+    let spent : IsSpent (of m new) again = subst (λ (r : Rows). IsSpent r again) (sym rows) (spent-later (of m firm) a again later.0 makes accepted same) in
     (spent, unchanged (refusal (of m new) again) m again new (nothing (is_repeat (facts_of (of m new) again.ask) again) _ spent.repeat))
+
+-- A line.
+
+was-applied : (e : LineEdit) → counted_as e ≡ counted.Applied → IsApplied e
+was-applied (told.Applied e) is = tt
+was-applied told.Repeat is = absurd (cc)
+was-applied (told.Unmatched r) is = absurd (cc)
+
+pub line-once-only : LineOnceOnly
+line-once-only l again day later firm mid rest front between applied same runs =
+    let m = l.matter in
+    let one = after_item day firm (item.OfMatter l) in
+    let now = after_items later mid front in
+    let behind : IsLater (of m one) (of m (after_items day one rest)) = (own_of_items m day rest, of-after_items m day one rest) in
+    let before : IsLater (of m mid) (of m now) = (own_of_items m later front, of-after_items m later mid front) in
+    let between = runs-later m (after_items day one rest) mid between runs in
+    let all = later-more (of m one) (of m mid) (of m now) (later-more (of m one) (of m (after_items day one rest)) (of m mid) behind between) before in
+    let rows : of m now ≡ solo_rows (rows_after_line (of m firm) l day) all.0 = all.1 ∙ ap (λ r. solo_rows r all.0) (of-after_line l day firm) in
+    let spent : line_on (solo_rows (rows_after_line (of m firm) l day) all.0) again later ≡ told.Repeat = repeat-later (of m firm) l again day later all.0 (was-applied (line_on (of m firm) l day) applied) same in
+    let repeat : line_on (of again.matter now) again later ≡ told.Repeat = (λ i. line_on (of (same.matter i) now) again later) ∙ (ap (λ r. line_on r again later) rows ∙ spent) in
+    record { repeat = ap counted_as repeat; leaves = ap (λ e. after_told again e now) repeat }

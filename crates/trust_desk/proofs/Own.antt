@@ -1,6 +1,7 @@
 -- Each matter's replies and rows in a run of the firm are those of its own machine.
-use Rattle.std.proofs.Common.{◌≡◌, ◌≢◌, ℕ, Bool, true, false, cond, List, [], ◌∷◌, Option, Some, None, refl, sym, ap, ◌∙◌, subst, arith, length, take}
-use Rattle.std.specs.Prelude.{MatchBool}
+use Rattle.std.proofs.Common.{◌≡◌, ◌≢◌, ℕ, Bool, true, false, cond, List, [], ◌∷◌, ◌++◌, Option, Some, None, refl, sym, ap, ◌∙◌, subst, arith, length, take, get_or}
+use Rattle.std.specs.Prelude.{MatchBool, ◌==◌}
+use Rattle.std.specs.List.{list_any}
 use Rattle.std.proofs.lemmas.Bool.Decides.{nat_tests}
 use Rattle.trust_base.specs.declared.refusal.Refusal.{Refusal}
 use Rattle.trust_matter.specs.Facts.{Asked}
@@ -8,13 +9,16 @@ use Rattle.trust_matter.specs.Step.{refusal, edit_on, last_after, after, rows_af
 use Rattle.trust_firm.specs.Firm.{Firm, of}
 use Rattle.trust_firm.proofs.Changed.{of-after_edit, of_other-after_edit}
 use Rattle.trust_desk.specs.declared.requests.Request.{Request}
-use Rattle.trust_desk.specs.declared.requests.Request.TheVariants.{Matter}
+use Rattle.trust_desk.specs.declared.requests.Request.TheVariants.{Matter, Import}
 use Rattle.trust_desk.specs.declared.requests.Reply.{Reply}
-use Rattle.trust_desk.specs.Heard.{Heard, Asks, Unread, heard, names, own_of, project, told, asked_on}
-use Rattle.trust_desk.specs.Replies.{is_fault_reply, reply_of}
-use Rattle.trust_desk.specs.FirmStep.{after_asked, after_ask, firm_step, Stopped, Steps, Runs, NoFaults}
-use Rattle.trust_desk.specs.Solo.{own_rows, own_reply, solo_rows, solo_replies}
+use Rattle.trust_desk.specs.ItemStep.{names_item}
+use Rattle.trust_desk.specs.ImportStep.{imported}
+use Rattle.trust_desk.specs.Heard.{Heard, Asks, Unread, OwnAsk, OwnRefusal, heard, names, concerns, own_if, own_of, project, told, asked_on, is_the}
+use Rattle.trust_desk.specs.Replies.{is_fault_reply, reply_of, refused}
+use Rattle.trust_desk.specs.FirmStep.{after_asked, after_ask, firm_step, Stopped, Steps, Runs, IsUnstopped}
+use Rattle.trust_desk.specs.Solo.{solo_rows, solo_replies}
 use Rattle.trust_desk.specs.Isolation.{IsOwn, KeepsOthers, EachMatterOwn, SameForTheMatter}
+use Rattle.trust_desk.proofs.OwnItems.{solo_rows-append, solo_replies-append, of-after_items, silent-items, none-front, unnamed-items}
 
 -- An ask is seen in its matter, and in no other.
 
@@ -32,82 +36,134 @@ of_other-after_ask n m a firm apart = cases (refusal (of m firm) a)
     cases None = of_other-after_edit n m (edit_on (of m firm) a) (last_after (of m firm).head (edit_on (of m firm) a) a.day) firm apart
     cases (Some r) = refl
 
--- A step for a matter is a step of its own machine.
+-- A step is for each matter that of its own machine.
 
-pub own-reply : (m day : ℕ) (firm : Firm) (h : Heard) → names m h ≡ true → (firm_step day firm h).reply ≡ own_reply m (of m firm) (own_of day h)
-own-reply m day firm (Asks (Matter n caller ask)) named =
-    let same : n ≡ m = grind (arith, nat_tests) in
-    ap (λ k. reply_of k (of k firm) (asked_on day caller ask)) same
-own-reply m day firm (Unread n r) named = refl
+-- the reply, where it is to the matter
+abbrev pub reply_if : Bool → Reply → List Reply
+reply_if b reply = cond b (reply ∷ []) []
 
-pub own-rows : (m day : ℕ) (firm : Firm) (h : Heard) → names m h ≡ true → of m (firm_step day firm h).firm ≡ own_rows (of m firm) (own_of day h)
-own-rows m day firm (Asks (Matter n caller ask)) named =
-    let same : n ≡ m = grind (arith, nat_tests) in
-    let a : Asked = asked_on day caller ask in
-    subst (λ (k : ℕ). of k (after_ask n a firm) ≡ rows_after (of k firm) a) same (of-after_ask n a firm)
-own-rows m day firm (Unread n r) named = refl
+-- what a matter is told, and its rows afterwards, are those of its machine
+pub record IsOwnStep (m day : ℕ) (firm : Firm) (h : Heard) (reply : Reply) (new : Firm) : Type 0 where
+  pub answers : reply_if (names m h) reply ≡ solo_replies m (of m firm) (own_of m day h)
+  pub rows : of m new ≡ solo_rows (of m firm) (own_of m day h)
 
-pub other-rows : (m day : ℕ) (firm : Firm) (h : Heard) → names m h ≡ false → of m (firm_step day firm h).firm ≡ of m firm
-other-rows m day firm (Asks (Matter n caller ask)) unnamed = of_other-after_ask m n (asked_on day caller ask) firm (λ same. absurd (grind (arith, nat_tests)))
-other-rows m day firm (Unread n r) unnamed = refl
+pub own-rows : (m day : ℕ) (firm : Firm) (h : Heard) → of m (firm_step day firm h).firm ≡ solo_rows (of m firm) (own_of m day h)
+own-rows m day firm (Asks (Matter n caller ask)) = cases (n == m) refl
+  where
+    a : Asked
+    a = asked_on day caller ask
+
+    cases : (b : Bool) → (n == m) ≡ b → of m (after_ask n a firm) ≡ solo_rows (of m firm) (own_if b (OwnAsk a))
+    cases true same_test = let same : n ≡ m = grind (arith, nat_tests) in subst (λ (k : ℕ). of k (after_ask n a firm) ≡ rows_after (of k firm) a) same (of-after_ask n a firm)
+    cases false other_test = of_other-after_ask m n a firm (λ same. absurd (grind (arith, nat_tests)))
+own-rows m day firm (Asks (Import caller statement)) = of-after_items m day firm (imported caller statement)
+own-rows m day firm (Unread n r) = cases (is_the m n)
+  where
+    cases : (b : Bool) → of m firm ≡ solo_rows (of m firm) (own_if b (OwnRefusal r))
+    cases true = refl
+    cases false = refl
+
+pub own-reply : (m day : ℕ) (firm : Firm) (h : Heard) → reply_if (names m h) (firm_step day firm h).reply ≡ solo_replies m (of m firm) (own_of m day h)
+own-reply m day firm (Asks (Matter n caller ask)) = cases (n == m) refl
+  where
+    a : Asked
+    a = asked_on day caller ask
+
+    cases : (b : Bool) → (n == m) ≡ b → reply_if b (reply_of n (of n firm) a) ≡ solo_replies m (of m firm) (own_if b (OwnAsk a))
+    cases true same_test = let same : n ≡ m = grind (arith, nat_tests) in ap (λ k. reply_of k (of k firm) a ∷ []) same
+    cases false other_test = refl
+own-reply m day firm (Asks (Import caller statement)) = sym (silent-items m day (of m firm) (imported caller statement))
+own-reply m day firm (Unread n r) = cases (is_the m n)
+  where
+    cases : (b : Bool) → reply_if b (refused r) ≡ solo_replies m (of m firm) (own_if b (OwnRefusal r))
+    cases true = refl
+    cases false = refl
+
+-- So two firms with the same rows of a matter tell it the same, and leave it the same.
+
+pub same-rows : (m day : ℕ) (f g : Firm) (h : Heard) → of m f ≡ of m g → of m (firm_step day f h).firm ≡ of m (firm_step day g h).firm
+same-rows m day f g h same = own-rows m day f h ∙ (ap (λ rows. solo_rows rows (own_of m day h)) same ∙ sym (own-rows m day g h))
+
+pub same-reply : (m day : ℕ) (f g : Firm) (h : Heard) → names m h ≡ true → of m f ≡ of m g → (firm_step day f h).reply ≡ (firm_step day g h).reply
+same-reply m day f g h named same = cases (names m h) named (own-reply m day f h ∙ (ap (λ rows. solo_replies m rows (own_of m day h)) same ∙ sym (own-reply m day g h)))
+  where
+    cases : (b : Bool) → b ≡ true → reply_if b (firm_step day f h).reply ≡ reply_if b (firm_step day g h).reply → (firm_step day f h).reply ≡ (firm_step day g h).reply
+    cases true e both = ap (λ rs. get_or rs 0 (firm_step day f h).reply) both
+    cases false e both = absurd (cc)
+
+-- What does not concern a matter.
+
+pub other-rows : (m day : ℕ) (firm : Firm) (h : Heard) → concerns m h ≡ false → of m (firm_step day firm h).firm ≡ of m firm
+other-rows m day firm (Asks (Matter n caller ask)) other = of_other-after_ask m n (asked_on day caller ask) firm (λ same. absurd (grind (arith, nat_tests)))
+other-rows m day firm (Asks (Import caller statement)) other = unnamed-items m day firm (imported caller statement) other
+other-rows m day firm (Unread n r) other = refl
+
+unnamed : (m : ℕ) (h : Heard) → concerns m h ≡ false → names m h ≡ false
+unnamed m (Asks (Matter n caller ask)) other = other
+unnamed m (Asks (Import caller statement)) other = refl
+unnamed m (Unread n r) other = other
+
+stopped-rows : (m day : ℕ) (firm new : Firm) (h : Heard) → Stopped day firm h new → concerns m h ≡ false → of m new ≡ of m firm
+stopped-rows m day firm new (Asks (Matter n caller ask)) is other = ap (of m) is
+stopped-rows m day firm new (Asks (Import caller statement)) is other =
+    let left = is.1 in
+    let whole : list_any (names_item m) (left.front ++ is.0) ≡ false = ap (list_any (names_item m)) left.parts ∙ other in
+    ap (of m) left.leaves ∙ unnamed-items m day firm left.front (none-front m left.front is.0 whole)
+stopped-rows m day firm new (Unread n r) is other = ap (of m) is
+
+pub keeps-others : (day : ℕ) (firm new : Firm) (h : Heard) (reply : Reply) → Steps day firm h reply new → KeepsOthers firm h new
+keeps-others day firm new h reply step m other = cases (is_fault_reply reply) step
+  where
+    cases : (b : Bool) → MatchBool b (Stopped day firm h new) ((reply ≡ (firm_step day firm h).reply) × (new ≡ (firm_step day firm h).firm)) → of m new ≡ of m firm
+    cases true is = stopped-rows m day firm new h is other
+    cases false is = ap (of m) is.1 ∙ other-rows m day firm h other
+
+-- A step in a run.
+
+-- a step that was not stopped
+own-step : (m day : ℕ) (firm new : Firm) (h : Heard) (reply : Reply) → reply ≡ (firm_step day firm h).reply → new ≡ (firm_step day firm h).firm → IsOwnStep m day firm h reply new
+own-step m day firm new h reply says leaves = record { answers = ap (reply_if (names m h)) says ∙ own-reply m day firm h; rows = ap (of m) leaves ∙ own-rows m day firm h }
+
+-- a step that does not concern the matter
+other-step : (m day : ℕ) (firm new : Firm) (h : Heard) (reply : Reply) → concerns m h ≡ false → of m new ≡ of m firm → IsOwnStep m day firm h reply new
+other-step m day firm new h reply other same = record {
+  answers = ap (λ b. reply_if b reply) named ∙ (ap (λ b. reply_if b (firm_step day firm h).reply) (sym named) ∙ own-reply m day firm h);
+  rows = same ∙ (sym (other-rows m day firm h other) ∙ own-rows m day firm h);
+}
+  where
+    named : names m h ≡ false
+    named = unnamed m h other
+
+pub steps-own : (m day : ℕ) (firm new : Firm) (h : Heard) (reply : Reply) → (concerns m h ≡ true → is_fault_reply reply ≡ false) → Steps day firm h reply new → IsOwnStep m day firm h reply new
+steps-own m day firm new h reply fine step = cases (concerns m h) refl (is_fault_reply reply) refl step
+  where
+    cases : (c : Bool) → concerns m h ≡ c → (b : Bool) → is_fault_reply reply ≡ b → MatchBool b (Stopped day firm h new) ((reply ≡ (firm_step day firm h).reply) × (new ≡ (firm_step day firm h).firm)) → IsOwnStep m day firm h reply new
+    cases c is false faultless to = own-step m day firm new h reply to.0 to.1
+    cases true is true fault stopped = let good = fine is in absurd (cc)
+    cases false is true fault stopped = other-step m day firm new h reply is (stopped-rows m day firm new h stopped is)
 
 -- A run.
 
--- a step that was not stopped
-pub unstopped : (b : Bool) (P Q : Type 0) → b ≡ false → MatchBool b P Q → Q
-unstopped true P Q e h = absurd (cc)
-unstopped false P Q e h = h
+told-more : (b : Bool) (reply : Reply) (rs : List Reply) → cond b (reply ∷ rs) rs ≡ reply_if b reply ++ rs
+told-more true reply rs = refl
+told-more false reply rs = refl
 
--- one more step in front, for the matter
-own-more : (m day : ℕ) (firm mid new : Firm) (h : Heard) (hs : List Heard) (reply : Reply) (replies : List Reply) → names m h ≡ true → reply ≡ (firm_step day firm h).reply → mid ≡ (firm_step day firm h).firm → IsOwn m day mid hs replies new → IsOwn m day firm (h ∷ hs) (reply ∷ replies) new
-own-more m day firm mid new h hs reply replies named said is again = record { answers = answers (names m h) named; rows = rows (names m h) named }
-  where
-    here : of m mid ≡ own_rows (of m firm) (own_of day h)
-    here = ap (of m) is ∙ own-rows m day firm h named
-
-    answers : (b : Bool) → b ≡ true → cond b (reply ∷ told m hs replies) (told m hs replies) ≡ solo_replies m (of m firm) (cond b (own_of day h ∷ project m day hs) (project m day hs))
-    answers true e = (λ i. (said ∙ own-reply m day firm h named) i ∷ again.answers i) ∙ ap (λ rows. own_reply m (of m firm) (own_of day h) ∷ solo_replies m rows (project m day hs)) here
-    answers false e = absurd (cc)
-
-    rows : (b : Bool) → b ≡ true → of m new ≡ solo_rows (of m firm) (cond b (own_of day h ∷ project m day hs) (project m day hs))
-    rows true e = again.rows ∙ ap (λ rs. solo_rows rs (project m day hs)) here
-    rows false e = absurd (cc)
-
--- or for others
-own-after_others : (m day : ℕ) (firm mid new : Firm) (h : Heard) (hs : List Heard) (reply : Reply) (replies : List Reply) → names m h ≡ false → of m mid ≡ of m firm → IsOwn m day mid hs replies new → IsOwn m day firm (h ∷ hs) (reply ∷ replies) new
-own-after_others m day firm mid new h hs reply replies unnamed same again = record { answers = answers (names m h) unnamed; rows = rows (names m h) unnamed }
-  where
-    answers : (b : Bool) → b ≡ false → cond b (reply ∷ told m hs replies) (told m hs replies) ≡ solo_replies m (of m firm) (cond b (own_of day h ∷ project m day hs) (project m day hs))
-    answers true e = absurd (cc)
-    answers false e = again.answers ∙ ap (λ rows. solo_replies m rows (project m day hs)) same
-
-    rows : (b : Bool) → b ≡ false → of m new ≡ solo_rows (of m firm) (cond b (own_of day h ∷ project m day hs) (project m day hs))
-    rows true e = absurd (cc)
-    rows false e = again.rows ∙ ap (λ rs. solo_rows rs (project m day hs)) same
-
-pub stopped-same : (firm new : Firm) (h : Heard) → Stopped firm h new → new ≡ firm
-stopped-same firm new (Asks (Matter m caller ask)) is = is
-stopped-same firm new (Unread n r) is = is
-
-pub keeps-others : (day : ℕ) (firm new : Firm) (h : Heard) (reply : Reply) → Steps day firm h reply new → KeepsOthers firm h new
-keeps-others day firm new h reply step m unnamed = cases (is_fault_reply reply) step
-  where
-    cases : (b : Bool) → MatchBool b (Stopped firm h new) ((reply ≡ (firm_step day firm h).reply) × (new ≡ (firm_step day firm h).firm)) → of m new ≡ of m firm
-    cases true is = ap (of m) (stopped-same firm new h is)
-    cases false is = ap (of m) is.1 ∙ other-rows m day firm h unnamed
+-- one more step in front
+own-more : (m day : ℕ) (firm mid new : Firm) (h : Heard) (hs : List Heard) (reply : Reply) (replies : List Reply) → IsOwnStep m day firm h reply mid → IsOwn m day mid hs replies new → IsOwn m day firm (h ∷ hs) (reply ∷ replies) new
+own-more m day firm mid new h hs reply replies one more = record {
+  answers =
+      told-more (names m h) reply (told m hs replies)
+      ∙ ((λ i. one.answers i ++ (more.answers ∙ ap (λ rows. solo_replies m rows (project m day hs)) one.rows) i)
+      ∙ sym (solo_replies-append m (of m firm) (own_of m day h) (project m day hs)));
+  rows = more.rows ∙ (ap (λ rows. solo_rows rows (project m day hs)) one.rows ∙ sym (solo_rows-append (of m firm) (own_of m day h) (project m day hs)));
+}
 
 pub each-own : EachMatterOwn
 each-own m day firm [] [] new fine run = record { answers = refl; rows = ap (of m) run }
 each-own m day firm [] (reply ∷ replies) new fine run = absurd run
 each-own m day firm (h ∷ hs) [] new fine run = absurd run
-each-own m day firm (h ∷ hs) (reply ∷ replies) new fine run = cases (names m h) refl fine (λ good. each-own m day run.0 hs replies new good run.2)
-  where
-    cases : (b : Bool) → names m h ≡ b → NoFaults (cond b (reply ∷ told m hs replies) (told m hs replies)) → (NoFaults (told m hs replies) → IsOwn m day run.0 hs replies new) → IsOwn m day firm (h ∷ hs) (reply ∷ replies) new
-    cases true named good again =
-        let step = unstopped (is_fault_reply reply) (Stopped firm h run.0) _ good.0 run.1 in
-        own-more m day firm run.0 new h hs reply replies named step.0 step.1 (again good.1)
-    cases false unnamed good again =
-        own-after_others m day firm run.0 new h hs reply replies unnamed (keeps-others day firm run.0 h reply run.1 m unnamed) (again good)
+each-own m day firm (h ∷ hs) (reply ∷ replies) new fine run =
+    own-more m day firm run.0 new h hs reply replies (steps-own m day firm run.0 h reply fine.0 run.1) (each-own m day run.0 hs replies new fine.1 run.2)
 
 pub same-for_the_matter : SameForTheMatter
 same-for_the_matter m d e f g ps qs rs ss f' g' rows heard fine well here there =
@@ -118,15 +174,11 @@ same-for_the_matter m d e f g ps qs rs ss f' g' rows heard fine well here there 
     )
 
 -- the replies to the first requests
-pub own-run : (m day : ℕ) (firm new : Firm) (requests : List Request) (i : ℕ) (replies all : List Reply) → all ≡ replies → length replies ≡ i → Runs day firm (heard (take i requests)) replies new → NoFaults (told m (heard (take (length all) requests)) all) → IsOwn m day firm (heard (take (length all) requests)) all new
+pub own-run : (m day : ℕ) (firm new : Firm) (requests : List Request) (i : ℕ) (replies all : List Reply) → all ≡ replies → length replies ≡ i → Runs day firm (heard (take i requests)) replies new → IsUnstopped m (heard (take (length all) requests)) all → IsOwn m day firm (heard (take (length all) requests)) all new
 own-run m day firm new requests i replies all same long run =
-    subst (λ (rs : List Reply). NoFaults (told m (heard (take (length rs) requests)) rs) → IsOwn m day firm (heard (take (length rs) requests)) rs new) (sym same)
+    subst (λ (rs : List Reply). IsUnstopped m (heard (take (length rs) requests)) rs → IsOwn m day firm (heard (take (length rs) requests)) rs new) (sym same)
     (λ fine. each-own m day firm (heard (take (length replies) requests)) replies new fine (subst (λ n. Runs day firm (heard (take n requests)) replies new) (sym long) run))
 
 -- a single step
 pub own-once : (m day : ℕ) (firm new : Firm) (h : Heard) (reply : Reply) → is_fault_reply reply ≡ false → Steps day firm h reply new → IsOwn m day firm (h ∷ []) (reply ∷ []) new
-own-once m day firm new h reply fine step = each-own m day firm (h ∷ []) (reply ∷ []) new (good (names m h)) (new, step, refl)
-  where
-    good : (b : Bool) → NoFaults (cond b (reply ∷ []) [])
-    good true = (fine, tt)
-    good false = tt
+own-once m day firm new h reply fine step = each-own m day firm (h ∷ []) (reply ∷ []) new ((λ concerned. fine), tt) (new, step, refl)

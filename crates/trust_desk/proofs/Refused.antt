@@ -1,12 +1,12 @@
 -- What a refusal of the plan is.
-use Rattle.std.proofs.Common.{◌≡◌, ◌⊎◌, inl, inr, ℕ, Bool, true, false, cond, Option, Some, None, refl, sym, ap, ◌∙◌, subst}
+use Rattle.std.proofs.Common.{◌≡◌, ◌⊎◌, inl, inr, ℕ, Bool, true, false, cond, Option, Some, refl, sym, ap, ◌∙◌, subst}
 use Rattle.trust_base.specs.declared.refusal.Refusal.{Refusal}
 use Rattle.trust_base.specs.declared.refusal.Refusal.TheVariants as refusals
 use Rattle.trust_base.specs.declared.refusal.StoreFault.{StoreFault}
 use Rattle.trust_base.specs.declared.refusal.StoreFault.TheVariants as faults
 use Rattle.trust_base.specs.Refusals.{is_fault, refused_by}
 use Rattle.trust_matter.specs.declared.asks.Ask.{Ask}
-use Rattle.trust_matter.specs.Facts.{Asked, number_of}
+use Rattle.trust_matter.specs.Facts.{Asked, fund_named, number_of}
 use Rattle.trust_matter.specs.Shares.{number_or_none}
 use Rattle.trust_matter.specs.Sound.{Sound}
 use Rattle.trust_matter.specs.Parts.{Part, IsPart, holds_for}
@@ -85,8 +85,8 @@ fault-counted faults.Memory r n is = ap (λ x. counted_refusal x n) is
 -- What is read of a matter.
 
 -- what holds of all sound rows of which the part is one holds of those that it was read from
-pub at-part : (P : Rows → Type 0) (firm : Firm) (m : ℕ) (ask : Ask) (entry : Option ℕ) (part : Part) → number_or_none entry ≡ number_of ask → FirmSound firm → IsPartFor (of m firm) entry None part → ((rows : Rows) → Sound rows → IsPart part rows → holds_for part ask ≡ true → P rows) → P (of m firm)
-at-part P firm m ask entry part same sound is all = all (of m firm) (sound.matters m) is.is_part (named-held (of m firm) ask entry None part same is)
+pub at-part : (P : Rows → Type 0) (firm : Firm) (m : ℕ) (ask : Ask) (entry other : Option ℕ) (part : Part) → number_or_none entry ≡ number_of ask → number_or_none other ≡ fund_named ask → FirmSound firm → IsPartFor (of m firm) entry other part → ((rows : Rows) → Sound rows → IsPart part rows → holds_for part ask ≡ true → P rows) → P (of m firm)
+at-part P firm m ask entry other part same fund sound is all = all (of m firm) (sound.matters m) is.is_part (named-held (of m firm) ask entry other part same fund is)
 
 -- what is planned and written is the step
 pub plan-accepted : (firm new : Firm) (m : ℕ) (a : Asked) (p : Planned) → IsPlanned m (of m firm) a p → new ≡ after_change m p.change firm → IsAccepted firm m a p.reply new

@@ -27,7 +27,7 @@ abbrev pub counted_replies : List Reply → ℕ → ℕ
 counted_replies [] n = n
 counted_replies (reply ∷ replies) n = counted_replies replies (counted_reply reply n)
 
--- the same after what is answered of an ask
-abbrev pub counted_end : Result Reply Refusal → ℕ → ℕ
-counted_end (Ok reply) n = n
+-- the same after a result that is no reply yet
+abbrev pub counted_end : {T : Type 0} → Result T Refusal → ℕ → ℕ
+counted_end (Ok x) n = n
 counted_end (Err r) n = counted_refusal r n

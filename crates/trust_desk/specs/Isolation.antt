@@ -2,8 +2,8 @@
 use Rattle.std.specs.Prelude.{ℕ, ◌≡◌, false, List}
 use Rattle.trust_firm.specs.Firm.{Firm, of}
 use Rattle.trust_desk.specs.declared.requests.Reply.{Reply}
-use Rattle.trust_desk.specs.Heard.{Heard, names, project, told}
-use Rattle.trust_desk.specs.FirmStep.{Runs, NoFaults}
+use Rattle.trust_desk.specs.Heard.{Heard, concerns, project, told}
+use Rattle.trust_desk.specs.FirmStep.{Runs, IsUnstopped}
 use Rattle.trust_desk.specs.Solo.{solo_rows, solo_replies}
 
 -- the matter's replies, and its rows afterwards, are those of its own machine
@@ -11,18 +11,18 @@ pub record IsOwn (m day : ℕ) (firm : Firm) (hs : List Heard) (replies : List R
   pub answers : told m hs replies ≡ solo_replies m (of m firm) (project m day hs)
   pub rows : of m new ≡ solo_rows (of m firm) (project m day hs)
 
--- the rows of each matter that is not named stay as they are
+-- the rows of each matter that is not concerned stay as they are
 abbrev pub KeepsOthers : Firm → Heard → Firm → Type 0
-KeepsOthers firm h new = (m : ℕ) → names m h ≡ false → of m new ≡ of m firm
+KeepsOthers firm h new = (m : ℕ) → concerns m h ≡ false → of m new ≡ of m firm
 
--- in every run each matter's replies and rows are those of its own machine, where none of its own requests was
--- stopped, whatever became of the others
+-- in every run each matter's replies and rows are those of its own machine, where nothing that concerns it was
+-- stopped, whatever became of the rest
 abbrev pub EachMatterOwn : Type 0
-EachMatterOwn = (m day : ℕ) (firm : Firm) (hs : List Heard) (replies : List Reply) (new : Firm) → NoFaults (told m hs replies) → Runs day firm hs replies new → IsOwn m day firm hs replies new
+EachMatterOwn = (m day : ℕ) (firm : Firm) (hs : List Heard) (replies : List Reply) (new : Firm) → IsUnstopped m hs replies → Runs day firm hs replies new → IsOwn m day firm hs replies new
 
 -- two firms with the same rows of a matter that hear the same for it tell it the same and leave it the same,
 -- whatever else they have and hear
 abbrev pub SameForTheMatter : Type 0
 SameForTheMatter =
     (m d e : ℕ) (f g : Firm) (ps qs : List Heard) (rs ss : List Reply) (f' g' : Firm) → of m f ≡ of m g → project m d ps ≡ project m e qs
-    → NoFaults (told m ps rs) → NoFaults (told m qs ss) → Runs d f ps rs f' → Runs e g qs ss g' → (told m ps rs ≡ told m qs ss) × (of m f' ≡ of m g')
+    → IsUnstopped m ps rs → IsUnstopped m qs ss → Runs d f ps rs f' → Runs e g qs ss g' → (told m ps rs ≡ told m qs ss) × (of m f' ≡ of m g')

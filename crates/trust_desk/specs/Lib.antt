@@ -2,6 +2,9 @@ pub mod Json
 pub mod Values
 pub mod Bodies
 pub mod Replies
+pub mod ItemStep
+pub mod Imports
+pub mod ImportStep
 pub mod Heard
 pub mod FirmStep
 pub mod Solo

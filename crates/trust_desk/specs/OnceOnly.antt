@@ -1,12 +1,17 @@
--- What was asked and accepted adds at most one entry, however often it is sent.
+-- What was asked and accepted adds at most one entry, and a line is applied at most once, however often they are sent.
 use Rattle.std.specs.Prelude.{ℕ, ◌≡◌, List, [], ◌∷◌, IsSome, None}
+use Rattle.trust_matter.specs.declared.bank_line.BankLine.{BankLine}
 use Rattle.trust_matter.specs.Facts.{Asked}
 use Rattle.trust_matter.specs.Conditions.{number_made}
 use Rattle.trust_matter.specs.Step.{refusal}
 use Rattle.trust_matter.specs.Laws.{IsSpent}
-use Rattle.trust_firm.specs.Firm.{Firm, of}
+use Rattle.trust_firm.specs.Firm.{Firm, of, after_match}
+use Rattle.statement_csv.specs.declared.item.Item.{Item}
+use Rattle.statement_csv.specs.declared.item.Item.TheVariants as item
+use Rattle.trust_desk.specs.declared.importing.Counted.TheVariants as counted
 use Rattle.trust_desk.specs.declared.requests.Reply.{Reply}
 use Rattle.trust_desk.specs.Heard.{Heard}
+use Rattle.trust_desk.specs.ItemStep.{after_item, after_items, counted_of}
 use Rattle.trust_desk.specs.FirmStep.{after_ask, Runs}
 
 -- what is heard on a day, and the replies
@@ -26,3 +31,23 @@ abbrev pub OnceOnly : Type 0
 OnceOnly =
     (m : ℕ) (a again : Asked) (firm new : Firm) (between : List DayRun) → IsSome (number_made a.ask) → refusal (of m firm) a ≡ None
     → RunsOn (after_ask m a firm) between new → again.ask ≡ a.ask → IsSpent (of m new) again × (after_ask m again new ≡ new)
+
+-- a line for the same entry, of the same date, reference of the bank and amount, in whatever words
+pub record ComesAgain (l again : BankLine) : Type 0 where
+  pub matter : again.matter ≡ l.matter
+  pub entry : again.entry ≡ l.entry
+  pub date : again.line.date ≡ l.line.date
+  pub bank_ref : again.line.bank_ref ≡ l.line.bank_ref
+  pub amount : again.line.amount ≡ l.line.amount
+
+-- the line is a repeat: it is no exception from then on, and nothing else changes
+pub record IsRepeated (day : ℕ) (firm : Firm) (l : BankLine) : Type 0 where
+  pub repeat : counted_of day firm (item.OfMatter l) ≡ counted.Repeated
+  pub leaves : after_item day firm (item.OfMatter l) ≡ after_match l.line firm
+
+-- a line that was applied is a repeat when it comes again: in any file, behind the rest of its own and the front of that
+-- in which it comes again, on whatever day, and whatever was run in between, with or without faults
+abbrev pub LineOnceOnly : Type 0
+LineOnceOnly =
+    (l again : BankLine) (day later : ℕ) (firm mid : Firm) (rest front : List Item) (between : List DayRun) → counted_of day firm (item.OfMatter l) ≡ counted.Applied → ComesAgain l again
+    → RunsOn (after_items day firm (item.OfMatter l ∷ rest)) between mid → IsRepeated later (after_items later mid front) again

@@ -1,5 +1,5 @@
 -- Replies, by a matter's rows.
-use Rattle.std.specs.Prelude.{ℕ, Bool, false, List, [], Option, Some, None, if◌then◌else◌}
+use Rattle.std.specs.Prelude.{ℕ, Bool, false, List, [], Option, Some, None, if◌then◌else◌, Result, Ok, Err}
 use Rattle.trust_base.specs.declared.refusal.Refusal.{Refusal}
 use Rattle.trust_base.specs.Refusals.{status_of, is_fault}
 use Rattle.trust_matter.specs.declared.rows.Entry.{Entry}
@@ -18,6 +18,11 @@ use Rattle.trust_desk.specs.Bodies.{matter_body, receipt_body, entry_body}
 -- the reply to what is refused
 abbrev pub refused : Refusal → Reply
 refused r = record { status = status_of r; body = Refused r }
+
+-- the reply that was made, or that to the refusal
+abbrev pub reply_for : Result Reply Refusal → Reply
+reply_for (Ok reply) = reply
+reply_for (Err r) = refused r
 
 -- Faults.
 
@@ -49,18 +54,26 @@ body_of m rows (ask.AddSeat s) = matter_body m rows
 body_of m rows (ask.DropSeat p) = matter_body m rows
 body_of m rows (ask.Deposit a) = made_text m a.number (entry_at rows.entries a.number)
 body_of m rows (ask.CancelDeposit n) = shown_text m n rows.entries (entry_at rows.entries n)
+body_of m rows (ask.Propose a) = made_text m a.number (entry_at rows.entries a.number)
+body_of m rows (ask.Approve n) = shown_text m n rows.entries (entry_at rows.entries n)
+body_of m rows (ask.Decline n) = shown_text m n rows.entries (entry_at rows.entries n)
+body_of m rows (ask.VoidPayment n) = shown_text m n rows.entries (entry_at rows.entries n)
+body_of m rows (ask.EarnFee a) = made_text m a.number (entry_at rows.entries a.number)
+body_of m rows (ask.RaiseClaim a) = made_text m a.number (entry_at rows.entries a.number)
+body_of m rows (ask.Offer a) = shown_text m a.number rows.entries (entry_at rows.entries a.number)
+body_of m rows (ask.Accept a) = shown_text m a.number rows.entries (entry_at rows.entries a.number)
+body_of m rows (ask.Award a) = shown_text m a.number rows.entries (entry_at rows.entries a.number)
 body_of m rows ask.Show = matter_body m rows
 body_of m rows (ask.ShowEntry n) = shown_text m n rows.entries (entry_at rows.entries n)
 
 -- 201 where something is made, which a repeat does not
 abbrev pub success_of : Ask → Bool → ℕ
 success_of (ask.OpenMatter a) again = 201
-success_of (ask.AddSeat s) again = 200
-success_of (ask.DropSeat p) again = 200
 success_of (ask.Deposit a) again = if again then 200 else 201
-success_of (ask.CancelDeposit n) again = 200
-success_of ask.Show again = 200
-success_of (ask.ShowEntry n) again = 200
+success_of (ask.Propose a) again = if again then 200 else 201
+success_of (ask.EarnFee a) again = if again then 200 else 201
+success_of (ask.RaiseClaim a) again = if again then 200 else 201
+success_of _ again = 200
 
 -- the reply to an accepted ask
 abbrev pub accepted : ℕ → Rows → Asked → Reply

@@ -1,18 +1,22 @@
 -- A matter's own machine: it knows of no rows but the matter's.
-use Rattle.std.specs.Prelude.{ℕ, List, [], ◌∷◌}
+use Rattle.std.specs.Prelude.{ℕ, List, [], ◌∷◌, ◌++◌}
 use Rattle.trust_matter.specs.Rows.{Rows}
 use Rattle.trust_matter.specs.Step.{rows_after}
+use Rattle.trust_matter.specs.LineStep.{rows_after_line}
 use Rattle.trust_desk.specs.declared.requests.Reply.{Reply}
 use Rattle.trust_desk.specs.Replies.{refused, reply_of}
-use Rattle.trust_desk.specs.Heard.{Own, OwnAsk, OwnRefusal}
+use Rattle.trust_desk.specs.Heard.{Own, OwnAsk, OwnRefusal, OwnLine}
 
 abbrev pub own_rows : Rows → Own → Rows
 own_rows rows (OwnAsk a) = rows_after rows a
 own_rows rows (OwnRefusal r) = rows
+own_rows rows (OwnLine l day) = rows_after_line rows l day
 
-abbrev pub own_reply : ℕ → Rows → Own → Reply
-own_reply m rows (OwnAsk a) = reply_of m rows a
-own_reply m rows (OwnRefusal r) = refused r
+-- the reply to what comes; a line has none
+abbrev pub own_reply : ℕ → Rows → Own → List Reply
+own_reply m rows (OwnAsk a) = reply_of m rows a ∷ []
+own_reply m rows (OwnRefusal r) = refused r ∷ []
+own_reply m rows (OwnLine l day) = []
 
 -- the matter's rows after all that comes to it
 abbrev pub solo_rows : Rows → List Own → Rows
@@ -22,4 +26,4 @@ solo_rows rows (own ∷ owns) = solo_rows (own_rows rows own) owns
 -- the replies to all that comes to matter m
 abbrev pub solo_replies : ℕ → Rows → List Own → List Reply
 solo_replies m rows [] = []
-solo_replies m rows (own ∷ owns) = own_reply m rows own ∷ solo_replies m (own_rows rows own) owns
+solo_replies m rows (own ∷ owns) = own_reply m rows own ++ solo_replies m (own_rows rows own) owns

@@ -126,19 +126,19 @@ pub fn entry_body(
     }
 }
 
-/// What became of the lines of a bank's statement: how many were applied, are now exceptions, were applied
-/// before or could not be read, and the day of the statement's balance.
+/// What became of the items of a bank's statement: how many lines were applied, came again or are now exceptions,
+/// how many records could not be read, and the day of the last closing balance that was applied or came again.
 #[derive(Clone, Copy, PartialEq, Eq, Debug)]
-pub struct ImportCounts {
+pub struct ImportReply {
     pub applied: u64,
-    pub exceptions: u64,
     pub repeated: u64,
-    pub statement: Option<Day>,
+    pub exceptions: u64,
     pub unreadable: u64,
+    pub statement: Option<Day>,
 }
 
 /// The body of an import of a bank's statement. The only error is want of memory.
-pub fn import_body(alloc: Global, counts: &ImportCounts) -> Result<Vec<u8>, AllocError>
+pub fn import_body(alloc: Global, counts: &ImportReply) -> Result<Vec<u8>, AllocError>
     ensures { IfOk result (λ bytes. bytes.items ≡ import_body counts.now.applied counts.now.exceptions counts.now.repeated counts.now.statement counts.now.unreadable) }
 {
     object_text(

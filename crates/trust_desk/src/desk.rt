@@ -1,16 +1,21 @@
 //! The desk: requests in, replies out, over any book.
 
-ghost use Rattle.std.specs.Prelude.{◌≡◌, ℕ, length, take, ◌∷◌, [], false};
+ghost use Rattle.std.specs.Prelude.{◌≡◌, ℕ, IfOk, length, take, ◌∷◌, [], false, is_none};
 ghost use Rattle.trust_firm.specs.FirmSound.{FirmSound};
-ghost use Rattle.trust_desk.specs.Heard.{Asks, asked_on, heard, told};
-ghost use Rattle.trust_desk.specs.Replies.{is_fault_reply};
-ghost use Rattle.trust_desk.specs.FirmStep.{Steps, Runs, NoFaults};
+ghost use Rattle.statement_csv.specs.Items.{items};
+ghost use Rattle.trust_desk.specs.Heard.{Asks, asked_on, heard};
+ghost use Rattle.trust_desk.specs.Replies.{is_fault_reply, reply_for};
+ghost use Rattle.trust_desk.specs.ImportStep.{EndsItems, items_in};
+ghost use Rattle.trust_desk.specs.FirmStep.{Steps, Runs, IsUnstopped};
 ghost use Rattle.trust_desk.specs.Isolation.{IsOwn, KeepsOthers};
 ghost use Rattle.trust_desk.specs.Counts.{counted_reply, counted_replies, counted_end};
 ghost use Rattle.trust_desk.specs.Plan.{Ends};
 
-use crate::planning::{entry_named, plan};
-use crate::requests::{End, Reply, Request, RunEnd};
+use crate::bodies::{ImportReply, import_body};
+use crate::import_checks::check_import;
+use crate::importing::{ImportEnd, ImportStop};
+use crate::planning::plan;
+use crate::requests::{Body, End, JsonText, Reply, Request, RunEnd, StatementText};
 use std::alloc::Global;
 use std::marker::Model;
 use trust_base::{Day, MatterNo, Refusal};
@@ -20,7 +25,7 @@ use trust_store::Book;
 /// Answers requests over a book. Contracts see it as the book.
 #[derive(Drop)]
 pub struct Desk<B: Book> {
-    book: B,
+    pub(crate) book: B,
 }
 
 impl<B: Book> Model for Desk<B> {
@@ -45,7 +50,8 @@ impl<B: Book> Desk<B> {
         book
     }
 
-    /// Answers one request on a business day. With an answer of Store or Memory nothing has changed.
+    /// Answers one request on a business day. With an answer of Store or Memory nothing has changed, but that of an
+    /// import the first items may have been applied.
     pub fn answer(&mut self, alloc: Global, request: &Request, day: Day) -> Reply
         // A book whose store is clean holds sound rows.
         requires { B.clean self.old → FirmSound (B.firm self.old) }
@@ -62,6 +68,74 @@ impl<B: Book> Desk<B> {
     {
         match request {
             Request::Matter { no, caller, ask } => self.answer_ask(alloc, *no, caller, ask, day),
+            Request::Import { caller, statement } => {
+                self.answer_import(alloc, caller, statement, day)
+            }
+        }
+    }
+
+    fn answer_import(
+        &mut self,
+        alloc: Global,
+        caller: &Caller,
+        statement: &StatementText,
+        day: Day,
+    ) -> Reply
+        requires { B.clean self.old → FirmSound (B.firm self.old) }
+        ensures step { B.clean self.new → Steps day (B.firm self.old) (Asks (Request.Import caller.now statement.now)) result (B.firm self.new) }
+        ensures sound { B.clean self.new → FirmSound (B.firm self.new) }
+        ensures was_clean { B.clean self.new → B.clean self.old }
+        ensures cause { B.clean self.new → B.refusals self.new ≡ counted_reply result (B.refusals self.old) }
+    {
+        match self.try_import(alloc, caller, statement.as_slice(), day) {
+            Ok(counted) => counted,
+            Err(why) => Reply::refused(why),
+        }
+    }
+
+    fn try_import(
+        &mut self,
+        alloc: Global,
+        caller: &Caller,
+        bytes: &[u8],
+        day: Day,
+    ) -> Result<Reply, Refusal>
+        requires { B.clean self.old → FirmSound (B.firm self.old) }
+        ensures step { B.clean self.new → Steps day (B.firm self.old) (Asks (Request.Import caller.now bytes.now)) (reply_for result) (B.firm self.new) }
+        ensures ok { IfOk result (λ reply. is_fault_reply reply ≡ false) }
+        ensures sound { B.clean self.new → FirmSound (B.firm self.new) }
+        ensures was_clean { B.clean self.new → B.clean self.old }
+        ensures cause { B.clean self.new → B.refusals self.new ≡ counted_end result (B.refusals self.old) }
+    {
+        check_import(alloc, caller, bytes)?;
+        let counts = self.import_bytes(alloc, bytes, day)?;
+        let text = import_body(alloc, &counts)?;
+        Ok(Reply {
+            status: 200,
+            body: Body::Json(JsonText::new(text)),
+        })
+    }
+
+    // Applies the items of a statement whose header is good.
+    fn import_bytes(
+        &mut self,
+        alloc: Global,
+        bytes: &[u8],
+        day: Day,
+    ) -> Result<ImportReply, Refusal>
+        requires sound { B.clean self.old → FirmSound (B.firm self.old) }
+        requires header { is_none (items bytes.now) ≡ false }
+        ensures end { B.clean self.new → EndsItems day (B.firm self.old) (items_in bytes.now) (B.firm self.new) result }
+        ensures sound { B.clean self.new → FirmSound (B.firm self.new) }
+        ensures was_clean { B.clean self.new → B.clean self.old }
+        ensures cause { B.clean self.new → B.refusals self.new ≡ counted_end result (B.refusals self.old) }
+    {
+        let ImportEnd { reply, end } = self.import(alloc, bytes, day);
+        match end {
+            ImportStop::Done => Ok(reply),
+            ImportStop::Refused(refusal) => Err(refusal),
+            // Bytes that are held and are not too long end early for want of memory alone.
+            ImportStop::Limit | ImportStop::ReadFault => Err(Refusal::Memory),
         }
     }
 
@@ -99,7 +173,9 @@ impl<B: Book> Desk<B> {
         ensures was_clean { B.clean self.new → B.clean self.old }
         ensures cause { B.clean self.new → B.refusals self.new ≡ counted_end result (B.refusals self.old) }
     {
-        let matter = self.book.matter_for(alloc, no, entry_named(ask), None)?;
+        let matter = self
+            .book
+            .matter_for(alloc, no, ask.number(), ask.fund_number())?;
         let planned = plan(alloc, no, matter, caller, ask, day)?;
         self.book.write_change(alloc, no, &planned.change)?;
         Ok(planned.reply)
@@ -114,7 +190,7 @@ impl<B: Book> Desk<B> {
         // The replies are those to the first requests.
         ensures run { B.clean self.new → Runs day (B.firm self.old) (heard (take (length result.replies.items) requests.now)) result.replies.items (B.firm self.new) }
         ensures done { result.end ≡ End.Done → length result.replies.items ≡ length requests.now }
-        ensures own { B.clean self.new → (m : ℕ) → NoFaults (told m (heard (take (length result.replies.items) requests.now)) result.replies.items)
+        ensures own { B.clean self.new → (m : ℕ) → IsUnstopped m (heard (take (length result.replies.items) requests.now)) result.replies.items
             → IsOwn m day (B.firm self.old) (heard (take (length result.replies.items) requests.now)) result.replies.items (B.firm self.new) }
         ensures sound { B.clean self.new → FirmSound (B.firm self.new) }
         ensures was_clean { B.clean self.new → B.clean self.old }

@@ -3,7 +3,7 @@
 ghost use Rattle.trust_desk.specs.BodyLaws.{EntryReadsBack, ImportReadsBack, MatterReadsBack, ReceiptReadsBack};
 ghost use Rattle.trust_desk.specs.Isolation.{EachMatterOwn, SameForTheMatter};
 ghost use Rattle.trust_desk.specs.NeverBelowZero.{NeverBelowZero};
-ghost use Rattle.trust_desk.specs.OnceOnly.{OnceOnly};
+ghost use Rattle.trust_desk.specs.OnceOnly.{LineOnceOnly, OnceOnly};
 
 /// A body is read back, as serde_json reads, as the object that it is the text of. So no member is lost,
 /// and no key comes twice or out of order.
@@ -25,12 +25,14 @@ pub fn two_firms()
     ensures { SameForTheMatter }
 {}
 
-/// A sound firm is sound after every step, and no matter's ledger is ever below zero.
+/// A sound firm is sound after every step and every item of an import, and no matter's ledger is ever below zero.
 pub fn never_below_zero()
     ensures { NeverBelowZero }
 {}
 
-/// An ask that makes an entry adds at most one, however often it is sent.
+/// An ask that makes an entry adds at most one, and a line of the bank is applied at most once, however often they
+/// are sent.
 pub fn once_only()
-    ensures { OnceOnly }
+    ensures asks { OnceOnly }
+    ensures lines { LineOnceOnly }
 {}

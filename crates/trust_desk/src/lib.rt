@@ -4,6 +4,8 @@
 mod bodies;
 mod desk;
 mod entries;
+mod import_checks;
+mod importing;
 mod json_text;
 pub mod laws;
 mod planning;
@@ -11,6 +13,7 @@ mod receipts;
 pub mod requests;
 mod texts;
 
-pub use bodies::{ImportCounts, entry_body, import_body, matter_body, receipt_body};
+pub use bodies::{ImportReply, entry_body, import_body, matter_body, receipt_body};
 pub use desk::Desk;
-pub use requests::{Body, End, JsonText, Reply, Request, RunEnd};
+pub use importing::{Counted, ImportEnd, ImportStop};
+pub use requests::{Body, End, JsonText, Reply, Request, RunEnd, StatementText};

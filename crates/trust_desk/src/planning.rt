@@ -23,17 +23,6 @@ pub(crate) struct Planned {
     pub reply: Reply,
 }
 
-/// The number of the entry that an ask names, if it names one.
-pub(crate) fn entry_named(ask: &Ask) -> Option<EntryNo>
-    ensures { number_or_none result ≡ number_of ask.now }
-{
-    match ask {
-        Ask::Deposit(asked) => Some(asked.number),
-        Ask::CancelDeposit(number) | Ask::ShowEntry(number) => Some(*number),
-        Ask::OpenMatter(_) | Ask::AddSeat(_) | Ask::DropSeat(_) | Ask::Show => None,
-    }
-}
-
 // The body of the entry as it was made, and nothing where there is none.
 fn made_body(
     alloc: Global,
@@ -75,8 +64,16 @@ fn body_after(
 {
     match ask {
         Ask::Deposit(asked) => made_body(alloc, no, matter, asked.number),
-        Ask::CancelDeposit(number) | Ask::ShowEntry(number) => {
-            shown_body(alloc, no, matter, *number)
+        Ask::Propose(asked) => made_body(alloc, no, matter, asked.number),
+        Ask::EarnFee(asked) => made_body(alloc, no, matter, asked.number),
+        Ask::RaiseClaim(asked) => made_body(alloc, no, matter, asked.number),
+        Ask::CancelDeposit(number)
+        | Ask::Approve(number)
+        | Ask::Decline(number)
+        | Ask::VoidPayment(number)
+        | Ask::ShowEntry(number) => shown_body(alloc, no, matter, *number),
+        Ask::Offer(asked) | Ask::Accept(asked) | Ask::Award(asked) => {
+            shown_body(alloc, no, matter, asked.number)
         }
         Ask::OpenMatter(_) | Ask::AddSeat(_) | Ask::DropSeat(_) | Ask::Show => {
             matter_body(alloc, no, matter)
@@ -97,7 +94,8 @@ fn success_of(ask: &Ask, edit: &Edit) -> u16
 {
     match ask {
         Ask::OpenMatter(_) => 201,
-        Ask::Deposit(_) if !is_nothing(edit) => 201,
+        Ask::Deposit(_) | Ask::Propose(_) | Ask::EarnFee(_) | Ask::RaiseClaim(_)
+            if !is_nothing(edit) => { 201 }
         _ => 200,
     }
 }

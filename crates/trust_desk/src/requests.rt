@@ -16,6 +16,39 @@ pub enum Request {
         caller: Caller,
         ask: Ask,
     },
+    /// A caller hands in a statement of the bank.
+    Import {
+        caller: Caller,
+        statement: StatementText,
+    },
+}
+
+/// The bytes of a statement of the bank, of whatever form. Contracts see it as the list of these bytes.
+#[derive(Debug, Drop)]
+pub struct StatementText {
+    bytes: Vec<u8>,
+}
+
+impl Model for StatementText {
+    ghost Value = { List ℕ };
+
+    ghost view = { λ t. t.bytes.items };
+}
+
+impl StatementText {
+    /// The text of these bytes. Takes no memory.
+    pub fn new(bytes: Vec<u8>) -> StatementText
+        ensures { result ≡ bytes.items }
+    {
+        StatementText { bytes }
+    }
+
+    /// The bytes.
+    pub fn as_slice(&self) -> &[u8]
+        ensures { result.now ≡ self.now }
+    {
+        self.bytes.as_slice()
+    }
 }
 
 /// The compact JSON text of an answer. Contracts see it as the list of its bytes.

@@ -1,7 +1,9 @@
 pub mod Changed
 pub mod Joined
 pub mod Kept
+pub mod Lines
 pub mod Order
+pub mod Ordered
 pub mod Solvent
 pub mod Sums
 pub mod Told

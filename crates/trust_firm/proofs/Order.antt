@@ -72,8 +72,8 @@ put-other k m own rows xs apart is = cases (cases_lt k m)
         put-rear k own low (pairs m rows ++ behind m xs) all none
         ∙ ap (λ ys. low ++ ys) (put-rear k own (pairs m rows) (behind m xs) all_own none_own ∙ ap (λ ys. pairs m rows ++ ys) (put-passing k own (λ x. nat_lt m x) xs (grind (arith, nat_tests)) is))
 
-in_order-rewritten : (m : ℕ) (change : MatterChange) (firm : Firm) → IsInOrder firm → IsInOrder (rewritten m change firm)
-in_order-rewritten m change firm order k = cases (k == m) refl
+rows-rewritten : (m : ℕ) (change : MatterChange) (firm : Firm) → IsInOrder firm → (k : ℕ) → put k (of k (rewritten m change firm)) (rewritten m change firm).rows ≡ (rewritten m change firm).rows
+rows-rewritten m change firm order k = cases (k == m) refl
   where
     cases : (b : Bool) → (k == m) ≡ b → put k (of k (rewritten m change firm)) (put m (changed change (of m firm)) firm.rows) ≡ put m (changed change (of m firm)) firm.rows
     cases true same_test =
@@ -82,7 +82,10 @@ in_order-rewritten m change firm order k = cases (k == m) refl
         (λ i. put (same i) (own i) (put m (changed change (of m firm)) firm.rows)) ∙ put-again m (changed change (of m firm)) firm.rows
     cases false other_test =
         let apart : k ≢ m = grind (arith, nat_tests) in
-        ap (λ r. put k r (put m (changed change (of m firm)) firm.rows)) (of_other-rewritten k m change firm apart) ∙ put-other k m (of k firm) (changed change (of m firm)) firm.rows apart (order k)
+        ap (λ r. put k r (put m (changed change (of m firm)) firm.rows)) (of_other-rewritten k m change firm apart) ∙ put-other k m (of k firm) (changed change (of m firm)) firm.rows apart (order.rows k)
+
+in_order-rewritten : (m : ℕ) (change : MatterChange) (firm : Firm) → IsInOrder firm → IsInOrder (rewritten m change firm)
+in_order-rewritten m change firm order = record { rows = rows-rewritten m change firm order; exceptions = order.exceptions }
 
 pub stays-in_order : StaysInOrder
 stays-in_order m change firm order = cases (after-cases m change firm)

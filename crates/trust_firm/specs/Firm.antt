@@ -1,14 +1,20 @@
--- The rows of a firm: one joined list of pairs of a matter and a row, and one of what was moved.
-use Rattle.std.specs.Prelude.{ℕ, ◌+◌, ◌==◌, nat_lt, List, [], ◌∷◌, ◌++◌, map, Option, Some, None}
+-- The rows of a firm: one joined list of pairs of a matter and a row, one of what was moved, and the lines of the bank that
+-- match nothing.
+use Rattle.std.specs.Prelude.{ℕ, ◌+◌, ◌==◌, nat_lt, List, [], ◌∷◌, ◌++◌, map, not, Option, Some, None}
 use Rattle.std.specs.List.{filter}
+use Rattle.trust_base.specs.LineOrder.{is_before, is_same_line}
+use Rattle.trust_base.specs.declared.line.Line.{Line}
 use Rattle.trust_matter.specs.declared.rows.Head.{Head}
 use Rattle.trust_matter.specs.declared.rows.Seat.{Seat}
 use Rattle.trust_matter.specs.declared.rows.Entry.{Entry}
 use Rattle.trust_matter.specs.declared.edits.Edit.{Edit}
 use Rattle.trust_matter.specs.declared.edits.Edit.TheVariants as edit
 use Rattle.trust_matter.specs.declared.change.Movement as change
+use Rattle.trust_matter.specs.declared.bank_line.BankLine.{BankLine}
+use Rattle.trust_matter.specs.declared.line_verdict.LineVerdict.{LineVerdict}
+use Rattle.trust_matter.specs.declared.line_verdict.LineVerdict.TheVariants as verdict
 use Rattle.trust_matter.specs.Rows.{Rows}
-use Rattle.trust_matter.specs.Changes.{MatterChange, changed_by, movement_of}
+use Rattle.trust_matter.specs.Changes.{MatterChange, changed, changed_by, movement_of}
 use Rattle.trust_firm.specs.declared.movement.Movement.{Movement}
 use Rattle.trust_firm.specs.declared.movement.Owner.TheVariants as owner
 
@@ -18,14 +24,16 @@ pub data Row : Type 0 where
   SeatRow : (seat : Seat) → Row
   EntryRow : (number : ℕ) (entry : Entry) → Row
 
--- the rows of all matters, each with the number of its matter, and the movements in the order of acceptance
+-- the rows of all matters, each with the number of its matter; the movements in the order of acceptance; and the
+-- exceptions, a set of whole lines, in their order
 pub record Firm : Type 0 where
   pub rows : List (ℕ × Row)
   pub movements : List Movement
+  pub exceptions : List Line
 
 -- a firm without rows
 abbrev pub empty_firm : Firm
-empty_firm = record { rows = []; movements = [] }
+empty_firm = record { rows = []; movements = []; exceptions = [] }
 
 -- A matter's own rows.
 
@@ -96,6 +104,7 @@ abbrev pub rewritten_by : ℕ → Edit → ℕ → Firm → Firm
 rewritten_by m e last firm = record {
   rows = put m (changed_by e last (of m firm)) firm.rows;
   movements = firm.movements ++ moved_by m e (of m firm);
+  exceptions = firm.exceptions;
 }
 
 -- the firm after an edit of a matter; where nothing is edited all stays as it is
@@ -118,3 +127,34 @@ rewritten m change firm = rewritten_by m change.edit change.last firm
 -- the firm after one change of a matter; where the change is nothing all stays as it is
 abbrev pub after_change : ℕ → MatterChange → Firm → Firm
 after_change m change firm = after_edit m change.edit change.last firm
+
+-- A line of the bank.
+
+-- the lines with one more, in its place among the others
+abbrev pub with_line : Line → List Line → List Line
+with_line line lines = filter (λ x. is_before x line) lines ++ (line ∷ filter (λ x. is_before line x) lines)
+
+-- the lines without one
+abbrev pub without_line : Line → List Line → List Line
+without_line line lines = filter (λ x. not (is_same_line x line)) lines
+
+-- the firm with one more exception
+abbrev pub after_stray : Line → Firm → Firm
+after_stray line firm = record firm { exceptions = with_line line firm.exceptions }
+
+-- the firm with one exception less, if it was one
+abbrev pub after_match : Line → Firm → Firm
+after_match line firm = record firm { exceptions = without_line line firm.exceptions }
+
+-- the firm after a line of the bank that names an entry: one that is applied changes the entry's matter, and is no exception
+-- from then on; nor is one that comes again; one that matches nothing is an exception
+abbrev pub after_line : BankLine → LineVerdict → Firm → Firm
+after_line l (verdict.Applied change) firm = after_match l.line (after_change l.matter change firm)
+after_line l verdict.Repeat firm = after_match l.line firm
+after_line l (verdict.Unmatched r) firm = after_stray l.line firm
+
+-- a matter's rows after a line of its own: changed where the line is applied, and else as they were
+abbrev pub changed_by_line : LineVerdict → Rows → Rows
+changed_by_line (verdict.Applied change) rows = changed change rows
+changed_by_line verdict.Repeat rows = rows
+changed_by_line (verdict.Unmatched r) rows = rows

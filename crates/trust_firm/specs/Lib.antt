@@ -1,3 +1,4 @@
 pub mod Firm
 pub mod FirmSound
 pub mod Journal
+pub mod Exceptions

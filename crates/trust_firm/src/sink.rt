@@ -4,17 +4,21 @@ ghost use Rattle.std.specs.Prelude.{◌≡◌, ℕ, OnOk, OnErr};
 ghost use Rattle.trust_firm.specs.Firm.{Row, HeadRow, SeatRow, EntryRow};
 
 use std::alloc::AllocError;
-use trust_base::{EntryNo, MatterNo};
+use trust_base::{EntryNo, Line, MatterNo};
 use trust_matter::{Entry, Head, Seat};
 
 /// Takes the rows of a firm in order, one call for each kind of row. A row that is refused for want of memory
 /// leaves it as it was.
 pub trait RowSink {
     ghost use Rattle.std.specs.Prelude.{ℕ};
+    ghost use Rattle.trust_base.specs.declared.line.Line.{Line};
     ghost use Rattle.trust_firm.specs.Firm.{Row};
 
     /// What a row of a matter makes of it.
     ghost stepped: { Self → ℕ × Row → Self };
+
+    /// What an exception makes of it.
+    ghost noted: { Self → Line → Self };
 
     /// Takes the head of a matter.
     fn head(&mut self, matter: MatterNo, head: &Head) -> Result<(), AllocError>
@@ -29,5 +33,10 @@ pub trait RowSink {
     /// Takes the entry of a number of a matter.
     fn entry(&mut self, matter: MatterNo, number: EntryNo, entry: &Entry) -> Result<(), AllocError>
         ensures ok { OnOk result (self.new ≡ stepped self.old (matter, EntryRow number entry.now)) }
+        ensures err { OnErr result (self.new ≡ self.old) };
+
+    /// Takes an exception: a whole line of the bank that matches nothing.
+    fn exception(&mut self, line: &Line) -> Result<(), AllocError>
+        ensures ok { OnOk result (self.new ≡ noted self.old line.now) }
         ensures err { OnErr result (self.new ≡ self.old) };
 }

@@ -1,55 +1,22 @@
 -- What is decided on what is kept is decided on the rows.
-use Rattle.std.proofs.Common.{◌≡◌, ℕ, true, refl, ap, sym, ◌∙◌, subst, Result, Ok, Err, IfOk, OnErr, Option, None}
+use Rattle.std.proofs.Common.{◌≡◌, ℕ, true, ap, sym, ◌∙◌, subst, Result, Ok, Err, IfOk, OnErr, Option, None}
 use Rattle.trust_base.specs.declared.refusal.Refusal.{Refusal}
 use Rattle.trust_matter.specs.declared.rows.Head.{Head}
 use Rattle.trust_matter.specs.declared.rows.Entry.{Entry}
 use Rattle.trust_matter.specs.declared.edits.Edit.{Edit}
-use Rattle.trust_matter.specs.declared.edits.Edit.TheVariants as edit
 use Rattle.trust_matter.specs.declared.change.Moves.{Moves}
-use Rattle.trust_matter.specs.declared.change.Movement.{Movement}
 use Rattle.trust_matter.specs.Rows.{Rows, entry_at}
 use Rattle.trust_matter.specs.Facts.{Facts, Asked, number_of, other_of}
-use Rattle.trust_matter.specs.Events.{events_of, events_in}
 use Rattle.trust_matter.specs.Sound.{Sound}
 use Rattle.trust_matter.specs.Parts.{Part, IsPart, kept_at, kept_facts, entry_in, holds_for, is_held_or_none}
-use Rattle.trust_matter.specs.Changes.{MatterChange, IsChange, AreSmallMoves, moved_beyond, movement_of, AreMoved}
+use Rattle.trust_matter.specs.Changes.{MatterChange, AreSmallMoves}
 use Rattle.trust_matter.specs.Moves.{EditMoved, IsMade, movement_kept}
 use Rattle.trust_matter.specs.Step.{HasAmount, IsDecided, Decides, MayRefuse, Gives, refusal, refusal_of, decided, edit_on, last_after}
 use Rattle.trust_matter.proofs.Parts.{facts-same, both}
-use Rattle.trust_matter.proofs.Moved.{changes-are}
+use Rattle.trust_matter.proofs.MadeChange.{change-is}
 use Rattle.trust_matter.proofs.NeverStore.{never-store}
-use Rattle.trust_matter.proofs.Steps.{IsStep, step}
-
--- what an edit moves is told by what is kept
-movement-same : (m : Part) (rows : Rows) (e : Edit) (v : Moves) → IsPart m rows → EditMoved m e v → movement_kept m e ≡ movement_of rows.entries e
-movement-same m rows edit.Nothing v p h = refl
-movement-same m rows (edit.Open o) v p h = refl
-movement-same m rows (edit.Seat s) v p h = refl
-movement-same m rows (edit.Unseat q) v p h = refl
-movement-same m rows (edit.Append x) v p h = refl
-movement-same m rows (edit.Exchange x) v p h =
-    let k = h.0 in
-    let kept = h.1.kept in
-    let there = (p.kept x.number k kept).there in
-    let same : entry_in (kept_at m x.number) ≡ entry_at rows.entries x.number = rw kept (sym there) in
-    ap (λ (o : Option Entry). moved_beyond x.number (events_in o) (events_of x.entry)) same
-
--- the change made by what is kept is one of the rows
-change-is : (m : Part) (rows : Rows) (a : Asked) (c : MatterChange) → IsPart m rows → Sound rows → IsStep rows a c.edit c.last → EditMoved m c.edit c.moves → c.movement ≡ movement_kept m c.edit → IsChange rows c
-change-is m rows a c p s t moved movement =
-    let all = changes-are m rows (other_of a.ask (entry_at rows.entries (number_of a.ask))) (number_of a.ask) c.edit c.moves p s.backed t.may moved in
-    let same : c.movement ≡ movement_of rows.entries c.edit = movement ∙ movement-same m rows c.edit c.moves p moved in
-    let P : Option Movement → Type 0 = λ o. AreMoved rows.entries c.edit o in
-    record {
-      place = t.place;
-      sound = t.sound;
-      not_before = t.not_before;
-      seen = t.seen;
-      movement = same;
-      moved = subst P (sym same) t.moved;
-      figures = all.1;
-      lefts = all.2;
-    }
+use Rattle.trust_matter.proofs.StepForms.{IsStep}
+use Rattle.trust_matter.proofs.Steps.{step}
 
 decided-ok : (m : Part) (rows : Rows) (a : Asked) (e : Edit) (c : MatterChange) → holds_for m a.ask ≡ true → HasAmount a.ask → refusal_of (kept_facts m a.ask) a ≡ None → e ≡ decided (kept_facts m a.ask) a → IsMade m e (last_after m.head e a.day) c → Sound rows → IsPart m rows → IsDecided rows a c
 decided-ok m rows a e c h amount accepted is made s p =
@@ -67,7 +34,7 @@ decided-ok m rows a e c h amount accepted is made s p =
       accepted = on-rows;
       edit = edit-is;
       last = last-is;
-      change = change-is m rows a c p s
+      change = change-is m rows (other_of a.ask (entry_at rows.entries (number_of a.ask))) (number_of a.ask) c p s
           (subst L (sym last-is) (subst E (sym edit-is) (step rows a s amount on-rows)))
           (subst M (sym made.of_edit) made.moved)
           (subst V (sym made.of_edit) made.movement);

@@ -3,6 +3,7 @@ pub mod AllKept
 pub mod Applied
 pub mod Collected
 pub mod Covered
+pub mod MadeChange
 pub mod Decided
 pub mod Naming
 pub mod NeverStore
@@ -24,8 +25,16 @@ pub mod Sums
 pub mod Table
 pub mod Days
 pub mod SeatOrder
+pub mod StepForms
+pub mod DepositSteps
+pub mod PaymentSteps
+pub mod ClaimSteps
+pub mod LineSteps
+pub mod Reasons
+pub mod LineDecided
 pub mod Steps
 pub mod Repeats
+pub mod LineRepeats
 pub mod SoundExamples
 pub mod LastNumber
 pub mod Telling

@@ -5,7 +5,7 @@ use Rattle.std.proofs.lemmas.Bool.{false≢true}
 use Rattle.trust_base.specs.declared.refusal.Refusal.{Refusal}
 use Rattle.trust_base.specs.Refusals.{number_of}
 use Rattle.trust_matter.specs.Facts.{Facts, Asked}
-use Rattle.trust_matter.specs.Conditions.{has_no_seat, is_not_allowed, is_opened_already, is_closed, goes_backwards, is_not_next, is_not_there, is_of_another_kind, is_in_another_state, has_a_seat_already, has_none_to_drop, would_lose_its_last_lawyer, is_repeat}
+use Rattle.trust_matter.specs.Conditions.{has_no_seat, is_not_allowed, is_opened_already, is_closed, goes_backwards, is_not_next, is_not_there, is_of_another_kind, is_in_another_state, is_to_cash, is_to_wrong_payee, is_bad_split, is_short, has_a_seat_already, has_none_to_drop, would_lose_its_last_lawyer, is_repeat}
 use Rattle.trust_matter.specs.Step.{first, conditions, early_conditions, later_conditions}
 use Rattle.trust_matter.specs.Laws.{Stands, LeastRefusal, NoneHolds as NoRefusal}
 
@@ -35,6 +35,10 @@ pub record Passes (f : Facts) (a : Asked) : Type 0 where
   pub there : is_not_there f a ≡ false
   pub kind : is_of_another_kind f a ≡ false
   pub state : is_in_another_state f a ≡ false
+  pub not_cash : is_to_cash f a ≡ false
+  pub payee : is_to_wrong_payee f a ≡ false
+  pub split : is_bad_split f a ≡ false
+  pub enough : is_short f a ≡ false
   pub seat_free : has_a_seat_already f a ≡ false
   pub seat_taken : has_none_to_drop f a ≡ false
   pub lawyer_left : would_lose_its_last_lawyer f a ≡ false
@@ -53,9 +57,13 @@ passes f a h =
       there = l.1.1.1.1.0;
       kind = l.1.1.1.1.1.0;
       state = l.1.1.1.1.1.1.0;
-      seat_free = l.1.1.1.1.1.1.1.0;
-      seat_taken = l.1.1.1.1.1.1.1.1.0;
-      lawyer_left = l.1.1.1.1.1.1.1.1.1.0;
+      not_cash = l.1.1.1.1.1.1.1.0;
+      payee = l.1.1.1.1.1.1.1.1.0;
+      split = l.1.1.1.1.1.1.1.1.1.0;
+      enough = l.1.1.1.1.1.1.1.1.1.1.0;
+      seat_free = l.1.1.1.1.1.1.1.1.1.1.1.0;
+      seat_taken = l.1.1.1.1.1.1.1.1.1.1.1.1.0;
+      lawyer_left = l.1.1.1.1.1.1.1.1.1.1.1.1.1.0;
     }
 
 pub first_stands : (cs : List (Bool × Refusal)) (r : Refusal) → first cs ≡ Some r → Stands cs r

@@ -1,5 +1,5 @@
 -- When an ask is refused: one test for each refusal, told by its name.
-use Rattle.std.specs.Prelude.{ℕ, Bool, true, false, not, ◌&&◌, ◌==◌, nat_lt, List, Option, Some, None, is_some, is_none}
+use Rattle.std.specs.Prelude.{ℕ, Bool, true, false, not, ◌&&◌, ◌==◌, nat_lt, List, Option, Some, None, is_some, is_none, ℤ, pos, negsuc}
 use Rattle.std.specs.List.{list_any}
 use Rattle.std.specs.Str.{bytes_eq}
 use Rattle.trust_matter.specs.declared.rows.Role.{Role}
@@ -8,13 +8,27 @@ use Rattle.trust_matter.specs.declared.rows.Head.{Head}
 use Rattle.trust_matter.specs.declared.rows.Seat.{Seat}
 use Rattle.trust_matter.specs.declared.rows.DepositState.{DepositState}
 use Rattle.trust_matter.specs.declared.rows.DepositState.TheVariants as deposit
+use Rattle.trust_matter.specs.declared.rows.PaymentState.{PaymentState}
+use Rattle.trust_matter.specs.declared.rows.PaymentState.TheVariants as payment
+use Rattle.trust_matter.specs.declared.rows.ClaimState.{ClaimState}
+use Rattle.trust_matter.specs.declared.rows.ClaimState.TheVariants as claim
+use Rattle.trust_matter.specs.declared.rows.Fund.{Fund}
+use Rattle.trust_matter.specs.declared.rows.Fund.TheVariants as fund
+use Rattle.trust_matter.specs.declared.rows.Against.{Against}
+use Rattle.trust_matter.specs.declared.rows.Against.TheVariants as against
 use Rattle.trust_matter.specs.declared.rows.Entry.{Entry}
 use Rattle.trust_matter.specs.declared.rows.Entry.TheVariants as entry
 use Rattle.trust_matter.specs.declared.asks.DepositAsk.{DepositAsk}
+use Rattle.trust_matter.specs.declared.asks.PaymentAsk.{PaymentAsk}
+use Rattle.trust_matter.specs.declared.asks.FeeAsk.{FeeAsk}
+use Rattle.trust_matter.specs.declared.asks.ClaimAsk.{ClaimAsk}
 use Rattle.trust_matter.specs.declared.asks.Caller.{Caller}
 use Rattle.trust_matter.specs.declared.asks.Caller.TheVariants as caller
 use Rattle.trust_matter.specs.declared.asks.Ask.{Ask}
 use Rattle.trust_matter.specs.declared.asks.Ask.TheVariants as ask
+use Rattle.trust_base.specs.Names.{is_cash_label, is_firm_label}
+use Rattle.trust_matter.specs.Shares.{has_settled}
+use Rattle.trust_matter.specs.Balances.{is_fee, is_general_claim}
 use Rattle.trust_matter.specs.Rows.{role_in, last_of, closed_on, next_number}
 use Rattle.trust_matter.specs.Policy.{rule_of, allows}
 use Rattle.trust_matter.specs.Facts.{Facts, Asked}
@@ -34,13 +48,10 @@ is_changing _ = true
 -- the number of the entry that the ask makes
 abbrev pub number_made : Ask → Option ℕ
 number_made (ask.Deposit a) = Some a.number
+number_made (ask.Propose a) = Some a.number
+number_made (ask.EarnFee a) = Some a.number
+number_made (ask.RaiseClaim a) = Some a.number
 number_made _ = None
-
--- the ask is of an entry that is there
-abbrev pub needs_entry : Ask → Bool
-needs_entry (ask.CancelDeposit n) = true
-needs_entry (ask.ShowEntry n) = true
-needs_entry _ = false
 
 -- What is tried of every ask, in order.
 
@@ -81,9 +92,33 @@ misses next (Some n) = not (is_number next n)
 abbrev pub is_not_next : Facts → Asked → Bool
 is_not_next f a = misses (next_number f.count) (number_made a.ask)
 
+-- a fund that is an entry
+abbrev pub is_an_entry : Fund → Bool
+is_an_entry fund.General = false
+is_an_entry (fund.Fee k) = true
+is_an_entry (fund.Claim k) = true
+
+abbrev pub is_on_fee : Against → Bool
+is_on_fee (against.General claimant) = false
+is_on_fee (against.Fee k) = true
+
+-- the entry that the ask is about, or the fee or claim that it names, is missing
+abbrev pub is_missing_for : Ask → Option Entry → Option Entry → Bool
+is_missing_for (ask.CancelDeposit n) e other = is_none e
+is_missing_for (ask.Propose a) e other = is_an_entry a.fund && is_none other
+is_missing_for (ask.Approve n) e other = is_none e
+is_missing_for (ask.Decline n) e other = is_none e
+is_missing_for (ask.VoidPayment n) e other = is_none e
+is_missing_for (ask.RaiseClaim a) e other = is_on_fee a.against && is_none other
+is_missing_for (ask.Offer a) e other = is_none e
+is_missing_for (ask.Accept a) e other = is_none e
+is_missing_for (ask.Award a) e other = is_none e
+is_missing_for (ask.ShowEntry n) e other = is_none e
+is_missing_for _ e other = false
+
 -- the entry is not there
 abbrev pub is_not_there : Facts → Asked → Bool
-is_not_there f a = needs_entry a.ask && is_none f.entry
+is_not_there f a = is_missing_for a.ask f.entry f.other
 
 abbrev pub is_no_deposit : Option Entry → Bool
 is_no_deposit None = false
@@ -92,13 +127,49 @@ is_no_deposit (Some (entry.Payment p)) = true
 is_no_deposit (Some (entry.Fee f)) = true
 is_no_deposit (Some (entry.Claim c)) = true
 
--- the entry is of another kind than the ask is about
-abbrev pub is_of_another_kind_for : Ask → Option Entry → Bool
-is_of_another_kind_for (ask.CancelDeposit n) e = is_no_deposit e
-is_of_another_kind_for _ e = false
+abbrev pub is_no_payment : Option Entry → Bool
+is_no_payment None = false
+is_no_payment (Some (entry.Deposit d)) = true
+is_no_payment (Some (entry.Payment p)) = false
+is_no_payment (Some (entry.Fee f)) = true
+is_no_payment (Some (entry.Claim c)) = true
+
+abbrev pub is_no_claim : Option Entry → Bool
+is_no_claim None = false
+is_no_claim (Some (entry.Deposit d)) = true
+is_no_claim (Some (entry.Payment p)) = true
+is_no_claim (Some (entry.Fee f)) = true
+is_no_claim (Some (entry.Claim c)) = false
+
+abbrev pub is_no_fee : Option Entry → Bool
+is_no_fee None = false
+is_no_fee (Some e) = not (is_fee e)
+
+abbrev pub is_no_general_claim : Option Entry → Bool
+is_no_general_claim None = false
+is_no_general_claim (Some e) = not (is_general_claim e)
+
+-- the entry that a fund names is of another kind: a fee, or a claim on the general fund
+abbrev pub is_no_fund : Fund → Option Entry → Bool
+is_no_fund fund.General other = false
+is_no_fund (fund.Fee k) other = is_no_fee other
+is_no_fund (fund.Claim k) other = is_no_general_claim other
+
+-- the entry is of another kind than the ask is about, or the one named than it may be
+abbrev pub is_of_another_kind_for : Ask → Option Entry → Option Entry → Bool
+is_of_another_kind_for (ask.CancelDeposit n) e other = is_no_deposit e
+is_of_another_kind_for (ask.Propose a) e other = is_no_fund a.fund other
+is_of_another_kind_for (ask.Approve n) e other = is_no_payment e
+is_of_another_kind_for (ask.Decline n) e other = is_no_payment e
+is_of_another_kind_for (ask.VoidPayment n) e other = is_no_payment e
+is_of_another_kind_for (ask.RaiseClaim a) e other = is_on_fee a.against && is_no_fee other
+is_of_another_kind_for (ask.Offer a) e other = is_no_claim e
+is_of_another_kind_for (ask.Accept a) e other = is_no_claim e
+is_of_another_kind_for (ask.Award a) e other = is_no_claim e
+is_of_another_kind_for _ e other = false
 
 abbrev pub is_of_another_kind : Facts → Asked → Bool
-is_of_another_kind f a = is_of_another_kind_for a.ask f.entry
+is_of_another_kind f a = is_of_another_kind_for a.ask f.entry f.other
 
 abbrev pub is_held_state : DepositState → Bool
 is_held_state deposit.Held = true
@@ -112,13 +183,199 @@ is_deposit_not_held (Some (entry.Payment p)) = false
 is_deposit_not_held (Some (entry.Fee f)) = false
 is_deposit_not_held (Some (entry.Claim c)) = false
 
--- the entry is not in the state that the ask needs
-abbrev pub is_in_another_state_for : Ask → Option Entry → Bool
-is_in_another_state_for (ask.CancelDeposit n) e = is_deposit_not_held e
-is_in_another_state_for _ e = false
+abbrev pub is_proposed_state : PaymentState → Bool
+is_proposed_state payment.Proposed = true
+is_proposed_state payment.Declined = false
+is_proposed_state (payment.Issued day) = false
+is_proposed_state (payment.Cleared c) = false
+is_proposed_state (payment.Voided v) = false
+
+abbrev pub is_issued_state : PaymentState → Bool
+is_issued_state payment.Proposed = false
+is_issued_state payment.Declined = false
+is_issued_state (payment.Issued day) = true
+is_issued_state (payment.Cleared c) = false
+is_issued_state (payment.Voided v) = false
+
+abbrev pub is_payment_not_proposed : Option Entry → Bool
+is_payment_not_proposed None = false
+is_payment_not_proposed (Some (entry.Deposit d)) = false
+is_payment_not_proposed (Some (entry.Payment p)) = not (is_proposed_state p.state)
+is_payment_not_proposed (Some (entry.Fee f)) = false
+is_payment_not_proposed (Some (entry.Claim c)) = false
+
+abbrev pub is_payment_not_issued : Option Entry → Bool
+is_payment_not_issued None = false
+is_payment_not_issued (Some (entry.Deposit d)) = false
+is_payment_not_issued (Some (entry.Payment p)) = not (is_issued_state p.state)
+is_payment_not_issued (Some (entry.Fee f)) = false
+is_payment_not_issued (Some (entry.Claim c)) = false
+
+abbrev pub is_offered_state : ClaimState → Bool
+is_offered_state claim.Open = false
+is_offered_state (claim.Offered part) = true
+is_offered_state (claim.Settled s) = false
+
+abbrev pub is_claim_settled : Option Entry → Bool
+is_claim_settled None = false
+is_claim_settled (Some (entry.Deposit d)) = false
+is_claim_settled (Some (entry.Payment p)) = false
+is_claim_settled (Some (entry.Fee f)) = false
+is_claim_settled (Some (entry.Claim c)) = has_settled c.state
+
+abbrev pub is_claim_unsettled : Option Entry → Bool
+is_claim_unsettled None = false
+is_claim_unsettled (Some (entry.Deposit d)) = false
+is_claim_unsettled (Some (entry.Payment p)) = false
+is_claim_unsettled (Some (entry.Fee f)) = false
+is_claim_unsettled (Some (entry.Claim c)) = not (has_settled c.state)
+
+-- a claim of which no part is offered to the client
+abbrev pub is_claim_without_offer : Option Entry → Bool
+is_claim_without_offer None = false
+is_claim_without_offer (Some (entry.Deposit d)) = false
+is_claim_without_offer (Some (entry.Payment p)) = false
+is_claim_without_offer (Some (entry.Fee f)) = false
+is_claim_without_offer (Some (entry.Claim c)) = not (is_offered_state c.state)
+
+-- a payment is drawn on a claim once it is settled
+abbrev pub is_no_fund_yet : Fund → Option Entry → Bool
+is_no_fund_yet fund.General other = false
+is_no_fund_yet (fund.Fee k) other = false
+is_no_fund_yet (fund.Claim k) other = is_claim_unsettled other
+
+-- the entry is not in the state that the ask needs, or the one named is not
+abbrev pub is_in_another_state_for : Ask → Option Entry → Option Entry → Bool
+is_in_another_state_for (ask.CancelDeposit n) e other = is_deposit_not_held e
+is_in_another_state_for (ask.Propose a) e other = is_no_fund_yet a.fund other
+is_in_another_state_for (ask.Approve n) e other = is_payment_not_proposed e
+is_in_another_state_for (ask.Decline n) e other = is_payment_not_proposed e
+is_in_another_state_for (ask.VoidPayment n) e other = is_payment_not_issued e
+is_in_another_state_for (ask.Offer a) e other = is_claim_settled e
+is_in_another_state_for (ask.Accept a) e other = is_claim_without_offer e
+is_in_another_state_for (ask.Award a) e other = is_claim_settled e
+is_in_another_state_for _ e other = false
 
 abbrev pub is_in_another_state : Facts → Asked → Bool
-is_in_another_state f a = is_in_another_state_for a.ask f.entry
+is_in_another_state f a = is_in_another_state_for a.ask f.entry f.other
+
+-- Who is paid.
+
+abbrev pub is_cash_claimant : Against → Bool
+is_cash_claimant (against.General claimant) = is_cash_label claimant
+is_cash_claimant (against.Fee k) = false
+
+abbrev pub is_cash_for : Ask → Bool
+is_cash_for (ask.Propose a) = is_cash_label a.payee
+is_cash_for (ask.RaiseClaim a) = is_cash_claimant a.against
+is_cash_for _ = false
+
+-- the payee or the claimant is cash
+abbrev pub is_to_cash : Facts → Asked → Bool
+is_to_cash f a = is_cash_for a.ask
+
+abbrev pub is_claimants : Against → List ℕ → Bool
+is_claimants (against.General claimant) payee = bytes_eq claimant payee
+is_claimants (against.Fee k) payee = false
+
+-- the payee is the one who claimed
+abbrev pub is_claimant_of : Option Entry → List ℕ → Bool
+is_claimant_of None payee = false
+is_claimant_of (Some (entry.Deposit d)) payee = false
+is_claimant_of (Some (entry.Payment p)) payee = false
+is_claimant_of (Some (entry.Fee f)) payee = false
+is_claimant_of (Some (entry.Claim c)) payee = is_claimants c.against payee
+
+-- the firm is paid from a fee, a claimant from the claim, and others from what is available
+abbrev pub is_wrong_payee_of : Fund → Option Entry → List ℕ → Bool
+is_wrong_payee_of fund.General other payee = is_firm_label payee
+is_wrong_payee_of (fund.Fee k) other payee = not (is_firm_label payee)
+is_wrong_payee_of (fund.Claim k) other payee = not (is_claimant_of other payee)
+
+abbrev pub is_wrong_payee_for : Ask → Option Entry → Bool
+is_wrong_payee_for (ask.Propose a) other = is_wrong_payee_of a.fund other a.payee
+is_wrong_payee_for _ other = false
+
+-- the payee is not one whom the fund pays
+abbrev pub is_to_wrong_payee : Facts → Asked → Bool
+is_to_wrong_payee f a = is_wrong_payee_for a.ask f.other
+
+-- How much is paid.
+
+abbrev pub exceeds_claim : Option Entry → ℕ → Bool
+exceeds_claim None part = false
+exceeds_claim (Some (entry.Deposit d)) part = false
+exceeds_claim (Some (entry.Payment p)) part = false
+exceeds_claim (Some (entry.Fee f)) part = false
+exceeds_claim (Some (entry.Claim c)) part = nat_lt c.amount part
+
+abbrev pub is_another_offer : ClaimState → ℕ → Bool
+is_another_offer claim.Open part = false
+is_another_offer (claim.Offered offered) part = not (offered == part)
+is_another_offer (claim.Settled s) part = false
+
+abbrev pub differs_from_offer : Option Entry → ℕ → Bool
+differs_from_offer None part = false
+differs_from_offer (Some (entry.Deposit d)) part = false
+differs_from_offer (Some (entry.Payment p)) part = false
+differs_from_offer (Some (entry.Fee f)) part = false
+differs_from_offer (Some (entry.Claim c)) part = is_another_offer c.state part
+
+abbrev pub is_bad_split_for : Ask → Option Entry → Bool
+is_bad_split_for (ask.Offer a) e = exceeds_claim e a.to_client
+is_bad_split_for (ask.Accept a) e = differs_from_offer e a.to_client
+is_bad_split_for (ask.Award a) e = exceeds_claim e a.to_client
+is_bad_split_for _ e = false
+
+-- the client's part is more than the claim, or not what was offered
+abbrev pub is_bad_split : Facts → Asked → Bool
+is_bad_split f a = is_bad_split_for a.ask f.entry
+
+-- the amount exceeds what is left
+abbrev pub exceeds : ℕ → ℤ → Bool
+exceeds amount (pos n) = nat_lt n amount
+exceeds amount (negsuc n) = true
+
+-- what is left of a fund: what is available, or what is left of the fee or claim
+abbrev pub fund_left : Fund → ℤ → ℤ → ℤ
+fund_left fund.General available left = available
+fund_left (fund.Fee k) available left = left
+fund_left (fund.Claim k) available left = left
+
+abbrev pub against_left : Against → ℤ → ℤ → ℤ
+against_left (against.General claimant) available left = available
+against_left (against.Fee k) available left = left
+
+abbrev pub payment_left : Option Entry → ℤ → ℤ → ℤ
+payment_left None available left = pos 0
+payment_left (Some (entry.Deposit d)) available left = pos 0
+payment_left (Some (entry.Payment p)) available left = fund_left p.fund available left
+payment_left (Some (entry.Fee f)) available left = pos 0
+payment_left (Some (entry.Claim c)) available left = pos 0
+
+-- what is left of the fund that the ask draws on
+abbrev pub left_for : Ask → Option Entry → ℤ → ℤ → ℤ
+left_for (ask.Approve n) e available left = payment_left e available left
+left_for (ask.EarnFee a) e available left = available
+left_for (ask.RaiseClaim a) e available left = against_left a.against available left
+left_for _ e available left = pos 0
+
+abbrev pub is_short_payment : Option Entry → ℤ → ℤ → Bool
+is_short_payment None available left = false
+is_short_payment (Some (entry.Deposit d)) available left = false
+is_short_payment (Some (entry.Payment p)) available left = exceeds p.amount (fund_left p.fund available left)
+is_short_payment (Some (entry.Fee f)) available left = false
+is_short_payment (Some (entry.Claim c)) available left = false
+
+abbrev pub is_short_for : Ask → Option Entry → ℤ → ℤ → Bool
+is_short_for (ask.Approve n) e available left = is_short_payment e available left
+is_short_for (ask.EarnFee a) e available left = exceeds a.amount available
+is_short_for (ask.RaiseClaim a) e available left = exceeds a.amount (against_left a.against available left)
+is_short_for _ e available left = false
+
+-- the amount exceeds what is left of its fund
+abbrev pub is_short : Facts → Asked → Bool
+is_short f a = is_short_for a.ask f.entry f.available f.left
 
 -- the person who is to take a seat has one
 abbrev pub has_a_seat_for : Ask → List Seat → Bool
@@ -163,8 +420,44 @@ abbrev pub is_as_asked : Option Entry → DepositAsk → Bool
 is_as_asked (Some (entry.Deposit d)) a = d.amount == a.amount && bytes_eq d.source a.source && bytes_eq d.description a.description
 is_as_asked _ a = false
 
+abbrev pub is_same_fund : Fund → Fund → Bool
+is_same_fund fund.General fund.General = true
+is_same_fund fund.General (fund.Fee k) = false
+is_same_fund fund.General (fund.Claim k) = false
+is_same_fund (fund.Fee j) fund.General = false
+is_same_fund (fund.Fee j) (fund.Fee k) = j == k
+is_same_fund (fund.Fee j) (fund.Claim k) = false
+is_same_fund (fund.Claim j) fund.General = false
+is_same_fund (fund.Claim j) (fund.Fee k) = false
+is_same_fund (fund.Claim j) (fund.Claim k) = j == k
+
+-- the payment has the asked fields
+abbrev pub is_payment_asked : Option Entry → PaymentAsk → Bool
+is_payment_asked (Some (entry.Payment p)) a =
+    p.amount == a.amount && is_same_fund p.fund a.fund && bytes_eq p.payee a.payee && bytes_eq p.purpose a.purpose && bytes_eq p.instrument a.instrument
+is_payment_asked _ a = false
+
+-- the fee has the asked fields
+abbrev pub is_fee_asked : Option Entry → FeeAsk → Bool
+is_fee_asked (Some (entry.Fee f)) a = f.amount == a.amount && bytes_eq f.description a.description
+is_fee_asked _ a = false
+
+abbrev pub is_same_against : Against → Against → Bool
+is_same_against (against.General c) (against.General d) = bytes_eq c d
+is_same_against (against.General c) (against.Fee k) = false
+is_same_against (against.Fee j) (against.General d) = false
+is_same_against (against.Fee j) (against.Fee k) = j == k
+
+-- the claim has the asked fields
+abbrev pub is_claim_asked : Option Entry → ClaimAsk → Bool
+is_claim_asked (Some (entry.Claim c)) a = c.amount == a.amount && is_same_against c.against a.against && bytes_eq c.reason a.reason
+is_claim_asked _ a = false
+
 abbrev pub comes_again : Ask → Option Entry → Bool
 comes_again (ask.Deposit a) e = is_as_asked e a
+comes_again (ask.Propose a) e = is_payment_asked e a
+comes_again (ask.EarnFee a) e = is_fee_asked e a
+comes_again (ask.RaiseClaim a) e = is_claim_asked e a
 comes_again _ e = false
 
 -- the entry of the number was made by the same ask before

@@ -7,7 +7,7 @@ use Rattle.trust_matter.specs.declared.asks.Caller.{Caller}
 use Rattle.trust_matter.specs.declared.asks.Ask.{Ask}
 use Rattle.trust_matter.specs.declared.asks.Ask.TheVariants as ask
 use Rattle.trust_matter.specs.Rows.{Rows, entry_at}
-use Rattle.trust_matter.specs.Shares.{target}
+use Rattle.trust_matter.specs.Shares.{target, fund_no, against_no}
 use Rattle.trust_matter.specs.Balances.{available, ledger, pending, left_of}
 
 -- who asks what, on which business day
@@ -37,6 +37,15 @@ number_of (ask.AddSeat s) = 0
 number_of (ask.DropSeat p) = 0
 number_of (ask.Deposit a) = a.number
 number_of (ask.CancelDeposit n) = n
+number_of (ask.Propose a) = a.number
+number_of (ask.Approve n) = n
+number_of (ask.Decline n) = n
+number_of (ask.VoidPayment n) = n
+number_of (ask.EarnFee a) = a.number
+number_of (ask.RaiseClaim a) = a.number
+number_of (ask.Offer a) = a.number
+number_of (ask.Accept a) = a.number
+number_of (ask.Award a) = a.number
 number_of ask.Show = 0
 number_of (ask.ShowEntry n) = n
 
@@ -45,9 +54,17 @@ abbrev pub target_in : Option Entry → ℕ
 target_in None = 0
 target_in (Some e) = target e
 
+-- the number of the fee or claim that the ask itself names, 0 for none
+abbrev pub fund_named : Ask → ℕ
+fund_named (ask.Propose a) = fund_no a.fund
+fund_named (ask.RaiseClaim a) = against_no a.against
+fund_named _ = 0
+
 -- the number of the fee or claim that the ask names, or else that its entry names, 0 for none
 abbrev pub other_of : Ask → Option Entry → ℕ
-other_of ask e = target_in e
+other_of (ask.Propose a) e = fund_no a.fund
+other_of (ask.RaiseClaim a) e = against_no a.against
+other_of _ e = target_in e
 
 -- what is left of an entry that may not be there
 abbrev pub left_in : List Entry → ℕ → Option Entry → ℤ

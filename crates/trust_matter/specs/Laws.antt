@@ -1,19 +1,28 @@
 -- Laws over the definitions.
-use Rattle.std.specs.Prelude.{◌≡◌, ◌≤◌, ◌<◌, ◌⊎◌, Bool, true, false, List, [], ◌∷◌, ◌++◌, map, length, pos, ◌+ℤ◌, ◌≤ℤ◌, Option, Some, None, IsSome}
+use Rattle.std.specs.Prelude.{◌≡◌, ℕ, ◌≤◌, ◌<◌, ◌⊎◌, Bool, true, false, List, [], ◌∷◌, ◌++◌, map, length, pos, ◌+ℤ◌, ◌≤ℤ◌, Option, Some, None, IsSome}
+use Rattle.std.specs.List.{AllByRecursion}
 use Rattle.trust_base.specs.declared.refusal.Refusal.{Refusal}
 use Rattle.trust_base.specs.declared.refusal.Refusal.TheVariants as refusals
 use Rattle.trust_base.specs.Refusals.{number_of}
 use Rattle.trust_matter.specs.declared.rows.Entry.{Entry}
-use Rattle.trust_matter.specs.Rows.{Rows, as_made}
+use Rattle.trust_matter.specs.Rows.{Rows, entry_at, as_made}
 use Rattle.trust_matter.specs.Balances.{held, available, disputed, fees, claims, total}
 use Rattle.trust_matter.specs.Sound.{Sound, AreBacked}
 use Rattle.trust_matter.specs.Facts.{Facts, Asked, facts_of}
 use Rattle.trust_matter.specs.Conditions.{is_repeat, number_made}
 use Rattle.trust_matter.specs.Step.{conditions, refusal_of, refusal, rows_after, HasAmount}
+use Rattle.trust_matter.specs.declared.bank_line.BankLine.{BankLine}
+use Rattle.trust_matter.specs.declared.line_verdict.Reason.{Reason}
+use Rattle.trust_matter.specs.declared.line_verdict.LineEdit.TheVariants as told
+use Rattle.trust_matter.specs.LineStep.{reasons, line_on, rows_after_line, IsApplied}
 
 -- no ask leaves a matter unsound
 abbrev pub SoundForEver : Type 0
 SoundForEver = (rows : Rows) (a : Asked) → HasAmount a.ask → Sound rows → Sound (rows_after rows a)
+
+-- no line of the bank does, whatever its date and on whatever day it comes
+abbrev pub LinesKeepSound : Type 0
+LinesKeepSound = (rows : Rows) (l : BankLine) (today : ℕ) → Sound rows → Sound (rows_after_line rows l today)
 
 -- the refusal stands in a table with a condition that holds
 abbrev pub Stands : List (Bool × Refusal) → Refusal → Type 0
@@ -37,6 +46,29 @@ LeastRefusal = (f : Facts) (a : Asked) (r : Refusal) → refusal_of f a ≡ Some
 -- where nothing is refused no condition holds, or for a repeat none up to 10
 abbrev pub NoneHolds : Type 0
 NoneHolds = (f : Facts) (a : Asked) (r : Refusal) → refusal_of f a ≡ None → Holds f a r → (is_repeat f a ≡ true) × (10 < number_of r)
+
+-- no reason of these holds
+abbrev pub NoReasonHolds : List (Bool × Reason) → Type 0
+NoReasonHolds cs = AllByRecursion (λ c. c.0 ≡ false) cs
+
+-- the reason holds, and none before it in the table does
+pub record IsFirstReason (cs : List (Bool × Reason)) (r : Reason) : Type 0 where
+  pub before : List (Bool × Reason)
+  pub behind : List (Bool × Reason)
+  pub table : cs ≡ before ++ (true, r) ∷ behind
+  pub none_before : NoReasonHolds before
+
+-- the reasons against a line, each with whether it holds
+abbrev pub reasons_on : Rows → BankLine → ℕ → List (Bool × Reason)
+reasons_on rows l today = reasons rows.head (entry_at rows.entries l.entry) l.line today
+
+-- a line that matches no entry is told the first reason that holds
+abbrev pub FirstReason : Type 0
+FirstReason = (rows : Rows) (l : BankLine) (today : ℕ) (r : Reason) → line_on rows l today ≡ told.Unmatched r → IsFirstReason (reasons_on rows l today) r
+
+-- against a line that is applied none holds
+abbrev pub NoReason : Type 0
+NoReason = (rows : Rows) (l : BankLine) (today : ℕ) → IsApplied (line_on rows l today) → NoReasonHolds (reasons_on rows l today)
 
 -- what the bank holds is what is available, disputed, left of fees and left of claims; and none of these is
 -- below zero
@@ -64,10 +96,23 @@ Grows rows later = (more : List Entry) × (made_in later ≡ made_in rows ++ mor
 abbrev pub MadeStays : Type 0
 MadeStays = (rows : Rows) (a : Asked) → Grows rows (rows_after rows a)
 
--- the rows after asks, one after the other
-abbrev pub all_after : Rows → List Asked → Rows
+-- no line does
+abbrev pub LinesLeaveMade : Type 0
+LinesLeaveMade = (rows : Rows) (l : BankLine) (today : ℕ) → Grows rows (rows_after_line rows l today)
+
+-- what comes to a matter: an ask, or a line of the bank on a business day
+pub data Doing : Type 0 where
+  AnAsk : (asked : Asked) → Doing
+  ALine : (line : BankLine) (today : ℕ) → Doing
+
+abbrev pub after_doing : Rows → Doing → Rows
+after_doing rows (AnAsk a) = rows_after rows a
+after_doing rows (ALine l today) = rows_after_line rows l today
+
+-- the rows after asks and lines, one after the other
+abbrev pub all_after : Rows → List Doing → Rows
 all_after rows [] = rows
-all_after rows (a ∷ more) = all_after (rows_after rows a) more
+all_after rows (d ∷ more) = all_after (after_doing rows d) more
 
 -- the ask comes again, and changes nothing
 pub record IsSpent (rows : Rows) (a : Asked) : Type 0 where
@@ -75,9 +120,26 @@ pub record IsSpent (rows : Rows) (a : Asked) : Type 0 where
   pub unchanged : rows_after rows a ≡ rows
 
 -- an ask that makes an entry and was accepted is spent, whoever asks it again on whatever day, and whatever
--- was asked in between
+-- was asked or came from the bank in between
 abbrev pub AtMostOnce : Type 0
-AtMostOnce = (rows : Rows) (a again : Asked) (between : List Asked) → IsSome (number_made a.ask) → refusal rows a ≡ None → again.ask ≡ a.ask → IsSpent (all_after (rows_after rows a) between) again
+AtMostOnce = (rows : Rows) (a again : Asked) (between : List Doing) → IsSome (number_made a.ask) → refusal rows a ≡ None → again.ask ≡ a.ask → IsSpent (all_after (rows_after rows a) between) again
+
+-- a line for the same entry, of the same date, reference of the bank and amount, in whatever words
+pub record IsSameLine (l again : BankLine) : Type 0 where
+  pub entry : again.entry ≡ l.entry
+  pub date : again.line.date ≡ l.line.date
+  pub bank_ref : again.line.bank_ref ≡ l.line.bank_ref
+  pub amount : again.line.amount ≡ l.line.amount
+
+-- the line is a repeat, and changes nothing
+pub record IsLineSpent (rows : Rows) (l : BankLine) (today : ℕ) : Type 0 where
+  pub repeat : line_on rows l today ≡ told.Repeat
+  pub unchanged : rows_after_line rows l today ≡ rows
+
+-- a line that was applied is spent, on whatever day it comes again, and whatever was asked or came from the
+-- bank in between
+abbrev pub LineAtMostOnce : Type 0
+LineAtMostOnce = (rows : Rows) (l again : BankLine) (today later : ℕ) (between : List Doing) → IsApplied (line_on rows l today) → IsSameLine l again → IsLineSpent (all_after (rows_after_line rows l today) between) again later
 
 -- the ask is refused, and no number is told to be the next
 abbrev pub TellsNoNumber : Option Refusal → Type 0

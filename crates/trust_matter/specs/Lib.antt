@@ -1,12 +1,16 @@
 pub mod Applied
 pub mod Balances
 pub mod Cases
+pub mod CasesLines
+pub mod CasesClaims
+pub mod CasesPayments
 pub mod Changes
 pub mod Conditions
 pub mod Events
 pub mod Examples
 pub mod Facts
 pub mod Laws
+pub mod LineStep
 pub mod Moves
 pub mod NamedEntries
 pub mod Parts

@@ -7,6 +7,8 @@ use Rattle.trust_base.specs.declared.refusal.Rule.TheVariants as rule
 use Rattle.trust_matter.specs.declared.rows.Role.{Role}
 use Rattle.trust_matter.specs.declared.rows.Role.TheVariants as role
 use Rattle.trust_matter.specs.declared.rows.Seat.{Seat}
+use Rattle.trust_matter.specs.declared.rows.Against.{Against}
+use Rattle.trust_matter.specs.declared.rows.Against.TheVariants as against
 use Rattle.trust_matter.specs.declared.asks.Caller.{Caller}
 use Rattle.trust_matter.specs.declared.asks.Caller.TheVariants as caller
 use Rattle.trust_matter.specs.declared.asks.Ask.{Ask}
@@ -19,6 +21,11 @@ pub data Standing : Type 0 where
   Lawyer : Standing
   Cashier : Standing
 
+-- a client disputes a fee; a claim on what is available is for the office of the firm
+abbrev pub rule_against : Against → Rule
+rule_against (against.General claimant) = rule.Claim
+rule_against (against.Fee k) = rule.Dispute
+
 -- the rule that an ask comes under
 abbrev pub rule_of : Ask → Rule
 rule_of (ask.OpenMatter a) = rule.Office
@@ -26,6 +33,15 @@ rule_of (ask.AddSeat s) = rule.Office
 rule_of (ask.DropSeat p) = rule.Office
 rule_of (ask.Deposit a) = rule.Office
 rule_of (ask.CancelDeposit n) = rule.Office
+rule_of (ask.Propose a) = rule.Propose
+rule_of (ask.Approve n) = rule.Sign
+rule_of (ask.Decline n) = rule.Sign
+rule_of (ask.VoidPayment n) = rule.Sign
+rule_of (ask.EarnFee a) = rule.Sign
+rule_of (ask.RaiseClaim a) = rule_against a.against
+rule_of (ask.Offer a) = rule.Sign
+rule_of (ask.Accept a) = rule.Dispute
+rule_of (ask.Award a) = rule.Office
 rule_of ask.Show = rule.Read
 rule_of (ask.ShowEntry n) = rule.Read
 

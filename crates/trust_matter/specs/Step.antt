@@ -1,15 +1,23 @@
 -- What an ask is answered and what it changes: a table of refusals, of which the least number is given.
-use Rattle.std.specs.Prelude.{◌≡◌, ℕ, Bool, List, [], ◌∷◌, ◌++◌, Option, Some, None, if◌then◌else◌, Result, Ok, Err}
+use Rattle.std.specs.Prelude.{◌≡◌, ℕ, Bool, ◌&&◌, List, [], ◌∷◌, ◌++◌, Option, Some, None, is_none, if◌then◌else◌, Result, Ok, Err, ℤ, pos, negsuc}
 use Rattle.trust_base.specs.Limits.{IsAmount}
 use Rattle.trust_base.specs.declared.refusal.Refusal.{Refusal}
 use Rattle.trust_base.specs.declared.refusal.Refusal.TheVariants as refusals
 use Rattle.trust_matter.specs.declared.rows.Role.TheVariants as role
 use Rattle.trust_matter.specs.declared.rows.Head.{Head}
 use Rattle.trust_matter.specs.declared.rows.DepositState.TheVariants as deposit
+use Rattle.trust_matter.specs.declared.rows.PaymentState.{PaymentState}
+use Rattle.trust_matter.specs.declared.rows.PaymentState.TheVariants as payment
+use Rattle.trust_matter.specs.declared.rows.ClaimState.{ClaimState}
+use Rattle.trust_matter.specs.declared.rows.ClaimState.TheVariants as claim
+use Rattle.trust_matter.specs.declared.rows.Against.{Against}
 use Rattle.trust_matter.specs.declared.rows.Entry.{Entry}
 use Rattle.trust_matter.specs.declared.rows.Entry.TheVariants as entry
 use Rattle.trust_matter.specs.declared.asks.OpenAsk.{OpenAsk}
 use Rattle.trust_matter.specs.declared.asks.DepositAsk.{DepositAsk}
+use Rattle.trust_matter.specs.declared.asks.PaymentAsk.{PaymentAsk}
+use Rattle.trust_matter.specs.declared.asks.FeeAsk.{FeeAsk}
+use Rattle.trust_matter.specs.declared.asks.ClaimAsk.{ClaimAsk}
 use Rattle.trust_matter.specs.declared.asks.Ask.{Ask}
 use Rattle.trust_matter.specs.declared.asks.Ask.TheVariants as ask
 use Rattle.trust_matter.specs.declared.edits.Opening.{Opening}
@@ -18,10 +26,15 @@ use Rattle.trust_matter.specs.declared.edits.Edit.TheVariants as edit
 use Rattle.trust_matter.specs.Rows.{Rows, last_of, next_number}
 use Rattle.trust_matter.specs.Policy.{rule_of}
 use Rattle.trust_matter.specs.Facts.{Facts, Asked, facts_of}
-use Rattle.trust_matter.specs.Conditions.{has_no_seat, is_not_allowed, is_opened_already, is_closed, goes_backwards, is_not_next, is_not_there, is_of_another_kind, is_in_another_state, has_a_seat_already, has_none_to_drop, would_lose_its_last_lawyer, is_repeat}
+use Rattle.trust_matter.specs.Conditions.{has_no_seat, is_not_allowed, is_opened_already, is_closed, goes_backwards, is_not_next, is_not_there, is_of_another_kind, is_in_another_state, is_to_cash, is_to_wrong_payee, is_bad_split, is_short, left_for, has_a_seat_already, has_none_to_drop, would_lose_its_last_lawyer, is_repeat, is_on_fee, is_no_fee, is_cash_claimant, is_no_claim, is_claim_settled, exceeds_claim}
 use Rattle.trust_matter.specs.Changes.{MatterChange, IsChange, changed_by}
 
 -- The refusals.
+
+-- an integer as a natural number, 0 below zero
+abbrev pub natural : ℤ → ℕ
+natural (pos n) = n
+natural (negsuc n) = 0
 
 -- each refusal with its condition, in the order of their numbers: those that are tried of a repeat too
 abbrev pub early_conditions : Facts → Asked → List (Bool × Refusal)
@@ -40,9 +53,30 @@ later_conditions f a =
     ∷ (is_not_there f a, refusals.NoEntry)
     ∷ (is_of_another_kind f a, refusals.WrongKind)
     ∷ (is_in_another_state f a, refusals.WrongState)
+    ∷ (is_to_cash f a, refusals.PayeeIsCash)
+    ∷ (is_to_wrong_payee f a, refusals.WrongPayee)
+    ∷ (is_bad_split f a, refusals.BadSplit)
+    ∷ (is_short f a, refusals.Short (natural (left_for a.ask f.entry f.available f.left)))
     ∷ (has_a_seat_already f a, refusals.SeatTaken)
     ∷ (has_none_to_drop f a, refusals.NoSeat)
     ∷ (would_lose_its_last_lawyer f a, refusals.LastLawyer)
+    ∷ []
+
+-- of these, what is tried of the fee, or of the claimant, that a claim names
+abbrev pub against_conditions : Against → Option Entry → List (Bool × Refusal)
+against_conditions on other =
+    (is_on_fee on && is_none other, refusals.NoEntry)
+    ∷ (is_on_fee on && is_no_fee other, refusals.WrongKind)
+    ∷ (is_cash_claimant on, refusals.PayeeIsCash)
+    ∷ []
+
+-- of these, what is tried of a claim that is to be split
+abbrev pub split_conditions : Option Entry → ℕ → List (Bool × Refusal)
+split_conditions e part =
+    (is_none e, refusals.NoEntry)
+    ∷ (is_no_claim e, refusals.WrongKind)
+    ∷ (is_claim_settled e, refusals.WrongState)
+    ∷ (exceeds_claim e part, refusals.BadSplit)
     ∷ []
 
 abbrev pub conditions : Facts → Asked → List (Bool × Refusal)
@@ -76,6 +110,33 @@ abbrev pub cancelled : ℕ → Option Entry → ℕ → Edit
 cancelled n (Some (entry.Deposit d)) day = edit.Exchange (record { number = n; entry = entry.Deposit (record d { state = deposit.Cancelled day }) })
 cancelled n _ day = edit.Nothing
 
+abbrev pub payment_of : PaymentAsk → ℕ → Entry
+payment_of a day = entry.Payment (record { book = day; amount = a.amount; fund = a.fund; payee = a.payee; purpose = a.purpose; instrument = a.instrument; state = payment.Proposed })
+
+abbrev pub fee_of : FeeAsk → ℕ → Entry
+fee_of a day = entry.Fee (record { book = day; amount = a.amount; description = a.description })
+
+abbrev pub claim_of : ClaimAsk → ℕ → Entry
+claim_of a day = entry.Claim (record { book = day; amount = a.amount; against = a.against; reason = a.reason; state = claim.Open })
+
+-- a payment in another state
+abbrev pub with_payment : ℕ → Option Entry → (PaymentState → PaymentState) → Edit
+with_payment n (Some (entry.Payment p)) next = edit.Exchange (record { number = n; entry = entry.Payment (record p { state = next p.state }) })
+with_payment n _ next = edit.Nothing
+
+-- an issued payment, taken back on a day
+abbrev pub voided : ℕ → PaymentState → PaymentState
+voided day (payment.Issued issued) = payment.Voided (record { issued = issued; undone = day })
+voided day s = s
+
+-- a claim in another state
+abbrev pub with_claim : ℕ → Option Entry → ClaimState → Edit
+with_claim n (Some (entry.Claim c)) next = edit.Exchange (record { number = n; entry = entry.Claim (record c { state = next }) })
+with_claim n _ next = edit.Nothing
+
+abbrev pub settled : ℕ → ℕ → ClaimState
+settled day part = claim.Settled (record { day = day; part = part })
+
 -- what an ask changes that is neither refused nor a repeat
 abbrev pub edit_of : Ask → Option Entry → ℕ → Edit
 edit_of (ask.OpenMatter a) e day = edit.Open (opening a day)
@@ -83,6 +144,15 @@ edit_of (ask.AddSeat s) e day = edit.Seat s
 edit_of (ask.DropSeat p) e day = edit.Unseat p
 edit_of (ask.Deposit a) e day = edit.Append (record { number = a.number; entry = deposit_of a day })
 edit_of (ask.CancelDeposit n) e day = cancelled n e day
+edit_of (ask.Propose a) e day = edit.Append (record { number = a.number; entry = payment_of a day })
+edit_of (ask.Approve n) e day = with_payment n e (λ _. payment.Issued day)
+edit_of (ask.Decline n) e day = with_payment n e (λ _. payment.Declined)
+edit_of (ask.VoidPayment n) e day = with_payment n e (voided day)
+edit_of (ask.EarnFee a) e day = edit.Append (record { number = a.number; entry = fee_of a day })
+edit_of (ask.RaiseClaim a) e day = edit.Append (record { number = a.number; entry = claim_of a day })
+edit_of (ask.Offer a) e day = with_claim a.number e (claim.Offered a.to_client)
+edit_of (ask.Accept a) e day = with_claim a.number e (settled day a.to_client)
+edit_of (ask.Award a) e day = with_claim a.number e (settled day a.to_client)
 edit_of ask.Show e day = edit.Nothing
 edit_of (ask.ShowEntry n) e day = edit.Nothing
 
@@ -116,6 +186,9 @@ rows_after rows a = after (refusal rows a) (edit_on rows a) a.day rows
 -- an amount in an ask is one
 abbrev pub HasAmount : Ask → Type 0
 HasAmount (ask.Deposit a) = IsAmount a.amount
+HasAmount (ask.Propose a) = IsAmount a.amount
+HasAmount (ask.EarnFee a) = IsAmount a.amount
+HasAmount (ask.RaiseClaim a) = IsAmount a.amount
 HasAmount _ = Unit {0}
 
 -- the ask is accepted, and the change is that of the rows

@@ -1,7 +1,7 @@
 //! Who asks what of a matter.
 
-use crate::rows::Seat;
-use trust_base::{Cents, EntryNo, Label, PersonId};
+use crate::rows::{Against, Fund, Seat};
+use trust_base::{Cents, CentsOrZero, EntryNo, Label, PersonId};
 
 /// The cashier of the firm, or a person by name.
 #[derive(Drop)]
@@ -26,6 +26,41 @@ pub struct DepositAsk {
     pub description: Label,
 }
 
+/// A payment is to be proposed under a number, from a fund, to a named payee, by an instrument.
+#[derive(Drop)]
+pub struct PaymentAsk {
+    pub number: EntryNo,
+    pub amount: Cents,
+    pub fund: Fund,
+    pub payee: Label,
+    pub purpose: Label,
+    pub instrument: Label,
+}
+
+/// A fee that was earned is to be set apart under a number (ABA Model Rule 1.15(c)).
+#[derive(Drop)]
+pub struct FeeAsk {
+    pub number: EntryNo,
+    pub amount: Cents,
+    pub description: Label,
+}
+
+/// A claim is to be raised under a number, on a fee or on what is available (ABA Model Rule 1.15(e)).
+#[derive(Drop)]
+pub struct ClaimAsk {
+    pub number: EntryNo,
+    pub amount: Cents,
+    pub against: Against,
+    pub reason: Label,
+}
+
+/// A part of a claim is to go to the client: it is offered, accepted or awarded.
+#[derive(Clone, Copy)]
+pub struct SplitAsk {
+    pub number: EntryNo,
+    pub to_client: CentsOrZero,
+}
+
 /// What is asked of a matter.
 #[derive(Drop)]
 pub enum Ask {
@@ -34,6 +69,15 @@ pub enum Ask {
     DropSeat(PersonId),
     Deposit(DepositAsk),
     CancelDeposit(EntryNo),
+    Propose(PaymentAsk),
+    Approve(EntryNo),
+    Decline(EntryNo),
+    VoidPayment(EntryNo),
+    EarnFee(FeeAsk),
+    RaiseClaim(ClaimAsk),
+    Offer(SplitAsk),
+    Accept(SplitAsk),
+    Award(SplitAsk),
     Show,
     ShowEntry(EntryNo),
 }

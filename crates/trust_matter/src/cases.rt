@@ -2,11 +2,18 @@
 
 ghost use Rattle.trust_matter.specs.Rows.{unopened};
 ghost use Rattle.trust_matter.specs.Cases.{Accepts, Refuses, Repeats, HasBalances, sunday, monday, tuesday, lee, ada, bob, by_cashier, by_person, opening_for_ada, seat_for, no_seat_for, retainer, opened_for_ada, seated_for_ada, left_by_ada, retained, cancelled_for_ada, FullIsTold};
+ghost use Rattle.trust_matter.specs.CasesClaims.{fee_asked, claim_asked, offer_asked, accept_asked, award_asked, roofers, in_cash, cleared_for_ada, fee_earned, fee_disputed, roof_claimed, settled_with, payment_asked, the_firm, the_client, roof_builders, firm_paid, roof_paid, voided_at_once};
+ghost use Rattle.trust_matter.specs.CasesPayments.{cash, cash_company, check_for, clerk, clinic, covered, covered_with_check, covered_with_check_to, firm, friday, next_monday, settled_rows, settled_with_check, uncovered, uncovered_with_check, unsettled, wednesday};
 ghost use Rattle.trust_matter.specs.Examples.{every_state, in_every_state, all_paid_out, closed_at_rest, Balance};
+ghost use Rattle.trust_matter.specs.CasesLines.{Clears, ComesAgain, Misses, ninth, tenth, eleventh, twelfth, thirteenth, in_words, line_for, out, b1, b2, cleared_on, deposit_in, payment_in};
+ghost use Rattle.trust_matter.specs.declared.rows.DepositState.TheVariants as deposit;
+ghost use Rattle.trust_matter.specs.declared.rows.PaymentState.TheVariants as payment;
 ghost use Rattle.trust_matter.specs.Sound.{Sound};
-ghost use Rattle.std.specs.Prelude.{Some, None};
+ghost use Rattle.std.specs.Prelude.{Some, None, pos, codes};
 
 use crate::asks::Ask;
+use crate::line_verdict::Reason;
+use crate::rows::{Against, ClaimState, Fund, PaymentState, VoidedPayment};
 use trust_base::{Refusal, Rule};
 
 /// A matter is opened once, by the cashier.
@@ -93,6 +100,124 @@ pub fn kinds_and_states()
     ensures number_of_a_fee { Refuses in_every_state (by_cashier (retainer 4 30000) 20260202) (Refusal.WrongNumber (Some 14)) }
 {}
 
+/// A fee is set apart from what is available, and is no more than that.
+pub fn fees()
+    ensures earned { Accepts cleared_for_ada (by_person lee (fee_asked 2 20000) tuesday) fee_earned }
+    ensures balances { Balance fee_earned.entries 0 30000 0 20000 0 50000 }
+    ensures earned_again { Repeats fee_earned (by_person lee (fee_asked 2 20000) tuesday) }
+    ensures too_much { Refuses cleared_for_ada (by_person lee (fee_asked 2 50001) tuesday) (Refusal.Short 50000) }
+    ensures by_cashier { Refuses cleared_for_ada (by_cashier (fee_asked 2 20000) tuesday) (Refusal.NotAllowed Rule.Sign) }
+    ensures number_left_out { Refuses cleared_for_ada (by_person lee (fee_asked 3 20000) tuesday) (Refusal.WrongNumber (Some 2)) }
+{}
+
+/// A client disputes a fee: the claim is taken from it until the firm and the client agree on a part.
+pub fn disputed_fees()
+    ensures claimed { Accepts fee_earned (by_person ada (claim_asked 3 5000 (Against.Fee 2)) tuesday) (fee_disputed ClaimState.Open) }
+    ensures claimed_balances { Balance (fee_disputed ClaimState.Open).entries 0 30000 5000 15000 0 50000 }
+    ensures more_than_the_fee { Refuses fee_earned (by_person ada (claim_asked 3 20001 (Against.Fee 2)) tuesday) (Refusal.Short 20000) }
+    ensures by_cashier { Refuses fee_earned (by_cashier (claim_asked 3 5000 (Against.Fee 2)) tuesday) (Refusal.NotAllowed Rule.Dispute) }
+    ensures on_no_entry { Refuses fee_earned (by_person ada (claim_asked 3 5000 (Against.Fee 3)) tuesday) Refusal.NoEntry }
+    ensures on_a_deposit { Refuses fee_earned (by_person ada (claim_asked 3 5000 (Against.Fee 1)) tuesday) Refusal.WrongKind }
+    ensures not_offered { Refuses (fee_disputed ClaimState.Open) (by_person ada (accept_asked 3 0) tuesday) Refusal.WrongState }
+    ensures offered { Accepts (fee_disputed ClaimState.Open) (by_person lee (offer_asked 3 2000) tuesday) (fee_disputed (ClaimState.Offered 2000)) }
+    ensures offered_more { Refuses (fee_disputed ClaimState.Open) (by_person lee (offer_asked 3 5001) tuesday) Refusal.BadSplit }
+    ensures offered_by_client { Refuses (fee_disputed ClaimState.Open) (by_person ada (offer_asked 3 5000) tuesday) (Refusal.NotAllowed Rule.Sign) }
+    ensures offered_anew { Accepts (fee_disputed (ClaimState.Offered 2000)) (by_person lee (offer_asked 3 0) tuesday) (fee_disputed (ClaimState.Offered 0)) }
+    ensures offered_balances { Balance (fee_disputed (ClaimState.Offered 2000)).entries 0 30000 5000 15000 0 50000 }
+    ensures another_part { Refuses (fee_disputed (ClaimState.Offered 2000)) (by_person ada (accept_asked 3 3000) tuesday) Refusal.BadSplit }
+    ensures accepted { Accepts (fee_disputed (ClaimState.Offered 2000)) (by_person ada (accept_asked 3 2000) tuesday) (fee_disputed (settled_with 2000)) }
+    ensures accepted_by_lawyer { Refuses (fee_disputed (ClaimState.Offered 2000)) (by_person lee (accept_asked 3 2000) tuesday) (Refusal.NotAllowed Rule.Dispute) }
+    ensures accepted_balances { Balance (fee_disputed (settled_with 2000)).entries 0 32000 0 18000 0 50000 }
+    ensures accepted_again { Refuses (fee_disputed (settled_with 2000)) (by_person ada (accept_asked 3 2000) tuesday) Refusal.WrongState }
+    ensures claimed_again { Repeats (fee_disputed (settled_with 2000)) (by_person ada (claim_asked 3 5000 (Against.Fee 2)) tuesday) }
+    ensures more_than_is_left { Refuses (fee_disputed (settled_with 2000)) (by_person ada (claim_asked 4 18001 (Against.Fee 2)) tuesday) (Refusal.Short 18000) }
+{}
+
+/// A claim on what is available is for a claimant; an award gives a part back to the client.
+pub fn general_claims()
+    ensures claimed { Accepts cleared_for_ada (by_cashier (claim_asked 2 12000 roofers) tuesday) (roof_claimed ClaimState.Open) }
+    ensures claimed_balances { Balance (roof_claimed ClaimState.Open).entries 0 38000 0 0 12000 50000 }
+    ensures claimed_by_lawyer { Accepts cleared_for_ada (by_person lee (claim_asked 2 12000 roofers) tuesday) (roof_claimed ClaimState.Open) }
+    ensures claimed_by_client { Refuses cleared_for_ada (by_person ada (claim_asked 2 12000 roofers) tuesday) (Refusal.NotAllowed Rule.Claim) }
+    ensures claimed_in_cash { Refuses cleared_for_ada (by_cashier (claim_asked 2 12000 in_cash) tuesday) Refusal.PayeeIsCash }
+    ensures awarded { Accepts (roof_claimed ClaimState.Open) (by_cashier (award_asked 2 2000) tuesday) (roof_claimed (settled_with 2000)) }
+    ensures awarded_over_an_offer { Accepts (roof_claimed (ClaimState.Offered 500)) (by_cashier (award_asked 2 2000) tuesday) (roof_claimed (settled_with 2000)) }
+    ensures awarded_balances { Balance (roof_claimed (settled_with 2000)).entries 0 40000 0 0 10000 50000 }
+    ensures awarded_more { Refuses (roof_claimed ClaimState.Open) (by_cashier (award_asked 2 12001) tuesday) Refusal.BadSplit }
+    ensures awarded_by_lawyer { Refuses (roof_claimed ClaimState.Open) (by_person lee (award_asked 2 2000) tuesday) (Refusal.NotAllowed Rule.Office) }
+    ensures awarded_again { Refuses (roof_claimed (settled_with 2000)) (by_cashier (award_asked 2 2000) tuesday) Refusal.WrongState }
+    ensures awarded_a_deposit { Refuses (roof_claimed ClaimState.Open) (by_cashier (award_asked 1 2000) tuesday) Refusal.WrongKind }
+    ensures awarded_no_entry { Refuses (roof_claimed ClaimState.Open) (by_cashier (award_asked 3 2000) tuesday) Refusal.NoEntry }
+    ensures too_much { Refuses (roof_claimed (settled_with 2000)) (by_cashier (claim_asked 3 40001 roofers) tuesday) (Refusal.Short 40000) }
+    ensures not_offered { Refuses (roof_claimed ClaimState.Open) (by_person ada (accept_asked 2 2000) tuesday) Refusal.WrongState }
+    ensures accepted { Accepts (roof_claimed (ClaimState.Offered 2000)) (by_person ada (accept_asked 2 2000) tuesday) (roof_claimed (settled_with 2000)) }
+{}
+
+/// The firm is paid from a fee, and of what is disputed nothing until the claim is settled.
+pub fn paid_fees()
+    ensures proposed { Accepts (fee_disputed ClaimState.Open) (by_person lee (payment_asked 4 16000 (Fund.Fee 2) the_firm) tuesday) (firm_paid ClaimState.Open PaymentState.Proposed) }
+    ensures to_another { Refuses (fee_disputed ClaimState.Open) (by_person lee (payment_asked 4 16000 (Fund.Fee 2) roof_builders) tuesday) Refusal.WrongPayee }
+    ensures disputed { Refuses (firm_paid ClaimState.Open PaymentState.Proposed) (by_person lee (Ask.Approve 4) tuesday) (Refusal.Short 15000) }
+    ensures issued { Accepts (firm_paid (settled_with 2000) PaymentState.Proposed) (by_person lee (Ask.Approve 4) tuesday) (firm_paid (settled_with 2000) (PaymentState.Issued tuesday)) }
+    ensures issued_balances { Balance (firm_paid (settled_with 2000) (PaymentState.Issued tuesday)).entries 0 32000 0 2000 0 34000 }
+    ensures voided { Accepts (firm_paid (settled_with 2000) (PaymentState.Issued tuesday)) (by_person lee (Ask.VoidPayment 4) tuesday) (firm_paid (settled_with 2000) voided_at_once) }
+    ensures voided_balances { Balance (firm_paid (settled_with 2000) voided_at_once).entries 0 32000 0 18000 0 50000 }
+{}
+
+/// A claimant is paid from the claim once it is settled, and no one else is.
+pub fn paid_claims()
+    ensures not_settled { Refuses (roof_claimed ClaimState.Open) (by_cashier (payment_asked 3 10000 (Fund.Claim 2) roof_builders) tuesday) Refusal.WrongState }
+    ensures from_a_deposit { Refuses (roof_claimed ClaimState.Open) (by_cashier (payment_asked 3 10000 (Fund.Claim 1) roof_builders) tuesday) Refusal.WrongKind }
+    ensures to_another { Refuses (roof_claimed (settled_with 2000)) (by_cashier (payment_asked 3 10000 (Fund.Claim 2) the_client) tuesday) Refusal.WrongPayee }
+    ensures proposed { Accepts (roof_claimed (settled_with 2000)) (by_cashier (payment_asked 3 10000 (Fund.Claim 2) roof_builders) tuesday) (roof_paid PaymentState.Proposed) }
+    ensures issued { Accepts (roof_paid PaymentState.Proposed) (by_person lee (Ask.Approve 3) tuesday) (roof_paid (PaymentState.Issued tuesday)) }
+    ensures issued_balances { Balance (roof_paid (PaymentState.Issued tuesday)).entries 0 40000 0 0 0 40000 }
+    ensures too_much { Refuses (roof_paid (PaymentState.Issued tuesday)) (by_cashier (claim_asked 4 40001 roofers) tuesday) (Refusal.Short 40000) }
+{}
+
+/// A payment is proposed against nothing, and approved against what the bank told of.
+pub fn payments()
+    ensures proposed { Accepts uncovered (by_person lee (check_for 2 10000 Fund.General clerk) friday) uncovered_with_check }
+    ensures uncovered { Refuses uncovered_with_check (by_person lee (Ask.Approve 2) friday) (Refusal.Short 0) }
+    ensures approved { Accepts (covered_with_check friday PaymentState.Proposed) (by_person lee (Ask.Approve 2) friday) (covered_with_check friday (PaymentState.Issued friday)) }
+    ensures available { Balance (covered_with_check friday (PaymentState.Issued friday)).entries 0 40000 0 0 0 40000 }
+    ensures approved_again { Refuses (covered_with_check friday (PaymentState.Issued friday)) (by_person lee (Ask.Approve 2) friday) Refusal.WrongState }
+    ensures voided { Accepts (covered_with_check friday (PaymentState.Issued friday)) (by_person lee (Ask.VoidPayment 2) next_monday) (covered_with_check next_monday (PaymentState.Voided (record { issued = friday; undone = next_monday }))) }
+    ensures given_back { Balance (covered_with_check next_monday (PaymentState.Voided (record { issued = friday; undone = next_monday }))).entries 0 50000 0 0 0 50000 }
+    ensures voided_again { Refuses (covered_with_check next_monday (PaymentState.Voided (record { issued = friday; undone = next_monday }))) (by_person lee (Ask.VoidPayment 2) next_monday) Refusal.WrongState }
+    ensures declined { Accepts (covered_with_check friday PaymentState.Proposed) (by_person lee (Ask.Decline 2) next_monday) (covered_with_check next_monday PaymentState.Declined) }
+    ensures declined_is_not_approved { Refuses (covered_with_check next_monday PaymentState.Declined) (by_person lee (Ask.Approve 2) next_monday) Refusal.WrongState }
+    ensures proposed_is_not_voided { Refuses (covered_with_check friday PaymentState.Proposed) (by_person lee (Ask.VoidPayment 2) friday) Refusal.WrongState }
+    ensures proposed_again { Repeats (covered_with_check next_monday PaymentState.Declined) (by_cashier (check_for 2 10000 Fund.General clerk) wednesday) }
+    ensures other_fund { Refuses (covered_with_check friday PaymentState.Proposed) (by_cashier (check_for 2 10000 (Fund.Fee 1) clerk) friday) (Refusal.WrongNumber (Some 3)) }
+    ensures cashier_proposes { Accepts covered (by_cashier (check_for 2 10000 Fund.General clerk) friday) (covered_with_check friday PaymentState.Proposed) }
+    ensures cashier_does_not_sign { Refuses (covered_with_check friday PaymentState.Proposed) (by_cashier (Ask.Approve 2) friday) (Refusal.NotAllowed Rule.Sign) }
+    ensures client_does_not_propose { Refuses covered (by_person ada (check_for 2 10000 Fund.General clerk) friday) (Refusal.NotAllowed Rule.Propose) }
+    ensures deposit_is_not_approved { Refuses covered (by_person lee (Ask.Approve 1) friday) Refusal.WrongKind }
+    ensures missing_is_not_approved { Refuses covered (by_person lee (Ask.Approve 2) friday) Refusal.NoEntry }
+{}
+
+/// The firm is paid from a fee, a claimant from the settled claim, others from what is available, and nobody in cash.
+pub fn payees()
+    ensures firm_from_general { Refuses covered (by_person lee (check_for 2 10000 Fund.General firm) friday) Refusal.WrongPayee }
+    ensures cash { Refuses covered (by_person lee (check_for 2 10000 Fund.General cash) friday) Refusal.PayeeIsCash }
+    ensures cash_company { Accepts covered (by_person lee (check_for 2 10000 Fund.General cash_company) friday) (covered_with_check_to cash_company friday PaymentState.Proposed) }
+    ensures deposit_is_no_claim { Refuses covered (by_person lee (check_for 2 10000 (Fund.Claim 1) clerk) friday) Refusal.WrongKind }
+    ensures deposit_is_no_fee { Refuses covered (by_person lee (check_for 2 10000 (Fund.Fee 1) firm) friday) Refusal.WrongKind }
+    ensures not_there { Refuses covered (by_person lee (check_for 2 10000 (Fund.Claim 3) clerk) friday) Refusal.NoEntry }
+    ensures own_number_is_not_there { Refuses covered (by_person lee (check_for 2 10000 (Fund.Fee 2) firm) friday) Refusal.NoEntry }
+    ensures firm_from_fee { Accepts settled_rows (by_person lee (check_for 5 15000 (Fund.Fee 2) firm) friday) (settled_with_check 15000 (Fund.Fee 2) firm PaymentState.Proposed) }
+    ensures clerk_from_fee { Refuses settled_rows (by_person lee (check_for 5 15000 (Fund.Fee 2) clerk) friday) Refusal.WrongPayee }
+    ensures fee_is_short { Refuses (settled_with_check 15001 (Fund.Fee 2) firm PaymentState.Proposed) (by_person lee (Ask.Approve 5) friday) (Refusal.Short 15000) }
+    ensures claim_on_fee { Refuses settled_rows (by_person lee (check_for 5 5000 (Fund.Claim 3) clinic) friday) Refusal.WrongKind }
+    ensures unsettled_claim { Refuses unsettled (by_person lee (check_for 5 5000 (Fund.Claim 4) clinic) friday) Refusal.WrongState }
+    ensures claimant { Accepts settled_rows (by_person lee (check_for 5 6000 (Fund.Claim 4) clinic) friday) (settled_with_check 6000 (Fund.Claim 4) clinic PaymentState.Proposed) }
+    ensures another_than_claimant { Refuses settled_rows (by_person lee (check_for 5 6000 (Fund.Claim 4) clerk) friday) Refusal.WrongPayee }
+    ensures claim_is_short { Refuses (settled_with_check 6001 (Fund.Claim 4) clinic PaymentState.Proposed) (by_person lee (Ask.Approve 5) friday) (Refusal.Short 6000) }
+    ensures claim_covers { Accepts (settled_with_check 6000 (Fund.Claim 4) clinic PaymentState.Proposed) (by_person lee (Ask.Approve 5) friday) (settled_with_check 6000 (Fund.Claim 4) clinic (PaymentState.Issued friday)) }
+    ensures claim_is_paid { Balance (settled_with_check 6000 (Fund.Claim 4) clinic (PaymentState.Issued friday)).entries 0 24000 5000 15000 0 44000 }
+{}
+
 /// Sound rows are there that have an entry of each kind in each state, and closed ones.
 pub fn sound_rows()
     ensures every_state { Sound in_every_state }
@@ -101,4 +226,47 @@ pub fn sound_rows()
     ensures closed_balances { Balance all_paid_out 0 0 0 0 0 0 }
     ensures unopened { Sound unopened }
     ensures opened { Sound opened_for_ada }
+{}
+
+/// A line of a held deposit's amount clears it, and so the last day is never before the line's date.
+pub fn lines_of_deposits()
+    ensures cleared { Clears (deposit_in tenth deposit.Held) (line_for 1 twelfth b1 (pos 50000)) twelfth (deposit_in twelfth (deposit.Cleared (cleared_on twelfth b1))) }
+    ensures balances { HasBalances (deposit_in twelfth (deposit.Cleared (cleared_on twelfth b1))) 0 50000 50000 }
+    ensures dated_before_the_booking { Clears (deposit_in tenth deposit.Held) (line_for 1 ninth b1 (pos 50000)) twelfth (deposit_in tenth (deposit.Cleared (cleared_on ninth b1))) }
+    ensures less { Misses (deposit_in tenth deposit.Held) (line_for 1 twelfth b1 (pos 49999)) twelfth Reason.WrongAmount }
+    ensures out_of_the_account { Misses (deposit_in tenth deposit.Held) (line_for 1 twelfth b1 (out 50000)) twelfth Reason.WrongAmount }
+    ensures dated_tomorrow { Misses (deposit_in tenth deposit.Held) (line_for 1 twelfth b1 (pos 50000)) eleventh Reason.Future }
+    ensures cancelled { Misses (deposit_in eleventh (deposit.Cancelled eleventh)) (line_for 1 twelfth b1 (pos 50000)) twelfth Reason.WrongState }
+    ensures not_there { Misses (deposit_in tenth deposit.Held) (line_for 2 twelfth b1 (pos 50000)) twelfth Reason.NoEntry }
+    ensures not_opened { Misses unopened (line_for 1 twelfth b1 (pos 50000)) twelfth Reason.NoMatter }
+    ensures not_opened_and_dated_tomorrow { Misses unopened (line_for 1 twelfth b1 (pos 50000)) eleventh Reason.Future }
+{}
+
+/// A line of the negative of an issued payment's amount clears it.
+pub fn lines_of_payments()
+    ensures cleared { Clears (payment_in eleventh (payment.Issued eleventh)) (line_for 2 twelfth b2 (out 10000)) twelfth (payment_in twelfth (payment.Cleared (record { issued = eleventh; clearing = cleared_on twelfth b2 }))) }
+    ensures balances { HasBalances (payment_in twelfth (payment.Cleared (record { issued = eleventh; clearing = cleared_on twelfth b2 }))) 0 40000 40000 }
+    ensures dated_before_the_issue { Clears (payment_in eleventh (payment.Issued eleventh)) (line_for 2 ninth b2 (out 10000)) twelfth (payment_in eleventh (payment.Cleared (record { issued = eleventh; clearing = cleared_on ninth b2 }))) }
+    ensures into_the_account { Misses (payment_in eleventh (payment.Issued eleventh)) (line_for 2 twelfth b2 (pos 10000)) twelfth Reason.WrongAmount }
+    ensures proposed { Misses (payment_in tenth payment.Proposed) (line_for 2 twelfth b2 (out 10000)) twelfth Reason.WrongState }
+    ensures declined { Misses (payment_in eleventh payment.Declined) (line_for 2 twelfth b2 (out 10000)) twelfth Reason.WrongState }
+    ensures voided { Misses (payment_in twelfth (payment.Voided (record { issued = eleventh; undone = twelfth }))) (line_for 2 twelfth b2 (out 10000)) twelfth Reason.WrongState }
+    ensures fee { Misses in_every_state (line_for 4 20260116 b1 (out 30000)) 20260202 Reason.WrongKind }
+    ensures claim { Misses in_every_state (line_for 5 20260116 b1 (out 10000)) 20260202 Reason.WrongKind }
+{}
+
+/// A line that cleared an entry is a repeat on any business day and in any words; what differs from it in its
+/// date, the bank's reference or its amount is not.
+pub fn lines_again()
+    ensures deposit { ComesAgain (deposit_in twelfth (deposit.Cleared (cleared_on twelfth b1))) (line_for 1 twelfth b1 (pos 50000)) twelfth }
+    ensures deposit_on_a_later_day { ComesAgain (deposit_in twelfth (deposit.Cleared (cleared_on twelfth b1))) (line_for 1 twelfth b1 (pos 50000)) thirteenth }
+    ensures deposit_on_an_earlier_day { ComesAgain (deposit_in twelfth (deposit.Cleared (cleared_on twelfth b1))) (line_for 1 twelfth b1 (pos 50000)) eleventh }
+    ensures deposit_in_other_words { ComesAgain (deposit_in twelfth (deposit.Cleared (cleared_on twelfth b1))) (in_words (codes "wire in") 1 twelfth b1 (pos 50000)) twelfth }
+    ensures deposit_of_another_day { Misses (deposit_in twelfth (deposit.Cleared (cleared_on twelfth b1))) (line_for 1 eleventh b1 (pos 50000)) twelfth Reason.WrongState }
+    ensures deposit_of_another_reference { Misses (deposit_in twelfth (deposit.Cleared (cleared_on twelfth b1))) (line_for 1 twelfth b2 (pos 50000)) twelfth Reason.WrongState }
+    ensures deposit_of_another_amount { Misses (deposit_in twelfth (deposit.Cleared (cleared_on twelfth b1))) (line_for 1 twelfth b1 (pos 49999)) twelfth Reason.WrongState }
+    ensures payment { ComesAgain (payment_in twelfth (payment.Cleared (record { issued = eleventh; clearing = cleared_on twelfth b2 }))) (line_for 2 twelfth b2 (out 10000)) thirteenth }
+    ensures payment_back { Misses (payment_in twelfth (payment.Cleared (record { issued = eleventh; clearing = cleared_on twelfth b2 }))) (line_for 2 twelfth b2 (pos 10000)) thirteenth Reason.WrongState }
+    ensures of_closed_matter { ComesAgain closed_at_rest (line_for 1 20260106 (codes "88121") (pos 10000)) 20260202 }
+    ensures other_of_closed_matter { Misses closed_at_rest (line_for 1 20260106 b1 (pos 10000)) 20260202 Reason.WrongState }
 {}

@@ -33,7 +33,7 @@ impl DepositState {
 }
 
 impl PaymentState {
-    fn copied(&self) -> Result<PaymentState, AllocError>
+    pub(crate) fn copied(&self) -> Result<PaymentState, AllocError>
         ensures { IfOk result (λ s. s ≡ self.now) }
     {
         match self {
@@ -117,7 +117,7 @@ impl Fee {
 }
 
 impl Against {
-    fn copied(&self) -> Result<Against, AllocError>
+    pub fn copied(&self) -> Result<Against, AllocError>
         ensures { IfOk result (λ a. a ≡ self.now) }
     {
         match self {
@@ -151,6 +151,7 @@ impl Claim {
 }
 
 impl Entry {
+    /// The same entry, with texts of its own. An error means that a growth was refused; `self` stays as it is.
     pub fn copied(&self) -> Result<Entry, AllocError>
         ensures { IfOk result (λ e. e ≡ self.now) }
     {
@@ -164,6 +165,7 @@ impl Entry {
 }
 
 impl Seat {
+    /// The same seat, with texts of its own. An error means that a growth was refused; `self` stays as it is.
     pub fn copied(&self) -> Result<Seat, AllocError>
         ensures { IfOk result (λ s. s ≡ self.now) }
     {
@@ -176,6 +178,7 @@ impl Seat {
 }
 
 impl Head {
+    /// The same head, with texts of its own. An error means that a growth was refused; `self` stays as it is.
     pub fn copied(&self) -> Result<Head, AllocError>
         ensures { IfOk result (λ h. h ≡ self.now) }
     {

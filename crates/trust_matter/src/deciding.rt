@@ -4,19 +4,21 @@ ghost use Rattle.std.specs.Prelude.{◌≡◌, true, IfOk};
 ghost use Rattle.std.specs.Option.{option_copied};
 ghost use Rattle.trust_matter.specs.declared.asks.Caller.{Caller as AnyCaller};
 ghost use Rattle.trust_matter.specs.Rows.{Rows};
-ghost use Rattle.trust_matter.specs.Facts.{Asked, number_of};
-ghost use Rattle.trust_matter.specs.Shares.{number_or_none};
+ghost use Rattle.trust_matter.specs.Facts.{Asked, fund_named, number_of, other_of};
+ghost use Rattle.trust_matter.specs.Shares.{against_no, fund_no, number_or_none};
 ghost use Rattle.trust_matter.specs.Conditions.{is_as_asked};
-ghost use Rattle.trust_matter.specs.Policy.{rule_of};
+ghost use Rattle.trust_matter.specs.Policy.{rule_against, rule_of};
 ghost use Rattle.trust_matter.specs.Sound.{Sound};
 ghost use Rattle.trust_matter.specs.Parts.{IsPart, kept_facts, kept_at, entry_in, holds_for, is_held_or_none};
 ghost use Rattle.trust_matter.specs.Step.{Decides, Gives, GivesLate, HasAmount, deposit_of};
 
 use crate::asks::{Ask, Caller, DepositAsk, OpenAsk};
 use crate::change::{Change, change_of};
+use crate::deciding_claims::{decide_accept, decide_award, decide_claim, decide_fee, decide_offer};
+use crate::deciding_payments::{decide_approve, decide_decline, decide_propose, decide_void};
 use crate::edits::{Edit, Numbered, Opening};
 use crate::matter::{Kept, Matter};
-use crate::rows::{Deposit, DepositState, Entry, Head, Role, Seat};
+use crate::rows::{Against, Deposit, DepositState, Entry, Fund, Head, Role, Seat};
 use std::alloc::AllocError;
 use trust_base::{Day, EntryNo, PersonId, Refusal, Rule};
 
@@ -27,7 +29,20 @@ impl Ask {
     {
         match self {
             Ask::Show | Ask::ShowEntry(_) => Rule::Read,
-            _ => Rule::Office,
+            Ask::Propose(_) => Rule::Propose,
+            Ask::Approve(_)
+            | Ask::Decline(_)
+            | Ask::VoidPayment(_)
+            | Ask::EarnFee(_)
+            | Ask::Offer(_) => Rule::Sign,
+            Ask::RaiseClaim(asked) => asked.against.rule(),
+            Ask::Accept(_) => Rule::Dispute,
+            Ask::OpenMatter(_)
+            | Ask::AddSeat(_)
+            | Ask::DropSeat(_)
+            | Ask::Deposit(_)
+            | Ask::CancelDeposit(_)
+            | Ask::Award(_) => Rule::Office,
         }
     }
 
@@ -37,7 +52,26 @@ impl Ask {
     {
         match self {
             Ask::Deposit(asked) => Some(asked.number),
-            Ask::CancelDeposit(number) | Ask::ShowEntry(number) => Some(*number),
+            Ask::Propose(asked) => Some(asked.number),
+            Ask::EarnFee(asked) => Some(asked.number),
+            Ask::RaiseClaim(asked) => Some(asked.number),
+            Ask::Offer(asked) | Ask::Accept(asked) | Ask::Award(asked) => Some(asked.number),
+            Ask::CancelDeposit(number)
+            | Ask::Approve(number)
+            | Ask::Decline(number)
+            | Ask::VoidPayment(number)
+            | Ask::ShowEntry(number) => Some(*number),
+            Ask::OpenMatter(_) | Ask::AddSeat(_) | Ask::DropSeat(_) | Ask::Show => None,
+        }
+    }
+
+    /// The number of the fee or claim that it names itself, if it names one.
+    pub fn fund_number(&self) -> Option<EntryNo>
+        ensures { number_or_none result ≡ fund_named self.now }
+    {
+        match self {
+            Ask::Propose(asked) => asked.fund.number(),
+            Ask::RaiseClaim(asked) => asked.against.number(),
             _ => None,
         }
     }
@@ -46,8 +80,54 @@ impl Ask {
     fn check_amount(&self)
         ensures { HasAmount self.now }
     {
-        if let Ask::Deposit(asked) = self {
-            let _amount = asked.amount.get();
+        match self {
+            Ask::Deposit(asked) => {
+                let _amount = asked.amount.get();
+            }
+            Ask::Propose(asked) => {
+                let _amount = asked.amount.get();
+            }
+            Ask::EarnFee(asked) => {
+                let _amount = asked.amount.get();
+            }
+            Ask::RaiseClaim(asked) => {
+                let _amount = asked.amount.get();
+            }
+            _ => {}
+        }
+    }
+}
+
+impl Fund {
+    /// The number of the fee or claim that it is, if it is one.
+    pub fn number(self) -> Option<EntryNo>
+        ensures { number_or_none result ≡ fund_no self }
+    {
+        match self {
+            Fund::General => None,
+            Fund::Fee(number) | Fund::Claim(number) => Some(number),
+        }
+    }
+}
+
+impl Against {
+    // The number of the fee that it is, if it is one.
+    fn number(&self) -> Option<EntryNo>
+        ensures { number_or_none result ≡ against_no self.now }
+    {
+        match self {
+            Against::General(_) => None,
+            Against::Fee(number) => Some(*number),
+        }
+    }
+
+    // The rule that a claim on it comes under.
+    fn rule(&self) -> Rule
+        ensures { result ≡ rule_against self.now }
+    {
+        match self {
+            Against::General(_) => Rule::Claim,
+            Against::Fee(_) => Rule::Dispute,
         }
     }
 }
@@ -73,24 +153,41 @@ impl Matter {
         }
     }
 
-    // The entry that the ask names, if it is kept; no entry has number 0.
-    fn named_by(&self, ask: &Ask) -> Option<&Kept>
-        ensures { option_copied result ≡ kept_at self.now (number_of ask.now) }
+    // The entry of this number, if there is a number and it is kept; no entry has number 0.
+    pub(crate) fn kept_with(&self, number: Option<EntryNo>) -> Option<&Kept>
+        ensures { option_copied result ≡ kept_at self.now (number_or_none number) }
     {
-        let number = number_or_zero(ask.number());
+        let number = number_or_zero(number);
         self.kept().iter().find(|k| k.number.get() == number)
     }
 
-    /// Can the ask be decided on: are the entry that it names, and the one that this names, held? It takes
-    /// no memory.
+    // The entry that the ask names, if it is kept.
+    fn named_by(&self, ask: &Ask) -> Option<&Kept>
+        ensures { option_copied result ≡ kept_at self.now (number_of ask.now) }
+    {
+        self.kept_with(ask.number())
+    }
+
+    // The number of the fee or claim that the ask names, or else that its entry names, if there is one.
+    fn other_named(&self, ask: &Ask) -> Option<EntryNo>
+        ensures { number_or_none result ≡ other_of ask.now (entry_in (kept_at self.now (number_of ask.now))) }
+    {
+        match ask {
+            Ask::Propose(asked) => asked.fund.number(),
+            Ask::RaiseClaim(asked) => asked.against.number(),
+            _ => match self.named_by(ask) {
+                None => None,
+                Some(kept) => kept.entry.target(),
+            },
+        }
+    }
+
+    /// Can the ask be decided on: are the entry that it names, and the fee or claim that it or that entry
+    /// names, held? It takes no memory.
     pub fn holds_for(&self, ask: &Ask) -> bool
         ensures { result ≡ holds_for self.now ask.now }
     {
-        let target = match self.named_by(ask) {
-            None => None,
-            Some(kept) => kept.entry.target(),
-        };
-        self.holds_or_none(ask.number()) && self.holds_or_none(target)
+        self.holds_or_none(ask.number()) && self.holds_or_none(self.other_named(ask))
     }
 }
 
@@ -259,6 +356,15 @@ fn decide_edit(matter: &Matter, caller: &Caller, ask: &Ask, day: Day) -> Result<
         Ask::DropSeat(person) => decide_drop_seat(matter, person, day),
         Ask::Deposit(asked) => decide_deposit(matter, asked, day),
         Ask::CancelDeposit(number) => decide_cancel(matter, *number, day),
+        Ask::Propose(asked) => decide_propose(matter, asked, day),
+        Ask::Approve(number) => decide_approve(matter, *number, day),
+        Ask::Decline(number) => decide_decline(matter, *number, day),
+        Ask::VoidPayment(number) => decide_void(matter, *number, day),
+        Ask::EarnFee(asked) => decide_fee(matter, asked, day),
+        Ask::RaiseClaim(asked) => decide_claim(matter, asked, day),
+        Ask::Offer(asked) => decide_offer(matter, asked, day),
+        Ask::Accept(asked) => decide_accept(matter, asked, day),
+        Ask::Award(asked) => decide_award(matter, asked, day),
         Ask::Show => Ok(Edit::Nothing),
         Ask::ShowEntry(number) => decide_show_entry(matter, *number, day),
     }

@@ -1,10 +1,11 @@
 //! Laws over the definitions, each the contract of a function with nothing to do.
 
-ghost use Rattle.trust_matter.specs.Laws.{SoundForEver, LeastRefusal, NoneHolds, Covered, MadeStays, AtMostOnce, FullTakesNone};
+ghost use Rattle.trust_matter.specs.Laws.{SoundForEver, LinesKeepSound, LeastRefusal, NoneHolds, FirstReason, NoReason, Covered, MadeStays, LinesLeaveMade, AtMostOnce, LineAtMostOnce, FullTakesNone};
 
-/// No ask leaves a matter unsound.
+/// No ask and no line of the bank leaves a matter unsound.
 pub fn sound_for_ever()
-    ensures { SoundForEver }
+    ensures asks { SoundForEver }
+    ensures lines { LinesKeepSound }
 {}
 
 /// A refusal is the one of the least number whose condition holds, and where none is given none holds, but
@@ -14,22 +15,36 @@ pub fn least_refusal()
     ensures none { NoneHolds }
 {}
 
+/// A line of the bank that matches no entry is told the first reason that holds, and against one that is applied
+/// none holds.
+pub fn first_reason_holds()
+    ensures first { FirstReason }
+    ensures none { NoReason }
+{}
+
 /// In sound rows what the bank holds is what is available, disputed, left of fees and left of claims, and
 /// no balance is below zero.
 pub fn sound_is_covered()
     ensures { Covered }
 {}
 
-/// No ask takes an entry away, or changes its kind, its day or what was asked: entries are only added, and
-/// change their state.
+/// No ask and no line of the bank takes an entry away, or changes its kind, its day or what was asked: entries
+/// are only added, and change their state.
 pub fn made_stays()
-    ensures { MadeStays }
+    ensures asks { MadeStays }
+    ensures lines { LinesLeaveMade }
 {}
 
-/// An ask that makes an entry and was accepted changes nothing when it comes again, whatever was asked in
-/// between: it is a repeat.
+/// An ask that makes an entry and was accepted changes nothing when it comes again, whatever was asked or came
+/// from the bank in between: it is a repeat.
 pub fn at_most_once()
     ensures { AtMostOnce }
+{}
+
+/// A line of the bank that was applied changes nothing when it comes again, whatever was asked or came from the
+/// bank in between: it is a repeat.
+pub fn line_at_most_once()
+    ensures { LineAtMostOnce }
 {}
 
 /// A matter of 9,999 entries takes no other: what is no repeat is refused, and no next number is told.

@@ -7,9 +7,13 @@ pub mod cases;
 pub mod change;
 mod copies;
 pub mod deciding;
+mod deciding_claims;
+mod deciding_line;
+mod deciding_payments;
 pub mod edits;
 mod keep;
 pub mod laws;
+mod line_verdict;
 pub mod matter;
 mod movement;
 mod named;
@@ -19,11 +23,13 @@ pub mod shares;
 pub mod totals;
 mod whole;
 
-pub use asks::{Ask, Caller, DepositAsk, OpenAsk};
+pub use asks::{Ask, Caller, ClaimAsk, DepositAsk, FeeAsk, OpenAsk, PaymentAsk, SplitAsk};
 pub use bank_line::BankLine;
 pub use change::{Change, Left, Movement, Moves};
 pub use deciding::decide;
+pub use deciding_line::decide_line;
 pub use edits::{Edit, Numbered, Opening};
+pub use line_verdict::{LineVerdict, Reason};
 pub use matter::{Balances, Figures, Kept, Matter};
 pub use rows::{
     Against, Claim, ClaimState, ClearedPayment, Clearing, Deposit, DepositState, Entry, Fee, Fund,

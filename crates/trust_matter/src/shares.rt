@@ -18,6 +18,7 @@ pub struct Shares {
     pub pending: i64,
 }
 
+/// The shares of an entry that adds nothing: zero to each balance, in cents, and no pending entry.
 pub fn no_shares() -> Shares
     ensures is { result ≡ no_shares }
     ensures small { AreSmallShares result }
@@ -94,6 +95,8 @@ impl Claim {
 }
 
 impl Entry {
+    /// What the entry adds to each balance, in cents, and to the count of pending entries. No share is greater in size
+    /// than twice the greatest amount.
     #[tactic(auto, unfolding(crate::specs::Shares::held_share, crate::specs::Shares::available_share, crate::specs::Shares::disputed_share, crate::specs::Shares::fee_share, crate::specs::Shares::claim_share, crate::specs::Shares::pending_share, crate::specs::Shares::draw))]
     pub fn shares(&self) -> Shares
         ensures is { result ≡ shares_of self.now }

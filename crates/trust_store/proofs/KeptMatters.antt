@@ -5,6 +5,7 @@ use Rattle.std.specs.List.{AllByRecursion}
 use Rattle.std.proofs.lemmas.Bool.{false≢true}
 use Rattle.std.proofs.lemmas.Bool.Decides.{nat_tests}
 use Rattle.std.proofs.lemmas.Option.{get_or_from_slice_get}
+use Rattle.trust_base.specs.declared.line.Line.{Line}
 use Rattle.trust_matter.specs.declared.edits.Edit.TheVariants.{Nothing}
 use Rattle.trust_matter.specs.Rows.{Rows, unopened}
 use Rattle.trust_matter.specs.Sound.{Sound}
@@ -258,20 +259,20 @@ rows_of-joined m (k ∷ ks) up = cases (nat_lt k.number m) (k.number == m) refl 
         ap (λ ps. among (map (λ p. p.1) ps)) (parts ∙ (λ i. pairs_fail (λ x. x == m) k.number (rows_kept k.matter) ci i ++ joined_fail (λ x. x == m) k.number ks up.0 (λ x lt'. grind (arith, nat_tests)) i))
 
 -- a matter's rows among the kept ones are those of the firm
-pub firm_rows : (m : ℕ) (us ks : List KeptMatter) (moves : List Movement) (firm : Firm) → us ≡ ks → Ascends ks → record { rows = joined ks; movements = moves } ≡ firm → rows_in m us ≡ of m firm
-firm_rows m us ks moves firm same up is =
-    let stands : Firm = record { rows = joined ks; movements = moves } in
+pub firm_rows : (m : ℕ) (us ks : List KeptMatter) (moves : List Movement) (lines : List Line) (firm : Firm) → us ≡ ks → Ascends ks → record { rows = joined ks; movements = moves; exceptions = lines } ≡ firm → rows_in m us ≡ of m firm
+firm_rows m us ks moves lines firm same up is =
+    let stands : Firm = record { rows = joined ks; movements = moves; exceptions = lines } in
     let shown : stands ≡ firm = is in
     ap (rows_in m) same ∙ (sym (rows_of-joined m ks up) ∙ ap (of m) shown)
 
 -- so a change of the firm's is one of the kept matter
-pub change_in : (m : ℕ) (ks : List KeptMatter) (moves : List Movement) (firm : Firm) (change : MatterChange) → Ascends ks → record { rows = joined ks; movements = moves } ≡ firm → IsChange (of m firm) change → IsChange (rows_in m ks) change
-change_in m ks moves firm change up is may = subst (λ (rows : Rows). IsChange rows change) (sym (firm_rows m ks ks moves firm refl up is)) may
+pub change_in : (m : ℕ) (ks : List KeptMatter) (moves : List Movement) (lines : List Line) (firm : Firm) (change : MatterChange) → Ascends ks → record { rows = joined ks; movements = moves; exceptions = lines } ≡ firm → IsChange (of m firm) change → IsChange (rows_in m ks) change
+change_in m ks moves lines firm change up is may = subst (λ (rows : Rows). IsChange rows change) (sym (firm_rows m ks ks moves lines firm refl up is)) may
 
 -- the kept matters after a write stand for the firm after the change
-module _ (m : ℕ) (change : MatterChange) (ks news : List KeptMatter) (moves after : List Movement) (up : Ascends ks) (may : IsChange (rows_in m ks) change) (kept : IsKeptAs m (changed change (rows_in m ks)) ks news) (moved_on : after ≡ moves ++ joined_movement m change.movement) where
+module _ (m : ℕ) (change : MatterChange) (ks news : List KeptMatter) (moves after : List Movement) (lines : List Line) (up : Ascends ks) (may : IsChange (rows_in m ks) change) (kept : IsKeptAs m (changed change (rows_in m ks)) ks news) (moved_on : after ≡ moves ++ joined_movement m change.movement) where
   abbrev old : Firm
-  old = record { rows = joined ks; movements = moves }
+  old = record { rows = joined ks; movements = moves; exceptions = lines }
 
   own : rows_in m ks ≡ of m old
   own = sym (rows_of-joined m ks up)
@@ -282,10 +283,10 @@ module _ (m : ℕ) (change : MatterChange) (ks news : List KeptMatter) (moves af
   movements : after ≡ moves ++ moved m change (of m old)
   movements = moved_on ∙ (ap (λ v. moves ++ joined_movement m v) may.movement ∙ ap (λ r. moves ++ moved m change r) own)
 
-  made : record { rows = joined news; movements = after } ≡ rewritten m change old
-  made = λ i. record { rows = rows i; movements = movements i }
+  made : record { rows = joined news; movements = after; exceptions = lines } ≡ rewritten m change old
+  made = λ i. record { rows = rows i; movements = movements i; exceptions = lines }
 
-  pub written_firm : (firm : Firm) → (change.edit ≡ Nothing → ⊥) → old ≡ firm → record { rows = joined news; movements = after } ≡ after_change m change firm
+  pub written_firm : (firm : Firm) → (change.edit ≡ Nothing → ⊥) → old ≡ firm → record { rows = joined news; movements = after; exceptions = lines } ≡ after_change m change firm
   written_firm firm some is = made ∙ (sym (cases (after-cases m change old)) ∙ ap (after_change m change) is)
     where
       cases : (change.edit ≡ Nothing) × (after_change m change old ≡ old) ⊎ (after_change m change old ≡ rewritten m change old) → after_change m change old ≡ rewritten m change old

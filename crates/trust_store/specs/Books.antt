@@ -2,19 +2,18 @@
 use Rattle.std.specs.Prelude.{ℕ, ◌≡◌, ◌+◌, ◌-◌, ◌^◌, ◌<◌, min, List, ◌++◌, fold, Result, Ok, Err}
 use Rattle.trust_base.specs.declared.refusal.StoreFault.{StoreFault}
 use Rattle.trust_base.specs.declared.refusal.StoreFault.TheVariants as faults
-use Rattle.trust_firm.specs.Firm.{Row}
 
 -- The rows that a sink takes.
 
 -- a sink took some front of the rows, and these are left
-pub record HandedOver {S : Type 0} (step : S → ℕ × Row → S) (old : S) (all rest : List (ℕ × Row)) (new : S) : Type 0 where
-  pub front : List (ℕ × Row)
+pub record HandedOver {S A : Type 0} (step : S → A → S) (old : S) (all rest : List A) (new : S) : Type 0 where
+  pub front : List A
   pub parts : front ++ rest ≡ all
   pub folded : new ≡ fold step old front
 
 -- a sink after the rows of some front
-abbrev pub FoldsFront : {S : Type 0} → (S → ℕ × Row → S) → S → List (ℕ × Row) → S → Type 0
-FoldsFront step old all new = (rest : List (ℕ × Row)) × HandedOver step old all rest new
+abbrev pub FoldsFront : {S A : Type 0} → (S → A → S) → S → List A → S → Type 0
+FoldsFront {A} step old all new = (rest : List A) × HandedOver step old all rest new
 
 -- The faults of the store.
 

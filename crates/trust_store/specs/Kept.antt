@@ -1,11 +1,14 @@
--- Whole matters that are kept one by one, by number, and the joined rows that they stand for.
-use Rattle.std.specs.Prelude.{ℕ, suc, ◌≡◌, ◌<◌, ◌==◌, nat_lt, List, [], ◌∷◌, ◌++◌, Option, Some, None, Result, Ok, Err, if◌then◌else◌, slice_get}
-use Rattle.std.specs.List.{AllByRecursion}
+-- Whole matters that are kept one by one, by number, and the joined rows that they stand for; and exceptions in their order.
+use Rattle.std.specs.Prelude.{ℕ, suc, ◌≡◌, ◌<◌, ◌≤◌, ◌==◌, nat_lt, List, [], ◌∷◌, ◌++◌, length, Option, Some, None, Result, Ok, Err, if◌then◌else◌, slice_get}
+use Rattle.std.specs.List.{AllByRecursion, insert, remove}
+use Rattle.std.specs.List.Sorted.{IsStrictlySortedBy}
+use Rattle.trust_base.specs.LineOrder.{line_cmp}
+use Rattle.trust_base.specs.declared.line.Line.{Line}
 use Rattle.trust_matter.specs.declared.matter.Kept as matter
 use Rattle.trust_matter.specs.Rows.{Rows, unopened}
 use Rattle.trust_matter.specs.Sound.{Sound}
 use Rattle.trust_matter.specs.Parts.{Part, IsWhole, entries_kept}
-use Rattle.trust_firm.specs.Firm.{Row, EntryRow, pairs}
+use Rattle.trust_firm.specs.Firm.{Row, EntryRow, pairs, with_line, without_line}
 use Rattle.trust_store.specs.declared.plain.KeptMatter.{KeptMatter}
 
 -- the rows of a matter that keeps all its entries
@@ -44,6 +47,11 @@ pub record AreKeptWhole (ks : List KeptMatter) : Type 0 where
   pub ascends : Ascends ks
   pub whole : AllByRecursion IsKeptWhole ks
 
+-- and lines in their order, each once
+pub record AreKept (ks : List KeptMatter) (lines : List Line) : Type 0 where
+  pub matters : AreKeptWhole ks
+  pub exceptions : IsStrictlySortedBy line_cmp lines
+
 -- One of them.
 
 -- how many stand before the number
@@ -77,3 +85,17 @@ pub record IsKeptAs (m : ℕ) (rows : Rows) (old new : List KeptMatter) : Type 0
   pub part : Part
   pub whole : IsWhole part rows
   pub kept : new ≡ kept_with m part old
+
+-- A line among others.
+
+-- the line stands at the place: it adds nothing, and without it the place is gone
+pub record StandsAt (line : Line) (lines : List Line) (i : ℕ) : Type 0 where
+  pub within : i < length lines
+  pub with : with_line line lines ≡ lines
+  pub without : without_line line lines ≡ remove lines i
+
+-- the line is not there, and would stand at the place
+pub record WouldStandAt (line : Line) (lines : List Line) (i : ℕ) : Type 0 where
+  pub within : i ≤ length lines
+  pub with : with_line line lines ≡ insert lines i line
+  pub without : without_line line lines ≡ lines

@@ -4,14 +4,15 @@ ghost use Rattle.std.specs.Prelude.{◌≡◌, ℕ, IfOk, OnOk, OnErr, IsOk, fol
 ghost use Rattle.trust_matter.specs.declared.edits.Edit.TheVariants.{Nothing};
 ghost use Rattle.trust_matter.specs.Parts.{IsPart, HoldsAll};
 ghost use Rattle.trust_matter.specs.Changes.{IsChange};
-ghost use Rattle.trust_firm.specs.Firm.{Firm, of, after_change};
+ghost use Rattle.trust_matter.specs.LineStep.{IsLineChange};
+ghost use Rattle.trust_firm.specs.Firm.{Firm, of, after_change, after_line, after_stray};
 ghost use Rattle.trust_store.specs.Books.{FoldsFront, counted};
 ghost use Rattle.trust_store.specs.Named.{IsPartFor};
 
 use std::alloc::Global;
-use trust_base::{EntryNo, MatterNo, StoreFault};
+use trust_base::{EntryNo, Line, MatterNo, StoreFault};
 use trust_firm::RowSink;
-use trust_matter::{Change, Matter};
+use trust_matter::{BankLine, Change, LineVerdict, Matter};
 
 /// The rows of a firm, however they are kept.
 ///
@@ -72,6 +73,37 @@ pub trait Book {
     fn each_row<S: RowSink>(&mut self, sink: &mut S) -> Result<(), StoreFault>
         ensures all { clean self.new → OnOk result (sink.new ≡ fold S.stepped sink.old (firm self.old).rows) }
         ensures some { clean self.new → FoldsFront S.stepped sink.old (firm self.old).rows sink.new }
+        ensures same { clean self.new → firm self.new ≡ firm self.old }
+        ensures was_clean { clean self.new → clean self.old }
+        ensures count { refusals self.new ≡ counted result (refusals self.old) };
+
+    /// Writes what becomes of a line of the bank that names an entry: one that is applied changes the entry's matter and
+    /// is no exception from then on, nor is one that comes again; one that matches nothing joins the exceptions. It is one
+    /// write: nothing has changed where it is refused.
+    fn write_line(
+        &mut self,
+        alloc: Global,
+        line: &BankLine,
+        verdict: &LineVerdict,
+    ) -> Result<(), StoreFault>
+        requires { clean self.old → IsLineChange (of line.now.matter (firm self.old)) verdict.now }
+        ensures ok { clean self.new → OnOk result (firm self.new ≡ after_line line.now verdict.now (firm self.old)) }
+        ensures err { clean self.new → OnErr result (firm self.new ≡ firm self.old) }
+        ensures was_clean { clean self.new → clean self.old }
+        ensures count { refusals self.new ≡ counted result (refusals self.old) };
+
+    /// Adds a line that names nothing to the exceptions, unless it is one.
+    fn write_stray(&mut self, alloc: Global, line: &Line) -> Result<(), StoreFault>
+        ensures ok { clean self.new → OnOk result (firm self.new ≡ after_stray line.now (firm self.old)) }
+        ensures err { clean self.new → OnErr result (firm self.new ≡ firm self.old) }
+        ensures was_clean { clean self.new → clean self.old }
+        ensures count { refusals self.new ≡ counted result (refusals self.old) };
+
+    /// Hands over each exception, by day, reference, the bank's reference, amount as a number, and text. A line for which
+    /// the sink wants memory ends the call.
+    fn each_exception<S: RowSink>(&mut self, sink: &mut S) -> Result<(), StoreFault>
+        ensures all { clean self.new → OnOk result (sink.new ≡ fold S.noted sink.old (firm self.old).exceptions) }
+        ensures some { clean self.new → FoldsFront S.noted sink.old (firm self.old).exceptions sink.new }
         ensures same { clean self.new → firm self.new ≡ firm self.old }
         ensures was_clean { clean self.new → clean self.old }
         ensures count { refusals self.new ≡ counted result (refusals self.old) };

@@ -10,12 +10,13 @@ ghost use Rattle.trust_store.specs.Named.{IsPartFor};
 ghost use Rattle.trust_store.specs.Kept.{AreKeptWhole, IsKeptAs, joined, kept_pairs, rows_kept, rows_in, seek};
 
 use crate::Book;
+use crate::exceptions::{add_line, hand_lines, remove_line};
 use std::alloc::{AllocError, Global};
 use std::marker::Model;
-use trust_base::{EntryNo, MatterNo, StoreFault};
+use trust_base::{EntryNo, Line, MatterNo, StoreFault};
 use trust_firm::laws::firm_stays_sound;
 use trust_firm::{Movement, Owner, RowSink};
-use trust_matter::{Change, Edit, Kept, Matter, Seat};
+use trust_matter::{BankLine, Change, Edit, Kept, LineVerdict, Matter, Seat};
 
 /// A matter with its number.
 #[derive(Drop)]
@@ -24,13 +25,14 @@ pub struct KeptMatter {
     pub matter: Matter,
 }
 
-/// Keeps each matter whole in a list, by number, and what was moved in another.
+/// Keeps each matter whole in a list, by number, what was moved in another, and the exceptions in a third, in their order.
 ///
 /// It never answers Store.
 #[derive(Drop)]
 pub struct PlainBook {
     matters: Vec<KeptMatter>,
     movements: Vec<Movement>,
+    exceptions: Vec<Line>,
 }
 
 impl Model for PlainBook {
@@ -38,11 +40,11 @@ impl Model for PlainBook {
 
     ghost Value = { Firm };
 
-    ghost use Rattle.trust_store.specs.Kept.{joined, AreKeptWhole};
+    ghost use Rattle.trust_store.specs.Kept.{joined, AreKept};
 
-    ghost view = { λ b. record { rows = joined b.matters.items; movements = b.movements.items } };
+    ghost view = { λ b. record { rows = joined b.matters.items; movements = b.movements.items; exceptions = b.exceptions.items } };
 
-    ghost invariant = { λ b. AreKeptWhole b.matters.items };
+    ghost invariant = { λ b. AreKept b.matters.items b.exceptions.items };
 }
 
 impl PlainBook {
@@ -56,6 +58,7 @@ impl PlainBook {
         PlainBook {
             matters: Vec::new(alloc),
             movements: Vec::new(alloc),
+            exceptions: Vec::new(alloc),
         }
     }
 }
@@ -101,6 +104,32 @@ impl Book for PlainBook {
 
     fn each_row<S: RowSink>(&mut self, sink: &mut S) -> Result<(), StoreFault> {
         Ok(hand_all(&self.matters, sink)?)
+    }
+
+    // The change comes first, since it may want memory; taking the exception out wants none, and ends the write.
+    #[tactic(auto, using(crate::proofs::Places::kept_in_order))]
+    fn write_line(
+        &mut self,
+        alloc: Global,
+        line: &BankLine,
+        verdict: &LineVerdict,
+    ) -> Result<(), StoreFault> {
+        match verdict {
+            LineVerdict::Applied(change) => self.write_change(alloc, line.matter, change)?,
+            LineVerdict::Repeat => {}
+            LineVerdict::Unmatched(_) => return Ok(add_line(&mut self.exceptions, &line.line)?),
+        }
+        remove_line(&mut self.exceptions, &line.line);
+        Ok(())
+    }
+
+    #[tactic(auto, using(crate::proofs::Places::kept_in_order))]
+    fn write_stray(&mut self, _alloc: Global, line: &Line) -> Result<(), StoreFault> {
+        Ok(add_line(&mut self.exceptions, line)?)
+    }
+
+    fn each_exception<S: RowSink>(&mut self, sink: &mut S) -> Result<(), StoreFault> {
+        Ok(hand_lines(&self.exceptions, sink)?)
     }
 }
 

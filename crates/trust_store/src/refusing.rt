@@ -5,9 +5,9 @@ ghost use Rattle.trust_store.specs.Books.{counted_fault};
 
 use crate::Book;
 use std::alloc::Global;
-use trust_base::{EntryNo, MatterNo, StoreFault};
+use trust_base::{EntryNo, Line, MatterNo, StoreFault};
 use trust_firm::RowSink;
-use trust_matter::{Change, Edit, Matter};
+use trust_matter::{BankLine, Change, Edit, LineVerdict, Matter};
 
 /// Answers Store to its nth write, and hands each other call on. A change that is nothing is no write.
 #[derive(Debug, Drop)]
@@ -82,6 +82,38 @@ impl<B: Book> Book for RefusingBook<B> {
             return Err(told(&mut self.refusals, StoreFault::Store));
         }
         match self.inner.write_change(alloc, matter, change) {
+            Ok(()) => Ok(()),
+            Err(fault) => Err(told(&mut self.refusals, fault)),
+        }
+    }
+
+    fn write_line(
+        &mut self,
+        alloc: Global,
+        line: &BankLine,
+        verdict: &LineVerdict,
+    ) -> Result<(), StoreFault> {
+        if is_refused(&mut self.writes_left) {
+            return Err(told(&mut self.refusals, StoreFault::Store));
+        }
+        match self.inner.write_line(alloc, line, verdict) {
+            Ok(()) => Ok(()),
+            Err(fault) => Err(told(&mut self.refusals, fault)),
+        }
+    }
+
+    fn write_stray(&mut self, alloc: Global, line: &Line) -> Result<(), StoreFault> {
+        if is_refused(&mut self.writes_left) {
+            return Err(told(&mut self.refusals, StoreFault::Store));
+        }
+        match self.inner.write_stray(alloc, line) {
+            Ok(()) => Ok(()),
+            Err(fault) => Err(told(&mut self.refusals, fault)),
+        }
+    }
+
+    fn each_exception<S: RowSink>(&mut self, sink: &mut S) -> Result<(), StoreFault> {
+        match self.inner.each_exception(sink) {
             Ok(()) => Ok(()),
             Err(fault) => Err(told(&mut self.refusals, fault)),
         }

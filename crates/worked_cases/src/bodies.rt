@@ -3,7 +3,7 @@
 use std::alloc::Global;
 use std::test::Fail;
 use trust_base::{BankText, Cents, CentsOrZero, Day, EntryNo, Label, MatterNo, PersonId};
-use trust_desk::{ImportCounts, entry_body, import_body, matter_body, receipt_body};
+use trust_desk::{ImportReply, entry_body, import_body, matter_body, receipt_body};
 use trust_matter::{
     Against, Claim, ClaimState, ClearedPayment, Clearing, Deposit, DepositState, Entry, Fee, Fund,
     Head, Matter, Payment, PaymentState, Role, Seat, Settlement,
@@ -183,7 +183,7 @@ fn settled_claim(rt: HostRuntime) -> Result<(), Fail> {
 
 #[test]
 fn imports(rt: HostRuntime) -> Result<(), Fail> {
-    let mut counts = ImportCounts {
+    let mut counts = ImportReply {
         applied: 1,
         exceptions: 0,
         repeated: 0,

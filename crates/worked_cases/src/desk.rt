@@ -40,12 +40,11 @@ fn a_matter_is_opened_once(rt: HostRuntime) -> Result<(), Fail> {
 fn a_deposit_is_booked_once(rt: HostRuntime) -> Result<(), Fail> {
     let alloc = rt.alloc();
     let today = day("2024-01-10")?;
-    let requests = [
-        open(alloc, "000001")?,
-        deposit(alloc, "000001", "0001", "500.00")?,
-        deposit(alloc, "000001", "0001", "500.00")?,
-        deposit(alloc, "000001", "0001", "500.01")?,
-    ];
+    let mut requests = Vec::new(alloc);
+    requests.push(open(alloc, "000001")?)?;
+    requests.push(deposit(alloc, "000001", "0001", "500.00")?)?;
+    requests.push(deposit(alloc, "000001", "0001", "500.00")?)?;
+    requests.push(deposit(alloc, "000001", "0001", "500.01")?)?;
     let wanted = [
         (201, OPENED),
         (201, RECEIPT),
@@ -78,12 +77,11 @@ fn amounts_at_their_limit(rt: HostRuntime) -> Result<(), Fail> {
 fn strangers_are_told_of_no_matter(rt: HostRuntime) -> Result<(), Fail> {
     let alloc = rt.alloc();
     let today = day("2024-01-10")?;
-    let requests = [
-        open(alloc, "000001")?,
-        asked_by(alloc, "mallory", "000001", Ask::Show)?,
-        asked_by(alloc, "mallory", "000002", Ask::Show)?,
-        show(alloc, "000002")?,
-    ];
+    let mut requests = Vec::new(alloc);
+    requests.push(open(alloc, "000001")?)?;
+    requests.push(asked_by(alloc, "mallory", "000001", Ask::Show)?)?;
+    requests.push(asked_by(alloc, "mallory", "000002", Ask::Show)?)?;
+    requests.push(show(alloc, "000002")?)?;
     let wanted = [
         (201, OPENED),
         (404, NO_MATTER),
@@ -97,13 +95,12 @@ fn strangers_are_told_of_no_matter(rt: HostRuntime) -> Result<(), Fail> {
 fn seats_that_are_refused(rt: HostRuntime) -> Result<(), Fail> {
     let alloc = rt.alloc();
     let today = day("2024-01-10")?;
-    let requests = [
-        open(alloc, "000001")?,
-        seat(alloc, "000001", "lee", Role::Client)?,
-        drop_seat(alloc, "000001", "bob")?,
-        drop_seat(alloc, "000001", "lee")?,
-        show(alloc, "000001")?,
-    ];
+    let mut requests = Vec::new(alloc);
+    requests.push(open(alloc, "000001")?)?;
+    requests.push(seat(alloc, "000001", "lee", Role::Client)?)?;
+    requests.push(drop_seat(alloc, "000001", "bob")?)?;
+    requests.push(drop_seat(alloc, "000001", "lee")?)?;
+    requests.push(show(alloc, "000001")?)?;
     let wanted = [
         (201, OPENED),
         (409, r#"{"name":"SeatTaken","refusal":22}"#),
@@ -120,13 +117,12 @@ fn a_client_is_seated(rt: HostRuntime) -> Result<(), Fail> {
     let today = day("2024-01-10")?;
     let seated =
         r#"{"available":"0.00","claims":"0.00","client":"Ada Chen","closed":null,"disputed":"0.00","entries":0,"fees":"0.00","held":"0.00","matter":"000001","opened":"2024-01-10","seats":[{"person":"ada","role":"client"},{"person":"lee","role":"lawyer"}],"total":"0.00"}"#;
-    let requests = [
-        open(alloc, "000001")?,
-        seat(alloc, "000001", "ada", Role::Client)?,
-        asked_by(alloc, "ada", "000001", Ask::Show)?,
-        drop_seat(alloc, "000001", "ada")?,
-        asked_by(alloc, "ada", "000001", Ask::Show)?,
-    ];
+    let mut requests = Vec::new(alloc);
+    requests.push(open(alloc, "000001")?)?;
+    requests.push(seat(alloc, "000001", "ada", Role::Client)?)?;
+    requests.push(asked_by(alloc, "ada", "000001", Ask::Show)?)?;
+    requests.push(drop_seat(alloc, "000001", "ada")?)?;
+    requests.push(asked_by(alloc, "ada", "000001", Ask::Show)?)?;
     let wanted = [
         (201, OPENED),
         (200, seated),
@@ -143,19 +139,23 @@ const HELD: &str =
 const CANCELLED: &str =
     r#"{"amount":"500.00","bank_day":null,"bank_ref":null,"day":"2024-01-10","description":"retainer","entry":"0001","kind":"deposit","matter":"000001","source":"Ada Chen","state":"cancelled","undone":"2024-01-10"}"#;
 
+fn cancelled_twice(alloc: Global) -> Result<Vec<Request>, Fail> {
+    let first = entry_no("0001")?;
+    let mut requests = Vec::new(alloc);
+    requests.push(open(alloc, "000001")?)?;
+    requests.push(deposit(alloc, "000001", "0001", "500.00")?)?;
+    requests.push(asked_by(alloc, "", "000001", Ask::ShowEntry(first))?)?;
+    requests.push(cancel(alloc, "000001", "0001")?)?;
+    requests.push(cancel(alloc, "000001", "0001")?)?;
+    requests.push(asked_by(alloc, "lee", "000001", Ask::ShowEntry(first))?)?;
+    Ok(requests)
+}
+
 #[test]
 fn a_deposit_is_cancelled_once(rt: HostRuntime) -> Result<(), Fail> {
     let alloc = rt.alloc();
     let today = day("2024-01-10")?;
-    let first = entry_no("0001")?;
-    let requests = [
-        open(alloc, "000001")?,
-        deposit(alloc, "000001", "0001", "500.00")?,
-        asked_by(alloc, "", "000001", Ask::ShowEntry(first))?,
-        cancel(alloc, "000001", "0001")?,
-        cancel(alloc, "000001", "0001")?,
-        asked_by(alloc, "lee", "000001", Ask::ShowEntry(first))?,
-    ];
+    let requests = cancelled_twice(alloc)?;
     let wanted = [
         (201, OPENED),
         (201, RECEIPT),

@@ -4,13 +4,21 @@
 #[cfg(test)]
 mod bodies;
 #[cfg(test)]
+mod claims;
+#[cfg(test)]
 mod desk;
+#[cfg(test)]
+mod handed_in;
+#[cfg(test)]
+mod imports;
 #[cfg(test)]
 mod lines;
 #[cfg(test)]
 mod matter;
 #[cfg(test)]
 mod names;
+#[cfg(test)]
+mod payments;
 #[cfg(test)]
 mod refusals;
 #[cfg(test)]
@@ -19,5 +27,9 @@ mod refused_writes;
 mod requests;
 #[cfg(test)]
 mod runs;
+#[cfg(test)]
+mod statements;
+#[cfg(test)]
+mod steps;
 #[cfg(test)]
 mod texts;

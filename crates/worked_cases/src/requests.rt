@@ -17,11 +17,11 @@ pub fn entry_no(text: &str) -> Result<EntryNo, Fail> {
     Ok(EntryNo::read(text.as_bytes()).ok_or("an entry")?)
 }
 
-fn label(alloc: Global, text: &str) -> Result<Label, Fail> {
+pub fn label(alloc: Global, text: &str) -> Result<Label, Fail> {
     Ok(Label::read(alloc, text.as_bytes())?.ok_or("a label")?)
 }
 
-fn person(alloc: Global, text: &str) -> Result<PersonId, Fail> {
+pub fn person(alloc: Global, text: &str) -> Result<PersonId, Fail> {
     Ok(PersonId::read(alloc, text.as_bytes())?.ok_or("a person")?)
 }
 

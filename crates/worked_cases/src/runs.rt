@@ -34,8 +34,10 @@ fn of_both(alloc: Global) -> Result<Vec<Request>, Fail> {
 }
 
 fn is_of(request: &Request, number: MatterNo) -> bool {
-    let Request::Matter { no, .. } = request;
-    *no == number
+    match request {
+        Request::Matter { no, .. } => *no == number,
+        Request::Import { .. } => false,
+    }
 }
 
 #[test]

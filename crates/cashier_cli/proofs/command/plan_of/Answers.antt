@@ -1,7 +1,7 @@
-use Rattle.std.proofs.Common.{◌∙◌, ap, sym, Some, codes}
-use Rattle.clap.specs.Words.{Text, found_of}
+use Rattle.std.proofs.Common.{◌∙◌, sym, codes}
+use Rattle.clap.specs.Words.{found_of}
 use Rattle.clap.proofs.WalkLemmas.{first_value-rows}
-use Rattle.cashier_cli.proofs.LineFacts.{a_day, no_day, no_word}
+use Rattle.cashier_cli.proofs.LineFacts.{a_day, meets, met, no_day, no_word}
 use Rattle.cashier_cli.proofs.command.plan_of.Goals as goal
 
 pub returns-in_default-clause-none : goal.returns-in_default-clause-none
@@ -17,7 +17,8 @@ returns-in_default-today_of-clause-none c =
 pub returns-clause-some : goal.returns-clause-some
 returns-clause-some c =
     let some = sym (first_value-rows (found_of c.args.matches.now) (codes "today")) ∙ sym c.in-Some.ensures in
+    let command = c.in-Some-subcommand.ensures in
     record {
       day = a_day _ _ _ some (sym c.in-Some-today_of.ensures);
-      named = sym c.in-Some-subcommand_name.ensures ∙ ap (λ (t : Text). Some t) (sym c.in-Some-task_of.ensures.some);
+      meets = meets _ _ _ _ (met c.args.matches.now _ _ (sym command.name) (sym command.rows)) c.in-Some-task_of.ensures.some;
     }

@@ -17,5 +17,32 @@ returns-in-Deposit c = gives-asked c.args.matter.now c.args.caller.now c.args.as
 pub returns-in-CancelDeposit : goal.returns-in-CancelDeposit
 returns-in-CancelDeposit c = gives-asked c.args.matter.now c.args.caller.now c.args.ask.now _ c.args.day c.rule-rule.result c.decide_cancel.result c.in-CancelDeposit.is (sym c.is_unknown_to.ensures ∙ c.if-is_unknown_to.false) c.rule-rule.ensures (sym c.allows.ensures ∙ c.if-not-allows.false) c.decide_cancel.ensures
 
+pub returns-in-Propose : goal.returns-in-Propose
+returns-in-Propose c = gives-asked c.args.matter.now c.args.caller.now c.args.ask.now _ c.args.day c.rule-rule.result c.decide_propose.result c.in-Propose.is (sym c.is_unknown_to.ensures ∙ c.if-is_unknown_to.false) c.rule-rule.ensures (sym c.allows.ensures ∙ c.if-not-allows.false) c.decide_propose.ensures
+
+pub returns-in-Approve : goal.returns-in-Approve
+returns-in-Approve c = gives-asked c.args.matter.now c.args.caller.now c.args.ask.now _ c.args.day c.rule-rule.result c.decide_approve.result c.in-Approve.is (sym c.is_unknown_to.ensures ∙ c.if-is_unknown_to.false) c.rule-rule.ensures (sym c.allows.ensures ∙ c.if-not-allows.false) c.decide_approve.ensures
+
+pub returns-in-Decline : goal.returns-in-Decline
+returns-in-Decline c = gives-asked c.args.matter.now c.args.caller.now c.args.ask.now _ c.args.day c.rule-rule.result c.decide_decline.result c.in-Decline.is (sym c.is_unknown_to.ensures ∙ c.if-is_unknown_to.false) c.rule-rule.ensures (sym c.allows.ensures ∙ c.if-not-allows.false) c.decide_decline.ensures
+
+pub returns-in-VoidPayment : goal.returns-in-VoidPayment
+returns-in-VoidPayment c = gives-asked c.args.matter.now c.args.caller.now c.args.ask.now _ c.args.day c.rule-rule.result c.decide_void.result c.in-VoidPayment.is (sym c.is_unknown_to.ensures ∙ c.if-is_unknown_to.false) c.rule-rule.ensures (sym c.allows.ensures ∙ c.if-not-allows.false) c.decide_void.ensures
+
+pub returns-in-EarnFee : goal.returns-in-EarnFee
+returns-in-EarnFee c = gives-asked c.args.matter.now c.args.caller.now c.args.ask.now _ c.args.day c.rule-rule.result c.decide_fee.result c.in-EarnFee.is (sym c.is_unknown_to.ensures ∙ c.if-is_unknown_to.false) c.rule-rule.ensures (sym c.allows.ensures ∙ c.if-not-allows.false) c.decide_fee.ensures
+
+pub returns-in-RaiseClaim : goal.returns-in-RaiseClaim
+returns-in-RaiseClaim c = gives-asked c.args.matter.now c.args.caller.now c.args.ask.now _ c.args.day c.rule-rule.result c.decide_claim.result c.in-RaiseClaim.is (sym c.is_unknown_to.ensures ∙ c.if-is_unknown_to.false) c.rule-rule.ensures (sym c.allows.ensures ∙ c.if-not-allows.false) c.decide_claim.ensures
+
+pub returns-in-Offer : goal.returns-in-Offer
+returns-in-Offer c = gives-asked c.args.matter.now c.args.caller.now c.args.ask.now _ c.args.day c.rule-rule.result c.decide_offer.result c.in-Offer.is (sym c.is_unknown_to.ensures ∙ c.if-is_unknown_to.false) c.rule-rule.ensures (sym c.allows.ensures ∙ c.if-not-allows.false) c.decide_offer.ensures
+
+pub returns-in-Accept : goal.returns-in-Accept
+returns-in-Accept c = gives-asked c.args.matter.now c.args.caller.now c.args.ask.now _ c.args.day c.rule-rule.result c.decide_accept.result c.in-Accept.is (sym c.is_unknown_to.ensures ∙ c.if-is_unknown_to.false) c.rule-rule.ensures (sym c.allows.ensures ∙ c.if-not-allows.false) c.decide_accept.ensures
+
+pub returns-in-Award : goal.returns-in-Award
+returns-in-Award c = gives-asked c.args.matter.now c.args.caller.now c.args.ask.now _ c.args.day c.rule-rule.result c.decide_award.result c.in-Award.is (sym c.is_unknown_to.ensures ∙ c.if-is_unknown_to.false) c.rule-rule.ensures (sym c.allows.ensures ∙ c.if-not-allows.false) c.decide_award.ensures
+
 pub returns-in-ShowEntry : goal.returns-in-ShowEntry
 returns-in-ShowEntry c = gives-asked c.args.matter.now c.args.caller.now c.args.ask.now _ c.args.day c.rule-rule.result c.decide_show_entry.result c.in-ShowEntry.is (sym c.is_unknown_to.ensures ∙ c.if-is_unknown_to.false) c.rule-rule.ensures (sym c.allows.ensures ∙ c.if-not-allows.false) c.decide_show_entry.ensures

@@ -1,5 +1,8 @@
-use Rattle.trust_matter.proofs.Repeats.{made-stays}
+use Rattle.trust_matter.proofs.Repeats.{made-stays, lines-leave-made}
 use Rattle.trust_matter.proofs.laws.made_stays.Goals as goal
 
-pub returns : goal.returns
-returns c = made-stays
+pub returns-clause-asks : goal.returns-clause-asks
+returns-clause-asks c = made-stays
+
+pub returns-clause-lines : goal.returns-clause-lines
+returns-clause-lines c = lines-leave-made

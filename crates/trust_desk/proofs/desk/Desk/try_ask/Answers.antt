@@ -21,7 +21,7 @@ returns-in_err-planned-clause-end g c =
     let r = c.in_err-planned.field-0.0 in
     let book = ap firm c.self.view_is in
     let sound = subst FirmSound (sym book) (c.requires (subst (g.B.Book.clean) c.self.view_is (c.in_ok-matter.ensures.was_clean clean))) in
-    let refuses = at-part (λ (rows : Rows). MayRefuse (refusal rows a) r) (firm c.self.inside.book) c.args.no c.args.ask.now _ c.in_ok-matter.matter c.entry_named.ensures sound (c.in_ok-matter.ensures.found clean) c.in_err-planned.ensures in
+    let refuses = at-part (λ (rows : Rows). MayRefuse (refusal rows a) r) (firm c.self.inside.book) c.args.no c.args.ask.now _ _ c.in_ok-matter.matter c.number.ensures c.fund_number.ensures sound (c.in_ok-matter.ensures.found clean) c.in_err-planned.ensures in
     let is = plan-refused (firm c.args.self.now) (firm c.matter_for.new.self) c.args.no a (of c.args.no (firm c.self.inside.book)) r (c.in_ok-matter.ensures.same clean ∙ book) (ap (of c.args.no) book) refuses in
     let p = err_from_is_err_and c.from_residual-in_err-planned.result c.from_residual-in_err-planned.ensures.1 in
     rw (p.1, p.2) is
@@ -34,7 +34,7 @@ returns-in_err-planned-clause-cause g c =
     let r = c.in_err-planned.field-0.0 in
     let book = ap firm c.self.view_is in
     let sound = subst FirmSound (sym book) (c.requires (subst (g.B.Book.clean) c.self.view_is (c.in_ok-matter.ensures.was_clean clean))) in
-    let refuses = at-part (λ (rows : Rows). MayRefuse (refusal rows a) r) (firm c.self.inside.book) c.args.no c.args.ask.now _ c.in_ok-matter.matter c.entry_named.ensures sound (c.in_ok-matter.ensures.found clean) c.in_err-planned.ensures in
+    let refuses = at-part (λ (rows : Rows). MayRefuse (refusal rows a) r) (firm c.self.inside.book) c.args.no c.args.ask.now _ _ c.in_ok-matter.matter c.number.ensures c.fund_number.ensures sound (c.in_ok-matter.ensures.found clean) c.in_err-planned.ensures in
     let n = g.B.Book.refusals c.args.self.now in
     let none : counted_refusal r n ≡ n = plan-uncounted (refusal (of c.args.no (firm c.self.inside.book)) a) r n refuses in
     let is = c.in_ok-matter.ensures.count ∙ (ap (g.B.Book.refusals) c.self.view_is ∙ sym none) in
@@ -49,7 +49,7 @@ write_change-requires g c =
     let p = c.in_ok-planned.planned in
     let book = ap firm c.self.view_is in
     let sound = subst FirmSound (sym book) (c.requires (subst (g.B.Book.clean) c.self.view_is (c.in_ok-matter.ensures.was_clean clean))) in
-    let planned = at-part (λ (rows : Rows). IsPlanned c.args.no rows a p) (firm c.self.inside.book) c.args.no c.args.ask.now _ c.in_ok-matter.matter c.entry_named.ensures sound (c.in_ok-matter.ensures.found clean) c.in_ok-planned.ensures in
+    let planned = at-part (λ (rows : Rows). IsPlanned c.args.no rows a p) (firm c.self.inside.book) c.args.no c.args.ask.now _ _ c.in_ok-matter.matter c.number.ensures c.fund_number.ensures sound (c.in_ok-matter.ensures.found clean) c.in_ok-planned.ensures in
     let F : Firm → Type 0 = λ f. IsChange (of c.args.no f) p.change in
     subst F (sym (c.in_ok-matter.ensures.same clean)) planned.decided.change
 
@@ -62,7 +62,7 @@ returns-clause-end g c =
     let read = c.in_ok-write_change.ensures.was_clean clean in
     let book = ap firm c.self.view_is in
     let sound = subst FirmSound (sym book) (c.requires (subst (g.B.Book.clean) c.self.view_is (c.in_ok-matter.ensures.was_clean read))) in
-    let planned = at-part (λ (rows : Rows). IsPlanned c.args.no rows a p) (firm c.self.inside.book) c.args.no c.args.ask.now _ c.in_ok-matter.matter c.entry_named.ensures sound (c.in_ok-matter.ensures.found read) c.in_ok-planned.ensures in
+    let planned = at-part (λ (rows : Rows). IsPlanned c.args.no rows a p) (firm c.self.inside.book) c.args.no c.args.ask.now _ _ c.in_ok-matter.matter c.number.ensures c.fund_number.ensures sound (c.in_ok-matter.ensures.found read) c.in_ok-planned.ensures in
     let P : Firm → Type 0 = λ f. IsPlanned c.args.no (of c.args.no f) a p in
     let written = c.in_ok-write_change.ensures.ok clean ∙ ap (after_change c.args.no p.change) (c.in_ok-matter.ensures.same read ∙ book) in
     plan-accepted (firm c.args.self.now) (firm c.write_change.new.self) c.args.no a p (subst P book planned) written
@@ -76,6 +76,6 @@ returns-clause-sound g c =
     let read = c.in_ok-write_change.ensures.was_clean clean in
     let book = ap firm c.self.view_is in
     let sound = subst FirmSound (sym book) (c.requires (subst (g.B.Book.clean) c.self.view_is (c.in_ok-matter.ensures.was_clean read))) in
-    let planned = at-part (λ (rows : Rows). IsPlanned c.args.no rows a p) (firm c.self.inside.book) c.args.no c.args.ask.now _ c.in_ok-matter.matter c.entry_named.ensures sound (c.in_ok-matter.ensures.found read) c.in_ok-planned.ensures in
+    let planned = at-part (λ (rows : Rows). IsPlanned c.args.no rows a p) (firm c.self.inside.book) c.args.no c.args.ask.now _ _ c.in_ok-matter.matter c.number.ensures c.fund_number.ensures sound (c.in_ok-matter.ensures.found read) c.in_ok-planned.ensures in
     let written = c.in_ok-write_change.ensures.ok clean ∙ ap (after_change c.args.no p.change) (c.in_ok-matter.ensures.same read) in
     subst FirmSound (sym written) (stays-sound sound-covered c.args.no p.change (firm c.self.inside.book) sound planned.decided.change)

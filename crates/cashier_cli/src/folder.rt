@@ -1,0 +1,29 @@
+// The files that a command line names.
+
+ghost use Rattle.std.specs.Prelude.{IfSome, List, Option, ℕ};
+ghost use Rattle.std.specs.Io.KnownBytes.{Keeps};
+
+use std::io::Read;
+
+/// A file that was opened for reading.
+#[derive(Drop)]
+pub struct Opened<R: Drop> {
+    pub reader: R,
+    /// Its length in bytes, where it tells one: a pipe tells none.
+    pub length: Option<u64>,
+}
+
+/// Where the files that a command line names are found.
+pub trait Folder {
+    ghost use Rattle.std.specs.Prelude.{List, Option, ℕ};
+
+    /// An opened file.
+    type File: Read + Drop;
+
+    /// The bytes of the file at a path, where they are known.
+    ghost known: { Self → List ℕ → Option (List ℕ) };
+
+    /// Opens the file at a path for reading; none where it can't be opened.
+    fn open(&self, path: &str) -> Option<Opened<Self::File>>
+        ensures { IfSome result (λ file. Keeps (known self.now path.now) (Self.File.remaining file.reader)) };
+}

@@ -1,0 +1,62 @@
+-- What becomes of a line that was decided on by what was read of its matter.
+use Rattle.std.proofs.Common.{◌≡◌, ℕ, false, Ok, Err, refl, sym, ap, ◌∙◌, arith}
+use Rattle.std.specs.Prelude.{◌==◌}
+use Rattle.std.proofs.lemmas.Bool.Decides.{nat_tests}
+use Rattle.trust_base.specs.declared.refusal.StoreFault.{StoreFault}
+use Rattle.trust_base.specs.declared.refusal.StoreFault.TheVariants as faults
+use Rattle.trust_matter.specs.declared.bank_line.BankLine.{BankLine}
+use Rattle.trust_matter.specs.declared.line_verdict.LineEdit.{LineEdit}
+use Rattle.trust_matter.specs.declared.line_verdict.LineVerdict.{LineVerdict}
+use Rattle.trust_matter.specs.declared.line_verdict.LineVerdict.TheVariants as verdict
+use Rattle.trust_matter.specs.Rows.{Rows}
+use Rattle.trust_matter.specs.LineStep.{LineDecides, IsLineChange, line_on}
+use Rattle.trust_matter.proofs.Covered.{sound-covered}
+use Rattle.trust_firm.specs.Firm.{Firm, of, after_edit, after_match, after_line, after_stray}
+use Rattle.trust_firm.specs.FirmSound.{FirmSound}
+use Rattle.trust_firm.proofs.Changed.{changes-no_other}
+use Rattle.trust_firm.proofs.Kept.{stays-sound}
+use Rattle.trust_store.specs.Books.{counted_fault}
+use Rattle.trust_desk.specs.ItemStep.{after_told, counted_as, counted_verdict}
+
+-- A verdict.
+
+pub verdict-change : (rows : Rows) (l : BankLine) (day : ℕ) (v : LineVerdict) → LineDecides rows l day (Ok v) → IsLineChange rows v
+verdict-change rows l day (verdict.Applied c) d = d.change
+verdict-change rows l day verdict.Repeat d = tt
+verdict-change rows l day (verdict.Unmatched r) d = tt
+
+pub verdict-counted : (rows : Rows) (l : BankLine) (day : ℕ) (v : LineVerdict) → LineDecides rows l day (Ok v) → counted_verdict v ≡ counted_as (line_on rows l day)
+verdict-counted rows l day (verdict.Applied c) d = sym (ap counted_as d.applied)
+verdict-counted rows l day verdict.Repeat d = sym (ap counted_as d)
+verdict-counted rows l day (verdict.Unmatched r) d = sym (ap counted_as d)
+
+-- what is written is the step
+pub verdict-after : (firm : Firm) (l : BankLine) (day : ℕ) (v : LineVerdict) → LineDecides (of l.matter firm) l day (Ok v) → after_line l v firm ≡ after_told l (line_on (of l.matter firm) l day) firm
+verdict-after firm l day (verdict.Applied c) d =
+    ap (λ n. after_match l.line (after_edit l.matter c.edit n firm)) d.last ∙ sym (ap (λ (e : LineEdit). after_told l e firm) d.applied)
+verdict-after firm l day verdict.Repeat d = sym (ap (λ (e : LineEdit). after_told l e firm) d)
+verdict-after firm l day (verdict.Unmatched r) d = sym (ap (λ (e : LineEdit). after_told l e firm) d)
+
+-- a fault of the decision is no fault of the store
+pub decision-uncounted : (rows : Rows) (l : BankLine) (day : ℕ) (fault : StoreFault) (n : ℕ) → LineDecides rows l day (Err fault) → counted_fault fault n ≡ n
+decision-uncounted rows l day faults.Memory n d = refl
+decision-uncounted rows l day faults.Store n d = absurd d
+
+-- What is written of a line.
+
+-- exceptions are no matter's rows, and move nothing
+pub sound-after_stray : (firm : Firm) (line : _) → FirmSound firm → FirmSound (after_stray line firm)
+sound-after_stray firm line s = record { matters = s.matters; events = s.events; own = s.own; ledgers = s.ledgers; covered = s.covered }
+
+pub sound-after_match : (firm : Firm) (line : _) → FirmSound firm → FirmSound (after_match line firm)
+sound-after_match firm line s = record { matters = s.matters; events = s.events; own = s.own; ledgers = s.ledgers; covered = s.covered }
+
+pub sound-after_line : (firm : Firm) (l : BankLine) (v : LineVerdict) → FirmSound firm → IsLineChange (of l.matter firm) v → FirmSound (after_line l v firm)
+sound-after_line firm l (verdict.Applied c) s is = sound-after_match _ l.line (stays-sound sound-covered l.matter c firm s is)
+sound-after_line firm l verdict.Repeat s is = sound-after_match firm l.line s
+sound-after_line firm l (verdict.Unmatched r) s is = sound-after_stray firm l.line s
+
+pub other-after_line : (n : ℕ) (firm : Firm) (l : BankLine) (v : LineVerdict) → (l.matter == n) ≡ false → of n (after_line l v firm) ≡ of n firm
+other-after_line n firm l (verdict.Applied c) apart = changes-no_other n l.matter c firm (λ same. absurd (grind (arith, nat_tests)))
+other-after_line n firm l verdict.Repeat apart = refl
+other-after_line n firm l (verdict.Unmatched r) apart = refl

@@ -1,0 +1,130 @@
+-- A statement that is read and applied item by item.
+use Rattle.std.proofs.Common.{◌≡◌, ◌∙◌, ◌+◌, ◌≤◌, ◌++◌, ◌∷◌, [], ℕ, false, List, Some, None, refl, sym, ap, subst, append_assoc, arith}
+use Rattle.std.specs.Prelude.{◌==◌}
+use Rattle.std.proofs.lemmas.Bool.Decides.{nat_tests}
+use Rattle.trust_matter.specs.declared.bank_line.BankLine.{BankLine}
+use Rattle.trust_matter.specs.declared.line_verdict.LineEdit.{LineEdit}
+use Rattle.trust_matter.specs.declared.line_verdict.LineEdit.TheVariants as told
+use Rattle.trust_matter.specs.LineStep.{last_seen, line_on}
+use Rattle.trust_firm.specs.Firm.{Firm, of}
+use Rattle.trust_firm.proofs.Changed.{of_other-after_edit}
+use Rattle.statement_csv.specs.Reading.{Gives, LacksHeader}
+use Rattle.statement_csv.specs.declared.item.Item.{Item}
+use Rattle.statement_csv.specs.declared.item.Item.TheVariants as item
+use Rattle.trust_desk.specs.declared.bodies.ImportReply.{ImportReply}
+use Rattle.trust_desk.specs.declared.importing.Counted.{Counted}
+use Rattle.trust_desk.specs.declared.importing.Counted.TheVariants as counted
+use Rattle.trust_desk.specs.declared.importing.ImportEnd.{ImportEnd}
+use Rattle.trust_desk.specs.declared.importing.ImportStop.{ImportStop}
+use Rattle.trust_desk.specs.declared.importing.ImportStop.TheVariants as stop
+use Rattle.trust_desk.specs.Imports.{AreBelow, AreFirst, AreRead, Imports, IsAmid, IsUnnamed, KeepsAllUnnamed, NoneNames, TakesOne, Told}
+use Rattle.trust_desk.specs.ItemStep.{after_item, after_items, after_told, count_one, counted_of, counts_after, names_item, none_counted}
+
+-- What was read.
+
+pub read-first : (told left more : Told) (front : List Item) (end : ImportStop) → AreRead told front left → (end ≡ stop.Done → Gives left more None) → AreFirst told front end
+read-first None left more front end read done = tt
+read-first (Some None) left more front end read done =
+    (read.0, λ is. let none : Gives (Some None) more None = subst (λ (x : Told). Gives x more None) read.1 (done is) in absurd (cc))
+read-first (Some (Some items)) left more front end read done =
+    (read.0, read.1, λ is. let none : Gives (Some (Some read.0)) more None = subst (λ (x : Told). Gives x more None) read.2 (done is) in cc)
+
+pub read-lacks : (told left : Told) (front : List Item) → AreRead told front left → LacksHeader left → LacksHeader told
+read-lacks None left front read lacks = tt
+read-lacks (Some None) left front read lacks = refl
+read-lacks (Some (Some items)) left front read lacks =
+    let none : LacksHeader (Some (Some read.0)) = subst (λ (x : Told). LacksHeader x) read.2 lacks in absurd (cc)
+
+pub read-more : (told left more : Told) (front : List Item) (it : Item) → AreRead told front left → Gives left more (Some it) → AreRead told (front ++ it ∷ []) more
+read-more None left more front it read gives = tt
+read-more (Some None) left more front it read gives =
+    let one : Gives (Some None) more (Some it) = subst (λ (x : Told). Gives x more (Some it)) read.1 gives in
+    let none = one.1 in
+    absurd (cc)
+read-more (Some (Some items)) left more front it read gives =
+    let one : Gives (Some (Some read.0)) more (Some it) = subst (λ (x : Told). Gives x more (Some it)) read.2 gives in
+    let first = one.1 in
+    let rest : read.0 ≡ it ∷ one.0 = cc in
+    (one.0, append_assoc front (it ∷ []) one.0 ∙ (ap (λ l. front ++ l) (sym rest) ∙ read.1), one.2)
+
+-- What was applied.
+
+after_items-push : (day : ℕ) (firm : Firm) (front : List Item) (it : Item) → after_items day firm (front ++ it ∷ []) ≡ after_item day (after_items day firm front) it
+after_items-push day firm [] it = refl
+after_items-push day firm (x ∷ front) it = after_items-push day (after_item day firm x) front it
+
+counts_after-push : (day : ℕ) (firm : Firm) (front : List Item) (it : Item) (c : ImportReply) → counts_after day firm (front ++ it ∷ []) c ≡ count_one (counted_of day (after_items day firm front) it) (counts_after day firm front c)
+counts_after-push day firm [] it c = refl
+counts_after-push day firm (x ∷ front) it c = counts_after-push day (after_item day firm x) front it (count_one (counted_of day firm x) c)
+
+pub amid-more : (day : ℕ) (was clean : Type 0) (first now next : Firm) (told left more : Told) (before after : ImportReply)
+    → (clean → was) → IsAmid day was first now told left before → TakesOne day clean now next left more before after → IsAmid day clean first next told more after
+amid-more day was clean first now next told left more before after was_clean amid takes = record {
+  front = amid.front ++ takes.item ∷ [];
+  read = read-more told left more amid.front takes.item amid.read takes.gives;
+  step = λ is.
+      let so_far = amid.step (was_clean is) in
+      let step = takes.counted.step is in
+      let kind = takes.counted.kind in
+      let it = takes.item in (
+        takes.counted.counts
+            ∙ ((λ i. count_one (step.0 i) (so_far.0 i))
+            ∙ (ap (λ (f : Firm). count_one (counted_of day f it) (counts_after day first amid.front none_counted)) so_far.1
+            ∙ sym (counts_after-push day first amid.front it none_counted))),
+        step.1 ∙ (ap (λ (f : Firm). after_item day f it) so_far.1 ∙ sym (after_items-push day first amid.front it)),
+      );
+}
+
+-- the end of it
+pub amid-imports : (day : ℕ) (clean : Type 0) (first now new : Firm) (told left more : Told) (counts : ImportReply) (result : ImportEnd)
+    → clean → IsAmid day clean first now told left counts → result.reply ≡ counts → new ≡ now → (result.end ≡ stop.Done → Gives left more None) → Imports day first told result new
+amid-imports day clean first now new told left more counts result is amid reply same done =
+    let so_far = amid.step is in
+    record {
+      front = amid.front;
+      first = read-first told left more amid.front result.end amid.read done;
+      leaves = same ∙ so_far.1;
+      counts = reply ∙ so_far.0;
+    }
+
+-- The counts have room.
+
+pub below-more : (n m : ℕ) (kind : Counted) (before after : ImportReply) → AreBelow n before → after ≡ count_one kind before → n + 1 ≤ m → AreBelow m after
+below-more n m kind before after below is more = subst (AreBelow m) (sym is) (cases kind)
+  where
+    cases : (k : Counted) → AreBelow m (count_one k before)
+    cases counted.Applied = record { applied = omega (arith, below.applied, more); repeated = omega (arith, below.repeated, more); exceptions = omega (arith, below.exceptions, more); unreadable = omega (arith, below.unreadable, more) }
+    cases counted.Repeated = record { applied = omega (arith, below.applied, more); repeated = omega (arith, below.repeated, more); exceptions = omega (arith, below.exceptions, more); unreadable = omega (arith, below.unreadable, more) }
+    cases counted.Exception = record { applied = omega (arith, below.applied, more); repeated = omega (arith, below.repeated, more); exceptions = omega (arith, below.exceptions, more); unreadable = omega (arith, below.unreadable, more) }
+    cases counted.Unreadable = record { applied = omega (arith, below.applied, more); repeated = omega (arith, below.repeated, more); exceptions = omega (arith, below.exceptions, more); unreadable = omega (arith, below.unreadable, more) }
+
+-- Matters that no item names.
+
+other-after_told : (m : ℕ) (firm : Firm) (l : BankLine) (e : LineEdit) → (l.matter == m) ≡ false → of m (after_told l e firm) ≡ of m firm
+other-after_told m firm l (told.Applied e) apart = of_other-after_edit m l.matter e (last_seen (of l.matter firm).head l.line) firm (λ same. absurd (grind (arith, nat_tests)))
+other-after_told m firm l told.Repeat apart = refl
+other-after_told m firm l (told.Unmatched r) apart = refl
+
+pub other-after_item : (m day : ℕ) (firm : Firm) (it : Item) → names_item m it ≡ false → of m (after_item day firm it) ≡ of m firm
+other-after_item m day firm (item.Opening line) apart = refl
+other-after_item m day firm (item.Closing line) apart = refl
+other-after_item m day firm (item.OfMatter l) apart = other-after_told m firm l (line_on (of l.matter firm) l day) apart
+other-after_item m day firm (item.OfFirm line) apart = refl
+other-after_item m day firm (item.Stray line) apart = refl
+other-after_item m day firm (item.Unreadable number) apart = refl
+
+pub other-after_items : (m day : ℕ) (firm : Firm) (items : List Item) → NoneNames m items → of m (after_items day firm items) ≡ of m firm
+other-after_items m day firm [] none = refl
+other-after_items m day firm (it ∷ items) none = other-after_items m day (after_item day firm it) items none.1 ∙ other-after_item m day firm it none.0
+
+none-front : (m : ℕ) (front rest : List Item) → NoneNames m (front ++ rest) → NoneNames m front
+none-front m [] rest none = tt
+none-front m (it ∷ front) rest none = (none.0, none-front m front rest none.1)
+
+front-unnamed : (m : ℕ) (told : Told) (front : List Item) (end : ImportStop) → AreFirst told front end → IsUnnamed m told → NoneNames m front
+front-unnamed m None front end first none = absurd none
+front-unnamed m (Some None) front end first none = subst (NoneNames m) (sym first.0) tt
+front-unnamed m (Some (Some items)) front end first none = none-front m front first.0 (subst (NoneNames m) (sym first.1) none)
+
+pub imports-others : (day : ℕ) (firm new : Firm) (told : Told) (result : ImportEnd) → Imports day firm told result new → KeepsAllUnnamed told firm new
+imports-others day firm new told result is m none = ap (of m) is.leaves ∙ other-after_items m day firm is.front (front-unnamed m told is.front result.end is.first none)

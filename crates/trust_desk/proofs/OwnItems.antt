@@ -1,0 +1,126 @@
+-- What the items of a statement do to a matter is what its own machine does with the lines that name it.
+use Rattle.std.proofs.Common.{◌≡◌, ◌≢◌, ℕ, Bool, true, false, ◌||◌, List, [], ◌∷◌, ◌++◌, refl, sym, ap, ◌∙◌, subst, arith}
+use Rattle.std.specs.Prelude.{◌==◌}
+use Rattle.std.specs.List.{list_any}
+use Rattle.std.proofs.lemmas.Bool.Decides.{nat_tests}
+use Rattle.trust_matter.specs.declared.bank_line.BankLine.{BankLine}
+use Rattle.trust_matter.specs.declared.line_verdict.LineEdit.{LineEdit}
+use Rattle.trust_matter.specs.declared.line_verdict.LineEdit.TheVariants as told
+use Rattle.trust_matter.specs.Rows.{Rows}
+use Rattle.trust_matter.specs.LineStep.{line_on, last_seen, after_line_edit, rows_after_line}
+use Rattle.trust_firm.specs.Firm.{Firm, of}
+use Rattle.trust_firm.proofs.Changed.{of-after_edit, of_other-after_edit}
+use Rattle.statement_csv.specs.declared.item.Item.{Item}
+use Rattle.statement_csv.specs.declared.item.Item.TheVariants as item
+use Rattle.trust_desk.specs.declared.requests.Reply.{Reply}
+use Rattle.trust_desk.specs.ItemStep.{after_told, after_item, after_items, names_item}
+use Rattle.trust_desk.specs.Heard.{Own, OwnLine, own_if, own_of_item, own_of_items}
+use Rattle.trust_desk.specs.Solo.{own_rows, own_reply, solo_rows, solo_replies}
+
+-- A machine that goes on.
+
+pub solo_rows-append : (rows : Rows) (xs ys : List Own) → solo_rows rows (xs ++ ys) ≡ solo_rows (solo_rows rows xs) ys
+solo_rows-append rows [] ys = refl
+solo_rows-append rows (x ∷ xs) ys = solo_rows-append (own_rows rows x) xs ys
+
+append-assoc : (xs ys zs : List Reply) → xs ++ (ys ++ zs) ≡ (xs ++ ys) ++ zs
+append-assoc [] ys zs = refl
+append-assoc (x ∷ xs) ys zs = ap (λ rs. x ∷ rs) (append-assoc xs ys zs)
+
+pub solo_replies-append : (m : ℕ) (rows : Rows) (xs ys : List Own) → solo_replies m rows (xs ++ ys) ≡ solo_replies m rows xs ++ solo_replies m (solo_rows rows xs) ys
+solo_replies-append m rows [] ys = refl
+solo_replies-append m rows (x ∷ xs) ys =
+    ap (λ rs. own_reply m rows x ++ rs) (solo_replies-append m (own_rows rows x) xs ys)
+    ∙ append-assoc (own_reply m rows x) (solo_replies m (own_rows rows x) xs) (solo_replies m (solo_rows (own_rows rows x) xs) ys)
+
+-- A line is seen in its matter, and in no other.
+
+of-after_told : (l : BankLine) (e : LineEdit) (firm : Firm) → of l.matter (after_told l e firm) ≡ after_line_edit e l.line (of l.matter firm)
+of-after_told l (told.Applied e) firm = of-after_edit l.matter e (last_seen (of l.matter firm).head l.line) firm
+of-after_told l told.Repeat firm = refl
+of-after_told l (told.Unmatched r) firm = refl
+
+pub of-after_line : (l : BankLine) (day : ℕ) (firm : Firm) → of l.matter (after_item day firm (item.OfMatter l)) ≡ rows_after_line (of l.matter firm) l day
+of-after_line l day firm = of-after_told l (line_on (of l.matter firm) l day) firm
+
+of_other-after_told : (m : ℕ) (l : BankLine) (e : LineEdit) (firm : Firm) → m ≢ l.matter → of m (after_told l e firm) ≡ of m firm
+of_other-after_told m l (told.Applied e) firm apart = of_other-after_edit m l.matter e (last_seen (of l.matter firm).head l.line) firm apart
+of_other-after_told m l told.Repeat firm apart = refl
+of_other-after_told m l (told.Unmatched r) firm apart = refl
+
+-- An item.
+
+pub of-after_item : (m day : ℕ) (firm : Firm) (it : Item) → of m (after_item day firm it) ≡ solo_rows (of m firm) (own_of_item m day it)
+of-after_item m day firm (item.Opening line) = refl
+of-after_item m day firm (item.Closing line) = refl
+of-after_item m day firm (item.OfMatter l) = cases (l.matter == m) refl
+  where
+    edit : LineEdit
+    edit = line_on (of l.matter firm) l day
+
+    cases : (b : Bool) → (l.matter == m) ≡ b → of m (after_told l edit firm) ≡ solo_rows (of m firm) (own_if b (OwnLine l day))
+    cases true same_test =
+        let same : l.matter ≡ m = grind (arith, nat_tests) in
+        subst (λ (k : ℕ). of k (after_told l edit firm) ≡ rows_after_line (of k firm) l day) same (of-after_told l edit firm)
+    cases false other_test = of_other-after_told m l edit firm (λ same. absurd (grind (arith, nat_tests)))
+of-after_item m day firm (item.OfFirm line) = refl
+of-after_item m day firm (item.Stray line) = refl
+of-after_item m day firm (item.Unreadable number) = refl
+
+pub of-after_items : (m day : ℕ) (firm : Firm) (items : List Item) → of m (after_items day firm items) ≡ solo_rows (of m firm) (own_of_items m day items)
+of-after_items m day firm [] = refl
+of-after_items m day firm (it ∷ items) =
+    of-after_items m day (after_item day firm it) items
+    ∙ (ap (λ rows. solo_rows rows (own_of_items m day items)) (of-after_item m day firm it) ∙ sym (solo_rows-append (of m firm) (own_of_item m day it) (own_of_items m day items)))
+
+-- Lines give no reply.
+
+silent-item : (m day : ℕ) (rows : Rows) (it : Item) → solo_replies m rows (own_of_item m day it) ≡ []
+silent-item m day rows (item.Opening line) = refl
+silent-item m day rows (item.Closing line) = refl
+silent-item m day rows (item.OfMatter l) = cases (l.matter == m)
+  where
+    cases : (b : Bool) → solo_replies m rows (own_if b (OwnLine l day)) ≡ []
+    cases true = refl
+    cases false = refl
+silent-item m day rows (item.OfFirm line) = refl
+silent-item m day rows (item.Stray line) = refl
+silent-item m day rows (item.Unreadable number) = refl
+
+pub silent-items : (m day : ℕ) (rows : Rows) (items : List Item) → solo_replies m rows (own_of_items m day items) ≡ []
+silent-items m day rows [] = refl
+silent-items m day rows (it ∷ items) =
+    solo_replies-append m rows (own_of_item m day it) (own_of_items m day items)
+    ∙ (ap (λ rs. rs ++ solo_replies m (solo_rows rows (own_of_item m day it)) (own_of_items m day items)) (silent-item m day rows it)
+    ∙ silent-items m day (solo_rows rows (own_of_item m day it)) items)
+
+-- A matter that no item names.
+
+none-item : (m day : ℕ) (it : Item) → names_item m it ≡ false → own_of_item m day it ≡ []
+none-item m day (item.Opening line) other = refl
+none-item m day (item.Closing line) other = refl
+none-item m day (item.OfMatter l) other = ap (λ b. own_if b (OwnLine l day)) other
+none-item m day (item.OfFirm line) other = refl
+none-item m day (item.Stray line) other = refl
+none-item m day (item.Unreadable number) other = refl
+
+neither : (a b : Bool) → (a || b) ≡ false → (a ≡ false) × (b ≡ false)
+neither true b h = absurd (cc)
+neither false b h = (refl, h)
+
+pub none-items : (m day : ℕ) (items : List Item) → list_any (names_item m) items ≡ false → own_of_items m day items ≡ []
+none-items m day [] other = refl
+none-items m day (it ∷ items) other =
+    let n = neither (names_item m it) (list_any (names_item m) items) other in
+    λ i. none-item m day it n.0 i ++ none-items m day items n.1 i
+
+-- nor does a front of these items name it
+pub none-front : (m : ℕ) (front rest : List Item) → list_any (names_item m) (front ++ rest) ≡ false → list_any (names_item m) front ≡ false
+none-front m [] rest other = refl
+none-front m (it ∷ front) rest other =
+    let n = neither (names_item m it) (list_any (names_item m) (front ++ rest)) other in
+    (λ i. n.0 i || list_any (names_item m) front) ∙ none-front m front rest n.1
+
+-- items of which none names the matter leave its rows
+pub unnamed-items : (m day : ℕ) (firm : Firm) (items : List Item) → list_any (names_item m) items ≡ false → of m (after_items day firm items) ≡ of m firm
+unnamed-items m day firm items other = of-after_items m day firm items ∙ ap (solo_rows (of m firm)) (none-items m day items other)

@@ -1,0 +1,116 @@
+-- What an import of a statement has done when it ends.
+use Rattle.std.specs.Prelude.{◌≡◌, ◌≢◌, ◌⊎◌, ◌<◌, ℕ, false, true, List, [], ◌∷◌, ◌++◌, Option, Some, None, ⊤}
+use Rattle.trust_base.specs.Refusals.{is_fault}
+use Rattle.trust_base.specs.declared.refusal.Field.TheVariants as field
+use Rattle.trust_base.specs.declared.refusal.Refusal.TheVariants as refusal
+use Rattle.trust_firm.specs.Firm.{Firm, of}
+use Rattle.statement_csv.specs.Reading.{Gives}
+use Rattle.statement_csv.specs.declared.fault.ReadFault.{ReadFault}
+use Rattle.statement_csv.specs.declared.fault.ReadFault.TheVariants as fault
+use Rattle.statement_csv.specs.declared.item.Item.{Item}
+use Rattle.trust_desk.specs.declared.bodies.ImportReply.{ImportReply}
+use Rattle.trust_desk.specs.declared.importing.Counted.{Counted}
+use Rattle.trust_desk.specs.declared.importing.ImportEnd.{ImportEnd}
+use Rattle.trust_desk.specs.declared.importing.ImportStop.{ImportStop}
+use Rattle.trust_desk.specs.declared.importing.ImportStop.TheVariants as stop
+use Rattle.trust_desk.specs.Counts.{counted_refusal}
+use Rattle.trust_desk.specs.ItemStep.{after_item, after_items, counted_of, count_one, counts_after, names_item, none_counted}
+
+-- What a statement has: nothing is known where its reader does not tell its bytes; else it has no items where its header is
+-- another, or these.
+abbrev pub Told : Type 0
+Told = Option (Option (List Item))
+
+-- How it ends.
+
+-- the end that a fault of the reading makes
+abbrev pub stop_of : ReadFault → ImportStop
+stop_of fault.BadHeader = stop.Refused (refusal.BadField field.Header)
+stop_of fault.Limit = stop.Limit
+stop_of fault.Reader = stop.ReadFault
+stop_of fault.Memory = stop.Refused refusal.Memory
+
+-- an import is refused for its header, by the store or for want of memory, and for nothing else
+abbrev pub IsStop : ImportStop → Type 0
+IsStop stop.Done = ⊤
+IsStop (stop.Refused r) = (r ≡ refusal.BadField field.Header) ⊎ (is_fault r ≡ true)
+IsStop stop.Limit = ⊤
+IsStop stop.ReadFault = ⊤
+
+-- the book's count of calls that answered Store, after an import that ends so: one more where it ends by Store
+abbrev pub counted_stop : ImportStop → ℕ → ℕ
+counted_stop stop.Done n = n
+counted_stop (stop.Refused r) n = counted_refusal r n
+counted_stop stop.Limit n = n
+counted_stop stop.ReadFault n = n
+
+-- the same where it may go on
+abbrev pub counted_if : Option ImportStop → ℕ → ℕ
+counted_if None n = n
+counted_if (Some end) n = counted_stop end n
+
+-- What it has done.
+
+-- these are the first of the statement's items, and all where the import is done; with another header it is not done, and there
+-- are none
+abbrev pub AreFirst : Told → List Item → ImportStop → Type 0
+AreFirst None front end = ⊤
+AreFirst (Some None) front end = (front ≡ []) × (end ≢ stop.Done)
+AreFirst (Some (Some items)) front end = (rest : List Item) × (front ++ rest ≡ items) × (end ≡ stop.Done → rest ≡ [])
+
+-- the first items of the statement were applied, one after the other, and counted
+pub record Imports (day : ℕ) (firm : Firm) (told : Told) (result : ImportEnd) (new : Firm) : Type 0 where
+  pub front : List Item
+  pub first : AreFirst told front result.end
+  pub leaves : new ≡ after_items day firm front
+  pub counts : result.reply ≡ counts_after day firm front none_counted
+
+-- What it has not.
+
+-- none of the items names the matter
+abbrev pub NoneNames : ℕ → List Item → Type 0
+NoneNames m [] = ⊤
+NoneNames m (it ∷ items) = (names_item m it ≡ false) × NoneNames m items
+
+-- no item of the statement is known to name the matter
+abbrev pub IsUnnamed : ℕ → Told → Type 0
+IsUnnamed m None = ⊥
+IsUnnamed m (Some None) = ⊤
+IsUnnamed m (Some (Some items)) = NoneNames m items
+
+-- the rows of each matter that no item names stay as they are
+abbrev pub KeepsAllUnnamed : Told → Firm → Firm → Type 0
+KeepsAllUnnamed told firm new = (m : ℕ) → IsUnnamed m told → of m new ≡ of m firm
+
+-- While it goes on.
+
+-- each count is below a number
+pub record AreBelow (n : ℕ) (counts : ImportReply) : Type 0 where
+  pub applied : counts.applied < n
+  pub repeated : counts.repeated < n
+  pub exceptions : counts.exceptions < n
+  pub unreadable : counts.unreadable < n
+
+-- the item was applied, and counted as what became of it; what is said of the firm holds where the store is clean
+pub record CountsOne (day : ℕ) (clean : Type 0) (firm new : Firm) (it : Item) (before after : ImportReply) : Type 0 where
+  pub kind : Counted
+  pub counts : after ≡ count_one kind before
+  pub step : clean → (kind ≡ counted_of day firm it) × (new ≡ after_item day firm it)
+
+-- one item more was read, applied and counted
+pub record TakesOne (day : ℕ) (clean : Type 0) (firm new : Firm) (left more : Told) (before after : ImportReply) : Type 0 where
+  pub item : Item
+  pub gives : Gives left more (Some item)
+  pub counted : CountsOne day clean firm new item before after
+
+-- these were read of the statement, and the others are left
+abbrev pub AreRead : Told → List Item → Told → Type 0
+AreRead None front left = ⊤
+AreRead (Some None) front left = (front ≡ []) × (left ≡ Some None)
+AreRead (Some (Some items)) front left = (rest : List Item) × (front ++ rest ≡ items) × (left ≡ Some (Some rest))
+
+-- these were read and applied, and counted
+pub record IsAmid (day : ℕ) (clean : Type 0) (firm new : Firm) (told left : Told) (counts : ImportReply) : Type 0 where
+  pub front : List Item
+  pub read : AreRead told front left
+  pub step : clean → (counts ≡ counts_after day firm front none_counted) × (new ≡ after_items day firm front)

@@ -1,0 +1,308 @@
+-- Fees and claims, as steps.
+use Rattle.std.proofs.Common.{◌≡◌, ℕ, ◌<◌, ◌≤◌, not, ◌&&◌, true, false, List, [], length, refl, sym, arith, subst, Option, Some, None, inl, inr, ℤ, pos, negsuc, ◌≤ℤ◌, ◌-ℤ◌}
+use Rattle.std.specs.Prelude.{nat_lt, is_none, ◌==◌}
+use Rattle.std.proofs.lemmas.Int.{ints}
+use Rattle.std.proofs.lemmas.Bool.Decides.{nat_tests}
+use Rattle.trust_base.specs.Limits.{IsAmount}
+use Rattle.trust_matter.specs.declared.rows.Against.{Against}
+use Rattle.trust_matter.specs.declared.rows.Against.TheVariants as against
+use Rattle.trust_matter.specs.declared.rows.Claim.{Claim}
+use Rattle.trust_matter.specs.declared.rows.ClaimState.{ClaimState}
+use Rattle.trust_matter.specs.declared.rows.ClaimState.TheVariants as claim
+use Rattle.trust_matter.specs.declared.rows.Fee.{Fee}
+use Rattle.trust_matter.specs.declared.rows.Entry.{Entry}
+use Rattle.trust_matter.specs.declared.rows.Entry.TheVariants as entry
+use Rattle.trust_matter.specs.declared.rows.Head.{Head}
+use Rattle.trust_matter.specs.declared.rows.Seat.{Seat}
+use Rattle.trust_matter.specs.declared.asks.Ask.{Ask}
+use Rattle.trust_matter.specs.declared.asks.Ask.TheVariants as ask
+use Rattle.trust_matter.specs.declared.asks.Caller.{Caller}
+use Rattle.trust_matter.specs.declared.asks.FeeAsk.{FeeAsk}
+use Rattle.trust_matter.specs.declared.asks.ClaimAsk.{ClaimAsk}
+use Rattle.trust_matter.specs.declared.asks.SplitAsk.{SplitAsk}
+use Rattle.trust_matter.specs.declared.edits.Edit.TheVariants as edit
+use Rattle.trust_matter.specs.declared.edits.Numbered.{Numbered}
+use Rattle.trust_matter.specs.Balances.{names, is_fee, is_general, is_settled, available, left_of, passes as of_kind}
+use Rattle.trust_matter.specs.Changes.{movement_of, AreMoved}
+use Rattle.trust_matter.specs.Conditions.{exceeds, against_left, is_on_fee, is_no_fee, is_no_claim, is_claim_settled, is_claim_without_offer, is_offered_state, is_another_offer, exceeds_claim, differs_from_offer}
+use Rattle.trust_matter.specs.Events.{events_of, events_in}
+use Rattle.trust_matter.specs.Facts.{facts_of, number_of, other_of, target_in, left_in}
+use Rattle.trust_matter.specs.Rows.{entry_at}
+use Rattle.trust_matter.specs.Shares.{draw, worth, available_share, against_no, has_settled, to_client, to_claimant, off_fee, on_fee, on_general}
+use Rattle.trust_matter.specs.Sound.{AreBacked, IsBy, IsRising, IsRanged, Sound, days_of, part_of}
+use Rattle.trust_matter.specs.Step.{HasAmount, edit_of, fee_of, claim_of, with_claim, settled}
+use Rattle.trust_matter.proofs.Days.{made-before}
+use Rattle.trust_matter.proofs.Editing.{left-drawn, left-moved}
+use Rattle.trust_matter.proofs.Entries.{all-at, within}
+use Rattle.trust_matter.proofs.Keeping.{MayAdd, MayTake, target-apart, total-undrawn}
+use Rattle.trust_matter.proofs.StepForms.{rows-of, rows-append, rows-exchange, moved-by, next-is, not-false, asked, Stepped}
+use Rattle.trust_matter.proofs.Table.{Passes}
+
+enough-of : (amount : ℕ) (left : ℤ) → exceeds amount left ≡ false → pos amount ≤ℤ left
+enough-of amount (pos n) h = let le : amount ≤ n = grind (arith, nat_tests) in omega (arith, ints, le)
+enough-of amount (negsuc n) h = absurd (cc)
+
+-- A fee takes at most what is available.
+
+fee-may : (es : List Entry) (f : Fee) → AreBacked es → length es < 9_999 → IsAmount f.amount → pos f.amount ≤ℤ available es → MayAdd es (entry.Fee f)
+unfolding names draw worth available_share
+fee-may es f s room few enough = record {
+  room = room;
+  ranged = record { amount = few; part = tt };
+  named = refl;
+  available = omega (arith, ints, enough);
+  worth = omega (arith, ints);
+  left = left-drawn es (entry.Fee f) (λ e h. let l = s.left 0 e h in omega (arith, ints, l)) s.left;
+}
+
+fee-moved : (es : List Entry) (a : FeeAsk) (day : ℕ) → AreMoved es (edit.Append (record { number = a.number; entry = fee_of a day })) (movement_of es (edit.Append (record { number = a.number; entry = fee_of a day })))
+unfolding events_of
+fee-moved es a day = refl
+
+fee-by : (a : FeeAsk) (day : ℕ) → IsBy day (fee_of a day)
+unfolding days_of
+fee-by a day = (omega arith, tt)
+
+pub step-fee : (h : Head) (seats : List Seat) (es : List Entry) (c : Caller) (a : FeeAsk) (day : ℕ) → Sound (rows-of (Some h) seats es) → HasAmount (ask.EarnFee a) → h.closed ≡ None → h.last ≤ day → Passes (facts_of (rows-of (Some h) seats es) (ask.EarnFee a)) (asked c (ask.EarnFee a) day) → Stepped (Some h) seats es (asked c (ask.EarnFee a) day) (edit_of (ask.EarnFee a) (entry_at es a.number) day)
+step-fee h seats es c a day s amount unclosed later p =
+    let x : Numbered = record { number = a.number; entry = fee_of a day } in
+    let next = next-is (length es) a.number p.next in
+    let may = fee-may es (record { book = day; amount = a.amount; description = a.description }) s.backed next.0 amount (enough-of a.amount (available es) p.enough) in
+    record {
+      place = (refl, next.1);
+      sound = rows-append h seats es x day s unclosed may later (fee-by a day) tt;
+      not_before = later;
+      seen = refl;
+      moved = fee-moved es a day;
+      may = (next.1, may, inl refl);
+    }
+
+-- A claim takes at most what is left of its fee, or what is available.
+
+abbrev open-claim : ℕ → ℕ → Against → List ℕ → Entry
+open-claim book amount on reason = entry.Claim (record { book = book; amount = amount; against = on; reason = reason; state = claim.Open })
+
+fee-claim-may : (es : List Entry) (book amount k : ℕ) (reason : List ℕ) (o : Option Entry) → entry_at es k ≡ o → AreBacked es → length es < 9_999 → IsAmount amount → is_none o ≡ false → is_no_fee o ≡ false → exceeds amount (left_in es k o) ≡ false → MayAdd es (open-claim book amount (against.Fee k) reason)
+unfolding names draw worth available_share
+fee-claim-may es book amount k reason None at s room few there kind enough = absurd (cc)
+fee-claim-may es book amount k reason (Some x) at s room few there kind enough =
+    let fee : is_fee x ≡ true = not-false (is_fee x) kind in
+    record {
+      room = room;
+      ranged = record { amount = few; part = omega arith };
+      named = rw at fee;
+      available = let a = s.available in omega (arith, ints, a);
+      worth = omega (arith, ints);
+      left = left-drawn es (open-claim book amount (against.Fee k) reason)
+          (λ e h. let same : x ≡ e = cc in
+          let P : Entry → Type 0 = λ v. pos amount ≤ℤ left_of es k v in
+          let l = subst P same (enough-of amount (left_of es k x) enough) in omega (arith, ints, l)) s.left;
+    }
+
+general-claim-may : (es : List Entry) (book amount : ℕ) (who reason : List ℕ) → AreBacked es → length es < 9_999 → IsAmount amount → pos amount ≤ℤ available es → MayAdd es (open-claim book amount (against.General who) reason)
+unfolding names draw worth available_share
+general-claim-may es book amount who reason s room few enough = record {
+  room = room;
+  ranged = record { amount = few; part = omega arith };
+  named = refl;
+  available = omega (arith, ints, enough);
+  worth = omega (arith, ints);
+  left = left-drawn es (open-claim book amount (against.General who) reason) (λ e h. let l = s.left 0 e h in omega (arith, ints, l)) s.left;
+}
+
+claim-may : (es : List Entry) (book amount : ℕ) (on : Against) (reason : List ℕ) → AreBacked es → length es < 9_999 → IsAmount amount → (is_on_fee on && is_none (entry_at es (against_no on))) ≡ false → (is_on_fee on && is_no_fee (entry_at es (against_no on))) ≡ false → exceeds amount (against_left on (available es) (left_in es (against_no on) (entry_at es (against_no on)))) ≡ false → MayAdd es (open-claim book amount on reason)
+claim-may es book amount (against.General who) reason s room few there kind enough =
+    general-claim-may es book amount who reason s room few (enough-of amount (available es) enough)
+claim-may es book amount (against.Fee k) reason s room few there kind enough =
+    fee-claim-may es book amount k reason (entry_at es k) refl s room few there kind enough
+
+claim-moved : (es : List Entry) (a : ClaimAsk) (day : ℕ) → AreMoved es (edit.Append (record { number = a.number; entry = claim_of a day })) (movement_of es (edit.Append (record { number = a.number; entry = claim_of a day })))
+unfolding events_of
+claim-moved es a day = refl
+
+claim-by : (a : ClaimAsk) (day : ℕ) → IsBy day (claim_of a day)
+unfolding days_of
+claim-by a day = (omega arith, tt)
+
+pub step-claim : (h : Head) (seats : List Seat) (es : List Entry) (c : Caller) (a : ClaimAsk) (day : ℕ) → Sound (rows-of (Some h) seats es) → HasAmount (ask.RaiseClaim a) → h.closed ≡ None → h.last ≤ day → Passes (facts_of (rows-of (Some h) seats es) (ask.RaiseClaim a)) (asked c (ask.RaiseClaim a) day) → Stepped (Some h) seats es (asked c (ask.RaiseClaim a) day) (edit_of (ask.RaiseClaim a) (entry_at es a.number) day)
+step-claim h seats es c a day s amount unclosed later p =
+    let x : Numbered = record { number = a.number; entry = claim_of a day } in
+    let next = next-is (length es) a.number p.next in
+    let may = claim-may es day a.amount a.against a.reason s.backed next.0 amount p.there p.kind p.enough in
+    record {
+      place = (refl, next.1);
+      sound = rows-append h seats es x day s unclosed may later (claim-by a day) tt;
+      not_before = later;
+      seen = refl;
+      moved = claim-moved es a day;
+      may = (next.1, may, inr refl);
+    }
+
+-- An open claim: all of it is kept apart.
+
+open-client : (s : ClaimState) → has_settled s ≡ false → to_client s ≡ pos 0
+open-client claim.Open h = refl
+open-client (claim.Offered part) h = refl
+open-client (claim.Settled t) h = absurd (cc)
+
+open-claimant : (s : ClaimState) (amount : ℕ) → has_settled s ≡ false → to_claimant s amount ≡ pos amount
+open-claimant claim.Open amount h = refl
+open-claimant (claim.Offered part) amount h = refl
+open-claimant (claim.Settled t) amount h = absurd (cc)
+
+open-off : (s : ClaimState) (amount : ℕ) → has_settled s ≡ false → off_fee s amount ≡ pos amount
+open-off claim.Open amount h = omega (arith, ints)
+open-off (claim.Offered part) amount h = omega (arith, ints)
+open-off (claim.Settled t) amount h = absurd (cc)
+
+open-unsettled : (on : Against) (s : ClaimState) → has_settled s ≡ false → (is_general on && has_settled s) ≡ false
+open-unsettled (against.General who) s h = h
+open-unsettled (against.Fee k) s h = refl
+
+-- A claim with at most its amount to the client.
+
+client-some : (s : ClaimState) → pos 0 ≤ℤ to_client s
+client-some claim.Open = omega (arith, ints)
+client-some (claim.Offered part) = omega (arith, ints)
+client-some (claim.Settled t) = omega (arith, ints)
+
+claimant-most : (s : ClaimState) (amount : ℕ) → to_claimant s amount ≤ℤ pos amount
+claimant-most claim.Open amount = omega (arith, ints)
+claimant-most (claim.Offered part) amount = omega (arith, ints)
+claimant-most (claim.Settled t) amount = omega (arith, ints)
+
+claimant-some : (s : ClaimState) (amount : ℕ) → part_of s ≤ amount → pos 0 ≤ℤ to_claimant s amount
+claimant-some claim.Open amount le = omega (arith, ints)
+claimant-some (claim.Offered part) amount le = omega (arith, ints)
+claimant-some (claim.Settled t) amount le = omega (arith, ints, le)
+
+off-most : (s : ClaimState) (amount : ℕ) → part_of s ≤ amount → off_fee s amount ≤ℤ pos amount
+off-most claim.Open amount le = omega (arith, ints)
+off-most (claim.Offered part) amount le = omega (arith, ints)
+off-most (claim.Settled t) amount le = omega (arith, ints, le)
+
+-- Another state of an open claim gives no less to what is available, and takes no more from its fee.
+
+available-rises : (on : Against) (s next : ClaimState) (amount : ℕ) → has_settled s ≡ false → (on_fee on (to_client s) -ℤ on_general on (to_claimant s amount)) ≤ℤ (on_fee on (to_client next) -ℤ on_general on (to_claimant next amount))
+available-rises (against.General who) s next amount h = omega (arith, ints, open-claimant s amount h, claimant-most next amount)
+available-rises (against.Fee k) s next amount h = omega (arith, ints, open-client s h, client-some next)
+
+draw-falls : (on : Against) (s next : ClaimState) (amount : ℕ) → has_settled s ≡ false → part_of next ≤ amount → on_fee on (off_fee next amount) ≤ℤ on_fee on (off_fee s amount)
+draw-falls (against.General who) s next amount h le = omega (arith, ints)
+draw-falls (against.Fee k) s next amount h le = omega (arith, ints, open-off s amount h, off-most next amount le)
+
+worth-some : (on : Against) (next : ClaimState) (amount : ℕ) → part_of next ≤ amount → pos 0 ≤ℤ on_general on (to_claimant next amount)
+worth-some (against.General who) next amount le = claimant-some next amount le
+worth-some (against.Fee k) next amount le = omega (arith, ints)
+
+abbrev with-state : Claim → ClaimState → Entry
+with-state d state = entry.Claim (record d { state = state })
+
+-- an open claim may be offered a part of, or settled: none could be paid from it before
+restated-may : (es : List Entry) (n : ℕ) (d : Claim) (next : ClaimState) → AreBacked es → entry_at es n ≡ Some (entry.Claim d) → has_settled d.state ≡ false → part_of next ≤ d.amount → MayTake es n (entry.Claim d) (with-state d next)
+unfolding names draw worth available_share
+restated-may es n d next s at unsettled le =
+    let some = within es n (entry.Claim d) at in
+    let there : names es (entry.Claim d) ≡ true = all-at (λ e. names es e ≡ true) es n (entry.Claim d) s.named at in
+    let no-settled : is_settled (entry.Claim d) ≡ false = open-unsettled d.against d.state unsettled in
+    let no-fee : of_kind is_fee (entry_at es n) ≡ false = rw at refl in
+    let no-claim : of_kind is_settled (entry_at es n) ≡ false = rw at no-settled in
+    let all = total-undrawn es n s.named some.0 no-fee no-claim in
+    record {
+      at = at;
+      ranged = record { amount = (all-at IsRanged es n (entry.Claim d) s.ranged at).amount; part = le };
+      named = there;
+      fee = λ h. h;
+      settled = λ h. absurd (cc);
+      available = omega (arith, ints, available-rises d.against d.state next d.amount unsettled, s.available);
+      same_target = refl;
+      apart = target-apart es n some.0 no-fee no-claim (with-state d next) there;
+      own = omega (arith, ints, all, worth-some d.against next d.amount le);
+      left = λ k e h elsewhere. left-moved es (entry.Claim d) (with-state d next) refl
+          (λ e h. omega (arith, ints, draw-falls d.against d.state next d.amount unsettled le, s.left (against_no d.against) e h)) s.left k e h;
+    }
+
+restated-moved : (es : List Entry) (n : ℕ) (d : Claim) (next : ClaimState) → entry_at es n ≡ Some (entry.Claim d) → AreMoved es (edit.Exchange (record { number = n; entry = with-state d next })) (movement_of es (edit.Exchange (record { number = n; entry = with-state d next })))
+unfolding events_of
+restated-moved es n d next at = moved-by n (events_in (entry_at es n)) (events_of (with-state d next)) [] (rw at refl) (omega arith)
+
+-- the days of a claim in another state are not after a day, and rise
+abbrev AreDays : ℕ → ClaimState → Type 0
+AreDays day next = (d : Claim) → d.book ≤ day → IsBy day (with-state d next) × IsRising (with-state d next)
+
+offered-days : (day part : ℕ) → AreDays day (claim.Offered part)
+unfolding days_of
+offered-days day part d made = ((made, tt), tt)
+
+settled-days : (day part : ℕ) → AreDays day (settled day part)
+unfolding days_of
+settled-days day part d made = ((made, (omega arith, tt)), (made, tt))
+
+-- an ask about a claim that is open, and the state that it leaves the claim in
+step-split : (h : Head) (seats : List Seat) (es : List Entry) (c : Caller) (q : Ask) (n day : ℕ) (d : Claim) (next : ClaimState) → number_of q ≡ n → ((e : Option Entry) → other_of q e ≡ target_in e) → entry_at es n ≡ Some (entry.Claim d) → Sound (rows-of (Some h) seats es) → h.closed ≡ None → h.last ≤ day → has_settled d.state ≡ false → part_of next ≤ d.amount → AreDays day next → Stepped (Some h) seats es (asked c q day) (with_claim n (Some (entry.Claim d)) next)
+step-split h seats es c q n day d next number other at s unclosed later unsettled le days =
+    let x : Numbered = record { number = n; entry = with-state d next } in
+    let may = restated-may es n d next s.backed at unsettled le in
+    let made : d.book ≤ day = let b = made-before h es n (entry.Claim d) s.headed.0 at in omega (arith, b, later) in
+    let ok = days d made in
+    record {
+      place = (refl, (entry.Claim d, record { there = at; same = refl }));
+      sound = rows-exchange h seats es x (entry.Claim d) day s unclosed may refl later ok.0 ok.1;
+      not_before = later;
+      seen = refl;
+      moved = restated-moved es n d next at;
+      may = (entry.Claim d, may, inr (rw number (rw (other (entry_at es n)) (rw at refl))), sym number);
+    }
+
+not-over : (amount part : ℕ) → nat_lt amount part ≡ false → part ≤ amount
+not-over amount part h = grind (arith, nat_tests)
+
+-- An offer.
+
+offer-made : (h : Head) (seats : List Seat) (es : List Entry) (c : Caller) (a : SplitAsk) (day : ℕ) (o : Option Entry) → entry_at es a.number ≡ o → Sound (rows-of (Some h) seats es) → h.closed ≡ None → h.last ≤ day → is_none o ≡ false → is_no_claim o ≡ false → is_claim_settled o ≡ false → exceeds_claim o a.to_client ≡ false → Stepped (Some h) seats es (asked c (ask.Offer a) day) (with_claim a.number o (claim.Offered a.to_client))
+offer-made h seats es c a day None at s unclosed later there kind state split = absurd (cc)
+offer-made h seats es c a day (Some (entry.Deposit d)) at s unclosed later there kind state split = absurd (cc)
+offer-made h seats es c a day (Some (entry.Payment d)) at s unclosed later there kind state split = absurd (cc)
+offer-made h seats es c a day (Some (entry.Fee d)) at s unclosed later there kind state split = absurd (cc)
+offer-made h seats es c a day (Some (entry.Claim d)) at s unclosed later there kind state split =
+    step-split h seats es c (ask.Offer a) a.number day d (claim.Offered a.to_client) refl (λ e. refl) at s unclosed later state (not-over d.amount a.to_client split) (offered-days day a.to_client)
+
+pub step-offer : (h : Head) (seats : List Seat) (es : List Entry) (c : Caller) (a : SplitAsk) (day : ℕ) → Sound (rows-of (Some h) seats es) → h.closed ≡ None → h.last ≤ day → Passes (facts_of (rows-of (Some h) seats es) (ask.Offer a)) (asked c (ask.Offer a) day) → Stepped (Some h) seats es (asked c (ask.Offer a) day) (edit_of (ask.Offer a) (entry_at es a.number) day)
+step-offer h seats es c a day s unclosed later p = offer-made h seats es c a day (entry_at es a.number) refl s unclosed later p.there p.kind p.state p.split
+
+-- An offer that is accepted: its part is that of the claim.
+
+offered-is : (s : ClaimState) (part : ℕ) → not (is_offered_state s) ≡ false → is_another_offer s part ≡ false → s ≡ claim.Offered part
+offered-is claim.Open part h g = absurd (cc)
+offered-is (claim.Offered offered) part h g =
+    let yes : (offered == part) ≡ true = not-false (offered == part) g in
+    let same : offered ≡ part = grind (arith, nat_tests) in rw same refl
+offered-is (claim.Settled t) part h g = absurd (cc)
+
+accept-made : (h : Head) (seats : List Seat) (es : List Entry) (c : Caller) (a : SplitAsk) (day : ℕ) (o : Option Entry) → entry_at es a.number ≡ o → Sound (rows-of (Some h) seats es) → h.closed ≡ None → h.last ≤ day → is_none o ≡ false → is_no_claim o ≡ false → is_claim_without_offer o ≡ false → differs_from_offer o a.to_client ≡ false → Stepped (Some h) seats es (asked c (ask.Accept a) day) (with_claim a.number o (settled day a.to_client))
+accept-made h seats es c a day None at s unclosed later there kind state split = absurd (cc)
+accept-made h seats es c a day (Some (entry.Deposit d)) at s unclosed later there kind state split = absurd (cc)
+accept-made h seats es c a day (Some (entry.Payment d)) at s unclosed later there kind state split = absurd (cc)
+accept-made h seats es c a day (Some (entry.Fee d)) at s unclosed later there kind state split = absurd (cc)
+accept-made h seats es c a day (Some (entry.Claim d)) at s unclosed later there kind state split =
+    let is = offered-is d.state a.to_client state split in
+    let P : ClaimState → Type 0 = λ v. part_of v ≤ d.amount in
+    let le : a.to_client ≤ d.amount = subst P is (all-at IsRanged es a.number (entry.Claim d) s.backed.ranged at).part in
+    let unsettled : has_settled d.state ≡ false = rw is refl in
+    step-split h seats es c (ask.Accept a) a.number day d (settled day a.to_client) refl (λ e. refl) at s unclosed later unsettled le (settled-days day a.to_client)
+
+pub step-accept : (h : Head) (seats : List Seat) (es : List Entry) (c : Caller) (a : SplitAsk) (day : ℕ) → Sound (rows-of (Some h) seats es) → h.closed ≡ None → h.last ≤ day → Passes (facts_of (rows-of (Some h) seats es) (ask.Accept a)) (asked c (ask.Accept a) day) → Stepped (Some h) seats es (asked c (ask.Accept a) day) (edit_of (ask.Accept a) (entry_at es a.number) day)
+step-accept h seats es c a day s unclosed later p = accept-made h seats es c a day (entry_at es a.number) refl s unclosed later p.there p.kind p.state p.split
+
+-- An award.
+
+award-made : (h : Head) (seats : List Seat) (es : List Entry) (c : Caller) (a : SplitAsk) (day : ℕ) (o : Option Entry) → entry_at es a.number ≡ o → Sound (rows-of (Some h) seats es) → h.closed ≡ None → h.last ≤ day → is_none o ≡ false → is_no_claim o ≡ false → is_claim_settled o ≡ false → exceeds_claim o a.to_client ≡ false → Stepped (Some h) seats es (asked c (ask.Award a) day) (with_claim a.number o (settled day a.to_client))
+award-made h seats es c a day None at s unclosed later there kind state split = absurd (cc)
+award-made h seats es c a day (Some (entry.Deposit d)) at s unclosed later there kind state split = absurd (cc)
+award-made h seats es c a day (Some (entry.Payment d)) at s unclosed later there kind state split = absurd (cc)
+award-made h seats es c a day (Some (entry.Fee d)) at s unclosed later there kind state split = absurd (cc)
+award-made h seats es c a day (Some (entry.Claim d)) at s unclosed later there kind state split =
+    step-split h seats es c (ask.Award a) a.number day d (settled day a.to_client) refl (λ e. refl) at s unclosed later state (not-over d.amount a.to_client split) (settled-days day a.to_client)
+
+pub step-award : (h : Head) (seats : List Seat) (es : List Entry) (c : Caller) (a : SplitAsk) (day : ℕ) → Sound (rows-of (Some h) seats es) → h.closed ≡ None → h.last ≤ day → Passes (facts_of (rows-of (Some h) seats es) (ask.Award a)) (asked c (ask.Award a) day) → Stepped (Some h) seats es (asked c (ask.Award a) day) (edit_of (ask.Award a) (entry_at es a.number) day)
+step-award h seats es c a day s unclosed later p = award-made h seats es c a day (entry_at es a.number) refl s unclosed later p.there p.kind p.state p.split

@@ -1,0 +1,112 @@
+-- Deposits, as steps.
+use Rattle.std.proofs.Common.{◌≡◌, ℕ, ◌+◌, ◌<◌, ◌≤◌, false, List, [], ◌∷◌, length, refl, arith, Option, Some, None, inl, pos, ◌≤ℤ◌}
+use Rattle.std.specs.Prelude.{is_none}
+use Rattle.std.proofs.lemmas.Int.{ints}
+use Rattle.trust_matter.specs.declared.rows.Deposit.{Deposit}
+use Rattle.trust_matter.specs.declared.rows.DepositState.{DepositState}
+use Rattle.trust_matter.specs.declared.rows.DepositState.TheVariants as deposit
+use Rattle.trust_matter.specs.declared.rows.Entry.{Entry}
+use Rattle.trust_matter.specs.declared.rows.Entry.TheVariants as entry
+use Rattle.trust_matter.specs.declared.rows.Head.{Head}
+use Rattle.trust_matter.specs.declared.rows.Seat.{Seat}
+use Rattle.trust_matter.specs.declared.asks.Ask.TheVariants as ask
+use Rattle.trust_matter.specs.declared.asks.Caller.{Caller}
+use Rattle.trust_matter.specs.declared.asks.DepositAsk.{DepositAsk}
+use Rattle.trust_matter.specs.declared.edits.Edit.TheVariants as edit
+use Rattle.trust_matter.specs.declared.edits.Numbered.{Numbered}
+use Rattle.trust_matter.specs.Balances.{names, is_fee, is_settled, passes as of_kind}
+use Rattle.trust_matter.specs.Changes.{movement_of, AreMoved}
+use Rattle.trust_matter.specs.Conditions.{is_no_deposit, is_deposit_not_held}
+use Rattle.trust_matter.specs.Events.{events_of, events_in, received, paid_out}
+use Rattle.trust_matter.specs.Rows.{entry_at}
+use Rattle.trust_matter.specs.Shares.{draw, worth, available_share, cleared_deposit}
+use Rattle.trust_matter.specs.Sound.{AreBacked, IsBy, IsRanged, Sound, days_of}
+use Rattle.trust_matter.specs.Step.{HasAmount, deposit_of, cancelled}
+use Rattle.trust_matter.proofs.Days.{made-before}
+use Rattle.trust_matter.proofs.Editing.{deposit-may, left-moved}
+use Rattle.trust_matter.proofs.Entries.{all-at, within}
+use Rattle.trust_matter.proofs.Keeping.{MayTake, target-apart, total-undrawn}
+use Rattle.trust_matter.proofs.StepForms.{rows-of, rows-append, rows-exchange, moved-by, held-is, asked, Stepped}
+
+-- A deposit.
+
+deposit-moved : (es : List Entry) (a : DepositAsk) (day : ℕ) → AreMoved es (edit.Append (record { number = a.number; entry = deposit_of a day })) (movement_of es (edit.Append (record { number = a.number; entry = deposit_of a day })))
+unfolding events_of
+deposit-moved es a day = refl
+
+deposit-by : (a : DepositAsk) (day : ℕ) → IsBy day (deposit_of a day)
+unfolding days_of
+deposit-by a day = (omega arith, tt)
+
+pub step-deposit : (h : Head) (seats : List Seat) (es : List Entry) (c : Caller) (a : DepositAsk) (day : ℕ) → Sound (rows-of (Some h) seats es) → HasAmount (ask.Deposit a) → h.closed ≡ None → h.last ≤ day → (length es < 9_999) × (a.number ≡ length es + 1) → Stepped (Some h) seats es (asked c (ask.Deposit a) day) (edit.Append (record { number = a.number; entry = deposit_of a day }))
+step-deposit h seats es c a day s amount unclosed later next =
+    let x : Numbered = record { number = a.number; entry = deposit_of a day } in
+    let may = deposit-may es (record { book = day; amount = a.amount; source = a.source; description = a.description; state = deposit.Held }) s.backed refl next.0 amount in
+    record {
+      place = (refl, next.1);
+      sound = rows-append h seats es x day s unclosed may later (deposit-by a day) tt;
+      not_before = later;
+      seen = refl;
+      moved = deposit-moved es a day;
+      may = (next.1, may, inl refl);
+    }
+
+-- A deposit that was held.
+
+abbrev with-state : Deposit → DepositState → Entry
+with-state d state = entry.Deposit (record d { state = state })
+
+cleared-some : (s : DepositState) (amount : ℕ) → pos 0 ≤ℤ cleared_deposit s amount
+cleared-some deposit.Held amount = omega (arith, ints)
+cleared-some (deposit.Cleared c) amount = omega (arith, ints)
+cleared-some (deposit.Cancelled day) amount = omega (arith, ints)
+
+-- a held deposit may be cleared or cancelled
+pub restated-may : (es : List Entry) (n : ℕ) (d : Deposit) (state : DepositState) → AreBacked es → entry_at es n ≡ Some (entry.Deposit d) → d.state ≡ deposit.Held → MayTake es n (entry.Deposit d) (with-state d state)
+unfolding names draw worth available_share
+restated-may es n d state s at held =
+    let some = within es n (entry.Deposit d) at in
+    let no-fee : of_kind is_fee (entry_at es n) ≡ false = rw at refl in
+    let no-claim : of_kind is_settled (entry_at es n) ≡ false = rw at refl in
+    let all = total-undrawn es n s.named some.0 no-fee no-claim in
+    record {
+      at = at;
+      ranged = record { amount = (all-at IsRanged es n (entry.Deposit d) s.ranged at).amount; part = tt };
+      named = refl;
+      fee = λ h. h;
+      settled = λ h. h;
+      available = rw held (let a = s.available in let b = cleared-some state d.amount in omega (arith, ints, a, b));
+      same_target = refl;
+      apart = target-apart es n some.0 no-fee no-claim (with-state d state) refl;
+      own = omega (arith, ints, all);
+      left = λ k e h elsewhere. left-moved es (entry.Deposit d) (with-state d state) refl (λ e h. let l = s.left 0 e h in omega (arith, ints, l)) s.left k e h;
+    }
+
+cancelled-moved : (es : List Entry) (n day : ℕ) (d : Deposit) → entry_at es n ≡ Some (entry.Deposit d) → d.state ≡ deposit.Held → AreMoved es (edit.Exchange (record { number = n; entry = with-state d (deposit.Cancelled day) })) (movement_of es (edit.Exchange (record { number = n; entry = with-state d (deposit.Cancelled day) })))
+unfolding events_of
+cancelled-moved es n day d at held =
+    let was : events_in (entry_at es n) ≡ received d.book d.amount ∷ [] = rw at (rw held refl) in
+    moved-by n (events_in (entry_at es n)) (events_of (with-state d (deposit.Cancelled day))) (paid_out day d.amount ∷ []) (rw was refl) (omega arith)
+
+cancelled-by : (d : Deposit) (day : ℕ) → d.book ≤ day → IsBy day (with-state d (deposit.Cancelled day))
+unfolding days_of
+cancelled-by d day made = (made, (omega arith, tt))
+
+pub step-cancel : (h : Head) (seats : List Seat) (es : List Entry) (c : Caller) (n day : ℕ) (o : Option Entry) → entry_at es n ≡ o → Sound (rows-of (Some h) seats es) → h.closed ≡ None → h.last ≤ day → is_none o ≡ false → is_no_deposit o ≡ false → is_deposit_not_held o ≡ false → Stepped (Some h) seats es (asked c (ask.CancelDeposit n) day) (cancelled n o day)
+step-cancel h seats es c n day None at s unclosed later there kind state = absurd (cc)
+step-cancel h seats es c n day (Some (entry.Payment p)) at s unclosed later there kind state = absurd (cc)
+step-cancel h seats es c n day (Some (entry.Fee f)) at s unclosed later there kind state = absurd (cc)
+step-cancel h seats es c n day (Some (entry.Claim f)) at s unclosed later there kind state = absurd (cc)
+step-cancel h seats es c n day (Some (entry.Deposit d)) at s unclosed later there kind state =
+    let x : Numbered = record { number = n; entry = with-state d (deposit.Cancelled day) } in
+    let held = held-is d.state state in
+    let may = restated-may es n d (deposit.Cancelled day) s.backed at held in
+    let made : d.book ≤ day = let b = made-before h es n (entry.Deposit d) s.headed.0 at in omega (arith, b, later) in
+    record {
+      place = (refl, (entry.Deposit d, record { there = at; same = refl }));
+      sound = rows-exchange h seats es x (entry.Deposit d) day s unclosed may refl later (cancelled-by d day made) (made, tt);
+      not_before = later;
+      seen = refl;
+      moved = cancelled-moved es n day d at held;
+      may = (entry.Deposit d, may, inl refl, refl);
+    }

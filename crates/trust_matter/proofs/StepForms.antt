@@ -1,0 +1,186 @@
+-- Forms of a step: edits of sound rows, what they move, and what an accepted ask has passed.
+use Rattle.std.proofs.Common.{◌≡◌, ℕ, ◌+◌, ◌<◌, ◌≤◌, not, Bool, true, false, cond, List, [], ◌∷◌, ◌++◌, length, refl, sym, arith, subst, Option, Some, None, eqb}
+use Rattle.std.specs.Prelude.{nat_lt, is_some, is_none, slice_get}
+use Rattle.std.proofs.lemmas.Bool.Decides.{nat_tests}
+use Rattle.trust_matter.specs.declared.rows.DepositState.{DepositState}
+use Rattle.trust_matter.specs.declared.rows.DepositState.TheVariants as deposit
+use Rattle.trust_matter.specs.declared.rows.Entry.{Entry}
+use Rattle.trust_matter.specs.declared.rows.Head.{Head}
+use Rattle.trust_matter.specs.declared.rows.Seat.{Seat}
+use Rattle.trust_matter.specs.declared.asks.Ask.{Ask}
+use Rattle.trust_matter.specs.declared.asks.Ask.TheVariants as ask
+use Rattle.trust_matter.specs.declared.asks.Caller.{Caller}
+use Rattle.trust_matter.specs.declared.asks.Caller.TheVariants as caller
+use Rattle.trust_matter.specs.declared.asks.OpenAsk.{OpenAsk}
+use Rattle.trust_matter.specs.declared.edits.Edit.{Edit}
+use Rattle.trust_matter.specs.declared.edits.Edit.TheVariants as edit
+use Rattle.trust_matter.specs.declared.edits.Numbered.{Numbered}
+use Rattle.trust_matter.specs.declared.edits.Opening.{Opening}
+use Rattle.trust_matter.specs.Changes.{IsPlace, changed_by, movement_of, moved_beyond, events_by, AreMoved}
+use Rattle.trust_matter.specs.Conditions.{is_unknown_to, is_opening, is_number, misses, is_held_state}
+use Rattle.trust_matter.specs.Events.{Event}
+use Rattle.trust_matter.specs.Facts.{Asked, number_of, other_of}
+use Rattle.trust_matter.specs.Rows.{Rows, entry_at, last_of, next_number, book_day, as_made, role_in}
+use Rattle.trust_matter.specs.Sound.{AreDated, IsBy, IsRising, IsHeaded, Sound}
+use Rattle.trust_matter.specs.Step.{last_after, opening}
+use Rattle.trust_matter.proofs.Days.{dated-later, dated-append, dated-with, not-closed}
+use Rattle.trust_matter.proofs.Editing.{MayEdit}
+use Rattle.trust_matter.proofs.Keeping.{MayAdd, MayTake, sound-append, sound-with}
+use Rattle.trust_matter.proofs.SeatOrder.{order-with, order-without}
+
+-- Edits of sound rows, of any entry.
+
+abbrev pub rows-of : Option Head → List Seat → List Entry → Rows
+rows-of head seats es = record { head = head; seats = seats; entries = es }
+
+-- an entry is added, on no day before the last
+pub rows-append : (h : Head) (seats : List Seat) (es : List Entry) (x : Numbered) (last : ℕ) → Sound (rows-of (Some h) seats es) → h.closed ≡ None → MayAdd es x.entry → h.last ≤ book_day x.entry → IsBy last x.entry → IsRising x.entry → Sound (changed_by (edit.Append x) last (rows-of (Some h) seats es))
+rows-append h seats es x last s unclosed may from by rising = record {
+  backed = sound-append es x.entry s.backed may;
+  seated = s.seated;
+  headed = (dated-append h es x.entry last s.headed.0 from by rising, not-closed (record h { last = last }) h.closed (es ++ x.entry ∷ []) unclosed);
+}
+
+-- an entry changes, on no day before the last
+pub rows-exchange : (h : Head) (seats : List Seat) (es : List Entry) (x : Numbered) (old : Entry) (last : ℕ) → Sound (rows-of (Some h) seats es) → h.closed ≡ None → MayTake es x.number old x.entry → as_made x.entry ≡ as_made old → h.last ≤ last → IsBy last x.entry → IsRising x.entry → Sound (changed_by (edit.Exchange x) last (rows-of (Some h) seats es))
+rows-exchange h seats es x old last s unclosed may same later by rising = record {
+  backed = sound-with es x.number old x.entry s.backed may;
+  seated = s.seated;
+  headed = (dated-with h es x.number old x.entry last s.headed.0 may.at same later by rising, not-closed (record h { last = last }) h.closed _ unclosed);
+}
+
+-- a person takes a seat, or gives it up
+pub rows-seat : (h : Head) (seats : List Seat) (es : List Entry) (new : Seat) (last : ℕ) → Sound (rows-of (Some h) seats es) → h.closed ≡ None → h.last ≤ last → Sound (changed_by (edit.Seat new) last (rows-of (Some h) seats es))
+rows-seat h seats es new last s unclosed later = record {
+  backed = s.backed;
+  seated = order-with seats new s.seated;
+  headed = (dated-later h es last s.headed.0 later, not-closed (record h { last = last }) h.closed es unclosed);
+}
+
+pub rows-unseat : (h : Head) (seats : List Seat) (es : List Entry) (person : List ℕ) (last : ℕ) → Sound (rows-of (Some h) seats es) → h.closed ≡ None → h.last ≤ last → Sound (changed_by (edit.Unseat person) last (rows-of (Some h) seats es))
+rows-unseat h seats es person last s unclosed later = record {
+  backed = s.backed;
+  seated = order-without seats person s.seated;
+  headed = (dated-later h es last s.headed.0 later, not-closed (record h { last = last }) h.closed es unclosed);
+}
+
+-- the matter is opened
+pub rows-unclosed : (seats : List Seat) (es : List Entry) (o : Opening) (last : ℕ) → Sound (rows-of None seats es) → o.head.opened ≤ o.head.last → o.head.closed ≡ None → Sound (changed_by (edit.Open o) last (rows-of None seats es))
+rows-unclosed seats es o last s opened unclosed =
+    let P : List Entry → Type 0 = λ v. AreDated o.head v in
+    let empty : AreDated o.head [] = record { opened = opened; by_last = tt; made = tt; changed = tt } in
+    record {
+      backed = s.backed;
+      seated = (tt, tt);
+      headed = (subst P (sym s.headed.1) empty, not-closed o.head o.head.closed es unclosed);
+    }
+
+-- What an edit moves.
+
+past-all : (olds more : List Event) → slice_get (olds ++ more) (length olds) ≡ slice_get more 0
+past-all [] more = refl
+past-all (e ∷ olds) more = past-all olds more
+
+-- an event or none behind those that were there
+pub moved-by : (n : ℕ) (olds news more : List Event) → news ≡ olds ++ more → length more ≤ 1 → news ≡ olds ++ events_by (moved_beyond n olds news)
+moved-by n olds news [] is few =
+    let P : List Event → Type 0 = λ v. v ≡ olds ++ events_by (moved_beyond n olds v) in
+    subst P (sym is) (rw (past-all olds []) refl)
+moved-by n olds news (e ∷ []) is few =
+    let P : List Event → Type 0 = λ v. v ≡ olds ++ events_by (moved_beyond n olds v) in
+    subst P (sym is) (rw (past-all olds (e ∷ [])) refl)
+moved-by n olds news (e ∷ d ∷ more) is few = absurd (omega arith)
+
+-- What an accepted ask has passed.
+
+pub not-false : (b : Bool) → not b ≡ false → b ≡ true
+not-false true h = refl
+not-false false h = absurd (cc)
+
+pub none-is : {T : Type 0} (o : Option T) → is_some o ≡ false → o ≡ None
+none-is None h = refl
+none-is (Some x) h = absurd (cc)
+
+pub some-is : {T : Type 0} (o : Option T) → is_none o ≡ false → is_some o ≡ true
+some-is None h = absurd (cc)
+some-is (Some x) h = refl
+
+pub not-before : (day last : ℕ) → nat_lt day last ≡ false → last ≤ day
+not-before day last h = grind (arith, nat_tests)
+
+-- the number comes next, and there is room
+pub next-is : (count n : ℕ) → misses (next_number count) (Some n) ≡ false → (count < 9_999) × (n ≡ count + 1)
+next-is count n h =
+    elim (nat_lt count 9_999) as (λ b. nat_lt count 9_999 ≡ b → not (is_number (cond b (Some (count + 1)) None) n) ≡ false → (count < 9_999) × (n ≡ count + 1)) [
+      | true ↦ λ e g. (grind (arith, nat_tests), let same = not-false (eqb (count + 1) n) g in grind (arith, nat_tests))
+      | false ↦ λ e g. absurd (cc)
+    ] refl h
+
+pub held-is : (s : DepositState) → not (is_held_state s) ≡ false → s ≡ deposit.Held
+held-is deposit.Held h = refl
+held-is (deposit.Cleared c) h = absurd (cc)
+held-is (deposit.Cancelled day) h = absurd (cc)
+
+-- only the cashier may unclosed a matter; to others one without a head is unknown
+pub head-there : (head : Option Head) (seats : List Seat) (es : List Entry) (c : Caller) (a : Ask) → IsHeaded head seats es → is_unknown_to c head seats a ≡ false → is_opening a ≡ false → is_some head ≡ true
+head-there (Some h) seats es c a headed known other = refl
+head-there None seats es caller.Cashier a headed known other = absurd (let g : not (is_opening a) ≡ false = known in let yes = not-false (is_opening a) g in cc)
+head-there None seats es (caller.Person p) a headed known other =
+    let P : List Seat → Type 0 = λ v. is_none (role_in v p) ≡ false in
+    let g : true ≡ false = subst P headed.0 known in
+    absurd (cc)
+
+-- A step.
+
+-- the edit fits, leaves the rows sound, and moves one event in the journal at most; it is of entry n, which draws
+-- on t
+pub record IsStepOf (rows : Rows) (t n : ℕ) (e : Edit) (last : ℕ) : Type 0 where
+  pub place : IsPlace rows e
+  pub sound : Sound (changed_by e last rows)
+  pub not_before : last_of rows.head ≤ last
+  pub seen : last_of (changed_by e last rows).head ≡ last
+  pub moved : AreMoved rows.entries e (movement_of rows.entries e)
+  pub may : MayEdit rows.entries t n e
+
+-- the step of an ask
+abbrev pub IsStep : Rows → Asked → Edit → ℕ → Type 0
+IsStep rows a e last = IsStepOf rows (other_of a.ask (entry_at rows.entries (number_of a.ask))) (number_of a.ask) e last
+
+abbrev pub asked : Caller → Ask → ℕ → Asked
+asked c a day = record { caller = c; ask = a; day = day }
+
+abbrev pub Stepped : Option Head → List Seat → List Entry → Asked → Edit → Type 0
+Stepped head seats es a e = IsStep (rows-of head seats es) a e (last_after head e a.day)
+
+pub step-nothing : (h : Head) (seats : List Seat) (es : List Entry) (a : Asked) → Sound (rows-of (Some h) seats es) → Stepped (Some h) seats es a edit.Nothing
+step-nothing h seats es a s = record { place = tt; sound = s; not_before = omega arith; seen = refl; moved = refl; may = tt }
+
+pub step-unclosed : (seats : List Seat) (es : List Entry) (c : Caller) (o : OpenAsk) (day : ℕ) → Sound (rows-of None seats es) → Stepped None seats es (asked c (ask.OpenMatter o) day) (edit.Open (opening o day))
+step-unclosed seats es c o day s = record {
+  place = refl;
+  sound = rows-unclosed seats es (opening o day) day s (omega arith) refl;
+  not_before = omega arith;
+  seen = refl;
+  moved = refl;
+  may = tt;
+}
+
+pub step-seat : (h : Head) (seats : List Seat) (es : List Entry) (c : Caller) (new : Seat) (day : ℕ) → Sound (rows-of (Some h) seats es) → h.closed ≡ None → h.last ≤ day → role_in seats new.person ≡ None → Stepped (Some h) seats es (asked c (ask.AddSeat new) day) (edit.Seat new)
+step-seat h seats es c new day s unclosed later free = record {
+  place = (refl, free);
+  sound = rows-seat h seats es new day s unclosed later;
+  not_before = later;
+  seen = refl;
+  moved = refl;
+  may = tt;
+}
+
+pub step-unseat : (h : Head) (seats : List Seat) (es : List Entry) (c : Caller) (person : List ℕ) (day : ℕ) → Sound (rows-of (Some h) seats es) → h.closed ≡ None → h.last ≤ day → is_some (role_in seats person) ≡ true → Stepped (Some h) seats es (asked c (ask.DropSeat person) day) (edit.Unseat person)
+step-unseat h seats es c person day s unclosed later seated = record {
+  place = (refl, seated);
+  sound = rows-unseat h seats es person day s unclosed later;
+  not_before = later;
+  seen = refl;
+  moved = refl;
+  may = tt;
+}
