@@ -1,24 +1,18 @@
 -- A statement that is read and applied item by item.
 use Rattle.std.proofs.Common.{◌≡◌, ◌∙◌, ◌+◌, ◌≤◌, ◌++◌, ◌∷◌, [], ℕ, false, List, Some, None, refl, sym, ap, subst, append_assoc, arith}
-use Rattle.std.specs.Prelude.{◌==◌}
-use Rattle.std.proofs.lemmas.Bool.Decides.{nat_tests}
-use Rattle.trust_matter.specs.declared.bank_line.BankLine.{BankLine}
-use Rattle.trust_matter.specs.declared.line_verdict.LineEdit.{LineEdit}
-use Rattle.trust_matter.specs.declared.line_verdict.LineEdit.TheVariants as told
-use Rattle.trust_matter.specs.LineStep.{last_seen, line_on}
+use Rattle.std.specs.List.{list_any}
 use Rattle.trust_firm.specs.Firm.{Firm, of}
-use Rattle.trust_firm.proofs.Changed.{of_other-after_edit}
 use Rattle.statement_csv.specs.Reading.{Gives, LacksHeader}
 use Rattle.statement_csv.specs.declared.item.Item.{Item}
-use Rattle.statement_csv.specs.declared.item.Item.TheVariants as item
 use Rattle.trust_desk.specs.declared.bodies.ImportReply.{ImportReply}
 use Rattle.trust_desk.specs.declared.importing.Counted.{Counted}
 use Rattle.trust_desk.specs.declared.importing.Counted.TheVariants as counted
 use Rattle.trust_desk.specs.declared.importing.ImportEnd.{ImportEnd}
 use Rattle.trust_desk.specs.declared.importing.ImportStop.{ImportStop}
 use Rattle.trust_desk.specs.declared.importing.ImportStop.TheVariants as stop
-use Rattle.trust_desk.specs.Imports.{AreBelow, AreFirst, AreRead, Imports, IsAmid, IsUnnamed, KeepsAllUnnamed, NoneNames, TakesOne, Told}
-use Rattle.trust_desk.specs.ItemStep.{after_item, after_items, after_told, count_one, counted_of, counts_after, names_item, none_counted}
+use Rattle.trust_desk.specs.Imports.{AreBelow, AreFirst, AreRead, Imports, IsAmid, IsUnnamed, KeepsAllUnnamed, LeavesOwn, TakesOne, Told}
+use Rattle.trust_desk.specs.ItemStep.{after_item, after_items, count_one, counted_of, counts_after, names_item, none_counted}
+use Rattle.trust_desk.proofs.OwnItems.{none-front, of-after_items, unnamed-items}
 
 -- What was read.
 
@@ -98,33 +92,19 @@ below-more n m kind before after below is more = subst (AreBelow m) (sym is) (ca
     cases counted.Exception = record { applied = omega (arith, below.applied, more); repeated = omega (arith, below.repeated, more); exceptions = omega (arith, below.exceptions, more); unreadable = omega (arith, below.unreadable, more) }
     cases counted.Unreadable = record { applied = omega (arith, below.applied, more); repeated = omega (arith, below.repeated, more); exceptions = omega (arith, below.exceptions, more); unreadable = omega (arith, below.unreadable, more) }
 
--- Matters that no item names.
+-- What matters see of it.
 
-other-after_told : (m : ℕ) (firm : Firm) (l : BankLine) (e : LineEdit) → (l.matter == m) ≡ false → of m (after_told l e firm) ≡ of m firm
-other-after_told m firm l (told.Applied e) apart = of_other-after_edit m l.matter e (last_seen (of l.matter firm).head l.line) firm (λ same. absurd (grind (arith, nat_tests)))
-other-after_told m firm l told.Repeat apart = refl
-other-after_told m firm l (told.Unmatched r) apart = refl
-
-pub other-after_item : (m day : ℕ) (firm : Firm) (it : Item) → names_item m it ≡ false → of m (after_item day firm it) ≡ of m firm
-other-after_item m day firm (item.Opening line) apart = refl
-other-after_item m day firm (item.Closing line) apart = refl
-other-after_item m day firm (item.OfMatter l) apart = other-after_told m firm l (line_on (of l.matter firm) l day) apart
-other-after_item m day firm (item.OfFirm line) apart = refl
-other-after_item m day firm (item.Stray line) apart = refl
-other-after_item m day firm (item.Unreadable number) apart = refl
-
-pub other-after_items : (m day : ℕ) (firm : Firm) (items : List Item) → NoneNames m items → of m (after_items day firm items) ≡ of m firm
-other-after_items m day firm [] none = refl
-other-after_items m day firm (it ∷ items) none = other-after_items m day (after_item day firm it) items none.1 ∙ other-after_item m day firm it none.0
-
-none-front : (m : ℕ) (front rest : List Item) → NoneNames m (front ++ rest) → NoneNames m front
-none-front m [] rest none = tt
-none-front m (it ∷ front) rest none = (none.0, none-front m front rest none.1)
-
-front-unnamed : (m : ℕ) (told : Told) (front : List Item) (end : ImportStop) → AreFirst told front end → IsUnnamed m told → NoneNames m front
+front-unnamed : (m : ℕ) (told : Told) (front : List Item) (end : ImportStop) → AreFirst told front end → IsUnnamed m told → list_any (names_item m) front ≡ false
 front-unnamed m None front end first none = absurd none
-front-unnamed m (Some None) front end first none = subst (NoneNames m) (sym first.0) tt
-front-unnamed m (Some (Some items)) front end first none = none-front m front first.0 (subst (NoneNames m) (sym first.1) none)
+front-unnamed m (Some None) front end first none = ap (list_any (names_item m)) first.0
+front-unnamed m (Some (Some items)) front end first none = none-front m front first.0 (ap (list_any (names_item m)) first.1 ∙ none)
 
 pub imports-others : (day : ℕ) (firm new : Firm) (told : Told) (result : ImportEnd) → Imports day firm told result new → KeepsAllUnnamed told firm new
-imports-others day firm new told result is m none = ap (of m) is.leaves ∙ other-after_items m day firm is.front (front-unnamed m told is.front result.end is.first none)
+imports-others day firm new told result is m none = ap (of m) is.leaves ∙ unnamed-items m day firm is.front (front-unnamed m told is.front result.end is.first none)
+
+pub imports-own : (day : ℕ) (firm new : Firm) (told : Told) (result : ImportEnd) → Imports day firm told result new → LeavesOwn day firm told result new
+imports-own day firm new told result is = record {
+  front = is.front;
+  first = is.first;
+  own = λ m. ap (of m) is.leaves ∙ of-after_items m day firm is.front;
+}

@@ -10,14 +10,13 @@ use Rattle.trust_matter.specs.Facts.{Asked}
 use Rattle.trust_matter.specs.Conditions.{number_made}
 use Rattle.trust_matter.specs.Changes.{IsPlace, AreMoved, movement_of, changed_by}
 use Rattle.trust_matter.specs.Step.{refusal, rows_after}
-use Rattle.trust_matter.specs.Laws.{Doing, AnAsk, ALine, all_after, IsSpent}
+use Rattle.trust_matter.specs.Laws.{Doing, AnAsk, ALine, all_after, IsSameLine, IsSpent}
 use Rattle.trust_matter.proofs.LineSteps.{applied-step}
 use Rattle.trust_matter.proofs.LineRepeats.{line-at-most-once}
 use Rattle.trust_matter.proofs.Repeats.{at-most-once}
 use Rattle.trust_matter.specs.LineStep.{line_on, last_seen, rows_after_line, IsApplied}
 use Rattle.trust_desk.specs.Heard.{Own, OwnAsk, OwnRefusal, OwnLine}
 use Rattle.trust_desk.specs.Solo.{solo_rows}
-use Rattle.trust_desk.specs.OnceOnly.{ComesAgain}
 
 -- an edit that fits, and leaves the rows sound
 pub record IsFit (rows : Rows) (e : Edit) (last : ℕ) : Type 0 where
@@ -53,7 +52,7 @@ spent-later rows a again owns makes accepted same =
     subst (λ (r : Rows). IsSpent r again) (sym (solo-doings (rows_after rows a) owns)) (at-most-once rows a again (doings_of owns) makes accepted same)
 
 -- a line that was applied is a repeat after all that comes to its matter
-pub repeat-later : (rows : Rows) (l again : BankLine) (day later : ℕ) (owns : List Own) → IsApplied (line_on rows l day) → ComesAgain l again → line_on (solo_rows (rows_after_line rows l day) owns) again later ≡ told.Repeat
+pub repeat-later : (rows : Rows) (l again : BankLine) (day later : ℕ) (owns : List Own) → IsApplied (line_on rows l day) → IsSameLine l again → line_on (solo_rows (rows_after_line rows l day) owns) again later ≡ told.Repeat
 repeat-later rows l again day later owns applied same =
-    let spent = line-at-most-once rows l again day later (doings_of owns) applied (record { entry = same.entry; date = same.date; bank_ref = same.bank_ref; amount = same.amount }) in
+    let spent = line-at-most-once rows l again day later (doings_of owns) applied same in
     subst (λ (r : Rows). line_on r again later ≡ told.Repeat) (sym (solo-doings (rows_after_line rows l day) owns)) spent.repeat

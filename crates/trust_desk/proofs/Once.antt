@@ -93,6 +93,6 @@ line-once-only l again day later firm mid rest front between applied same runs =
     let between = runs-later m (after_items day one rest) mid between runs in
     let all = later-more (of m one) (of m mid) (of m now) (later-more (of m one) (of m (after_items day one rest)) (of m mid) behind between) before in
     let rows : of m now ≡ solo_rows (rows_after_line (of m firm) l day) all.0 = all.1 ∙ ap (λ r. solo_rows r all.0) (of-after_line l day firm) in
-    let spent : line_on (solo_rows (rows_after_line (of m firm) l day) all.0) again later ≡ told.Repeat = repeat-later (of m firm) l again day later all.0 (was-applied (line_on (of m firm) l day) applied) same in
+    let spent : line_on (solo_rows (rows_after_line (of m firm) l day) all.0) again later ≡ told.Repeat = repeat-later (of m firm) l again day later all.0 (was-applied (line_on (of m firm) l day) applied) same.line in
     let repeat : line_on (of again.matter now) again later ≡ told.Repeat = (λ i. line_on (of (same.matter i) now) again later) ∙ (ap (λ r. line_on r again later) rows ∙ spent) in
     record { repeat = ap counted_as repeat; leaves = ap (λ e. after_told again e now) repeat }

@@ -1,5 +1,6 @@
 -- What an import of a statement has done when it ends.
-use Rattle.std.specs.Prelude.{◌≡◌, ◌≢◌, ◌⊎◌, ◌<◌, ℕ, false, true, List, [], ◌∷◌, ◌++◌, Option, Some, None, ⊤}
+use Rattle.std.specs.Prelude.{◌≡◌, ◌≢◌, ◌⊎◌, ◌<◌, ℕ, false, true, List, [], ◌++◌, Option, Some, None, ⊤}
+use Rattle.std.specs.List.{list_any}
 use Rattle.trust_base.specs.Refusals.{is_fault}
 use Rattle.trust_base.specs.declared.refusal.Field.TheVariants as field
 use Rattle.trust_base.specs.declared.refusal.Refusal.TheVariants as refusal
@@ -15,6 +16,8 @@ use Rattle.trust_desk.specs.declared.importing.ImportStop.{ImportStop}
 use Rattle.trust_desk.specs.declared.importing.ImportStop.TheVariants as stop
 use Rattle.trust_desk.specs.Counts.{counted_refusal}
 use Rattle.trust_desk.specs.ItemStep.{after_item, after_items, counted_of, count_one, counts_after, names_item, none_counted}
+use Rattle.trust_desk.specs.Heard.{own_of_items}
+use Rattle.trust_desk.specs.Solo.{solo_rows}
 
 -- What a statement has: nothing is known where its reader does not tell its bytes; else it has no items where its header is
 -- another, or these.
@@ -65,18 +68,19 @@ pub record Imports (day : ℕ) (firm : Firm) (told : Told) (result : ImportEnd) 
   pub leaves : new ≡ after_items day firm front
   pub counts : result.reply ≡ counts_after day firm front none_counted
 
--- What it has not.
+-- each matter's rows are those that its own machine leaves of the lines that name it, of the items that were applied
+pub record LeavesOwn (day : ℕ) (firm : Firm) (told : Told) (result : ImportEnd) (new : Firm) : Type 0 where
+  pub front : List Item
+  pub first : AreFirst told front result.end
+  pub own : (m : ℕ) → of m new ≡ solo_rows (of m firm) (own_of_items m day front)
 
--- none of the items names the matter
-abbrev pub NoneNames : ℕ → List Item → Type 0
-NoneNames m [] = ⊤
-NoneNames m (it ∷ items) = (names_item m it ≡ false) × NoneNames m items
+-- What it has not.
 
 -- no item of the statement is known to name the matter
 abbrev pub IsUnnamed : ℕ → Told → Type 0
 IsUnnamed m None = ⊥
 IsUnnamed m (Some None) = ⊤
-IsUnnamed m (Some (Some items)) = NoneNames m items
+IsUnnamed m (Some (Some items)) = list_any (names_item m) items ≡ false
 
 -- the rows of each matter that no item names stay as they are
 abbrev pub KeepsAllUnnamed : Told → Firm → Firm → Type 0

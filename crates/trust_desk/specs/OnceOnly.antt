@@ -4,7 +4,7 @@ use Rattle.trust_matter.specs.declared.bank_line.BankLine.{BankLine}
 use Rattle.trust_matter.specs.Facts.{Asked}
 use Rattle.trust_matter.specs.Conditions.{number_made}
 use Rattle.trust_matter.specs.Step.{refusal}
-use Rattle.trust_matter.specs.Laws.{IsSpent}
+use Rattle.trust_matter.specs.Laws.{IsSameLine, IsSpent}
 use Rattle.trust_firm.specs.Firm.{Firm, of, after_match}
 use Rattle.statement_csv.specs.declared.item.Item.{Item}
 use Rattle.statement_csv.specs.declared.item.Item.TheVariants as item
@@ -32,13 +32,10 @@ OnceOnly =
     (m : ℕ) (a again : Asked) (firm new : Firm) (between : List DayRun) → IsSome (number_made a.ask) → refusal (of m firm) a ≡ None
     → RunsOn (after_ask m a firm) between new → again.ask ≡ a.ask → IsSpent (of m new) again × (after_ask m again new ≡ new)
 
--- a line for the same entry, of the same date, reference of the bank and amount, in whatever words
+-- the same line of the same matter, in whatever words
 pub record ComesAgain (l again : BankLine) : Type 0 where
   pub matter : again.matter ≡ l.matter
-  pub entry : again.entry ≡ l.entry
-  pub date : again.line.date ≡ l.line.date
-  pub bank_ref : again.line.bank_ref ≡ l.line.bank_ref
-  pub amount : again.line.amount ≡ l.line.amount
+  pub line : IsSameLine l again
 
 -- the line is a repeat: it is no exception from then on, and nothing else changes
 pub record IsRepeated (day : ℕ) (firm : Firm) (l : BankLine) : Type 0 where

@@ -17,7 +17,7 @@ ghost use Rattle.trust_firm.specs.FirmSound.{FirmSound};
 ghost use Rattle.trust_store.specs.Books.{counted};
 ghost use Rattle.trust_store.specs.Named.{IsPartFor};
 ghost use Rattle.trust_desk.specs.Counts.{counted_refusal};
-ghost use Rattle.trust_desk.specs.Imports.{AreBelow, CountsOne, Imports, IsStop, KeepsAllUnnamed, TakesOne, counted_if, counted_stop, stop_of};
+ghost use Rattle.trust_desk.specs.Imports.{AreBelow, CountsOne, Imports, IsStop, KeepsAllUnnamed, LeavesOwn, TakesOne, counted_if, counted_stop, stop_of};
 ghost use Rattle.trust_desk.specs.ItemStep.{KeepsUnnamed, after_item, count_one, counted_of, counted_verdict, none_counted};
 
 use crate::bodies::ImportReply;
@@ -203,6 +203,8 @@ impl<B: Book> Desk<B> {
         ensures header { result.end ≡ ImportStop.Refused (refusal.BadField field.Header) → LacksHeader (option_map items (R.remaining reader)) }
         ensures limit { result.end ≡ ImportStop.Limit → IsTooLong (R.remaining reader) }
         ensures within { result.end ≡ ImportStop.Done → IsWithin (R.remaining reader) }
+        // Each matter hears of it the lines that name it alone.
+        ensures own { B.clean self.new → LeavesOwn day (B.firm self.old) (option_map items (R.remaining reader)) result (B.firm self.new) }
         ensures others { B.clean self.new → KeepsAllUnnamed (option_map items (R.remaining reader)) (B.firm self.old) (B.firm self.new) }
         ensures sound { B.clean self.new → FirmSound (B.firm self.new) }
         ensures was_clean { B.clean self.new → B.clean self.old }

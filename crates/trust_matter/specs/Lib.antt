@@ -5,6 +5,7 @@ pub mod CasesLines
 pub mod CasesClaims
 pub mod CasesPayments
 pub mod Changes
+pub mod ClaimTables
 pub mod Conditions
 pub mod Events
 pub mod Examples

@@ -1,5 +1,5 @@
 -- What an ask is answered and what it changes: a table of refusals, of which the least number is given.
-use Rattle.std.specs.Prelude.{◌≡◌, ℕ, Bool, ◌&&◌, List, [], ◌∷◌, ◌++◌, Option, Some, None, is_none, if◌then◌else◌, Result, Ok, Err, ℤ, pos, negsuc}
+use Rattle.std.specs.Prelude.{◌≡◌, ℕ, Bool, List, [], ◌∷◌, ◌++◌, Option, Some, None, if◌then◌else◌, Result, Ok, Err, ℤ, pos, negsuc}
 use Rattle.trust_base.specs.Limits.{IsAmount}
 use Rattle.trust_base.specs.declared.refusal.Refusal.{Refusal}
 use Rattle.trust_base.specs.declared.refusal.Refusal.TheVariants as refusals
@@ -10,7 +10,6 @@ use Rattle.trust_matter.specs.declared.rows.PaymentState.{PaymentState}
 use Rattle.trust_matter.specs.declared.rows.PaymentState.TheVariants as payment
 use Rattle.trust_matter.specs.declared.rows.ClaimState.{ClaimState}
 use Rattle.trust_matter.specs.declared.rows.ClaimState.TheVariants as claim
-use Rattle.trust_matter.specs.declared.rows.Against.{Against}
 use Rattle.trust_matter.specs.declared.rows.Entry.{Entry}
 use Rattle.trust_matter.specs.declared.rows.Entry.TheVariants as entry
 use Rattle.trust_matter.specs.declared.asks.OpenAsk.{OpenAsk}
@@ -26,7 +25,7 @@ use Rattle.trust_matter.specs.declared.edits.Edit.TheVariants as edit
 use Rattle.trust_matter.specs.Rows.{Rows, last_of, next_number}
 use Rattle.trust_matter.specs.Policy.{rule_of}
 use Rattle.trust_matter.specs.Facts.{Facts, Asked, facts_of}
-use Rattle.trust_matter.specs.Conditions.{has_no_seat, is_not_allowed, is_opened_already, is_closed, goes_backwards, is_not_next, is_not_there, is_of_another_kind, is_in_another_state, is_to_cash, is_to_wrong_payee, is_bad_split, is_short, left_for, has_a_seat_already, has_none_to_drop, would_lose_its_last_lawyer, is_repeat, is_on_fee, is_no_fee, is_cash_claimant, is_no_claim, is_claim_settled, exceeds_claim}
+use Rattle.trust_matter.specs.Conditions.{has_no_seat, is_not_allowed, is_opened_already, is_closed, goes_backwards, is_not_next, is_not_there, is_of_another_kind, is_in_another_state, is_to_cash, is_to_wrong_payee, is_bad_split, is_short, left_for, has_a_seat_already, has_none_to_drop, would_lose_its_last_lawyer, is_repeat}
 use Rattle.trust_matter.specs.Changes.{MatterChange, IsChange, changed_by}
 
 -- The refusals.
@@ -60,23 +59,6 @@ later_conditions f a =
     ∷ (has_a_seat_already f a, refusals.SeatTaken)
     ∷ (has_none_to_drop f a, refusals.NoSeat)
     ∷ (would_lose_its_last_lawyer f a, refusals.LastLawyer)
-    ∷ []
-
--- of these, what is tried of the fee, or of the claimant, that a claim names
-abbrev pub against_conditions : Against → Option Entry → List (Bool × Refusal)
-against_conditions on other =
-    (is_on_fee on && is_none other, refusals.NoEntry)
-    ∷ (is_on_fee on && is_no_fee other, refusals.WrongKind)
-    ∷ (is_cash_claimant on, refusals.PayeeIsCash)
-    ∷ []
-
--- of these, what is tried of a claim that is to be split
-abbrev pub split_conditions : Option Entry → ℕ → List (Bool × Refusal)
-split_conditions e part =
-    (is_none e, refusals.NoEntry)
-    ∷ (is_no_claim e, refusals.WrongKind)
-    ∷ (is_claim_settled e, refusals.WrongState)
-    ∷ (exceeds_claim e part, refusals.BadSplit)
     ∷ []
 
 abbrev pub conditions : Facts → Asked → List (Bool × Refusal)

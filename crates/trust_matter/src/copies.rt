@@ -117,7 +117,7 @@ impl Fee {
 }
 
 impl Against {
-    pub fn copied(&self) -> Result<Against, AllocError>
+    pub(crate) fn copied(&self) -> Result<Against, AllocError>
         ensures { IfOk result (λ a. a ≡ self.now) }
     {
         match self {

@@ -6,7 +6,8 @@ ghost use Rattle.trust_matter.specs.declared.asks.Caller.{Caller as AnyCaller};
 ghost use Rattle.trust_matter.specs.Conditions.{against_left, is_claim_asked, is_fee_asked, is_same_against};
 ghost use Rattle.trust_matter.specs.Parts.{kept_facts, kept_at, entry_in, left_kept};
 ghost use Rattle.trust_matter.specs.Shares.{against_no};
-ghost use Rattle.trust_matter.specs.Step.{GivesLate, against_conditions, claim_of, fee_of, first, settled, split_conditions, with_claim};
+ghost use Rattle.trust_matter.specs.ClaimTables.{against_conditions, split_conditions};
+ghost use Rattle.trust_matter.specs.Step.{GivesLate, claim_of, fee_of, first, settled, with_claim};
 
 use crate::asks::{Ask, ClaimAsk, FeeAsk, SplitAsk};
 use crate::edits::{Edit, Numbered};

@@ -1,37 +1,14 @@
 // The bodies of accepted answers.
 
+use crate::values::{cents, day, entry_no, label, matter_no, part, person};
 use std::alloc::Global;
 use std::test::Fail;
-use trust_base::{BankText, Cents, CentsOrZero, Day, EntryNo, Label, MatterNo, PersonId};
+use trust_base::BankText;
 use trust_desk::{ImportReply, entry_body, import_body, matter_body, receipt_body};
 use trust_matter::{
     Against, Claim, ClaimState, ClearedPayment, Clearing, Deposit, DepositState, Entry, Fee, Fund,
     Head, Matter, Payment, PaymentState, Role, Seat, Settlement,
 };
-
-fn label(alloc: Global, text: &str) -> Result<Label, Fail> {
-    Ok(Label::read(alloc, text.as_bytes())?.ok_or("a label")?)
-}
-
-fn cents(text: &str) -> Result<Cents, Fail> {
-    Ok(Cents::read(text.as_bytes()).ok_or("an amount")?)
-}
-
-fn part(text: &str) -> Result<CentsOrZero, Fail> {
-    Ok(CentsOrZero::read(text.as_bytes()).ok_or("a part")?)
-}
-
-fn day(text: &str) -> Result<Day, Fail> {
-    Ok(Day::read(text.as_bytes()).ok_or("a day")?)
-}
-
-fn entry_no(text: &str) -> Result<EntryNo, Fail> {
-    Ok(EntryNo::read(text.as_bytes()).ok_or("an entry")?)
-}
-
-fn first_matter() -> Result<MatterNo, Fail> {
-    Ok(MatterNo::read(b"000001").ok_or("a matter")?)
-}
 
 fn clearing(alloc: Global) -> Result<Clearing, Fail> {
     Ok(Clearing {
@@ -78,7 +55,7 @@ fn claim(alloc: Global, against: Against, state: ClaimState) -> Result<Entry, Fa
 #[test]
 fn receipt_of_a_deposit(rt: HostRuntime) -> Result<(), Fail> {
     let alloc = rt.alloc();
-    let matter = first_matter()?;
+    let matter = matter_no("000001")?;
     let deposit = retainer(alloc, DepositState::Held)?;
     let body = receipt_body(alloc, matter, entry_no("0001")?, &deposit)?;
     let want =
@@ -90,7 +67,7 @@ fn receipt_of_a_deposit(rt: HostRuntime) -> Result<(), Fail> {
 #[test]
 fn receipt_of_a_payment(rt: HostRuntime) -> Result<(), Fail> {
     let alloc = rt.alloc();
-    let matter = first_matter()?;
+    let matter = matter_no("000001")?;
     let payment = filing_fee(alloc, Fund::General, PaymentState::Proposed)?;
     let body = receipt_body(alloc, matter, entry_no("0002")?, &payment)?;
     let want =
@@ -102,7 +79,7 @@ fn receipt_of_a_payment(rt: HostRuntime) -> Result<(), Fail> {
 #[test]
 fn receipt_of_a_claim(rt: HostRuntime) -> Result<(), Fail> {
     let alloc = rt.alloc();
-    let matter = first_matter()?;
+    let matter = matter_no("000001")?;
     let raised = claim(alloc, Against::Fee(entry_no("0002")?), ClaimState::Open)?;
     let body = receipt_body(alloc, matter, entry_no("0003")?, &raised)?;
     let want =
@@ -114,7 +91,7 @@ fn receipt_of_a_claim(rt: HostRuntime) -> Result<(), Fail> {
 #[test]
 fn cleared_deposit(rt: HostRuntime) -> Result<(), Fail> {
     let alloc = rt.alloc();
-    let matter = first_matter()?;
+    let matter = matter_no("000001")?;
     let cleared = retainer(alloc, DepositState::Cleared(clearing(alloc)?))?;
     let body = entry_body(alloc, matter, entry_no("0001")?, &cleared, 0)?;
     let want =
@@ -126,7 +103,7 @@ fn cleared_deposit(rt: HostRuntime) -> Result<(), Fail> {
 #[test]
 fn issued_payment(rt: HostRuntime) -> Result<(), Fail> {
     let alloc = rt.alloc();
-    let matter = first_matter()?;
+    let matter = matter_no("000001")?;
     let state = PaymentState::Issued(day("2024-01-12")?);
     let issued = filing_fee(alloc, Fund::Fee(entry_no("0002")?), state)?;
     let body = entry_body(alloc, matter, entry_no("0004")?, &issued, 0)?;
@@ -139,7 +116,7 @@ fn issued_payment(rt: HostRuntime) -> Result<(), Fail> {
 #[test]
 fn fee_in_part(rt: HostRuntime) -> Result<(), Fail> {
     let alloc = rt.alloc();
-    let matter = first_matter()?;
+    let matter = matter_no("000001")?;
     let fee = Entry::Fee(Fee {
         book: day("2024-01-10")?,
         amount: cents("200.00")?,
@@ -155,7 +132,7 @@ fn fee_in_part(rt: HostRuntime) -> Result<(), Fail> {
 #[test]
 fn offered_claim(rt: HostRuntime) -> Result<(), Fail> {
     let alloc = rt.alloc();
-    let matter = first_matter()?;
+    let matter = matter_no("000001")?;
     let state = ClaimState::Offered(part("20.00")?);
     let offered = claim(alloc, Against::Fee(entry_no("0002")?), state)?;
     let body = entry_body(alloc, matter, entry_no("0003")?, &offered, 0)?;
@@ -168,7 +145,7 @@ fn offered_claim(rt: HostRuntime) -> Result<(), Fail> {
 #[test]
 fn settled_claim(rt: HostRuntime) -> Result<(), Fail> {
     let alloc = rt.alloc();
-    let matter = first_matter()?;
+    let matter = matter_no("000001")?;
     let state = ClaimState::Settled(Settlement {
         day: day("2024-01-12")?,
         part: part("0.00")?,
@@ -207,7 +184,7 @@ fn imports(rt: HostRuntime) -> Result<(), Fail> {
 #[test]
 fn matters(rt: HostRuntime) -> Result<(), Fail> {
     let alloc = rt.alloc();
-    let person = PersonId::read(alloc, b"lee")?.ok_or("a person")?;
+    let person = person(alloc, "lee")?;
     let head = Head {
         client: label(alloc, "Ada Chen")?,
         opened: day("2024-01-10")?,
@@ -220,7 +197,7 @@ fn matters(rt: HostRuntime) -> Result<(), Fail> {
         role: Role::Lawyer,
     })?;
     let matter = Matter::of_rows(alloc, Some(head), seats, &[])?;
-    let body = matter_body(alloc, first_matter()?, &matter)?;
+    let body = matter_body(alloc, matter_no("000001")?, &matter)?;
     let want =
         r#"{"available":"0.00","claims":"0.00","client":"Ada Chen","closed":null,"disputed":"0.00","entries":0,"fees":"0.00","held":"0.00","matter":"000001","opened":"2024-01-10","seats":[{"person":"lee","role":"lawyer"}],"total":"0.00"}"#;
     assert_eq!(rt; body.as_slice(), want.as_bytes());

@@ -1,8 +1,8 @@
 // Fees that are set apart, and claims that keep money apart until they are settled.
 
 use crate::imports::{ONE_APPLIED, imports, retained};
-use crate::requests::day;
 use crate::steps::{On, PaidFrom, Step, Told, follow, propose_from};
+use crate::values::day;
 use std::alloc::Global;
 use std::test::Fail;
 use trust_desk::Desk;
@@ -184,6 +184,45 @@ fn claims_that_are_refused(rt: HostRuntime) -> Result<(), Fail> {
             Step::Claim("0002", "120.00", On::Fee("0001")),
             403,
             r#"{"name":"NotAllowed","refusal":10,"rule":"dispute"}"#,
+        ),
+    ];
+    follow_cleared(rt.alloc(), &steps)
+}
+
+const FIRM_CLAIMS: &str =
+    r#"{"amount":"120.00","claimant":"FIRM","day":"2024-01-10","entry":"0002","kind":"claim","matter":"000001","of":null,"on":"general","reason":"hours"}"#;
+
+const FIRM_AWARDED: &str =
+    r#"{"amount":"120.00","claimant":"FIRM","day":"2024-01-10","entry":"0002","kind":"claim","left":"100.00","matter":"000001","of":null,"on":"general","reason":"hours","settled":"2024-01-10","state":"settled","to_client":"20.00"}"#;
+
+const TO_FIRM: &str =
+    r#"{"amount":"100.00","day":"2024-01-10","entry":"0003","from":"claim","instrument":"1001","kind":"payment","matter":"000001","of":"0002","payee":"FIRM","purpose":"filing fee"}"#;
+
+// The firm may claim money of the general fund like anybody else, and is paid from its claim alone.
+#[test]
+fn the_firm_is_a_claimant(rt: HostRuntime) -> Result<(), Fail> {
+    let claim = Step::Claim("0002", "120.00", On::General("FIRM"));
+    let claimed = PaidFrom::Claim("0002");
+    let steps: [Told; 5] = [
+        ("", claim, 201, FIRM_CLAIMS),
+        ("", Step::Award("0002", "20.00"), 200, FIRM_AWARDED),
+        (
+            "",
+            propose_from(PaidFrom::General, "0003", "100.00", "FIRM"),
+            422,
+            WRONG_PAYEE,
+        ),
+        (
+            "",
+            propose_from(claimed, "0003", "100.00", "Roof Builders"),
+            422,
+            WRONG_PAYEE,
+        ),
+        (
+            "",
+            propose_from(claimed, "0003", "100.00", "FIRM"),
+            201,
+            TO_FIRM,
         ),
     ];
     follow_cleared(rt.alloc(), &steps)

@@ -1,9 +1,10 @@
 // What the desk answers, request by request, over a book of lists.
 
 use crate::requests::{
-    answered, answers, asked_by, cancel, day, deposit, drop_seat, entry_no, open, retainer, run_of,
-    says, seat, show,
+    answered, answers, asked_by, cancel, deposit, drop_seat, open, retainer, run_of, says, seat,
+    show,
 };
+use crate::values::{day, entry_no};
 use std::alloc::Global;
 use std::test::Fail;
 use trust_base::{Cents, EntryNo};

@@ -1,10 +1,11 @@
 // Statements that are handed in as requests.
 
 use crate::imports::{ONE_APPLIED, ONE_REPEATED, retained, statement};
-use crate::requests::{answered, answers, day, deposit, is_same_reply, open, person, says, show};
+use crate::requests::{answered, answers, deposit, is_same_reply, open, says, show};
+use crate::values::{day, person};
 use std::alloc::Global;
 use std::test::Fail;
-use trust_desk::{Desk, Request};
+use trust_desk::{Desk, Request, StatementText};
 use trust_matter::Caller;
 use trust_store::{PlainBook, RefusingBook};
 
@@ -106,5 +107,29 @@ fn a_refused_line_is_applied_when_it_is_sent_again(rt: HostRuntime) -> Result<()
     assert!(rt; says(&again, 200, ONE_APPLIED));
     let last = answered(&mut desk, alloc, &showing, today);
     assert!(rt; says(&last, 200, CLEARED));
+    Ok(())
+}
+
+// A statement of one byte more than the limit: a line that clears the deposit, and then empty lines.
+fn too_long(alloc: Global) -> Result<Request, Fail> {
+    let mut bytes = Vec::from_slice(alloc, DEPOSITED.as_bytes())?;
+    bytes.resize(4_194_305, b'\n')?;
+    Ok(Request::Import {
+        caller: Caller::Cashier,
+        statement: StatementText::new(bytes),
+    })
+}
+
+// Its length is looked at before anything of it is applied.
+#[test]
+fn a_statement_that_is_too_long_is_refused(rt: HostRuntime) -> Result<(), Fail> {
+    let alloc = rt.alloc();
+    let today = day("2024-01-12")?;
+    let mut desk = Desk::new(PlainBook::new(alloc));
+    retained(&mut desk, alloc, today, "000001", "500.00")?;
+    let refused = answered(&mut desk, alloc, &too_long(alloc)?, today);
+    assert!(rt; says(&refused, 413, r#"{"name":"TooLarge","refusal":3}"#));
+    let after = answered(&mut desk, alloc, &show(alloc, "000001")?, today);
+    assert!(rt; says(&after, 200, HELD));
     Ok(())
 }

@@ -14,7 +14,7 @@ use trust_firm::RowSink;
 use trust_matter::{Caller, Entry, Head, Seat};
 use trust_store::Book;
 
-// What is told of a statement of which one line was applied.
+/// What is told of a statement of which one line was applied.
 pub const ONE_APPLIED: &str =
     r#"{"applied":1,"exceptions":0,"repeated":0,"statement":null,"unreadable":0}"#;
 
@@ -43,7 +43,7 @@ fn is_answered<B: Book>(
     }
 }
 
-// Opens a matter and books a retainer of an amount as its first entry.
+/// Opens a matter and books a retainer of an amount as its first entry.
 pub fn retained<B: Book>(
     desk: &mut Desk<B>,
     alloc: Global,
@@ -64,7 +64,7 @@ fn is_told(alloc: Global, reply: &ImportReply, text: &str) -> Result<bool, Alloc
     Ok(import_body(alloc, reply)?.as_slice() == text.as_bytes())
 }
 
-// Imports a statement to its end. Fails where it is told by another text.
+/// Imports a statement to its end. Fails where it is told by another text.
 pub fn imports<B: Book, R: Read + Drop>(
     desk: &mut Desk<B>,
     alloc: Global,
@@ -85,7 +85,7 @@ pub fn imports<B: Book, R: Read + Drop>(
     Ok(())
 }
 
-// Imports a statement whose reader faults. Fails where the import does not end by that, or is told by another text.
+/// Imports a statement whose reader faults. Fails where the import does not end by that, or is told by another text.
 pub fn import_faults<B: Book, R: Read + Drop>(
     desk: &mut Desk<B>,
     alloc: Global,
@@ -106,7 +106,7 @@ pub fn import_faults<B: Book, R: Read + Drop>(
     Ok(())
 }
 
-// A caller hands in a statement.
+/// A caller hands in a statement.
 pub fn statement(alloc: Global, caller: Caller, text: &str) -> Result<Request, AllocError> {
     let bytes = Vec::from_slice(alloc, text.as_bytes())?;
     Ok(Request::Import {
@@ -159,7 +159,7 @@ impl RowSink for Noted {
     }
 }
 
-// The exceptions of a desk's book, in their order.
+/// The exceptions of a desk's book, in their order.
 pub fn exceptions<B: Book + Drop>(desk: Desk<B>, alloc: Global) -> Result<Vec<Line>, Fail> {
     let mut book = desk.into_book();
     let mut noted = Noted {

@@ -12,15 +12,9 @@ mod handed_in;
 #[cfg(test)]
 mod imports;
 #[cfg(test)]
-mod lines;
-#[cfg(test)]
 mod matter;
 #[cfg(test)]
-mod names;
-#[cfg(test)]
 mod payments;
-#[cfg(test)]
-mod refusals;
 #[cfg(test)]
 mod refused_writes;
 #[cfg(test)]
@@ -32,4 +26,4 @@ mod statements;
 #[cfg(test)]
 mod steps;
 #[cfg(test)]
-mod texts;
+mod values;

@@ -1,28 +1,13 @@
 // A matter that is opened, its seats, and deposits that are booked and cancelled.
 
+use crate::values::{cents, day, entry_no, label, person};
 use std::alloc::Global;
 use std::test::Fail;
-use trust_base::{Cents, Day, EntryNo, Label, PersonId, Refusal, Rule};
+use trust_base::{Day, Refusal, Rule};
 use trust_matter::{
     Ask, Caller, Change, DepositAsk, DepositState, Edit, Entry, Matter, OpenAsk, Role, Seat,
     balances, decide,
 };
-
-fn label(alloc: Global, text: &str) -> Result<Label, Fail> {
-    Ok(Label::read(alloc, text.as_bytes())?.ok_or("a label")?)
-}
-
-fn person(alloc: Global, text: &str) -> Result<PersonId, Fail> {
-    Ok(PersonId::read(alloc, text.as_bytes())?.ok_or("a person")?)
-}
-
-fn day(text: &str) -> Result<Day, Fail> {
-    Ok(Day::read(text.as_bytes()).ok_or("a day")?)
-}
-
-fn number(text: &str) -> Result<EntryNo, Fail> {
-    Ok(EntryNo::read(text.as_bytes()).ok_or("an entry")?)
-}
 
 fn open_for_ada(alloc: Global) -> Result<Ask, Fail> {
     Ok(Ask::OpenMatter(OpenAsk {
@@ -44,8 +29,8 @@ fn drop_seat(alloc: Global, name: &str) -> Result<Ask, Fail> {
 
 fn deposit(alloc: Global, amount: &str) -> Result<Ask, Fail> {
     Ok(Ask::Deposit(DepositAsk {
-        number: number("0001")?,
-        amount: Cents::read(amount.as_bytes()).ok_or("an amount")?,
+        number: entry_no("0001")?,
+        amount: cents(amount)?,
         source: label(alloc, "Ada Chen")?,
         description: label(alloc, "retainer")?,
     }))
@@ -154,7 +139,7 @@ fn deposits(rt: HostRuntime) -> Result<(), Fail> {
     let mut matter = opened(alloc)?;
     let booked = accepted(&mut matter, &cashier, &deposit(alloc, "500.00")?, today)?;
     let movement = booked.movement().ok_or("a movement")?;
-    assert_eq!(rt; movement.entry, number("0001")?);
+    assert_eq!(rt; movement.entry, entry_no("0001")?);
     assert_eq!(rt; movement.day, today);
     assert_eq!(rt; movement.amount, 50_000);
     assert_eq!(rt; balances(&matter).held, 50_000);
@@ -168,7 +153,7 @@ fn deposits(rt: HostRuntime) -> Result<(), Fail> {
     assert!(rt; again.movement().is_none());
     assert!(rt; told(&matter) == before);
     let other = refused(&matter, &cashier, &deposit(alloc, "500.01")?, today)?;
-    assert_eq!(rt; other, Refusal::WrongNumber(Some(number("0002")?)));
+    assert_eq!(rt; other, Refusal::WrongNumber(Some(entry_no("0002")?)));
     let lee = Caller::Person(person(alloc, "lee")?);
     let office = refused(&matter, &lee, &deposit(alloc, "500.00")?, today)?;
     assert_eq!(rt; office, Refusal::NotAllowed(Rule::Office));
@@ -238,7 +223,7 @@ fn cancelling(rt: HostRuntime) -> Result<(), Fail> {
     let booked = day("2024-01-11")?;
     let today = day("2024-01-12")?;
     let cashier = Caller::Cashier;
-    let first = number("0001")?;
+    let first = entry_no("0001")?;
     let mut matter = opened(alloc)?;
     let missing = refused(&matter, &cashier, &Ask::CancelDeposit(first), today)?;
     assert_eq!(rt; missing, Refusal::NoEntry);

@@ -1,8 +1,8 @@
 // Payments: they are proposed, signed for by a lawyer, told of by the bank or voided.
 
 use crate::imports::{ONE_APPLIED, ONE_EXCEPTION, imports, retained};
-use crate::requests::day;
 use crate::steps::{Step, Told, follow, propose, propose_at};
+use crate::values::day;
 use std::test::Fail;
 use trust_desk::Desk;
 use trust_store::PlainBook;

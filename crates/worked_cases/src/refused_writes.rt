@@ -1,6 +1,7 @@
 // A book that refuses a write: nothing has changed, and the same request goes through when it is sent again.
 
-use crate::requests::{answered, day, deposit, is_same_reply, open, says, show};
+use crate::requests::{answered, deposit, is_same_reply, open, says, show};
+use crate::values::day;
 use std::test::Fail;
 use trust_desk::Desk;
 use trust_store::{PlainBook, RefusingBook};

@@ -1,6 +1,7 @@
 // Runs of requests: each matter is answered as if it were alone.
 
-use crate::requests::{asked_by, cancel, day, deposit, is_same_reply, open, run_of, says, show};
+use crate::requests::{asked_by, cancel, deposit, is_same_reply, open, run_of, says, show};
+use crate::values::{day, matter_no};
 use std::alloc::Global;
 use std::test::Fail;
 use trust_base::MatterNo;
@@ -44,7 +45,7 @@ fn is_of(request: &Request, number: MatterNo) -> bool {
 fn a_matter_is_answered_as_if_alone(rt: HostRuntime) -> Result<(), Fail> {
     let alloc = rt.alloc();
     let today = day("2024-01-10")?;
-    let first = MatterNo::read(b"000001").ok_or("a matter")?;
+    let first = matter_no("000001")?;
     let alone = run_of(alloc, &of_the_first(alloc)?, today)?;
     let both = of_both(alloc)?;
     let among = run_of(alloc, &both, today)?;

@@ -3,8 +3,8 @@
 use crate::imports::{
     ONE_APPLIED, ONE_EXCEPTION, ONE_REPEATED, exceptions, import_faults, imports, retained,
 };
-use crate::requests::day;
 use crate::steps::{Step, Told, follow};
+use crate::values::day;
 use std::alloc::{AllocError, Global};
 use std::io::Read;
 use std::test::Fail;
@@ -204,6 +204,27 @@ fn two_texts(alloc: Global, most: usize) -> Result<(), Fail> {
 fn an_exception_with_another_text_stays(rt: HostRuntime) -> Result<(), Fail> {
     for most in CUTS {
         two_texts(rt.alloc(), most)?;
+    }
+    Ok(())
+}
+
+const NEVER_CLOSED: &str =
+    "date,reference,bank_ref,amount,text\n2024-01-12,M000001-0001,B1,500.00,\"from Ada\n2024-01-12,M000001-0001,B1,500.00,\n";
+
+// A quote that is never closed takes in all that follows: the line stands with that as its text.
+fn never_closed(alloc: Global, most: usize) -> Result<(), Fail> {
+    let today = day("2024-01-12")?;
+    let mut desk = Desk::new(PlainBook::new(alloc));
+    let told = ONE_EXCEPTION;
+    imports(&mut desk, alloc, today, by(most, NEVER_CLOSED), told)?;
+    let text = b"from Ada\n2024-01-12,M000001-0001,B1,500.00,\n";
+    only_exception_is(desk, alloc, b"M000001-0001", b"B1", text)
+}
+
+#[test]
+fn a_quote_is_never_closed(rt: HostRuntime) -> Result<(), Fail> {
+    for most in CUTS {
+        never_closed(rt.alloc(), most)?;
     }
     Ok(())
 }

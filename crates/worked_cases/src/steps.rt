@@ -2,17 +2,18 @@
 
 ghost use Rattle.trust_firm.specs.FirmSound.{FirmSound};
 
-use crate::requests::{answered, asked_by, entry_no, label, person, retainer, says};
+use crate::requests::{answered, asked_by, retainer, says};
+use crate::values::{cents, entry_no, label, part, person};
 use std::alloc::Global;
 use std::test::Fail;
-use trust_base::{Cents, CentsOrZero, Day};
+use trust_base::Day;
 use trust_desk::Desk;
 use trust_matter::{
     Against, Ask, ClaimAsk, FeeAsk, Fund, OpenAsk, PaymentAsk, Role, Seat, SplitAsk,
 };
 use trust_store::Book;
 
-// Where a payment is to take its money, with the number of the entry.
+/// Where a payment is to take its money, with the number of the entry.
 #[derive(Clone, Copy)]
 pub enum PaidFrom {
     General,
@@ -20,7 +21,7 @@ pub enum PaidFrom {
     Claim(&'static str),
 }
 
-// A payment that is to be proposed, for the filing fee, by the instrument 1001.
+/// A payment that is to be proposed, for the filing fee, by the instrument 1001.
 #[derive(Clone, Copy)]
 pub struct Proposal {
     pub number: &'static str,
@@ -29,14 +30,14 @@ pub struct Proposal {
     pub payee: &'static str,
 }
 
-// A claim on the fee of a number, or on what is available by a claimant.
+/// A claim on the fee of a number, or on what is available by a claimant.
 #[derive(Clone, Copy)]
 pub enum On {
     Fee(&'static str),
     General(&'static str),
 }
 
-// What is asked, mostly an entry's number and an amount.
+/// What is asked, mostly an entry's number and an amount.
 #[derive(Clone, Copy)]
 pub enum Step {
     Open,
@@ -54,17 +55,17 @@ pub enum Step {
     ShowEntry(&'static str),
 }
 
-// A payment to the court clerk from what is available.
+/// A payment to the court clerk from what is available.
 pub fn propose(number: &'static str, amount: &'static str) -> Step {
     propose_at(number, amount, "Court Clerk")
 }
 
-// A payment to a payee from what is available.
+/// A payment to a payee from what is available.
 pub fn propose_at(number: &'static str, amount: &'static str, payee: &'static str) -> Step {
     propose_from(PaidFrom::General, number, amount, payee)
 }
 
-// A payment to a payee.
+/// A payment to a payee.
 pub fn propose_from(
     from: PaidFrom,
     number: &'static str,
@@ -77,10 +78,6 @@ pub fn propose_from(
         from,
         payee,
     })
-}
-
-fn cents(text: &str) -> Result<Cents, Fail> {
-    Ok(Cents::read(text.as_bytes()).ok_or("an amount")?)
 }
 
 fn fund(from: PaidFrom) -> Result<Fund, Fail> {
@@ -135,7 +132,7 @@ fn claim(alloc: Global, number: &str, amount: &str, on: On) -> Result<Ask, Fail>
 fn split(number: &str, to_client: &str) -> Result<SplitAsk, Fail> {
     Ok(SplitAsk {
         number: entry_no(number)?,
-        to_client: CentsOrZero::read(to_client.as_bytes()).ok_or("a part")?,
+        to_client: part(to_client)?,
     })
 }
 
@@ -170,10 +167,10 @@ fn ask_of(alloc: Global, step: Step) -> Result<Ask, Fail> {
     }
 }
 
-// A step of a caller, the cashier where no name is given, and the status and the text that are wanted.
+/// A step of a caller, the cashier where no name is given, and the status and the text that are wanted.
 pub type Told = (&'static str, Step, u16, &'static str);
 
-// Asks step by step of a matter. Fails with the first text that is wanted and not said.
+/// Asks step by step of a matter. Fails with the first text that is wanted and not said.
 pub fn follow<B: Book>(
     desk: &mut Desk<B>,
     alloc: Global,

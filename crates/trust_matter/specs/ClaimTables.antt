@@ -1,0 +1,25 @@
+-- The rows of the table of refusals that are tried in one piece of what a claim names, and of a claim that is to be split. No rule
+-- stands here: the conditions are those of the step, and these lists serve the functions that try them.
+use Rattle.std.specs.Prelude.{ℕ, Bool, ◌&&◌, List, [], ◌∷◌, Option, is_none}
+use Rattle.trust_base.specs.declared.refusal.Refusal.{Refusal}
+use Rattle.trust_base.specs.declared.refusal.Refusal.TheVariants as refusals
+use Rattle.trust_matter.specs.declared.rows.Against.{Against}
+use Rattle.trust_matter.specs.declared.rows.Entry.{Entry}
+use Rattle.trust_matter.specs.Conditions.{is_on_fee, is_no_fee, is_cash_claimant, is_no_claim, is_claim_settled, exceeds_claim}
+
+-- of the fee, or of the claimant, that a claim names
+abbrev pub against_conditions : Against → Option Entry → List (Bool × Refusal)
+against_conditions on other =
+    (is_on_fee on && is_none other, refusals.NoEntry)
+    ∷ (is_on_fee on && is_no_fee other, refusals.WrongKind)
+    ∷ (is_cash_claimant on, refusals.PayeeIsCash)
+    ∷ []
+
+-- of a claim that is to be split
+abbrev pub split_conditions : Option Entry → ℕ → List (Bool × Refusal)
+split_conditions e part =
+    (is_none e, refusals.NoEntry)
+    ∷ (is_no_claim e, refusals.WrongKind)
+    ∷ (is_claim_settled e, refusals.WrongState)
+    ∷ (exceeds_claim e part, refusals.BadSplit)
+    ∷ []
