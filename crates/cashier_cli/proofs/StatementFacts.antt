@@ -1,5 +1,5 @@
 -- What the import of a statement says of its bytes, where less is known of them.
-use Rattle.std.proofs.Common.{◌≡◌, ◌∙◌, ℕ, Bool, true, false, List, Option, Some, None, MatchBool, option_map, refl, sym, ap, inl, inr}
+use Rattle.std.proofs.Common.{ℕ, Bool, true, false, List, Option, Some, None, MatchBool, option_map}
 use Rattle.std.specs.Io.KnownBytes.{Keeps}
 use Rattle.statement_csv.specs.Items.{items}
 use Rattle.trust_firm.specs.Firm.{Firm}

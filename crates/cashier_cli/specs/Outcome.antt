@@ -67,22 +67,26 @@ HasBegun outcome.FileFault = ⊤
 HasBegun outcome.StoreFault = ⊤
 HasBegun outcome.MemoryFault = ⊥
 
--- the file of a path was not opened, and nothing was done
-pub record IsUnopened (before after : Firm) (old new : Option (List ℕ)) (told : Outcome) : Type 0 where
+-- the file of a path was not opened, as its folder may tell, and nothing was done
+pub record IsUnopened (opens : Option (Option ℕ) → Type 0) (before after : Firm) (old new : Option (List ℕ)) (told : Outcome) : Type 0 where
+  pub opened : opens None
   pub outcome : told ≡ outcome.FileFault
   pub written : Appends old new []
   pub firm : after ≡ before
 
--- the statement of these bytes, where they are known, was imported, and that ended with this outcome
-pub record IsImported (day : ℕ) (before : Firm) (bytes : Option (List ℕ)) (after : Firm) (old new : Option (List ℕ)) (told : Outcome) : Type 0 where
+-- the statement of these bytes, where they are known, was imported with the length that its folder may tell, and that ended with this
+-- outcome
+pub record IsImported (day : ℕ) (before : Firm) (bytes : Option (List ℕ)) (opens : Option (Option ℕ) → Type 0) (after : Firm) (old new : Option (List ℕ)) (told : Outcome) : Type 0 where
   pub size : Option ℕ
+  pub opened : opens (Some size)
   pub end : StatementEnd
   pub outcome : statement_outcome end ≡ told
   pub ends : StatementEnds day before size bytes after old new end
 
--- what became of a file that is to be imported
-abbrev pub FileEnds : ℕ → Firm → Option (List ℕ) → Firm → Option (List ℕ) → Option (List ℕ) → Outcome → Type 0
-FileEnds day before bytes after old new told = IsImported day before bytes after old new told ⊎ IsUnopened before after old new told
+-- what became of a file that is to be imported, by its bytes, where they are known, and what opening it may tell
+abbrev pub FileEnds : ℕ → Firm → Option (List ℕ) → (Option (Option ℕ) → Type 0) → Firm → Option (List ℕ) → Option (List ℕ) → Outcome → Type 0
+FileEnds day before bytes opens after old new told =
+    IsImported day before bytes opens after old new told ⊎ IsUnopened opens before after old new told
 
 -- the words mean that a sheet is run on a day, and it ended with that outcome
 pub record RanSheet (words : List Text) (input : Option (List ℕ)) (before after : Firm) (old new : Option (List ℕ)) (told : Outcome) : Type 0 where
@@ -93,11 +97,11 @@ pub record RanSheet (words : List Text) (input : Option (List ℕ)) (before afte
   pub ends : IfSome input (λ bytes. Ends today before bytes after old new end)
 
 -- the words mean that the statement of a path is imported on a day, and that ended with that outcome
-pub record RanImport (words : List Text) (known : Text → Option (List ℕ)) (before after : Firm) (old new : Option (List ℕ)) (told : Outcome) : Type 0 where
+pub record RanImport (words : List Text) (known : Text → Option (List ℕ)) (opens : Text → Option (Option ℕ) → Type 0) (before after : Firm) (old new : Option (List ℕ)) (told : Outcome) : Type 0 where
   pub today : ℕ
   pub path : Bor (List ℕ)
   pub means : Means words today (task.Import path)
-  pub ends : FileEnds today before (known path.now) after old new told
+  pub ends : FileEnds today before (known path.now) (opens path.now) after old new told
 
 -- memory was refused before anything was run
 pub record RanNothing (before after : Firm) (old new : Option (List ℕ)) (told : Outcome) : Type 0 where
@@ -106,6 +110,7 @@ pub record RanNothing (before after : Firm) (old new : Option (List ℕ)) (told 
   pub firm : after ≡ before
 
 -- what became of the words, the sheet on standard input, the files of paths and the firm
-abbrev pub Ran : List Text → Option (List ℕ) → (Text → Option (List ℕ)) → Firm → Firm → Option (List ℕ) → Option (List ℕ) → Outcome → Type 0
-Ran words input known before after old new told =
-    RanSheet words input before after old new told ⊎ (RanImport words known before after old new told ⊎ RanNothing before after old new told)
+abbrev pub Ran : List Text → Option (List ℕ) → (Text → Option (List ℕ)) → (Text → Option (Option ℕ) → Type 0) → Firm → Firm → Option (List ℕ) → Option (List ℕ) → Outcome → Type 0
+Ran words input known opens before after old new told =
+    RanSheet words input before after old new told
+    ⊎ (RanImport words known opens before after old new told ⊎ RanNothing before after old new told)

@@ -24,7 +24,9 @@ pub enum Task<'a> {
 /// A plan of a run: the business day, and what is to be done.
 #[derive(Clone, Copy, Debug)]
 pub struct Plan<'a> {
+    /// The business day that the run is on.
     pub today: Day,
+    /// What is to be done.
     pub task: Task<'a>,
 }
 

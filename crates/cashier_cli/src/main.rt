@@ -18,7 +18,7 @@ mod statement;
 mod statement_tests;
 mod verdict;
 
-ghost use Rattle.std.specs.Prelude.{None};
+ghost use Rattle.std.specs.Prelude.{None, ⊤};
 
 use folder::{Folder, Opened};
 use outcome::{Outcome, notice_of, outcome_of_words, status_of};
@@ -28,7 +28,7 @@ use std::io;
 use std::process::ExitCode;
 use std::rt::{Env, Files};
 
-// The files of the system.
+// The files of the system, of which nothing is known.
 #[derive(Drop)]
 struct SystemFiles<'a, R> {
     rt: &'a R,
@@ -38,6 +38,8 @@ impl<R: Files> Folder for SystemFiles<'_, R> {
     type File = R::File;
 
     ghost known = { λ f path. None };
+
+    ghost opens = { λ _ _ _. ⊤ };
 
     fn open(&self, path: &str) -> Option<Opened<R::File>> {
         let Ok(reader) = fs::open(self.rt, path) else {

@@ -16,7 +16,7 @@ pub enum Outcome {
     Refused,
     /// The command line names no run.
     CommandLine,
-    /// A read or a write failed.
+    /// A file could not be opened, or a read or a write failed.
     FileFault,
     /// The store refused a call.
     StoreFault,

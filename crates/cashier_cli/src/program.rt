@@ -41,7 +41,7 @@ fn import_file<F: Folder, W: Write, B: Book>(
 ) -> Outcome
     requires { B.clean desk.old → FirmSound (B.firm desk.old) }
     ensures began { result ≢ Outcome.CommandLine }
-    ensures ends { B.clean desk.new → FileEnds today (B.firm desk.old) (F.known folder.now path.now) (B.firm desk.new) (W.contents writer.old) (W.contents writer.new) result }
+    ensures ends { B.clean desk.new → FileEnds today (B.firm desk.old) (F.known folder.now path.now) (F.opens folder.now path.now) (B.firm desk.new) (W.contents writer.old) (W.contents writer.new) result }
     ensures sound { B.clean desk.new → FirmSound (B.firm desk.new) }
     ensures was_clean { B.clean desk.new → B.clean desk.old }
 {
@@ -52,8 +52,9 @@ fn import_file<F: Folder, W: Write, B: Book>(
 }
 
 /// Runs what the program's words ask for, its name first among them, over a desk, with `reader` and `writer` for
-/// standard input and output. Where the command line is at fault nothing is read, run or written; else the
-/// outcome is that of the sheet's or the statement's end, or `FileFault` where the statement can't be opened.
+/// standard input and output. Where the command line is at fault nothing is read, run or written; nor where a
+/// growth was refused before its plan was known, and the outcome is `MemoryFault` then. Else the outcome is that of
+/// the sheet's or the statement's end, or `FileFault` where the statement can't be opened.
 pub fn run_words<'a, R: Read, F: Folder, W: Write, B: Book>(
     alloc: Global,
     words: &'a [&'a str],
@@ -71,7 +72,7 @@ pub fn run_words<'a, R: Read, F: Folder, W: Write, B: Book>(
     ensures unasked { result ≡ Outcome.CommandLine → desk.new ≡ desk.old }
     ensures meant { HasBegun result → (today : ℕ) × (task : Task) × Means (words_of words.entry.now) today task }
     ensures ends { B.clean desk.new → result ≢ Outcome.CommandLine
-        → Ran (words_of words.entry.now) (R.remaining reader.old) (F.known folder.now) (B.firm desk.old) (B.firm desk.new) (W.contents writer.old) (W.contents writer.new) result }
+        → Ran (words_of words.entry.now) (R.remaining reader.old) (F.known folder.now) (F.opens folder.now) (B.firm desk.old) (B.firm desk.new) (W.contents writer.old) (W.contents writer.new) result }
     ensures sound { B.clean desk.new → FirmSound (B.firm desk.new) }
     ensures was_clean { B.clean desk.new → B.clean desk.old }
 {
@@ -102,7 +103,7 @@ pub fn run_in_memory<'a, R: Read, F: Folder, W: Write>(
 
     // The firm that is left is sound, as it is after each record and each line of a statement.
     ensures ends { result ≢ Outcome.CommandLine → (after : Firm) × FirmSound after
-        × Ran (words_of words.entry.now) (R.remaining reader.old) (F.known folder.now) empty_firm after (W.contents writer.old) (W.contents writer.new) result }
+        × Ran (words_of words.entry.now) (R.remaining reader.old) (F.known folder.now) (F.opens folder.now) empty_firm after (W.contents writer.old) (W.contents writer.new) result }
 {
     let mut desk = Desk::new(PlainBook::new(alloc));
     run_words(alloc, words, reader, folder, writer, &mut desk)
@@ -126,9 +127,11 @@ mod tests {
     impl Folder for TrialFolder {
         type File = TrialReader<'static>;
 
-        ghost use Rattle.std.specs.Prelude.{None};
+        ghost use Rattle.std.specs.Prelude.{◌≡◌, None, option_map};
 
         ghost known = { λ _ _. None };
+
+        ghost opens = { λ folder _ told. told ≡ option_map (λ _. folder.length) folder.bytes };
 
         fn open(&self, _path: &str) -> Option<Opened<TrialReader<'static>>> {
             let bytes = self.bytes?;

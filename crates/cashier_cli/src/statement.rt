@@ -21,7 +21,7 @@ use trust_store::Book;
 /// How the import of a statement ended.
 #[derive(Clone, Copy, PartialEq, Eq, Debug)]
 pub enum StatementEnd {
-    /// Each item was applied, and the counts were written.
+    /// Each item was taken, and the counts were written.
     Done,
     /// The statement was refused: its header is another, or it is too large. Where its length told so, none of its
     /// items was applied.

@@ -7,7 +7,7 @@ pub enum ReadFault {
     BadHeader,
     /// The statement has more than 4,194,304 bytes.
     Limit,
-    /// A read failed.
+    /// A read failed, an interrupted one too.
     Reader,
     /// A growth was refused.
     Memory,

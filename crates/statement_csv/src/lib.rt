@@ -4,6 +4,7 @@
 mod fault;
 mod header;
 mod item;
+pub mod laws;
 mod limited;
 mod line;
 mod lines;

@@ -34,7 +34,7 @@ enum Course {
 }
 
 /// A reader of the bytes of a statement, of at most 4,194,304 bytes. At one byte more, and where a read of the
-/// reader underneath fails, it answers an error, and the same from then on with no further read.
+/// reader underneath fails, it answers an error, and an error from then on with no further read.
 ///
 /// Contracts see it as the bytes that are left, where the reader tells them.
 #[derive(Drop)]

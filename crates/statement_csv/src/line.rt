@@ -1,7 +1,6 @@
 // The lines of a statement.
 
-ghost use Rattle.std.specs.Prelude.{◌≡◌, IfOk, []};
-ghost use Rattle.std.specs.Prelude.{get_or};
+ghost use Rattle.std.specs.Prelude.{◌≡◌, IfOk, [], get_or};
 ghost use Rattle.csv.specs.Records.{fields_of};
 ghost use Rattle.statement_csv.specs.Lines.{line_of, line_of_texts};
 

@@ -94,6 +94,7 @@ fn read_row<R: Read, K: Whole>(
     let Ok(found) = records.read_byte_record(row) else {
         return Err(cause(records.get_ref()));
     };
+    // `csv` finds no record only where its reader ended, but its contract does not say so.
     if !found && !records.get_ref().has_ended() {
         return Err(ReadFault::Memory);
     }
@@ -217,6 +218,7 @@ impl<R: Read, K: Whole> Lines<R, K> {
                     self.stage = Stage::Items;
                     Ok(Some(item))
                 }
+                // Never: a statement has fewer records than bytes.
                 None => {
                     self.stage = Stage::Stopped(ReadFault::Memory);
                     Err(ReadFault::Memory)

@@ -1,4 +1,4 @@
--- The ranges of amounts, matters and days.
+-- The ranges of amounts, bank amounts, matters, entries and days, and the texts of persons, labels and banks.
 use Rattle.std.specs.Prelude.{◌≤◌, ◌/◌, ◌%◌, ℕ, ℤ, pos, unsigned_abs, List, Bool, ◌&&◌, nat_le, IsTrue}
 use Rattle.jiff.specs.Words.{days_in_month}
 use Rattle.trust_base.specs.Names.{is_person_text, is_label_text}
@@ -11,10 +11,6 @@ MIN_AMOUNT = 1
 -- the greatest amount, in cents
 abbrev pub MAX_AMOUNT : ℕ
 MAX_AMOUNT = 99999999999
-
--- the greatest whole part of an amount, in dollars
-abbrev pub MAX_WHOLE : ℕ
-MAX_WHOLE = 999999999
 
 -- an amount, in cents
 abbrev pub IsAmount : ℕ → Type 0

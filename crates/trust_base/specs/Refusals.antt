@@ -11,7 +11,7 @@ use Rattle.trust_base.specs.declared.refusal.Rule.TheVariants as rules
 use Rattle.trust_base.specs.declared.refusal.Refusal.{Refusal}
 use Rattle.trust_base.specs.declared.refusal.Refusal.TheVariants.{BadMessage, LengthRequired, TooLarge, NoRoute, BadMethod, NoCaller, BadField, NoMatter, Purged, NotAllowed, AlreadyOpen, Closed, DateBackwards, WrongNumber, NoEntry, WrongKind, WrongState, PayeeIsCash, WrongPayee, BadSplit, Short, SeatTaken, NoSeat, LastLawyer, NotEmpty, TooEarly, NoStatement, PeriodPurged, Store, Memory}
 
--- refusals are tried in the order of their numbers
+-- from 4 to 28 refusals are tried in the order of their numbers; 1 to 3 as the message is read; 29 and 30 may come at any point
 abbrev pub number_of : Refusal → ℕ
 number_of BadMessage = 1
 number_of LengthRequired = 2
@@ -147,7 +147,7 @@ abbrev pub refused_by : StoreFault → Refusal
 refused_by faults.Store = Store
 refused_by faults.Memory = Memory
 
--- only a call of the store, or a growth, can bring these
+-- only a call of the store, a stored row that stands for nothing, or a growth can bring these
 abbrev pub is_fault : Refusal → Bool
 is_fault Store = true
 is_fault Memory = true

@@ -38,7 +38,7 @@ date_text y m d = fixed_digits 4 y ++ 45 ∷ (fixed_digits 2 m ++ 45 ∷ fixed_d
 abbrev pub day_text : ℕ → List ℕ
 day_text n = date_text (year_of n) (month_of n) (month_day_of n)
 
--- neither empty nor with a sign, and a zero only alone
+-- neither empty nor with a plus sign, and a zero only alone
 abbrev pub starts_plainly : List ℕ → Bool
 starts_plainly bs = not (length bs == 0) && not (slice_index bs 0 == 43) && (not (slice_index bs 0 == 48) || (length bs == 1))
 

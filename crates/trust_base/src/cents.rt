@@ -5,10 +5,13 @@ ghost use Rattle.std.specs.Fmt.{decimal};
 ghost use Rattle.trust_base.specs.Limits.{IsAmount};
 ghost use Rattle.trust_base.specs.Texts.{amount_of, amount_text, end_text, starts_plainly};
 
+use crate::write_amount;
 use std::alloc::AllocError;
 use std::marker::Model;
 
 /// An amount of whole cents, from 1 to 99,999,999,999: 0.01 to 999999999.99 dollars.
+///
+/// Contracts see it as the number of cents.
 #[derive(Clone, Copy, PartialEq, Eq, PartialOrd, Ord, Debug)]
 pub struct Cents {
     value: u64,
@@ -24,7 +27,7 @@ impl Model for Cents {
     ghost inverse = { λ n. record { value = n } };
 }
 
-// Whether a text may start a number without leading zeros and without a sign.
+// Whether a text may start a number without leading zeros and without a plus sign; the parse refuses a minus sign.
 fn is_plain(text: &[u8]) -> bool
     ensures { result ≡ starts_plainly text.now }
 {
@@ -69,8 +72,9 @@ fn read_end(end: &[u8]) -> Option<u64>
     Some((tens - b'0') as u64 * 10 + (ones - b'0') as u64)
 }
 
-/// The cents, also none, of a text of dollars without leading zeros, at most so many, a point and two digits.
-pub fn read_sum(text: &[u8], most: u64) -> Option<u64>
+/// The cents, also none, of a text of dollars without leading zeros, at most `most`, a point and two digits. `most` is
+/// below 10^17.
+pub(crate) fn read_sum(text: &[u8], most: u64) -> Option<u64>
     requires { most < 10 ^ 17 }
     ensures range { IfSome result (λ n. n / 100 ≤ most) }
     ensures some { IfSome result (λ n. amount_text n ≡ text.now) }
@@ -136,10 +140,6 @@ impl Cents {
         ensures ok { OnOk result (out.new.items ≡ out.old.items ++ amount_text self) }
         ensures err { OnErr result (out.new.items ≡ out.old.items) }
     {
-        let dollars = self.value / 100;
-        let tens = self.value / 10 % 10;
-        let ones = self.value % 10;
-        let text = format!(in *out.allocator(); "{dollars}.{tens}{ones}")?;
-        out.extend_from_slice(text.as_bytes())
+        write_amount(self.value as i128, out)
     }
 }

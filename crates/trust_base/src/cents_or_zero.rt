@@ -1,7 +1,7 @@
 // Amounts of money, or nothing.
 
-ghost use Rattle.std.specs.Prelude.{Some, ◌≡◌, ◌≢◌, ℕ, ◌++◌, ◌<◌, IfSome, IfNone, OnOk, OnErr};
-ghost use Rattle.trust_base.specs.Limits.{IsAmount, IsAmountOrZero};
+ghost use Rattle.std.specs.Prelude.{Some, ◌≡◌, ◌≢◌, ℕ, ◌++◌, IfSome, IfNone, OnOk, OnErr};
+ghost use Rattle.trust_base.specs.Limits.{IsAmountOrZero};
 ghost use Rattle.trust_base.specs.Texts.{amount_or_zero_of, amount_text};
 
 use crate::cents::read_sum;

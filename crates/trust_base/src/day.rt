@@ -48,8 +48,8 @@ fn date_of(number: u32) -> Option<Date>
     }
 }
 
-/// The ten bytes of the text of a day's number.
-pub fn day_bytes(number: u32) -> [u8; 10]
+/// The ten bytes of the text of a day's number, which is below 100,000,000.
+pub(crate) fn day_bytes(number: u32) -> [u8; 10]
     requires { number < 100_000_000 }
     ensures { result ≡ day_text number }
 {

@@ -1,6 +1,6 @@
 // Numbers of entries.
 
-ghost use Rattle.std.specs.Prelude.{Some, ◌≡◌, ◌≢◌, ℕ, ◌++◌, ◌≤◌, IfSome, IfNone, OnOk, OnErr};
+ghost use Rattle.std.specs.Prelude.{Some, ◌≡◌, ◌≢◌, ℕ, ◌++◌, IfSome, IfNone, OnOk, OnErr};
 ghost use Rattle.trust_base.specs.Limits.{IsEntryNo};
 ghost use Rattle.trust_base.specs.Texts.{entry_of, entry_text};
 

@@ -3,8 +3,8 @@
 ghost use Rattle.std.specs.Prelude.{◌≡◌, ◌≢◌, ℕ, ◌^◌, ◌<◌, ◌≤◌, length, IfSome, IfNone};
 ghost use Rattle.trust_base.specs.Texts.{fixed_digits};
 
-/// The number that a text of digits alone writes.
-pub fn read_fixed(text: &[u8]) -> Option<u32>
+/// The number that a text of digits alone writes, at most nine of them.
+pub(crate) fn read_fixed(text: &[u8]) -> Option<u32>
     requires { length text.now ≤ 9 }
     ensures below { IfSome result (λ n. n < 10 ^ length text.now) }
     ensures some { IfSome result (λ n. fixed_digits (length text.now) n ≡ text.now) }

@@ -18,7 +18,8 @@ pub enum ReadFault {
 
 /// The bytes of a whole input, or none exactly where it has more than `limit` bytes.
 ///
-/// At a fault no more than `limit` bytes were taken from the reader.
+/// `limit` is below 2^63. At most `limit` + 1 reads are made. At a fault no more than `limit` bytes were taken from the
+/// reader; of a longer input up to 4,096 bytes past the limit may have been taken.
 pub fn read_whole<R: Read>(
     alloc: Global,
     reader: &mut R,

@@ -12,11 +12,11 @@ use std::cmp::Ordering;
 pub struct Line {
     /// The day on which the bank booked it.
     pub date: Day,
-    /// What the line is of: a matter and its entry, the firm, or another text.
+    /// What the line is of: a matter and its entry, the firm, a balance (`OPEN`, `CLOSE`), or another text.
     pub reference: BankText,
     /// The bank's own reference.
     pub bank_ref: BankText,
-    /// The amount, or for a balance that balance, in cents.
+    /// The amount, below zero for money that went out, or for a balance that balance, in cents.
     pub amount: BankAmount,
     /// The bank's words.
     pub text: LineText,

@@ -1,6 +1,6 @@
 // Numbers of matters.
 
-ghost use Rattle.std.specs.Prelude.{◌≡◌, ◌≢◌, ℕ, ◌++◌, ◌≤◌, IfSome, IfNone, OnOk, OnErr, Some};
+ghost use Rattle.std.specs.Prelude.{◌≡◌, ◌≢◌, ℕ, ◌++◌, IfSome, IfNone, OnOk, OnErr, Some};
 ghost use Rattle.trust_base.specs.Limits.{IsMatterNo};
 ghost use Rattle.trust_base.specs.Texts.{matter_of, matter_text};
 
@@ -10,6 +10,8 @@ use std::fmt;
 use std::marker::Model;
 
 /// The number of a matter, from 1 to 999999, that the cashier chooses.
+///
+/// Contracts see it as that number.
 #[derive(Clone, Copy, PartialEq, Eq, PartialOrd, Ord, Debug)]
 pub struct MatterNo {
     number: u32,

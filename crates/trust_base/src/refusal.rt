@@ -33,7 +33,7 @@ pub enum Field {
     Description,
     /// The kind of fund that a payment comes from.
     From,
-    /// The entry of that fund.
+    /// The entry of the fund of a payment, or of the fee that is claimed.
     Of,
     /// Who is paid.
     Payee,
@@ -60,26 +60,27 @@ pub enum Field {
 pub enum Rule {
     /// Reading a matter.
     Read,
-    /// Raising and settling a dispute over a fee.
+    /// Raising a claim on a fee; accepting an offer.
     Dispute,
     /// Raising a claim on the general fund.
     Claim,
     /// Proposing a payment.
     Propose,
-    /// What a lawyer signs.
+    /// Approving, declining and voiding payments, earning a fee, offering.
     Sign,
-    /// What the cashier's office does.
+    /// Opening a matter, seats, deposits and their cancelling, awards, closing, purging.
     Office,
-    /// What concerns the firm.
+    /// Statements and all reports of the firm.
     Firm,
 }
 
-/// Why something is not done. Refusals are tried in the order of their numbers.
+/// Why something is not done. From 4 to 28 they are tried in the order of their numbers; 1 to 3 as the message is read;
+/// 29 and 30 may come at any point.
 #[derive(Clone, Copy, Debug, PartialEq, Eq)]
 pub enum Refusal {
     /// 1: a message that is not of its form.
     BadMessage,
-    /// 2: a message without a length.
+    /// 2: a message with a `Transfer-Encoding` field.
     LengthRequired,
     /// 3: a body, sheet or file above its limit.
     TooLarge,
@@ -87,7 +88,7 @@ pub enum Refusal {
     NoRoute,
     /// 5: the path has a route of another method.
     BadMethod,
-    /// 6: it is not told who asks.
+    /// 6: not exactly one caller is named, or not by a name of its form.
     NoCaller,
     /// 7: a field is not of its form.
     BadField(Field),
@@ -107,11 +108,11 @@ pub enum Refusal {
     WrongNumber(Option<EntryNo>),
     /// 15: there is no such entry.
     NoEntry,
-    /// 16: the entry is of another kind.
+    /// 16: the entry named is of another kind, or a claim on a fee where one on the general fund is wanted.
     WrongKind,
     /// 17: the entry is not in the state that it takes.
     WrongState,
-    /// 18: cash may not be paid out.
+    /// 18: the payee or claimant is cash.
     PayeeIsCash,
     /// 19: the fund may not pay this payee.
     WrongPayee,
@@ -133,7 +134,7 @@ pub enum Refusal {
     NoStatement,
     /// 28: a matter of that period was purged.
     PeriodPurged,
-    /// 29: the store refused a statement or a transaction.
+    /// 29: the store refused a statement or a transaction, or a stored row stands for nothing.
     Store,
     /// 30: a growth was refused.
     Memory,

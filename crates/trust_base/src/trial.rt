@@ -48,7 +48,8 @@ impl Read for TrialReader<'_> {
     }
 }
 
-/// A writer that keeps what it is given, some bytes at each call.
+/// A writer that keeps what it is given, some bytes at each call. A write fails also where the growth of what it keeps
+/// is refused.
 #[derive(Drop)]
 pub struct TrialWriter {
     /// What was written.

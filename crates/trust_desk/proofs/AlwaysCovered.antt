@@ -12,6 +12,7 @@ use Rattle.trust_matter.proofs.Steps.{step}
 use Rattle.trust_firm.specs.Firm.{Firm, of, after_edit}
 use Rattle.trust_firm.specs.FirmSound.{FirmSound}
 use Rattle.trust_firm.proofs.Kept.{edit-sound, ledger-least}
+use Rattle.trust_firm.proofs.Lines.{match-sound, stray-stays-sound}
 use Rattle.statement_csv.specs.declared.item.Item.{Item}
 use Rattle.statement_csv.specs.declared.item.Item.TheVariants as item
 use Rattle.trust_desk.specs.declared.requests.Request.TheVariants.{Matter, Import}
@@ -20,8 +21,7 @@ use Rattle.trust_desk.specs.ImportStep.{imported}
 use Rattle.trust_desk.specs.Heard.{Heard, Asks, Unread, asked_on}
 use Rattle.trust_desk.specs.FirmStep.{after_asked, after_ask, firm_step}
 use Rattle.trust_desk.specs.NeverBelowZero.{HasAmounts, IsCovered, AlwaysCoveredBy, IsCoveredIn, NeverBelowZero}
-use Rattle.trust_desk.proofs.Items.{sound-after_stray, sound-after_match}
-use Rattle.trust_desk.proofs.LineFacts.{line-fits}
+use Rattle.trust_desk.proofs.LineFacts.{kept-by_step, line-fits}
 
 pub sound-after_ask : (m : ℕ) (a : Asked) (firm : Firm) → HasAmount a.ask → FirmSound firm → FirmSound (after_ask m a firm)
 sound-after_ask m a firm amount sound = cases (refusal (of m firm) a) refl
@@ -29,7 +29,7 @@ sound-after_ask m a firm amount sound = cases (refusal (of m firm) a) refl
     cases : (o : Option Refusal) → refusal (of m firm) a ≡ o → FirmSound (after_asked o m a firm)
     cases None accepted =
         let s = step (of m firm) a (sound.matters m) amount accepted in
-        edit-sound sound-covered m (edit_on (of m firm) a) (last_after (of m firm).head (edit_on (of m firm) a) a.day) firm sound s.place s.sound s.moved
+        edit-sound sound-covered m (edit_on (of m firm) a) (last_after (of m firm).head (edit_on (of m firm) a) a.day) firm sound (kept-by_step s)
     cases (Some r) told = sound
 
 -- Items.
@@ -38,16 +38,16 @@ sound-after_told : (day : ℕ) (l : BankLine) (e : LineEdit) (firm : Firm) → l
 sound-after_told day l (told.Applied e) firm applied sound =
     let last = last_seen (of l.matter firm).head l.line in
     let s = line-fits (of l.matter firm) l day e (sound.matters l.matter) applied in
-    sound-after_match (after_edit l.matter e last firm) l.line (edit-sound sound-covered l.matter e last firm sound s.place s.sound s.moved)
-sound-after_told day l told.Repeat firm repeat sound = sound-after_match firm l.line sound
-sound-after_told day l (told.Unmatched r) firm unmatched sound = sound-after_stray firm l.line sound
+    match-sound l.line (after_edit l.matter e last firm) (edit-sound sound-covered l.matter e last firm sound s)
+sound-after_told day l told.Repeat firm repeat sound = match-sound l.line firm sound
+sound-after_told day l (told.Unmatched r) firm unmatched sound = stray-stays-sound l.line firm sound
 
 pub sound-after_item : (day : ℕ) (firm : Firm) (it : Item) → FirmSound firm → FirmSound (after_item day firm it)
-sound-after_item day firm (item.Opening line) sound = sound-after_stray firm line sound
-sound-after_item day firm (item.Closing line) sound = sound-after_stray firm line sound
+sound-after_item day firm (item.Opening line) sound = stray-stays-sound line firm sound
+sound-after_item day firm (item.Closing line) sound = stray-stays-sound line firm sound
 sound-after_item day firm (item.OfMatter l) sound = sound-after_told day l (line_on (of l.matter firm) l day) firm refl sound
-sound-after_item day firm (item.OfFirm line) sound = sound-after_stray firm line sound
-sound-after_item day firm (item.Stray line) sound = sound-after_stray firm line sound
+sound-after_item day firm (item.OfFirm line) sound = stray-stays-sound line firm sound
+sound-after_item day firm (item.Stray line) sound = stray-stays-sound line firm sound
 sound-after_item day firm (item.Unreadable number) sound = sound
 
 pub sound-after_items : (day : ℕ) (firm : Firm) (items : List Item) → FirmSound firm → FirmSound (after_items day firm items)

@@ -1,7 +1,8 @@
 -- What becomes of a line that was decided on by what was read of its matter.
-use Rattle.std.proofs.Common.{◌≡◌, ℕ, false, Ok, Err, refl, sym, ap, ◌∙◌, arith}
-use Rattle.std.specs.Prelude.{◌==◌}
+use Rattle.std.proofs.Common.{◌≡◌, ℕ, false, Result, Ok, Err, refl, sym, ap, ◌∙◌, subst, arith}
+use Rattle.std.specs.Prelude.{◌==◌, IfOk, OnErr}
 use Rattle.std.proofs.lemmas.Bool.Decides.{nat_tests}
+use Rattle.trust_base.specs.declared.line.Line.{Line}
 use Rattle.trust_base.specs.declared.refusal.StoreFault.{StoreFault}
 use Rattle.trust_base.specs.declared.refusal.StoreFault.TheVariants as faults
 use Rattle.trust_matter.specs.declared.bank_line.BankLine.{BankLine}
@@ -10,12 +11,13 @@ use Rattle.trust_matter.specs.declared.line_verdict.LineVerdict.{LineVerdict}
 use Rattle.trust_matter.specs.declared.line_verdict.LineVerdict.TheVariants as verdict
 use Rattle.trust_matter.specs.Rows.{Rows}
 use Rattle.trust_matter.specs.LineStep.{LineDecides, IsLineChange, line_on}
-use Rattle.trust_matter.proofs.Covered.{sound-covered}
 use Rattle.trust_firm.specs.Firm.{Firm, of, after_edit, after_match, after_line, after_stray}
 use Rattle.trust_firm.specs.FirmSound.{FirmSound}
 use Rattle.trust_firm.proofs.Changed.{changes-no_other}
-use Rattle.trust_firm.proofs.Kept.{stays-sound}
+use Rattle.trust_firm.proofs.Lines.{stray-stays-sound}
 use Rattle.trust_store.specs.Books.{counted_fault}
+use Rattle.trust_desk.specs.declared.importing.Counted.{Counted}
+use Rattle.trust_desk.specs.declared.importing.Counted.TheVariants as counted
 use Rattle.trust_desk.specs.ItemStep.{after_told, counted_as, counted_verdict}
 
 -- A verdict.
@@ -44,19 +46,12 @@ decision-uncounted rows l day faults.Store n d = absurd d
 
 -- What is written of a line.
 
--- exceptions are no matter's rows, and move nothing
-pub sound-after_stray : (firm : Firm) (line : _) → FirmSound firm → FirmSound (after_stray line firm)
-sound-after_stray firm line s = record { matters = s.matters; events = s.events; own = s.own; ledgers = s.ledgers; covered = s.covered }
-
-pub sound-after_match : (firm : Firm) (line : _) → FirmSound firm → FirmSound (after_match line firm)
-sound-after_match firm line s = record { matters = s.matters; events = s.events; own = s.own; ledgers = s.ledgers; covered = s.covered }
-
-pub sound-after_line : (firm : Firm) (l : BankLine) (v : LineVerdict) → FirmSound firm → IsLineChange (of l.matter firm) v → FirmSound (after_line l v firm)
-sound-after_line firm l (verdict.Applied c) s is = sound-after_match _ l.line (stays-sound sound-covered l.matter c firm s is)
-sound-after_line firm l verdict.Repeat s is = sound-after_match firm l.line s
-sound-after_line firm l (verdict.Unmatched r) s is = sound-after_stray firm l.line s
-
 pub other-after_line : (n : ℕ) (firm : Firm) (l : BankLine) (v : LineVerdict) → (l.matter == n) ≡ false → of n (after_line l v firm) ≡ of n firm
 other-after_line n firm l (verdict.Applied c) apart = changes-no_other n l.matter c firm (λ same. absurd (grind (arith, nat_tests)))
 other-after_line n firm l verdict.Repeat apart = refl
 other-after_line n firm l (verdict.Unmatched r) apart = refl
+
+-- a line that was kept, or not, leaves the firm sound
+pub sound-stray : (line : Line) (firm new : Firm) (r : Result Counted StoreFault) → FirmSound firm → IfOk r (λ c. (c ≡ counted.Exception) × (new ≡ after_stray line firm)) → OnErr r (new ≡ firm) → FirmSound new
+sound-stray line firm new (Ok c) sound kept same = subst FirmSound (sym kept.1) (stray-stays-sound line firm sound)
+sound-stray line firm new (Err fault) sound kept same = subst FirmSound (sym same) sound

@@ -2,6 +2,7 @@ pub mod TextFacts
 pub mod ObjectFacts
 pub mod Refused
 pub mod Items
+pub mod Counting
 pub mod ItemsRead
 pub mod OwnItems
 pub mod Own

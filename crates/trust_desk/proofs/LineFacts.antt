@@ -8,27 +8,24 @@ use Rattle.trust_matter.specs.Rows.{Rows}
 use Rattle.trust_matter.specs.Sound.{Sound}
 use Rattle.trust_matter.specs.Facts.{Asked}
 use Rattle.trust_matter.specs.Conditions.{number_made}
-use Rattle.trust_matter.specs.Changes.{IsPlace, AreMoved, movement_of, changed_by}
 use Rattle.trust_matter.specs.Step.{refusal, rows_after}
 use Rattle.trust_matter.specs.Laws.{Doing, AnAsk, ALine, all_after, IsSameLine, IsSpent}
 use Rattle.trust_matter.proofs.LineSteps.{applied-step}
+use Rattle.trust_matter.proofs.StepForms.{IsStepOf}
 use Rattle.trust_matter.proofs.LineRepeats.{line-at-most-once}
 use Rattle.trust_matter.proofs.Repeats.{at-most-once}
 use Rattle.trust_matter.specs.LineStep.{line_on, last_seen, rows_after_line, IsApplied}
+use Rattle.trust_firm.proofs.Kept.{IsKept}
 use Rattle.trust_desk.specs.Heard.{Own, OwnAsk, OwnRefusal, OwnLine}
 use Rattle.trust_desk.specs.Solo.{solo_rows}
 
--- an edit that fits, and leaves the rows sound
-pub record IsFit (rows : Rows) (e : Edit) (last : ℕ) : Type 0 where
-  pub place : IsPlace rows e
-  pub sound : Sound (changed_by e last rows)
-  pub moved : AreMoved rows.entries e (movement_of rows.entries e)
+-- the step of an ask or of a line is one that a firm keeps its soundness by
+pub kept-by_step : {rows : Rows} {t n : ℕ} {e : Edit} {last : ℕ} → IsStepOf rows t n e last → IsKept rows e last
+kept-by_step s = record { place = s.place; sound = s.sound; moved = s.moves.moved; not_before = s.not_before; seen = s.seen; dated = s.moves.dated }
 
 -- what a line that is applied edits
-pub line-fits : (rows : Rows) (l : BankLine) (day : ℕ) (e : Edit) → Sound rows → line_on rows l day ≡ told.Applied e → IsFit rows e (last_seen rows.head l.line)
-line-fits rows l day e sound applied =
-    let s = applied-step rows l day e sound applied in
-    record { place = s.place; sound = s.sound; moved = s.moved }
+pub line-fits : (rows : Rows) (l : BankLine) (day : ℕ) (e : Edit) → Sound rows → line_on rows l day ≡ told.Applied e → IsKept rows e (last_seen rows.head l.line)
+line-fits rows l day e sound applied = kept-by_step (applied-step rows l day e sound applied)
 
 -- what comes to a matter, as doings of its own machine
 abbrev doing_of : Own → List Doing

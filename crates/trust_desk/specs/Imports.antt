@@ -16,7 +16,7 @@ use Rattle.trust_desk.specs.declared.importing.ImportStop.{ImportStop}
 use Rattle.trust_desk.specs.declared.importing.ImportStop.TheVariants as stop
 use Rattle.trust_desk.specs.Counts.{counted_refusal}
 use Rattle.trust_desk.specs.ItemStep.{after_item, after_items, counted_of, count_one, counts_after, names_item, none_counted}
-use Rattle.trust_desk.specs.Heard.{own_of_items}
+use Rattle.trust_desk.specs.Heard.{own_of_item, own_of_items}
 use Rattle.trust_desk.specs.Solo.{solo_rows}
 
 -- What a statement has: nothing is known where its reader does not tell its bytes; else it has no items where its header is
@@ -67,6 +67,10 @@ pub record Imports (day : ℕ) (firm : Firm) (told : Told) (result : ImportEnd) 
   pub first : AreFirst told front result.end
   pub leaves : new ≡ after_items day firm front
   pub counts : result.reply ≡ counts_after day firm front none_counted
+
+-- each matter's rows are those that its own machine leaves of an item, if that names it
+abbrev pub LeavesOwnItem : ℕ → Firm → Item → Firm → Type 0
+LeavesOwnItem day firm it new = (m : ℕ) → of m new ≡ solo_rows (of m firm) (own_of_item m day it)
 
 -- each matter's rows are those that its own machine leaves of the lines that name it, of the items that were applied
 pub record LeavesOwn (day : ℕ) (firm : Firm) (told : Told) (result : ImportEnd) (new : Firm) : Type 0 where

@@ -127,7 +127,8 @@ pub fn entry_body(
 }
 
 /// What became of the items of a bank's statement: how many lines were applied, came again or are now exceptions,
-/// how many records could not be read, and the day of the last closing balance that was applied or came again.
+/// how many records could not be read, and the day of the last closing balance that was applied or came again: none as long as
+/// no balances are kept.
 #[derive(Clone, Copy, PartialEq, Eq, Debug)]
 pub struct ImportReply {
     pub applied: u64,

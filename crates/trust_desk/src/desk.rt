@@ -1,6 +1,6 @@
 //! The desk: requests in, replies out, over any book.
 
-ghost use Rattle.std.specs.Prelude.{◌≡◌, ℕ, IfOk, length, take, ◌∷◌, [], false, is_none};
+ghost use Rattle.std.specs.Prelude.{◌≡◌, ℕ, IfOk, length, take, ◌<◌, ◌∷◌, [], false, is_none};
 ghost use Rattle.trust_firm.specs.FirmSound.{FirmSound};
 ghost use Rattle.statement_csv.specs.Items.{items};
 ghost use Rattle.trust_desk.specs.Heard.{Asks, asked_on, heard};
@@ -190,6 +190,7 @@ impl<B: Book> Desk<B> {
         // The replies are those to the first requests.
         ensures run { B.clean self.new → Runs day (B.firm self.old) (heard (take (length result.replies.items) requests.now)) result.replies.items (B.firm self.new) }
         ensures done { result.end ≡ End.Done → length result.replies.items ≡ length requests.now }
+        ensures memory { result.end ≡ End.Memory → length result.replies.items < length requests.now }
         ensures own { B.clean self.new → (m : ℕ) → IsUnstopped m (heard (take (length result.replies.items) requests.now)) result.replies.items
             → IsOwn m day (B.firm self.old) (heard (take (length result.replies.items) requests.now)) result.replies.items (B.firm self.new) }
         ensures sound { B.clean self.new → FirmSound (B.firm self.new) }

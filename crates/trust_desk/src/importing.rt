@@ -17,7 +17,7 @@ ghost use Rattle.trust_firm.specs.FirmSound.{FirmSound};
 ghost use Rattle.trust_store.specs.Books.{counted};
 ghost use Rattle.trust_store.specs.Named.{IsPartFor};
 ghost use Rattle.trust_desk.specs.Counts.{counted_refusal};
-ghost use Rattle.trust_desk.specs.Imports.{AreBelow, CountsOne, Imports, IsStop, KeepsAllUnnamed, LeavesOwn, TakesOne, counted_if, counted_stop, stop_of};
+ghost use Rattle.trust_desk.specs.Imports.{AreBelow, CountsOne, Imports, IsStop, KeepsAllUnnamed, LeavesOwn, LeavesOwnItem, TakesOne, counted_if, counted_stop, stop_of};
 ghost use Rattle.trust_desk.specs.ItemStep.{KeepsUnnamed, after_item, count_one, counted_of, counted_verdict, none_counted};
 
 use crate::bodies::ImportReply;
@@ -139,6 +139,8 @@ impl<B: Book> Desk<B> {
         requires { B.clean self.old → FirmSound (B.firm self.old) }
         ensures step { B.clean self.new → IfOk result (λ c. (c ≡ counted_of day (B.firm self.old) item.now) × (B.firm self.new ≡ after_item day (B.firm self.old) item.now)) }
         ensures err { B.clean self.new → OnErr result (B.firm self.new ≡ B.firm self.old) }
+        // Each matter hears of it the line that names it, and else nothing.
+        ensures own { B.clean self.new → IfOk result (λ _. LeavesOwnItem day (B.firm self.old) item.now (B.firm self.new)) }
         ensures others { B.clean self.new → KeepsUnnamed (B.firm self.old) item.now (B.firm self.new) }
         ensures sound { B.clean self.new → FirmSound (B.firm self.new) }
         ensures was_clean { B.clean self.new → B.clean self.old }

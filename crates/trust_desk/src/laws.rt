@@ -2,6 +2,7 @@
 
 ghost use Rattle.trust_desk.specs.BodyLaws.{EntryReadsBack, ImportReadsBack, MatterReadsBack, ReceiptReadsBack};
 ghost use Rattle.trust_desk.specs.Isolation.{EachMatterOwn, SameForTheMatter};
+ghost use Rattle.trust_desk.specs.ItemStep.{EveryItemIsCounted};
 ghost use Rattle.trust_desk.specs.NeverBelowZero.{NeverBelowZero};
 ghost use Rattle.trust_desk.specs.OnceOnly.{LineOnceOnly, OnceOnly};
 
@@ -35,4 +36,9 @@ pub fn never_below_zero()
 pub fn once_only()
     ensures asks { OnceOnly }
     ensures lines { LineOnceOnly }
+{}
+
+/// Each item of an import is counted, once, as applied, repeated, an exception or unreadable.
+pub fn every_item_is_counted()
+    ensures { EveryItemIsCounted }
 {}

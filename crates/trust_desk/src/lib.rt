@@ -10,7 +10,7 @@ mod json_text;
 pub mod laws;
 mod planning;
 mod receipts;
-pub mod requests;
+mod requests;
 mod texts;
 
 pub use bodies::{ImportReply, entry_body, import_body, matter_body, receipt_body};

@@ -1,24 +1,28 @@
 -- A change of a sound firm leaves it sound.
-use Rattle.std.proofs.Common.{◌≡◌, ◌≢◌, ℕ, ◌+◌, ◌<◌, ◌≤◌, Bool, true, false, List, [], ◌∷◌, ◌++◌, length, take, Option, Some, None, refl, sym, ap, ◌∙◌, subst, arith, append-nil, length-append, ◌⊎◌, inl, inr}
+use Rattle.std.proofs.Common.{◌≡◌, ◌≢◌, ℕ, ◌+◌, ◌<◌, ◌≤◌, Bool, true, false, List, [], ◌∷◌, ◌++◌, length, take, Option, Some, None, refl, sym, ap, ◌∙◌, subst, arith, rules, append-nil, length-append, ◌⊎◌, inl, inr}
 use Rattle.std.specs.Prelude.{pos, ◌+ℤ◌, ◌≤ℤ◌, ◌==◌}
 use Rattle.std.proofs.lemmas.Int.{ints}
 use Rattle.std.proofs.lemmas.Bool.{cases_lt}
 use Rattle.std.proofs.lemmas.Bool.Decides.{nat_tests}
+use Rattle.std.proofs.Math.Seq.{take-nil}
 use Rattle.std.proofs.lemmas.List.{take-append-le, take_all}
+use Rattle.std.specs.List.Sorted.{IsStrictlySortedBy}
 use Rattle.trust_matter.specs.declared.edits.Edit.{Edit}
 use Rattle.trust_matter.specs.declared.edits.Edit.TheVariants as edit
 use Rattle.trust_matter.specs.declared.change.Movement as change
-use Rattle.trust_matter.specs.Rows.{Rows, entry_at}
+use Rattle.trust_matter.specs.Rows.{Rows, unopened, entry_at, last_of}
 use Rattle.trust_matter.specs.Balances.{ledger}
 use Rattle.trust_matter.specs.Events.{events_in}
 use Rattle.trust_matter.specs.Sound.{Sound}
 use Rattle.trust_matter.specs.Laws.{Covered}
-use Rattle.trust_matter.specs.Changes.{changed_by, movement_of, AreMoved, IsPlace}
+use Rattle.trust_matter.specs.Changes.{changed_by, movement_of, AreMoved, IsMovedWithin, IsPlace}
 use Rattle.trust_firm.specs.declared.movement.Movement.{Movement}
-use Rattle.trust_firm.specs.Firm.{Firm, of, joined_movement, moved_by, rewritten_by, after_edit}
-use Rattle.trust_firm.specs.Journal.{events_moved, firm_events, amount_for, moved_for}
-use Rattle.trust_firm.specs.FirmSound.{FirmSound, StaysSound}
+use Rattle.trust_firm.specs.Firm.{Firm, empty_firm, of, joined_movement, moved_by, rewritten_by, after_edit}
+use Rattle.trust_firm.specs.Journal.{events_moved, firm_events, days_moved, amount_for, moved_for}
+use Rattle.trust_firm.specs.FirmSound.{AreMovedInTime, FirmSound, StaysSound}
 use Rattle.trust_firm.proofs.Sums.{sum-append}
+use Rattle.trust_firm.proofs.InTime.{RiseTo, days-same, rise-own}
+use Rattle.trust_firm.proofs.Order.{in_order-rewritten_by}
 use Rattle.trust_firm.proofs.Changed.{edit-cases, of-rewritten_by, of_other-rewritten_by}
 use Rattle.trust_firm.proofs.Told.{events-append, firm-append, joined-other, joined-firm, moved-other, events-told, ledger-told}
 
@@ -43,7 +47,16 @@ covered-more k m xs n (Some v) so_far whole = cases (take-more xs _ n)
     cases (inl is) = subst (λ (ys : List Movement). pos 0 ≤ℤ moved_for k ys) (sym is) (so_far n)
     cases (inr is) = subst (λ (ys : List Movement). pos 0 ≤ℤ moved_for k ys) (sym is) whole
 
-module _ (m : ℕ) (e : Edit) (last : ℕ) (firm : Firm) (sound : FirmSound firm) (place : IsPlace (of m firm) e) (left : Sound (changed_by e last (of m firm))) (are_moved : AreMoved (of m firm).entries e (movement_of (of m firm).entries e)) where
+-- an edit that fits these rows and leaves them sound, and what it moves, which is not before their last day
+pub record IsKept (rows : Rows) (e : Edit) (last : ℕ) : Type 0 where
+  pub place : IsPlace rows e
+  pub sound : Sound (changed_by e last rows)
+  pub moved : AreMoved rows.entries e (movement_of rows.entries e)
+  pub not_before : last_of rows.head ≤ last
+  pub seen : last_of (changed_by e last rows).head ≡ last
+  pub dated : IsMovedWithin (last_of rows.head) last (movement_of rows.entries e)
+
+module _ (m : ℕ) (e : Edit) (last : ℕ) (firm : Firm) (sound : FirmSound firm) (is : IsKept (of m firm) e last) where
   abbrev old : Rows
   old = of m firm
 
@@ -57,7 +70,7 @@ module _ (m : ℕ) (e : Edit) (last : ℕ) (firm : Firm) (sound : FirmSound firm
   matters k = cases (k == m) refl
     where
       cases : (b : Bool) → (k == m) ≡ b → Sound (of k after)
-      cases true same_test = let same : k ≡ m = grind (arith, nat_tests) in subst Sound (sym (ap (λ n. of n after) same ∙ own)) left
+      cases true same_test = let same : k ≡ m = grind (arith, nat_tests) in subst Sound (sym (ap (λ n. of n after) same ∙ own)) is.sound
       cases false other_test = let apart : k ≢ m = grind (arith, nat_tests) in subst Sound (sym (of_other-rewritten_by k m e last firm apart)) (sound.matters k)
 
   events : (k n : ℕ) → events_moved k n after.movements ≡ events_in (entry_at (of k after).entries n)
@@ -68,7 +81,7 @@ module _ (m : ℕ) (e : Edit) (last : ℕ) (firm : Firm) (sound : FirmSound firm
           let same : k ≡ m = grind (arith, nat_tests) in
           let here : events_moved m n firm.movements ++ events_moved m n (moved_by m e old) ≡ events_in (entry_at (of m after).entries n) =
           ap (λ xs. xs ++ events_moved m n (moved_by m e old)) (sound.events m n)
-          ∙ (sym (events-told m old e n place are_moved) ∙ ap (λ (r : Rows). events_in (entry_at r.entries n)) (sym own)) in
+          ∙ (sym (events-told m old e n is.place is.moved) ∙ ap (λ (r : Rows). events_in (entry_at r.entries n)) (sym own)) in
           subst (λ j. events_moved j n firm.movements ++ events_moved j n (moved_by m e old) ≡ events_in (entry_at (of j after).entries n)) (sym same) here
       cases false other_test =
           let apart : k ≢ m = grind (arith, nat_tests) in
@@ -78,6 +91,24 @@ module _ (m : ℕ) (e : Edit) (last : ℕ) (firm : Firm) (sound : FirmSound firm
   own_money : firm_events after.movements ≡ []
   own_money = firm-append firm.movements (moved_by m e old) ∙ (λ i. sound.own i ++ joined-firm m (movement_of old.entries e) i)
 
+  in_time : (k : ℕ) → AreMovedInTime k after
+  in_time k = cases (k == m) refl
+    where
+      cases : (b : Bool) → (k == m) ≡ b → AreMovedInTime k after
+      cases true same_test =
+          let same : k ≡ m = grind (arith, nat_tests) in
+          let before = sound.in_time m in
+          let rise : RiseTo last (days_moved m after.movements) = rise-own m (last_of old.head) last firm.movements (movement_of old.entries e) (before.rising, before.by_last) is.not_before is.dated in
+          let seen : last_of (of m after).head ≡ last = ap (λ (r : Rows). last_of r.head) own ∙ is.seen in
+          let by_last = (subst (λ n. RiseTo n (days_moved m after.movements)) (sym seen) rise).1 in
+          subst (λ j. AreMovedInTime j after) (sym same) (record { rising = rise.0; by_last = by_last })
+      cases false other_test =
+          let apart : k ≢ m = grind (arith, nat_tests) in
+          let before = sound.in_time k in
+          let rise : RiseTo (last_of (of k firm).head) (days_moved k after.movements) = subst (RiseTo (last_of (of k firm).head)) (sym (days-same m k firm.movements (movement_of old.entries e) apart)) (before.rising, before.by_last) in
+          let same : last_of (of k firm).head ≡ last_of (of k after).head = ap (λ (r : Rows). last_of r.head) (sym (of_other-rewritten_by k m e last firm apart)) in
+          record { rising = rise.0; by_last = (subst (λ n. RiseTo n (days_moved k after.movements)) same rise).1 }
+
   ledgers : (k : ℕ) → moved_for k after.movements ≡ ledger (of k after).entries
   ledgers k = sum-append (amount_for k) firm.movements (moved_by m e old) ∙ cases (k == m) refl
     where
@@ -86,7 +117,7 @@ module _ (m : ℕ) (e : Edit) (last : ℕ) (firm : Firm) (sound : FirmSound firm
           let same : k ≡ m = grind (arith, nat_tests) in
           let here : moved_for m firm.movements +ℤ moved_for m (moved_by m e old) ≡ ledger (of m after).entries =
           ap (λ z. z +ℤ moved_for m (moved_by m e old)) (sound.ledgers m)
-          ∙ (sym (ledger-told m old e place are_moved) ∙ ap (λ (r : Rows). ledger r.entries) (sym own)) in
+          ∙ (sym (ledger-told m old e is.place is.moved) ∙ ap (λ (r : Rows). ledger r.entries) (sym own)) in
           subst (λ j. moved_for j firm.movements +ℤ moved_for j (moved_by m e old) ≡ ledger (of j after).entries) (sym same) here
       cases false other_test =
           let apart : k ≢ m = grind (arith, nat_tests) in
@@ -98,16 +129,51 @@ module _ (m : ℕ) (e : Edit) (last : ℕ) (firm : Firm) (sound : FirmSound firm
   covered law k n = covered-more k m firm.movements n (movement_of old.entries e) (sound.covered k) (subst (λ z. pos 0 ≤ℤ z) (sym (ledgers k)) (ledger-least law (of k after) (matters k)))
 
   pub sound-rewritten : Covered → FirmSound after
-  sound-rewritten law = record { matters = matters; events = events; own = own_money; ledgers = ledgers; covered = covered law }
+  sound-rewritten law = record {
+    in_order = in_order-rewritten_by m e last firm sound.in_order;
+    matters = matters;
+    events = events;
+    own = own_money;
+    in_time = in_time;
+    ledgers = ledgers;
+    covered = covered law;
+  }
 
--- an edit that fits and leaves its matter sound
-pub edit-sound : Covered → (m : ℕ) (e : Edit) (last : ℕ) (firm : Firm) → FirmSound firm → IsPlace (of m firm) e → Sound (changed_by e last (of m firm)) → AreMoved (of m firm).entries e (movement_of (of m firm).entries e) → FirmSound (after_edit m e last firm)
-edit-sound law m e last firm sound place left are_moved = cases (edit-cases m e last firm)
+pub edit-sound : Covered → (m : ℕ) (e : Edit) (last : ℕ) (firm : Firm) → FirmSound firm → IsKept (of m firm) e last → FirmSound (after_edit m e last firm)
+edit-sound law m e last firm sound is = cases (edit-cases m e last firm)
   where
     cases : (e ≡ edit.Nothing) × (after_edit m e last firm ≡ firm) ⊎ (after_edit m e last firm ≡ rewritten_by m e last firm) → FirmSound (after_edit m e last firm)
     cases (inl same) = subst FirmSound (sym same.1) sound
-    cases (inr to) = subst FirmSound (sym to) (sound-rewritten m e last firm sound place left are_moved law)
+    cases (inr to) = subst FirmSound (sym to) (sound-rewritten m e last firm sound is law)
 
 pub stays-sound : Covered → StaysSound
 stays-sound law m change firm sound is =
-    edit-sound law m change.edit change.last firm sound is.place is.sound (subst (λ o. AreMoved (of m firm).entries change.edit o) is.movement is.moved)
+    edit-sound law m change.edit change.last firm sound (record {
+      place = is.place;
+      sound = is.sound;
+      moved = subst (λ o. AreMoved (of m firm).entries change.edit o) is.movement is.moved;
+      not_before = is.not_before;
+      seen = is.seen;
+      dated = subst (λ o. IsMovedWithin (last_of (of m firm).head) change.last o) is.movement is.dated;
+    })
+
+-- A firm without rows.
+
+pub unopened-sound : Sound unopened
+unopened-sound = record {
+  backed = record { few = omega arith; ranged = tt; named = tt; available = search rules; left = λ n e there. absurd (cc) };
+  seated = tt;
+  headed = (refl, refl);
+}
+
+pub empty-sound : FirmSound empty_firm
+unfolding IsStrictlySortedBy
+empty-sound = record {
+  in_order = record { rows = λ m. refl; exceptions = tt };
+  matters = λ m. unopened-sound;
+  events = λ m n. refl;
+  own = refl;
+  in_time = λ m. record { rising = tt; by_last = tt };
+  ledgers = λ m. refl;
+  covered = λ m k. subst (λ (xs : List Movement). pos 0 ≤ℤ moved_for m xs) (sym (take-nil k)) (search rules);
+}

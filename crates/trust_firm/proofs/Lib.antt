@@ -1,4 +1,5 @@
 pub mod Changed
+pub mod InTime
 pub mod Joined
 pub mod Kept
 pub mod Lines

@@ -1,5 +1,5 @@
 -- A line of the bank, the firm's rows and its exceptions.
-use Rattle.std.proofs.Common.{refl}
+use Rattle.std.proofs.Common.{List, refl}
 use Rattle.trust_base.specs.LineOrder.{line_cmp}
 use Rattle.trust_base.specs.declared.line.Line.{Line}
 use Rattle.trust_base.proofs.LineFacts.{line_total, line_same}
@@ -39,20 +39,7 @@ line-changes-no_other n l (verdict.Unmatched r) firm apart = refl
 pub stray-changes-none : StrayChangesNone
 stray-changes-none n line firm = refl
 
--- The firm stays sound.
-
-match-sound : (line : Line) (firm : Firm) → FirmSound firm → FirmSound (after_match line firm)
-match-sound line firm sound = record { matters = sound.matters; events = sound.events; own = sound.own; ledgers = sound.ledgers; covered = sound.covered }
-
-pub stray-stays-sound : StrayStaysSound
-stray-stays-sound line firm sound = record { matters = sound.matters; events = sound.events; own = sound.own; ledgers = sound.ledgers; covered = sound.covered }
-
-pub line-stays-sound : Covered → LineStaysSound
-line-stays-sound law l (verdict.Applied change) firm sound may = match-sound l.line (after_change l.matter change firm) (stays-sound law l.matter change firm sound may)
-line-stays-sound law l verdict.Repeat firm sound may = match-sound l.line firm sound
-line-stays-sound law l (verdict.Unmatched r) firm sound may = stray-stays-sound l.line firm sound
-
--- And in order.
+-- The firm stays in order.
 
 match-in_order : (line : Line) (firm : Firm) → IsInOrder firm → IsInOrder (after_match line firm)
 match-in_order line firm order = record { rows = order.rows; exceptions = without-sorted line_cmp line_total line_same line firm.exceptions order.exceptions }
@@ -64,3 +51,28 @@ pub line-stays-in_order : LineStaysInOrder
 line-stays-in_order l (verdict.Applied change) firm order = match-in_order l.line (after_change l.matter change firm) (stays-in_order l.matter change firm order)
 line-stays-in_order l verdict.Repeat firm order = match-in_order l.line firm order
 line-stays-in_order l (verdict.Unmatched r) firm order = stray-stays-in_order l.line firm order
+
+-- And sound.
+
+-- exceptions are no matter's rows, and move nothing
+with-exceptions : (firm : Firm) (lines : List Line) → FirmSound firm → IsInOrder (record firm { exceptions = lines }) → FirmSound (record firm { exceptions = lines })
+with-exceptions firm lines sound order = record {
+  in_order = order;
+  matters = sound.matters;
+  events = sound.events;
+  own = sound.own;
+  in_time = λ m. record { rising = (sound.in_time m).rising; by_last = (sound.in_time m).by_last };
+  ledgers = sound.ledgers;
+  covered = sound.covered;
+}
+
+pub match-sound : (line : Line) (firm : Firm) → FirmSound firm → FirmSound (after_match line firm)
+match-sound line firm sound = with-exceptions firm _ sound (match-in_order line firm sound.in_order)
+
+pub stray-stays-sound : StrayStaysSound
+stray-stays-sound line firm sound = with-exceptions firm _ sound (stray-stays-in_order line firm sound.in_order)
+
+pub line-stays-sound : Covered → LineStaysSound
+line-stays-sound law l (verdict.Applied change) firm sound may = match-sound l.line (after_change l.matter change firm) (stays-sound law l.matter change firm sound may)
+line-stays-sound law l verdict.Repeat firm sound may = match-sound l.line firm sound
+line-stays-sound law l (verdict.Unmatched r) firm sound may = stray-stays-sound l.line firm sound

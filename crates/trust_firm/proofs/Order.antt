@@ -3,13 +3,14 @@ use Rattle.std.proofs.Common.{◌≡◌, ◌≢◌, ℕ, ◌<◌, ◌≤◌, Boo
 use Rattle.std.specs.Prelude.{nat_lt, ◌==◌}
 use Rattle.std.proofs.lemmas.Bool.{cases_lt}
 use Rattle.std.proofs.lemmas.Bool.Decides.{nat_tests}
+use Rattle.trust_matter.specs.declared.edits.Edit.{Edit}
 use Rattle.trust_matter.specs.declared.edits.Edit.TheVariants as edit
 use Rattle.trust_matter.specs.Rows.{Rows}
-use Rattle.trust_matter.specs.Changes.{MatterChange, changed}
-use Rattle.trust_firm.specs.Firm.{Row, Firm, of, pairs, put, rewritten, after_change}
+use Rattle.trust_matter.specs.Changes.{changed_by}
+use Rattle.trust_firm.specs.Firm.{Row, Firm, of, pairs, put, rewritten_by, after_change}
 use Rattle.trust_firm.specs.FirmSound.{IsInOrder, StaysInOrder}
 use Rattle.trust_firm.proofs.Joined.{passing, passing-append, passing_twice, passing_never, passing_swap, pairs_pass, pairs_fail}
-use Rattle.trust_firm.proofs.Changed.{after-cases, of-rewritten, of_other-rewritten}
+use Rattle.trust_firm.proofs.Changed.{edit-cases, of-rewritten_by, of_other-rewritten_by}
 
 -- the pairs of lesser numbers, and those of greater
 abbrev before : ℕ → List (ℕ × Row) → List (ℕ × Row)
@@ -72,24 +73,24 @@ put-other k m own rows xs apart is = cases (cases_lt k m)
         put-rear k own low (pairs m rows ++ behind m xs) all none
         ∙ ap (λ ys. low ++ ys) (put-rear k own (pairs m rows) (behind m xs) all_own none_own ∙ ap (λ ys. pairs m rows ++ ys) (put-passing k own (λ x. nat_lt m x) xs (grind (arith, nat_tests)) is))
 
-rows-rewritten : (m : ℕ) (change : MatterChange) (firm : Firm) → IsInOrder firm → (k : ℕ) → put k (of k (rewritten m change firm)) (rewritten m change firm).rows ≡ (rewritten m change firm).rows
-rows-rewritten m change firm order k = cases (k == m) refl
+rows-rewritten_by : (m : ℕ) (e : Edit) (last : ℕ) (firm : Firm) → IsInOrder firm → (k : ℕ) → put k (of k (rewritten_by m e last firm)) (rewritten_by m e last firm).rows ≡ (rewritten_by m e last firm).rows
+rows-rewritten_by m e last firm order k = cases (k == m) refl
   where
-    cases : (b : Bool) → (k == m) ≡ b → put k (of k (rewritten m change firm)) (put m (changed change (of m firm)) firm.rows) ≡ put m (changed change (of m firm)) firm.rows
+    cases : (b : Bool) → (k == m) ≡ b → put k (of k (rewritten_by m e last firm)) (put m (changed_by e last (of m firm)) firm.rows) ≡ put m (changed_by e last (of m firm)) firm.rows
     cases true same_test =
         let same : k ≡ m = grind (arith, nat_tests) in
-        let own : of k (rewritten m change firm) ≡ changed change (of m firm) = ap (λ n. of n (rewritten m change firm)) same ∙ of-rewritten m change firm in
-        (λ i. put (same i) (own i) (put m (changed change (of m firm)) firm.rows)) ∙ put-again m (changed change (of m firm)) firm.rows
+        let own : of k (rewritten_by m e last firm) ≡ changed_by e last (of m firm) = ap (λ n. of n (rewritten_by m e last firm)) same ∙ of-rewritten_by m e last firm in
+        (λ i. put (same i) (own i) (put m (changed_by e last (of m firm)) firm.rows)) ∙ put-again m (changed_by e last (of m firm)) firm.rows
     cases false other_test =
         let apart : k ≢ m = grind (arith, nat_tests) in
-        ap (λ r. put k r (put m (changed change (of m firm)) firm.rows)) (of_other-rewritten k m change firm apart) ∙ put-other k m (of k firm) (changed change (of m firm)) firm.rows apart (order.rows k)
+        ap (λ r. put k r (put m (changed_by e last (of m firm)) firm.rows)) (of_other-rewritten_by k m e last firm apart) ∙ put-other k m (of k firm) (changed_by e last (of m firm)) firm.rows apart (order.rows k)
 
-in_order-rewritten : (m : ℕ) (change : MatterChange) (firm : Firm) → IsInOrder firm → IsInOrder (rewritten m change firm)
-in_order-rewritten m change firm order = record { rows = rows-rewritten m change firm order; exceptions = order.exceptions }
+pub in_order-rewritten_by : (m : ℕ) (e : Edit) (last : ℕ) (firm : Firm) → IsInOrder firm → IsInOrder (rewritten_by m e last firm)
+in_order-rewritten_by m e last firm order = record { rows = rows-rewritten_by m e last firm order; exceptions = order.exceptions }
 
 pub stays-in_order : StaysInOrder
-stays-in_order m change firm order = cases (after-cases m change firm)
+stays-in_order m change firm order = cases (edit-cases m change.edit change.last firm)
   where
-    cases : (change.edit ≡ edit.Nothing) × (after_change m change firm ≡ firm) ⊎ (after_change m change firm ≡ rewritten m change firm) → IsInOrder (after_change m change firm)
+    cases : (change.edit ≡ edit.Nothing) × (after_change m change firm ≡ firm) ⊎ (after_change m change firm ≡ rewritten_by m change.edit change.last firm) → IsInOrder (after_change m change firm)
     cases (inl same) = subst IsInOrder (sym same.1) order
-    cases (inr is) = subst IsInOrder (sym is) (in_order-rewritten m change firm order)
+    cases (inr is) = subst IsInOrder (sym is) (in_order-rewritten_by m change.edit change.last firm order)

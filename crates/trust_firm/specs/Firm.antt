@@ -116,14 +116,6 @@ after_edit m (edit.Unseat person) last firm = rewritten_by m (edit.Unseat person
 after_edit m (edit.Append entry) last firm = rewritten_by m (edit.Append entry) last firm
 after_edit m (edit.Exchange entry) last firm = rewritten_by m (edit.Exchange entry) last firm
 
--- what a change of these rows of a matter moves
-abbrev pub moved : ℕ → MatterChange → Rows → List Movement
-moved m change rows = moved_by m change.edit rows
-
--- the firm with other rows of a matter, and what was moved
-abbrev pub rewritten : ℕ → MatterChange → Firm → Firm
-rewritten m change firm = rewritten_by m change.edit change.last firm
-
 -- the firm after one change of a matter; where the change is nothing all stays as it is
 abbrev pub after_change : ℕ → MatterChange → Firm → Firm
 after_change m change firm = after_edit m change.edit change.last firm

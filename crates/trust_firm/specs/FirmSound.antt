@@ -1,32 +1,41 @@
 -- What holds of a firm's rows at every moment.
-use Rattle.std.specs.Prelude.{◌≡◌, ◌≢◌, ℕ, [], take, pos, ◌≤ℤ◌}
+use Rattle.std.specs.Prelude.{◌≡◌, ◌≢◌, ℕ, ◌≤◌, [], take, pos, ◌≤ℤ◌}
+use Rattle.std.specs.List.{AllByRecursion}
 use Rattle.std.specs.List.Sorted.{IsStrictlySortedBy}
 use Rattle.trust_base.specs.LineOrder.{line_cmp}
 use Rattle.trust_base.specs.declared.line.Line.{Line}
 use Rattle.trust_matter.specs.declared.bank_line.BankLine.{BankLine}
 use Rattle.trust_matter.specs.declared.line_verdict.LineVerdict.{LineVerdict}
-use Rattle.trust_matter.specs.Rows.{entry_at}
+use Rattle.trust_matter.specs.Rows.{entry_at, last_of}
 use Rattle.trust_matter.specs.Balances.{ledger}
 use Rattle.trust_matter.specs.Events.{events_in}
-use Rattle.trust_matter.specs.Sound.{Sound}
+use Rattle.trust_matter.specs.Sound.{AreRising, Sound}
 use Rattle.trust_matter.specs.Changes.{MatterChange, changed, IsChange}
 use Rattle.trust_matter.specs.LineStep.{IsLineChange}
 use Rattle.trust_firm.specs.Firm.{Firm, of, put, after_change, after_line, after_stray, changed_by_line}
-use Rattle.trust_firm.specs.Journal.{events_moved, firm_events, moved_for, ledger_sum, journal_sum}
-
--- each matter is sound; the movements of each entry are its events, each once and in order, and there are no
--- others; those of a matter add up to its ledger, and at no place of the list to less than zero
-pub record FirmSound (firm : Firm) : Type 0 where
-  pub matters : (m : ℕ) → Sound (of m firm)
-  pub events : (m n : ℕ) → events_moved m n firm.movements ≡ events_in (entry_at (of m firm).entries n)
-  pub own : firm_events firm.movements ≡ []
-  pub ledgers : (m : ℕ) → moved_for m firm.movements ≡ ledger (of m firm).entries
-  pub covered : (m k : ℕ) → pos 0 ≤ℤ moved_for m (take k firm.movements)
+use Rattle.trust_firm.specs.Journal.{events_moved, firm_events, days_moved, moved_for, ledger_sum, journal_sum}
 
 -- the rows of each matter stand together, in order, the matters by number; the exceptions ascend, each line once
 pub record IsInOrder (firm : Firm) : Type 0 where
   pub rows : (m : ℕ) → put m (of m firm) firm.rows ≡ firm.rows
   pub exceptions : IsStrictlySortedBy line_cmp firm.exceptions
+
+-- no movement of a matter is of a day before an earlier one's, or after the last day of the matter
+pub record AreMovedInTime (m : ℕ) (firm : Firm) : Type 0 where
+  pub rising : AreRising 0 (days_moved m firm.movements)
+  pub by_last : AllByRecursion (λ day. day ≤ last_of (of m firm).head) (days_moved m firm.movements)
+
+-- the rows are in order, and each matter is sound; the movements of each entry are its events, each once and in order, and
+-- there are no others; those of a matter follow one another in time, and add up to its ledger, and at no place of the list
+-- to less than zero
+pub record FirmSound (firm : Firm) : Type 0 where
+  pub in_order : IsInOrder firm
+  pub matters : (m : ℕ) → Sound (of m firm)
+  pub events : (m n : ℕ) → events_moved m n firm.movements ≡ events_in (entry_at (of m firm).entries n)
+  pub own : firm_events firm.movements ≡ []
+  pub in_time : (m : ℕ) → AreMovedInTime m firm
+  pub ledgers : (m : ℕ) → moved_for m firm.movements ≡ ledger (of m firm).entries
+  pub covered : (m k : ℕ) → pos 0 ≤ℤ moved_for m (take k firm.movements)
 
 -- A change of a matter is a change of that matter alone.
 

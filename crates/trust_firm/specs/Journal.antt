@@ -36,6 +36,10 @@ is_of_firm owner.Firm = true
 abbrev pub events_moved : ℕ → ℕ → List Movement → List Event
 events_moved m n movements = map event_of (filter (λ v. is_of_entry m n v.owner) movements)
 
+-- the days of a matter's movements, in order
+abbrev pub days_moved : ℕ → List Movement → List ℕ
+days_moved m movements = map (λ v. v.day) (filter (λ v. is_of_matter m v.owner) movements)
+
 -- the movements of the firm's own money, in order
 abbrev pub firm_events : List Movement → List Event
 firm_events movements = map event_of (filter (λ v. is_of_firm v.owner) movements)

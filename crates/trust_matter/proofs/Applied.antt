@@ -15,7 +15,7 @@ use Rattle.trust_matter.specs.declared.matter.Figures.{Figures}
 use Rattle.trust_matter.specs.declared.matter.Kept.{Kept}
 use Rattle.trust_matter.specs.declared.change.Left.{Left}
 use Rattle.trust_matter.specs.declared.change.Moves.{Moves}
-use Rattle.trust_matter.specs.Applied.{IsApplied, kept_as, kept_with, other_written}
+use Rattle.trust_matter.specs.Applied.{IsWritten, kept_as, kept_with, other_written}
 use Rattle.trust_matter.specs.Balances.{left_of}
 use Rattle.trust_matter.specs.Changes.{changed, changed_by, MatterChange, edited, head_after, seats_after, seen_on, IsOther, AreLeft, AreLefts, IsPlace, IsExchange, IsChange}
 use Rattle.trust_matter.specs.Parts.{Part, kept_in, AreFigures, IsPart, IsEntryOf, AreKept, HoldsOn, IsWhole, entries_kept, AreNumbered}
@@ -105,11 +105,11 @@ written fs t (Some o) n (Some j) near other k h =
 
 -- What is kept is a part of the rows after the change.
 
-applied-kept : (m m' : Part) (x : Numbered) (v : Moves) (day : ℕ) → IsApplied m x v day m' → (n : ℕ) → kept_in m'.kept n ≡ other_relieved v.other n (put_in m.kept (kept_as x v) n)
+applied-kept : (m m' : Part) (x : Numbered) (v : Moves) (day : ℕ) → IsWritten m x v day m' → (n : ℕ) → kept_in m'.kept n ≡ other_relieved v.other n (put_in m.kept (kept_as x v) n)
 applied-kept m m' x v day a n =
     ap (λ ks. kept_in ks n) a.kept ∙ kept-other (kept_with m.kept (kept_as x v)) v.other n ∙ ap (other_relieved v.other n) (kept-with m.kept (kept_as x v) n)
 
-pub applied-append : (m m' : Part) (rows : Rows) (x : Numbered) (v : Moves) (day : ℕ) → IsPart m rows → x.number ≡ length rows.entries + 1 → AreFigures v.figures (rows.entries ++ x.entry ∷ []) → AreLeft (rows.entries ++ x.entry ∷ []) x v → IsApplied m x v day m' → IsPart m' (changed_by (edit.Append x) day rows)
+pub applied-append : (m m' : Part) (rows : Rows) (x : Numbered) (v : Moves) (day : ℕ) → IsPart m rows → x.number ≡ length rows.entries + 1 → AreFigures v.figures (rows.entries ++ x.entry ∷ []) → AreLeft (rows.entries ++ x.entry ∷ []) x v → IsWritten m x v day m' → IsPart m' (changed_by (edit.Append x) day rows)
 applied-append m m' rows x v day p place figures lefts a = record {
   head = a.head ∙ ap (λ h. seen_on h day) p.head;
   seats = a.seats ∙ p.seats;
@@ -125,7 +125,7 @@ target-made (entry.Payment p) = refl
 target-made (entry.Fee f) = refl
 target-made (entry.Claim c) = refl
 
-pub applied-exchange : (m m' : Part) (rows : Rows) (x : Numbered) (old : Entry) (v : Moves) (day : ℕ) → IsPart m rows → IsExchange rows.entries x old → AreFigures v.figures (with_entry rows.entries x.number x.entry) → AreLeft (with_entry rows.entries x.number x.entry) x v → IsApplied m x v day m' → IsPart m' (changed_by (edit.Exchange x) day rows)
+pub applied-exchange : (m m' : Part) (rows : Rows) (x : Numbered) (old : Entry) (v : Moves) (day : ℕ) → IsPart m rows → IsExchange rows.entries x old → AreFigures v.figures (with_entry rows.entries x.number x.entry) → AreLeft (with_entry rows.entries x.number x.entry) x v → IsWritten m x v day m' → IsPart m' (changed_by (edit.Exchange x) day rows)
 applied-exchange m m' rows x old v day p place figures lefts a =
     let same : target old ≡ target x.entry = sym (target-made old) ∙ ap target (sym place.same) ∙ target-made x.entry in
     record {
@@ -143,7 +143,7 @@ stays-kept None n k = refl
 stays-kept (Some o) n None = elim (eqb o.number n) as (λ b. is_some (cond b (with_left None o.left) None) ≡ false) [ true ↦ refl | false ↦ refl ]
 stays-kept (Some o) n (Some k) = elim (eqb o.number n) as (λ b. is_some (cond b (some (record k { left = o.left })) (some k)) ≡ true) [ true ↦ refl | false ↦ refl ]
 
-applied-held : (m m' : Part) (x : Numbered) (v : Moves) (day : ℕ) → IsApplied m x v day m' → ((n : ℕ) → n ≢ x.number → ltb m.figures.entries n ≡ true → ltb m'.figures.entries n ≡ true) → HoldsOn m m'
+applied-held : (m m' : Part) (x : Numbered) (v : Moves) (day : ℕ) → IsWritten m x v day m' → ((n : ℕ) → n ≢ x.number → ltb m.figures.entries n ≡ true → ltb m'.figures.entries n ≡ true) → HoldsOn m m'
 applied-held m m' x v day a past n h =
     let now : is_some (kept_in m'.kept n) ≡ is_some (put_in m.kept (kept_as x v) n) = ap is_some (applied-kept m m' x v day a n) ∙ stays-kept v.other n (put_in m.kept (kept_as x v) n) in
     rw now (elim (eqb x.number n) as (λ b. eqb x.number n ≡ b → (is_some (cond b (some (kept_as x v)) (kept_in m.kept n)) || ltb m'.figures.entries n) ≡ true) [
@@ -155,20 +155,20 @@ applied-held m m' x v day a past n h =
     held-or true b c f h = refl
     held-or false b c f h = f h
 
-pub held-append : (m m' : Part) (rows : Rows) (x : Numbered) (v : Moves) (day : ℕ) → IsPart m rows → x.number ≡ length rows.entries + 1 → AreFigures v.figures (rows.entries ++ x.entry ∷ []) → IsApplied m x v day m' → HoldsOn m m'
+pub held-append : (m m' : Part) (rows : Rows) (x : Numbered) (v : Moves) (day : ℕ) → IsPart m rows → x.number ≡ length rows.entries + 1 → AreFigures v.figures (rows.entries ++ x.entry ∷ []) → IsWritten m x v day m' → HoldsOn m m'
 held-append m m' rows x v day p place figures a =
     let was : m.figures.entries ≡ length rows.entries = p.figures.entries in
     let now : m'.figures.entries ≡ length rows.entries + 1 = ap (λ f. f.entries) a.figures ∙ figures.entries ∙ length_push rows.entries x.entry in
     applied-held m m' x v day a (λ n apart h. grind (arith, nat_tests))
 
-pub held-exchange : (m m' : Part) (rows : Rows) (x : Numbered) (v : Moves) (day : ℕ) → IsPart m rows → AreFigures v.figures (with_entry rows.entries x.number x.entry) → IsApplied m x v day m' → HoldsOn m m'
+pub held-exchange : (m m' : Part) (rows : Rows) (x : Numbered) (v : Moves) (day : ℕ) → IsPart m rows → AreFigures v.figures (with_entry rows.entries x.number x.entry) → IsWritten m x v day m' → HoldsOn m m'
 held-exchange m m' rows x v day p figures a =
     let same : m'.figures.entries ≡ m.figures.entries = ap (λ f. f.entries) a.figures ∙ figures.entries ∙ length-with rows.entries x.number x.entry ∙ sym p.figures.entries in
     applied-held m m' x v day a (λ n apart h. rw same h)
 
 -- What was whole is whole.
 
-whole-append : (m m' : Part) (rows : Rows) (x : Numbered) (v : Moves) (day : ℕ) → IsWhole m rows → x.number ≡ length rows.entries + 1 → IsApplied m x v day m' → (entries_kept m'.kept ≡ rows.entries ++ x.entry ∷ []) × AreNumbered 1 m'.kept
+whole-append : (m m' : Part) (rows : Rows) (x : Numbered) (v : Moves) (day : ℕ) → IsWhole m rows → x.number ≡ length rows.entries + 1 → IsWritten m x v day m' → (entries_kept m'.kept ≡ rows.entries ++ x.entry ∷ []) × AreNumbered 1 m'.kept
 whole-append m m' rows x v day whole place a =
     let len = length-kept m.kept rows.entries whole.entries in
     let next : x.number ≡ 1 + length m.kept = omega (arith, len, place) in
@@ -177,7 +177,7 @@ whole-append m m' rows x v day whole place a =
     let P : List Kept → Type 0 = λ l. AreNumbered 1 l in
     (ap entries_kept a.kept ∙ entries-other ks v.other ∙ entries-end 1 m.kept (kept_as x v) whole.numbered next ∙ ap (λ es. es ++ x.entry ∷ []) whole.entries, subst P (sym a.kept) numbered)
 
-whole-exchange : (m m' : Part) (rows : Rows) (x : Numbered) (old : Entry) (v : Moves) (day : ℕ) → IsWhole m rows → entry_at rows.entries x.number ≡ Some old → IsApplied m x v day m' → (entries_kept m'.kept ≡ with_entry rows.entries x.number x.entry) × AreNumbered 1 m'.kept
+whole-exchange : (m m' : Part) (rows : Rows) (x : Numbered) (old : Entry) (v : Moves) (day : ℕ) → IsWhole m rows → entry_at rows.entries x.number ≡ Some old → IsWritten m x v day m' → (entries_kept m'.kept ≡ with_entry rows.entries x.number x.entry) × AreNumbered 1 m'.kept
 whole-exchange m m' rows x old v day whole there a =
     let here : entry_at (entries_kept m.kept) x.number ≡ Some old = ap (λ es. entry_at es x.number) whole.entries ∙ there in
     let ks = kept_with m.kept (kept_as x v) in
@@ -193,15 +193,15 @@ pub record IsAfter (m : Part) (c : MatterChange) (m' : Part) : Type 0 where
   pub held : (rows : Rows) → Sound rows → IsPart m rows → IsChange rows c → HoldsOn m m'
   pub whole : (rows : Rows) → Sound rows → IsWhole m rows → IsChange rows c → IsWhole m' (changed c rows)
 
-as-told : (m m' : Part) (x : Numbered) (v w : Moves) (day last : ℕ) → v ≡ w → day ≡ last → IsApplied m x v day m' → IsApplied m x w last m'
+as-told : (m m' : Part) (x : Numbered) (v w : Moves) (day last : ℕ) → v ≡ w → day ≡ last → IsWritten m x v day m' → IsWritten m x w last m'
 as-told m m' x v w day last moves on a =
-    let P : Moves → Type 0 = λ u. IsApplied m x u day m' in
-    let Q : ℕ → Type 0 = λ d. IsApplied m x w d m' in
+    let P : Moves → Type 0 = λ u. IsWritten m x u day m' in
+    let Q : ℕ → Type 0 = λ d. IsWritten m x w d m' in
     subst Q on (subst P moves a)
 
-pub after-append : (m m' : Part) (c : MatterChange) (x : Numbered) (v : Moves) (day : ℕ) → c.edit ≡ edit.Append x → v ≡ c.moves → day ≡ c.last → IsApplied m x v day m' → IsAfter m c m'
+pub after-append : (m m' : Part) (c : MatterChange) (x : Numbered) (v : Moves) (day : ℕ) → c.edit ≡ edit.Append x → v ≡ c.moves → day ≡ c.last → IsWritten m x v day m' → IsAfter m c m'
 after-append m m' c x v day is moves on told =
-    let a : IsApplied m x c.moves c.last m' = as-told m m' x v c.moves day c.last moves on told in
+    let a : IsWritten m x c.moves c.last m' = as-told m m' x v c.moves day c.last moves on told in
     let place : (rows : Rows) → IsChange rows c → x.number ≡ length rows.entries + 1 = λ rows ch. let P : Edit → Type 0 = λ e. IsPlace rows e in (subst P is ch.place).1 in
     let figures : (rows : Rows) → IsChange rows c → AreFigures c.moves.figures (rows.entries ++ x.entry ∷ []) = λ rows ch. let P : Edit → Type 0 = λ e. AreFigures c.moves.figures (edited rows.entries e) in subst P is ch.figures in
     let lefts : (rows : Rows) → IsChange rows c → AreLeft (rows.entries ++ x.entry ∷ []) x c.moves = λ rows ch. let P : Edit → Type 0 = λ e. AreLefts (edited rows.entries e) e c.moves in subst P is ch.lefts in
@@ -216,9 +216,9 @@ after-append m m' c x v day is moves on told =
           record { part = part rows w.part ch; entries = kept.0 ∙ ap (edited rows.entries) (sym is); numbered = kept.1 };
     }
 
-pub after-exchange : (m m' : Part) (c : MatterChange) (x : Numbered) (v : Moves) (day : ℕ) → c.edit ≡ edit.Exchange x → v ≡ c.moves → day ≡ c.last → IsApplied m x v day m' → IsAfter m c m'
+pub after-exchange : (m m' : Part) (c : MatterChange) (x : Numbered) (v : Moves) (day : ℕ) → c.edit ≡ edit.Exchange x → v ≡ c.moves → day ≡ c.last → IsWritten m x v day m' → IsAfter m c m'
 after-exchange m m' c x v day is moves on told =
-    let a : IsApplied m x c.moves c.last m' = as-told m m' x v c.moves day c.last moves on told in
+    let a : IsWritten m x c.moves c.last m' = as-told m m' x v c.moves day c.last moves on told in
     let place : (rows : Rows) → IsChange rows c → (old : Entry) × IsExchange rows.entries x old = λ rows ch. let P : Edit → Type 0 = λ e. IsPlace rows e in (subst P is ch.place).1 in
     let figures : (rows : Rows) → IsChange rows c → AreFigures c.moves.figures (with_entry rows.entries x.number x.entry) = λ rows ch. let P : Edit → Type 0 = λ e. AreFigures c.moves.figures (edited rows.entries e) in subst P is ch.figures in
     let lefts : (rows : Rows) → IsChange rows c → AreLeft (with_entry rows.entries x.number x.entry) x c.moves = λ rows ch. let P : Edit → Type 0 = λ e. AreLefts (edited rows.entries e) e c.moves in subst P is ch.lefts in

@@ -23,9 +23,8 @@ use Rattle.trust_matter.specs.declared.asks.SplitAsk.{SplitAsk}
 use Rattle.trust_matter.specs.declared.edits.Edit.TheVariants as edit
 use Rattle.trust_matter.specs.declared.edits.Numbered.{Numbered}
 use Rattle.trust_matter.specs.Balances.{names, is_fee, is_general, is_settled, available, left_of, passes as of_kind}
-use Rattle.trust_matter.specs.Changes.{movement_of, AreMoved}
 use Rattle.trust_matter.specs.Conditions.{exceeds, against_left, is_on_fee, is_no_fee, is_no_claim, is_claim_settled, is_claim_without_offer, is_offered_state, is_another_offer, exceeds_claim, differs_from_offer}
-use Rattle.trust_matter.specs.Events.{events_of, events_in}
+use Rattle.trust_matter.specs.Events.{events_of}
 use Rattle.trust_matter.specs.Facts.{facts_of, number_of, other_of, target_in, left_in}
 use Rattle.trust_matter.specs.Rows.{entry_at}
 use Rattle.trust_matter.specs.Shares.{draw, worth, available_share, against_no, has_settled, to_client, to_claimant, off_fee, on_fee, on_general}
@@ -35,7 +34,7 @@ use Rattle.trust_matter.proofs.Days.{made-before}
 use Rattle.trust_matter.proofs.Editing.{left-drawn, left-moved}
 use Rattle.trust_matter.proofs.Entries.{all-at, within}
 use Rattle.trust_matter.proofs.Keeping.{MayAdd, MayTake, target-apart, total-undrawn}
-use Rattle.trust_matter.proofs.StepForms.{rows-of, rows-append, rows-exchange, moved-by, next-is, not-false, asked, Stepped}
+use Rattle.trust_matter.proofs.StepForms.{rows-of, rows-append, rows-exchange, MovesWithin, exchange-moves, next-is, not-false, asked, Stepped}
 use Rattle.trust_matter.proofs.Table.{Passes}
 
 enough-of : (amount : ℕ) (left : ℤ) → exceeds amount left ≡ false → pos amount ≤ℤ left
@@ -55,9 +54,9 @@ fee-may es f s room few enough = record {
   left = left-drawn es (entry.Fee f) (λ e h. let l = s.left 0 e h in omega (arith, ints, l)) s.left;
 }
 
-fee-moved : (es : List Entry) (a : FeeAsk) (day : ℕ) → AreMoved es (edit.Append (record { number = a.number; entry = fee_of a day })) (movement_of es (edit.Append (record { number = a.number; entry = fee_of a day })))
+fee-moves : (es : List Entry) (a : FeeAsk) (last day : ℕ) → MovesWithin es (edit.Append (record { number = a.number; entry = fee_of a day })) last day
 unfolding events_of
-fee-moved es a day = refl
+fee-moves es a last day = record { moved = refl; dated = tt }
 
 fee-by : (a : FeeAsk) (day : ℕ) → IsBy day (fee_of a day)
 unfolding days_of
@@ -73,7 +72,7 @@ step-fee h seats es c a day s amount unclosed later p =
       sound = rows-append h seats es x day s unclosed may later (fee-by a day) tt;
       not_before = later;
       seen = refl;
-      moved = fee-moved es a day;
+      moves = fee-moves es a h.last day;
       may = (next.1, may, inl refl);
     }
 
@@ -116,9 +115,9 @@ claim-may es book amount (against.General who) reason s room few there kind enou
 claim-may es book amount (against.Fee k) reason s room few there kind enough =
     fee-claim-may es book amount k reason (entry_at es k) refl s room few there kind enough
 
-claim-moved : (es : List Entry) (a : ClaimAsk) (day : ℕ) → AreMoved es (edit.Append (record { number = a.number; entry = claim_of a day })) (movement_of es (edit.Append (record { number = a.number; entry = claim_of a day })))
+claim-moves : (es : List Entry) (a : ClaimAsk) (last day : ℕ) → MovesWithin es (edit.Append (record { number = a.number; entry = claim_of a day })) last day
 unfolding events_of
-claim-moved es a day = refl
+claim-moves es a last day = record { moved = refl; dated = tt }
 
 claim-by : (a : ClaimAsk) (day : ℕ) → IsBy day (claim_of a day)
 unfolding days_of
@@ -134,7 +133,7 @@ step-claim h seats es c a day s amount unclosed later p =
       sound = rows-append h seats es x day s unclosed may later (claim-by a day) tt;
       not_before = later;
       seen = refl;
-      moved = claim-moved es a day;
+      moves = claim-moves es a h.last day;
       may = (next.1, may, inr refl);
     }
 
@@ -222,9 +221,9 @@ restated-may es n d next s at unsettled le =
           (λ e h. omega (arith, ints, draw-falls d.against d.state next d.amount unsettled le, s.left (against_no d.against) e h)) s.left k e h;
     }
 
-restated-moved : (es : List Entry) (n : ℕ) (d : Claim) (next : ClaimState) → entry_at es n ≡ Some (entry.Claim d) → AreMoved es (edit.Exchange (record { number = n; entry = with-state d next })) (movement_of es (edit.Exchange (record { number = n; entry = with-state d next })))
+restating-moves : (es : List Entry) (n last day : ℕ) (d : Claim) (next : ClaimState) → entry_at es n ≡ Some (entry.Claim d) → MovesWithin es (edit.Exchange (record { number = n; entry = with-state d next })) last day
 unfolding events_of
-restated-moved es n d next at = moved-by n (events_in (entry_at es n)) (events_of (with-state d next)) [] (rw at refl) (omega arith)
+restating-moves es n last day d next at = exchange-moves es (record { number = n; entry = with-state d next }) last day [] (rw at refl) tt
 
 -- the days of a claim in another state are not after a day, and rise
 abbrev AreDays : ℕ → ClaimState → Type 0
@@ -250,7 +249,7 @@ step-split h seats es c q n day d next number other at s unclosed later unsettle
       sound = rows-exchange h seats es x (entry.Claim d) day s unclosed may refl later ok.0 ok.1;
       not_before = later;
       seen = refl;
-      moved = restated-moved es n d next at;
+      moves = restating-moves es n h.last day d next at;
       may = (entry.Claim d, may, inr (rw number (rw (other (entry_at es n)) (rw at refl))), sym number);
     }
 

@@ -9,7 +9,8 @@ use Rattle.trust_matter.specs.Sound.{days_of, IsBy, AreRising, IsRising, AreDate
 use Rattle.trust_matter.proofs.Entries.{all-at, all-append, all-with}
 use Rattle.trust_matter.proofs.Exchange.{all-map}
 
-up-to : (a b : ℕ) (days : List ℕ) → a ≤ b → AllByRecursion (λ d. d ≤ a) days → AllByRecursion (λ d. d ≤ b) days
+-- days up to one are up to a later one
+pub up-to : (a b : ℕ) (days : List ℕ) → a ≤ b → AllByRecursion (λ d. d ≤ a) days → AllByRecursion (λ d. d ≤ b) days
 up-to a b [] le h = tt
 up-to a b (day ∷ days) le h = (let first = h.0 in omega (arith, le, first), up-to a b days le h.1)
 

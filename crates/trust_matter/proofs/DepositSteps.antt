@@ -15,7 +15,6 @@ use Rattle.trust_matter.specs.declared.asks.DepositAsk.{DepositAsk}
 use Rattle.trust_matter.specs.declared.edits.Edit.TheVariants as edit
 use Rattle.trust_matter.specs.declared.edits.Numbered.{Numbered}
 use Rattle.trust_matter.specs.Balances.{names, is_fee, is_settled, passes as of_kind}
-use Rattle.trust_matter.specs.Changes.{movement_of, AreMoved}
 use Rattle.trust_matter.specs.Conditions.{is_no_deposit, is_deposit_not_held}
 use Rattle.trust_matter.specs.Events.{events_of, events_in, received, paid_out}
 use Rattle.trust_matter.specs.Rows.{entry_at}
@@ -26,13 +25,13 @@ use Rattle.trust_matter.proofs.Days.{made-before}
 use Rattle.trust_matter.proofs.Editing.{deposit-may, left-moved}
 use Rattle.trust_matter.proofs.Entries.{all-at, within}
 use Rattle.trust_matter.proofs.Keeping.{MayTake, target-apart, total-undrawn}
-use Rattle.trust_matter.proofs.StepForms.{rows-of, rows-append, rows-exchange, moved-by, held-is, asked, Stepped}
+use Rattle.trust_matter.proofs.StepForms.{rows-of, rows-append, rows-exchange, MovesWithin, exchange-moves, held-is, asked, Stepped}
 
 -- A deposit.
 
-deposit-moved : (es : List Entry) (a : DepositAsk) (day : ℕ) → AreMoved es (edit.Append (record { number = a.number; entry = deposit_of a day })) (movement_of es (edit.Append (record { number = a.number; entry = deposit_of a day })))
+deposit-moves : (es : List Entry) (a : DepositAsk) (last day : ℕ) → last ≤ day → MovesWithin es (edit.Append (record { number = a.number; entry = deposit_of a day })) last day
 unfolding events_of
-deposit-moved es a day = refl
+deposit-moves es a last day later = record { moved = refl; dated = (later, omega arith) }
 
 deposit-by : (a : DepositAsk) (day : ℕ) → IsBy day (deposit_of a day)
 unfolding days_of
@@ -47,7 +46,7 @@ step-deposit h seats es c a day s amount unclosed later next =
       sound = rows-append h seats es x day s unclosed may later (deposit-by a day) tt;
       not_before = later;
       seen = refl;
-      moved = deposit-moved es a day;
+      moves = deposit-moves es a h.last day later;
       may = (next.1, may, inl refl);
     }
 
@@ -82,11 +81,11 @@ restated-may es n d state s at held =
       left = λ k e h elsewhere. left-moved es (entry.Deposit d) (with-state d state) refl (λ e h. let l = s.left 0 e h in omega (arith, ints, l)) s.left k e h;
     }
 
-cancelled-moved : (es : List Entry) (n day : ℕ) (d : Deposit) → entry_at es n ≡ Some (entry.Deposit d) → d.state ≡ deposit.Held → AreMoved es (edit.Exchange (record { number = n; entry = with-state d (deposit.Cancelled day) })) (movement_of es (edit.Exchange (record { number = n; entry = with-state d (deposit.Cancelled day) })))
+cancelling-moves : (es : List Entry) (n last day : ℕ) (d : Deposit) → entry_at es n ≡ Some (entry.Deposit d) → d.state ≡ deposit.Held → last ≤ day → MovesWithin es (edit.Exchange (record { number = n; entry = with-state d (deposit.Cancelled day) })) last day
 unfolding events_of
-cancelled-moved es n day d at held =
+cancelling-moves es n last day d at held later =
     let was : events_in (entry_at es n) ≡ received d.book d.amount ∷ [] = rw at (rw held refl) in
-    moved-by n (events_in (entry_at es n)) (events_of (with-state d (deposit.Cancelled day))) (paid_out day d.amount ∷ []) (rw was refl) (omega arith)
+    exchange-moves es (record { number = n; entry = with-state d (deposit.Cancelled day) }) last day (paid_out day d.amount ∷ []) (rw was refl) (later, omega arith)
 
 cancelled-by : (d : Deposit) (day : ℕ) → d.book ≤ day → IsBy day (with-state d (deposit.Cancelled day))
 unfolding days_of
@@ -107,6 +106,6 @@ step-cancel h seats es c n day (Some (entry.Deposit d)) at s unclosed later ther
       sound = rows-exchange h seats es x (entry.Deposit d) day s unclosed may refl later (cancelled-by d day made) (made, tt);
       not_before = later;
       seen = refl;
-      moved = cancelled-moved es n day d at held;
+      moves = cancelling-moves es n h.last day d at held later;
       may = (entry.Deposit d, may, inl refl, refl);
     }

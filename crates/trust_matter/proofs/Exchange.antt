@@ -11,7 +11,7 @@ use Rattle.trust_matter.specs.declared.rows.Against.{Against}
 use Rattle.trust_matter.specs.declared.rows.Against.TheVariants as against
 use Rattle.trust_matter.specs.Balances.{total_of, left_of, lefts_from, passes, names, funds, is_against, is_fee, is_settled, is_general_claim, is_general, fees, claims}
 use Rattle.trust_matter.specs.Rows.{entry_at}
-use Rattle.trust_matter.specs.Shares.{draw, draw_on, target, worth, fee_draw, claim_draw, fee_share, claim_share, has_settled, on_fee, off_fee, paid, fund_no, against_no, from_fee, from_claim, on_general, to_claimant}
+use Rattle.trust_matter.specs.Shares.{draw, draw_on, target, worth, fee_share, claim_share, has_settled, on_fee, off_fee, paid, fund_no, against_no, from_fee, from_claim, on_general, to_claimant}
 use Rattle.trust_matter.proofs.Sums.{total-add, total-zero}
 
 -- is entry t, in the list from number n on, of this kind
@@ -131,7 +131,19 @@ claim-against : (es : List Entry) (a : Against) (z : ℤ) → is_against es a �
 claim-against es (against.General c) z h = cond-same (passes is_general_claim (entry_at es 0)) (pos 0)
 claim-against es (against.Fee k) z h = rw (fee-no-claim (entry_at es k) h) refl
 
--- what an entry draws on the fees, and on the claims
+-- what an entry draws on the fees, and on the claims on the general fund
+abbrev fee_draw : Entry → ℤ
+fee_draw (entry.Deposit d) = pos 0
+fee_draw (entry.Payment p) = from_fee p.fund (paid p.state p.amount)
+fee_draw (entry.Fee f) = pos 0
+fee_draw (entry.Claim c) = on_fee c.against (off_fee c.state c.amount)
+
+abbrev claim_draw : Entry → ℤ
+claim_draw (entry.Deposit d) = pos 0
+claim_draw (entry.Payment p) = from_claim p.fund (paid p.state p.amount)
+claim_draw (entry.Fee f) = pos 0
+claim_draw (entry.Claim c) = pos 0
+
 fee-drawn : (es : List Entry) (e : Entry) → names es e ≡ true → cond (passes is_fee (entry_at es (target e))) (draw e) (pos 0) ≡ fee_draw e
 unfolding names draw
 fee-drawn es (entry.Deposit d) h = cond-same (passes is_fee (entry_at es 0)) (pos 0)

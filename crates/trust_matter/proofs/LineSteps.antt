@@ -23,7 +23,6 @@ use Rattle.trust_matter.specs.declared.line_verdict.Reason.{Reason}
 use Rattle.trust_matter.specs.declared.line_verdict.LineEdit.{LineEdit}
 use Rattle.trust_matter.specs.declared.line_verdict.LineEdit.TheVariants as told
 use Rattle.trust_matter.specs.Balances.{names, is_fee, is_settled, passes as of_kind}
-use Rattle.trust_matter.specs.Changes.{movement_of, AreMoved}
 use Rattle.trust_matter.specs.Conditions.{is_issued_state}
 use Rattle.trust_matter.specs.Events.{events_of, events_in, payments}
 use Rattle.trust_matter.specs.Facts.{target_in}
@@ -38,7 +37,7 @@ use Rattle.trust_matter.proofs.DepositSteps.{restated-may}
 use Rattle.trust_matter.proofs.Editing.{left-moved}
 use Rattle.trust_matter.proofs.Entries.{all-at, within}
 use Rattle.trust_matter.proofs.Keeping.{MayTake, target-apart, total-undrawn}
-use Rattle.trust_matter.proofs.StepForms.{rows-of, rows-exchange, moved-by, not-false, held-is, IsStepOf}
+use Rattle.trust_matter.proofs.StepForms.{rows-of, rows-exchange, MovesWithin, exchange-moves, not-false, held-is, IsStepOf}
 use Rattle.trust_matter.proofs.Sums.{total-within}
 
 -- A line that is applied.
@@ -170,11 +169,11 @@ payment-may es n line p s at =
 
 -- What is cleared by a line.
 
-nothing-moved : (es : List Entry) (n : ℕ) (old new : Entry) → entry_at es n ≡ Some old → events_of new ≡ events_of old → AreMoved es (edit.Exchange (record { number = n; entry = new })) (movement_of es (edit.Exchange (record { number = n; entry = new })))
-nothing-moved es n old new at same =
+clearing-moves : (es : List Entry) (n last day : ℕ) (old new : Entry) → entry_at es n ≡ Some old → events_of new ≡ events_of old → MovesWithin es (edit.Exchange (record { number = n; entry = new })) last day
+clearing-moves es n last day old new at same =
     let was : events_in (entry_at es n) ≡ events_of old = rw at refl in
     let none : events_of new ≡ events_in (entry_at es n) ++ [] = same ∙ (sym was ∙ sym (append-nil (events_in (entry_at es n)))) in
-    moved-by n (events_in (entry_at es n)) (events_of new) [] none (omega arith)
+    exchange-moves es (record { number = n; entry = new }) last day [] none tt
 
 payment-moved : (line : Line) (p : Payment) → events_of (cleared-by-line line p) ≡ events_of (entry.Payment p)
 unfolding events_of
@@ -224,7 +223,7 @@ line-step (Some h) seats es l today (Some (entry.Deposit d)) at s m =
       sound = rows-exchange h seats es x (entry.Deposit d) (max h.last l.line.date) s unclosed may refl later (deposit-by l.line d (max h.last l.line.date) made seen) tt;
       not_before = later;
       seen = refl;
-      moved = nothing-moved es l.entry (entry.Deposit d) (entry.Deposit new) at (deposit-moved l.line d held);
+      moves = clearing-moves es l.entry h.last (max h.last l.line.date) (entry.Deposit d) (entry.Deposit new) at (deposit-moved l.line d held);
       may = (entry.Deposit d, may, inl refl, refl);
     }
 line-step (Some h) seats es l today (Some (entry.Payment p)) at s m =
@@ -241,7 +240,7 @@ line-step (Some h) seats es l today (Some (entry.Payment p)) at s m =
       sound = rows-exchange h seats es x (entry.Payment p) (max h.last l.line.date) s unclosed may refl later (payment-by l.line p h.last (max h.last l.line.date) later seen by) (payment-rising l.line p rising);
       not_before = later;
       seen = refl;
-      moved = nothing-moved es l.entry (entry.Payment p) (cleared-by-line l.line p) at (payment-moved l.line p);
+      moves = clearing-moves es l.entry h.last (max h.last l.line.date) (entry.Payment p) (cleared-by-line l.line p) at (payment-moved l.line p);
       may = (entry.Payment p, may, inr refl, refl);
     }
 

@@ -5,11 +5,11 @@ use Rattle.trust_matter.specs.declared.edits.Edit.{Edit}
 use Rattle.trust_matter.specs.declared.edits.Edit.TheVariants as edit
 use Rattle.trust_matter.specs.declared.change.Moves.{Moves}
 use Rattle.trust_matter.specs.declared.change.Movement.{Movement}
-use Rattle.trust_matter.specs.Rows.{Rows, entry_at}
+use Rattle.trust_matter.specs.Rows.{Rows, entry_at, last_of}
 use Rattle.trust_matter.specs.Events.{events_of, events_in}
 use Rattle.trust_matter.specs.Sound.{Sound}
 use Rattle.trust_matter.specs.Parts.{Part, IsPart, kept_at, entry_in}
-use Rattle.trust_matter.specs.Changes.{MatterChange, IsChange, moved_beyond, movement_of, AreMoved}
+use Rattle.trust_matter.specs.Changes.{MatterChange, IsChange, moved_beyond, movement_of, AreMoved, IsMovedWithin}
 use Rattle.trust_matter.specs.Moves.{EditMoved, movement_kept}
 use Rattle.trust_matter.proofs.Moved.{changes-are}
 use Rattle.trust_matter.proofs.StepForms.{IsStepOf}
@@ -34,13 +34,15 @@ change-is m rows t n c p s step moved movement =
     let all = changes-are m rows t n c.edit c.moves p s.backed step.may moved in
     let same : c.movement ≡ movement_of rows.entries c.edit = movement ∙ movement-same m rows c.edit c.moves p moved in
     let P : Option Movement → Type 0 = λ o. AreMoved rows.entries c.edit o in
+    let D : Option Movement → Type 0 = λ o. IsMovedWithin (last_of rows.head) c.last o in
     record {
       place = step.place;
       sound = step.sound;
       not_before = step.not_before;
       seen = step.seen;
       movement = same;
-      moved = subst P (sym same) step.moved;
+      moved = subst P (sym same) step.moves.moved;
       figures = all.1;
       lefts = all.2;
+      dated = subst D (sym same) step.moves.dated;
     }

@@ -20,7 +20,6 @@ use Rattle.trust_matter.specs.declared.asks.PaymentAsk.{PaymentAsk}
 use Rattle.trust_matter.specs.declared.edits.Edit.TheVariants as edit
 use Rattle.trust_matter.specs.declared.edits.Numbered.{Numbered}
 use Rattle.trust_matter.specs.Balances.{available, funds, is_fee, is_general, is_settled, left_of, names, passes as of_kind}
-use Rattle.trust_matter.specs.Changes.{AreMoved, movement_of}
 use Rattle.trust_matter.specs.Conditions.{exceeds, fund_left, is_an_entry, is_issued_state, is_no_fund, is_no_fund_yet, is_no_payment, is_payment_not_issued, is_payment_not_proposed, is_proposed_state, is_short_payment}
 use Rattle.trust_matter.specs.Events.{Event, events_in, events_of, paid_out, payments, received}
 use Rattle.trust_matter.specs.Facts.{facts_of, left_in, target_in}
@@ -32,7 +31,7 @@ use Rattle.trust_matter.proofs.Days.{made-before}
 use Rattle.trust_matter.proofs.Editing.{left-drawn, left-moved}
 use Rattle.trust_matter.proofs.Entries.{all-at, within}
 use Rattle.trust_matter.proofs.Keeping.{MayAdd, MayTake, target-apart, total-undrawn}
-use Rattle.trust_matter.proofs.StepForms.{rows-of, rows-append, rows-exchange, moved-by, next-is, not-false, asked, Stepped}
+use Rattle.trust_matter.proofs.StepForms.{rows-of, rows-append, rows-exchange, AreWithin, MovesWithin, exchange-moves, next-is, not-false, asked, Stepped}
 use Rattle.trust_matter.proofs.Table.{Passes}
 
 -- what does not exceed is at most what is left
@@ -76,9 +75,9 @@ proposed-may es a day s room amount there = record {
   left = left-drawn es (payment_of a day) (λ e h. let l = s.left (fund_no a.fund) e h in omega (arith, ints, l)) s.left;
 }
 
-proposed-moved : (es : List Entry) (a : PaymentAsk) (day : ℕ) → AreMoved es (edit.Append (record { number = a.number; entry = payment_of a day })) (movement_of es (edit.Append (record { number = a.number; entry = payment_of a day })))
+proposal-moves : (es : List Entry) (a : PaymentAsk) (last day : ℕ) → MovesWithin es (edit.Append (record { number = a.number; entry = payment_of a day })) last day
 unfolding events_of
-proposed-moved es a day = refl
+proposal-moves es a last day = record { moved = refl; dated = tt }
 
 proposed-by : (a : PaymentAsk) (day : ℕ) → IsBy day (payment_of a day)
 unfolding days_of
@@ -94,7 +93,7 @@ step-propose h seats es c a day s amount unclosed later p =
       sound = rows-append h seats es x day s unclosed may later (proposed-by a day) tt;
       not_before = later;
       seen = refl;
-      moved = proposed-moved es a day;
+      moves = proposal-moves es a h.last day;
       may = (next.1, may, inr refl);
     }
 
@@ -137,11 +136,11 @@ restated-may es n p state s at general enough =
     }
 
 -- what it moves is behind what it moved before
-pub restated-moved : (es : List Entry) (n : ℕ) (p : Payment) (state : PaymentState) (more : List Event) → entry_at es n ≡ Some (entry.Payment p) → payments state p.amount ≡ payments p.state p.amount ++ more → length more ≤ 1 → AreMoved es (edit.Exchange (record { number = n; entry = with-state p state })) (movement_of es (edit.Exchange (record { number = n; entry = with-state p state })))
+pub restating-moves : (es : List Entry) (n last day : ℕ) (p : Payment) (state : PaymentState) (more : List Event) → entry_at es n ≡ Some (entry.Payment p) → payments state p.amount ≡ payments p.state p.amount ++ more → AreWithin last day more → MovesWithin es (edit.Exchange (record { number = n; entry = with-state p state })) last day
 unfolding events_of
-restated-moved es n p state more at is few =
+restating-moves es n last day p state more at is within =
     let was : events_in (entry_at es n) ≡ payments p.state p.amount = rw at refl in
-    moved-by n (events_in (entry_at es n)) (events_of (with-state p state)) more (rw was is) few
+    exchange-moves es (record { number = n; entry = with-state p state }) last day more (rw was is) within
 
 -- An approval.
 
@@ -192,7 +191,7 @@ approve-one h seats es c n day (Some (entry.Payment p)) at s unclosed later ther
       sound = rows-exchange h seats es x (entry.Payment p) day s unclosed may refl later (approved-by p day made) (made, tt);
       not_before = later;
       seen = refl;
-      moved = restated-moved es n p (payment.Issued day) (paid_out day p.amount ∷ []) at (rw new refl) (omega arith);
+      moves = restating-moves es n h.last day p (payment.Issued day) (paid_out day p.amount ∷ []) at (rw new refl) (later, omega arith);
       may = (entry.Payment p, may, inr (sym (ap target_in at)), refl);
     }
 
@@ -227,7 +226,7 @@ decline-one h seats es c n day (Some (entry.Payment p)) at s unclosed later ther
       sound = rows-exchange h seats es x (entry.Payment p) day s unclosed may refl later (declined-by p day made) tt;
       not_before = later;
       seen = refl;
-      moved = restated-moved es n p payment.Declined [] at (rw new refl) (omega arith);
+      moves = restating-moves es n h.last day p payment.Declined [] at (rw new refl) tt;
       may = (entry.Payment p, may, inr (sym (ap target_in at)), refl);
     }
 
@@ -278,7 +277,7 @@ void-issued h seats es c n day issued p at s unclosed later was =
       sound = rows-exchange h seats es x (entry.Payment p) day s unclosed may refl later (voided-by p issued day days.0 on) (days.0, (on, tt));
       not_before = later;
       seen = refl;
-      moved = restated-moved es n p (taken-back issued day) (received day p.amount ∷ []) at (rw was refl) (omega arith);
+      moves = restating-moves es n h.last day p (taken-back issued day) (received day p.amount ∷ []) at (rw was refl) (later, omega arith);
       may = (entry.Payment p, may, inr (sym (ap target_in at)), refl);
     }
 

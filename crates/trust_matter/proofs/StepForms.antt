@@ -16,9 +16,9 @@ use Rattle.trust_matter.specs.declared.edits.Edit.{Edit}
 use Rattle.trust_matter.specs.declared.edits.Edit.TheVariants as edit
 use Rattle.trust_matter.specs.declared.edits.Numbered.{Numbered}
 use Rattle.trust_matter.specs.declared.edits.Opening.{Opening}
-use Rattle.trust_matter.specs.Changes.{IsPlace, changed_by, movement_of, moved_beyond, events_by, AreMoved}
+use Rattle.trust_matter.specs.Changes.{IsPlace, changed_by, movement_of, moved_beyond, events_by, AreMoved, IsMovedWithin}
 use Rattle.trust_matter.specs.Conditions.{is_unknown_to, is_opening, is_number, misses, is_held_state}
-use Rattle.trust_matter.specs.Events.{Event}
+use Rattle.trust_matter.specs.Events.{Event, events_of, events_in}
 use Rattle.trust_matter.specs.Facts.{Asked, number_of, other_of}
 use Rattle.trust_matter.specs.Rows.{Rows, entry_at, last_of, next_number, book_day, as_made, role_in}
 use Rattle.trust_matter.specs.Sound.{AreDated, IsBy, IsRising, IsHeaded, Sound}
@@ -81,15 +81,41 @@ past-all : (olds more : List Event) → slice_get (olds ++ more) (length olds) �
 past-all [] more = refl
 past-all (e ∷ olds) more = past-all olds more
 
--- an event or none behind those that were there
-pub moved-by : (n : ℕ) (olds news more : List Event) → news ≡ olds ++ more → length more ≤ 1 → news ≡ olds ++ events_by (moved_beyond n olds news)
-moved-by n olds news [] is few =
+-- an event or none, on no day before the first, and on none after the second
+abbrev pub AreWithin : ℕ → ℕ → List Event → Type 0
+AreWithin from to [] = Unit {0}
+AreWithin from to (e ∷ []) = (from ≤ e.day) × (e.day ≤ to)
+AreWithin from to (e ∷ d ∷ more) = ⊥
+
+-- what an edit moves is behind what was moved before, on no day before the first, and on none after the second
+pub record MovesWithin (es : List Entry) (e : Edit) (from to : ℕ) : Type 0 where
+  pub moved : AreMoved es e (movement_of es e)
+  pub dated : IsMovedWithin from to (movement_of es e)
+
+moved-by : (n from to : ℕ) (olds news more : List Event) → news ≡ olds ++ more → AreWithin from to more → news ≡ olds ++ events_by (moved_beyond n olds news)
+moved-by n from to olds news [] is within =
     let P : List Event → Type 0 = λ v. v ≡ olds ++ events_by (moved_beyond n olds v) in
     subst P (sym is) (rw (past-all olds []) refl)
-moved-by n olds news (e ∷ []) is few =
+moved-by n from to olds news (e ∷ []) is within =
     let P : List Event → Type 0 = λ v. v ≡ olds ++ events_by (moved_beyond n olds v) in
     subst P (sym is) (rw (past-all olds (e ∷ [])) refl)
-moved-by n olds news (e ∷ d ∷ more) is few = absurd (omega arith)
+moved-by n from to olds news (e ∷ d ∷ more) is within = absurd within
+
+dated-by : (n from to : ℕ) (olds news more : List Event) → news ≡ olds ++ more → AreWithin from to more → IsMovedWithin from to (moved_beyond n olds news)
+dated-by n from to olds news [] is within =
+    let P : List Event → Type 0 = λ v. IsMovedWithin from to (moved_beyond n olds v) in
+    subst P (sym is) (rw (past-all olds []) tt)
+dated-by n from to olds news (e ∷ []) is within =
+    let P : List Event → Type 0 = λ v. IsMovedWithin from to (moved_beyond n olds v) in
+    subst P (sym is) (rw (past-all olds (e ∷ [])) within)
+dated-by n from to olds news (e ∷ d ∷ more) is within = absurd within
+
+-- an event or none behind those of the entry that is exchanged
+pub exchange-moves : (es : List Entry) (x : Numbered) (from to : ℕ) (more : List Event) → events_of x.entry ≡ events_in (entry_at es x.number) ++ more → AreWithin from to more → MovesWithin es (edit.Exchange x) from to
+exchange-moves es x from to more is within = record {
+  moved = moved-by x.number from to (events_in (entry_at es x.number)) (events_of x.entry) more is within;
+  dated = dated-by x.number from to (events_in (entry_at es x.number)) (events_of x.entry) more is within;
+}
 
 -- What an accepted ask has passed.
 
@@ -132,14 +158,14 @@ head-there None seats es (caller.Person p) a headed known other =
 
 -- A step.
 
--- the edit fits, leaves the rows sound, and moves one event in the journal at most; it is of entry n, which draws
--- on t
+-- the edit fits, leaves the rows sound, and moves one event in the journal at most, no earlier than the last day
+-- before it and no later than the one after it; it is of entry n, which draws on t
 pub record IsStepOf (rows : Rows) (t n : ℕ) (e : Edit) (last : ℕ) : Type 0 where
   pub place : IsPlace rows e
   pub sound : Sound (changed_by e last rows)
   pub not_before : last_of rows.head ≤ last
   pub seen : last_of (changed_by e last rows).head ≡ last
-  pub moved : AreMoved rows.entries e (movement_of rows.entries e)
+  pub moves : MovesWithin rows.entries e (last_of rows.head) last
   pub may : MayEdit rows.entries t n e
 
 -- the step of an ask
@@ -153,7 +179,7 @@ abbrev pub Stepped : Option Head → List Seat → List Entry → Asked → Edit
 Stepped head seats es a e = IsStep (rows-of head seats es) a e (last_after head e a.day)
 
 pub step-nothing : (h : Head) (seats : List Seat) (es : List Entry) (a : Asked) → Sound (rows-of (Some h) seats es) → Stepped (Some h) seats es a edit.Nothing
-step-nothing h seats es a s = record { place = tt; sound = s; not_before = omega arith; seen = refl; moved = refl; may = tt }
+step-nothing h seats es a s = record { place = tt; sound = s; not_before = omega arith; seen = refl; moves = record { moved = refl; dated = tt }; may = tt }
 
 pub step-unclosed : (seats : List Seat) (es : List Entry) (c : Caller) (o : OpenAsk) (day : ℕ) → Sound (rows-of None seats es) → Stepped None seats es (asked c (ask.OpenMatter o) day) (edit.Open (opening o day))
 step-unclosed seats es c o day s = record {
@@ -161,7 +187,7 @@ step-unclosed seats es c o day s = record {
   sound = rows-unclosed seats es (opening o day) day s (omega arith) refl;
   not_before = omega arith;
   seen = refl;
-  moved = refl;
+  moves = record { moved = refl; dated = tt };
   may = tt;
 }
 
@@ -171,7 +197,7 @@ step-seat h seats es c new day s unclosed later free = record {
   sound = rows-seat h seats es new day s unclosed later;
   not_before = later;
   seen = refl;
-  moved = refl;
+  moves = record { moved = refl; dated = tt };
   may = tt;
 }
 
@@ -181,6 +207,6 @@ step-unseat h seats es c person day s unclosed later seated = record {
   sound = rows-unseat h seats es person day s unclosed later;
   not_before = later;
   seen = refl;
-  moved = refl;
+  moves = record { moved = refl; dated = tt };
   may = tt;
 }

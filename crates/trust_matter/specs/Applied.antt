@@ -26,7 +26,7 @@ abbrev pub kept_as : Numbered → Moves → Kept
 kept_as x v = record { number = x.number; left = v.left; entry = x.entry }
 
 -- the entry is kept, what is left of the one that it names is written, and the figures are new
-pub record IsApplied (m : Part) (x : Numbered) (v : Moves) (day : ℕ) (m' : Part) : Type 0 where
+pub record IsWritten (m : Part) (x : Numbered) (v : Moves) (day : ℕ) (m' : Part) : Type 0 where
   pub head : m'.head ≡ seen_on m.head day
   pub seats : m'.seats ≡ m.seats
   pub figures : m'.figures ≡ v.figures

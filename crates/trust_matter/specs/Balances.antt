@@ -18,7 +18,7 @@ total_of share (e ∷ es) = share e +ℤ total_of share es
 abbrev pub held : List Entry → ℤ
 held es = total_of held_share es
 
--- what the bank holds: cleared deposits less payments
+-- cleared deposits less payments issued or cleared; the money of an issued payment may still lie at the bank
 abbrev pub total : List Entry → ℤ
 total es = total_of total_share es
 

@@ -93,6 +93,11 @@ AreMoved es (edit.Append x) m = events_of x.entry ≡ events_by m
 AreMoved es (edit.Exchange x) m = events_of x.entry ≡ events_in (entry_at es x.number) ++ events_by m
 AreMoved es _ m = m ≡ None
 
+-- what is moved, if anything is, is moved on no day before the first, and on none after the second
+abbrev pub IsMovedWithin : ℕ → ℕ → Option Movement → Type 0
+IsMovedWithin from to None = Unit {0}
+IsMovedWithin from to (Some v) = (from ≤ v.day) × (v.day ≤ to)
+
 -- Its place.
 
 -- the exchanged entry keeps its kind, its day and all that was asked
@@ -125,7 +130,8 @@ AreLefts fs (edit.Append x) v = AreLeft fs x v
 AreLefts fs (edit.Exchange x) v = AreLeft fs x v
 AreLefts fs _ v = Unit {0}
 
--- a change of these rows: it fits, leaves them sound, and carries their own totals and movement
+-- a change of these rows: it fits, leaves them sound, and carries their own totals and movement; it moves nothing
+-- before the last day, nor after the one that it leaves
 pub record IsChange (rows : Rows) (c : MatterChange) : Type 0 where
   pub place : IsPlace rows c.edit
   pub sound : Sound (changed c rows)
@@ -135,3 +141,4 @@ pub record IsChange (rows : Rows) (c : MatterChange) : Type 0 where
   pub moved : AreMoved rows.entries c.edit c.movement
   pub figures : AreFigures c.moves.figures (edited rows.entries c.edit)
   pub lefts : AreLefts (edited rows.entries c.edit) c.edit c.moves
+  pub dated : IsMovedWithin (last_of rows.head) c.last c.movement

@@ -73,10 +73,10 @@ abbrev pub closed_at_rest : Rows
 closed_at_rest = record { head = Some (record { client = codes "Ada Chen"; opened = 20260105; closed = Some 20260112; last = 20260112 }); seats = seats; entries = all_paid_out }
 
 -- the balances of entries, in cents
-pub record Balance (es : List Entry) (in_hold to_pay in_dispute of_fees of_claims at_bank : ℕ) : Type 0 where
+pub record Balance (es : List Entry) (in_hold to_pay in_dispute of_fees of_claims in_total : ℕ) : Type 0 where
   pub held : held es ≡ pos in_hold
   pub available : available es ≡ pos to_pay
   pub disputed : disputed es ≡ pos in_dispute
   pub fees : fees es ≡ pos of_fees
   pub claims : claims es ≡ pos of_claims
-  pub total : total es ≡ pos at_bank
+  pub total : total es ≡ pos in_total

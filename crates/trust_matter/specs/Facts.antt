@@ -18,7 +18,8 @@ pub record Asked : Type 0 where
 
 -- the head and the seats; how many entries there are, what is available, the ledger and the number of
 -- payments proposed or issued; the entry whose number the ask has; the fee or claim that the ask, or else
--- this entry, names, with what is left of it
+-- this entry, names, with what is left of it; no condition reads the ledger and the number of payments yet, which
+-- are for the closing of a matter
 pub record Facts : Type 0 where
   pub head : Option Head
   pub seats : List Seat

@@ -16,7 +16,7 @@ use Rattle.trust_matter.specs.declared.line_verdict.Reason.{Reason}
 use Rattle.trust_matter.specs.declared.line_verdict.LineEdit.TheVariants as told
 use Rattle.trust_matter.specs.LineStep.{reasons, line_on, rows_after_line, IsApplied}
 
--- no ask leaves a matter unsound
+-- no ask whose amount is one leaves a matter unsound
 abbrev pub SoundForEver : Type 0
 SoundForEver = (rows : Rows) (a : Asked) → HasAmount a.ask → Sound rows → Sound (rows_after rows a)
 
@@ -70,8 +70,8 @@ FirstReason = (rows : Rows) (l : BankLine) (today : ℕ) (r : Reason) → line_o
 abbrev pub NoReason : Type 0
 NoReason = (rows : Rows) (l : BankLine) (today : ℕ) → IsApplied (line_on rows l today) → NoReasonHolds (reasons_on rows l today)
 
--- what the bank holds is what is available, disputed, left of fees and left of claims; and none of these is
--- below zero
+-- the total, cleared deposits less payments, is what is available, disputed, left of fees and left of claims; and
+-- none of these is below zero
 pub record IsCovered (es : List Entry) : Type 0 where
   pub sum : total es ≡ ((available es +ℤ disputed es) +ℤ fees es) +ℤ claims es
   pub held : pos 0 ≤ℤ held es

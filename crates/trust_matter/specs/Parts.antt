@@ -159,7 +159,7 @@ abbrev pub left_if : (Entry → Bool) → Option Kept → Option ℤ
 left_if kind None = None
 left_if kind (Some k) = cond (kind k.entry) (Some (pos k.left)) None
 
--- what the bank holds, by the totals
+-- cleared deposits less payments, by the totals
 abbrev pub total_kept : Figures → ℕ
 total_kept f = f.available + f.disputed + f.fees + f.claims
 

@@ -21,7 +21,7 @@ pub data Standing : Type 0 where
   Lawyer : Standing
   Cashier : Standing
 
--- a client disputes a fee; a claim on what is available is for the office of the firm
+-- a client disputes a fee; a claim on what is available is for a lawyer or the cashier
 abbrev pub rule_against : Against → Rule
 rule_against (against.General claimant) = rule.Claim
 rule_against (against.Fee k) = rule.Dispute

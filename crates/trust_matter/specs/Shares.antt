@@ -144,18 +144,6 @@ has_settled (claim.Offered part) = false
 has_settled (claim.Settled s) = true
 
 -- what an entry adds to the sum of what is left of the fees, and of the claims on the general fund
-abbrev pub fee_draw : Entry → ℤ
-fee_draw (entry.Deposit d) = pos 0
-fee_draw (entry.Payment p) = from_fee p.fund (paid p.state p.amount)
-fee_draw (entry.Fee f) = pos 0
-fee_draw (entry.Claim c) = on_fee c.against (off_fee c.state c.amount)
-
-abbrev pub claim_draw : Entry → ℤ
-claim_draw (entry.Deposit d) = pos 0
-claim_draw (entry.Payment p) = from_claim p.fund (paid p.state p.amount)
-claim_draw (entry.Fee f) = pos 0
-claim_draw (entry.Claim c) = pos 0
-
 unfoldable pub fee_share : Entry → ℤ
 fee_share (entry.Deposit d) = pos 0
 fee_share (entry.Payment p) = pos 0 -ℤ from_fee p.fund (paid p.state p.amount)

@@ -64,20 +64,36 @@ pub struct SplitAsk {
 /// What is asked of a matter.
 #[derive(Drop)]
 pub enum Ask {
+    /// The matter is opened for a client, with its first lawyer.
     OpenMatter(OpenAsk),
+    /// A person takes a seat.
     AddSeat(Seat),
+    /// A person gives up the seat; the last lawyer keeps it.
     DropSeat(PersonId),
+    /// Money received is booked, and held until the bank tells of it.
     Deposit(DepositAsk),
+    /// A held deposit is cancelled.
     CancelDeposit(EntryNo),
+    /// A payment is proposed. Whether its fund covers it is tried when it is approved.
     Propose(PaymentAsk),
+    /// A proposed payment is issued, where its own fund covers it.
     Approve(EntryNo),
+    /// A proposed payment is turned down, for good.
     Decline(EntryNo),
+    /// An issued payment is taken back, and its fund has the money again.
     VoidPayment(EntryNo),
+    /// A fee is set apart from what is available.
     EarnFee(FeeAsk),
+    /// Disputed money is kept apart, of a fee or of what is available.
     RaiseClaim(ClaimAsk),
+    /// The client is offered a part of an open claim, in the place of an earlier offer.
     Offer(SplitAsk),
+    /// The client accepts exactly the part offered, and the claim is settled.
     Accept(SplitAsk),
+    /// An open claim is settled by the part given, whatever was offered.
     Award(SplitAsk),
+    /// The matter is read.
     Show,
+    /// An entry is read.
     ShowEntry(EntryNo),
 }

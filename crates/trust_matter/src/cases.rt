@@ -140,6 +140,7 @@ pub fn general_claims()
     ensures claimed_by_lawyer { Accepts cleared_for_ada (by_person lee (claim_asked 2 12000 roofers) tuesday) (roof_claimed ClaimState.Open) }
     ensures claimed_by_client { Refuses cleared_for_ada (by_person ada (claim_asked 2 12000 roofers) tuesday) (Refusal.NotAllowed Rule.Claim) }
     ensures claimed_in_cash { Refuses cleared_for_ada (by_cashier (claim_asked 2 12000 in_cash) tuesday) Refusal.PayeeIsCash }
+    ensures offered { Accepts (roof_claimed ClaimState.Open) (by_person lee (offer_asked 2 12000) tuesday) (roof_claimed (ClaimState.Offered 12000)) }
     ensures awarded { Accepts (roof_claimed ClaimState.Open) (by_cashier (award_asked 2 2000) tuesday) (roof_claimed (settled_with 2000)) }
     ensures awarded_over_an_offer { Accepts (roof_claimed (ClaimState.Offered 500)) (by_cashier (award_asked 2 2000) tuesday) (roof_claimed (settled_with 2000)) }
     ensures awarded_balances { Balance (roof_claimed (settled_with 2000)).entries 0 40000 0 0 10000 50000 }

@@ -16,15 +16,15 @@ use crate::shares::{Shares, moved, no_shares};
 use std::marker::Model;
 use trust_base::{Day, EntryNo, Refusal};
 
-/// What is left of an entry.
+/// What is left of an entry, in cents.
 #[derive(Clone, Copy)]
 pub struct Left {
     pub number: EntryNo,
     pub left: u64,
 }
 
-/// How what is kept moves: the totals after a change, what is then left of its entry, and of the one that
-/// this names.
+/// How what is kept moves: the totals after a change, what is then left of its entry, in cents, and of the one
+/// that this names.
 #[derive(Clone, Copy)]
 pub struct Moves {
     pub figures: Figures,
@@ -91,8 +91,8 @@ impl Change {
     }
 }
 
-/// The figures with one entry's shares exchanged for another's.
-pub fn figures_after(
+/// The figures with one entry's shares exchanged for another's; none where one of them would leave its range.
+pub(crate) fn figures_after(
     figures: &Figures,
     entries: u64,
     out: &Shares,
@@ -256,8 +256,9 @@ fn edit_movement(matter: &Matter, edit: &Edit) -> Option<Movement>
     }
 }
 
-/// The change that an edit makes, with the last day after it, if what is kept allows it.
-pub fn change_of(matter: &Matter, edit: Edit, last: Day) -> Result<Change, Refusal>
+/// The change that an edit makes, with the last day after it. Store where a total or what is left would leave its
+/// range, or where an entry that is needed is not kept.
+pub(crate) fn change_of(matter: &Matter, edit: Edit, last: Day) -> Result<Change, Refusal>
     ensures ok { IfOk result (λ c. IsMade matter.now edit last c) }
     ensures err { IfErr result (λ r. r ≡ Refusal.Store) }
     ensures store { OnErr result ((v : TheMoves) → AreSmallMoves v → EditMoved matter.now edit v → ⊥) }

@@ -53,8 +53,8 @@ impl PaymentState {
 }
 
 impl Deposit {
-    /// The deposit in another state.
-    pub fn restated(&self, state: DepositState) -> Result<Deposit, AllocError>
+    /// The deposit in another state. An error means that a growth was refused; `self` stays as it is.
+    pub(crate) fn restated(&self, state: DepositState) -> Result<Deposit, AllocError>
         ensures { IfOk result (λ d. d ≡ record self.now { state = state }) }
     {
         let source = self.source.copied()?;
@@ -77,8 +77,8 @@ impl Deposit {
 }
 
 impl Payment {
-    /// The payment in another state.
-    pub fn restated(&self, state: PaymentState) -> Result<Payment, AllocError>
+    /// The payment in another state. An error means that a growth was refused; `self` stays as it is.
+    pub(crate) fn restated(&self, state: PaymentState) -> Result<Payment, AllocError>
         ensures { IfOk result (λ p. p ≡ record self.now { state = state }) }
     {
         let payee = self.payee.copied()?;
@@ -128,8 +128,8 @@ impl Against {
 }
 
 impl Claim {
-    /// The claim in another state.
-    pub fn restated(&self, state: ClaimState) -> Result<Claim, AllocError>
+    /// The claim in another state. An error means that a growth was refused; `self` stays as it is.
+    pub(crate) fn restated(&self, state: ClaimState) -> Result<Claim, AllocError>
         ensures { IfOk result (λ c. c ≡ record self.now { state = state }) }
     {
         let against = self.against.copied()?;

@@ -24,7 +24,7 @@ use trust_base::{Day, EntryNo, PersonId, Refusal, Rule};
 
 impl Ask {
     /// The rule that it comes under.
-    pub fn rule(&self) -> Rule
+    pub(crate) fn rule(&self) -> Rule
         ensures { result ≡ rule_of self.now }
     {
         match self {
@@ -77,7 +77,7 @@ impl Ask {
     }
 
     // The amount that it names is one.
-    fn check_amount(&self)
+    fn amount_is_one(&self)
         ensures { HasAmount self.now }
     {
         match self {
@@ -100,7 +100,7 @@ impl Ask {
 
 impl Fund {
     /// The number of the fee or claim that it is, if it is one.
-    pub fn number(self) -> Option<EntryNo>
+    pub(crate) fn number(self) -> Option<EntryNo>
         ensures { number_or_none result ≡ fund_no self }
     {
         match self {
@@ -380,7 +380,7 @@ pub fn decide(matter: &Matter, caller: &Caller, ask: &Ask, day: Day) -> Result<C
     ensures { (rows : Rows) → Sound rows → IsPart matter.now rows
         → Decides rows (record { caller = caller.now; ask = ask.now; day = day }) result }
 {
-    ask.check_amount();
+    ask.amount_is_one();
     match decide_edit(matter, caller, ask, day) {
         Ok(edit) => {
             let last = matter.last_after(&edit, day);

@@ -2,7 +2,7 @@
 
 ghost use Rattle.trust_matter.specs.Laws.{SoundForEver, LinesKeepSound, LeastRefusal, NoneHolds, FirstReason, NoReason, Covered, MadeStays, LinesLeaveMade, AtMostOnce, LineAtMostOnce, FullTakesNone};
 
-/// No ask and no line of the bank leaves a matter unsound.
+/// No ask whose amount is one, and no line of the bank, leaves a matter unsound.
 pub fn sound_for_ever()
     ensures asks { SoundForEver }
     ensures lines { LinesKeepSound }
@@ -22,8 +22,8 @@ pub fn first_reason_holds()
     ensures none { NoReason }
 {}
 
-/// In sound rows what the bank holds is what is available, disputed, left of fees and left of claims, and
-/// no balance is below zero.
+/// In sound rows the total, cleared deposits less payments, is what is available, disputed, left of fees and left
+/// of claims, and no balance is below zero.
 pub fn sound_is_covered()
     ensures { Covered }
 {}
@@ -47,7 +47,8 @@ pub fn line_at_most_once()
     ensures { LineAtMostOnce }
 {}
 
-/// A matter of 9,999 entries takes no other: what is no repeat is refused, and no next number is told.
+/// A matter of 9,999 entries takes no other: an ask that makes an entry and is no repeat is refused, and no next
+/// number is told.
 pub fn full_takes_none()
     ensures { FullTakesNone }
 {}

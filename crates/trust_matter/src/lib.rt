@@ -1,26 +1,26 @@
 //! The machine of one matter, which keeps its totals and some of its entries.
 #![tactic(auto)]
 
-pub mod asks;
+mod asks;
 mod bank_line;
 pub mod cases;
-pub mod change;
+mod change;
 mod copies;
-pub mod deciding;
+mod deciding;
 mod deciding_claims;
 mod deciding_line;
 mod deciding_payments;
-pub mod edits;
+mod edits;
 mod keep;
 pub mod laws;
 mod line_verdict;
-pub mod matter;
+mod matter;
 mod movement;
 mod named;
-pub mod rows;
+mod rows;
 mod seats;
-pub mod shares;
-pub mod totals;
+mod shares;
+mod totals;
 mod whole;
 
 pub use asks::{Ask, Caller, ClaimAsk, DepositAsk, FeeAsk, OpenAsk, PaymentAsk, SplitAsk};

@@ -11,7 +11,7 @@ ghost use Rattle.trust_matter.specs.Sound.{Sound, AreInOrder};
 ghost use Rattle.trust_matter.specs.Parts.{Part, IsPart, IsWhole, HoldsOn, kept_at, kept_in, is_held, is_named, named_part, target_by, most, AreSmall, AreInRange};
 ghost use Rattle.trust_matter.specs.Changes.{IsChange, AreSmallMoves, changed, seen_on};
 ghost use Rattle.trust_matter.specs.Step.{last_after};
-ghost use Rattle.trust_matter.specs.Applied.{IsApplied};
+ghost use Rattle.trust_matter.specs.Applied.{IsWritten};
 
 use crate::asks::{Ask, Caller};
 use crate::change::{Change, Moves};
@@ -49,7 +49,7 @@ pub struct Balances {
     pub claims: u64,
     /// Open claims on fees.
     pub disputed: u64,
-    /// What the bank holds: cleared deposits less payments.
+    /// Cleared deposits less payments issued or cleared; the money of an issued payment may still lie at the bank.
     pub total: u64,
 }
 
@@ -199,7 +199,7 @@ impl Matter {
         }
     }
 
-    /// The same matter, with all that it keeps.
+    /// The same matter, with all that it keeps. An error means that a growth was refused; `self` stays as it is.
     pub fn copied(&self, alloc: Global) -> Result<Matter, AllocError>
         ensures { IfOk result (λ m. m ≡ self.now) }
     {
@@ -210,7 +210,8 @@ impl Matter {
         Ok(Matter::made(head, seats, figures, kept))
     }
 
-    /// The same matter with, of what it keeps, only two entries and the ones that these draw on.
+    /// The same matter with, of what it keeps, only two entries and the ones that these draw on. An error means that
+    /// a growth was refused; `self` stays as it is.
     pub fn part(
         &self,
         alloc: Global,
@@ -234,7 +235,7 @@ impl Matter {
     }
 
     /// Is there no such matter to the caller?
-    pub fn is_unknown_to(&self, caller: &Caller, ask: &Ask) -> bool
+    pub(crate) fn is_unknown_to(&self, caller: &Caller, ask: &Ask) -> bool
         ensures { result ≡ is_unknown_to caller.now self.now.head self.now.seats ask.now }
     {
         match caller {
@@ -244,7 +245,7 @@ impl Matter {
     }
 
     /// Does the policy allow the caller to ask under this rule?
-    pub fn allows(&self, caller: &Caller, rule: Rule) -> bool
+    pub(crate) fn allows(&self, caller: &Caller, rule: Rule) -> bool
         ensures { result ≡ allows self.now.seats caller.now rule }
     {
         match caller {
@@ -264,14 +265,14 @@ impl Matter {
     }
 
     /// Has another person a lawyer's seat?
-    pub fn has_other_lawyer(&self, person: &PersonId) -> bool
+    pub(crate) fn has_other_lawyer(&self, person: &PersonId) -> bool
         ensures { result ≡ has_other_lawyer self.now.seats person.now }
     {
         has_other_lawyer(&self.seats, person)
     }
 
     /// Was the matter closed?
-    pub fn is_closed(&self) -> bool
+    pub(crate) fn is_closed(&self) -> bool
         ensures { result ≡ is_some (closed_on self.now.head) }
     {
         match &self.head {
@@ -281,7 +282,7 @@ impl Matter {
     }
 
     /// The last day, where this day is before it.
-    pub fn last_behind(&self, day: Day) -> Option<Day>
+    pub(crate) fn last_behind(&self, day: Day) -> Option<Day>
         ensures { MatchOption result (nat_lt day (last_of self.now.head) ≡ false)
             (λ last. (nat_lt day (last_of self.now.head) ≡ true) × (last ≡ last_of self.now.head)) }
     {
@@ -298,7 +299,7 @@ impl Matter {
     }
 
     /// The last day after an edit that was asked for on this day.
-    pub fn last_after(&self, edit: &Edit, day: Day) -> Day
+    pub(crate) fn last_after(&self, edit: &Edit, day: Day) -> Day
         ensures { result ≡ last_after self.now.head edit.now day }
     {
         match (&self.head, edit) {
@@ -308,7 +309,7 @@ impl Matter {
     }
 
     /// The number of the next entry; none after 9999.
-    pub fn next_number(&self) -> Option<EntryNo>
+    pub(crate) fn next_number(&self) -> Option<EntryNo>
         ensures { result ≡ next_number self.now.figures.entries }
     {
         if self.figures.entries < 9_999 {
@@ -319,7 +320,7 @@ impl Matter {
     }
 
     /// Does this number come next?
-    pub fn is_next(&self, number: EntryNo) -> bool
+    pub(crate) fn is_next(&self, number: EntryNo) -> bool
         ensures { result ≡ is_number (next_number self.now.figures.entries) number }
     {
         self.figures.entries < 9_999 && number.get() as u64 == self.figures.entries + 1
@@ -387,7 +388,7 @@ impl Matter {
     // Keeps an entry, what is left of it and of the one that it names, and new totals.
     fn keep(&mut self, entry: &Numbered, moves: Moves, last: Day) -> Result<(), AllocError>
         requires { AreSmallMoves moves }
-        ensures ok { OnOk result (IsApplied self.old entry.now moves last self.new) }
+        ensures ok { OnOk result (IsWritten self.old entry.now moves last self.new) }
         ensures err { OnErr result (self.new ≡ self.old) }
     {
         let copy = entry.entry.copied()?;

@@ -54,7 +54,8 @@ pub trait Book {
         ensures was_clean { clean self.new → clean self.old }
         ensures count { refusals self.new ≡ counted result (refusals self.old) };
 
-    /// Makes one change of a matter, or none where it is refused. A change that is nothing is never refused.
+    /// Makes one change of a matter, or none where it is refused. The change has to be one of the matter's rows as they
+    /// are now. A change that is nothing is never refused.
     fn write_change(
         &mut self,
         alloc: Global,
@@ -68,8 +69,8 @@ pub trait Book {
         ensures was_clean { clean self.new → clean self.old }
         ensures count { refusals self.new ≡ counted result (refusals self.old) };
 
-    /// Hands over each row in order: by matter, and in each the head, the seats by person and the entries by
-    /// number. A row for which the sink wants memory ends the call.
+    /// Hands over each row. In a sound firm they come in order: by matter, and in each the head, the seats by person and
+    /// the entries by number. A row for which the sink wants memory ends the call.
     fn each_row<S: RowSink>(&mut self, sink: &mut S) -> Result<(), StoreFault>
         ensures all { clean self.new → OnOk result (sink.new ≡ fold S.stepped sink.old (firm self.old).rows) }
         ensures some { clean self.new → FoldsFront S.stepped sink.old (firm self.old).rows sink.new }
@@ -78,8 +79,9 @@ pub trait Book {
         ensures count { refusals self.new ≡ counted result (refusals self.old) };
 
     /// Writes what becomes of a line of the bank that names an entry: one that is applied changes the entry's matter and
-    /// is no exception from then on, nor is one that comes again; one that matches nothing joins the exceptions. It is one
-    /// write: nothing has changed where it is refused.
+    /// is no exception from then on, nor is one that comes again; one that matches nothing joins the exceptions. The
+    /// verdict has to be one on the matter's rows as they are now. It is one write: nothing has changed where it is
+    /// refused.
     fn write_line(
         &mut self,
         alloc: Global,
@@ -92,15 +94,15 @@ pub trait Book {
         ensures was_clean { clean self.new → clean self.old }
         ensures count { refusals self.new ≡ counted result (refusals self.old) };
 
-    /// Adds a line that names nothing to the exceptions, unless it is one.
+    /// Adds a whole line to the exceptions. Where an equal one is there already nothing changes.
     fn write_stray(&mut self, alloc: Global, line: &Line) -> Result<(), StoreFault>
         ensures ok { clean self.new → OnOk result (firm self.new ≡ after_stray line.now (firm self.old)) }
         ensures err { clean self.new → OnErr result (firm self.new ≡ firm self.old) }
         ensures was_clean { clean self.new → clean self.old }
         ensures count { refusals self.new ≡ counted result (refusals self.old) };
 
-    /// Hands over each exception, by day, reference, the bank's reference, amount as a number, and text. A line for which
-    /// the sink wants memory ends the call.
+    /// Hands over each exception. In a sound firm they come in order: by day, reference, the bank's reference, amount as a
+    /// number, and text. A line for which the sink wants memory ends the call.
     fn each_exception<S: RowSink>(&mut self, sink: &mut S) -> Result<(), StoreFault>
         ensures all { clean self.new → OnOk result (sink.new ≡ fold S.noted sink.old (firm self.old).exceptions) }
         ensures some { clean self.new → FoldsFront S.noted sink.old (firm self.old).exceptions sink.new }

@@ -9,7 +9,8 @@ use trust_base::{EntryNo, Line, MatterNo, StoreFault};
 use trust_firm::RowSink;
 use trust_matter::{BankLine, Change, Edit, LineVerdict, Matter};
 
-/// Answers Store to its nth write, and hands each other call on. A change that is nothing is no write.
+/// A book for tests: it answers Store to its nth write, and hands each other call on. A change that is nothing is no
+/// write; a line of the bank is one, also where it comes again or matches nothing.
 #[derive(Debug, Drop)]
 pub struct RefusingBook<B: Book> {
     inner: B,

@@ -10,15 +10,16 @@ use trust_matter::{
     Head, Matter, Payment, PaymentState, Role, Seat, Settlement,
 };
 
-fn clearing(alloc: Global) -> Result<Clearing, Fail> {
+/// The clearing by the bank's line B1.
+pub fn clearing(alloc: Global) -> Result<Clearing, Fail> {
     Ok(Clearing {
         bank_day: day("2024-01-12")?,
         bank_ref: BankText::read(alloc, b"B1")?.ok_or("a reference")?,
     })
 }
 
-// A retainer of 500.00 from Ada Chen.
-fn retainer(alloc: Global, state: DepositState) -> Result<Entry, Fail> {
+/// A retainer of 500.00 from Ada Chen.
+pub fn retainer(alloc: Global, state: DepositState) -> Result<Entry, Fail> {
     Ok(Entry::Deposit(Deposit {
         book: day("2024-01-10")?,
         amount: cents("500.00")?,
@@ -41,8 +42,20 @@ fn filing_fee(alloc: Global, fund: Fund, state: PaymentState) -> Result<Entry, F
     }))
 }
 
-// A claim of 50.00.
-fn claim(alloc: Global, against: Against, state: ClaimState) -> Result<Entry, Fail> {
+/// A fee of 200.00 for advice.
+pub fn advice(alloc: Global) -> Result<Entry, Fail> {
+    let book = day("2024-01-10")?;
+    let amount = cents("200.00")?;
+    let description = label(alloc, "advice")?;
+    Ok(Entry::Fee(Fee {
+        book,
+        amount,
+        description,
+    }))
+}
+
+/// A claim of 50.00.
+pub fn claim(alloc: Global, against: Against, state: ClaimState) -> Result<Entry, Fail> {
     Ok(Entry::Claim(Claim {
         book: day("2024-01-10")?,
         amount: cents("50.00")?,
@@ -117,11 +130,7 @@ fn issued_payment(rt: HostRuntime) -> Result<(), Fail> {
 fn fee_in_part(rt: HostRuntime) -> Result<(), Fail> {
     let alloc = rt.alloc();
     let matter = matter_no("000001")?;
-    let fee = Entry::Fee(Fee {
-        book: day("2024-01-10")?,
-        amount: cents("200.00")?,
-        description: label(alloc, "advice")?,
-    });
+    let fee = advice(alloc)?;
     let body = entry_body(alloc, matter, entry_no("0002")?, &fee, 15_000)?;
     let want =
         r#"{"amount":"200.00","day":"2024-01-10","description":"advice","entry":"0002","kind":"fee","left":"150.00","matter":"000001"}"#;
@@ -181,22 +190,28 @@ fn imports(rt: HostRuntime) -> Result<(), Fail> {
     Ok(())
 }
 
+/// A matter of Ada Chen with the lawyer lee, of these entries.
+pub fn matter_of(alloc: Global, entries: &[Entry]) -> Result<Matter, Fail> {
+    let client = label(alloc, "Ada Chen")?;
+    let opened = day("2024-01-10")?;
+    let last = day("2024-01-12")?;
+    let person = person(alloc, "lee")?;
+    let role = Role::Lawyer;
+    let mut seats = Vec::new(alloc);
+    seats.push(Seat { person, role })?;
+    let head = Head {
+        client,
+        opened,
+        closed: None,
+        last,
+    };
+    Ok(Matter::of_rows(alloc, Some(head), seats, entries)?)
+}
+
 #[test]
 fn matters(rt: HostRuntime) -> Result<(), Fail> {
     let alloc = rt.alloc();
-    let person = person(alloc, "lee")?;
-    let head = Head {
-        client: label(alloc, "Ada Chen")?,
-        opened: day("2024-01-10")?,
-        closed: None,
-        last: day("2024-01-10")?,
-    };
-    let mut seats = Vec::new(alloc);
-    seats.push(Seat {
-        person,
-        role: Role::Lawyer,
-    })?;
-    let matter = Matter::of_rows(alloc, Some(head), seats, &[])?;
+    let matter = matter_of(alloc, &[])?;
     let body = matter_body(alloc, matter_no("000001")?, &matter)?;
     let want =
         r#"{"available":"0.00","claims":"0.00","client":"Ada Chen","closed":null,"disputed":"0.00","entries":0,"fees":"0.00","held":"0.00","matter":"000001","opened":"2024-01-10","seats":[{"person":"lee","role":"lawyer"}],"total":"0.00"}"#;

@@ -1,14 +1,12 @@
 // Fees that are set apart, and claims that keep money apart until they are settled.
 
-use crate::imports::{ONE_APPLIED, imports, retained};
+use crate::imports::{DEPOSITED_AT_ONCE, ONE_APPLIED, imports, retained};
 use crate::steps::{On, PaidFrom, Step, Told, follow, propose_from};
 use crate::values::day;
 use std::alloc::Global;
 use std::test::Fail;
 use trust_desk::Desk;
 use trust_store::PlainBook;
-
-const CLEARED: &str = "date,reference,bank_ref,amount,text\n2024-01-10,M000001-0001,B1,500.00,\n";
 
 const SEATED: &str =
     r#"{"available":"0.00","claims":"0.00","client":"Ada Chen","closed":null,"disputed":"0.00","entries":1,"fees":"0.00","held":"500.00","matter":"000001","opened":"2024-01-10","seats":[{"person":"ada","role":"client"},{"person":"lee","role":"lawyer"}],"total":"0.00"}"#;
@@ -20,7 +18,13 @@ fn follow_cleared(alloc: Global, steps: &[Told]) -> Result<(), Fail> {
     retained(&mut desk, alloc, today, "000001", "500.00")?;
     let seated: [Told; 1] = [("", Step::SeatClient("ada"), 200, SEATED)];
     follow(&mut desk, alloc, today, "000001", &seated)?;
-    imports(&mut desk, alloc, today, CLEARED.as_bytes(), ONE_APPLIED)?;
+    imports(
+        &mut desk,
+        alloc,
+        today,
+        DEPOSITED_AT_ONCE.as_bytes(),
+        ONE_APPLIED,
+    )?;
     follow(&mut desk, alloc, today, "000001", steps)
 }
 
@@ -56,23 +60,14 @@ const FIRM_UNPAID: &str =
 
 #[test]
 fn a_claim_on_a_fee_is_settled(rt: HostRuntime) -> Result<(), Fail> {
+    let claim = Step::Claim("0003", "50.00", On::Fee("0002"));
     let paid = propose_from(PaidFrom::Fee("0002"), "0004", "160.00", "FIRM");
     let steps: [Told; 16] = [
         ("lee", Step::Fee("0002", "200.00"), 201, FEE),
         ("lee", Step::Fee("0002", "200.00"), 200, FEE),
         ("", Step::Show, 200, FEE_EARNED),
-        (
-            "ada",
-            Step::Claim("0003", "50.00", On::Fee("0002")),
-            201,
-            ON_FEE,
-        ),
-        (
-            "ada",
-            Step::Claim("0003", "50.00", On::Fee("0002")),
-            200,
-            ON_FEE,
-        ),
+        ("ada", claim, 201, ON_FEE),
+        ("ada", claim, 200, ON_FEE),
         ("", paid, 201, FROM_FEE),
         (
             "lee",

@@ -1,6 +1,6 @@
 // Statements that are handed in as requests.
 
-use crate::imports::{ONE_APPLIED, ONE_REPEATED, retained, statement};
+use crate::imports::{DEPOSITED, ONE_APPLIED, ONE_REPEATED, retained, statement};
 use crate::requests::{answered, answers, deposit, is_same_reply, open, says, show};
 use crate::values::{day, person};
 use std::alloc::Global;
@@ -8,8 +8,6 @@ use std::test::Fail;
 use trust_desk::{Desk, Request, StatementText};
 use trust_matter::Caller;
 use trust_store::{PlainBook, RefusingBook};
-
-const DEPOSITED: &str = "date,reference,bank_ref,amount,text\n2024-01-12,M000001-0001,B1,500.00,\n";
 
 const OTHER_HEADER: &str = "date,reference,amount,text\n2024-01-12,M000001-0001,500.00,\n";
 

@@ -24,6 +24,18 @@ pub const ONE_REPEATED: &str =
 pub const ONE_EXCEPTION: &str =
     r#"{"applied":0,"exceptions":1,"repeated":0,"statement":null,"unreadable":0}"#;
 
+/// A statement of one line: on 2024-01-12 the bank booked 500.00 for the first entry of matter 000001.
+pub const DEPOSITED: &str =
+    "date,reference,bank_ref,amount,text\n2024-01-12,M000001-0001,B1,500.00,\n";
+
+/// The same of 2024-01-10.
+pub const DEPOSITED_AT_ONCE: &str =
+    "date,reference,bank_ref,amount,text\n2024-01-10,M000001-0001,B1,500.00,\n";
+
+/// What is shown of matter 000001, opened on 2024-01-10, once its only deposit of 500.00 is cleared.
+pub const CLEARED: &str =
+    r#"{"available":"500.00","claims":"0.00","client":"Ada Chen","closed":null,"disputed":"0.00","entries":1,"fees":"0.00","held":"0.00","matter":"000001","opened":"2024-01-10","seats":[{"person":"lee","role":"lawyer"}],"total":"500.00"}"#;
+
 // Fails where a request is not answered by this status.
 fn is_answered<B: Book>(
     desk: &mut Desk<B>,

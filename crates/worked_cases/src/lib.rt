@@ -4,6 +4,8 @@
 #[cfg(test)]
 mod bodies;
 #[cfg(test)]
+mod books;
+#[cfg(test)]
 mod claims;
 #[cfg(test)]
 mod desk;
@@ -11,6 +13,8 @@ mod desk;
 mod handed_in;
 #[cfg(test)]
 mod imports;
+#[cfg(test)]
+mod items;
 #[cfg(test)]
 mod matter;
 #[cfg(test)]
@@ -27,3 +31,5 @@ mod statements;
 mod steps;
 #[cfg(test)]
 mod values;
+#[cfg(test)]
+mod whole;

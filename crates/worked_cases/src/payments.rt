@@ -1,6 +1,8 @@
 // Payments: they are proposed, signed for by a lawyer, told of by the bank or voided.
 
-use crate::imports::{ONE_APPLIED, ONE_EXCEPTION, imports, retained};
+use crate::imports::{
+    CLEARED, DEPOSITED, DEPOSITED_AT_ONCE, ONE_APPLIED, ONE_EXCEPTION, imports, retained,
+};
 use crate::steps::{Step, Told, follow, propose, propose_at};
 use crate::values::day;
 use std::test::Fail;
@@ -8,6 +10,8 @@ use trust_desk::Desk;
 use trust_store::PlainBook;
 
 const NONE_LEFT: &str = r#"{"left":"0.00","name":"Short","refusal":21}"#;
+
+const WRONG_STATE: &str = r#"{"name":"WrongState","refusal":17}"#;
 
 const PROPOSED: &str =
     r#"{"amount":"100.00","day":"2024-01-10","entry":"0002","from":"general","instrument":"1001","kind":"payment","matter":"000001","of":null,"payee":"Court Clerk","purpose":"filing fee"}"#;
@@ -48,12 +52,6 @@ const OF_THE_OTHER: &str =
 const OTHER_OPENED: &str =
     r#"{"available":"0.00","claims":"0.00","client":"Ada Chen","closed":null,"disputed":"0.00","entries":0,"fees":"0.00","held":"0.00","matter":"000002","opened":"2024-01-10","seats":[{"person":"lee","role":"lawyer"}],"total":"0.00"}"#;
 
-const CLEARED: &str =
-    r#"{"available":"500.00","claims":"0.00","client":"Ada Chen","closed":null,"disputed":"0.00","entries":1,"fees":"0.00","held":"0.00","matter":"000001","opened":"2024-01-10","seats":[{"person":"lee","role":"lawyer"}],"total":"500.00"}"#;
-
-const CLEARED_AT_ONCE: &str =
-    "date,reference,bank_ref,amount,text\n2024-01-10,M000001-0001,B1,500.00,\n";
-
 #[test]
 fn no_matter_pays_for_another(rt: HostRuntime) -> Result<(), Fail> {
     let alloc = rt.alloc();
@@ -64,7 +62,7 @@ fn no_matter_pays_for_another(rt: HostRuntime) -> Result<(), Fail> {
         &mut desk,
         alloc,
         today,
-        CLEARED_AT_ONCE.as_bytes(),
+        DEPOSITED_AT_ONCE.as_bytes(),
         ONE_APPLIED,
     )?;
     let steps: [Told; 3] = [
@@ -89,9 +87,6 @@ const PAID: &str =
 const UNPAID: &str =
     r#"{"available":"500.00","claims":"0.00","client":"Ada Chen","closed":null,"disputed":"0.00","entries":2,"fees":"0.00","held":"0.00","matter":"000001","opened":"2024-01-10","seats":[{"person":"lee","role":"lawyer"}],"total":"500.00"}"#;
 
-const CLEARED_LATER: &str =
-    "date,reference,bank_ref,amount,text\n2024-01-12,M000001-0001,B1,500.00,\n";
-
 const PAID_OUT: &str = "date,reference,bank_ref,amount,text\n2024-01-12,M000001-0002,B2,-100.00,\n";
 
 // A payment is proposed before its money has come, signed for afterwards, and voided.
@@ -104,28 +99,45 @@ fn a_payment_is_issued_and_voided(rt: HostRuntime) -> Result<(), Fail> {
     retained(&mut desk, alloc, booked, "000001", "500.00")?;
     let proposed: [Told; 1] = [("", propose("0002", "100.00"), 201, PROPOSED)];
     follow(&mut desk, alloc, booked, "000001", &proposed)?;
-    imports(
-        &mut desk,
-        alloc,
-        today,
-        CLEARED_LATER.as_bytes(),
-        ONE_APPLIED,
-    )?;
+    imports(&mut desk, alloc, today, DEPOSITED.as_bytes(), ONE_APPLIED)?;
     let steps: [Told; 6] = [
         ("lee", Step::Approve("0002"), 200, ISSUED),
         ("", Step::Show, 200, PAID),
         ("lee", Step::Void("0002"), 200, VOIDED),
         ("", Step::Show, 200, UNPAID),
-        (
-            "lee",
-            Step::Void("0002"),
-            409,
-            r#"{"name":"WrongState","refusal":17}"#,
-        ),
+        ("lee", Step::Void("0002"), 409, WRONG_STATE),
         ("", propose("0002", "100.00"), 200, PROPOSED),
     ];
     follow(&mut desk, alloc, today, "000001", &steps)?;
     imports(&mut desk, alloc, today, PAID_OUT.as_bytes(), ONE_EXCEPTION)
+}
+
+const DECLINED: &str =
+    r#"{"amount":"100.00","bank_day":null,"bank_ref":null,"day":"2024-01-10","entry":"0002","from":"general","instrument":"1001","issued":null,"kind":"payment","matter":"000001","of":null,"payee":"Court Clerk","purpose":"filing fee","state":"declined","undone":null}"#;
+
+// A payment that a lawyer declines is paid no more, and its proposal is still answered by its receipt.
+#[test]
+fn a_payment_is_declined(rt: HostRuntime) -> Result<(), Fail> {
+    let alloc = rt.alloc();
+    let today = day("2024-01-10")?;
+    let mut desk = Desk::new(PlainBook::new(alloc));
+    retained(&mut desk, alloc, today, "000001", "500.00")?;
+    imports(
+        &mut desk,
+        alloc,
+        today,
+        DEPOSITED_AT_ONCE.as_bytes(),
+        ONE_APPLIED,
+    )?;
+    let steps: [Told; 6] = [
+        ("", propose("0002", "100.00"), 201, PROPOSED),
+        ("lee", Step::Decline("0002"), 200, DECLINED),
+        ("lee", Step::Decline("0002"), 409, WRONG_STATE),
+        ("lee", Step::Approve("0002"), 409, WRONG_STATE),
+        ("", propose("0002", "100.00"), 200, PROPOSED),
+        ("", Step::Show, 200, UNPAID),
+    ];
+    follow(&mut desk, alloc, today, "000001", &steps)
 }
 
 // Days do not go backwards after a line of the bank, and a payment that was issued is cleared by its line.
@@ -138,13 +150,7 @@ fn a_payment_is_cleared(rt: HostRuntime) -> Result<(), Fail> {
     retained(&mut desk, alloc, booked, "000001", "500.00")?;
     let proposed: [Told; 1] = [("", propose("0002", "100.00"), 201, PROPOSED)];
     follow(&mut desk, alloc, booked, "000001", &proposed)?;
-    imports(
-        &mut desk,
-        alloc,
-        today,
-        CLEARED_LATER.as_bytes(),
-        ONE_APPLIED,
-    )?;
+    imports(&mut desk, alloc, today, DEPOSITED.as_bytes(), ONE_APPLIED)?;
     let text = r#"{"last":"2024-01-12","name":"DateBackwards","refusal":13}"#;
     let early: [Told; 1] = [("lee", Step::Approve("0002"), 409, text)];
     follow(&mut desk, alloc, day("2024-01-11")?, "000001", &early)?;

@@ -1,12 +1,13 @@
 // Runs of requests: each matter is answered as if it were alone.
 
+use crate::imports::{ONE_APPLIED, statement};
 use crate::requests::{asked_by, cancel, deposit, is_same_reply, open, run_of, says, show};
 use crate::values::{day, matter_no};
 use std::alloc::Global;
 use std::test::Fail;
 use trust_base::MatterNo;
 use trust_desk::Request;
-use trust_matter::Ask;
+use trust_matter::{Ask, Caller};
 
 // What is asked of matter 000001.
 fn of_the_first(alloc: Global) -> Result<Vec<Request>, Fail> {
@@ -19,7 +20,11 @@ fn of_the_first(alloc: Global) -> Result<Vec<Request>, Fail> {
     Ok(requests)
 }
 
-// The same, with what is asked of matter 000002 before, in between and behind.
+// The bank's line of the deposit of matter 000002.
+const OF_THE_SECOND: &str =
+    "date,reference,bank_ref,amount,text\n2024-01-10,M000002-0001,B2,70.00,\n";
+
+// The same, with what is asked of matter 000002 before, in between and behind, and a statement that names it alone.
 fn of_both(alloc: Global) -> Result<Vec<Request>, Fail> {
     let mut requests = Vec::new(alloc);
     requests.push(open(alloc, "000002")?)?;
@@ -27,6 +32,7 @@ fn of_both(alloc: Global) -> Result<Vec<Request>, Fail> {
     requests.push(deposit(alloc, "000001", "0001", "500.00")?)?;
     requests.push(deposit(alloc, "000002", "0001", "70.00")?)?;
     requests.push(deposit(alloc, "000001", "0002", "20.00")?)?;
+    requests.push(statement(alloc, Caller::Cashier, OF_THE_SECOND)?)?;
     requests.push(cancel(alloc, "000001", "0001")?)?;
     requests.push(asked_by(alloc, "mallory", "000002", Ask::Show)?)?;
     requests.push(show(alloc, "000001")?)?;
@@ -69,9 +75,11 @@ fn the_other_matter_is_answered_too(rt: HostRuntime) -> Result<(), Fail> {
     let text =
         r#"{"amount":"70.00","day":"2024-01-10","description":"retainer","entry":"0001","kind":"deposit","matter":"000002","source":"Ada Chen"}"#;
     assert!(rt; says(receipt, 201, text));
-    let stranger = replies.get(6).ok_or("a reply")?;
+    let imported = replies.get(5).ok_or("a reply")?;
+    assert!(rt; says(imported, 200, ONE_APPLIED));
+    let stranger = replies.get(7).ok_or("a reply")?;
     assert!(rt; says(stranger, 404, r#"{"name":"NoMatter","refusal":8}"#));
-    let other = replies.get(8).ok_or("a reply")?;
+    let other = replies.get(9).ok_or("a reply")?;
     let text = r#"{"name":"WrongNumber","next":"0002","refusal":14}"#;
     assert!(rt; says(other, 409, text));
     Ok(())

@@ -1,14 +1,15 @@
 // Statements of the bank, item by item: what is applied, what comes again, and what matches nothing.
 
 use crate::imports::{
-    ONE_APPLIED, ONE_EXCEPTION, ONE_REPEATED, exceptions, import_faults, imports, retained,
+    CLEARED, DEPOSITED, ONE_APPLIED, ONE_EXCEPTION, ONE_REPEATED, exceptions, import_faults,
+    imports, retained,
 };
 use crate::steps::{Step, Told, follow};
 use crate::values::day;
 use std::alloc::{AllocError, Global};
 use std::io::Read;
 use std::test::Fail;
-use trust_base::TrialReader;
+use trust_base::{Line, TrialReader};
 use trust_desk::{Desk, ImportReply, ImportStop};
 use trust_store::PlainBook;
 
@@ -19,11 +20,6 @@ fn by(most: usize, text: &str) -> TrialReader<'_> {
 
 // The most bytes at each call.
 const CUTS: [usize; 4] = [1, 2, 7, 8_192];
-
-const DEPOSITED: &str = "date,reference,bank_ref,amount,text\n2024-01-12,M000001-0001,B1,500.00,\n";
-
-const CLEARED: &str =
-    r#"{"available":"500.00","claims":"0.00","client":"Ada Chen","closed":null,"disputed":"0.00","entries":1,"fees":"0.00","held":"0.00","matter":"000001","opened":"2024-01-10","seats":[{"person":"lee","role":"lawyer"}],"total":"500.00"}"#;
 
 const CLEARED_ENTRY: &str =
     r#"{"amount":"500.00","bank_day":"2024-01-12","bank_ref":"B1","day":"2024-01-10","description":"retainer","entry":"0001","kind":"deposit","matter":"000001","source":"Ada Chen","state":"cleared","undone":null}"#;
@@ -50,39 +46,58 @@ fn a_line_comes_again(rt: HostRuntime) -> Result<(), Fail> {
     Ok(())
 }
 
+const OTHER_AMOUNT: &str =
+    "date,reference,bank_ref,amount,text\n2024-01-12,M000001-0001,B1,499.99,\n";
+
 const STILL_HELD: &str =
-    r#"{"amount":"499.99","bank_day":null,"bank_ref":null,"day":"2024-01-10","description":"retainer","entry":"0001","kind":"deposit","matter":"000001","source":"Ada Chen","state":"held","undone":null}"#;
+    r#"{"amount":"500.00","bank_day":null,"bank_ref":null,"day":"2024-01-10","description":"retainer","entry":"0001","kind":"deposit","matter":"000001","source":"Ada Chen","state":"held","undone":null}"#;
 
 // A line of another amount than the deposit's is an exception.
 fn held_for_its_amount(alloc: Global, most: usize) -> Result<(), Fail> {
     let today = day("2024-01-12")?;
     let mut desk = Desk::new(PlainBook::new(alloc));
-    retained(&mut desk, alloc, day("2024-01-10")?, "000001", "499.99")?;
-    imports(&mut desk, alloc, today, by(most, DEPOSITED), ONE_EXCEPTION)?;
+    retained(&mut desk, alloc, day("2024-01-10")?, "000001", "500.00")?;
+    imports(
+        &mut desk,
+        alloc,
+        today,
+        by(most, OTHER_AMOUNT),
+        ONE_EXCEPTION,
+    )?;
     let steps: [Told; 1] = [("", Step::ShowEntry("0001"), 200, STILL_HELD)];
     follow(&mut desk, alloc, today, "000001", &steps)?;
-    only_exception_is(desk, alloc, b"M000001-0001", b"B1", b"")
+    let left = (20_240_112, "M000001-0001", "B1", 49_999, "");
+    only_exception_is(desk, alloc, left)
 }
 
-// Fails where the only exception of a desk is not of these texts.
-fn only_exception_is(
-    desk: Desk<PlainBook>,
-    alloc: Global,
-    reference: &[u8],
-    bank_ref: &[u8],
-    text: &[u8],
-) -> Result<(), Fail> {
+// What a line says: its day, the reference, the bank's reference, its cents and the bank's words.
+type Said = (u32, &'static str, &'static str, i64, &'static str);
+
+// Fails where the only exception of a desk says otherwise.
+fn only_exception_is(desk: Desk<PlainBook>, alloc: Global, said: Said) -> Result<(), Fail> {
     let lines = exceptions(desk, alloc)?;
     let [line] = lines.as_slice() else {
         return Err(Fail::from("another count of exceptions"));
     };
-    if line.reference.as_slice() != reference {
+    is_line(line, said)
+}
+
+// Fails where a line says otherwise.
+fn is_line(line: &Line, said: Said) -> Result<(), Fail> {
+    let (day, reference, bank_ref, cents, text) = said;
+    if line.date.get() != day {
+        return Err(Fail::from("another day"));
+    }
+    if line.reference.as_slice() != reference.as_bytes() {
         return Err(Fail::from("another reference"));
     }
-    if line.bank_ref.as_slice() != bank_ref {
+    if line.bank_ref.as_slice() != bank_ref.as_bytes() {
         return Err(Fail::from("another reference of the bank"));
     }
-    if line.text.as_slice() != text {
+    if line.amount.get() != cents {
+        return Err(Fail::from("another amount"));
+    }
+    if line.text.as_slice() != text.as_bytes() {
         return Err(Fail::from("another text"));
     }
     Ok(())
@@ -172,7 +187,8 @@ fn stray(alloc: Global, most: usize) -> Result<(), Fail> {
     let mut desk = Desk::new(PlainBook::new(alloc));
     imports(&mut desk, alloc, today, by(most, INTEREST), ONE_EXCEPTION)?;
     imports(&mut desk, alloc, today, by(most, INTEREST), ONE_EXCEPTION)?;
-    only_exception_is(desk, alloc, b"INTEREST", b"B9", b"")
+    let left = (20_240_112, "INTEREST", "B9", 100, "");
+    only_exception_is(desk, alloc, left)
 }
 
 #[test]
@@ -197,7 +213,8 @@ fn two_texts(alloc: Global, most: usize) -> Result<(), Fail> {
     imports(&mut desk, alloc, today, by(most, TWO_TEXTS), text)?;
     retained(&mut desk, alloc, today, "000001", "500.00")?;
     imports(&mut desk, alloc, today, by(most, ONE_TEXT), ONE_APPLIED)?;
-    only_exception_is(desk, alloc, b"M000001-0001", b"B1", b"from A. Chen")
+    let left = (20_240_112, "M000001-0001", "B1", 50_000, "from A. Chen");
+    only_exception_is(desk, alloc, left)
 }
 
 #[test]
@@ -217,14 +234,41 @@ fn never_closed(alloc: Global, most: usize) -> Result<(), Fail> {
     let mut desk = Desk::new(PlainBook::new(alloc));
     let told = ONE_EXCEPTION;
     imports(&mut desk, alloc, today, by(most, NEVER_CLOSED), told)?;
-    let text = b"from Ada\n2024-01-12,M000001-0001,B1,500.00,\n";
-    only_exception_is(desk, alloc, b"M000001-0001", b"B1", text)
+    let text = "from Ada\n2024-01-12,M000001-0001,B1,500.00,\n";
+    let left = (20_240_112, "M000001-0001", "B1", 50_000, text);
+    only_exception_is(desk, alloc, left)
 }
 
 #[test]
 fn a_quote_is_never_closed(rt: HostRuntime) -> Result<(), Fail> {
     for most in CUTS {
         never_closed(rt.alloc(), most)?;
+    }
+    Ok(())
+}
+
+const OF_THE_FIRM: &str =
+    "date,reference,bank_ref,amount,text\n2024-01-01,OPEN,,0.00,\n2024-01-12,FIRM,B2,-15.00,\n2024-01-31,CLOSE,,0.00,\n";
+
+// Balances and lines of the firm match nothing, and no statement is told of.
+fn of_the_firm(alloc: Global, most: usize) -> Result<(), Fail> {
+    let today = day("2024-01-31")?;
+    let text = r#"{"applied":0,"exceptions":3,"repeated":0,"statement":null,"unreadable":0}"#;
+    let mut desk = Desk::new(PlainBook::new(alloc));
+    imports(&mut desk, alloc, today, by(most, OF_THE_FIRM), text)?;
+    let lines = exceptions(desk, alloc)?;
+    let [opening, fees, closing] = lines.as_slice() else {
+        return Err(Fail::from("another count of exceptions"));
+    };
+    is_line(opening, (20_240_101, "OPEN", "", 0, ""))?;
+    is_line(fees, (20_240_112, "FIRM", "B2", -1_500, ""))?;
+    is_line(closing, (20_240_131, "CLOSE", "", 0, ""))
+}
+
+#[test]
+fn balances_and_lines_of_the_firm(rt: HostRuntime) -> Result<(), Fail> {
+    for most in CUTS {
+        of_the_firm(rt.alloc(), most)?;
     }
     Ok(())
 }

@@ -2,7 +2,7 @@
 
 ghost use Rattle.trust_firm.specs.FirmSound.{FirmSound};
 
-use crate::requests::{answered, asked_by, retainer, says};
+use crate::requests::{answered, asked_by, says};
 use crate::values::{cents, entry_no, label, part, person};
 use std::alloc::Global;
 use std::test::Fail;
@@ -42,9 +42,9 @@ pub enum On {
 pub enum Step {
     Open,
     SeatClient(&'static str),
-    Deposit(&'static str, &'static str),
     Propose(Proposal),
     Approve(&'static str),
+    Decline(&'static str),
     Void(&'static str),
     Fee(&'static str, &'static str),
     Claim(&'static str, &'static str, On),
@@ -153,9 +153,9 @@ fn ask_of(alloc: Global, step: Step) -> Result<Ask, Fail> {
     match step {
         Step::Open => opening(alloc),
         Step::SeatClient(name) => client(alloc, name),
-        Step::Deposit(number, amount) => retainer(alloc, entry_no(number)?, amount),
         Step::Propose(proposal) => payment(alloc, proposal),
         Step::Approve(number) => Ok(Ask::Approve(entry_no(number)?)),
+        Step::Decline(number) => Ok(Ask::Decline(entry_no(number)?)),
         Step::Void(number) => Ok(Ask::VoidPayment(entry_no(number)?)),
         Step::Fee(number, amount) => fee(alloc, number, amount),
         Step::Claim(number, amount, on) => claim(alloc, number, amount, on),

@@ -4,8 +4,8 @@ ghost use Rattle.std.specs.Prelude.{◌≡◌, nat_lt};
 
 use std::test::Fail;
 use trust_base::{
-    Cents, Day, Dollars, MatterNo, ReadFault, TrialReader, TrialWriter, WriteFault, read_whole,
-    send, write_amount,
+    Cents, CivilDay, Day, Dollars, MatterNo, ReadFault, TrialReader, TrialWriter, WriteFault,
+    read_whole, send, write_amount,
 };
 
 #[test]
@@ -108,7 +108,12 @@ fn texts_of_values(rt: HostRuntime) -> Result<(), Fail> {
         out.push(b' ')?;
         write_amount(sum, &mut out)?;
     }
-    let want = "12.05 000042 2024-02-29 0.00 0.05 -0.05 -1234.56 1000000000000000000000.00";
+    out.push(b' ')?;
+    CivilDay::from_number(22_040_229)
+        .ok_or("a day")?
+        .write_to(&mut out)?;
+    let want =
+        "12.05 000042 2024-02-29 0.00 0.05 -0.05 -1234.56 1000000000000000000000.00 2204-02-29";
     assert_eq!(rt; out.as_slice(), want.as_bytes());
     Ok(())
 }

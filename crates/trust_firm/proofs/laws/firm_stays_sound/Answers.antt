@@ -1,6 +1,9 @@
-use Rattle.trust_firm.proofs.Kept.{stays-sound}
+use Rattle.trust_firm.proofs.Kept.{empty-sound, stays-sound}
 use Rattle.trust_firm.proofs.Lines.{line-stays-sound, stray-stays-sound}
 use Rattle.trust_firm.proofs.laws.firm_stays_sound.Goals as goal
+
+pub returns-clause-empty : goal.returns-clause-empty
+returns-clause-empty c = empty-sound
 
 pub returns-clause-kept : goal.returns-clause-kept
 returns-clause-kept c = stays-sound c.sound_is_covered.ensures

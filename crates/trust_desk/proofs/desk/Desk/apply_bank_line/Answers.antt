@@ -1,9 +1,11 @@
 use Rattle.std.proofs.Common.{◌∙◌, Ok, Err, ap, sym, subst}
 use Rattle.std.proofs.lemmas.Result.{err_from_is_err_and}
 use Rattle.trust_matter.specs.LineStep.{IsLineChange, LineDecides}
+use Rattle.trust_matter.proofs.Covered.{sound-covered}
 use Rattle.trust_firm.specs.Firm.{Firm, of, after_line}
 use Rattle.trust_firm.specs.FirmSound.{FirmSound}
-use Rattle.trust_desk.proofs.Items.{decision-uncounted, other-after_line, sound-after_line, verdict-after, verdict-change, verdict-counted}
+use Rattle.trust_firm.proofs.Lines.{line-stays-sound}
+use Rattle.trust_desk.proofs.Items.{decision-uncounted, other-after_line, verdict-after, verdict-change, verdict-counted}
 use Rattle.trust_desk.proofs.desk.Desk.apply_bank_line.Goals as goal
 
 pub returns-in_err-verdict-clause-cause : goal.returns-in_err-verdict-clause-cause
@@ -71,4 +73,4 @@ returns-clause-sound g c =
     let sound = subst FirmSound (sym book) (c.requires (subst (g.B.Book.clean) c.self.view_is (c.in_ok-matter.ensures.was_clean read))) in
     let decides : LineDecides (of l.matter (firm c.self.inside.book)) l c.args.day (Ok v) = c.in_ok-verdict.ensures (of l.matter (firm c.self.inside.book)) (sound.matters l.matter) (c.in_ok-matter.ensures.found read) in
     let written = c.in_ok-write_line.ensures.ok clean ∙ ap (after_line l v) (c.in_ok-matter.ensures.same read) in
-    subst FirmSound (sym written) (sound-after_line (firm c.self.inside.book) l v sound (verdict-change (of l.matter (firm c.self.inside.book)) l c.args.day v decides))
+    subst FirmSound (sym written) (line-stays-sound sound-covered l v (firm c.self.inside.book) sound (verdict-change (of l.matter (firm c.self.inside.book)) l c.args.day v decides))

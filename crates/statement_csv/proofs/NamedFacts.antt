@@ -1,0 +1,46 @@
+-- The texts that name an entry.
+use Rattle.std.proofs.Common.{◌≡◌, ◌==◌, ◌&&◌, ℕ, List, ◌∷◌, ◌++◌, length, slice_index, slice_range, Option, Some, None, option_and_then, option_map, IfSome, refl, sym, ◌∙◌, arith, inl, inr}
+use Rattle.std.proofs.lemmas.Bool.{cases_Bool}
+use Rattle.trust_base.specs.Limits.{IsEntryNo, IsMatterNo}
+use Rattle.trust_base.specs.Texts.{entry_of, entry_text, matter_of, matter_text}
+use Rattle.trust_base.proofs.EntryFacts.{entry_of-is}
+use Rattle.trust_base.proofs.ReadFacts.{matter_of-is, number-text}
+use Rattle.statement_csv.specs.References.{entry_named, entry_of_texts, named, reference_text}
+use Rattle.statement_csv.proofs.ReferenceFacts.{dash-reference, entry-reference, first-reference, length-reference, matter-reference, twelve}
+
+-- an entry that two texts name has them as its texts
+texts-named : (mt et bs : List ℕ) → 77 ∷ (mt ++ 45 ∷ et) ≡ bs → IfSome (entry_of_texts mt et) (λ n. reference_text n.matter n.entry ≡ bs)
+texts-named mt et bs whole = by (matter_of mt) (entry_of et) (λ n f. number-text 1 1000000 matter_text mt n f) (λ n f. number-text 1 10000 entry_text et n f)
+  where
+    by : (a b : Option ℕ) → ((n : ℕ) → a ≡ Some n → matter_text n ≡ mt) → ((n : ℕ) → b ≡ Some n → entry_text n ≡ et)
+        → IfSome (option_and_then (λ m. option_map (named m) b) a) (λ n. reference_text n.matter n.entry ≡ bs)
+    by None b f g = tt
+    by (Some m) None f g = tt
+    by (Some m) (Some e) f g = rw (f m refl, g e refl) whole
+
+-- a text that names an entry is the reference of that entry
+pub named-text : (bs : List ℕ) → IfSome (entry_named bs) (λ n. reference_text n.matter n.entry ≡ bs)
+unfolding entry_named
+named-text bs = elim (cases_Bool ((length bs == 12) && (slice_index bs 0 == 77) && (slice_index bs 7 == 45))) [
+  | inl held ↦
+      let size : length bs ≡ 12 = grind arith in
+      let first : slice_index bs 0 ≡ 77 = grind arith in
+      let dash : slice_index bs 7 ≡ 45 = grind arith in
+      let whole = rw (first, dash) at (twelve bs size) in
+      rw held (texts-named (slice_range bs 1 7) (slice_range bs 8 12) bs (sym whole))
+  | inr off ↦ rw off tt
+]
+
+-- what a text of such parts names
+named-of-parts : (bs mt et : List ℕ) → length bs ≡ 12 → slice_index bs 0 ≡ 77 → slice_index bs 7 ≡ 45 → slice_range bs 1 7 ≡ mt → slice_range bs 8 12 ≡ et
+    → entry_named bs ≡ entry_of_texts mt et
+unfolding entry_named
+named-of-parts bs mt et size first dash matter entry = rw (size, first, dash, matter, entry) refl
+
+-- the reference of an entry names it
+pub named-found : (m e : ℕ) → IsMatterNo m → IsEntryNo e → entry_named (reference_text m e) ≡ Some (named m e)
+named-found m e is_matter is_entry =
+    let parts = named-of-parts (reference_text m e) (matter_text m) (entry_text e) (length-reference m e) (first-reference m e) (dash-reference m e) (matter-reference m e) (entry-reference m e) in
+    let matter = matter_of-is (Some m) (matter_text m) is_matter refl tt in
+    let entry = entry_of-is (Some e) (entry_text e) is_entry refl tt in
+    parts ∙ rw (sym matter, sym entry) refl
