@@ -1,5 +1,6 @@
 pub mod FieldFacts
 pub mod HeaderFacts
+pub mod GivenFacts
 pub mod LimitFacts
 pub mod NamedFacts
 pub mod ReadingFacts

@@ -1,8 +1,11 @@
 -- How a statement's bytes are given.
-use Rattle.std.proofs.Common.{◌≡◌, ◌≤◌, ◌<◌, ◌+◌, ℕ, List, [], ◌++◌, length, drop, Option, Some, None, refl, sym, ap, ◌∙◌, arith}
+use Rattle.std.proofs.Common.{◌≡◌, ◌≤◌, ◌<◌, ◌+◌, ℕ, List, [], ◌++◌, length, drop, Option, Some, None, refl, sym, ap, subst, ◌∙◌, add-zero, arith}
 use Rattle.std.proofs.lemmas.List.{drop-drop, drop_at, length-append, length-drop}
-use Rattle.std.specs.Io.KnownBytes.{Consumes, IsAtEnd}
-use Rattle.statement_csv.specs.Limits.{IsAfter, IsTooLong, IsWithin, MAX_BYTES}
+use Rattle.std.specs.Io.KnownBytes.{Consumes, IsAtEnd, prepend_known}
+use Rattle.trust_base.specs.declared.limits.TheConstants.{MAX_FILE_BYTES}
+use Rattle.statement_csv.specs.Limits.{IsAfter, IsHeldBack, IsReading, IsTooLong, IsWithin, beyond}
+use Rattle.statement_csv.specs.declared.limited.Course.{Course}
+use Rattle.statement_csv.specs.declared.limited.Course.TheVariants as course
 
 -- the bytes that a read gave come after those that were given before
 pub after-more : (whole old new : Option (List ℕ)) (given : ℕ) (bs : List ℕ) → IsAfter whole old given → Consumes old new bs → IsAfter whole new (given + length bs)
@@ -19,10 +22,10 @@ after-more whole old new given bs after took bytes is = by old new (after bytes 
         (ap (λ (zs : List ℕ). Some zs) (sym rest), omega (arith, length-drop given bytes))
 
 -- a statement that ended is no longer than what was given
-pub within-end : (whole rest : Option (List ℕ)) (given : ℕ) → IsAfter whole rest given → given ≤ MAX_BYTES → IsAtEnd rest → IsWithin whole
+pub within-end : (whole rest : Option (List ℕ)) (given : ℕ) → IsAfter whole rest given → given ≤ MAX_FILE_BYTES → IsAtEnd rest → IsWithin whole
 within-end whole rest given after most end bytes is = by rest (after bytes is).0 end
   where
-    by : (rest : Option (List ℕ)) → rest ≡ Some (drop given bytes) → IsAtEnd rest → length bytes ≤ MAX_BYTES
+    by : (rest : Option (List ℕ)) → rest ≡ Some (drop given bytes) → IsAtEnd rest → length bytes ≤ MAX_FILE_BYTES
     by None e end = cc
     by (Some xs) e end =
         let none : drop given bytes ≡ [] = cc in
@@ -30,5 +33,35 @@ within-end whole rest given after most end bytes is = by rest (after bytes is).0
         omega (arith, length-drop given bytes)
 
 -- a statement of which more was given is too long
-pub longer-after : (whole rest : Option (List ℕ)) (given : ℕ) → IsAfter whole rest given → MAX_BYTES < given → IsTooLong whole
+pub longer-after : (whole rest : Option (List ℕ)) (given : ℕ) → IsAfter whole rest given → MAX_FILE_BYTES < given → IsTooLong whole
 longer-after whole rest given after more bytes is = let most = (after bytes is).1 in omega arith
+
+-- nothing in front of known bytes
+pub front-none : (known : Option (List ℕ)) → prepend_known [] known ≡ known
+front-none None = refl
+front-none (Some xs) = refl
+
+-- while more bytes may come, what is left is what the reader underneath has left
+after-open : (whole rest : Option (List ℕ)) (given : ℕ) → IsReading whole rest given course.Open → IsAfter whole rest given
+after-open whole rest given reading = rw front-none at reading.after
+
+-- bytes that were given within the greatest length
+pub given-more : (whole old new : Option (List ℕ)) (given n : ℕ) (now : Course) (bs : List ℕ) → now ≡ course.Open → IsReading whole old given now → Consumes old new bs
+    → n ≡ length bs → given + n ≤ MAX_FILE_BYTES → IsReading whole new (given + n) now
+given-more whole old new given n now bs is_open reading took size most =
+    let before = after-open whole old given (subst (λ (k : Course). IsReading whole old given k) is_open reading) in
+    let more = after-more whole old new given bs before took in
+    let after : IsAfter whole new (given + n) = subst (λ (k : ℕ). IsAfter whole new (given + k)) (sym size) more in
+    subst (λ (k : Course). IsReading whole new (given + n) k) (sym is_open) (record { after = rw front-none after; most = most; tells = tt })
+
+-- the reader ended within the greatest length
+pub given-end : (whole old new : Option (List ℕ)) (given : ℕ) (now : Course) → now ≡ course.Open → IsReading whole old given now → Consumes old new [] → IsAtEnd new
+    → IsReading whole new given course.Ended
+given-end whole old new given now is_open reading took end =
+    let before = after-open whole old given (subst (λ (k : Course). IsReading whole old given k) is_open reading) in
+    let after : IsAfter whole new given = rw add-zero at (after-more whole old new given [] before took) in
+    record { after = rw front-none after; most = reading.most; tells = (end, within-end whole new given after reading.most end) }
+
+-- whatever the course, what was given is a front of the statement
+pub held-back : (whole rest left : Option (List ℕ)) (given : ℕ) (now : Course) → IsReading whole rest given now → left ≡ prepend_known (beyond now) rest → IsHeldBack whole left
+held-back whole rest left given now reading is bytes told = (given, reading.most, is ∙ (reading.after bytes told).0)

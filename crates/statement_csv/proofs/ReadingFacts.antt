@@ -4,8 +4,9 @@ use Rattle.std.specs.Prelude.{option_map}
 use Rattle.csv.proofs.ReadFacts.{rows-end, rows-more}
 use Rattle.csv.specs.Reading.{ReadRecord, Reached, default_config, source_of}
 use Rattle.csv.specs.declared.parser.State.{State}
-use Rattle.trust_base.proofs.CsvRecords.{rest-none, rest-reached}
+use Rattle.byte_streams.proofs.CsvRecords.{rest-none, rest-reached}
 use Rattle.statement_csv.specs.Items.{item_of, items_from}
+use Rattle.statement_csv.specs.Limits.{left_of}
 use Rattle.statement_csv.specs.Reading.{Gives, GivesRecord, PassesHeader, Records, items_left, records_left}
 use Rattle.statement_csv.specs.declared.item.Item.{Item}
 
@@ -18,15 +19,15 @@ unfolding Reached
 start s y = (refl, refl)
 
 -- what a read of a record gives of the records that were left
-pub read-gives : (a b : Records) (found : Bool) (f : List (List ℕ)) → a.config ≡ default_config → ReadRecord (λ (bytes : Option (List ℕ)). bytes) a b found f → GivesRecord (records_left a) (records_left b) found f
-read-gives a b found f e r = by found (source_of (λ (bytes : Option (List ℕ)). bytes) a) refl r
+pub read-gives : (a b : Records) (found : Bool) (f : List (List ℕ)) → a.config ≡ default_config → ReadRecord left_of a b found f → GivesRecord (records_left a) (records_left b) found f
+read-gives a b found f e r = by found (source_of left_of a) refl r
   where
-    by : (found : Bool) (k : Option (List ℕ)) → source_of (λ (bytes : Option (List ℕ)). bytes) a ≡ k → ReadRecord (λ (bytes : Option (List ℕ)). bytes) a b found f → GivesRecord (records_left a) (records_left b) found f
+    by : (found : Bool) (k : Option (List ℕ)) → source_of left_of a ≡ k → ReadRecord left_of a b found f → GivesRecord (records_left a) (records_left b) found f
     by found None s r = rw s tt
     by true (Some y) s r =
-        let (z, at_z, reached) = rows-more (λ (bytes : Option (List ℕ)). bytes) a b f default_config a.state y y [] e s (start a.state y) r in
+        let (z, at_z, reached) = rows-more left_of a b f default_config a.state y y [] e s (start a.state y) r in
         rw (s, at_z) (rest-reached a.state b.state y z f reached)
-    by false (Some y) s r = rw s (rest-none a.state y (rows-end (λ (bytes : Option (List ℕ)). bytes) a b f default_config y e s r))
+    by false (Some y) s r = rw s (rest-none a.state y (rows-end left_of a b f default_config y e s r))
 
 -- a record that was found gives its item
 pub gives-item : (n : ℕ) (old new : Option Rows) (fields : List (List ℕ)) → GivesRecord old new true fields → Gives (option_map (items_left false n) old) (option_map (items_left false (n + 1)) new) (Some (item_of n fields))

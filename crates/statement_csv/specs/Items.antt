@@ -5,8 +5,8 @@ use Rattle.trust_base.specs.declared.line.Line.{Line}
 use Rattle.statement_csv.specs.Headers.{is_header}
 use Rattle.statement_csv.specs.Lines.{line_of}
 use Rattle.statement_csv.specs.References.{owner_of}
-use Rattle.statement_csv.specs.declared.owner.Owner.{Owner}
-use Rattle.statement_csv.specs.declared.owner.Owner.TheVariants as owner
+use Rattle.statement_csv.specs.declared.owner.LineOwner.{LineOwner}
+use Rattle.statement_csv.specs.declared.owner.LineOwner.TheVariants as owner
 use Rattle.statement_csv.specs.declared.item.Item.{Item}
 use Rattle.statement_csv.specs.declared.item.Item.TheVariants as item
 
@@ -15,7 +15,7 @@ abbrev pub with_bank_ref : ℕ → Line → Item → Item
 with_bank_ref number line it = if length line.bank_ref == 0 then item.Unreadable number else it
 
 -- the item of a line by its owner: all but a balance need the bank's own reference
-abbrev pub item_by : ℕ → Line → Owner → Item
+abbrev pub item_by : ℕ → Line → LineOwner → Item
 item_by number line owner.Opening = item.Opening line
 item_by number line owner.Closing = item.Closing line
 item_by number line owner.Firm = with_bank_ref number line (item.OfFirm line)

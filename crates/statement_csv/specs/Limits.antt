@@ -1,20 +1,29 @@
 -- How much of a statement is read.
 use Rattle.std.specs.Prelude.{◌≡◌, ◌<◌, ◌≤◌, ℕ, List, [], ◌∷◌, drop, length, Option, Some, ⊤}
-use Rattle.std.specs.Io.KnownBytes.{IsAtEnd}
+use Rattle.std.specs.Io.KnownBytes.{IsAtEnd, prepend_known}
+use Rattle.trust_base.specs.declared.limits.TheConstants.{MAX_FILE_BYTES}
+use Rattle.statement_csv.specs.declared.fault.ReadFault.{ReadFault}
+use Rattle.statement_csv.specs.declared.fault.ReadFault.TheVariants as fault
 use Rattle.statement_csv.specs.declared.limited.Course.{Course}
 use Rattle.statement_csv.specs.declared.limited.Course.TheVariants as course
 
--- the greatest length of a statement, in bytes
-abbrev pub MAX_BYTES : ℕ
-MAX_BYTES = 4194304
-
 -- the statement is longer, where its bytes are told
 abbrev pub IsTooLong : Option (List ℕ) → Type 0
-IsTooLong whole = (bytes : List ℕ) → whole ≡ Some bytes → MAX_BYTES < length bytes
+IsTooLong whole = (bytes : List ℕ) → whole ≡ Some bytes → MAX_FILE_BYTES < length bytes
 
 -- the statement is not longer, where its bytes are told
 abbrev pub IsWithin : Option (List ℕ) → Type 0
-IsWithin whole = (bytes : List ℕ) → whole ≡ Some bytes → length bytes ≤ MAX_BYTES
+IsWithin whole = (bytes : List ℕ) → whole ≡ Some bytes → length bytes ≤ MAX_FILE_BYTES
+
+-- a reader of a statement, as contracts see it
+pub record Source : Type 0 where
+  -- the bytes that are left, where the reader tells them
+  pub left : Option (List ℕ)
+  -- how the reading goes
+  pub course : Course
+
+abbrev pub left_of : Source → Option (List ℕ)
+left_of source = source.left
 
 -- the byte that came although it is beyond the greatest length
 abbrev pub beyond : Course → List ℕ
@@ -23,18 +32,34 @@ beyond course.Ended = []
 beyond (course.Longer byte) = byte ∷ []
 beyond course.Failed = []
 
--- the rest is what comes after so many bytes of the statement, where its bytes are told
+-- a reader, as its course and the bytes that the reader underneath has left tell it
+abbrev pub source_in : Course → Option (List ℕ) → Source
+source_in now rest = record { left = prepend_known (beyond now) rest; course = now }
+
+-- what is left is what comes after so many bytes of the statement, where its bytes are told
 abbrev pub IsAfter : Option (List ℕ) → Option (List ℕ) → ℕ → Type 0
-IsAfter whole rest given = (bytes : List ℕ) → whole ≡ Some bytes → (rest ≡ Some (drop given bytes)) × (given ≤ length bytes)
+IsAfter whole left given = (bytes : List ℕ) → whole ≡ Some bytes → (left ≡ Some (drop given bytes)) × (given ≤ length bytes)
 
 -- what each course of the reading tells
-abbrev pub Tells : Option (List ℕ) → Option (List ℕ) → ℕ → Course → Type 0
-Tells whole rest given course.Open = given ≤ MAX_BYTES
-Tells whole rest given course.Ended = IsAtEnd rest × IsWithin whole
-Tells whole rest given (course.Longer byte) = IsTooLong whole
-Tells whole rest given course.Failed = ⊤
+abbrev pub Tells : Option (List ℕ) → Option (List ℕ) → Course → Type 0
+Tells whole rest course.Open = ⊤
+Tells whole rest course.Ended = IsAtEnd rest × IsWithin whole
+Tells whole rest (course.Longer byte) = IsTooLong whole
+Tells whole rest course.Failed = ⊤
 
 -- how a statement of which so many bytes were given is being read
 pub record IsReading (whole rest : Option (List ℕ)) (given : ℕ) (now : Course) : Type 0 where
-  pub after : IsAfter whole rest given
-  pub tells : Tells whole rest given now
+  pub after : IsAfter whole (prepend_known (beyond now) rest) given
+  pub most : given ≤ MAX_FILE_BYTES
+  pub tells : Tells whole rest now
+
+-- what was given is a front of the statement, of no more bytes than it may have, where its bytes are told
+abbrev pub IsHeldBack : Option (List ℕ) → Option (List ℕ) → Type 0
+IsHeldBack whole left = (bytes : List ℕ) → whole ≡ Some bytes → (given : ℕ) × (given ≤ MAX_FILE_BYTES) × (left ≡ Some (drop given bytes))
+
+-- what a reading that cannot go on is told as
+abbrev pub cause_of : Course → ReadFault
+cause_of course.Open = fault.Memory
+cause_of course.Ended = fault.Memory
+cause_of (course.Longer byte) = fault.Limit
+cause_of course.Failed = fault.Reader

@@ -1,12 +1,14 @@
 -- What a statement that is being read has still to give.
-use Rattle.std.specs.Prelude.{◌≡◌, ℕ, Bool, true, false, List, [], ◌∷◌, Option, Some, None, option_map, ⊤}
-use Rattle.csv.specs.Reading.{Ready, default_config, reader_config, reader_state, reader_trim, source_of}
+use Rattle.std.specs.Prelude.{◌≡◌, ◌≤◌, ◌+◌, ℕ, Bool, true, false, List, [], ◌∷◌, ◌++◌, length, take, Option, Some, None, option_map, ⊤}
+use Rattle.csv.specs.Reading.{Reached, Ready, default_config, reader_config, reader_source, reader_state, reader_trim, source_of, strip_bom}
+use Rattle.csv.specs.declared.parser.State.TheVariants as st
 use Rattle.csv.specs.declared.reader.Reader.{Reader}
 use Rattle.csv.specs.declared.reader.Trim.TheVariants as trim
-use Rattle.trust_base.specs.CsvRecords.{rest_records}
+use Rattle.byte_streams.specs.CsvRecords.{rest_records}
 use Rattle.statement_csv.specs.Headers.{is_header}
-use Rattle.statement_csv.specs.Items.{items_after_header, items_from}
-use Rattle.statement_csv.specs.Limits.{IsTooLong, IsWithin}
+use Rattle.trust_base.specs.declared.limits.TheConstants.{MAX_FILE_BYTES}
+use Rattle.statement_csv.specs.Items.{items, items_after_header, items_from}
+use Rattle.statement_csv.specs.Limits.{IsTooLong, IsWithin, Source, cause_of, left_of}
 use Rattle.statement_csv.specs.declared.item.Item.{Item}
 use Rattle.statement_csv.specs.declared.fault.ReadFault.{ReadFault}
 use Rattle.statement_csv.specs.declared.fault.ReadFault.TheVariants as fault
@@ -22,13 +24,17 @@ pub record Reading : Type 0 where
   -- where its reader tells the bytes: the items that are still to come, or none where its header is not that of a statement
   pub left : Option (Option (List Item))
 
--- a reader of limited bytes, as contracts see it
+-- the CSV reader of a statement, as contracts see it
 abbrev pub Records : Type 0
-Records = Reader (Option (List ℕ))
+Records = Reader Source
+
+-- the bytes that were not yet read of a statement behind its byte order mark, where they are told
+abbrev pub unread : Records → Option (List ℕ)
+unread rdr = source_of left_of rdr
 
 -- the records that are left, where the bytes are told
 abbrev pub records_left : Records → Option (List (List (List ℕ)))
-records_left rdr = option_map (rest_records (reader_state rdr)) (source_of (λ bytes. bytes) rdr)
+records_left rdr = option_map (rest_records (reader_state rdr)) (unread rdr)
 
 -- the items of the records that are left, by whether the header is still among them and by the number of the first item's record
 abbrev pub items_left : Bool → ℕ → List (List (List ℕ)) → Option (List Item)
@@ -59,6 +65,10 @@ ended_in stage.Items = false
 ended_in stage.Ended = true
 ended_in (stage.Stopped why) = false
 
+-- why the reading of records cannot go on
+abbrev pub cause_at : Records → ReadFault
+cause_at rdr = cause_of (reader_source rdr).course
+
 -- a reading as its stage and its records tell it
 abbrev pub reading_of : Stage → ℕ → Records → Reading
 reading_of now number rdr = record { fault = fault_in now; is_ended = ended_in now; left = left_in now number (records_left rdr) }
@@ -69,6 +79,30 @@ pub record IsLive (rdr : Records) : Type 0 where
   pub config : reader_config rdr ≡ default_config
   pub ready : Ready rdr
 
+-- these are the first records of the statement, and they were read of no more bytes than it may have, where its bytes are told
+abbrev pub HasRead : Option (List ℕ) → List (List (List ℕ)) → Records → Type 0
+HasRead whole rows rdr = (bytes : List ℕ) → whole ≡ Some bytes
+    → (rest : List ℕ) × (unread rdr ≡ Some rest) × (length bytes ≤ MAX_FILE_BYTES + length rest)
+    × Reached default_config st.StartRecord (strip_bom bytes) rows (reader_state rdr) rest
+
+-- where the reading stands: before the header, or behind it and the records of the items before the one with this number
+abbrev pub Stands : Option (List ℕ) → Bool → ℕ → Records → Type 0
+Stands whole true number rdr = (number ≡ 1) × HasRead whole [] rdr
+Stands whole false number rdr = (header : List (List ℕ)) × (rows : List (List (List ℕ))) × (is_header header ≡ true) × (number ≡ 1 + length rows)
+    × HasRead whole (header ∷ rows) rdr
+
+-- what was given are the items of a front of the statement, of at most 4,194,304 bytes, and what is left are the items behind them
+pub record IsGivenWithin (bytes : List ℕ) (left : List Item) : Type 0 where
+  pub given : List Item
+  pub size : ℕ
+  pub within : size ≤ MAX_FILE_BYTES
+  pub front : items (take size bytes) ≡ Some given
+  pub whole : items bytes ≡ Some (given ++ left)
+
+-- the same of what is left of a statement, where its bytes are told
+abbrev pub GivesWithin : Option (List ℕ) → Option (Option (List Item)) → Type 0
+GivesWithin whole left = (bytes : List ℕ) → whole ≡ Some bytes → (rest : List Item) × (left ≡ Some (Some rest)) × IsGivenWithin bytes rest
+
 -- what is known of the whole statement after a fault
 abbrev pub ToldBy : Option (List ℕ) → ReadFault → Type 0
 ToldBy whole fault.BadHeader = ⊤
@@ -77,11 +111,11 @@ ToldBy whole fault.Reader = ⊤
 ToldBy whole fault.Memory = ⊤
 
 -- what is known in each stage
-abbrev pub IsSound : Option (List ℕ) → Stage → Records → Type 0
-IsSound whole stage.Header rdr = IsLive rdr
-IsSound whole stage.Items rdr = IsLive rdr
-IsSound whole stage.Ended rdr = IsWithin whole
-IsSound whole (stage.Stopped why) rdr = ToldBy whole why
+abbrev pub IsSound : Option (List ℕ) → Stage → ℕ → Records → Type 0
+IsSound whole stage.Header number rdr = IsLive rdr × Stands whole true number rdr
+IsSound whole stage.Items number rdr = IsLive rdr × Stands whole false number rdr
+IsSound whole stage.Ended number rdr = IsWithin whole
+IsSound whole (stage.Stopped why) number rdr = ToldBy whole why
 
 -- a record, if one was found, was the first of those left
 abbrev pub GivesRecord : Option (List (List (List ℕ))) → Option (List (List (List ℕ))) → Bool → List (List ℕ) → Type 0

@@ -5,14 +5,14 @@ ghost use Rattle.csv.specs.Records.{fields_of};
 ghost use Rattle.statement_csv.specs.Items.{item_of, item_of_line};
 
 use crate::line::read_line;
-use crate::owner::{Named, Owner, read_owner};
+use crate::owner::{LineOwner, NamedEntry, read_owner};
 use csv::ByteRecord;
 use std::alloc::{AllocError, Global};
 use trust_base::Line;
 use trust_matter::BankLine;
 
 /// An item of a statement: what one record after the header stands for.
-#[derive(Drop, Debug)]
+#[derive(Debug)]
 pub enum Item {
     /// The balance at the start of a day: the reference is `OPEN`.
     Opening(Line),
@@ -28,21 +28,35 @@ pub enum Item {
     Unreadable(u64),
 }
 
+// By hand: one call at each way out of a function that holds an item.
+impl Drop for Item {
+    fn drop(self) {
+        match self {
+            Item::Opening(_line) => (),
+            Item::Closing(_line) => (),
+            Item::OfMatter(_line) => (),
+            Item::OfFirm(_line) => (),
+            Item::Stray(_line) => (),
+            Item::Unreadable(_number) => (),
+        }
+    }
+}
+
 // The item of a line, which stands in the record with this number.
 fn item_by_owner(line: Line, number: u64) -> Item
     ensures { result ≡ item_of_line number line }
 {
     match read_owner(line.reference.as_slice()) {
-        Owner::Opening => Item::Opening(line),
-        Owner::Closing => Item::Closing(line),
+        LineOwner::Opening => Item::Opening(line),
+        LineOwner::Closing => Item::Closing(line),
         _ if line.bank_ref.as_slice().is_empty() => Item::Unreadable(number),
-        Owner::Firm => Item::OfFirm(line),
-        Owner::Entry(Named { matter, entry }) => Item::OfMatter(BankLine {
+        LineOwner::Firm => Item::OfFirm(line),
+        LineOwner::Entry(NamedEntry { matter, entry }) => Item::OfMatter(BankLine {
             matter,
             entry,
             line,
         }),
-        Owner::Nobody => Item::Stray(line),
+        LineOwner::Nobody => Item::Stray(line),
     }
 }
 

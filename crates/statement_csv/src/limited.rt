@@ -1,11 +1,13 @@
 // A reader that stops at the greatest length of a statement.
 
-ghost use Rattle.std.specs.Prelude.{◌≡◌, IsTrue, IfOk, OnErr, option_to_list, List, ℕ, Option, None};
+ghost use Rattle.std.specs.Prelude.{◌≡◌, ◌↔◌, IsTrue, IfOk, OnErr, option_to_list, List, ℕ, Option, None};
 ghost use Rattle.std.specs.Io.KnownBytes.{Consumes, IsAtEnd, Keeps};
 
+use crate::fault::ReadFault;
 use std::io;
 use std::io::{Error, ErrorKind, Read};
 use std::marker::{Brand, Model, PhantomData};
+use trust_base::MAX_FILE_BYTES;
 
 /// The bytes of a whole statement, as its reader tells them before the first read; none where nobody tells.
 ///
@@ -36,7 +38,7 @@ enum Course {
 /// A reader of the bytes of a statement, of at most 4,194,304 bytes. At one byte more, and where a read of the
 /// reader underneath fails, it answers an error, and an error from then on with no further read.
 ///
-/// Contracts see it as the bytes that are left, where the reader tells them.
+/// Contracts see the bytes that are left, where the reader tells them, and how the reading goes.
 #[derive(Drop)]
 pub(crate) struct Limited<R: Read, K: Whole> {
     inner: R,
@@ -46,19 +48,14 @@ pub(crate) struct Limited<R: Read, K: Whole> {
 }
 
 impl<R: Read, K: Whole> Model for Limited<R, K> {
-    ghost use Rattle.std.specs.Prelude.{List, Option, ℕ};
-    ghost use Rattle.std.specs.Io.KnownBytes.{prepend_known};
-    ghost use Rattle.statement_csv.specs.Limits.{IsReading, beyond};
+    ghost use Rattle.statement_csv.specs.Limits.{IsReading, Source, source_in};
 
-    ghost Value = { Option (List ℕ) };
+    ghost Value = { Source };
 
-    ghost view = { λ a. prepend_known (beyond a.course) (R.remaining a.inner) };
+    ghost view = { λ a. source_in a.course (R.remaining a.inner) };
 
     ghost invariant = { λ a. IsReading K.bytes (R.remaining a.inner) a.given a.course };
 }
-
-// The greatest length of a statement, in bytes.
-const MAX_BYTES: usize = 4_194_304;
 
 // The next byte of a reader, where it has not ended.
 fn next_byte<R: Read>(inner: &mut R) -> io::Result<Option<u8>>
@@ -74,12 +71,15 @@ fn next_byte<R: Read>(inner: &mut R) -> io::Result<Option<u8>>
 }
 
 impl<R: Read, K: Whole> Limited<R, K> {
-    ghost use Rattle.statement_csv.specs.Limits.{IsTooLong, IsWithin};
+    ghost use Rattle.statement_csv.specs.Limits.{IsHeldBack, IsTooLong, IsWithin, cause_of};
+    ghost use Rattle.statement_csv.specs.declared.fault.ReadFault.TheVariants.{Limit};
+    ghost use Rattle.statement_csv.specs.declared.limited.Course.TheVariants.{Ended, Open};
 
     /// A reader of a statement of which nothing was read.
     pub(crate) fn new(inner: R) -> Limited<R, K>
         requires { Keeps K.bytes (R.remaining inner) }
-        ensures { result ≡ R.remaining inner }
+        ensures left { result.left ≡ R.remaining inner }
+        ensures course { result.course ≡ Open }
     {
         Limited {
             inner,
@@ -89,28 +89,33 @@ impl<R: Read, K: Whole> Limited<R, K> {
         }
     }
 
-    /// Whether a byte came beyond the greatest length.
-    pub(crate) fn is_too_long(&self) -> bool
-        ensures { IsTrue result → IsTooLong K.bytes }
-    {
-        matches!(self.course, Course::Longer(_))
-    }
-
-    /// Whether the reader ended within the greatest length.
+    /// Whether the reader ended within the greatest length. Whatever the answer, no byte beyond that was given.
     pub(crate) fn has_ended(&self) -> bool
-        ensures { IsTrue result → IsWithin K.bytes }
+        ensures value { IsTrue result ↔ (self.now.course ≡ Ended) }
+        ensures within { IsTrue result → IsWithin K.bytes }
+        ensures held { IsHeldBack K.bytes self.now.left }
     {
         matches!(self.course, Course::Ended)
     }
 
-    /// Whether a read of the reader underneath failed.
-    pub(crate) fn has_failed(&self) -> bool {
-        matches!(self.course, Course::Failed)
+    /// Why the reading cannot go on: a byte came beyond the greatest length, a read failed, or else a growth was
+    /// refused.
+    pub(crate) fn cause(&self) -> ReadFault
+        ensures value { result ≡ cause_of self.now.course }
+        ensures limit { (result ≡ Limit) → IsTooLong K.bytes }
+    {
+        match self.course {
+            Course::Longer(_) => ReadFault::Limit,
+            Course::Failed => ReadFault::Reader,
+            Course::Open | Course::Ended => ReadFault::Memory,
+        }
     }
 }
 
 impl<R: Read, K: Whole> Read for Limited<R, K> {
-    ghost remaining = { λ bytes. bytes };
+    ghost use Rattle.statement_csv.specs.Limits.{left_of};
+
+    ghost remaining = { left_of };
 
     fn read(&mut self, buf: &mut [u8]) -> io::Result<usize> {
         match self.course {
@@ -118,7 +123,7 @@ impl<R: Read, K: Whole> Read for Limited<R, K> {
             Course::Ended => return Ok(0),
             Course::Longer(_) | Course::Failed => return Err(Error::from(ErrorKind::Other)),
         }
-        let room = MAX_BYTES - self.given;
+        let room = MAX_FILE_BYTES - self.given;
         if room > 0 {
             let most = room.min(buf.len());
             match self.inner.read(&mut buf[..most]) {
@@ -144,7 +149,6 @@ impl<R: Read, K: Whole> Read for Limited<R, K> {
                     Ok(0)
                 }
                 Ok(Some(byte)) => {
-                    self.given += 1;
                     self.course = Course::Longer(byte);
                     Err(Error::from(ErrorKind::Other))
                 }

@@ -1,12 +1,12 @@
 // The items of a statement, one at a time.
 
-ghost use Rattle.std.specs.Prelude.{◌≡◌, ◌≢◌, ◌+◌, Err, IfErr, IfOk, IsSome, is_none, IsTrue, None, Ok, OnOk, Some, option_map, false, true};
+ghost use Rattle.std.specs.Prelude.{◌≡◌, ◌≢◌, ◌+◌, ◌∷◌, ◌++◌, [], List, ℕ, Err, IfErr, IfOk, IsSome, is_none, IsTrue, None, Ok, OnOk, Some, option_map, false, true};
 ghost use Rattle.std.specs.Io.KnownBytes.{Keeps};
 ghost use Rattle.csv.specs.Records.{fields_of};
 ghost use Rattle.statement_csv.specs.declared.fault.ReadFault.{ReadFault};
 ghost use Rattle.statement_csv.specs.declared.fault.ReadFault.TheVariants.{BadHeader, Limit};
 ghost use Rattle.statement_csv.specs.Limits.{IsTooLong, IsWithin};
-ghost use Rattle.statement_csv.specs.Reading.{Gives, GivesRecord, HasNoHeader, IsLive, LacksHeader, PassesHeader, ToldBy, items_left, records_left};
+ghost use Rattle.statement_csv.specs.Reading.{Gives, GivesRecord, HasNoHeader, HasRead, IsLive, LacksHeader, PassesHeader, Stands, ToldBy, cause_at, items_left, records_left};
 
 use crate::fault::ReadFault;
 use crate::header::is_header;
@@ -49,7 +49,7 @@ impl<R: Read, K: Whole> Model for Lines<R, K> {
 
     ghost view = { λ a. reading_of a.stage a.number a.records };
 
-    ghost invariant = { λ a. IsSound K.bytes a.stage a.records };
+    ghost invariant = { λ a. IsSound K.bytes a.stage a.number a.records };
 }
 
 // One call, so that a caller's proof sees no field where it lets a value go.
@@ -65,20 +65,6 @@ impl<R: Read + Drop, K: Whole> Drop for Lines<R, K> {
     }
 }
 
-// Why a read of a record was refused.
-fn cause<R: Read, K: Whole>(source: &Limited<R, K>) -> ReadFault
-    ensures told { ToldBy K.bytes result }
-    ensures other { result ≢ BadHeader }
-{
-    if source.is_too_long() {
-        ReadFault::Limit
-    } else if source.has_failed() {
-        ReadFault::Reader
-    } else {
-        ReadFault::Memory
-    }
-}
-
 // Reads the next record, and tells whether there was one.
 fn read_row<R: Read, K: Whole>(
     records: &mut Reader<Limited<R, K>>,
@@ -88,15 +74,16 @@ fn read_row<R: Read, K: Whole>(
     ensures live { IfOk result (λ found. IsTrue found → IsLive records.new) }
     ensures gives { IfOk result (λ found. GivesRecord (records_left records.old) (records_left records.new) found (fields_of row.new)) }
     ensures end { (result ≡ Ok false) → IsWithin K.bytes }
+    ensures read { IfOk result (λ found. IsTrue found → (rows : List (List (List ℕ))) → HasRead K.bytes rows records.old → HasRead K.bytes (rows ++ fields_of row.new ∷ []) records.new) }
     ensures told { IfErr result (λ fault. ToldBy K.bytes fault) }
-    ensures other { IfErr result (λ fault. fault ≢ BadHeader) }
+    ensures cause { IfErr result (λ fault. fault ≡ cause_at records.new) }
 {
     let Ok(found) = records.read_byte_record(row) else {
-        return Err(cause(records.get_ref()));
+        return Err(records.get_ref().cause());
     };
     // `csv` finds no record only where its reader ended, but its contract does not say so.
-    if !found && !records.get_ref().has_ended() {
-        return Err(ReadFault::Memory);
+    if !records.get_ref().has_ended() && !found {
+        return Err(records.get_ref().cause());
     }
     Ok(found)
 }
@@ -109,7 +96,9 @@ fn pass_header<R: Read, K: Whole>(
     requires { IsLive records.old }
     ensures live { OnOk result (IsLive records.new) }
     ensures left { OnOk result (PassesHeader (records_left records.old) (records_left records.new)) }
+    ensures stands { OnOk result ((number : ℕ) → Stands K.bytes true number records.old → Stands K.bytes false number records.new) }
     ensures told { IfErr result (λ fault. ToldBy K.bytes fault) }
+    ensures cause { IfErr result (λ fault. fault ≢ BadHeader → fault ≡ cause_at records.new) }
     ensures header { (result ≡ Err BadHeader) → HasNoHeader (records_left records.old) }
 {
     if read_row(records, row)? && is_header(row) {
@@ -127,12 +116,15 @@ fn read_next<R: Read, K: Whole>(
     awaits_header: bool,
     number: u64,
 ) -> Result<Option<Item>, ReadFault>
-    requires { IsLive records.old }
+    requires live { IsLive records.old }
+    requires stands { Stands K.bytes awaits_header number records.old }
     ensures live { IfOk result (λ found. IsSome found → IsLive records.new) }
+    ensures stands { IfOk result (λ found. IsSome found → Stands K.bytes false (number + 1) records.new) }
     ensures gives { IfOk result (λ found. Gives (option_map (items_left awaits_header number) (records_left records.old))
         (option_map (items_left false (number + 1)) (records_left records.new)) found) }
     ensures end { (result ≡ Ok None) → IsWithin K.bytes }
     ensures told { IfErr result (λ fault. ToldBy K.bytes fault) }
+    ensures cause { IfErr result (λ fault. fault ≢ BadHeader → fault ≡ cause_at records.new) }
     ensures header { (result ≡ Err BadHeader) → LacksHeader (option_map (items_left awaits_header number) (records_left records.old)) }
 {
     if awaits_header {
@@ -143,7 +135,7 @@ fn read_next<R: Read, K: Whole>(
     }
     match read_item(alloc, row, number) {
         Ok(item) => Ok(Some(item)),
-        Err(_) => Err(ReadFault::Memory),
+        Err(_) => Err(records.get_ref().cause()),
     }
 }
 
@@ -162,7 +154,7 @@ impl<R: Read> Lines<R> {
 
 impl<R: Read, K: Whole> Lines<R, K> {
     ghost use Rattle.statement_csv.specs.Items.{items};
-    ghost use Rattle.statement_csv.specs.Reading.{Gives, LacksHeader};
+    ghost use Rattle.statement_csv.specs.Reading.{Gives, GivesWithin, LacksHeader};
 
     /// The same, where a proof names the statement's bytes by `K`. Takes no memory.
     pub fn of_whole(alloc: Global, reader: R) -> Lines<R, K>
@@ -186,10 +178,12 @@ impl<R: Read, K: Whole> Lines<R, K> {
     /// The next item, or none at the end and from then on. Where no item comes for a fault, the same fault is answered
     /// from then on: `BadHeader` where the first record is not `date,reference,bank_ref,amount,text` or there is none,
     /// `Limit` where a byte comes beyond 4,194,304, `Reader` where a read failed, `Memory` where a growth was refused.
+    /// Each item stands within the first 4,194,304 bytes.
     ///
     /// No clause says that `Reader` and `Memory` come only there: `csv` tells nothing of its reader after an error.
     pub fn next(&mut self) -> Result<Option<Item>, ReadFault>
         ensures next { IfOk result (λ found. Gives self.old.left self.new.left found) }
+        ensures front { IfOk result (λ found. IsSome found → GivesWithin K.bytes self.new.left) }
         ensures within { (result ≡ Ok None) → IsWithin K.bytes }
         ensures course { IfOk result (λ found. (self.new.fault ≡ None) × (self.new.is_ended ≡ is_none found)) }
         ensures stays_ended { (self.old.is_ended ≡ true) → result ≡ Ok None }

@@ -1,21 +1,21 @@
 // Whose line a reference makes it.
 
 ghost use Rattle.std.specs.Prelude.{◌≡◌, ◌≢◌, ℕ, IfNone, IfSome};
-ghost use Rattle.trust_base.specs.Limits.{IsEntryNo, IsMatterNo};
+ghost use Rattle.trust_values.specs.Limits.{IsEntryNo, IsMatterNo};
 ghost use Rattle.statement_csv.specs.References.{entry_named, owner_of, reference_text};
 
 use trust_base::{EntryNo, MatterNo};
 
 /// An entry of a matter.
 #[derive(Clone, Copy, PartialEq, Eq, Debug)]
-pub(crate) struct Named {
+pub(crate) struct NamedEntry {
     pub(crate) matter: MatterNo,
     pub(crate) entry: EntryNo,
 }
 
 /// Whose a line is.
 #[derive(Clone, Copy, PartialEq, Eq, Debug)]
-pub(crate) enum Owner {
+pub(crate) enum LineOwner {
     /// The balance at the start of a day.
     Opening,
     /// The balance at the end of a day.
@@ -23,14 +23,14 @@ pub(crate) enum Owner {
     /// The firm's own money.
     Firm,
     /// An entry of a matter.
-    Entry(Named),
+    Entry(NamedEntry),
     /// Nobody that is known here.
     Nobody,
 }
 
 // The entry that a reference names: `M`, the six digits of the matter, `-`, the four digits of the entry.
 #[tactic(auto, unfolding(crate::specs::References::entry_named))]
-fn read_named(reference: &[u8]) -> Option<Named>
+fn read_named(reference: &[u8]) -> Option<NamedEntry>
     ensures value { result ≡ entry_named reference.now }
     ensures some { IfSome result (λ named. reference_text named.matter named.entry ≡ reference.now) }
     ensures none { IfNone result ((m e : ℕ) → IsMatterNo m → IsEntryNo e → reference_text m e ≢ reference.now) }
@@ -44,24 +44,24 @@ fn read_named(reference: &[u8]) -> Option<Named>
     let Some(entry) = EntryNo::read(&reference[8..12]) else {
         return None;
     };
-    Some(Named { matter, entry })
+    Some(NamedEntry { matter, entry })
 }
 
 /// Whose a line with this reference is.
 #[tactic(auto, unfolding(crate::specs::References::owner_of))]
-pub(crate) fn read_owner(reference: &[u8]) -> Owner
+pub(crate) fn read_owner(reference: &[u8]) -> LineOwner
     ensures { result ≡ owner_of reference.now }
 {
     if reference == b"OPEN".as_slice() {
-        Owner::Opening
+        LineOwner::Opening
     } else if reference == b"CLOSE".as_slice() {
-        Owner::Closing
+        LineOwner::Closing
     } else if reference == b"FIRM".as_slice() {
-        Owner::Firm
+        LineOwner::Firm
     } else {
         match read_named(reference) {
-            Some(named) => Owner::Entry(named),
-            None => Owner::Nobody,
+            Some(named) => LineOwner::Entry(named),
+            None => LineOwner::Nobody,
         }
     }
 }

@@ -1,11 +1,2 @@
-pub mod WholeFacts
-pub mod AmountFacts
-pub mod FixedFacts
-pub mod ReadFacts
 pub mod NameFacts
-pub mod EntryFacts
-pub mod DayFacts
-pub mod CsvRecords
-pub mod SignedFacts
-pub mod CivilDayFacts
 pub mod LineFacts

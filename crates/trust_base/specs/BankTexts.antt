@@ -1,5 +1,5 @@
 -- The texts on a bank's lines.
-use Rattle.std.specs.Prelude.{ℕ, Bool, ◌&&◌, nat_le, List, length, Option}
+use Rattle.std.specs.Prelude.{ℕ, Bool, ◌&&◌, nat_le, List, length, Option, IsTrue}
 use Rattle.std.specs.List.{list_all}
 use Rattle.std.specs.Str.{is_utf8}
 use Rattle.trust_base.specs.Names.{text_if}
@@ -31,3 +31,11 @@ bank_text_of bs = text_if (is_bank_text bs) bs
 -- the line's text of a text
 abbrev pub line_text_of : List ℕ → Option (List ℕ)
 line_text_of bs = text_if (is_line_text bs) bs
+
+-- a reference on a bank's line, by its bytes
+abbrev pub IsBankText : List ℕ → Type 0
+IsBankText bs = IsTrue (is_bank_text bs)
+
+-- the text of a bank's line, by its bytes
+abbrev pub IsLineText : List ℕ → Type 0
+IsLineText bs = IsTrue (is_line_text bs)

@@ -1,5 +1,5 @@
 -- The texts of persons and of labels.
-use Rattle.std.specs.Prelude.{ℕ, ◌-◌, Bool, not, ◌&&◌, ◌||◌, ◌==◌, nat_le, List, length, take, drop, codes, Option, Some, None, if◌then◌else◌}
+use Rattle.std.specs.Prelude.{ℕ, ◌-◌, Bool, not, ◌&&◌, ◌||◌, ◌==◌, nat_le, List, length, take, drop, codes, Option, Some, None, if◌then◌else◌, IsTrue}
 use Rattle.std.specs.List.{list_all, list_any, prefix_len, suffix_len}
 use Rattle.std.specs.Char.{is_control}
 use Rattle.std.specs.Str.{bytes_eq, chars, is_utf8, str_to_ascii_lowercase}
@@ -59,3 +59,11 @@ is_cash_label bs = bytes_eq (str_to_ascii_lowercase (without_trailing_spaces (wi
 -- the label by which the firm is paid
 abbrev pub is_firm_label : List ℕ → Bool
 is_firm_label bs = bytes_eq bs (codes "FIRM")
+
+-- the name of a person, by its bytes
+abbrev pub IsPerson : List ℕ → Type 0
+IsPerson bs = IsTrue (is_person_text bs)
+
+-- a label, by its bytes
+abbrev pub IsLabel : List ℕ → Type 0
+IsLabel bs = IsTrue (is_label_text bs)

@@ -1,7 +1,7 @@
 -- The table of refusals: numbers, names, statuses and texts.
 use Rattle.std.specs.Prelude.{ℕ, Bool, true, false, List, [], ◌∷◌, ◌++◌, Option, Some, None, codes}
 use Rattle.std.specs.Fmt.{decimal}
-use Rattle.trust_base.specs.Texts.{amount_text, day_text, entry_text}
+use Rattle.trust_values.specs.Texts.{amount_text, day_text, entry_text}
 use Rattle.trust_base.specs.declared.refusal.StoreFault.{StoreFault}
 use Rattle.trust_base.specs.declared.refusal.StoreFault.TheVariants as faults
 use Rattle.trust_base.specs.declared.refusal.Field.{Field}

@@ -3,8 +3,7 @@
 ghost use Rattle.std.specs.Prelude.{◌≡◌, ◌↔◌, List, ℕ, IfOk, IfErr, IsSome, IsOk, OnErr};
 ghost use Rattle.std.specs.List.{list_all};
 ghost use Rattle.std.specs.Str.{bytes_eq};
-ghost use Rattle.trust_base.specs.Limits.{IsBankText};
-ghost use Rattle.trust_base.specs.BankTexts.{bank_text_of, is_bank_text as bank_text_form, is_printed_byte};
+ghost use Rattle.trust_base.specs.BankTexts.{IsBankText, bank_text_of, is_bank_text as bank_text_form, is_printed_byte};
 
 use std::alloc::{AllocError, Global};
 use std::marker::Model;

@@ -4,8 +4,7 @@ ghost use Rattle.std.specs.Prelude.{◌≡◌, ◌≤◌, ◌↔◌, List, ℕ, 
 ghost use Rattle.std.specs.Char.{is_control};
 ghost use Rattle.std.specs.List.{list_any, prefix_len, suffix_len};
 ghost use Rattle.std.specs.Str.{bytes_eq, chars};
-ghost use Rattle.trust_base.specs.Limits.{IsLabel};
-ghost use Rattle.trust_base.specs.Names.{is_cash_label, is_firm_label, is_label_text, is_space, label_of, without_leading_spaces, without_trailing_spaces};
+ghost use Rattle.trust_base.specs.Names.{IsLabel, is_cash_label, is_firm_label, is_label_text, is_space, label_of, without_leading_spaces, without_trailing_spaces};
 
 use std::alloc::{AllocError, Global};
 use std::marker::Model;

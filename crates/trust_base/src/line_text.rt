@@ -2,8 +2,7 @@
 
 ghost use Rattle.std.specs.Prelude.{◌≡◌, ◌↔◌, List, ℕ, IfOk, IfErr, IsSome, IsOk, OnErr};
 ghost use Rattle.std.specs.Str.{bytes_eq, is_utf8};
-ghost use Rattle.trust_base.specs.Limits.{IsLineText};
-ghost use Rattle.trust_base.specs.BankTexts.{is_line_text as line_text_form, line_text_of};
+ghost use Rattle.trust_base.specs.BankTexts.{IsLineText, is_line_text as line_text_form, line_text_of};
 
 use std::alloc::{AllocError, Global};
 use std::marker::Model;

@@ -6,8 +6,7 @@ ghost use Rattle.std.specs.List.{list_all};
 ghost use Rattle.std.specs.Ordering.{nat_cmp};
 ghost use Rattle.std.specs.Str.{bytes_eq};
 ghost use Rattle.std.specs.declared.cmp.Ordering.TheVariants.{Less};
-ghost use Rattle.trust_base.specs.Limits.{IsPerson};
-ghost use Rattle.trust_base.specs.Names.{is_person_byte, is_person_text, person_of};
+ghost use Rattle.trust_base.specs.Names.{IsPerson, is_person_byte, is_person_text, person_of};
 
 use std::alloc::{AllocError, Global};
 use std::marker::Model;

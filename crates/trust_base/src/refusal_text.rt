@@ -1,42 +1,19 @@
 // The texts of refusals.
 
 ghost use Rattle.std.specs.Prelude.{◌≡◌, ◌≤◌, ◌<◌, ◌+◌, ℕ, ◌∷◌, ◌++◌, [], length, take, OnOk, OnErr};
-ghost use Rattle.std.specs.Fmt.{decimal};
 ghost use Rattle.std.specs.Io.KnownBytes.{Appends};
 ghost use Rattle.arrayvec.specs.ArrayVec.{array_vec_len};
-ghost use Rattle.trust_base.specs.Texts.{amount_text, day_text};
+ghost use Rattle.trust_values.specs.Texts.{amount_text, day_text};
 ghost use Rattle.trust_base.specs.Refusals.{field_name, leading_member, middle_member, name_member, name_of, next_text, number_member, refusal_text, rule_name, trailing_member};
 
-use crate::day::day_bytes;
 use crate::{EntryNo, Field, Refusal, Rule, WriteFault, send};
 use arrayvec::ArrayVec;
-use itoa::Buffer;
+use byte_streams::{push_number, push_piece};
 use std::io::Write;
+use trust_values::day_bytes;
 
 /// The text of a refusal: at most 128 bytes, on the stack.
 pub type RefusalText = ArrayVec<u8, 128>;
-
-// Appends a piece that has room.
-fn push_piece(text: &mut RefusalText, piece: &[u8])
-    requires { array_vec_len text.old + length piece.now ≤ 128 }
-    ensures items { text.new.items ≡ text.old.items ++ piece.now }
-    ensures len { array_vec_len text.new ≡ array_vec_len text.old + length piece.now }
-{
-    match text.try_extend_from_slice(piece) {
-        Ok(()) => (),
-        Err(_) => unreachable!(),
-    }
-}
-
-// Appends a number.
-fn push_number(text: &mut RefusalText, number: u64)
-    requires { array_vec_len text.old ≤ 108 }
-    ensures items { text.new.items ≡ text.old.items ++ decimal number }
-    ensures len { array_vec_len text.new ≤ array_vec_len text.old + 20 }
-{
-    let mut buffer = Buffer::new();
-    push_piece(text, buffer.format(number).as_bytes());
-}
 
 // Appends a sum of cents.
 fn push_amount(text: &mut RefusalText, cents: u64)

@@ -2,25 +2,33 @@
 use Rattle.std.proofs.Common.{◌≡◌, ℕ, List, [], ◌∷◌, Option, Some, None, refl}
 use Rattle.trust_base.specs.declared.refusal.Refusal.{Refusal}
 use Rattle.trust_matter.specs.declared.bank_line.BankLine.{BankLine}
-use Rattle.trust_matter.specs.declared.line_verdict.LineEdit.{LineEdit}
-use Rattle.trust_matter.specs.declared.line_verdict.LineEdit.TheVariants as told
+use Rattle.trust_matter.specs.declared.line_verdict.LineEffect.{LineEffect}
+use Rattle.trust_matter.specs.declared.line_verdict.LineEffect.TheVariants as told
 use Rattle.trust_matter.specs.Facts.{Asked}
-use Rattle.trust_matter.specs.LineStep.{line_on, last_seen}
-use Rattle.trust_matter.specs.Step.{HasAmount, refusal, edit_on, last_after}
-use Rattle.trust_matter.proofs.Covered.{sound-covered}
+use Rattle.trust_matter.specs.LineStep.{line_on}
+use Rattle.matter_parts.specs.Changes.{last_after}
+use Rattle.trust_matter.specs.Step.{HasAmount, refusal, edit_on}
+use Rattle.matter_rows.proofs.Covered.{sound-covered}
 use Rattle.trust_matter.proofs.Steps.{step}
-use Rattle.trust_firm.specs.Firm.{Firm, of, after_edit}
-use Rattle.trust_firm.specs.FirmSound.{FirmSound}
-use Rattle.trust_firm.proofs.Kept.{edit-sound, ledger-least}
-use Rattle.trust_firm.proofs.Lines.{match-sound, stray-stays-sound}
+use Rattle.trust_base.specs.declared.line.Line.{Line}
+use Rattle.firm_rows.specs.declared.ledger.BalanceKind.{BalanceKind}
+use Rattle.firm_rows.specs.declared.ledger.BalanceKind.TheVariants as kind
+use Rattle.firm_rows.specs.Firm.{Firm, of, after_edit}
+use Rattle.firm_rows.specs.FirmChange.{after, by_balance, by_firm_line}
+use Rattle.firm_rows.specs.FirmSound.{FirmSound}
+use Rattle.firm_rows.proofs.Kept.{edit-sound, ledger-least}
+use Rattle.firm_rows.proofs.FirmChanges.{change-stays-sound}
+use Rattle.firm_rows.proofs.OwnLines.{balance-fits, firm_line-fits}
+use Rattle.firm_rows.proofs.Lines.{match-sound, stray-stays-sound}
 use Rattle.statement_csv.specs.declared.item.Item.{Item}
 use Rattle.statement_csv.specs.declared.item.Item.TheVariants as item
 use Rattle.trust_desk.specs.declared.requests.Request.TheVariants.{Matter, Import}
-use Rattle.trust_desk.specs.ItemStep.{after_told, after_item, after_items}
+use Rattle.trust_desk.specs.ItemStep.{after_told, after_item, after_items, balance_on, firm_line_on}
 use Rattle.trust_desk.specs.ImportStep.{imported}
 use Rattle.trust_desk.specs.Heard.{Heard, Asks, Unread, asked_on}
 use Rattle.trust_desk.specs.FirmStep.{after_asked, after_ask, firm_step}
-use Rattle.trust_desk.specs.NeverBelowZero.{HasAmounts, IsCovered, AlwaysCoveredBy, IsCoveredIn, NeverBelowZero}
+use Rattle.trust_desk.specs.Imports.{AlwaysSound}
+use Rattle.trust_desk.specs.NeverBelowZero.{HasAmounts, IsCovered, AlwaysCoveredBy, IsCoveredIn, NeverBelowZero, RunsNeverBelowZero}
 use Rattle.trust_desk.proofs.LineFacts.{kept-by_step, line-fits}
 
 pub sound-after_ask : (m : ℕ) (a : Asked) (firm : Firm) → HasAmount a.ask → FirmSound firm → FirmSound (after_ask m a firm)
@@ -34,25 +42,35 @@ sound-after_ask m a firm amount sound = cases (refusal (of m firm) a) refl
 
 -- Items.
 
-sound-after_told : (day : ℕ) (l : BankLine) (e : LineEdit) (firm : Firm) → line_on (of l.matter firm) l day ≡ e → FirmSound firm → FirmSound (after_told l e firm)
+sound-after_told : (day : ℕ) (l : BankLine) (e : LineEffect) (firm : Firm) → line_on (of l.matter firm) l day ≡ e → FirmSound firm → FirmSound (after_told l e firm)
 sound-after_told day l (told.Applied e) firm applied sound =
-    let last = last_seen (of l.matter firm).head l.line in
     let s = line-fits (of l.matter firm) l day e (sound.matters l.matter) applied in
-    match-sound l.line (after_edit l.matter e last firm) (edit-sound sound-covered l.matter e last firm sound s)
+    match-sound l.line (after_edit l.matter e.edit e.last firm) (edit-sound sound-covered l.matter e.edit e.last firm sound s)
 sound-after_told day l told.Repeat firm repeat sound = match-sound l.line firm sound
 sound-after_told day l (told.Unmatched r) firm unmatched sound = stray-stays-sound l.line firm sound
 
+sound-balance : (day : ℕ) (kind : BalanceKind) (line : Line) (firm : Firm) → FirmSound firm → FirmSound (after (by_balance kind line (balance_on firm kind line day)) firm)
+sound-balance day kind line firm sound =
+    let v = balance_on firm kind line day in
+    change-stays-sound sound-covered (by_balance kind line v) firm sound (balance-fits firm kind line v (day, refl))
+
 pub sound-after_item : (day : ℕ) (firm : Firm) (it : Item) → FirmSound firm → FirmSound (after_item day firm it)
-sound-after_item day firm (item.Opening line) sound = stray-stays-sound line firm sound
-sound-after_item day firm (item.Closing line) sound = stray-stays-sound line firm sound
+sound-after_item day firm (item.Opening line) sound = sound-balance day kind.Opening line firm sound
+sound-after_item day firm (item.Closing line) sound = sound-balance day kind.Closing line firm sound
 sound-after_item day firm (item.OfMatter l) sound = sound-after_told day l (line_on (of l.matter firm) l day) firm refl sound
-sound-after_item day firm (item.OfFirm line) sound = stray-stays-sound line firm sound
+sound-after_item day firm (item.OfFirm line) sound =
+    let change = by_firm_line line (firm_line_on firm line day) in
+    change-stays-sound sound-covered change firm sound (firm_line-fits firm line (firm_line_on firm line day) (day, refl))
 sound-after_item day firm (item.Stray line) sound = stray-stays-sound line firm sound
 sound-after_item day firm (item.Unreadable number) sound = sound
 
 pub sound-after_items : (day : ℕ) (firm : Firm) (items : List Item) → FirmSound firm → FirmSound (after_items day firm items)
 sound-after_items day firm [] sound = sound
 sound-after_items day firm (it ∷ items) sound = sound-after_items day (after_item day firm it) items (sound-after_item day firm it sound)
+
+pub always-sound : (day : ℕ) (firm : Firm) (items : List Item) → FirmSound firm → AlwaysSound day firm items
+always-sound day firm [] sound = sound
+always-sound day firm (it ∷ items) sound = (sound, always-sound day (after_item day firm it) items (sound-after_item day firm it sound))
 
 -- Steps.
 
@@ -76,3 +94,10 @@ covered-in day firm (Unread n r) sound = covered firm sound
 pub always-covered : NeverBelowZero
 always-covered day firm [] sound amounts = covered firm sound
 always-covered day firm (h ∷ hs) sound amounts = (covered-in day firm h sound, always-covered day (firm_step day firm h).firm hs (sound-firm_step day firm h amounts.0 sound) amounts.1)
+
+pub runs-covered : RunsNeverBelowZero
+runs-covered day firm new [] [] sound run = (run, covered firm sound)
+runs-covered day firm new [] (reply ∷ replies) sound run = absurd run
+runs-covered day firm new (h ∷ hs) [] sound run = absurd run
+runs-covered day firm new (h ∷ hs) (reply ∷ replies) sound run =
+    (run.0, run.1, covered-in day firm h sound, runs-covered day run.0 new hs replies run.2 run.3)

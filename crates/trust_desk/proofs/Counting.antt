@@ -1,24 +1,24 @@
 -- Each item of a statement is counted, once.
 use Rattle.std.proofs.Common.{◌≡◌, ℕ, ◌+◌, List, [], ◌∷◌, length, arith, ◌∙◌}
-use Rattle.trust_firm.specs.Firm.{Firm}
+use Rattle.firm_rows.specs.Firm.{Firm}
 use Rattle.statement_csv.specs.declared.item.Item.{Item}
-use Rattle.trust_desk.specs.declared.bodies.ImportReply.{ImportReply}
+use Rattle.matter_bodies.specs.declared.bodies.ImportReply.{ImportReply}
 use Rattle.trust_desk.specs.declared.importing.Counted.{Counted}
 use Rattle.trust_desk.specs.declared.importing.Counted.TheVariants as counted
-use Rattle.trust_desk.specs.ItemStep.{after_item, counted_of, none_counted, count_one, counts_after, count_sum, EveryItemIsCounted}
+use Rattle.trust_desk.specs.ItemStep.{after_item, counted_of, none_counted, count_item, counts_after, count_sum, EveryItemIsCounted}
 
-sum-one : (k : Counted) (c : ImportReply) → count_sum (count_one k c) ≡ count_sum c + 1
-sum-one counted.Applied c = omega arith
-sum-one counted.Repeated c = omega arith
-sum-one counted.Exception c = omega arith
-sum-one counted.Unreadable c = omega arith
+sum-one : (it : Item) (k : Counted) (c : ImportReply) → count_sum (count_item it k c) ≡ count_sum c + 1
+sum-one it counted.Applied c = omega arith
+sum-one it counted.Repeated c = omega arith
+sum-one it counted.Exception c = omega arith
+sum-one it counted.Unreadable c = omega arith
 
 sum-after : (day : ℕ) (firm : Firm) (items : List Item) (c : ImportReply) → count_sum (counts_after day firm items c) ≡ count_sum c + length items
 sum-after day firm [] c = omega arith
 sum-after day firm (it ∷ items) c =
     let kind = counted_of day firm it in
-    let one = sum-one kind c in
-    sum-after day (after_item day firm it) items (count_one kind c) ∙ omega (arith, one)
+    let one = sum-one it kind c in
+    sum-after day (after_item day firm it) items (count_item it kind c) ∙ omega (arith, one)
 
 pub all-counted : EveryItemIsCounted
 all-counted day firm items = let sum = sum-after day firm items none_counted in omega (arith, sum)

@@ -1,50 +1,34 @@
 -- The course of an import is its step.
 use Rattle.std.proofs.Common.{◌≡◌, ◌⊎◌, inl, inr, ℕ, Bool, true, false, List, [], ◌∷◌, Option, Some, None, Ok, Err, refl, sym, ap, ◌∙◌, subst, append-nil}
-use Rattle.std.specs.Prelude.{MatchBool, nat_lt, length, is_none, unwrap_or}
+use Rattle.std.specs.Prelude.{nat_lt, length, is_none, unwrap_or}
 use Rattle.std.proofs.lemmas.Bool.{false≢true}
 use Rattle.trust_base.specs.declared.refusal.Field.TheVariants as field
 use Rattle.trust_base.specs.declared.refusal.Rule.TheVariants as rule
 use Rattle.trust_base.specs.declared.refusal.Refusal.{Refusal}
 use Rattle.trust_base.specs.declared.refusal.Refusal.TheVariants as refusals
 use Rattle.trust_base.specs.Refusals.{is_fault}
-use Rattle.trust_matter.specs.declared.asks.Caller.{Caller}
+use Rattle.trust_matter.specs.declared.ask.Caller.{Caller}
 use Rattle.trust_matter.specs.Step.{first}
-use Rattle.trust_firm.specs.Firm.{Firm}
+use Rattle.firm_rows.specs.Firm.{Firm}
 use Rattle.statement_csv.specs.declared.item.Item.{Item}
 use Rattle.statement_csv.specs.Items.{items}
-use Rattle.statement_csv.specs.Limits.{MAX_BYTES}
+use Rattle.trust_base.specs.declared.limits.TheConstants.{MAX_FILE_BYTES}
 use Rattle.statement_csv.specs.Reading.{LacksHeader}
-use Rattle.trust_desk.specs.declared.bodies.ImportReply.{ImportReply}
+use Rattle.matter_bodies.specs.declared.bodies.ImportReply.{ImportReply}
 use Rattle.trust_desk.specs.declared.importing.ImportEnd.{ImportEnd}
 use Rattle.trust_desk.specs.declared.importing.ImportStop.{ImportStop}
 use Rattle.trust_desk.specs.declared.importing.ImportStop.TheVariants as stop
 use Rattle.trust_desk.specs.declared.requests.Request.TheVariants.{Import}
-use Rattle.trust_desk.specs.declared.requests.Reply.{Reply}
 use Rattle.trust_desk.specs.declared.requests.Body.TheVariants.{Json}
 use Rattle.trust_desk.specs.Counts.{is_store, counted_refusal}
-use Rattle.trust_desk.specs.Replies.{refused, is_fault_reply}
+use Rattle.trust_desk.specs.Replies.{refused}
 use Rattle.trust_desk.specs.ItemStep.{after_items, counts_after, none_counted}
 use Rattle.trust_desk.specs.Imports.{Imports, IsStop}
 use Rattle.trust_desk.specs.ImportStep.{EndsItems, import_refusal, items_in, items_unless, imported, counts_text, import_reply, is_not_of_firm}
-use Rattle.trust_desk.specs.Heard.{Heard, Asks}
-use Rattle.trust_desk.specs.FirmStep.{Stopped, Steps, firm_step}
+use Rattle.trust_desk.specs.Heard.{Asks}
+use Rattle.trust_desk.specs.FirmStep.{Steps}
 use Rattle.trust_desk.proofs.Refused.{not-counted}
-
--- A step by its reply.
-
-steps-fault : (day : ℕ) (firm new : Firm) (h : Heard) (reply : Reply) → is_fault_reply reply ≡ true → Stopped day firm h new → Steps day firm h reply new
-steps-fault day firm new h reply fault stopped = cases (is_fault_reply reply) fault
-  where
-    cases : (b : Bool) → b ≡ true → MatchBool b (Stopped day firm h new) ((reply ≡ (firm_step day firm h).reply) × (new ≡ (firm_step day firm h).firm))
-    cases true e = stopped
-    cases false e = absurd (cc)
-
-steps-plain : (day : ℕ) (firm new : Firm) (h : Heard) (reply : Reply) → is_fault_reply reply ≡ false → reply ≡ (firm_step day firm h).reply → new ≡ (firm_step day firm h).firm → Steps day firm h reply new
-steps-plain day firm new h reply plain says leaves = cases (is_fault_reply reply) plain
-  where
-    cases : (b : Bool) → b ≡ false → MatchBool b (Stopped day firm h new) ((reply ≡ (firm_step day firm h).reply) × (new ≡ (firm_step day firm h).firm))
-    cases true e = absurd (cc)
-    cases false e = (says, leaves)
+use Rattle.trust_desk.proofs.Steps.{steps-fault, steps-plain}
 
 -- What an import is refused for is no fault.
 
@@ -59,7 +43,7 @@ no-fault false false true = refl
 no-fault false false false = refl
 
 refusal-plain : (caller : Caller) (bytes : List ℕ) (r : Refusal) → import_refusal caller bytes ≡ Some r → is_fault r ≡ false
-refusal-plain caller bytes r is = ap fault_in (sym is) ∙ no-fault (nat_lt MAX_BYTES (length bytes)) (is_none (items bytes)) (is_not_of_firm caller)
+refusal-plain caller bytes r is = ap fault_in (sym is) ∙ no-fault (nat_lt MAX_FILE_BYTES (length bytes)) (is_none (items bytes)) (is_not_of_firm caller)
 
 store-faults : (r : Refusal) → is_fault r ≡ false → is_store r ≡ false
 store-faults refusals.Store plain = absurd (cc)
@@ -70,7 +54,7 @@ pub import-unfit : (day : ℕ) (firm new : Firm) (caller : Caller) (bytes : List
 import-unfit day firm new caller bytes r checked same = cases checked
   where
     cases : (r ≡ refusals.Memory) ⊎ (import_refusal caller bytes ≡ Some r) → Steps day firm (Asks (Import caller bytes)) (refused r) new
-    cases (inl is) = steps-fault day firm new (Asks (Import caller bytes)) (refused r) (ap is_fault is) (imported caller bytes, record { front = []; parts = refl; leaves = same })
+    cases (inl is) = steps-fault day firm new (Asks (Import caller bytes)) r (ap is_fault is) (imported caller bytes, record { front = []; parts = refl; leaves = same })
     cases (inr is) =
         steps-plain day firm new (Asks (Import caller bytes)) (refused r) (refusal-plain caller bytes r is)
         (ap (λ o. import_reply o (counts_after day firm (imported caller bytes) none_counted)) (sym is))
@@ -93,12 +77,12 @@ brings caller bytes fit = ap (λ o. items_unless o bytes) fit
 pub import-stopped : (day : ℕ) (firm new : Firm) (caller : Caller) (bytes : List ℕ) (r : Refusal) → import_refusal caller bytes ≡ None → EndsItems day firm (items_in bytes) new (Err r) → Steps day firm (Asks (Import caller bytes)) (refused r) new
 import-stopped day firm new caller bytes r fit ends =
     let left = ends.2 in
-    steps-fault day firm new (Asks (Import caller bytes)) (refused r) ends.0 (ends.1, record { front = left.front; parts = left.parts ∙ sym (brings caller bytes fit); leaves = left.leaves })
+    steps-fault day firm new (Asks (Import caller bytes)) r ends.0 (ends.1, record { front = left.front; parts = left.parts ∙ sym (brings caller bytes fit); leaves = left.leaves })
 
 -- all were applied, and there is no memory to tell it
 pub import-untold : (day : ℕ) (firm new : Firm) (caller : Caller) (bytes : List ℕ) (counts : ImportReply) → import_refusal caller bytes ≡ None → EndsItems day firm (items_in bytes) new (Ok counts) → Steps day firm (Asks (Import caller bytes)) (refused refusals.Memory) new
 import-untold day firm new caller bytes counts fit ends =
-    steps-fault day firm new (Asks (Import caller bytes)) (refused refusals.Memory) refl ([], record { front = items_in bytes; parts = append-nil (items_in bytes) ∙ sym (brings caller bytes fit); leaves = ends.1 })
+    steps-fault day firm new (Asks (Import caller bytes)) refusals.Memory refl ([], record { front = items_in bytes; parts = append-nil (items_in bytes) ∙ sym (brings caller bytes fit); leaves = ends.1 })
 
 -- all were applied, and it is told
 pub import-told : (day : ℕ) (firm new : Firm) (caller : Caller) (bytes : List ℕ) (counts : ImportReply) (text : List ℕ) → import_refusal caller bytes ≡ None → EndsItems day firm (items_in bytes) new (Ok counts) → text ≡ counts_text counts → Steps day firm (Asks (Import caller bytes)) (record { status = 200; body = Json text }) new

@@ -1,31 +1,22 @@
 -- What becomes of a line that was decided on by what was read of its matter.
-use Rattle.std.proofs.Common.{◌≡◌, ℕ, false, Result, Ok, Err, refl, sym, ap, ◌∙◌, subst, arith}
-use Rattle.std.specs.Prelude.{◌==◌, IfOk, OnErr}
+use Rattle.std.proofs.Common.{◌≡◌, ℕ, false, Ok, Err, refl, sym, ap, arith}
+use Rattle.std.specs.Prelude.{◌==◌}
 use Rattle.std.proofs.lemmas.Bool.Decides.{nat_tests}
-use Rattle.trust_base.specs.declared.line.Line.{Line}
 use Rattle.trust_base.specs.declared.refusal.StoreFault.{StoreFault}
 use Rattle.trust_base.specs.declared.refusal.StoreFault.TheVariants as faults
 use Rattle.trust_matter.specs.declared.bank_line.BankLine.{BankLine}
-use Rattle.trust_matter.specs.declared.line_verdict.LineEdit.{LineEdit}
+use Rattle.trust_matter.specs.declared.line_verdict.LineEffect.{LineEffect}
 use Rattle.trust_matter.specs.declared.line_verdict.LineVerdict.{LineVerdict}
 use Rattle.trust_matter.specs.declared.line_verdict.LineVerdict.TheVariants as verdict
-use Rattle.trust_matter.specs.Rows.{Rows}
-use Rattle.trust_matter.specs.LineStep.{LineDecides, IsLineChange, line_on}
-use Rattle.trust_firm.specs.Firm.{Firm, of, after_edit, after_match, after_line, after_stray}
-use Rattle.trust_firm.specs.FirmSound.{FirmSound}
-use Rattle.trust_firm.proofs.Changed.{changes-no_other}
-use Rattle.trust_firm.proofs.Lines.{stray-stays-sound}
+use Rattle.matter_rows.specs.Rows.{Rows}
+use Rattle.trust_matter.specs.LineStep.{LineDecides, line_on}
+use Rattle.firm_rows.specs.Firm.{Firm, of}
+use Rattle.firm_rows.specs.FirmChange.{after, by_line}
+use Rattle.firm_rows.proofs.Changed.{changes-no_other}
 use Rattle.trust_store.specs.Books.{counted_fault}
-use Rattle.trust_desk.specs.declared.importing.Counted.{Counted}
-use Rattle.trust_desk.specs.declared.importing.Counted.TheVariants as counted
 use Rattle.trust_desk.specs.ItemStep.{after_told, counted_as, counted_verdict}
 
 -- A verdict.
-
-pub verdict-change : (rows : Rows) (l : BankLine) (day : ℕ) (v : LineVerdict) → LineDecides rows l day (Ok v) → IsLineChange rows v
-verdict-change rows l day (verdict.Applied c) d = d.change
-verdict-change rows l day verdict.Repeat d = tt
-verdict-change rows l day (verdict.Unmatched r) d = tt
 
 pub verdict-counted : (rows : Rows) (l : BankLine) (day : ℕ) (v : LineVerdict) → LineDecides rows l day (Ok v) → counted_verdict v ≡ counted_as (line_on rows l day)
 verdict-counted rows l day (verdict.Applied c) d = sym (ap counted_as d.applied)
@@ -33,11 +24,10 @@ verdict-counted rows l day verdict.Repeat d = sym (ap counted_as d)
 verdict-counted rows l day (verdict.Unmatched r) d = sym (ap counted_as d)
 
 -- what is written is the step
-pub verdict-after : (firm : Firm) (l : BankLine) (day : ℕ) (v : LineVerdict) → LineDecides (of l.matter firm) l day (Ok v) → after_line l v firm ≡ after_told l (line_on (of l.matter firm) l day) firm
-verdict-after firm l day (verdict.Applied c) d =
-    ap (λ n. after_match l.line (after_edit l.matter c.edit n firm)) d.last ∙ sym (ap (λ (e : LineEdit). after_told l e firm) d.applied)
-verdict-after firm l day verdict.Repeat d = sym (ap (λ (e : LineEdit). after_told l e firm) d)
-verdict-after firm l day (verdict.Unmatched r) d = sym (ap (λ (e : LineEdit). after_told l e firm) d)
+pub verdict-after : (firm : Firm) (l : BankLine) (day : ℕ) (v : LineVerdict) → LineDecides (of l.matter firm) l day (Ok v) → after (by_line l v) firm ≡ after_told l (line_on (of l.matter firm) l day) firm
+verdict-after firm l day (verdict.Applied c) d = sym (ap (λ (e : LineEffect). after_told l e firm) d.applied)
+verdict-after firm l day verdict.Repeat d = sym (ap (λ (e : LineEffect). after_told l e firm) d)
+verdict-after firm l day (verdict.Unmatched r) d = sym (ap (λ (e : LineEffect). after_told l e firm) d)
 
 -- a fault of the decision is no fault of the store
 pub decision-uncounted : (rows : Rows) (l : BankLine) (day : ℕ) (fault : StoreFault) (n : ℕ) → LineDecides rows l day (Err fault) → counted_fault fault n ≡ n
@@ -46,12 +36,7 @@ decision-uncounted rows l day faults.Store n d = absurd d
 
 -- What is written of a line.
 
-pub other-after_line : (n : ℕ) (firm : Firm) (l : BankLine) (v : LineVerdict) → (l.matter == n) ≡ false → of n (after_line l v firm) ≡ of n firm
+pub other-after_line : (n : ℕ) (firm : Firm) (l : BankLine) (v : LineVerdict) → (l.matter == n) ≡ false → of n (after (by_line l v) firm) ≡ of n firm
 other-after_line n firm l (verdict.Applied c) apart = changes-no_other n l.matter c firm (λ same. absurd (grind (arith, nat_tests)))
 other-after_line n firm l verdict.Repeat apart = refl
 other-after_line n firm l (verdict.Unmatched r) apart = refl
-
--- a line that was kept, or not, leaves the firm sound
-pub sound-stray : (line : Line) (firm new : Firm) (r : Result Counted StoreFault) → FirmSound firm → IfOk r (λ c. (c ≡ counted.Exception) × (new ≡ after_stray line firm)) → OnErr r (new ≡ firm) → FirmSound new
-sound-stray line firm new (Ok c) sound kept same = subst FirmSound (sym kept.1) (stray-stays-sound line firm sound)
-sound-stray line firm new (Err fault) sound kept same = subst FirmSound (sym same) sound

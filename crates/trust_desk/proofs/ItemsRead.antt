@@ -1,17 +1,19 @@
 -- A statement that is read and applied item by item.
 use Rattle.std.proofs.Common.{◌≡◌, ◌∙◌, ◌+◌, ◌≤◌, ◌++◌, ◌∷◌, [], ℕ, false, List, Some, None, refl, sym, ap, subst, append_assoc, arith}
 use Rattle.std.specs.List.{list_any}
-use Rattle.trust_firm.specs.Firm.{Firm, of}
+use Rattle.firm_rows.specs.Firm.{Firm, of}
+use Rattle.firm_rows.specs.FirmSound.{FirmSound}
 use Rattle.statement_csv.specs.Reading.{Gives, LacksHeader}
 use Rattle.statement_csv.specs.declared.item.Item.{Item}
-use Rattle.trust_desk.specs.declared.bodies.ImportReply.{ImportReply}
+use Rattle.matter_bodies.specs.declared.bodies.ImportReply.{ImportReply}
 use Rattle.trust_desk.specs.declared.importing.Counted.{Counted}
 use Rattle.trust_desk.specs.declared.importing.Counted.TheVariants as counted
 use Rattle.trust_desk.specs.declared.importing.ImportEnd.{ImportEnd}
 use Rattle.trust_desk.specs.declared.importing.ImportStop.{ImportStop}
 use Rattle.trust_desk.specs.declared.importing.ImportStop.TheVariants as stop
-use Rattle.trust_desk.specs.Imports.{AreBelow, AreFirst, AreRead, Imports, IsAmid, IsUnnamed, KeepsAllUnnamed, LeavesOwn, TakesOne, Told}
-use Rattle.trust_desk.specs.ItemStep.{after_item, after_items, count_one, counted_of, counts_after, names_item, none_counted}
+use Rattle.trust_desk.specs.Imports.{AreBelow, AreFirst, AreRead, Imports, IsAmid, IsUnnamed, KeepsAllUnnamed, TakesOne, Told}
+use Rattle.trust_desk.specs.ItemStep.{after_item, after_items, count_item, counted_of, counts_after, names_item, none_counted}
+use Rattle.trust_desk.proofs.AlwaysCovered.{always-sound}
 use Rattle.trust_desk.proofs.OwnItems.{none-front, of-after_items, unnamed-items}
 
 -- What was read.
@@ -47,9 +49,29 @@ after_items-push : (day : ℕ) (firm : Firm) (front : List Item) (it : Item) →
 after_items-push day firm [] it = refl
 after_items-push day firm (x ∷ front) it = after_items-push day (after_item day firm x) front it
 
-counts_after-push : (day : ℕ) (firm : Firm) (front : List Item) (it : Item) (c : ImportReply) → counts_after day firm (front ++ it ∷ []) c ≡ count_one (counted_of day (after_items day firm front) it) (counts_after day firm front c)
+counts_after-push : (day : ℕ) (firm : Firm) (front : List Item) (it : Item) (c : ImportReply) → counts_after day firm (front ++ it ∷ []) c ≡ count_item it (counted_of day (after_items day firm front) it) (counts_after day firm front c)
 counts_after-push day firm [] it c = refl
-counts_after-push day firm (x ∷ front) it c = counts_after-push day (after_item day firm x) front it (count_one (counted_of day firm x) c)
+counts_after-push day firm (x ∷ front) it c = counts_after-push day (after_item day firm x) front it (count_item x (counted_of day firm x) c)
+
+-- before the first item
+pub amid-none : (day : ℕ) (clean : Type 0) (firm : Firm) (told left : Told) (counts : ImportReply) → left ≡ told → counts ≡ none_counted → IsAmid day clean firm firm told left counts
+amid-none day clean firm told left counts whole none = record {
+  front = [];
+  read = subst (λ (x : Told). AreRead told [] x) (sym whole) (cases told);
+  step = λ is. (none, refl);
+}
+  where
+    cases : (t : Told) → AreRead t [] t
+    cases None = tt
+    cases (Some None) = (refl, refl)
+    cases (Some (Some items)) = (items, refl, refl)
+
+pub room-none : (counts : ImportReply) → counts ≡ none_counted → AreBelow 1 counts
+room-none counts none = let one : AreBelow 1 none_counted = record { applied = omega arith; repeated = omega arith; exceptions = omega arith; unreadable = omega arith } in subst (AreBelow 1) (sym none) one
+
+-- what is said where the one holds is said where the other does
+pub takes-where : {day : ℕ} {p q : Type 0} {now next : Firm} {left more : Told} {before after : ImportReply} → (p → q) → TakesOne day q now next left more before after → TakesOne day p now next left more before after
+takes-where at takes = record { item = takes.item; gives = takes.gives; counted = record { kind = takes.counted.kind; counts = takes.counted.counts; step = λ is. takes.counted.step (at is) } }
 
 pub amid-more : (day : ℕ) (was clean : Type 0) (first now next : Firm) (told left more : Told) (before after : ImportReply)
     → (clean → was) → IsAmid day was first now told left before → TakesOne day clean now next left more before after → IsAmid day clean first next told more after
@@ -62,8 +84,8 @@ amid-more day was clean first now next told left more before after was_clean ami
       let kind = takes.counted.kind in
       let it = takes.item in (
         takes.counted.counts
-            ∙ ((λ i. count_one (step.0 i) (so_far.0 i))
-            ∙ (ap (λ (f : Firm). count_one (counted_of day f it) (counts_after day first amid.front none_counted)) so_far.1
+            ∙ ((λ i. count_item it (step.0 i) (so_far.0 i))
+            ∙ (ap (λ (f : Firm). count_item it (counted_of day f it) (counts_after day first amid.front none_counted)) so_far.1
             ∙ sym (counts_after-push day first amid.front it none_counted))),
         step.1 ∙ (ap (λ (f : Firm). after_item day f it) so_far.1 ∙ sym (after_items-push day first amid.front it)),
       );
@@ -71,22 +93,24 @@ amid-more day was clean first now next told left more before after was_clean ami
 
 -- the end of it
 pub amid-imports : (day : ℕ) (clean : Type 0) (first now new : Firm) (told left more : Told) (counts : ImportReply) (result : ImportEnd)
-    → clean → IsAmid day clean first now told left counts → result.reply ≡ counts → new ≡ now → (result.end ≡ stop.Done → Gives left more None) → Imports day first told result new
-amid-imports day clean first now new told left more counts result is amid reply same done =
+    → clean → FirmSound first → IsAmid day clean first now told left counts → result.reply ≡ counts → new ≡ now → (result.end ≡ stop.Done → Gives left more None) → Imports day first told result new
+amid-imports day clean first now new told left more counts result is sound amid reply same done =
     let so_far = amid.step is in
     record {
       front = amid.front;
       first = read-first told left more amid.front result.end amid.read done;
       leaves = same ∙ so_far.1;
       counts = reply ∙ so_far.0;
+      own = λ m. ap (of m) (same ∙ so_far.1) ∙ of-after_items m day first amid.front;
+      sound = always-sound day first amid.front sound;
     }
 
 -- The counts have room.
 
-pub below-more : (n m : ℕ) (kind : Counted) (before after : ImportReply) → AreBelow n before → after ≡ count_one kind before → n + 1 ≤ m → AreBelow m after
-below-more n m kind before after below is more = subst (AreBelow m) (sym is) (cases kind)
+pub below-more : (n m : ℕ) (it : Item) (kind : Counted) (before after : ImportReply) → AreBelow n before → after ≡ count_item it kind before → n + 1 ≤ m → AreBelow m after
+below-more n m it kind before after below is more = subst (AreBelow m) (sym is) (cases kind)
   where
-    cases : (k : Counted) → AreBelow m (count_one k before)
+    cases : (k : Counted) → AreBelow m (count_item it k before)
     cases counted.Applied = record { applied = omega (arith, below.applied, more); repeated = omega (arith, below.repeated, more); exceptions = omega (arith, below.exceptions, more); unreadable = omega (arith, below.unreadable, more) }
     cases counted.Repeated = record { applied = omega (arith, below.applied, more); repeated = omega (arith, below.repeated, more); exceptions = omega (arith, below.exceptions, more); unreadable = omega (arith, below.unreadable, more) }
     cases counted.Exception = record { applied = omega (arith, below.applied, more); repeated = omega (arith, below.repeated, more); exceptions = omega (arith, below.exceptions, more); unreadable = omega (arith, below.unreadable, more) }
@@ -101,10 +125,3 @@ front-unnamed m (Some (Some items)) front end first none = none-front m front fi
 
 pub imports-others : (day : ℕ) (firm new : Firm) (told : Told) (result : ImportEnd) → Imports day firm told result new → KeepsAllUnnamed told firm new
 imports-others day firm new told result is m none = ap (of m) is.leaves ∙ unnamed-items m day firm is.front (front-unnamed m told is.front result.end is.first none)
-
-pub imports-own : (day : ℕ) (firm new : Firm) (told : Told) (result : ImportEnd) → Imports day firm told result new → LeavesOwn day firm told result new
-imports-own day firm new told result is = record {
-  front = is.front;
-  first = is.first;
-  own = λ m. ap (of m) is.leaves ∙ of-after_items m day firm is.front;
-}

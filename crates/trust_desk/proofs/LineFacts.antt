@@ -1,21 +1,21 @@
 -- What a line of the bank does to a matter's rows, as laws of the matter.
-use Rattle.std.proofs.Common.{◌≡◌, ℕ, List, [], ◌∷◌, ◌++◌, None, refl, subst, sym}
+use Rattle.std.proofs.Common.{◌≡◌, ℕ, List, [], ◌∷◌, ◌++◌, None, true, false, refl, subst, sym}
 use Rattle.std.specs.Prelude.{IsSome}
-use Rattle.trust_matter.specs.declared.edits.Edit.{Edit}
+use Rattle.matter_parts.specs.declared.edit.Edit.{Edit}
 use Rattle.trust_matter.specs.declared.bank_line.BankLine.{BankLine}
-use Rattle.trust_matter.specs.declared.line_verdict.LineEdit.TheVariants as told
-use Rattle.trust_matter.specs.Rows.{Rows}
-use Rattle.trust_matter.specs.Sound.{Sound}
-use Rattle.trust_matter.specs.Facts.{Asked}
-use Rattle.trust_matter.specs.Conditions.{number_made}
+use Rattle.trust_matter.specs.declared.line_verdict.DatedEdit.{DatedEdit}
+use Rattle.trust_matter.specs.declared.line_verdict.LineEffect.TheVariants as told
+use Rattle.matter_rows.specs.Rows.{Rows, is_purged}
+use Rattle.matter_rows.specs.Sound.{Sound}
+use Rattle.trust_matter.specs.Facts.{Asked, facts_of}
+use Rattle.trust_matter.specs.Conditions.{is_repeat, number_made}
 use Rattle.trust_matter.specs.Step.{refusal, rows_after}
-use Rattle.trust_matter.specs.Laws.{Doing, AnAsk, ALine, all_after, IsSameLine, IsSpent}
+use Rattle.trust_matter.specs.Laws.{Doing, AnAsk, ALine, all_after, IsSameLine}
 use Rattle.trust_matter.proofs.LineSteps.{applied-step}
-use Rattle.trust_matter.proofs.StepForms.{IsStepOf}
-use Rattle.trust_matter.proofs.LineRepeats.{line-at-most-once}
-use Rattle.trust_matter.proofs.Repeats.{at-most-once}
-use Rattle.trust_matter.specs.LineStep.{line_on, last_seen, rows_after_line, IsApplied}
-use Rattle.trust_firm.proofs.Kept.{IsKept}
+use Rattle.matter_parts.proofs.StepForms.{IsStepOf}
+use Rattle.trust_matter.proofs.Purging.{ask-repeat, line-repeat}
+use Rattle.trust_matter.specs.LineStep.{line_on, rows_after_line, IsApplied}
+use Rattle.firm_rows.proofs.Kept.{IsKept}
 use Rattle.trust_desk.specs.Heard.{Own, OwnAsk, OwnRefusal, OwnLine}
 use Rattle.trust_desk.specs.Solo.{solo_rows}
 
@@ -24,7 +24,7 @@ pub kept-by_step : {rows : Rows} {t n : ℕ} {e : Edit} {last : ℕ} → IsStepO
 kept-by_step s = record { place = s.place; sound = s.sound; moved = s.moves.moved; not_before = s.not_before; seen = s.seen; dated = s.moves.dated }
 
 -- what a line that is applied edits
-pub line-fits : (rows : Rows) (l : BankLine) (day : ℕ) (e : Edit) → Sound rows → line_on rows l day ≡ told.Applied e → IsKept rows e (last_seen rows.head l.line)
+pub line-fits : (rows : Rows) (l : BankLine) (day : ℕ) (e : DatedEdit) → Sound rows → line_on rows l day ≡ told.Applied e → IsKept rows e.edit e.last
 line-fits rows l day e sound applied = kept-by_step (applied-step rows l day e sound applied)
 
 -- what comes to a matter, as doings of its own machine
@@ -43,13 +43,14 @@ solo-doings rows (OwnAsk a ∷ owns) = solo-doings (rows_after rows a) owns
 solo-doings rows (OwnRefusal r ∷ owns) = solo-doings rows owns
 solo-doings rows (OwnLine l day ∷ owns) = solo-doings (rows_after_line rows l day) owns
 
--- an ask that makes an entry is spent after all that comes to its matter
-pub spent-later : (rows : Rows) (a again : Asked) (owns : List Own) → IsSome (number_made a.ask) → refusal rows a ≡ None → again.ask ≡ a.ask → IsSpent (solo_rows (rows_after rows a) owns) again
-spent-later rows a again owns makes accepted same =
-    subst (λ (r : Rows). IsSpent r again) (sym (solo-doings (rows_after rows a) owns)) (at-most-once rows a again (doings_of owns) makes accepted same)
+-- an ask that makes an entry is a repeat after all that comes to its matter, as long as that is not purged
+pub asked-later : (rows : Rows) (a again : Asked) (owns : List Own) → IsSome (number_made a.ask) → refusal rows a ≡ None → again.ask ≡ a.ask → is_purged (solo_rows (rows_after rows a) owns).head ≡ false → is_repeat (facts_of (solo_rows (rows_after rows a) owns) again.ask) again ≡ true
+asked-later rows a again owns makes accepted same kept =
+    let all = solo-doings (rows_after rows a) owns in
+    subst (λ (r : Rows). is_repeat (facts_of r again.ask) again ≡ true) (sym all) (ask-repeat rows a again (doings_of owns) makes accepted same (subst (λ (r : Rows). is_purged r.head ≡ false) all kept))
 
--- a line that was applied is a repeat after all that comes to its matter
-pub repeat-later : (rows : Rows) (l again : BankLine) (day later : ℕ) (owns : List Own) → IsApplied (line_on rows l day) → IsSameLine l again → line_on (solo_rows (rows_after_line rows l day) owns) again later ≡ told.Repeat
-repeat-later rows l again day later owns applied same =
-    let spent = line-at-most-once rows l again day later (doings_of owns) applied same in
-    subst (λ (r : Rows). line_on r again later ≡ told.Repeat) (sym (solo-doings (rows_after_line rows l day) owns)) spent.repeat
+-- and so is a line that was applied
+pub repeat-later : (rows : Rows) (l again : BankLine) (day later : ℕ) (owns : List Own) → IsApplied (line_on rows l day) → IsSameLine l again → is_purged (solo_rows (rows_after_line rows l day) owns).head ≡ false → line_on (solo_rows (rows_after_line rows l day) owns) again later ≡ told.Repeat
+repeat-later rows l again day later owns applied same kept =
+    let all = solo-doings (rows_after_line rows l day) owns in
+    subst (λ (r : Rows). line_on r again later ≡ told.Repeat) (sym all) (line-repeat rows l again day later (doings_of owns) applied same (subst (λ (r : Rows). is_purged r.head ≡ false) all kept))

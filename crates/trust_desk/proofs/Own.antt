@@ -5,9 +5,10 @@ use Rattle.std.specs.List.{list_any}
 use Rattle.std.proofs.lemmas.Bool.Decides.{nat_tests}
 use Rattle.trust_base.specs.declared.refusal.Refusal.{Refusal}
 use Rattle.trust_matter.specs.Facts.{Asked}
-use Rattle.trust_matter.specs.Step.{refusal, edit_on, last_after, after, rows_after}
-use Rattle.trust_firm.specs.Firm.{Firm, of}
-use Rattle.trust_firm.proofs.Changed.{of-after_edit, of_other-after_edit}
+use Rattle.matter_parts.specs.Changes.{last_after}
+use Rattle.trust_matter.specs.Step.{refusal, edit_on, after, rows_after}
+use Rattle.firm_rows.specs.Firm.{Firm, of}
+use Rattle.firm_rows.proofs.Changed.{of-after_edit, of_other-after_edit}
 use Rattle.trust_desk.specs.declared.requests.Request.{Request}
 use Rattle.trust_desk.specs.declared.requests.Request.TheVariants.{Matter, Import}
 use Rattle.trust_desk.specs.declared.requests.Reply.{Reply}
@@ -15,7 +16,7 @@ use Rattle.trust_desk.specs.ItemStep.{names_item}
 use Rattle.trust_desk.specs.ImportStep.{imported}
 use Rattle.trust_desk.specs.Heard.{Heard, Asks, Unread, OwnAsk, OwnRefusal, heard, names, concerns, own_if, own_of, project, told, asked_on, is_the}
 use Rattle.trust_desk.specs.Replies.{is_fault_reply, reply_of, refused}
-use Rattle.trust_desk.specs.FirmStep.{after_asked, after_ask, firm_step, Stopped, Steps, Runs, IsUnstopped}
+use Rattle.trust_desk.specs.FirmStep.{after_asked, after_ask, firm_step, Stopped, IsStopped, Steps, Runs, IsUnstopped}
 use Rattle.trust_desk.specs.Solo.{solo_rows, solo_replies}
 use Rattle.trust_desk.specs.Isolation.{IsOwn, KeepsOthers, EachMatterOwn, SameForTheMatter}
 use Rattle.trust_desk.proofs.OwnItems.{solo_rows-append, solo_replies-append, of-after_items, silent-items, none-front, unnamed-items}
@@ -114,8 +115,8 @@ stopped-rows m day firm new (Unread n r) is other = ap (of m) is
 pub keeps-others : (day : ℕ) (firm new : Firm) (h : Heard) (reply : Reply) → Steps day firm h reply new → KeepsOthers firm h new
 keeps-others day firm new h reply step m other = cases (is_fault_reply reply) step
   where
-    cases : (b : Bool) → MatchBool b (Stopped day firm h new) ((reply ≡ (firm_step day firm h).reply) × (new ≡ (firm_step day firm h).firm)) → of m new ≡ of m firm
-    cases true is = stopped-rows m day firm new h is other
+    cases : (b : Bool) → MatchBool b (IsStopped day firm h reply new) ((reply ≡ (firm_step day firm h).reply) × (new ≡ (firm_step day firm h).firm)) → of m new ≡ of m firm
+    cases true is = stopped-rows m day firm new h is.leaves other
     cases false is = ap (of m) is.1 ∙ other-rows m day firm h other
 
 -- A step in a run.
@@ -137,10 +138,10 @@ other-step m day firm new h reply other same = record {
 pub steps-own : (m day : ℕ) (firm new : Firm) (h : Heard) (reply : Reply) → (concerns m h ≡ true → is_fault_reply reply ≡ false) → Steps day firm h reply new → IsOwnStep m day firm h reply new
 steps-own m day firm new h reply fine step = cases (concerns m h) refl (is_fault_reply reply) refl step
   where
-    cases : (c : Bool) → concerns m h ≡ c → (b : Bool) → is_fault_reply reply ≡ b → MatchBool b (Stopped day firm h new) ((reply ≡ (firm_step day firm h).reply) × (new ≡ (firm_step day firm h).firm)) → IsOwnStep m day firm h reply new
+    cases : (c : Bool) → concerns m h ≡ c → (b : Bool) → is_fault_reply reply ≡ b → MatchBool b (IsStopped day firm h reply new) ((reply ≡ (firm_step day firm h).reply) × (new ≡ (firm_step day firm h).firm)) → IsOwnStep m day firm h reply new
     cases c is false faultless to = own-step m day firm new h reply to.0 to.1
     cases true is true fault stopped = let good = fine is in absurd (cc)
-    cases false is true fault stopped = other-step m day firm new h reply is (stopped-rows m day firm new h stopped is)
+    cases false is true fault stopped = other-step m day firm new h reply is (stopped-rows m day firm new h stopped.leaves is)
 
 -- A run.
 

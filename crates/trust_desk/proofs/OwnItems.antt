@@ -1,21 +1,26 @@
 -- What the items of a statement do to a matter is what its own machine does with the lines that name it.
-use Rattle.std.proofs.Common.{◌≡◌, ◌≢◌, ℕ, Bool, true, false, ◌||◌, List, [], ◌∷◌, ◌++◌, Result, Ok, Err, refl, sym, ap, ◌∙◌, subst, arith}
+use Rattle.std.proofs.Common.{◌≡◌, ◌≢◌, ℕ, Bool, true, false, ◌||◌, List, [], ◌∷◌, ◌++◌, Result, Ok, Err, refl, sym, ap, ◌∙◌, subst, append_assoc, arith}
 use Rattle.std.specs.Prelude.{◌==◌, IfOk}
 use Rattle.std.specs.List.{list_any}
 use Rattle.std.proofs.lemmas.Bool.Decides.{nat_tests}
 use Rattle.trust_base.specs.declared.refusal.StoreFault.{StoreFault}
 use Rattle.trust_matter.specs.declared.bank_line.BankLine.{BankLine}
-use Rattle.trust_matter.specs.declared.line_verdict.LineEdit.{LineEdit}
-use Rattle.trust_matter.specs.declared.line_verdict.LineEdit.TheVariants as told
-use Rattle.trust_matter.specs.Rows.{Rows}
-use Rattle.trust_matter.specs.LineStep.{line_on, last_seen, after_line_edit, rows_after_line}
-use Rattle.trust_firm.specs.Firm.{Firm, of}
-use Rattle.trust_firm.proofs.Changed.{of-after_edit, of_other-after_edit}
+use Rattle.trust_matter.specs.declared.line_verdict.LineEffect.{LineEffect}
+use Rattle.trust_matter.specs.declared.line_verdict.LineEffect.TheVariants as told
+use Rattle.matter_rows.specs.Rows.{Rows}
+use Rattle.trust_matter.specs.LineStep.{line_on, after_line_effect, rows_after_line}
+use Rattle.trust_base.specs.declared.line.Line.{Line}
+use Rattle.firm_rows.specs.declared.ledger.BalanceKind.{BalanceKind}
+use Rattle.firm_rows.specs.declared.ledger.BalanceKind.TheVariants as kind
+use Rattle.firm_rows.specs.declared.ledger.Verdict.{Verdict}
+use Rattle.firm_rows.specs.declared.ledger.Verdict.TheVariants as own
+use Rattle.firm_rows.specs.Firm.{Firm, of}
+use Rattle.firm_rows.specs.FirmChange.{after, by_balance, by_firm_line}
+use Rattle.firm_rows.proofs.Changed.{of-after_edit, of_other-after_edit}
 use Rattle.statement_csv.specs.declared.item.Item.{Item}
 use Rattle.statement_csv.specs.declared.item.Item.TheVariants as item
 use Rattle.trust_desk.specs.declared.importing.Counted.{Counted}
-use Rattle.trust_desk.specs.declared.requests.Reply.{Reply}
-use Rattle.trust_desk.specs.ItemStep.{after_told, after_item, after_items, counted_of, names_item}
+use Rattle.trust_desk.specs.ItemStep.{after_told, after_item, after_items, balance_on, counted_of, firm_line_on, names_item}
 use Rattle.trust_desk.specs.Imports.{LeavesOwnItem}
 use Rattle.trust_desk.specs.Heard.{Own, OwnLine, own_if, own_of_item, own_of_items}
 use Rattle.trust_desk.specs.Solo.{own_rows, own_reply, solo_rows, solo_replies}
@@ -26,39 +31,47 @@ pub solo_rows-append : (rows : Rows) (xs ys : List Own) → solo_rows rows (xs +
 solo_rows-append rows [] ys = refl
 solo_rows-append rows (x ∷ xs) ys = solo_rows-append (own_rows rows x) xs ys
 
-append-assoc : (xs ys zs : List Reply) → xs ++ (ys ++ zs) ≡ (xs ++ ys) ++ zs
-append-assoc [] ys zs = refl
-append-assoc (x ∷ xs) ys zs = ap (λ rs. x ∷ rs) (append-assoc xs ys zs)
-
 pub solo_replies-append : (m : ℕ) (rows : Rows) (xs ys : List Own) → solo_replies m rows (xs ++ ys) ≡ solo_replies m rows xs ++ solo_replies m (solo_rows rows xs) ys
 solo_replies-append m rows [] ys = refl
 solo_replies-append m rows (x ∷ xs) ys =
     ap (λ rs. own_reply m rows x ++ rs) (solo_replies-append m (own_rows rows x) xs ys)
-    ∙ append-assoc (own_reply m rows x) (solo_replies m (own_rows rows x) xs) (solo_replies m (solo_rows (own_rows rows x) xs) ys)
+    ∙ sym (append_assoc (own_reply m rows x) (solo_replies m (own_rows rows x) xs) (solo_replies m (solo_rows (own_rows rows x) xs) ys))
 
 -- A line is seen in its matter, and in no other.
 
-of-after_told : (l : BankLine) (e : LineEdit) (firm : Firm) → of l.matter (after_told l e firm) ≡ after_line_edit e l.line (of l.matter firm)
-of-after_told l (told.Applied e) firm = of-after_edit l.matter e (last_seen (of l.matter firm).head l.line) firm
+of-after_told : (l : BankLine) (e : LineEffect) (firm : Firm) → of l.matter (after_told l e firm) ≡ after_line_effect e (of l.matter firm)
+of-after_told l (told.Applied e) firm = of-after_edit l.matter e.edit e.last firm
 of-after_told l told.Repeat firm = refl
 of-after_told l (told.Unmatched r) firm = refl
 
 pub of-after_line : (l : BankLine) (day : ℕ) (firm : Firm) → of l.matter (after_item day firm (item.OfMatter l)) ≡ rows_after_line (of l.matter firm) l day
 of-after_line l day firm = of-after_told l (line_on (of l.matter firm) l day) firm
 
-of_other-after_told : (m : ℕ) (l : BankLine) (e : LineEdit) (firm : Firm) → m ≢ l.matter → of m (after_told l e firm) ≡ of m firm
-of_other-after_told m l (told.Applied e) firm apart = of_other-after_edit m l.matter e (last_seen (of l.matter firm).head l.line) firm apart
+of_other-after_told : (m : ℕ) (l : BankLine) (e : LineEffect) (firm : Firm) → m ≢ l.matter → of m (after_told l e firm) ≡ of m firm
+of_other-after_told m l (told.Applied e) firm apart = of_other-after_edit m l.matter e.edit e.last firm apart
 of_other-after_told m l told.Repeat firm apart = refl
 of_other-after_told m l (told.Unmatched r) firm apart = refl
+
+-- A line of the firm's own, or a balance, is seen in none.
+
+pub of-balance : (m : ℕ) (kind : BalanceKind) (line : Line) (v : Verdict) (firm : Firm) → of m (after (by_balance kind line v) firm) ≡ of m firm
+of-balance m kind line own.Applied firm = refl
+of-balance m kind line own.Repeat firm = refl
+of-balance m kind line own.Unmatched firm = refl
+
+pub of-firm_line : (m : ℕ) (line : Line) (v : Verdict) (firm : Firm) → of m (after (by_firm_line line v) firm) ≡ of m firm
+of-firm_line m line own.Applied firm = refl
+of-firm_line m line own.Repeat firm = refl
+of-firm_line m line own.Unmatched firm = refl
 
 -- An item.
 
 pub of-after_item : (m day : ℕ) (firm : Firm) (it : Item) → of m (after_item day firm it) ≡ solo_rows (of m firm) (own_of_item m day it)
-of-after_item m day firm (item.Opening line) = refl
-of-after_item m day firm (item.Closing line) = refl
+of-after_item m day firm (item.Opening line) = of-balance m kind.Opening line (balance_on firm kind.Opening line day) firm
+of-after_item m day firm (item.Closing line) = of-balance m kind.Closing line (balance_on firm kind.Closing line day) firm
 of-after_item m day firm (item.OfMatter l) = cases (l.matter == m) refl
   where
-    edit : LineEdit
+    edit : LineEffect
     edit = line_on (of l.matter firm) l day
 
     cases : (b : Bool) → (l.matter == m) ≡ b → of m (after_told l edit firm) ≡ solo_rows (of m firm) (own_if b (OwnLine l day))
@@ -66,7 +79,7 @@ of-after_item m day firm (item.OfMatter l) = cases (l.matter == m) refl
         let same : l.matter ≡ m = grind (arith, nat_tests) in
         subst (λ (k : ℕ). of k (after_told l edit firm) ≡ rows_after_line (of k firm) l day) same (of-after_told l edit firm)
     cases false other_test = of_other-after_told m l edit firm (λ same. absurd (grind (arith, nat_tests)))
-of-after_item m day firm (item.OfFirm line) = refl
+of-after_item m day firm (item.OfFirm line) = of-firm_line m line (firm_line_on firm line day) firm
 of-after_item m day firm (item.Stray line) = refl
 of-after_item m day firm (item.Unreadable number) = refl
 

@@ -5,15 +5,16 @@ use Rattle.trust_base.specs.declared.refusal.Refusal.TheVariants as refusals
 use Rattle.trust_base.specs.declared.refusal.StoreFault.{StoreFault}
 use Rattle.trust_base.specs.declared.refusal.StoreFault.TheVariants as faults
 use Rattle.trust_base.specs.Refusals.{is_fault, refused_by}
-use Rattle.trust_matter.specs.declared.asks.Ask.{Ask}
-use Rattle.trust_matter.specs.Facts.{Asked, fund_named, number_of}
-use Rattle.trust_matter.specs.Shares.{number_or_none}
-use Rattle.trust_matter.specs.Sound.{Sound}
-use Rattle.trust_matter.specs.Parts.{Part, IsPart, holds_for}
-use Rattle.trust_matter.specs.Rows.{Rows}
+use Rattle.trust_matter.specs.declared.ask.Ask.{Ask}
+use Rattle.trust_matter.specs.Facts.{Asked, fund_named, number_named}
+use Rattle.matter_rows.specs.Shares.{number_or_none}
+use Rattle.matter_rows.specs.Sound.{Sound}
+use Rattle.matter_parts.specs.Parts.{Part, IsPart}
+use Rattle.trust_matter.specs.KeptFacts.{holds_for}
+use Rattle.matter_rows.specs.Rows.{Rows}
 use Rattle.trust_matter.specs.Step.{MayRefuse, refusal}
-use Rattle.trust_firm.specs.Firm.{Firm, of, after_edit, after_change}
-use Rattle.trust_firm.specs.FirmSound.{FirmSound}
+use Rattle.firm_rows.specs.Firm.{Firm, of, after_edit, after_change}
+use Rattle.firm_rows.specs.FirmSound.{FirmSound}
 use Rattle.trust_store.specs.Books.{counted_fault}
 use Rattle.trust_store.specs.Named.{IsPartFor}
 use Rattle.trust_store.proofs.Named.{named-held}
@@ -28,36 +29,9 @@ pub record IsTold (o : Option Refusal) (r : Refusal) : Type 0 where
   pub told : is_store r ≡ false
 
 pub plan-refuses : (o : Option Refusal) (r : Refusal) → MayRefuse o r → IsTold o r
-plan-refuses o refusals.BadMessage h = record { why = inr h; told = refl }
-plan-refuses o refusals.LengthRequired h = record { why = inr h; told = refl }
-plan-refuses o refusals.TooLarge h = record { why = inr h; told = refl }
-plan-refuses o refusals.NoRoute h = record { why = inr h; told = refl }
-plan-refuses o refusals.BadMethod h = record { why = inr h; told = refl }
-plan-refuses o refusals.NoCaller h = record { why = inr h; told = refl }
-plan-refuses o (refusals.BadField f) h = record { why = inr h; told = refl }
-plan-refuses o refusals.NoMatter h = record { why = inr h; told = refl }
-plan-refuses o refusals.Purged h = record { why = inr h; told = refl }
-plan-refuses o (refusals.NotAllowed f) h = record { why = inr h; told = refl }
-plan-refuses o refusals.AlreadyOpen h = record { why = inr h; told = refl }
-plan-refuses o refusals.Closed h = record { why = inr h; told = refl }
-plan-refuses o (refusals.DateBackwards f) h = record { why = inr h; told = refl }
-plan-refuses o (refusals.WrongNumber f) h = record { why = inr h; told = refl }
-plan-refuses o refusals.NoEntry h = record { why = inr h; told = refl }
-plan-refuses o refusals.WrongKind h = record { why = inr h; told = refl }
-plan-refuses o refusals.WrongState h = record { why = inr h; told = refl }
-plan-refuses o refusals.PayeeIsCash h = record { why = inr h; told = refl }
-plan-refuses o refusals.WrongPayee h = record { why = inr h; told = refl }
-plan-refuses o refusals.BadSplit h = record { why = inr h; told = refl }
-plan-refuses o (refusals.Short f) h = record { why = inr h; told = refl }
-plan-refuses o refusals.SeatTaken h = record { why = inr h; told = refl }
-plan-refuses o refusals.NoSeat h = record { why = inr h; told = refl }
-plan-refuses o refusals.LastLawyer h = record { why = inr h; told = refl }
-plan-refuses o refusals.NotEmpty h = record { why = inr h; told = refl }
-plan-refuses o (refusals.TooEarly f) h = record { why = inr h; told = refl }
-plan-refuses o refusals.NoStatement h = record { why = inr h; told = refl }
-plan-refuses o refusals.PeriodPurged h = record { why = inr h; told = refl }
 plan-refuses o refusals.Store h = absurd h
 plan-refuses o refusals.Memory h = record { why = inl refl; told = refl }
+plan-refuses o _ h = record { why = inr h; told = refl }
 
 -- what the plan refuses changes nothing
 pub plan-refused : (firm new : Firm) (m : ℕ) (a : Asked) (rows : Rows) (r : Refusal) → new ≡ firm → rows ≡ of m firm → MayRefuse (refusal rows a) r → IsRefused firm m a r new
@@ -85,7 +59,7 @@ fault-counted faults.Memory r n is = ap (λ x. counted_refusal x n) is
 -- What is read of a matter.
 
 -- what holds of all sound rows of which the part is one holds of those that it was read from
-pub at-part : (P : Rows → Type 0) (firm : Firm) (m : ℕ) (ask : Ask) (entry other : Option ℕ) (part : Part) → number_or_none entry ≡ number_of ask → number_or_none other ≡ fund_named ask → FirmSound firm → IsPartFor (of m firm) entry other part → ((rows : Rows) → Sound rows → IsPart part rows → holds_for part ask ≡ true → P rows) → P (of m firm)
+pub at-part : (P : Rows → Type 0) (firm : Firm) (m : ℕ) (ask : Ask) (entry other : Option ℕ) (part : Part) → number_or_none entry ≡ number_named ask → number_or_none other ≡ fund_named ask → FirmSound firm → IsPartFor (of m firm) entry other part → ((rows : Rows) → Sound rows → IsPart part rows → holds_for part ask ≡ true → P rows) → P (of m firm)
 at-part P firm m ask entry other part same fund sound is all = all (of m firm) (sound.matters m) is.is_part (named-held (of m firm) ask entry other part same fund is)
 
 -- what is planned and written is the step

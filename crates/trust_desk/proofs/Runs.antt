@@ -1,29 +1,50 @@
 -- A run goes on by one request.
 use Rattle.std.proofs.Common.{◌≡◌, ℕ, ◌+◌, ◌<◌, List, [], ◌∷◌, ◌++◌, length, get_or, take, refl, sym, ap, ◌∙◌, subst}
 use Rattle.std.proofs.lemmas.List.{take_more}
-use Rattle.trust_firm.specs.Firm.{Firm}
+use Rattle.firm_rows.specs.Firm.{Firm}
+use Rattle.firm_rows.specs.FirmSound.{FirmSound}
 use Rattle.trust_desk.specs.declared.requests.Request.{Request}
 use Rattle.trust_desk.specs.declared.requests.Reply.{Reply}
 use Rattle.trust_desk.specs.Heard.{Heard, Asks, heard}
-use Rattle.trust_desk.specs.FirmStep.{Steps, Runs}
+use Rattle.trust_desk.specs.FirmStep.{Steps, Runs, RunsSoundly, SoundRunsAreRuns}
 use Rattle.trust_desk.specs.Counts.{counted_reply, counted_replies}
 
-Runs-push : (day : ℕ) (f g h : Firm) (qs : List Heard) (q : Heard) (rs : List Reply) (r : Reply) → Runs day f qs rs g → Steps day g q r h → Runs day f (qs ++ q ∷ []) (rs ++ r ∷ []) h
+pub sound-runs-are-runs : SoundRunsAreRuns
+sound-runs-are-runs day firm new [] [] run = run
+sound-runs-are-runs day firm new [] (reply ∷ replies) run = absurd run
+sound-runs-are-runs day firm new (h ∷ hs) [] run = absurd run
+sound-runs-are-runs day firm new (h ∷ hs) (reply ∷ replies) run =
+    (run.0, run.1, sound-runs-are-runs day run.0 new hs replies run.3)
+
+-- a run and one step more
+pub Runs-push : (day : ℕ) (f g h : Firm) (qs : List Heard) (q : Heard) (rs : List Reply) (r : Reply)
+    → Runs day f qs rs g → Steps day g q r h → Runs day f (qs ++ q ∷ []) (rs ++ r ∷ []) h
 Runs-push day f g h [] q [] r run step = (h, subst (λ (x : Firm). Steps day x q r h) run step, refl)
 Runs-push day f g h [] q (s ∷ rs) r run step = absurd run
 Runs-push day f g h (p ∷ qs) q [] r run step = absurd run
 Runs-push day f g h (p ∷ qs) q (s ∷ rs) r run step = (run.0, run.1, Runs-push day run.0 g h qs q rs r run.2 step)
+
+pub RunsSoundly-push : (day : ℕ) (f g h : Firm) (qs : List Heard) (q : Heard) (rs : List Reply) (r : Reply)
+    → RunsSoundly day f qs rs g → Steps day g q r h → FirmSound h → RunsSoundly day f (qs ++ q ∷ []) (rs ++ r ∷ []) h
+RunsSoundly-push day f g h [] q [] r run step sound = (h, subst (λ (x : Firm). Steps day x q r h) run step, sound, refl)
+RunsSoundly-push day f g h [] q (s ∷ rs) r run step sound = absurd run
+RunsSoundly-push day f g h (p ∷ qs) q [] r run step sound = absurd run
+RunsSoundly-push day f g h (p ∷ qs) q (s ∷ rs) r run step sound =
+    (run.0, run.1, run.2, RunsSoundly-push day run.0 g h qs q rs r run.3 step sound)
 
 heard-push : (qs : List Request) (q : Request) → heard (qs ++ q ∷ []) ≡ heard qs ++ Asks q ∷ []
 heard-push [] q = refl
 heard-push (p ∷ qs) q = ap (λ hs. Asks p ∷ hs) (heard-push qs q)
 
 -- one more request of a run
-pub run-more : (day : ℕ) (first now next : Firm) (requests : List Request) (i : ℕ) (request : Request) (replies after : List Reply) (reply : Reply) → i < length requests → request ≡ get_or requests i request → Runs day first (heard (take i requests)) replies now → Steps day now (Asks request) reply next → after ≡ replies ++ reply ∷ [] → Runs day first (heard (take (i + 1) requests)) after next
-run-more day first now next requests i request replies after reply lt at run step is =
+pub run-more : (day : ℕ) (first now next : Firm) (requests : List Request) (i : ℕ) (request : Request) (replies after : List Reply) (reply : Reply) → i < length requests → request ≡ get_or requests i request
+    → RunsSoundly day first (heard (take i requests)) replies now → Steps day now (Asks request) reply next → FirmSound next
+    → after ≡ replies ++ reply ∷ [] → RunsSoundly day first (heard (take (i + 1) requests)) after next
+run-more day first now next requests i request replies after reply lt at run step sound is =
     let front : take (i + 1) requests ≡ take i requests ++ request ∷ [] = take_more requests i request lt ∙ ap (λ q. take i requests ++ q ∷ []) (sym at) in
     let hs : heard (take (i + 1) requests) ≡ heard (take i requests) ++ Asks request ∷ [] = ap heard front ∙ heard-push (take i requests) request in
-    subst (λ (x : List Heard × List Reply). Runs day first x.0 x.1 next) (λ j. (sym hs j, sym is j)) (Runs-push day first now next (heard (take i requests)) (Asks request) replies reply run step)
+    subst (λ (x : List Heard × List Reply). RunsSoundly day first x.0 x.1 next) (λ j. (sym hs j, sym is j))
+    (RunsSoundly-push day first now next (heard (take i requests)) (Asks request) replies reply run step sound)
 
 -- one more reply is counted
 pub counted-push : (rs : List Reply) (r : Reply) (n : ℕ) → counted_replies (rs ++ r ∷ []) n ≡ counted_reply r (counted_replies rs n)

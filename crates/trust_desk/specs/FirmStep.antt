@@ -1,11 +1,16 @@
 -- One step of the firm, and a run of it.
-use Rattle.std.specs.Prelude.{ℕ, ◌≡◌, true, false, List, [], ◌∷◌, Option, Some, None, MatchBool}
+use Rattle.std.specs.Prelude.{ℕ, ◌≡◌, ◌⊎◌, true, false, List, [], ◌∷◌, Option, Some, None, MatchBool}
+use Rattle.trust_base.specs.Refusals.{status_of}
 use Rattle.trust_base.specs.declared.refusal.Refusal.{Refusal}
+use Rattle.trust_base.specs.declared.refusal.Refusal.TheVariants.{Store, Memory}
 use Rattle.trust_matter.specs.Facts.{Asked}
-use Rattle.trust_matter.specs.Step.{refusal, edit_on, last_after}
-use Rattle.trust_firm.specs.Firm.{Firm, of, after_edit}
+use Rattle.matter_parts.specs.Changes.{last_after}
+use Rattle.trust_matter.specs.Step.{refusal, edit_on}
+use Rattle.firm_rows.specs.Firm.{Firm, of, after_edit}
+use Rattle.firm_rows.specs.FirmSound.{FirmSound}
 use Rattle.statement_csv.specs.declared.item.Item.{Item}
 use Rattle.trust_desk.specs.declared.requests.Request.TheVariants.{Matter, Import}
+use Rattle.trust_desk.specs.declared.requests.Body.TheVariants.{Refused}
 use Rattle.trust_desk.specs.declared.requests.Reply.{Reply}
 use Rattle.trust_desk.specs.Heard.{Heard, Asks, Unread, asked_on, concerns}
 use Rattle.trust_desk.specs.Replies.{refused, reply_of, is_fault_reply}
@@ -13,7 +18,8 @@ use Rattle.trust_desk.specs.ItemStep.{after_items, counts_after, none_counted}
 use Rattle.trust_desk.specs.ImportStep.{IsAfterFront, import_refusal, imported, import_reply}
 
 abbrev pub after_asked : Option Refusal → ℕ → Asked → Firm → Firm
-after_asked None m a firm = after_edit m (edit_on (of m firm) a) (last_after (of m firm).head (edit_on (of m firm) a) a.day) firm
+after_asked None m a firm =
+    after_edit m (edit_on (of m firm) a) (last_after (of m firm).head (edit_on (of m firm) a) a.day) firm
 after_asked (Some r) m a firm = firm
 
 -- the firm after an ask of a matter: with its edit where it is accepted, and else as it was
@@ -26,22 +32,48 @@ pub record Stepped : Type 0 where
 
 -- the firm's step on a day
 abbrev pub firm_step : ℕ → Firm → Heard → Stepped
-firm_step day firm (Asks (Matter m caller ask)) = record { firm = after_ask m (asked_on day caller ask) firm; reply = reply_of m (of m firm) (asked_on day caller ask) }
+firm_step day firm (Asks (Matter m caller ask)) = record {
+  firm = after_ask m (asked_on day caller ask) firm;
+  reply = reply_of m (of m firm) (asked_on day caller ask);
+}
 firm_step day firm (Asks (Import caller statement)) = record {
   firm = after_items day firm (imported caller statement);
-  reply = import_reply (import_refusal caller statement) (counts_after day firm (imported caller statement) none_counted);
+  reply =
+      import_reply (import_refusal caller statement) (counts_after day firm (imported caller statement) none_counted);
 }
 firm_step day firm (Unread named r) = record { firm = firm; reply = refused r }
+
+-- the reply to a request that the store or memory stopped
+abbrev pub IsFaultReply : Reply → Type 0
+IsFaultReply reply = (reply ≡ refused Store) ⊎ (reply ≡ refused Memory)
 
 -- what is left by a request that the store or memory stopped: all as it was, but after the first items of an import
 abbrev pub Stopped : ℕ → Firm → Heard → Firm → Type 0
 Stopped day firm (Asks (Matter m caller ask)) new = new ≡ firm
-Stopped day firm (Asks (Import caller statement)) new = (rest : List Item) × IsAfterFront day firm (imported caller statement) rest new
+Stopped day firm (Asks (Import caller statement)) new =
+    (rest : List Item) × IsAfterFront day firm (imported caller statement) rest new
 Stopped day firm (Unread named r) new = new ≡ firm
+
+-- the store or memory stopped a request, and the reply says which
+pub record IsStopped (day : ℕ) (firm : Firm) (h : Heard) (reply : Reply) (new : Firm) : Type 0 where
+  pub says : IsFaultReply reply
+  pub leaves : Stopped day firm h new
 
 -- the reply and the firm are those of the firm's step, or the store or memory stopped it
 abbrev pub Steps : ℕ → Firm → Heard → Reply → Firm → Type 0
-Steps day firm h reply new = MatchBool (is_fault_reply reply) (Stopped day firm h new) ((reply ≡ (firm_step day firm h).reply) × (new ≡ (firm_step day firm h).firm))
+Steps day firm h reply new =
+    MatchBool (is_fault_reply reply)
+    (IsStopped day firm h reply new)
+    ((reply ≡ (firm_step day firm h).reply) × (new ≡ (firm_step day firm h).firm))
+
+-- where the reply's body is a refusal, its status is the refusal's
+abbrev pub HasItsStatus : Reply → Type 0
+HasItsStatus reply = (r : Refusal) → reply.body ≡ Refused r → reply.status ≡ status_of r
+
+-- so it is in each reply of a step, of a fault too
+abbrev pub RefusalsHaveTheirStatus : Type 0
+RefusalsHaveTheirStatus =
+    (day : ℕ) (firm new : Firm) (h : Heard) (reply : Reply) → Steps day firm h reply new → HasItsStatus reply
 
 -- one step after another, each with its reply
 abbrev pub Runs : ℕ → Firm → List Heard → List Reply → Firm → Type 0
@@ -50,8 +82,22 @@ Runs day firm [] (reply ∷ replies) new = ⊥
 Runs day firm (h ∷ hs) [] new = ⊥
 Runs day firm (h ∷ hs) (reply ∷ replies) new = (mid : Firm) × Steps day firm h reply mid × Runs day mid hs replies new
 
+-- the same, and the firm is sound after each step
+abbrev pub RunsSoundly : ℕ → Firm → List Heard → List Reply → Firm → Type 0
+RunsSoundly day firm [] [] new = new ≡ firm
+RunsSoundly day firm [] (reply ∷ replies) new = ⊥
+RunsSoundly day firm (h ∷ hs) [] new = ⊥
+RunsSoundly day firm (h ∷ hs) (reply ∷ replies) new =
+    (mid : Firm) × Steps day firm h reply mid × FirmSound mid × RunsSoundly day mid hs replies new
+
+abbrev pub SoundRunsAreRuns : Type 0
+SoundRunsAreRuns =
+    (day : ℕ) (firm new : Firm) (hs : List Heard) (replies : List Reply) → RunsSoundly day firm hs replies new
+    → Runs day firm hs replies new
+
 -- no reply to what concerns the matter is for want of the store or of memory
 abbrev pub IsUnstopped : ℕ → List Heard → List Reply → Type 0
 IsUnstopped m [] replies = Unit {0}
 IsUnstopped m (h ∷ hs) [] = Unit {0}
-IsUnstopped m (h ∷ hs) (reply ∷ replies) = (concerns m h ≡ true → is_fault_reply reply ≡ false) × IsUnstopped m hs replies
+IsUnstopped m (h ∷ hs) (reply ∷ replies) =
+    (concerns m h ≡ true → is_fault_reply reply ≡ false) × IsUnstopped m hs replies

@@ -5,17 +5,17 @@ use Rattle.trust_base.specs.declared.refusal.Rule.TheVariants as rule
 use Rattle.trust_base.specs.declared.refusal.Refusal.{Refusal}
 use Rattle.trust_base.specs.declared.refusal.Refusal.TheVariants as refusals
 use Rattle.trust_base.specs.Refusals.{is_fault}
-use Rattle.trust_matter.specs.declared.asks.Caller.{Caller}
+use Rattle.trust_matter.specs.declared.ask.Caller.{Caller}
 use Rattle.trust_matter.specs.Policy.{allows}
 use Rattle.trust_matter.specs.Step.{first}
-use Rattle.trust_firm.specs.Firm.{Firm}
+use Rattle.firm_rows.specs.Firm.{Firm}
 use Rattle.statement_csv.specs.declared.item.Item.{Item}
 use Rattle.statement_csv.specs.Items.{items}
-use Rattle.statement_csv.specs.Limits.{MAX_BYTES}
-use Rattle.trust_desk.specs.declared.bodies.ImportReply.{ImportReply}
+use Rattle.trust_base.specs.declared.limits.TheConstants.{MAX_FILE_BYTES}
+use Rattle.matter_bodies.specs.declared.bodies.ImportReply.{ImportReply}
 use Rattle.trust_desk.specs.declared.requests.Reply.{Reply}
 use Rattle.trust_desk.specs.declared.requests.Body.TheVariants.{Json}
-use Rattle.trust_desk.specs.Bodies.{import_body}
+use Rattle.matter_bodies.specs.Bodies.{import_body}
 use Rattle.trust_desk.specs.ItemStep.{after_items, counts_after, none_counted}
 use Rattle.trust_desk.specs.Replies.{refused}
 
@@ -26,7 +26,7 @@ is_not_of_firm caller = not (allows [] caller rule.Firm)
 -- each refusal with its condition, in the order of their numbers
 abbrev pub import_conditions : Caller → List ℕ → List (Bool × Refusal)
 import_conditions caller bytes =
-    (nat_lt MAX_BYTES (length bytes), refusals.TooLarge)
+    (nat_lt MAX_FILE_BYTES (length bytes), refusals.TooLarge)
     ∷ (is_none (items bytes), refusals.BadField field.Header)
     ∷ (is_not_of_firm caller, refusals.NotAllowed rule.Firm)
     ∷ []
@@ -70,5 +70,6 @@ pub record IsAfterFront (day : ℕ) (firm : Firm) (all rest : List Item) (new : 
 
 -- the counts of all items; or the store or memory stopped them after some front
 abbrev pub EndsItems : ℕ → Firm → List Item → Firm → Result ImportReply Refusal → Type 0
-EndsItems day firm all new (Ok counts) = (counts ≡ counts_after day firm all none_counted) × (new ≡ after_items day firm all)
+EndsItems day firm all new (Ok counts) =
+    (counts ≡ counts_after day firm all none_counted) × (new ≡ after_items day firm all)
 EndsItems day firm all new (Err r) = (is_fault r ≡ true) × (rest : List Item) × IsAfterFront day firm all rest new

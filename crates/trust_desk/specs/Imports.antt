@@ -1,26 +1,27 @@
 -- What an import of a statement has done when it ends.
-use Rattle.std.specs.Prelude.{◌≡◌, ◌≢◌, ◌⊎◌, ◌<◌, ℕ, false, true, List, [], ◌++◌, Option, Some, None, ⊤}
+use Rattle.std.specs.Prelude.{◌≡◌, ◌≢◌, ◌⊎◌, ◌<◌, ℕ, false, true, List, [], ◌∷◌, ◌++◌, Option, Some, None, ⊤}
 use Rattle.std.specs.List.{list_any}
 use Rattle.trust_base.specs.Refusals.{is_fault}
 use Rattle.trust_base.specs.declared.refusal.Field.TheVariants as field
 use Rattle.trust_base.specs.declared.refusal.Refusal.TheVariants as refusal
-use Rattle.trust_firm.specs.Firm.{Firm, of}
+use Rattle.firm_rows.specs.Firm.{Firm, of}
+use Rattle.firm_rows.specs.FirmSound.{FirmSound}
 use Rattle.statement_csv.specs.Reading.{Gives}
 use Rattle.statement_csv.specs.declared.fault.ReadFault.{ReadFault}
 use Rattle.statement_csv.specs.declared.fault.ReadFault.TheVariants as fault
 use Rattle.statement_csv.specs.declared.item.Item.{Item}
-use Rattle.trust_desk.specs.declared.bodies.ImportReply.{ImportReply}
+use Rattle.matter_bodies.specs.declared.bodies.ImportReply.{ImportReply}
 use Rattle.trust_desk.specs.declared.importing.Counted.{Counted}
 use Rattle.trust_desk.specs.declared.importing.ImportEnd.{ImportEnd}
 use Rattle.trust_desk.specs.declared.importing.ImportStop.{ImportStop}
 use Rattle.trust_desk.specs.declared.importing.ImportStop.TheVariants as stop
 use Rattle.trust_desk.specs.Counts.{counted_refusal}
-use Rattle.trust_desk.specs.ItemStep.{after_item, after_items, counted_of, count_one, counts_after, names_item, none_counted}
+use Rattle.trust_desk.specs.ItemStep.{after_item, after_items, counted_of, count_item, counts_after, names_item, none_counted}
 use Rattle.trust_desk.specs.Heard.{own_of_item, own_of_items}
 use Rattle.trust_desk.specs.Solo.{solo_rows}
 
--- What a statement has: nothing is known where its reader does not tell its bytes; else it has no items where its header is
--- another, or these.
+-- What a statement has: nothing is known where its reader does not tell its bytes; else it has no items where its
+-- header is another, or these.
 abbrev pub Told : Type 0
 Told = Option (Option (List Item))
 
@@ -54,29 +55,31 @@ counted_if (Some end) n = counted_stop end n
 
 -- What it has done.
 
--- these are the first of the statement's items, and all where the import is done; with another header it is not done, and there
--- are none
+-- these are the first of the statement's items, and all where the import is done; with another header it is not done,
+-- and there are none
 abbrev pub AreFirst : Told → List Item → ImportStop → Type 0
 AreFirst None front end = ⊤
 AreFirst (Some None) front end = (front ≡ []) × (end ≢ stop.Done)
 AreFirst (Some (Some items)) front end = (rest : List Item) × (front ++ rest ≡ items) × (end ≡ stop.Done → rest ≡ [])
 
--- the first items of the statement were applied, one after the other, and counted
+-- the firm is sound before and after each item
+abbrev pub AlwaysSound : ℕ → Firm → List Item → Type 0
+AlwaysSound day firm [] = FirmSound firm
+AlwaysSound day firm (it ∷ items) = FirmSound firm × AlwaysSound day (after_item day firm it) items
+
+-- the first items of the statement were applied, one after the other, and counted; the firm is sound after each; and
+-- each matter's rows are those that its own machine leaves of the lines among them that name it
 pub record Imports (day : ℕ) (firm : Firm) (told : Told) (result : ImportEnd) (new : Firm) : Type 0 where
   pub front : List Item
   pub first : AreFirst told front result.end
   pub leaves : new ≡ after_items day firm front
   pub counts : result.reply ≡ counts_after day firm front none_counted
+  pub own : (m : ℕ) → of m new ≡ solo_rows (of m firm) (own_of_items m day front)
+  pub sound : AlwaysSound day firm front
 
 -- each matter's rows are those that its own machine leaves of an item, if that names it
 abbrev pub LeavesOwnItem : ℕ → Firm → Item → Firm → Type 0
 LeavesOwnItem day firm it new = (m : ℕ) → of m new ≡ solo_rows (of m firm) (own_of_item m day it)
-
--- each matter's rows are those that its own machine leaves of the lines that name it, of the items that were applied
-pub record LeavesOwn (day : ℕ) (firm : Firm) (told : Told) (result : ImportEnd) (new : Firm) : Type 0 where
-  pub front : List Item
-  pub first : AreFirst told front result.end
-  pub own : (m : ℕ) → of m new ≡ solo_rows (of m firm) (own_of_items m day front)
 
 -- What it has not.
 
@@ -100,13 +103,15 @@ pub record AreBelow (n : ℕ) (counts : ImportReply) : Type 0 where
   pub unreadable : counts.unreadable < n
 
 -- the item was applied, and counted as what became of it; what is said of the firm holds where the store is clean
-pub record CountsOne (day : ℕ) (clean : Type 0) (firm new : Firm) (it : Item) (before after : ImportReply) : Type 0 where
+pub record CountsOne (day : ℕ) (clean : Type 0) (firm new : Firm) (it : Item)
+    (before after : ImportReply) : Type 0 where
   pub kind : Counted
-  pub counts : after ≡ count_one kind before
+  pub counts : after ≡ count_item it kind before
   pub step : clean → (kind ≡ counted_of day firm it) × (new ≡ after_item day firm it)
 
 -- one item more was read, applied and counted
-pub record TakesOne (day : ℕ) (clean : Type 0) (firm new : Firm) (left more : Told) (before after : ImportReply) : Type 0 where
+pub record TakesOne (day : ℕ) (clean : Type 0) (firm new : Firm) (left more : Told)
+    (before after : ImportReply) : Type 0 where
   pub item : Item
   pub gives : Gives left more (Some item)
   pub counted : CountsOne day clean firm new item before after

@@ -1,6 +1,6 @@
 -- No matter is told of another, nor changed by it.
 use Rattle.std.specs.Prelude.{ℕ, ◌≡◌, false, List}
-use Rattle.trust_firm.specs.Firm.{Firm, of}
+use Rattle.firm_rows.specs.Firm.{Firm, of}
 use Rattle.trust_desk.specs.declared.requests.Reply.{Reply}
 use Rattle.trust_desk.specs.Heard.{Heard, concerns, project, told}
 use Rattle.trust_desk.specs.FirmStep.{Runs, IsUnstopped}
@@ -18,11 +18,15 @@ KeepsOthers firm h new = (m : ℕ) → concerns m h ≡ false → of m new ≡ o
 -- in every run each matter's replies and rows are those of its own machine, where nothing that concerns it was
 -- stopped, whatever became of the rest
 abbrev pub EachMatterOwn : Type 0
-EachMatterOwn = (m day : ℕ) (firm : Firm) (hs : List Heard) (replies : List Reply) (new : Firm) → IsUnstopped m hs replies → Runs day firm hs replies new → IsOwn m day firm hs replies new
+EachMatterOwn =
+    (m day : ℕ) (firm : Firm) (hs : List Heard) (replies : List Reply) (new : Firm)
+    → IsUnstopped m hs replies → Runs day firm hs replies new → IsOwn m day firm hs replies new
 
 -- two firms with the same rows of a matter that hear the same for it tell it the same and leave it the same,
 -- whatever else they have and hear
 abbrev pub SameForTheMatter : Type 0
 SameForTheMatter =
-    (m d e : ℕ) (f g : Firm) (ps qs : List Heard) (rs ss : List Reply) (f' g' : Firm) → of m f ≡ of m g → project m d ps ≡ project m e qs
-    → IsUnstopped m ps rs → IsUnstopped m qs ss → Runs d f ps rs f' → Runs e g qs ss g' → (told m ps rs ≡ told m qs ss) × (of m f' ≡ of m g')
+    (m d e : ℕ) (f g : Firm) (ps qs : List Heard) (rs ss : List Reply) (f' g' : Firm) → of m f ≡ of m g
+    → project m d ps ≡ project m e qs
+    → IsUnstopped m ps rs → IsUnstopped m qs ss → Runs d f ps rs f' → Runs e g qs ss g'
+    → (told m ps rs ≡ told m qs ss) × (of m f' ≡ of m g')

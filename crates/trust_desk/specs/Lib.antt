@@ -1,6 +1,3 @@
-pub mod Json
-pub mod Values
-pub mod Bodies
 pub mod Replies
 pub mod ItemStep
 pub mod Imports
@@ -13,4 +10,4 @@ pub mod NeverBelowZero
 pub mod OnceOnly
 pub mod Counts
 pub mod Plan
-pub mod BodyLaws
+pub mod Calls

@@ -1,15 +1,16 @@
 -- No client's money ever pays another's debt.
-use Rattle.std.specs.Prelude.{ℕ, List, [], ◌∷◌, pos, ◌≤ℤ◌}
-use Rattle.trust_matter.specs.Balances.{ledger}
+use Rattle.std.specs.Prelude.{ℕ, ◌≡◌, List, [], ◌∷◌, pos, ◌≤ℤ◌}
+use Rattle.matter_rows.specs.Balances.{ledger}
 use Rattle.trust_matter.specs.Step.{HasAmount}
-use Rattle.trust_firm.specs.Firm.{Firm, of}
-use Rattle.trust_firm.specs.FirmSound.{FirmSound}
+use Rattle.firm_rows.specs.Firm.{Firm, of}
+use Rattle.firm_rows.specs.FirmSound.{FirmSound}
 use Rattle.statement_csv.specs.declared.item.Item.{Item}
 use Rattle.trust_desk.specs.declared.requests.Request.TheVariants.{Matter, Import}
 use Rattle.trust_desk.specs.Heard.{Heard, Asks, Unread}
 use Rattle.trust_desk.specs.ItemStep.{after_item}
 use Rattle.trust_desk.specs.ImportStep.{imported}
-use Rattle.trust_desk.specs.FirmStep.{firm_step}
+use Rattle.trust_desk.specs.FirmStep.{RunsSoundly, Steps, firm_step}
+use Rattle.trust_desk.specs.declared.requests.Reply.{Reply}
 
 -- the amounts in what is heard are amounts; a line of the bank may have any
 abbrev pub HasAmounts : Heard → Type 0
@@ -42,5 +43,21 @@ abbrev pub AlwaysCovered : ℕ → Firm → List Heard → Type 0
 AlwaysCovered day firm [] = IsCovered firm
 AlwaysCovered day firm (h ∷ hs) = IsCoveredIn day firm h × AlwaysCovered day (firm_step day firm h).firm hs
 
+-- the same of a run of the desk, whatever stopped its steps: before, in and after each
+abbrev pub CoveredRun : ℕ → Firm → List Heard → List Reply → Firm → Type 0
+CoveredRun day firm [] [] new = (new ≡ firm) × IsCovered firm
+CoveredRun day firm [] (reply ∷ replies) new = ⊥
+CoveredRun day firm (h ∷ hs) [] new = ⊥
+CoveredRun day firm (h ∷ hs) (reply ∷ replies) new =
+    (mid : Firm) × Steps day firm h reply mid × IsCoveredIn day firm h × CoveredRun day mid hs replies new
+
+-- a run of the desk: what is asked may have any amounts
+abbrev pub RunsNeverBelowZero : Type 0
+RunsNeverBelowZero =
+    (day : ℕ) (firm new : Firm) (hs : List Heard) (replies : List Reply) → FirmSound firm
+    → RunsSoundly day firm hs replies new → CoveredRun day firm hs replies new
+
+-- the firm's own steps, that nothing stopped
 abbrev pub NeverBelowZero : Type 0
-NeverBelowZero = (day : ℕ) (firm : Firm) (hs : List Heard) → FirmSound firm → AllHaveAmounts hs → AlwaysCovered day firm hs
+NeverBelowZero =
+    (day : ℕ) (firm : Firm) (hs : List Heard) → FirmSound firm → AllHaveAmounts hs → AlwaysCovered day firm hs

@@ -1,11 +1,12 @@
 -- What was asked and accepted adds at most one entry, and a line is applied at most once, however often they are sent.
-use Rattle.std.specs.Prelude.{ℕ, ◌≡◌, List, [], ◌∷◌, IsSome, None}
+use Rattle.std.specs.Prelude.{true, ℕ, ◌≡◌, false, List, [], ◌∷◌, IsSome, None}
 use Rattle.trust_matter.specs.declared.bank_line.BankLine.{BankLine}
-use Rattle.trust_matter.specs.Facts.{Asked}
-use Rattle.trust_matter.specs.Conditions.{number_made}
+use Rattle.matter_rows.specs.Rows.{is_purged}
+use Rattle.trust_matter.specs.Facts.{Asked, facts_of}
+use Rattle.trust_matter.specs.Conditions.{is_repeat, number_made}
 use Rattle.trust_matter.specs.Step.{refusal}
-use Rattle.trust_matter.specs.Laws.{IsSameLine, IsSpent}
-use Rattle.trust_firm.specs.Firm.{Firm, of, after_match}
+use Rattle.trust_matter.specs.Laws.{IsSameLine}
+use Rattle.firm_rows.specs.Firm.{Firm, of, after_match}
 use Rattle.statement_csv.specs.declared.item.Item.{Item}
 use Rattle.statement_csv.specs.declared.item.Item.TheVariants as item
 use Rattle.trust_desk.specs.declared.importing.Counted.TheVariants as counted
@@ -25,12 +26,20 @@ abbrev pub RunsOn : Firm → List DayRun → Firm → Type 0
 RunsOn firm [] new = new ≡ firm
 RunsOn firm (run ∷ runs) new = (mid : Firm) × Runs run.day firm run.heard run.replies mid × RunsOn mid runs new
 
--- an ask that makes an entry and was accepted is a repeat when it comes again, and changes nothing of the
--- firm: whoever asks it, on whatever day, and whatever was run in between, with or without faults
+-- the ask changes nothing of the firm, and is a repeat as long as the matter is not purged
+pub record IsAskSpent (m : ℕ) (a : Asked) (firm : Firm) : Type 0 where
+  pub unchanged : after_ask m a firm ≡ firm
+  pub repeat : is_purged (of m firm).head ≡ false → is_repeat (facts_of (of m firm) a.ask) a ≡ true
+
+-- an ask that makes an entry and was accepted changes nothing of the firm when it comes again, whoever asks it, on
+-- whatever day, and whatever was run in between, with or without faults, purging too; and it is a repeat as long as the
+-- matter is not purged
 abbrev pub OnceOnly : Type 0
 OnceOnly =
-    (m : ℕ) (a again : Asked) (firm new : Firm) (between : List DayRun) → IsSome (number_made a.ask) → refusal (of m firm) a ≡ None
-    → RunsOn (after_ask m a firm) between new → again.ask ≡ a.ask → IsSpent (of m new) again × (after_ask m again new ≡ new)
+    (m : ℕ) (a again : Asked) (firm new : Firm) (between : List DayRun) → IsSome (number_made a.ask)
+    → refusal (of m firm) a ≡ None
+    → RunsOn (after_ask m a firm) between new → again.ask ≡ a.ask
+    → IsAskSpent m again new
 
 -- the same line of the same matter, in whatever words
 pub record ComesAgain (l again : BankLine) : Type 0 where
@@ -42,9 +51,18 @@ pub record IsRepeated (day : ℕ) (firm : Firm) (l : BankLine) : Type 0 where
   pub repeat : counted_of day firm (item.OfMatter l) ≡ counted.Repeated
   pub leaves : after_item day firm (item.OfMatter l) ≡ after_match l.line firm
 
--- a line that was applied is a repeat when it comes again: in any file, behind the rest of its own and the front of that
--- in which it comes again, on whatever day, and whatever was run in between, with or without faults
+-- the line changes no matter and moves nothing, and it is a repeat as long as its matter is not purged
+pub record IsLineOver (day : ℕ) (firm : Firm) (l : BankLine) : Type 0 where
+  pub rows : (after_item day firm (item.OfMatter l)).rows ≡ firm.rows
+  pub movements : (after_item day firm (item.OfMatter l)).movements ≡ firm.movements
+  pub repeat : is_purged (of l.matter firm).head ≡ false → IsRepeated day firm l
+
+-- a line that was applied changes nothing when it comes again, and is a repeat as long as its matter is not purged: in any
+-- file, behind the rest of its own and the front of that in which it comes again, on whatever day, and whatever was run in
+-- between, with or without faults
 abbrev pub LineOnceOnly : Type 0
 LineOnceOnly =
-    (l again : BankLine) (day later : ℕ) (firm mid : Firm) (rest front : List Item) (between : List DayRun) → counted_of day firm (item.OfMatter l) ≡ counted.Applied → ComesAgain l again
-    → RunsOn (after_items day firm (item.OfMatter l ∷ rest)) between mid → IsRepeated later (after_items later mid front) again
+    (l again : BankLine) (day later : ℕ) (firm mid : Firm) (rest front : List Item) (between : List DayRun)
+    → counted_of day firm (item.OfMatter l) ≡ counted.Applied → ComesAgain l again
+    → RunsOn (after_items day firm (item.OfMatter l ∷ rest)) between mid
+    → IsLineOver later (after_items later mid front) again

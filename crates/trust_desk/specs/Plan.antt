@@ -2,15 +2,15 @@
 use Rattle.std.specs.Prelude.{ℕ, ◌≡◌, ◌⊎◌, Bool, true, false, List, Some, None, Result, Ok, Err}
 use Rattle.trust_base.specs.declared.refusal.Refusal.{Refusal}
 use Rattle.trust_base.specs.Refusals.{is_fault}
-use Rattle.trust_matter.specs.declared.asks.Ask.{Ask}
-use Rattle.trust_matter.specs.declared.edits.Edit.{Edit}
-use Rattle.trust_matter.specs.declared.edits.Edit.TheVariants as edit
-use Rattle.trust_matter.specs.Rows.{Rows}
+use Rattle.trust_matter.specs.declared.ask.Ask.{Ask}
+use Rattle.matter_parts.specs.declared.edit.Edit.{Edit}
+use Rattle.matter_parts.specs.declared.edit.Edit.TheVariants as edit
+use Rattle.matter_rows.specs.Rows.{Rows}
 use Rattle.trust_matter.specs.Facts.{Asked}
-use Rattle.trust_matter.specs.Sound.{Sound}
-use Rattle.trust_matter.specs.Parts.{Part, IsPart, is_held_or_none}
+use Rattle.matter_rows.specs.Sound.{Sound}
+use Rattle.matter_parts.specs.Parts.{Part, IsPart, is_held_or_none}
 use Rattle.trust_matter.specs.Step.{refusal, IsDecided, MayRefuse}
-use Rattle.trust_firm.specs.Firm.{Firm, of}
+use Rattle.firm_rows.specs.Firm.{Firm, of}
 use Rattle.trust_desk.specs.declared.requests.Reply.{Reply}
 use Rattle.trust_desk.specs.declared.planning.Planned.{Planned}
 use Rattle.trust_desk.specs.Replies.{reply_of, success_of}

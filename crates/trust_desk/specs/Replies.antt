@@ -2,18 +2,18 @@
 use Rattle.std.specs.Prelude.{ℕ, Bool, false, List, [], Option, Some, None, if◌then◌else◌, Result, Ok, Err}
 use Rattle.trust_base.specs.declared.refusal.Refusal.{Refusal}
 use Rattle.trust_base.specs.Refusals.{status_of, is_fault}
-use Rattle.trust_matter.specs.declared.rows.Entry.{Entry}
-use Rattle.trust_matter.specs.declared.asks.Ask.{Ask}
-use Rattle.trust_matter.specs.declared.asks.Ask.TheVariants as ask
-use Rattle.trust_matter.specs.Rows.{Rows, entry_at}
-use Rattle.trust_matter.specs.Balances.{left_of}
+use Rattle.matter_rows.specs.declared.entry.Entry.{Entry}
+use Rattle.trust_matter.specs.declared.ask.Ask.{Ask}
+use Rattle.trust_matter.specs.declared.ask.Ask.TheVariants as ask
+use Rattle.matter_rows.specs.Rows.{Rows, entry_at}
+use Rattle.matter_rows.specs.Balances.{left_of}
 use Rattle.trust_matter.specs.Facts.{Asked, facts_of}
 use Rattle.trust_matter.specs.Conditions.{is_repeat}
 use Rattle.trust_matter.specs.Step.{refusal, rows_after}
 use Rattle.trust_desk.specs.declared.requests.Reply.{Reply}
 use Rattle.trust_desk.specs.declared.requests.Body.{Body}
 use Rattle.trust_desk.specs.declared.requests.Body.TheVariants.{Json, Refused}
-use Rattle.trust_desk.specs.Bodies.{matter_body, receipt_body, entry_body}
+use Rattle.matter_bodies.specs.Bodies.{matter_body, purge_body, receipt_body, entry_body}
 
 -- the reply to what is refused
 abbrev pub refused : Refusal → Reply
@@ -63,6 +63,8 @@ body_of m rows (ask.RaiseClaim a) = made_text m a.number (entry_at rows.entries 
 body_of m rows (ask.Offer a) = shown_text m a.number rows.entries (entry_at rows.entries a.number)
 body_of m rows (ask.Accept a) = shown_text m a.number rows.entries (entry_at rows.entries a.number)
 body_of m rows (ask.Award a) = shown_text m a.number rows.entries (entry_at rows.entries a.number)
+body_of m rows ask.CloseMatter = matter_body m rows
+body_of m rows ask.Purge = purge_body m rows
 body_of m rows ask.Show = matter_body m rows
 body_of m rows (ask.ShowEntry n) = shown_text m n rows.entries (entry_at rows.entries n)
 

@@ -1,6 +1,6 @@
 -- A matter's own machine: it knows of no rows but the matter's.
 use Rattle.std.specs.Prelude.{ℕ, List, [], ◌∷◌, ◌++◌}
-use Rattle.trust_matter.specs.Rows.{Rows}
+use Rattle.matter_rows.specs.Rows.{Rows}
 use Rattle.trust_matter.specs.Step.{rows_after}
 use Rattle.trust_matter.specs.LineStep.{rows_after_line}
 use Rattle.trust_desk.specs.declared.requests.Reply.{Reply}

@@ -1,21 +1,21 @@
 //! The desk: requests in, replies out, over any book.
 
 ghost use Rattle.std.specs.Prelude.{◌≡◌, ℕ, IfOk, length, take, ◌<◌, ◌∷◌, [], false, is_none};
-ghost use Rattle.trust_firm.specs.FirmSound.{FirmSound};
 ghost use Rattle.statement_csv.specs.Items.{items};
 ghost use Rattle.trust_desk.specs.Heard.{Asks, asked_on, heard};
 ghost use Rattle.trust_desk.specs.Replies.{is_fault_reply, reply_for};
 ghost use Rattle.trust_desk.specs.ImportStep.{EndsItems, items_in};
-ghost use Rattle.trust_desk.specs.FirmStep.{Steps, Runs, IsUnstopped};
+ghost use Rattle.trust_desk.specs.FirmStep.{Steps, RunsSoundly, IsUnstopped};
 ghost use Rattle.trust_desk.specs.Isolation.{IsOwn, KeepsOthers};
+ghost use Rattle.trust_desk.specs.Calls.{KeepsBook};
 ghost use Rattle.trust_desk.specs.Counts.{counted_reply, counted_replies, counted_end};
 ghost use Rattle.trust_desk.specs.Plan.{Ends};
 
-use crate::bodies::{ImportReply, import_body};
 use crate::import_checks::check_import;
 use crate::importing::{ImportEnd, ImportStop};
 use crate::planning::plan;
 use crate::requests::{Body, End, JsonText, Reply, Request, RunEnd, StatementText};
+use matter_bodies::{ImportReply, import_body};
 use std::alloc::Global;
 use std::marker::Model;
 use trust_base::{Day, MatterNo, Refusal};
@@ -53,18 +53,15 @@ impl<B: Book> Desk<B> {
     /// Answers one request on a business day. With an answer of Store or Memory nothing has changed, but that of an
     /// import the first items may have been applied.
     pub fn answer(&mut self, alloc: Global, request: &Request, day: Day) -> Reply
-        // A book whose store is clean holds sound rows.
-        requires { B.clean self.old → FirmSound (B.firm self.old) }
-
-        ensures step { B.clean self.new → Steps day (B.firm self.old) (Asks request.now) result (B.firm self.new) }
-        ensures others { B.clean self.new → KeepsOthers (B.firm self.old) (Asks request.now) (B.firm self.new) }
-        ensures own { B.clean self.new → is_fault_reply result ≡ false
+        ensures step { B.clean self.new → B.stands self.old
+            → Steps day (B.firm self.old) (Asks request.now) result (B.firm self.new) }
+        ensures others { B.clean self.new → B.stands self.old
+            → KeepsOthers (B.firm self.old) (Asks request.now) (B.firm self.new) }
+        ensures own { B.clean self.new → B.stands self.old → is_fault_reply result ≡ false
             → (m : ℕ) → IsOwn m day (B.firm self.old) (Asks request.now ∷ []) (result ∷ []) (B.firm self.new) }
-        ensures sound { B.clean self.new → FirmSound (B.firm self.new) }
-        ensures was_clean { B.clean self.new → B.clean self.old }
 
         // It is Store only where a call of the book was.
-        ensures cause { B.clean self.new → B.refusals self.new ≡ counted_reply result (B.refusals self.old) }
+        ensures kept { KeepsBook B.clean B.sure B.stands B.refusals (counted_reply result) self.old self.new }
     {
         match request {
             Request::Matter { no, caller, ask } => self.answer_ask(alloc, *no, caller, ask, day),
@@ -81,11 +78,9 @@ impl<B: Book> Desk<B> {
         statement: &StatementText,
         day: Day,
     ) -> Reply
-        requires { B.clean self.old → FirmSound (B.firm self.old) }
-        ensures step { B.clean self.new → Steps day (B.firm self.old) (Asks (Request.Import caller.now statement.now)) result (B.firm self.new) }
-        ensures sound { B.clean self.new → FirmSound (B.firm self.new) }
-        ensures was_clean { B.clean self.new → B.clean self.old }
-        ensures cause { B.clean self.new → B.refusals self.new ≡ counted_reply result (B.refusals self.old) }
+        ensures step { B.clean self.new → B.stands self.old
+            → Steps day (B.firm self.old) (Asks (Request.Import caller.now statement.now)) result (B.firm self.new) }
+        ensures kept { KeepsBook B.clean B.sure B.stands B.refusals (counted_reply result) self.old self.new }
     {
         match self.try_import(alloc, caller, statement.as_slice(), day) {
             Ok(counted) => counted,
@@ -100,12 +95,11 @@ impl<B: Book> Desk<B> {
         bytes: &[u8],
         day: Day,
     ) -> Result<Reply, Refusal>
-        requires { B.clean self.old → FirmSound (B.firm self.old) }
-        ensures step { B.clean self.new → Steps day (B.firm self.old) (Asks (Request.Import caller.now bytes.now)) (reply_for result) (B.firm self.new) }
+        ensures step { B.clean self.new → B.stands self.old
+            → Steps day (B.firm self.old) (Asks (Request.Import caller.now bytes.now)) (reply_for result)
+            (B.firm self.new) }
         ensures ok { IfOk result (λ reply. is_fault_reply reply ≡ false) }
-        ensures sound { B.clean self.new → FirmSound (B.firm self.new) }
-        ensures was_clean { B.clean self.new → B.clean self.old }
-        ensures cause { B.clean self.new → B.refusals self.new ≡ counted_end result (B.refusals self.old) }
+        ensures kept { KeepsBook B.clean B.sure B.stands B.refusals (counted_end result) self.old self.new }
     {
         check_import(alloc, caller, bytes)?;
         let counts = self.import_bytes(alloc, bytes, day)?;
@@ -123,12 +117,10 @@ impl<B: Book> Desk<B> {
         bytes: &[u8],
         day: Day,
     ) -> Result<ImportReply, Refusal>
-        requires sound { B.clean self.old → FirmSound (B.firm self.old) }
         requires header { is_none (items bytes.now) ≡ false }
-        ensures end { B.clean self.new → EndsItems day (B.firm self.old) (items_in bytes.now) (B.firm self.new) result }
-        ensures sound { B.clean self.new → FirmSound (B.firm self.new) }
-        ensures was_clean { B.clean self.new → B.clean self.old }
-        ensures cause { B.clean self.new → B.refusals self.new ≡ counted_end result (B.refusals self.old) }
+        ensures end { B.clean self.new → B.stands self.old
+            → EndsItems day (B.firm self.old) (items_in bytes.now) (B.firm self.new) result }
+        ensures kept { KeepsBook B.clean B.sure B.stands B.refusals (counted_end result) self.old self.new }
     {
         let ImportEnd { reply, end } = self.import(alloc, bytes, day);
         match end {
@@ -147,11 +139,9 @@ impl<B: Book> Desk<B> {
         ask: &Ask,
         day: Day,
     ) -> Reply
-        requires { B.clean self.old → FirmSound (B.firm self.old) }
-        ensures step { B.clean self.new → Steps day (B.firm self.old) (Asks (Request.Matter no caller.now ask.now)) result (B.firm self.new) }
-        ensures sound { B.clean self.new → FirmSound (B.firm self.new) }
-        ensures was_clean { B.clean self.new → B.clean self.old }
-        ensures cause { B.clean self.new → B.refusals self.new ≡ counted_reply result (B.refusals self.old) }
+        ensures step { B.clean self.new → B.stands self.old
+            → Steps day (B.firm self.old) (Asks (Request.Matter no caller.now ask.now)) result (B.firm self.new) }
+        ensures kept { KeepsBook B.clean B.sure B.stands B.refusals (counted_reply result) self.old self.new }
     {
         match self.try_ask(alloc, no, caller, ask, day) {
             Ok(reply) => reply,
@@ -167,11 +157,9 @@ impl<B: Book> Desk<B> {
         ask: &Ask,
         day: Day,
     ) -> Result<Reply, Refusal>
-        requires { B.clean self.old → FirmSound (B.firm self.old) }
-        ensures end { B.clean self.new → Ends (B.firm self.old) no (asked_on day caller.now ask.now) (B.firm self.new) result }
-        ensures sound { B.clean self.new → FirmSound (B.firm self.new) }
-        ensures was_clean { B.clean self.new → B.clean self.old }
-        ensures cause { B.clean self.new → B.refusals self.new ≡ counted_end result (B.refusals self.old) }
+        ensures end { B.clean self.new → B.stands self.old
+            → Ends (B.firm self.old) no (asked_on day caller.now ask.now) (B.firm self.new) result }
+        ensures kept { KeepsBook B.clean B.sure B.stands B.refusals (counted_end result) self.old self.new }
     {
         let matter = self
             .book
@@ -184,20 +172,21 @@ impl<B: Book> Desk<B> {
     /// Answers requests in order on a business day, until memory for a further reply is refused. The requests
     /// behind the last reply were then not begun.
     pub fn run(&mut self, alloc: Global, requests: &[Request], day: Day) -> RunEnd
-        // A book whose store is clean holds sound rows.
-        requires { B.clean self.old → FirmSound (B.firm self.old) }
 
-        // The replies are those to the first requests.
-        ensures run { B.clean self.new → Runs day (B.firm self.old) (heard (take (length result.replies.items) requests.now)) result.replies.items (B.firm self.new) }
+        // The replies are those to the first requests, and the firm is sound after each.
+        ensures run { B.clean self.new → B.stands self.old
+            → RunsSoundly day (B.firm self.old)
+            (heard (take (length result.replies.items) requests.now)) result.replies.items (B.firm self.new) }
         ensures done { result.end ≡ End.Done → length result.replies.items ≡ length requests.now }
         ensures memory { result.end ≡ End.Memory → length result.replies.items < length requests.now }
-        ensures own { B.clean self.new → (m : ℕ) → IsUnstopped m (heard (take (length result.replies.items) requests.now)) result.replies.items
-            → IsOwn m day (B.firm self.old) (heard (take (length result.replies.items) requests.now)) result.replies.items (B.firm self.new) }
-        ensures sound { B.clean self.new → FirmSound (B.firm self.new) }
-        ensures was_clean { B.clean self.new → B.clean self.old }
+        ensures own { B.clean self.new → B.stands self.old → (m : ℕ)
+            → IsUnstopped m (heard (take (length result.replies.items) requests.now)) result.replies.items
+            → IsOwn m day (B.firm self.old)
+            (heard (take (length result.replies.items) requests.now)) result.replies.items (B.firm self.new) }
 
         // They are Store only where calls of the book were.
-        ensures cause { B.clean self.new → B.refusals self.new ≡ counted_replies result.replies.items (B.refusals self.old) }
+        ensures kept { KeepsBook B.clean B.sure B.stands B.refusals (counted_replies result.replies.items)
+            self.old self.new }
     {
         let mut replies = Vec::new(alloc);
         for request in requests {

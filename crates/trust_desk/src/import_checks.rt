@@ -6,11 +6,8 @@ ghost use Rattle.trust_desk.specs.ImportStep.{IsChecked, import_refusal};
 
 use statement_csv::{Lines, ReadFault};
 use std::alloc::{AllocError, Global};
-use trust_base::{Field, Refusal, Rule};
+use trust_base::{Field, MAX_FILE_BYTES, Refusal, Rule};
 use trust_matter::Caller;
-
-// The greatest length of a statement, in bytes.
-const MAX_BYTES: usize = 4_194_304;
 
 // Whether these bytes begin as a statement does. The only error is want of memory.
 fn has_header(alloc: Global, bytes: &[u8]) -> Result<bool, AllocError>
@@ -30,7 +27,7 @@ fn has_header(alloc: Global, bytes: &[u8]) -> Result<bool, AllocError>
 pub(crate) fn check_import(alloc: Global, caller: &Caller, bytes: &[u8]) -> Result<(), Refusal>
     ensures { IsChecked (import_refusal caller.now bytes.now) result }
 {
-    if bytes.len() > MAX_BYTES {
+    if bytes.len() > MAX_FILE_BYTES {
         return Err(Refusal::TooLarge);
     }
     if !has_header(alloc, bytes)? {

@@ -8,32 +8,33 @@ ghost use Rattle.trust_base.specs.declared.refusal.Refusal.TheVariants as refusa
 ghost use Rattle.statement_csv.specs.Items.{items};
 ghost use Rattle.statement_csv.specs.Limits.{IsTooLong, IsWithin};
 ghost use Rattle.statement_csv.specs.Reading.{Gives, LacksHeader};
-ghost use Rattle.statement_csv.specs.declared.item.Item.TheVariants.{OfMatter};
-ghost use Rattle.trust_matter.specs.Rows.{Rows};
-ghost use Rattle.trust_matter.specs.Sound.{Sound};
+ghost use Rattle.statement_csv.specs.declared.item.Item.TheVariants.{OfFirm, OfMatter};
+ghost use Rattle.matter_rows.specs.Rows.{Rows};
+ghost use Rattle.matter_rows.specs.Sound.{Sound};
 ghost use Rattle.trust_matter.specs.LineStep.{LineDecides};
-ghost use Rattle.trust_firm.specs.Firm.{after_stray};
-ghost use Rattle.trust_firm.specs.FirmSound.{FirmSound};
+ghost use Rattle.firm_rows.specs.Firm.{after_stray};
 ghost use Rattle.trust_store.specs.Books.{counted};
 ghost use Rattle.trust_store.specs.Named.{IsPartFor};
+ghost use Rattle.trust_desk.specs.Calls.{KeepsBook};
 ghost use Rattle.trust_desk.specs.Counts.{counted_refusal};
-ghost use Rattle.trust_desk.specs.Imports.{AreBelow, CountsOne, Imports, IsStop, KeepsAllUnnamed, LeavesOwn, LeavesOwnItem, TakesOne, counted_if, counted_stop, stop_of};
-ghost use Rattle.trust_desk.specs.ItemStep.{KeepsUnnamed, after_item, count_one, counted_of, counted_verdict, none_counted};
+ghost use Rattle.trust_desk.specs.Imports.{AreBelow, CountsOne, Imports, IsStop, KeepsAllUnnamed, LeavesOwnItem, TakesOne, counted_if, counted_stop, stop_of};
+ghost use Rattle.trust_desk.specs.ItemStep.{KeepsAll, KeepsUnnamed, after_balance, after_item, balance_on, count_item, count_one, counted_by, counted_of, counted_verdict, none_counted};
 
-use crate::bodies::ImportReply;
 use crate::desk::Desk;
+use matter_bodies::ImportReply;
 use statement_csv::{Item, Lines, ReadFault, Whole};
 use std::alloc::Global;
 use std::io::Read;
 use std::marker::Brand;
 use trust_base::{Day, Field, Line, Refusal, StoreFault};
-use trust_matter::{BankLine, LineVerdict, Matter, decide_line};
+use trust_firm::{BalanceKind, Verdict, decide_balance, decide_firm_line};
+use trust_matter::{BankLine, LineVerdict, Matter, decide_line, holds_for_line};
 use trust_store::Book;
 
 /// What became of an item of a statement.
 #[derive(Clone, Copy, Debug, PartialEq, Eq)]
 pub enum Counted {
-    /// A line that cleared its entry.
+    /// A line that cleared its entry or joined the firm's ledger, or a balance that is kept from now on.
     Applied,
     /// A line that came again.
     Repeated,
@@ -102,15 +103,46 @@ fn count_one(reply: &mut ImportReply, counted: Counted)
 }
 
 // Decides on a line by what was read of its matter for its entry. That is held; where it is not, it is answered Store.
-fn verdict_on(matter: &Matter, line: &BankLine, day: Day) -> Result<LineVerdict, StoreFault>
-    ensures { (rows : Rows) → Sound rows → IsPartFor rows (Some line.now.entry) None matter.now → LineDecides rows line.now day result }
+fn line_verdict(matter: &Matter, line: &BankLine, day: Day) -> Result<LineVerdict, StoreFault>
+    ensures { (rows : Rows) → Sound rows → IsPartFor rows (Some line.now.entry) None matter.now
+        → LineDecides rows line.now day result }
 {
     // Entries are numbered from 1.
     prove!(line.entry.get() > 0);
-    if matter.holds_for_line(line) {
+    if holds_for_line(matter, line) {
         decide_line(matter, line, day)
     } else {
         Err(StoreFault::Store)
+    }
+}
+
+// Counts an item as what became of it; the day of a closing balance that was applied or came again is noted.
+fn count_item(reply: &mut ImportReply, item: &Item, counted: Counted)
+    requires { AreBelow (2 ^ 64 - 1) reply.old }
+    ensures { reply.new ≡ count_item item.now counted reply.old }
+{
+    count_one(reply, counted);
+    match item {
+        Item::Closing(line) => match counted {
+            Counted::Applied | Counted::Repeated => reply.statement = Some(line.date),
+            Counted::Exception | Counted::Unreadable => (),
+        },
+        Item::Opening(_)
+        | Item::OfMatter(_)
+        | Item::OfFirm(_)
+        | Item::Stray(_)
+        | Item::Unreadable(_) => (),
+    }
+}
+
+// What a line of the firm, or a balance, with this verdict is counted as.
+fn counted_by(verdict: Verdict) -> Counted
+    ensures { result ≡ counted_by verdict }
+{
+    match verdict {
+        Verdict::Applied => Counted::Applied,
+        Verdict::Repeat => Counted::Repeated,
+        Verdict::Unmatched => Counted::Exception,
     }
 }
 
@@ -126,33 +158,34 @@ fn counted_verdict(verdict: &LineVerdict) -> Counted
 }
 
 impl<B: Book> Desk<B> {
-    /// Applies one item of a statement on a business day: a line that names an entry clears it, comes again, or is an
-    /// exception from then on; balances, lines of the firm and stray lines are exceptions; a record that is no line
-    /// changes nothing. With an error nothing has changed.
+    /// Applies one item of a statement on a business day: a line that names an entry clears it, one of the firm's own
+    /// joins its ledger, and a balance is kept, or it comes again, or is an exception from then on, as a stray line
+    /// always is; a record that is no line changes nothing. With an error nothing has changed.
     pub fn apply_line(
         &mut self,
         alloc: Global,
         item: &Item,
         day: Day,
     ) -> Result<Counted, StoreFault>
-        // A book whose store is clean holds sound rows.
-        requires { B.clean self.old → FirmSound (B.firm self.old) }
-        ensures step { B.clean self.new → IfOk result (λ c. (c ≡ counted_of day (B.firm self.old) item.now) × (B.firm self.new ≡ after_item day (B.firm self.old) item.now)) }
-        ensures err { B.clean self.new → OnErr result (B.firm self.new ≡ B.firm self.old) }
+        ensures step { B.clean self.new → B.stands self.old
+            → IfOk result (λ c. (c ≡ counted_of day (B.firm self.old) item.now)
+            × (B.firm self.new ≡ after_item day (B.firm self.old) item.now)) }
+        ensures err { B.clean self.new → B.stands self.old → OnErr result (B.firm self.new ≡ B.firm self.old) }
         // Each matter hears of it the line that names it, and else nothing.
-        ensures own { B.clean self.new → IfOk result (λ _. LeavesOwnItem day (B.firm self.old) item.now (B.firm self.new)) }
-        ensures others { B.clean self.new → KeepsUnnamed (B.firm self.old) item.now (B.firm self.new) }
-        ensures sound { B.clean self.new → FirmSound (B.firm self.new) }
-        ensures was_clean { B.clean self.new → B.clean self.old }
+        ensures own { B.clean self.new → B.stands self.old
+            → IfOk result (λ _. LeavesOwnItem day (B.firm self.old) item.now (B.firm self.new)) }
+        ensures others { B.clean self.new → B.stands self.old
+            → KeepsUnnamed (B.firm self.old) item.now (B.firm self.new) }
 
         // It is Store only where a call of the book was.
-        ensures cause { B.clean self.new → B.refusals self.new ≡ counted result (B.refusals self.old) }
+        ensures kept { KeepsBook B.clean B.sure B.stands B.refusals (counted result) self.old self.new }
     {
         match item {
+            Item::Opening(line) => self.apply_balance(alloc, BalanceKind::Opening, line, day),
+            Item::Closing(line) => self.apply_balance(alloc, BalanceKind::Closing, line, day),
             Item::OfMatter(line) => self.apply_bank_line(alloc, line, day),
-            Item::Opening(line) | Item::Closing(line) | Item::OfFirm(line) | Item::Stray(line) => {
-                self.apply_stray(alloc, line)
-            }
+            Item::OfFirm(line) => self.apply_firm_line(alloc, line, day),
+            Item::Stray(line) => self.apply_stray(alloc, line),
             Item::Unreadable(_) => Ok(Counted::Unreadable),
         }
     }
@@ -164,28 +197,70 @@ impl<B: Book> Desk<B> {
         line: &BankLine,
         day: Day,
     ) -> Result<Counted, StoreFault>
-        requires { B.clean self.old → FirmSound (B.firm self.old) }
-        ensures step { B.clean self.new → IfOk result (λ c. (c ≡ counted_of day (B.firm self.old) (OfMatter line.now)) × (B.firm self.new ≡ after_item day (B.firm self.old) (OfMatter line.now))) }
-        ensures err { B.clean self.new → OnErr result (B.firm self.new ≡ B.firm self.old) }
-        ensures others { B.clean self.new → KeepsUnnamed (B.firm self.old) (OfMatter line.now) (B.firm self.new) }
-        ensures sound { B.clean self.new → FirmSound (B.firm self.new) }
-        ensures was_clean { B.clean self.new → B.clean self.old }
-        ensures cause { B.clean self.new → B.refusals self.new ≡ counted result (B.refusals self.old) }
+        ensures step { B.clean self.new → B.stands self.old
+            → IfOk result (λ c. (c ≡ counted_of day (B.firm self.old) (OfMatter line.now))
+            × (B.firm self.new ≡ after_item day (B.firm self.old) (OfMatter line.now))) }
+        ensures err { B.clean self.new → B.stands self.old → OnErr result (B.firm self.new ≡ B.firm self.old) }
+        ensures others { B.clean self.new → B.stands self.old
+            → KeepsUnnamed (B.firm self.old) (OfMatter line.now) (B.firm self.new) }
+        ensures kept { KeepsBook B.clean B.sure B.stands B.refusals (counted result) self.old self.new }
     {
         let matter = self
             .book
             .matter_for(alloc, line.matter, Some(line.entry), None)?;
-        let verdict = verdict_on(&matter, line, day)?;
+        let verdict = line_verdict(&matter, line, day)?;
         self.book.write_line(alloc, line, &verdict)?;
         Ok(counted_verdict(&verdict))
     }
 
+    // A line of the firm's own.
+    fn apply_firm_line(
+        &mut self,
+        alloc: Global,
+        line: &Line,
+        day: Day,
+    ) -> Result<Counted, StoreFault>
+        ensures step { B.clean self.new → B.stands self.old
+            → IfOk result (λ c. (c ≡ counted_of day (B.firm self.old) (OfFirm line.now))
+            × (B.firm self.new ≡ after_item day (B.firm self.old) (OfFirm line.now))) }
+        ensures err { B.clean self.new → B.stands self.old → OnErr result (B.firm self.new ≡ B.firm self.old) }
+        ensures others { B.clean self.new → B.stands self.old
+            → KeepsUnnamed (B.firm self.old) (OfFirm line.now) (B.firm self.new) }
+        ensures kept { KeepsBook B.clean B.sure B.stands B.refusals (counted result) self.old self.new }
+    {
+        let ledger = self.book.firm(alloc)?;
+        let verdict = decide_firm_line(&ledger, line, day);
+        self.book.write_firm(alloc, line, verdict)?;
+        Ok(counted_by(verdict))
+    }
+
+    // An opening or a closing balance.
+    fn apply_balance(
+        &mut self,
+        alloc: Global,
+        kind: BalanceKind,
+        line: &Line,
+        day: Day,
+    ) -> Result<Counted, StoreFault>
+        ensures step { B.clean self.new → B.stands self.old
+            → IfOk result (λ c. (c ≡ counted_by (balance_on (B.firm self.old) kind line.now day))
+            × (B.firm self.new ≡ after_balance kind line.now day (B.firm self.old))) }
+        ensures err { B.clean self.new → B.stands self.old → OnErr result (B.firm self.new ≡ B.firm self.old) }
+        ensures others { B.clean self.new → B.stands self.old → KeepsAll (B.firm self.old) (B.firm self.new) }
+        ensures kept { KeepsBook B.clean B.sure B.stands B.refusals (counted result) self.old self.new }
+    {
+        let kept = self.book.balance(kind, line.date)?;
+        let verdict = decide_balance(kept, line, day);
+        self.book.write_balance(alloc, kind, line, verdict)?;
+        Ok(counted_by(verdict))
+    }
+
     // A line that names nothing.
     fn apply_stray(&mut self, alloc: Global, line: &Line) -> Result<Counted, StoreFault>
-        ensures step { B.clean self.new → IfOk result (λ c. (c ≡ Counted.Exception) × (B.firm self.new ≡ after_stray line.now (B.firm self.old))) }
-        ensures err { B.clean self.new → OnErr result (B.firm self.new ≡ B.firm self.old) }
-        ensures was_clean { B.clean self.new → B.clean self.old }
-        ensures cause { B.clean self.new → B.refusals self.new ≡ counted result (B.refusals self.old) }
+        ensures step { B.clean self.new → B.stands self.old
+            → IfOk result (λ c. (c ≡ Counted.Exception) × (B.firm self.new ≡ after_stray line.now (B.firm self.old))) }
+        ensures err { B.clean self.new → B.stands self.old → OnErr result (B.firm self.new ≡ B.firm self.old) }
+        ensures kept { KeepsBook B.clean B.sure B.stands B.refusals (counted result) self.old self.new }
     {
         self.book.write_stray(alloc, line)?;
         Ok(Counted::Exception)
@@ -197,22 +272,21 @@ impl<B: Book> Desk<B> {
     /// No clause says that `ReadFault` and `Memory` come only where a read failed and a growth was refused: `csv` tells
     /// nothing of its reader after an error.
     pub fn import<R: Read + Drop>(&mut self, alloc: Global, reader: R, day: Day) -> ImportEnd
-        // A book whose store is clean holds sound rows.
-        requires { B.clean self.old → FirmSound (B.firm self.old) }
 
-        ensures front { B.clean self.new → Imports day (B.firm self.old) (option_map items (R.remaining reader)) result (B.firm self.new) }
+        // One front of the items is applied and counted; the firm is sound after each; and each matter hears of them
+        // the lines that name it alone.
+        ensures front { B.clean self.new → B.stands self.old
+            → Imports day (B.firm self.old) (option_map items (R.remaining reader)) result (B.firm self.new) }
         ensures stops { IsStop result.end }
-        ensures header { result.end ≡ ImportStop.Refused (refusal.BadField field.Header) → LacksHeader (option_map items (R.remaining reader)) }
+        ensures header { result.end ≡ ImportStop.Refused (refusal.BadField field.Header)
+            → LacksHeader (option_map items (R.remaining reader)) }
         ensures limit { result.end ≡ ImportStop.Limit → IsTooLong (R.remaining reader) }
         ensures within { result.end ≡ ImportStop.Done → IsWithin (R.remaining reader) }
-        // Each matter hears of it the lines that name it alone.
-        ensures own { B.clean self.new → LeavesOwn day (B.firm self.old) (option_map items (R.remaining reader)) result (B.firm self.new) }
-        ensures others { B.clean self.new → KeepsAllUnnamed (option_map items (R.remaining reader)) (B.firm self.old) (B.firm self.new) }
-        ensures sound { B.clean self.new → FirmSound (B.firm self.new) }
-        ensures was_clean { B.clean self.new → B.clean self.old }
+        ensures others { B.clean self.new → B.stands self.old
+            → KeepsAllUnnamed (option_map items (R.remaining reader)) (B.firm self.old) (B.firm self.new) }
 
         // It ends by Store only where a call of the book did.
-        ensures cause { B.clean self.new → B.refusals self.new ≡ counted_stop result.end (B.refusals self.old) }
+        ensures kept { KeepsBook B.clean B.sure B.stands B.refusals (counted_stop result.end) self.old self.new }
     {
         self.import_whole::<R, Brand>(alloc, reader, day)
     }
@@ -224,16 +298,15 @@ impl<B: Book> Desk<B> {
         reader: R,
         day: Day,
     ) -> ImportEnd
-        requires sound { B.clean self.old → FirmSound (B.firm self.old) }
         requires whole { Keeps K.bytes (R.remaining reader) }
-        ensures front { B.clean self.new → Imports day (B.firm self.old) (option_map items (R.remaining reader)) result (B.firm self.new) }
+        ensures front { B.clean self.new → B.stands self.old
+            → Imports day (B.firm self.old) (option_map items (R.remaining reader)) result (B.firm self.new) }
         ensures stops { IsStop result.end }
-        ensures header { result.end ≡ ImportStop.Refused (refusal.BadField field.Header) → LacksHeader (option_map items (R.remaining reader)) }
+        ensures header { result.end ≡ ImportStop.Refused (refusal.BadField field.Header)
+            → LacksHeader (option_map items (R.remaining reader)) }
         ensures limit { result.end ≡ ImportStop.Limit → IsTooLong K.bytes }
         ensures within { result.end ≡ ImportStop.Done → IsWithin K.bytes }
-        ensures sound { B.clean self.new → FirmSound (B.firm self.new) }
-        ensures was_clean { B.clean self.new → B.clean self.old }
-        ensures cause { B.clean self.new → B.refusals self.new ≡ counted_stop result.end (B.refusals self.old) }
+        ensures kept { KeepsBook B.clean B.sure B.stands B.refusals (counted_stop result.end) self.old self.new }
     {
         let mut lines = Lines::<R, K>::of_whole(alloc, reader);
         let mut reply = none_counted();
@@ -257,18 +330,19 @@ impl<B: Book> Desk<B> {
         day: Day,
         reply: &mut ImportReply,
     ) -> Option<ImportStop>
-        requires sound { B.clean self.old → FirmSound (B.firm self.old) }
         requires room { AreBelow (2 ^ 64 - 1) reply.old }
-        ensures takes { IfNone result (TakesOne day (B.clean self.new) (B.firm self.old) (B.firm self.new) lines.old.left lines.new.left reply.old reply.new) }
-        ensures keeps { IfSome result (λ end. (reply.new ≡ reply.old) × (B.clean self.new → B.firm self.new ≡ B.firm self.old)) }
+        ensures takes { IfNone result
+            (TakesOne day (B.clean self.new × B.stands self.old) (B.firm self.old) (B.firm self.new)
+            lines.old.left lines.new.left reply.old reply.new) }
+        ensures keeps { IfSome result (λ end. (reply.new ≡ reply.old)
+            × (B.clean self.new → B.stands self.old → B.firm self.new ≡ B.firm self.old)) }
         ensures stops { IfSome result IsStop }
         ensures done { result ≡ Some ImportStop.Done → Gives lines.old.left lines.new.left None }
-        ensures header { result ≡ Some (ImportStop.Refused (refusal.BadField field.Header)) → LacksHeader lines.old.left }
+        ensures header { result ≡ Some (ImportStop.Refused (refusal.BadField field.Header))
+            → LacksHeader lines.old.left }
         ensures limit { result ≡ Some ImportStop.Limit → IsTooLong K.bytes }
         ensures within { result ≡ Some ImportStop.Done → IsWithin K.bytes }
-        ensures sound { B.clean self.new → FirmSound (B.firm self.new) }
-        ensures was_clean { B.clean self.new → B.clean self.old }
-        ensures cause { B.clean self.new → B.refusals self.new ≡ counted_if result (B.refusals self.old) }
+        ensures kept { KeepsBook B.clean B.sure B.stands B.refusals (counted_if result) self.old self.new }
     {
         match lines.next() {
             Ok(Some(item)) => match self.import_item(alloc, item, day, reply) {
@@ -288,16 +362,16 @@ impl<B: Book> Desk<B> {
         day: Day,
         reply: &mut ImportReply,
     ) -> Result<(), StoreFault>
-        requires sound { B.clean self.old → FirmSound (B.firm self.old) }
         requires room { AreBelow (2 ^ 64 - 1) reply.old }
-        ensures takes { OnOk result (CountsOne day (B.clean self.new) (B.firm self.old) (B.firm self.new) item reply.old reply.new) }
-        ensures keeps { OnErr result ((reply.new ≡ reply.old) × (B.clean self.new → B.firm self.new ≡ B.firm self.old)) }
-        ensures sound { B.clean self.new → FirmSound (B.firm self.new) }
-        ensures was_clean { B.clean self.new → B.clean self.old }
-        ensures cause { B.clean self.new → B.refusals self.new ≡ counted result (B.refusals self.old) }
+        ensures takes { OnOk result
+            (CountsOne day (B.clean self.new × B.stands self.old) (B.firm self.old) (B.firm self.new) item
+            reply.old reply.new) }
+        ensures keeps { OnErr result ((reply.new ≡ reply.old)
+            × (B.clean self.new → B.stands self.old → B.firm self.new ≡ B.firm self.old)) }
+        ensures kept { KeepsBook B.clean B.sure B.stands B.refusals (counted result) self.old self.new }
     {
         let counted = self.apply_line(alloc, &item, day)?;
-        count_one(reply, counted);
+        count_item(reply, &item, counted);
         Ok(())
     }
 }

@@ -1,19 +1,10 @@
-//! Laws of the bodies and of whole runs, each the contract of a function with nothing to do.
+//! Laws of whole runs, each the contract of a function with nothing to do.
 
-ghost use Rattle.trust_desk.specs.BodyLaws.{EntryReadsBack, ImportReadsBack, MatterReadsBack, ReceiptReadsBack};
 ghost use Rattle.trust_desk.specs.Isolation.{EachMatterOwn, SameForTheMatter};
 ghost use Rattle.trust_desk.specs.ItemStep.{EveryItemIsCounted};
-ghost use Rattle.trust_desk.specs.NeverBelowZero.{NeverBelowZero};
+ghost use Rattle.trust_desk.specs.FirmStep.{RefusalsHaveTheirStatus, SoundRunsAreRuns};
+ghost use Rattle.trust_desk.specs.NeverBelowZero.{NeverBelowZero, RunsNeverBelowZero};
 ghost use Rattle.trust_desk.specs.OnceOnly.{LineOnceOnly, OnceOnly};
-
-/// A body is read back, as serde_json reads, as the object that it is the text of. So no member is lost,
-/// and no key comes twice or out of order.
-pub fn bodies_read_back()
-    ensures matter { MatterReadsBack }
-    ensures receipt { ReceiptReadsBack }
-    ensures entry { EntryReadsBack }
-    ensures import { ImportReadsBack }
-{}
 
 /// In every run each matter's replies, and its rows afterwards, are those of its own machine.
 pub fn own_machine()
@@ -26,9 +17,21 @@ pub fn two_firms()
     ensures { SameForTheMatter }
 {}
 
-/// A sound firm is sound after every step and every item of an import, and no matter's ledger is ever below zero.
+/// A sound firm is sound after every step and every item of an import, and no matter's ledger is ever below zero: in
+/// each run of the desk, whatever amounts are asked and whatever stopped its steps; and in the firm's own steps.
 pub fn never_below_zero()
-    ensures { NeverBelowZero }
+    ensures runs { RunsNeverBelowZero }
+    ensures steps { NeverBelowZero }
+{}
+
+/// A run in which the firm is sound after each step is a run; so the other laws speak of it.
+pub fn sound_runs_are_runs()
+    ensures { SoundRunsAreRuns }
+{}
+
+/// A reply whose body is a refusal has the refusal's status, also where the store or memory was refused.
+pub fn refusals_have_their_status()
+    ensures { RefusalsHaveTheirStatus }
 {}
 
 /// An ask that makes an entry adds at most one, and a line of the bank is applied at most once, however often they

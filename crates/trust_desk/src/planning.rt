@@ -1,20 +1,20 @@
 //! An ask is decided, and its answer made whole, before anything is written.
 
 ghost use Rattle.std.specs.Prelude.{◌≡◌, IfOk, true};
-ghost use Rattle.trust_matter.specs.Rows.{Rows, entry_at};
-ghost use Rattle.trust_matter.specs.Sound.{Sound};
-ghost use Rattle.trust_matter.specs.Facts.{number_of};
-ghost use Rattle.trust_matter.specs.Shares.{number_or_none};
-ghost use Rattle.trust_matter.specs.Parts.{IsPart, holds_for};
+ghost use Rattle.matter_rows.specs.Rows.{Rows, entry_at};
+ghost use Rattle.matter_rows.specs.Sound.{Sound};
+ghost use Rattle.trust_matter.specs.Facts.{number_named};
+ghost use Rattle.matter_parts.specs.Parts.{IsPart};
+ghost use Rattle.trust_matter.specs.KeptFacts.{holds_for};
 ghost use Rattle.trust_desk.specs.Heard.{asked_on};
 ghost use Rattle.trust_desk.specs.Replies.{body_of, made_text, shown_text};
 ghost use Rattle.trust_desk.specs.Plan.{IsTextOf, Plans, is_nothing, success_by};
 
-use crate::bodies::{entry_body, matter_body, receipt_body};
 use crate::requests::{Body, JsonText, Reply};
+use matter_bodies::{entry_body, matter_body, purge_body, receipt_body};
 use std::alloc::{AllocError, Global};
 use trust_base::{Day, EntryNo, MatterNo, Refusal};
-use trust_matter::{Ask, Caller, Change, Edit, Matter, decide};
+use trust_matter::{Ask, Caller, Change, Edit, Matter, decide, holds_for};
 
 /// What an ask changes, and the answer to it, made before anything is written.
 #[derive(Drop)]
@@ -30,7 +30,8 @@ fn made_body(
     matter: &Matter,
     number: EntryNo,
 ) -> Result<Vec<u8>, AllocError>
-    ensures { IfOk result (λ bytes. IsTextOf matter.now number (λ rows. made_text no number (entry_at rows.entries number)) bytes.items) }
+    ensures { IfOk result (λ bytes.
+        IsTextOf matter.now number (λ rows. made_text no number (entry_at rows.entries number)) bytes.items) }
 {
     match matter.find(number) {
         Some(kept) => receipt_body(alloc, no, number, &kept.entry),
@@ -45,7 +46,9 @@ fn shown_body(
     matter: &Matter,
     number: EntryNo,
 ) -> Result<Vec<u8>, AllocError>
-    ensures { IfOk result (λ bytes. IsTextOf matter.now number (λ rows. shown_text no number rows.entries (entry_at rows.entries number)) bytes.items) }
+    ensures { IfOk result (λ bytes.
+        IsTextOf matter.now number
+        (λ rows. shown_text no number rows.entries (entry_at rows.entries number)) bytes.items) }
 {
     match matter.find(number) {
         Some(kept) => entry_body(alloc, no, number, &kept.entry, kept.left),
@@ -60,7 +63,8 @@ fn body_after(
     matter: &Matter,
     ask: &Ask,
 ) -> Result<Vec<u8>, AllocError>
-    ensures { IfOk result (λ bytes. IsTextOf matter.now (number_of ask.now) (λ rows. body_of no rows ask.now) bytes.items) }
+    ensures { IfOk result (λ bytes.
+        IsTextOf matter.now (number_named ask.now) (λ rows. body_of no rows ask.now) bytes.items) }
 {
     match ask {
         Ask::Deposit(asked) => made_body(alloc, no, matter, asked.number),
@@ -75,9 +79,9 @@ fn body_after(
         Ask::Offer(asked) | Ask::Accept(asked) | Ask::Award(asked) => {
             shown_body(alloc, no, matter, asked.number)
         }
-        Ask::OpenMatter(_) | Ask::AddSeat(_) | Ask::DropSeat(_) | Ask::Show => {
-            matter_body(alloc, no, matter)
-        }
+        Ask::OpenMatter(_) | Ask::AddSeat(_) | Ask::DropSeat(_) | Ask::CloseMatter | Ask::Show =>
+            matter_body(alloc, no, matter),
+        Ask::Purge => purge_body(alloc, no, matter),
     }
 }
 
@@ -114,7 +118,7 @@ pub(crate) fn plan(
     ensures { (rows : Rows) → Sound rows → IsPart matter rows → holds_for matter ask.now ≡ true
         → Plans no rows (asked_on day caller.now ask.now) result }
 {
-    if !matter.holds_for(ask) {
+    if !holds_for(&matter, ask) {
         return Err(Refusal::Store);
     }
     let change = decide(&matter, caller, ask, day)?;

@@ -1,14 +1,12 @@
 //! What is asked of the desk, and what it answers.
 
 ghost use Rattle.std.specs.Prelude.{◌≡◌, List, ℕ};
-ghost use Rattle.std.specs.Str.{bytes_eq};
 
 use std::marker::Model;
 use trust_base::{MatterNo, Refusal};
 use trust_matter::{Ask, Caller};
 
 /// What is asked of the desk.
-#[derive(Drop)]
 pub enum Request {
     /// A caller asks something of one matter.
     Matter {
@@ -21,6 +19,22 @@ pub enum Request {
         caller: Caller,
         statement: StatementText,
     },
+}
+
+impl Drop for Request {
+    fn drop(self) {
+        match self {
+            Request::Matter {
+                no: _no,
+                caller: _caller,
+                ask: _ask,
+            } => (),
+            Request::Import {
+                caller: _caller,
+                statement: _statement,
+            } => (),
+        }
+    }
 }
 
 /// The bytes of a statement of the bank, of whatever form. Contracts see it as the list of these bytes.
@@ -76,13 +90,6 @@ impl JsonText {
         ensures { result.now ≡ self.now }
     {
         self.bytes.as_slice()
-    }
-
-    /// Whether two have the same bytes.
-    pub fn is_same(&self, other: &JsonText) -> bool
-        ensures { result ≡ bytes_eq self.now other.now }
-    {
-        self.bytes == other.bytes
     }
 }
 

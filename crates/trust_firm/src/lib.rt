@@ -1,9 +1,7 @@
-//! The joined rows of a firm, what moved in them, and what holds of both at every moment.
+//! The firm: its joined rows, what moved in them, and what holds of both at every moment.
 #![tactic(auto)]
 
-pub mod laws;
-mod movement;
-mod sink;
-
-pub use movement::{Movement, Owner};
-pub use sink::RowSink;
+pub use firm_rows::{
+    BalanceKind, FirmLedger, FirmLine, Movement, Owner, RowSink, StatementRow, Verdict,
+    decide_balance, decide_firm_line, laws,
+};

@@ -1,40 +1,42 @@
 -- Fees and claims, as steps.
-use Rattle.std.proofs.Common.{◌≡◌, ℕ, ◌<◌, ◌≤◌, not, ◌&&◌, true, false, List, [], length, refl, sym, arith, subst, Option, Some, None, inl, inr, ℤ, pos, negsuc, ◌≤ℤ◌, ◌-ℤ◌}
 use Rattle.std.specs.Prelude.{nat_lt, is_none, ◌==◌}
+use Rattle.std.proofs.Common.{◌≡◌, ℕ, ◌<◌, ◌≤◌, not, ◌&&◌, true, false, List, [], length, refl, sym, ◌∙◌, arith, subst, Option, Some, None, inl, inr, ℤ, pos, negsuc, ◌≤ℤ◌, ◌-ℤ◌}
 use Rattle.std.proofs.lemmas.Int.{ints}
+use Rattle.std.proofs.lemmas.Bool.{false≢true}
 use Rattle.std.proofs.lemmas.Bool.Decides.{nat_tests}
-use Rattle.trust_base.specs.Limits.{IsAmount}
-use Rattle.trust_matter.specs.declared.rows.Against.{Against}
-use Rattle.trust_matter.specs.declared.rows.Against.TheVariants as against
-use Rattle.trust_matter.specs.declared.rows.Claim.{Claim}
-use Rattle.trust_matter.specs.declared.rows.ClaimState.{ClaimState}
-use Rattle.trust_matter.specs.declared.rows.ClaimState.TheVariants as claim
-use Rattle.trust_matter.specs.declared.rows.Fee.{Fee}
-use Rattle.trust_matter.specs.declared.rows.Entry.{Entry}
-use Rattle.trust_matter.specs.declared.rows.Entry.TheVariants as entry
-use Rattle.trust_matter.specs.declared.rows.Head.{Head}
-use Rattle.trust_matter.specs.declared.rows.Seat.{Seat}
-use Rattle.trust_matter.specs.declared.asks.Ask.{Ask}
-use Rattle.trust_matter.specs.declared.asks.Ask.TheVariants as ask
-use Rattle.trust_matter.specs.declared.asks.Caller.{Caller}
-use Rattle.trust_matter.specs.declared.asks.FeeAsk.{FeeAsk}
-use Rattle.trust_matter.specs.declared.asks.ClaimAsk.{ClaimAsk}
-use Rattle.trust_matter.specs.declared.asks.SplitAsk.{SplitAsk}
-use Rattle.trust_matter.specs.declared.edits.Edit.TheVariants as edit
-use Rattle.trust_matter.specs.declared.edits.Numbered.{Numbered}
-use Rattle.trust_matter.specs.Balances.{names, is_fee, is_general, is_settled, available, left_of, passes as of_kind}
-use Rattle.trust_matter.specs.Conditions.{exceeds, against_left, is_on_fee, is_no_fee, is_no_claim, is_claim_settled, is_claim_without_offer, is_offered_state, is_another_offer, exceeds_claim, differs_from_offer}
-use Rattle.trust_matter.specs.Events.{events_of}
-use Rattle.trust_matter.specs.Facts.{facts_of, number_of, other_of, target_in, left_in}
-use Rattle.trust_matter.specs.Rows.{entry_at}
-use Rattle.trust_matter.specs.Shares.{draw, worth, available_share, against_no, has_settled, to_client, to_claimant, off_fee, on_fee, on_general}
-use Rattle.trust_matter.specs.Sound.{AreBacked, IsBy, IsRising, IsRanged, Sound, days_of, part_of}
+use Rattle.trust_values.specs.Limits.{IsAmount}
+use Rattle.matter_rows.specs.declared.claim.Against.{Against}
+use Rattle.matter_rows.specs.declared.claim.Against.TheVariants as against
+use Rattle.matter_rows.specs.declared.claim.Claim.{Claim}
+use Rattle.matter_rows.specs.declared.claim.ClaimState.{ClaimState}
+use Rattle.matter_rows.specs.declared.claim.ClaimState.TheVariants as claim
+use Rattle.matter_rows.specs.declared.fee.Fee.{Fee}
+use Rattle.matter_rows.specs.declared.entry.Entry.{Entry}
+use Rattle.matter_rows.specs.declared.entry.Entry.TheVariants as entry
+use Rattle.matter_rows.specs.declared.head.Head.{Head}
+use Rattle.matter_rows.specs.declared.seat.Seat.{Seat}
+use Rattle.matter_rows.specs.Balances.{names, is_fee, is_general, is_settled, available, left_of, passes as of_kind, exceeds, left_in}
+use Rattle.matter_rows.specs.Events.{events_of}
+use Rattle.matter_rows.specs.Shares.{target_in, draw, worth, available_share, against_no, has_settled, to_client, to_claimant, off_fee, on_fee, on_general}
+use Rattle.matter_rows.specs.Rows.{entry_at}
+use Rattle.matter_rows.specs.Sound.{AreBacked, IsBy, IsRising, IsRanged, Sound, days_of, part_of}
+use Rattle.matter_rows.proofs.Days.{made-before}
+use Rattle.matter_rows.proofs.Entries.{all-at, within}
+use Rattle.matter_rows.proofs.Keeping.{MayAdd, MayTake, target-apart, total-undrawn}
+use Rattle.matter_parts.specs.declared.edit.Edit.TheVariants as edit
+use Rattle.matter_parts.specs.declared.edit.Numbered.{Numbered}
+use Rattle.matter_parts.proofs.Editing.{left-drawn, left-moved}
+use Rattle.matter_parts.proofs.StepForms.{rows-of, MovesWithin}
+use Rattle.trust_matter.specs.declared.ask.Ask.{Ask}
+use Rattle.trust_matter.specs.declared.ask.Ask.TheVariants as ask
+use Rattle.trust_matter.specs.declared.ask.Caller.{Caller}
+use Rattle.trust_matter.specs.declared.fee.FeeAsk.{FeeAsk}
+use Rattle.trust_matter.specs.declared.claim.ClaimAsk.{ClaimAsk}
+use Rattle.trust_matter.specs.declared.claim.SplitAsk.{SplitAsk}
+use Rattle.trust_matter.specs.Conditions.{against_left, is_on_fee, is_no_fee, is_no_claim, is_claim_settled, is_claim_without_offer, is_offered_state, is_another_offer, exceeds_claim, differs_from_offer}
+use Rattle.trust_matter.specs.Facts.{facts_of, number_named, other_of}
 use Rattle.trust_matter.specs.Step.{HasAmount, edit_of, fee_of, claim_of, with_claim, settled}
-use Rattle.trust_matter.proofs.Days.{made-before}
-use Rattle.trust_matter.proofs.Editing.{left-drawn, left-moved}
-use Rattle.trust_matter.proofs.Entries.{all-at, within}
-use Rattle.trust_matter.proofs.Keeping.{MayAdd, MayTake, target-apart, total-undrawn}
-use Rattle.trust_matter.proofs.StepForms.{rows-of, rows-append, rows-exchange, MovesWithin, exchange-moves, next-is, not-false, asked, Stepped}
+use Rattle.trust_matter.proofs.StepForms.{rows-append, rows-exchange, exchange-moves, next-is, not-false, asked, Stepped}
 use Rattle.trust_matter.proofs.Table.{Passes}
 
 enough-of : (amount : ℕ) (left : ℤ) → exceeds amount left ≡ false → pos amount ≤ℤ left
@@ -238,7 +240,7 @@ unfolding days_of
 settled-days day part d made = ((made, (omega arith, tt)), (made, tt))
 
 -- an ask about a claim that is open, and the state that it leaves the claim in
-step-split : (h : Head) (seats : List Seat) (es : List Entry) (c : Caller) (q : Ask) (n day : ℕ) (d : Claim) (next : ClaimState) → number_of q ≡ n → ((e : Option Entry) → other_of q e ≡ target_in e) → entry_at es n ≡ Some (entry.Claim d) → Sound (rows-of (Some h) seats es) → h.closed ≡ None → h.last ≤ day → has_settled d.state ≡ false → part_of next ≤ d.amount → AreDays day next → Stepped (Some h) seats es (asked c q day) (with_claim n (Some (entry.Claim d)) next)
+step-split : (h : Head) (seats : List Seat) (es : List Entry) (c : Caller) (q : Ask) (n day : ℕ) (d : Claim) (next : ClaimState) → number_named q ≡ n → ((e : Option Entry) → other_of q e ≡ target_in e) → entry_at es n ≡ Some (entry.Claim d) → Sound (rows-of (Some h) seats es) → h.closed ≡ None → h.last ≤ day → has_settled d.state ≡ false → part_of next ≤ d.amount → AreDays day next → Stepped (Some h) seats es (asked c q day) (with_claim n (Some (entry.Claim d)) next)
 step-split h seats es c q n day d next number other at s unclosed later unsettled le days =
     let x : Numbered = record { number = n; entry = with-state d next } in
     let may = restated-may es n d next s.backed at unsettled le in
@@ -246,7 +248,7 @@ step-split h seats es c q n day d next number other at s unclosed later unsettle
     let ok = days d made in
     record {
       place = (refl, (entry.Claim d, record { there = at; same = refl }));
-      sound = rows-exchange h seats es x (entry.Claim d) day s unclosed may refl later ok.0 ok.1;
+      sound = rows-exchange h seats es x (entry.Claim d) day s unclosed may refl (λ was. absurd (false≢true (sym (open-unsettled d.against d.state unsettled) ∙ was))) later ok.0 ok.1;
       not_before = later;
       seen = refl;
       moves = restating-moves es n h.last day d next at;

@@ -1,20 +1,21 @@
 -- What is decided on what is kept is decided on the rows.
 use Rattle.std.proofs.Common.{◌≡◌, ℕ, true, ap, sym, ◌∙◌, subst, Result, Ok, Err, IfOk, OnErr, Option, None}
 use Rattle.trust_base.specs.declared.refusal.Refusal.{Refusal}
-use Rattle.trust_matter.specs.declared.rows.Head.{Head}
-use Rattle.trust_matter.specs.declared.rows.Entry.{Entry}
-use Rattle.trust_matter.specs.declared.edits.Edit.{Edit}
-use Rattle.trust_matter.specs.declared.change.Moves.{Moves}
-use Rattle.trust_matter.specs.Rows.{Rows, entry_at}
-use Rattle.trust_matter.specs.Facts.{Facts, Asked, number_of, other_of}
-use Rattle.trust_matter.specs.Sound.{Sound}
-use Rattle.trust_matter.specs.Parts.{Part, IsPart, kept_at, kept_facts, entry_in, holds_for, is_held_or_none}
-use Rattle.trust_matter.specs.Changes.{MatterChange, AreSmallMoves}
-use Rattle.trust_matter.specs.Moves.{EditMoved, IsMade, movement_kept}
-use Rattle.trust_matter.specs.Step.{HasAmount, IsDecided, Decides, MayRefuse, Gives, refusal, refusal_of, decided, edit_on, last_after}
+use Rattle.matter_rows.specs.declared.head.Head.{Head}
+use Rattle.matter_rows.specs.declared.entry.Entry.{Entry}
+use Rattle.matter_rows.specs.Rows.{Rows, entry_at}
+use Rattle.matter_rows.specs.Sound.{Sound}
+use Rattle.matter_parts.specs.declared.edit.Edit.{Edit}
+use Rattle.matter_parts.specs.declared.change.TotalsAfter.{TotalsAfter}
+use Rattle.matter_parts.specs.Parts.{Part, IsPart, kept_at, entry_in, is_held_or_none}
+use Rattle.matter_parts.specs.Changes.{MatterChange, AreSmallTotals, last_after}
+use Rattle.matter_parts.specs.TotalsAfter.{EditMoved, IsMade, movement_kept}
+use Rattle.matter_parts.proofs.MadeChange.{change-is}
+use Rattle.matter_parts.proofs.NeverStore.{never-store}
+use Rattle.trust_matter.specs.Facts.{Facts, Asked, number_named, other_of}
+use Rattle.trust_matter.specs.KeptFacts.{kept_facts, holds_for}
+use Rattle.trust_matter.specs.Step.{HasAmount, IsDecided, Decides, MayRefuse, Gives, refusal, refusal_of, decided, edit_on}
 use Rattle.trust_matter.proofs.Parts.{facts-same, both}
-use Rattle.trust_matter.proofs.MadeChange.{change-is}
-use Rattle.trust_matter.proofs.NeverStore.{never-store}
 use Rattle.trust_matter.proofs.StepForms.{IsStep}
 use Rattle.trust_matter.proofs.Steps.{step}
 
@@ -34,24 +35,24 @@ decided-ok m rows a e c h amount accepted is made s p =
       accepted = on-rows;
       edit = edit-is;
       last = last-is;
-      change = change-is m rows (other_of a.ask (entry_at rows.entries (number_of a.ask))) (number_of a.ask) c p s
+      change = change-is m rows (other_of a.ask (entry_at rows.entries (number_named a.ask))) (number_named a.ask) c p s
           (subst L (sym last-is) (subst E (sym edit-is) (step rows a s amount on-rows)))
           (subst M (sym made.of_edit) made.moved)
           (subst V (sym made.of_edit) made.movement);
     }
 
 -- an accepted edit is the change of the rows, or the want of one that is there
-pub decided-made : (m : Part) (a : Asked) (e : Edit) (r : Result MatterChange Refusal) → holds_for m a.ask ≡ true → HasAmount a.ask → Gives (kept_facts m a.ask) a (Ok e) → IfOk r (λ c. IsMade m e (last_after m.head e a.day) c) → OnErr r ((v : Moves) → AreSmallMoves v → EditMoved m e v → ⊥) → (rows : Rows) → Sound rows → IsPart m rows → Decides rows a r
+pub decided-made : (m : Part) (a : Asked) (e : Edit) (r : Result MatterChange Refusal) → holds_for m a.ask ≡ true → HasAmount a.ask → Gives (kept_facts m a.ask) a (Ok e) → IfOk r (λ c. IsMade m e (last_after m.head e a.day) c) → OnErr r ((v : TotalsAfter) → AreSmallTotals v → EditMoved m e v → ⊥) → (rows : Rows) → Sound rows → IsPart m rows → Decides rows a r
 decided-made m a e (Ok c) h amount g made none rows s p = decided-ok m rows a e c h amount g.0 g.1 made s p
 decided-made m a e (Err r) h amount g made none rows s p =
     let same = facts-same m rows a.ask s.backed.named p h in
     let on-rows : refusal rows a ≡ None = sym (ap (λ (f : Facts). refusal_of f a) same) ∙ g.0 in
     let of-rows : e ≡ edit_on rows a = g.1 ∙ ap (λ (f : Facts). decided f a) same in
     let entry = ap (λ (f : Facts). f.entry) same in
-    let parts = both (is_held_or_none m (number_of a.ask)) (is_held_or_none m (other_of a.ask (entry_in (kept_at m (number_of a.ask))))) h in
+    let parts = both (is_held_or_none m (number_named a.ask)) (is_held_or_none m (other_of a.ask (entry_in (kept_at m (number_named a.ask))))) h in
     let P : Option Entry → Type 0 = λ w. is_held_or_none m (other_of a.ask w) ≡ true in
-    let M : Edit → Type 0 = λ x. (v : Moves) → AreSmallMoves v → EditMoved m x v → ⊥ in
-    absurd (never-store m rows (other_of a.ask (entry_at rows.entries (number_of a.ask))) (number_of a.ask) (edit_on rows a) s.backed p (step rows a s amount on-rows).may (subst P entry parts.1) parts.0 (subst M of-rows none))
+    let M : Edit → Type 0 = λ x. (v : TotalsAfter) → AreSmallTotals v → EditMoved m x v → ⊥ in
+    absurd (never-store m rows (other_of a.ask (entry_at rows.entries (number_named a.ask))) (number_named a.ask) (edit_on rows a) s.backed p (step rows a s amount on-rows).may (subst P entry parts.1) parts.0 (subst M of-rows none))
 
 -- a refusal by what is kept is that of the rows
 pub decided-refused : (m : Part) (a : Asked) (r : Refusal) → holds_for m a.ask ≡ true → Gives (kept_facts m a.ask) a (Err r) → (rows : Rows) → Sound rows → IsPart m rows → Decides rows a (Err r)

@@ -1,31 +1,35 @@
 -- Deposits, as steps.
-use Rattle.std.proofs.Common.{◌≡◌, ℕ, ◌+◌, ◌<◌, ◌≤◌, false, List, [], ◌∷◌, length, refl, arith, Option, Some, None, inl, pos, ◌≤ℤ◌}
 use Rattle.std.specs.Prelude.{is_none}
+use Rattle.std.specs.List.{AllByRecursion}
+use Rattle.std.proofs.Common.{◌≡◌, ℕ, ◌+◌, ◌<◌, ◌≤◌, false, List, [], ◌∷◌, ◌++◌, length, refl, ap, subst, arith, Option, Some, None, inl, pos, ◌≤ℤ◌}
 use Rattle.std.proofs.lemmas.Int.{ints}
-use Rattle.trust_matter.specs.declared.rows.Deposit.{Deposit}
-use Rattle.trust_matter.specs.declared.rows.DepositState.{DepositState}
-use Rattle.trust_matter.specs.declared.rows.DepositState.TheVariants as deposit
-use Rattle.trust_matter.specs.declared.rows.Entry.{Entry}
-use Rattle.trust_matter.specs.declared.rows.Entry.TheVariants as entry
-use Rattle.trust_matter.specs.declared.rows.Head.{Head}
-use Rattle.trust_matter.specs.declared.rows.Seat.{Seat}
-use Rattle.trust_matter.specs.declared.asks.Ask.TheVariants as ask
-use Rattle.trust_matter.specs.declared.asks.Caller.{Caller}
-use Rattle.trust_matter.specs.declared.asks.DepositAsk.{DepositAsk}
-use Rattle.trust_matter.specs.declared.edits.Edit.TheVariants as edit
-use Rattle.trust_matter.specs.declared.edits.Numbered.{Numbered}
-use Rattle.trust_matter.specs.Balances.{names, is_fee, is_settled, passes as of_kind}
+use Rattle.matter_rows.specs.declared.deposit.Deposit.{Deposit}
+use Rattle.matter_rows.specs.declared.clearing.Clearing.{Clearing}
+use Rattle.matter_rows.specs.declared.deposit.ReturnedDeposit.{ReturnedDeposit}
+use Rattle.matter_rows.specs.declared.deposit.DepositState.{DepositState}
+use Rattle.matter_rows.specs.declared.deposit.DepositState.TheVariants as deposit
+use Rattle.matter_rows.specs.declared.entry.Entry.{Entry}
+use Rattle.matter_rows.specs.declared.entry.Entry.TheVariants as entry
+use Rattle.matter_rows.specs.declared.head.Head.{Head}
+use Rattle.matter_rows.specs.declared.seat.Seat.{Seat}
+use Rattle.matter_rows.specs.Balances.{available, names, is_fee, is_settled, passes as of_kind}
+use Rattle.matter_rows.specs.Events.{events_of, events_in, received, paid_out}
+use Rattle.matter_rows.specs.Rows.{entry_at}
+use Rattle.matter_rows.specs.Shares.{draw, worth, available_share, cleared_deposit}
+use Rattle.matter_rows.specs.Sound.{AreBacked, IsBy, IsRanged, Sound, days_of, deposit_days, deposit_bank}
+use Rattle.matter_rows.proofs.Days.{made-before}
+use Rattle.matter_rows.proofs.Entries.{all-at, within}
+use Rattle.matter_rows.proofs.Keeping.{MayTake, target-apart, total-undrawn}
+use Rattle.matter_parts.specs.declared.edit.Edit.TheVariants as edit
+use Rattle.matter_parts.specs.declared.edit.Numbered.{Numbered}
+use Rattle.matter_parts.proofs.Editing.{deposit-may, left-moved}
+use Rattle.matter_parts.proofs.StepForms.{rows-of, MovesWithin}
+use Rattle.trust_matter.specs.declared.ask.Ask.TheVariants as ask
+use Rattle.trust_matter.specs.declared.ask.Caller.{Caller}
+use Rattle.trust_matter.specs.declared.deposit.DepositAsk.{DepositAsk}
 use Rattle.trust_matter.specs.Conditions.{is_no_deposit, is_deposit_not_held}
-use Rattle.trust_matter.specs.Events.{events_of, events_in, received, paid_out}
-use Rattle.trust_matter.specs.Rows.{entry_at}
-use Rattle.trust_matter.specs.Shares.{draw, worth, available_share, cleared_deposit}
-use Rattle.trust_matter.specs.Sound.{AreBacked, IsBy, IsRanged, Sound, days_of}
 use Rattle.trust_matter.specs.Step.{HasAmount, deposit_of, cancelled}
-use Rattle.trust_matter.proofs.Days.{made-before}
-use Rattle.trust_matter.proofs.Editing.{deposit-may, left-moved}
-use Rattle.trust_matter.proofs.Entries.{all-at, within}
-use Rattle.trust_matter.proofs.Keeping.{MayTake, target-apart, total-undrawn}
-use Rattle.trust_matter.proofs.StepForms.{rows-of, rows-append, rows-exchange, MovesWithin, exchange-moves, held-is, asked, Stepped}
+use Rattle.trust_matter.proofs.StepForms.{rows-append, rows-exchange, exchange-moves, held-is, asked, Stepped}
 
 -- A deposit.
 
@@ -43,7 +47,7 @@ step-deposit h seats es c a day s amount unclosed later next =
     let may = deposit-may es (record { book = day; amount = a.amount; source = a.source; description = a.description; state = deposit.Held }) s.backed refl next.0 amount in
     record {
       place = (refl, next.1);
-      sound = rows-append h seats es x day s unclosed may later (deposit-by a day) tt;
+      sound = rows-append h seats es x day s unclosed may later (deposit-by a day) (tt, tt);
       not_before = later;
       seen = refl;
       moves = deposit-moves es a h.last day later;
@@ -59,6 +63,7 @@ cleared-some : (s : DepositState) (amount : ℕ) → pos 0 ≤ℤ cleared_deposi
 cleared-some deposit.Held amount = omega (arith, ints)
 cleared-some (deposit.Cleared c) amount = omega (arith, ints)
 cleared-some (deposit.Cancelled day) amount = omega (arith, ints)
+cleared-some (deposit.Returned r) amount = omega (arith, ints)
 
 -- a held deposit may be cleared or cancelled
 pub restated-may : (es : List Entry) (n : ℕ) (d : Deposit) (state : DepositState) → AreBacked es → entry_at es n ≡ Some (entry.Deposit d) → d.state ≡ deposit.Held → MayTake es n (entry.Deposit d) (with-state d state)
@@ -80,6 +85,45 @@ restated-may es n d state s at held =
       own = omega (arith, ints, all);
       left = λ k e h elsewhere. left-moved es (entry.Deposit d) (with-state d state) refl (λ e h. let l = s.left 0 e h in omega (arith, ints, l)) s.left k e h;
     }
+
+-- a cleared deposit may be taken back, where what is available covers it
+pub returned-may : (es : List Entry) (n : ℕ) (d : Deposit) (c : Clearing) (r : ReturnedDeposit) → AreBacked es → entry_at es n ≡ Some (entry.Deposit d) → d.state ≡ deposit.Cleared c → pos d.amount ≤ℤ available es → MayTake es n (entry.Deposit d) (with-state d (deposit.Returned r))
+unfolding names draw worth available_share
+returned-may es n d c r s at cleared covered =
+    let some = within es n (entry.Deposit d) at in
+    let no-fee : of_kind is_fee (entry_at es n) ≡ false = rw at refl in
+    let no-claim : of_kind is_settled (entry_at es n) ≡ false = rw at refl in
+    let all = total-undrawn es n s.named some.0 no-fee no-claim in
+    record {
+      at = at;
+      ranged = record { amount = (all-at IsRanged es n (entry.Deposit d) s.ranged at).amount; part = tt };
+      named = refl;
+      fee = λ h. h;
+      settled = λ h. h;
+      available = rw cleared (omega (arith, ints, covered));
+      same_target = refl;
+      apart = target-apart es n some.0 no-fee no-claim (with-state d (deposit.Returned r)) refl;
+      own = omega (arith, ints, all);
+      left = λ k e h elsewhere. left-moved es (entry.Deposit d) (with-state d (deposit.Returned r)) refl (λ e h. let l = s.left 0 e h in omega (arith, ints, l)) s.left k e h;
+    }
+
+-- a return takes the amount out again
+pub returning-moves : (es : List Entry) (n last : ℕ) (d : Deposit) (c : Clearing) (r : ReturnedDeposit) → entry_at es n ≡ Some (entry.Deposit d) → d.state ≡ deposit.Cleared c → last ≤ r.undone → MovesWithin es (edit.Exchange (record { number = n; entry = with-state d (deposit.Returned r) })) last r.undone
+unfolding events_of
+returning-moves es n last d c r at cleared later =
+    let was : events_in (entry_at es n) ≡ received d.book d.amount ∷ [] = rw at (rw cleared refl) in
+    exchange-moves es (record { number = n; entry = with-state d (deposit.Returned r) }) last r.undone (paid_out r.undone d.amount ∷ []) (rw was refl) (later, omega arith)
+
+-- the days of a deposit that is taken back
+pub returned-by : (d : Deposit) (c : Clearing) (r : ReturnedDeposit) (last : ℕ) → d.state ≡ deposit.Cleared c → r.clearing ≡ c → IsBy last (entry.Deposit d) → last ≤ r.undone → r.returning.bank_day ≤ r.undone → IsBy r.undone (with-state d (deposit.Returned r))
+unfolding days_of
+returned-by d c r last cleared same by later back =
+    let P : DepositState → Type 0 = λ s. AllByRecursion (λ i. i ≤ last) (d.book ∷ (deposit_days s ++ deposit_bank s)) in
+    let days : (d.book ≤ last) × ((c.bank_day ≤ last) × Unit {0}) = subst P cleared by in
+    let book = days.0 in
+    let cleared_on = days.1.0 in
+    let bank : r.clearing.bank_day ≡ c.bank_day = ap (λ (x : Clearing). x.bank_day) same in
+    (omega (arith, book, later), (omega arith, (omega (arith, cleared_on, bank, later), (back, tt))))
 
 cancelling-moves : (es : List Entry) (n last day : ℕ) (d : Deposit) → entry_at es n ≡ Some (entry.Deposit d) → d.state ≡ deposit.Held → last ≤ day → MovesWithin es (edit.Exchange (record { number = n; entry = with-state d (deposit.Cancelled day) })) last day
 unfolding events_of
@@ -103,7 +147,7 @@ step-cancel h seats es c n day (Some (entry.Deposit d)) at s unclosed later ther
     let made : d.book ≤ day = let b = made-before h es n (entry.Deposit d) s.headed.0 at in omega (arith, b, later) in
     record {
       place = (refl, (entry.Deposit d, record { there = at; same = refl }));
-      sound = rows-exchange h seats es x (entry.Deposit d) day s unclosed may refl later (cancelled-by d day made) (made, tt);
+      sound = rows-exchange h seats es x (entry.Deposit d) day s unclosed may refl (λ _. omega arith) later (cancelled-by d day made) ((made, tt), tt);
       not_before = later;
       seen = refl;
       moves = cancelling-moves es n h.last day d at held later;

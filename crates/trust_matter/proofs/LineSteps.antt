@@ -1,44 +1,47 @@
 -- Lines of the bank, as steps.
-use Rattle.std.proofs.Common.{◌≡◌, ◌⊎◌, ℕ, ◌≤◌, max, Bool, true, false, cond, List, [], ◌∷◌, ◌++◌, refl, ap, sym, ◌∙◌, arith, subst, Option, Some, None, inl, inr, pos, append-nil, ◌≤ℤ◌}
 use Rattle.std.specs.Prelude.{nat_lt, is_none}
 use Rattle.std.specs.List.{AllByRecursion}
+use Rattle.std.proofs.Common.{◌≡◌, ◌⊎◌, ℕ, ◌≤◌, max, Bool, true, false, not, ◌&&◌, ◌||◌, cond, List, [], ◌∷◌, ◌++◌, refl, ap, sym, ◌∙◌, arith, subst, Option, Some, None, inl, inr, pos, append-nil, ◌≤ℤ◌}
 use Rattle.std.proofs.Math.Nat.{le-max_left, le-max_right}
 use Rattle.std.proofs.lemmas.Bool.{false≢true}
 use Rattle.std.proofs.lemmas.Int.{ints}
 use Rattle.trust_base.specs.declared.line.Line.{Line}
-use Rattle.trust_matter.specs.declared.rows.Head.{Head}
-use Rattle.trust_matter.specs.declared.rows.Seat.{Seat}
-use Rattle.trust_matter.specs.declared.rows.Deposit.{Deposit}
-use Rattle.trust_matter.specs.declared.rows.DepositState.TheVariants as deposit
-use Rattle.trust_matter.specs.declared.rows.Payment.{Payment}
-use Rattle.trust_matter.specs.declared.rows.PaymentState.{PaymentState}
-use Rattle.trust_matter.specs.declared.rows.PaymentState.TheVariants as payment
-use Rattle.trust_matter.specs.declared.rows.Entry.{Entry}
-use Rattle.trust_matter.specs.declared.rows.Entry.TheVariants as entry
-use Rattle.trust_matter.specs.declared.edits.Edit.{Edit}
-use Rattle.trust_matter.specs.declared.edits.Edit.TheVariants as edit
-use Rattle.trust_matter.specs.declared.edits.Numbered.{Numbered}
+use Rattle.matter_rows.specs.declared.head.Head.{Head}
+use Rattle.matter_rows.specs.declared.seat.Seat.{Seat}
+use Rattle.matter_rows.specs.declared.deposit.Deposit.{Deposit}
+use Rattle.matter_rows.specs.declared.deposit.DepositState.{DepositState}
+use Rattle.matter_rows.specs.declared.deposit.DepositState.TheVariants as deposit
+use Rattle.matter_rows.specs.declared.deposit.ReturnedDeposit.{ReturnedDeposit}
+use Rattle.matter_rows.specs.declared.payment.Payment.{Payment}
+use Rattle.matter_rows.specs.declared.payment.PaymentState.{PaymentState}
+use Rattle.matter_rows.specs.declared.payment.PaymentState.TheVariants as payment
+use Rattle.matter_rows.specs.declared.entry.Entry.{Entry}
+use Rattle.matter_rows.specs.declared.entry.Entry.TheVariants as entry
+use Rattle.matter_rows.specs.Balances.{available, names, is_fee, is_settled, passes as of_kind, exceeds}
+use Rattle.matter_rows.specs.Rows.{is_held_state, is_issued_state, is_gone, Rows, entry_at}
+use Rattle.matter_rows.specs.Events.{events_of, events_in, payments}
+use Rattle.matter_rows.specs.Shares.{target_in, draw, worth, target, available_share, held_share, pending_share, paid, from_general, held_deposit, pending_payment}
+use Rattle.matter_rows.specs.Clearings.{clearing_by, has_amount_back, is_cleared_state, is_line_again, deposit_by, cleared_payment}
+use Rattle.matter_rows.specs.Sound.{AreBacked, IsBy, IsRising, AreRising, IsRanged, IsAtRestIfClosed, Sound, days_of, payment_days, payment_bank}
+use Rattle.matter_rows.proofs.Covered.{sound-covered}
+use Rattle.matter_rows.proofs.Days.{made-before}
+use Rattle.matter_rows.proofs.Entries.{all-at, within}
+use Rattle.matter_rows.proofs.Keeping.{MayTake, target-apart, total-undrawn}
+use Rattle.matter_rows.proofs.Sums.{total-within}
+use Rattle.matter_parts.specs.declared.edit.Edit.TheVariants as edit
+use Rattle.matter_parts.specs.declared.edit.Numbered.{Numbered}
+use Rattle.matter_parts.proofs.Editing.{left-moved}
+use Rattle.matter_parts.proofs.StepForms.{rows-of, MovesWithin, IsStepOf}
 use Rattle.trust_matter.specs.declared.bank_line.BankLine.{BankLine}
+use Rattle.trust_matter.specs.declared.line_verdict.DatedEdit.{DatedEdit}
 use Rattle.trust_matter.specs.declared.line_verdict.Reason.{Reason}
-use Rattle.trust_matter.specs.declared.line_verdict.LineEdit.{LineEdit}
-use Rattle.trust_matter.specs.declared.line_verdict.LineEdit.TheVariants as told
-use Rattle.trust_matter.specs.Balances.{names, is_fee, is_settled, passes as of_kind}
-use Rattle.trust_matter.specs.Conditions.{is_issued_state}
-use Rattle.trust_matter.specs.Events.{events_of, events_in, payments}
-use Rattle.trust_matter.specs.Facts.{target_in}
+use Rattle.trust_matter.specs.declared.line_verdict.LineEffect.{LineEffect}
+use Rattle.trust_matter.specs.declared.line_verdict.LineEffect.TheVariants as told
 use Rattle.trust_matter.specs.Laws.{LinesKeepSound, NoReasonHolds}
-use Rattle.trust_matter.specs.LineStep.{clearing_by, is_line_again, has_no_line, awaits_no_line, is_of_another_amount, reasons, first_reason, cleared_payment, cleared_by, matched, line_edit, line_on, last_seen, after_line_edit}
-use Rattle.trust_matter.specs.Rows.{Rows, entry_at}
-use Rattle.trust_matter.specs.Shares.{draw, worth, target, available_share, held_share, pending_share, paid, from_general, held_deposit, pending_payment}
-use Rattle.trust_matter.specs.Sound.{AreBacked, IsBy, IsRising, AreRising, IsRanged, IsAtRestIfClosed, Sound, days_of, payment_days, payment_bank}
-use Rattle.trust_matter.proofs.Covered.{sound-covered}
-use Rattle.trust_matter.proofs.Days.{made-before}
-use Rattle.trust_matter.proofs.DepositSteps.{restated-may}
-use Rattle.trust_matter.proofs.Editing.{left-moved}
-use Rattle.trust_matter.proofs.Entries.{all-at, within}
-use Rattle.trust_matter.proofs.Keeping.{MayTake, target-apart, total-undrawn}
-use Rattle.trust_matter.proofs.StepForms.{rows-of, rows-exchange, MovesWithin, exchange-moves, not-false, held-is, IsStepOf}
-use Rattle.trust_matter.proofs.Sums.{total-within}
+use Rattle.trust_matter.specs.LineStep.{LineFacts, line_facts, has_no_line, awaits_no_line, is_of_another_amount, is_uncovered, reasons, first_reason, told_by, last_by, dated_by, matched, line_effect, line_on, after_line_effect}
+use Rattle.trust_matter.proofs.DepositSteps.{restated-may, returned-may, returning-moves, returned-by}
+use Rattle.trust_matter.proofs.StepForms.{rows-exchange, exchange-moves, not-false, not-before}
+use Rattle.trust_matter.proofs.PaymentSteps.{within-left}
 
 -- A line that is applied.
 
@@ -48,26 +51,27 @@ none-hold ((true, r) ∷ cs) h = absurd (cc)
 none-hold ((false, r) ∷ cs) h = (refl, none-hold cs h)
 
 -- the line is none that came before, and no reason holds against it
-pub record IsMatched (head : Option Head) (e : Option Entry) (line : Line) (today : ℕ) : Type 0 where
-  pub new : is_line_again e line ≡ false
-  pub dated : nat_lt today line.date ≡ false
-  pub opened : is_none head ≡ false
-  pub there : is_none e ≡ false
-  pub kind : has_no_line e ≡ false
-  pub state : awaits_no_line e ≡ false
-  pub amount : is_of_another_amount e line ≡ false
+pub record IsMatched (f : LineFacts) : Type 0 where
+  pub new : is_line_again f.entry f.line ≡ false
+  pub dated : nat_lt f.today f.line.date ≡ false
+  pub opened : is_gone f.head ≡ false
+  pub there : is_none f.entry ≡ false
+  pub kind : has_no_line f.entry ≡ false
+  pub state : awaits_no_line f.entry f.line ≡ false
+  pub amount : is_of_another_amount f.entry f.line ≡ false
+  pub covered : is_uncovered f ≡ false
 
-applied-is : (b : Bool) (r : Option Reason) (e f : Edit) → cond b told.Repeat (matched r e) ≡ told.Applied f → (b ≡ false) × (r ≡ None) × (e ≡ f)
+applied-is : (b : Bool) (r : Option Reason) (e f : DatedEdit) → cond b told.Repeat (matched r e) ≡ told.Applied f → (b ≡ false) × (r ≡ None) × (e ≡ f)
 applied-is true r e f h = absurd (cc)
 applied-is false (Some r) e f h = absurd (cc)
 applied-is false None e f h = (refl, refl, let same : told.Applied e ≡ told.Applied f = h in cc)
 
 -- what is known where a line is applied
-pub applied-matched : (head : Option Head) (n : ℕ) (e : Option Entry) (line : Line) (today : ℕ) (f : Edit) → line_edit head n e line today ≡ told.Applied f → IsMatched head e line today × (cleared_by n e line ≡ f)
-applied-matched head n e line today f h =
-    let a = applied-is (is_line_again e line) (first_reason (reasons head e line today)) (cleared_by n e line) f h in
-    let l : NoReasonHolds (reasons head e line today) = none-hold (reasons head e line today) a.1 in
-    (record { new = a.0; dated = l.0; opened = l.1.0; there = l.1.1.0; kind = l.1.1.1.0; state = l.1.1.1.1.0; amount = l.1.1.1.1.1.0 }, a.2)
+pub applied-matched : (f : LineFacts) (d : DatedEdit) → line_effect f ≡ told.Applied d → IsMatched f × (dated_by f ≡ d)
+applied-matched f d h =
+    let a = applied-is (is_line_again f.entry f.line) (first_reason (reasons f)) (dated_by f) d h in
+    let l : NoReasonHolds (reasons f) = none-hold (reasons f) a.1 in
+    (record { new = a.0; dated = l.0; opened = l.1.0; there = l.1.1.0; kind = l.1.1.1.0; state = l.1.1.1.1.0; amount = l.1.1.1.1.1.0; covered = l.1.1.1.1.1.1.0 }, a.2)
 
 -- An entry that waits for a line.
 
@@ -203,16 +207,53 @@ payment-rising line p h =
     let P : List ℕ → Type 0 = λ days. AreRising p.book days in
     subst P (sym (days-same line p.state)) h
 
--- a line that matches an entry of sound rows clears it
-pub line-step : (head : Option Head) (seats : List Seat) (es : List Entry) (l : BankLine) (today : ℕ) (o : Option Entry) → entry_at es l.entry ≡ o → Sound (rows-of head seats es) → IsMatched head o l.line today → IsStepOf (rows-of head seats es) (target_in o) l.entry (cleared_by l.entry o l.line) (last_seen head l.line)
-line-step None seats es l today o at s m = absurd (false≢true (sym m.opened))
-line-step (Some h) seats es l today None at s m = absurd (false≢true (sym m.there))
-line-step (Some h) seats es l today (Some (entry.Fee f)) at s m = absurd (false≢true (sym m.kind))
-line-step (Some h) seats es l today (Some (entry.Claim c)) at s m = absurd (false≢true (sym m.kind))
-line-step (Some h) seats es l today (Some (entry.Deposit d)) at s m =
+-- what is known of the line of a cleared deposit
+record IsTakenBack (h : Head) (es : List Entry) (d : Deposit) (line : Line) (today : ℕ) : Type 0 where
+  back : has_amount_back d line ≡ true
+  later : h.last ≤ today
+  covered : pos d.amount ≤ℤ available es
+
+either-false : (a b : Bool) → (a || b) ≡ false → (a ≡ false) × (b ≡ false)
+either-false true b h = absurd (cc)
+either-false false b h = (refl, h)
+
+taken-back : (h : Head) (es : List Entry) (d : Deposit) (line : Line) (today : ℕ) (b : Bool) → has_amount_back d line ≡ b → not b ≡ false → (b && (nat_lt today h.last || exceeds d.amount (available es))) ≡ false → IsTakenBack h es d line today
+taken-back h es d line today false is state covered = absurd (cc)
+taken-back h es d line today true is state covered =
+    let both = either-false (nat_lt today h.last) (exceeds d.amount (available es)) covered in
+    record { back = is; later = not-before today h.last both.0; covered = within-left d.amount (available es) both.1 }
+
+-- a matter in which something is available is not closed
+available-unclosed : (h : Head) (closed : Option ℕ) (es : List Entry) → AreBacked es → pos 1 ≤ℤ available es → IsAtRestIfClosed h closed es → closed ≡ None
+available-unclosed h None es s some rest = refl
+available-unclosed h (Some day) es s some rest =
+    let c = sound-covered es s in
+    let sum = c.sum in
+    let held = c.held in
+    let disputed = c.disputed in
+    let fees = c.fees in
+    let claims = c.claims in
+    let empty = rest.empty in
+    absurd (omega (arith, ints, some, sum, held, disputed, fees, claims, empty))
+
+-- the step of a deposit in a state
+abbrev DepositStep : Head → List Seat → List Entry → BankLine → ℕ → Deposit → DepositState → Type 0
+DepositStep h seats es l today d s =
+    IsStepOf (rows-of (Some h) seats es) 0 l.entry (edit.Exchange (record { number = l.entry; entry = entry.Deposit (record d { state = deposit_by l.line today s }) }))
+    (cond (is_cleared_state s && has_amount_back d l.line) today (max h.last l.line.date))
+
+-- what the reasons leave of a deposit in a state
+abbrev DepositMatched : Head → List Entry → Line → ℕ → Deposit → DepositState → Type 0
+DepositMatched h es line today d s =
+    ((not (is_held_state s) && not (is_cleared_state s && has_amount_back d line)) ≡ false)
+    × (((is_cleared_state s && has_amount_back d line) && (nat_lt today h.last || exceeds d.amount (available es))) ≡ false)
+
+deposit-step : (h : Head) (seats : List Seat) (es : List Entry) (l : BankLine) (today : ℕ) (d : Deposit) (state : DepositState) → d.state ≡ state → entry_at es l.entry ≡ Some (entry.Deposit d) → Sound (rows-of (Some h) seats es) → nat_lt today l.line.date ≡ false → DepositMatched h es l.line today d state → DepositStep h seats es l today d state
+deposit-step h seats es l today d (deposit.Cancelled day) is at s dated m = absurd (false≢true (sym m.0))
+deposit-step h seats es l today d (deposit.Returned r) is at s dated m = absurd (false≢true (sym m.0))
+deposit-step h seats es l today d deposit.Held held at s dated m =
     let new : Deposit = record d { state = deposit.Cleared (clearing_by l.line) } in
     let x : Numbered = record { number = l.entry; entry = entry.Deposit new } in
-    let held = held-is d.state m.state in
     let may = restated-may es l.entry d (deposit.Cleared (clearing_by l.line)) s.backed at held in
     let unclosed = waits-unclosed h h.closed es l.entry (entry.Deposit d) s.backed at (held-waits es l.entry d s.backed at held) s.headed.1 in
     let later = le-max_left h.last l.line.date in
@@ -220,12 +261,48 @@ line-step (Some h) seats es l today (Some (entry.Deposit d)) at s m =
     let made : d.book ≤ max h.last l.line.date = let b = made-before h es l.entry (entry.Deposit d) s.headed.0 at in omega (arith, b, later) in
     record {
       place = (refl, (entry.Deposit d, record { there = at; same = refl }));
-      sound = rows-exchange h seats es x (entry.Deposit d) (max h.last l.line.date) s unclosed may refl later (deposit-by l.line d (max h.last l.line.date) made seen) tt;
+      sound = rows-exchange h seats es x (entry.Deposit d) (max h.last l.line.date) s unclosed may refl (λ _. omega arith) later (deposit-by l.line d (max h.last l.line.date) made seen) (tt, tt);
       not_before = later;
       seen = refl;
       moves = clearing-moves es l.entry h.last (max h.last l.line.date) (entry.Deposit d) (entry.Deposit new) at (deposit-moved l.line d held);
       may = (entry.Deposit d, may, inl refl, refl);
     }
+deposit-step h seats es l today d (deposit.Cleared c) cleared at s dated m =
+    let known = taken-back h es d l.line today (has_amount_back d l.line) refl m.0 m.1 in
+    let r : ReturnedDeposit = record { clearing = c; returning = clearing_by l.line; undone = today } in
+    let new : Deposit = record d { state = deposit.Returned r } in
+    let x : Numbered = record { number = l.entry; entry = entry.Deposit new } in
+    let may = returned-may es l.entry d c r s.backed at cleared known.covered in
+    let amount = (all-at IsRanged es l.entry (entry.Deposit d) s.backed.ranged at).amount in
+    let covered = known.covered in
+    let some : pos 1 ≤ℤ available es = omega (arith, ints, amount, covered) in
+    let unclosed = available-unclosed h h.closed es s.backed some s.headed.1 in
+    let later = known.later in
+    let back : l.line.date ≤ today = not-before today l.line.date dated in
+    let by = all-at (IsBy h.last) es l.entry (entry.Deposit d) s.headed.0.by_last at in
+    let made : d.book ≤ today = let b = made-before h es l.entry (entry.Deposit d) s.headed.0 at in omega (arith, b, later) in
+    let step : IsStepOf (rows-of (Some h) seats es) 0 l.entry (edit.Exchange x) today = record {
+      place = (refl, (entry.Deposit d, record { there = at; same = refl }));
+      sound = rows-exchange h seats es x (entry.Deposit d) today s unclosed may refl (λ _. omega arith) later (returned-by d c r h.last cleared refl by later back) ((made, tt), back);
+      not_before = later;
+      seen = refl;
+      moves = returning-moves es l.entry h.last d c r at cleared later;
+      may = (entry.Deposit d, may, inl refl, refl);
+    } in
+    let P : Bool → Type 0 = λ b. IsStepOf (rows-of (Some h) seats es) 0 l.entry (edit.Exchange x) (cond b today (max h.last l.line.date)) in
+    subst P (sym known.back) step
+
+-- the facts of a line
+abbrev facts-of : Option Head → List Entry → BankLine → ℕ → Option Entry → LineFacts
+facts-of head es l today o = record { head = head; number = l.entry; entry = o; available = available es; line = l.line; today = today }
+
+-- a line that matches an entry of sound rows makes a step
+pub line-step : (head : Option Head) (seats : List Seat) (es : List Entry) (l : BankLine) (today : ℕ) (o : Option Entry) → entry_at es l.entry ≡ o → Sound (rows-of head seats es) → IsMatched (facts-of head es l today o) → IsStepOf (rows-of head seats es) (target_in o) l.entry (told_by l.entry o l.line today) (last_by (facts-of head es l today o))
+line-step None seats es l today o at s m = absurd (false≢true (sym m.opened))
+line-step (Some h) seats es l today None at s m = absurd (false≢true (sym m.there))
+line-step (Some h) seats es l today (Some (entry.Fee f)) at s m = absurd (false≢true (sym m.kind))
+line-step (Some h) seats es l today (Some (entry.Claim c)) at s m = absurd (false≢true (sym m.kind))
+line-step (Some h) seats es l today (Some (entry.Deposit d)) at s m = deposit-step h seats es l today d d.state refl at s m.dated (m.state, m.covered)
 line-step (Some h) seats es l today (Some (entry.Payment p)) at s m =
     let x : Numbered = record { number = l.entry; entry = cleared-by-line l.line p } in
     let may = payment-may es l.entry l.line p s.backed at in
@@ -237,7 +314,7 @@ line-step (Some h) seats es l today (Some (entry.Payment p)) at s m =
     let rising = all-at IsRising es l.entry (entry.Payment p) s.headed.0.changed at in
     record {
       place = (refl, (entry.Payment p, record { there = at; same = refl }));
-      sound = rows-exchange h seats es x (entry.Payment p) (max h.last l.line.date) s unclosed may refl later (payment-by l.line p h.last (max h.last l.line.date) later seen by) (payment-rising l.line p rising);
+      sound = rows-exchange h seats es x (entry.Payment p) (max h.last l.line.date) s unclosed may refl (λ _. omega arith) later (payment-by l.line p h.last (max h.last l.line.date) later seen by) (payment-rising l.line p rising);
       not_before = later;
       seen = refl;
       moves = clearing-moves es l.entry h.last (max h.last l.line.date) (entry.Payment p) (cleared-by-line l.line p) at (payment-moved l.line p);
@@ -245,14 +322,14 @@ line-step (Some h) seats es l today (Some (entry.Payment p)) at s m =
     }
 
 -- a line that is applied makes a step
-pub applied-step : (rows : Rows) (l : BankLine) (today : ℕ) (e : Edit) → Sound rows → line_on rows l today ≡ told.Applied e → IsStepOf rows (target_in (entry_at rows.entries l.entry)) l.entry e (last_seen rows.head l.line)
-applied-step rows l today e s h =
-    let a = applied-matched rows.head l.entry (entry_at rows.entries l.entry) l.line today e h in
-    let P : Edit → Type 0 = λ f. IsStepOf rows (target_in (entry_at rows.entries l.entry)) l.entry f (last_seen rows.head l.line) in
+pub applied-step : (rows : Rows) (l : BankLine) (today : ℕ) (d : DatedEdit) → Sound rows → line_on rows l today ≡ told.Applied d → IsStepOf rows (target_in (entry_at rows.entries l.entry)) l.entry d.edit d.last
+applied-step rows l today d s h =
+    let a = applied-matched (line_facts rows l today) d h in
+    let P : DatedEdit → Type 0 = λ f. IsStepOf rows (target_in (entry_at rows.entries l.entry)) l.entry f.edit f.last in
     subst P a.1 (line-step rows.head rows.seats rows.entries l today (entry_at rows.entries l.entry) refl s a.0)
 
-sound-after : (rows : Rows) (l : BankLine) (today : ℕ) (e : LineEdit) → line_on rows l today ≡ e → Sound rows → Sound (after_line_edit e l.line rows)
-sound-after rows l today (told.Applied e) is s = (applied-step rows l today e s is).sound
+sound-after : (rows : Rows) (l : BankLine) (today : ℕ) (e : LineEffect) → line_on rows l today ≡ e → Sound rows → Sound (after_line_effect e rows)
+sound-after rows l today (told.Applied d) is s = (applied-step rows l today d s is).sound
 sound-after rows l today told.Repeat is s = s
 sound-after rows l today (told.Unmatched r) is s = s
 

@@ -1,37 +1,38 @@
 -- Payments, as steps.
-use Rattle.std.proofs.Common.{◌≡◌, ℕ, ◌≤◌, ◌<◌, ◌≢◌, not, ◌&&◌, true, false, List, [], ◌∷◌, ◌++◌, length, refl, sym, ap, arith, subst, Option, Some, None, inr, pos, negsuc, ℤ, ◌+ℤ◌, ◌-ℤ◌, ◌≤ℤ◌}
 use Rattle.std.specs.Prelude.{is_none}
 use Rattle.std.specs.List.{AllByRecursion}
+use Rattle.std.proofs.Common.{◌≡◌, ℕ, ◌≤◌, ◌<◌, ◌≢◌, not, ◌&&◌, true, false, List, [], ◌∷◌, ◌++◌, length, refl, sym, ap, arith, subst, Option, Some, None, inr, pos, negsuc, ℤ, ◌+ℤ◌, ◌-ℤ◌, ◌≤ℤ◌}
 use Rattle.std.proofs.lemmas.Int.{ints}
 use Rattle.std.proofs.lemmas.Bool.Decides.{nat_tests}
-use Rattle.trust_base.specs.Limits.{IsAmount}
-use Rattle.trust_matter.specs.declared.rows.Entry.{Entry}
-use Rattle.trust_matter.specs.declared.rows.Entry.TheVariants as entry
-use Rattle.trust_matter.specs.declared.rows.Fund.{Fund}
-use Rattle.trust_matter.specs.declared.rows.Fund.TheVariants as fund
-use Rattle.trust_matter.specs.declared.rows.Head.{Head}
-use Rattle.trust_matter.specs.declared.rows.Payment.{Payment}
-use Rattle.trust_matter.specs.declared.rows.PaymentState.{PaymentState}
-use Rattle.trust_matter.specs.declared.rows.PaymentState.TheVariants as payment
-use Rattle.trust_matter.specs.declared.rows.Seat.{Seat}
-use Rattle.trust_matter.specs.declared.asks.Ask.TheVariants as ask
-use Rattle.trust_matter.specs.declared.asks.Caller.{Caller}
-use Rattle.trust_matter.specs.declared.asks.PaymentAsk.{PaymentAsk}
-use Rattle.trust_matter.specs.declared.edits.Edit.TheVariants as edit
-use Rattle.trust_matter.specs.declared.edits.Numbered.{Numbered}
-use Rattle.trust_matter.specs.Balances.{available, funds, is_fee, is_general, is_settled, left_of, names, passes as of_kind}
-use Rattle.trust_matter.specs.Conditions.{exceeds, fund_left, is_an_entry, is_issued_state, is_no_fund, is_no_fund_yet, is_no_payment, is_payment_not_issued, is_payment_not_proposed, is_proposed_state, is_short_payment}
-use Rattle.trust_matter.specs.Events.{Event, events_in, events_of, paid_out, payments, received}
-use Rattle.trust_matter.specs.Facts.{facts_of, left_in, target_in}
-use Rattle.trust_matter.specs.Rows.{entry_at}
-use Rattle.trust_matter.specs.Shares.{available_share, draw, from_general, fund_no, has_settled, paid, target, worth}
-use Rattle.trust_matter.specs.Sound.{AreBacked, AreDated, AreRising, IsBy, IsRanged, IsRising, Sound, days_of, payment_bank, payment_days}
+use Rattle.trust_values.specs.Limits.{IsAmount}
+use Rattle.matter_rows.specs.declared.entry.Entry.{Entry}
+use Rattle.matter_rows.specs.declared.entry.Entry.TheVariants as entry
+use Rattle.matter_rows.specs.declared.payment.Fund.{Fund}
+use Rattle.matter_rows.specs.declared.payment.Fund.TheVariants as fund
+use Rattle.matter_rows.specs.declared.head.Head.{Head}
+use Rattle.matter_rows.specs.declared.payment.Payment.{Payment}
+use Rattle.matter_rows.specs.declared.payment.PaymentState.{PaymentState}
+use Rattle.matter_rows.specs.declared.payment.PaymentState.TheVariants as payment
+use Rattle.matter_rows.specs.declared.seat.Seat.{Seat}
+use Rattle.matter_rows.specs.Balances.{available, funds, is_fee, is_general, is_settled, left_of, names, passes as of_kind, exceeds, fund_left, left_in}
+use Rattle.matter_rows.specs.Rows.{is_issued_state, is_proposed_state, entry_at}
+use Rattle.matter_rows.specs.Events.{Event, events_in, events_of, paid_out, payments, received}
+use Rattle.matter_rows.specs.Shares.{target_in, available_share, draw, from_general, fund_no, has_settled, paid, target, worth}
+use Rattle.matter_rows.specs.Sound.{AreBacked, AreDated, AreRising, IsBy, IsRanged, IsRising, Sound, days_of, payment_bank, payment_days}
+use Rattle.matter_rows.proofs.Days.{made-before}
+use Rattle.matter_rows.proofs.Entries.{all-at, within}
+use Rattle.matter_rows.proofs.Keeping.{MayAdd, MayTake, target-apart, total-undrawn}
+use Rattle.matter_parts.specs.declared.edit.Edit.TheVariants as edit
+use Rattle.matter_parts.specs.declared.edit.Numbered.{Numbered}
+use Rattle.matter_parts.proofs.Editing.{left-drawn, left-moved}
+use Rattle.matter_parts.proofs.StepForms.{rows-of, MovesWithin}
+use Rattle.trust_matter.specs.declared.ask.Ask.TheVariants as ask
+use Rattle.trust_matter.specs.declared.ask.Caller.{Caller}
+use Rattle.trust_matter.specs.declared.payment.PaymentAsk.{PaymentAsk}
+use Rattle.trust_matter.specs.Conditions.{is_an_entry, is_no_fund, is_no_fund_yet, is_no_payment, is_payment_not_issued, is_payment_not_proposed, is_short_payment}
+use Rattle.trust_matter.specs.Facts.{facts_of}
 use Rattle.trust_matter.specs.Step.{HasAmount, edit_of, payment_of, voided, with_payment}
-use Rattle.trust_matter.proofs.Days.{made-before}
-use Rattle.trust_matter.proofs.Editing.{left-drawn, left-moved}
-use Rattle.trust_matter.proofs.Entries.{all-at, within}
-use Rattle.trust_matter.proofs.Keeping.{MayAdd, MayTake, target-apart, total-undrawn}
-use Rattle.trust_matter.proofs.StepForms.{rows-of, rows-append, rows-exchange, AreWithin, MovesWithin, exchange-moves, next-is, not-false, asked, Stepped}
+use Rattle.trust_matter.proofs.StepForms.{rows-append, rows-exchange, AreWithin, exchange-moves, next-is, not-false, asked, Stepped}
 use Rattle.trust_matter.proofs.Table.{Passes}
 
 -- what does not exceed is at most what is left
@@ -188,7 +189,7 @@ approve-one h seats es c n day (Some (entry.Payment p)) at s unclosed later ther
     let made : p.book ≤ day = let b = made-before h es n (entry.Payment p) s.headed.0 at in omega (arith, b, later) in
     record {
       place = (refl, (entry.Payment p, record { there = at; same = refl }));
-      sound = rows-exchange h seats es x (entry.Payment p) day s unclosed may refl later (approved-by p day made) (made, tt);
+      sound = rows-exchange h seats es x (entry.Payment p) day s unclosed may refl (λ _. omega arith) later (approved-by p day made) (made, tt);
       not_before = later;
       seen = refl;
       moves = restating-moves es n h.last day p (payment.Issued day) (paid_out day p.amount ∷ []) at (rw new refl) (later, omega arith);
@@ -223,7 +224,7 @@ decline-one h seats es c n day (Some (entry.Payment p)) at s unclosed later ther
     let made : p.book ≤ day = let b = made-before h es n (entry.Payment p) s.headed.0 at in omega (arith, b, later) in
     record {
       place = (refl, (entry.Payment p, record { there = at; same = refl }));
-      sound = rows-exchange h seats es x (entry.Payment p) day s unclosed may refl later (declined-by p day made) tt;
+      sound = rows-exchange h seats es x (entry.Payment p) day s unclosed may refl (λ _. omega arith) later (declined-by p day made) tt;
       not_before = later;
       seen = refl;
       moves = restating-moves es n h.last day p payment.Declined [] at (rw new refl) tt;
@@ -274,7 +275,7 @@ void-issued h seats es c n day issued p at s unclosed later was =
     let on : issued ≤ day = let d = days.1 in omega (arith, d, later) in
     record {
       place = (refl, (entry.Payment p, record { there = at; same = refl }));
-      sound = rows-exchange h seats es x (entry.Payment p) day s unclosed may refl later (voided-by p issued day days.0 on) (days.0, (on, tt));
+      sound = rows-exchange h seats es x (entry.Payment p) day s unclosed may refl (λ _. omega arith) later (voided-by p issued day days.0 on) (days.0, (on, tt));
       not_before = later;
       seen = refl;
       moves = restating-moves es n h.last day p (taken-back issued day) (received day p.amount ∷ []) at (rw was refl) (later, omega arith);

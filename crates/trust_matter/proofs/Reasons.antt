@@ -1,19 +1,19 @@
 -- The reason that a line is told is the first that holds.
 use Rattle.std.proofs.Common.{◌≡◌, Bool, true, false, cond, List, [], ◌∷◌, refl, ap, Option, Some, None}
-use Rattle.trust_matter.specs.declared.edits.Edit.{Edit}
+use Rattle.matter_rows.specs.Clearings.{is_line_again}
+use Rattle.trust_matter.specs.declared.line_verdict.DatedEdit.{DatedEdit}
 use Rattle.trust_matter.specs.declared.line_verdict.Reason.{Reason}
-use Rattle.trust_matter.specs.declared.line_verdict.LineEdit.TheVariants as told
-use Rattle.trust_matter.specs.Laws.{IsFirstReason, reasons_on, FirstReason, NoReason}
-use Rattle.trust_matter.specs.LineStep.{is_line_again, first_reason, cleared_by, matched, IsApplied}
-use Rattle.trust_matter.specs.Rows.{entry_at}
+use Rattle.trust_matter.specs.declared.line_verdict.LineEffect.TheVariants as told
+use Rattle.trust_matter.specs.Laws.{IsFirstReason, FirstReason, NoReason}
+use Rattle.trust_matter.specs.LineStep.{line_facts, first_reason, reasons, dated_by, matched, IsApplied}
 use Rattle.trust_matter.proofs.LineSteps.{none-hold}
 
-told-is : (b : Bool) (o : Option Reason) (e : Edit) (r : Reason) → cond b told.Repeat (matched o e) ≡ told.Unmatched r → o ≡ Some r
+told-is : (b : Bool) (o : Option Reason) (e : DatedEdit) (r : Reason) → cond b told.Repeat (matched o e) ≡ told.Unmatched r → o ≡ Some r
 told-is true o e r h = absurd (cc)
 told-is false None e r h = absurd (cc)
 told-is false (Some q) e r h = let same : told.Unmatched q ≡ told.Unmatched r = h in let is : q ≡ r = cc in ap (λ (x : Reason). Some x) is
 
-none-told : (b : Bool) (o : Option Reason) (e : Edit) → IsApplied (cond b told.Repeat (matched o e)) → o ≡ None
+none-told : (b : Bool) (o : Option Reason) (e : DatedEdit) → IsApplied (cond b told.Repeat (matched o e)) → o ≡ None
 none-told true o e h = absurd h
 none-told false None e h = refl
 none-told false (Some q) e h = absurd h
@@ -29,10 +29,10 @@ first-is ((false, q) ∷ cs) r h =
 
 pub first-reason : FirstReason
 first-reason rows l today r h =
-    let o = entry_at rows.entries l.entry in
-    first-is (reasons_on rows l today) r (told-is (is_line_again o l.line) (first_reason (reasons_on rows l today)) (cleared_by l.entry o l.line) r h)
+    let f = line_facts rows l today in
+    first-is (reasons f) r (told-is (is_line_again f.entry f.line) (first_reason (reasons f)) (dated_by f) r h)
 
 pub no-reason : NoReason
 no-reason rows l today h =
-    let o = entry_at rows.entries l.entry in
-    none-hold (reasons_on rows l today) (none-told (is_line_again o l.line) (first_reason (reasons_on rows l today)) (cleared_by l.entry o l.line) h)
+    let f = line_facts rows l today in
+    none-hold (reasons f) (none-told (is_line_again f.entry f.line) (first_reason (reasons f)) (dated_by f) h)

@@ -1,37 +1,36 @@
 -- Forms of a step: edits of sound rows, what they move, and what an accepted ask has passed.
-use Rattle.std.proofs.Common.{◌≡◌, ℕ, ◌+◌, ◌<◌, ◌≤◌, not, Bool, true, false, cond, List, [], ◌∷◌, ◌++◌, length, refl, sym, arith, subst, Option, Some, None, eqb}
-use Rattle.std.specs.Prelude.{nat_lt, is_some, is_none, slice_get}
+use Rattle.std.specs.Prelude.{IsSome, ◌||◌, nat_lt, is_some, is_none, slice_get}
+use Rattle.std.proofs.Common.{◌≡◌, ℕ, ◌+◌, ◌<◌, ◌≤◌, not, ◌&&◌, Bool, true, false, cond, ℤ, pos, negsuc, ap, List, [], ◌∷◌, ◌++◌, length, refl, sym, arith, subst, Option, Some, None, eqb}
 use Rattle.std.proofs.lemmas.Bool.Decides.{nat_tests}
-use Rattle.trust_matter.specs.declared.rows.DepositState.{DepositState}
-use Rattle.trust_matter.specs.declared.rows.DepositState.TheVariants as deposit
-use Rattle.trust_matter.specs.declared.rows.Entry.{Entry}
-use Rattle.trust_matter.specs.declared.rows.Head.{Head}
-use Rattle.trust_matter.specs.declared.rows.Seat.{Seat}
-use Rattle.trust_matter.specs.declared.asks.Ask.{Ask}
-use Rattle.trust_matter.specs.declared.asks.Ask.TheVariants as ask
-use Rattle.trust_matter.specs.declared.asks.Caller.{Caller}
-use Rattle.trust_matter.specs.declared.asks.Caller.TheVariants as caller
-use Rattle.trust_matter.specs.declared.asks.OpenAsk.{OpenAsk}
-use Rattle.trust_matter.specs.declared.edits.Edit.{Edit}
-use Rattle.trust_matter.specs.declared.edits.Edit.TheVariants as edit
-use Rattle.trust_matter.specs.declared.edits.Numbered.{Numbered}
-use Rattle.trust_matter.specs.declared.edits.Opening.{Opening}
-use Rattle.trust_matter.specs.Changes.{IsPlace, changed_by, movement_of, moved_beyond, events_by, AreMoved, IsMovedWithin}
-use Rattle.trust_matter.specs.Conditions.{is_unknown_to, is_opening, is_number, misses, is_held_state}
-use Rattle.trust_matter.specs.Events.{Event, events_of, events_in}
-use Rattle.trust_matter.specs.Facts.{Asked, number_of, other_of}
-use Rattle.trust_matter.specs.Rows.{Rows, entry_at, last_of, next_number, book_day, as_made, role_in}
-use Rattle.trust_matter.specs.Sound.{AreDated, IsBy, IsRising, IsHeaded, Sound}
-use Rattle.trust_matter.specs.Step.{last_after, opening}
-use Rattle.trust_matter.proofs.Days.{dated-later, dated-append, dated-with, not-closed}
-use Rattle.trust_matter.proofs.Editing.{MayEdit}
-use Rattle.trust_matter.proofs.Keeping.{MayAdd, MayTake, sound-append, sound-with}
-use Rattle.trust_matter.proofs.SeatOrder.{order-with, order-without}
-
--- Edits of sound rows, of any entry.
-
-abbrev pub rows-of : Option Head → List Seat → List Entry → Rows
-rows-of head seats es = record { head = head; seats = seats; entries = es }
+use Rattle.matter_rows.specs.declared.deposit.DepositState.{DepositState}
+use Rattle.matter_rows.specs.declared.deposit.DepositState.TheVariants as deposit
+use Rattle.matter_rows.specs.declared.entry.Entry.{Entry}
+use Rattle.matter_rows.specs.declared.head.Head.{Head}
+use Rattle.matter_rows.specs.declared.head.Holder.TheVariants as holder
+use Rattle.matter_rows.specs.declared.seat.Seat.{Seat}
+use Rattle.matter_rows.specs.Events.{moved_beyond, Event, events_of, events_in}
+use Rattle.matter_rows.specs.Rows.{is_number, is_held_state, Rows, is_purged, entry_at, next_number, book_day, as_made, role_in}
+use Rattle.matter_rows.specs.Balances.{ledger, pending, is_settled}
+use Rattle.matter_rows.specs.Sound.{AreDated, IsBy, IsRising, IsHeaded, IsAtRestIfClosed, IsBare, Sound, settlement_day}
+use Rattle.matter_rows.proofs.Days.{dated-later, dated-append, dated-with, not-closed, not-bare, unclosed-bare}
+use Rattle.matter_rows.proofs.Funding.{funded-added, funded-exchanged}
+use Rattle.matter_rows.proofs.Keeping.{MayAdd, MayTake, sound-append, sound-with}
+use Rattle.matter_rows.proofs.SeatOrder.{order-with, order-without}
+use Rattle.matter_parts.specs.declared.edit.Edit.{Edit}
+use Rattle.matter_parts.specs.declared.edit.Edit.TheVariants as edit
+use Rattle.matter_parts.specs.declared.edit.Numbered.{Numbered}
+use Rattle.matter_parts.specs.declared.edit.Opening.{Opening}
+use Rattle.matter_parts.specs.Changes.{changed_by, events_by, IsMovedWithin, last_after}
+use Rattle.matter_parts.proofs.Editing.{backed-none}
+use Rattle.matter_parts.proofs.StepForms.{IsStepOf, MovesWithin, rows-of}
+use Rattle.trust_matter.specs.declared.ask.Ask.{Ask}
+use Rattle.trust_matter.specs.declared.ask.Ask.TheVariants as ask
+use Rattle.trust_matter.specs.declared.ask.Caller.{Caller}
+use Rattle.trust_matter.specs.declared.ask.Caller.TheVariants as caller
+use Rattle.trust_matter.specs.declared.ask.OpenAsk.{OpenAsk}
+use Rattle.trust_matter.specs.Conditions.{is_unknown_to, is_opening, misses, is_zero}
+use Rattle.trust_matter.specs.Facts.{Asked, number_named, other_of}
+use Rattle.trust_matter.specs.Step.{opening}
 
 -- an entry is added, on no day before the last
 pub rows-append : (h : Head) (seats : List Seat) (es : List Entry) (x : Numbered) (last : ℕ) → Sound (rows-of (Some h) seats es) → h.closed ≡ None → MayAdd es x.entry → h.last ≤ book_day x.entry → IsBy last x.entry → IsRising x.entry → Sound (changed_by (edit.Append x) last (rows-of (Some h) seats es))
@@ -39,14 +38,18 @@ rows-append h seats es x last s unclosed may from by rising = record {
   backed = sound-append es x.entry s.backed may;
   seated = s.seated;
   headed = (dated-append h es x.entry last s.headed.0 from by rising, not-closed (record h { last = last }) h.closed (es ++ x.entry ∷ []) unclosed);
+  bare = not-bare h.holder h.closed h.last last seats _ es _ s.bare unclosed;
+  funded = funded-added h.last es x.entry s.backed.named s.funded s.headed.0.by_last may.named from;
 }
 
--- an entry changes, on no day before the last
-pub rows-exchange : (h : Head) (seats : List Seat) (es : List Entry) (x : Numbered) (old : Entry) (last : ℕ) → Sound (rows-of (Some h) seats es) → h.closed ≡ None → MayTake es x.number old x.entry → as_made x.entry ≡ as_made old → h.last ≤ last → IsBy last x.entry → IsRising x.entry → Sound (changed_by (edit.Exchange x) last (rows-of (Some h) seats es))
-rows-exchange h seats es x old last s unclosed may same later by rising = record {
+-- an entry changes, on no day before the last; of a claim that was settled not the day of that
+pub rows-exchange : (h : Head) (seats : List Seat) (es : List Entry) (x : Numbered) (old : Entry) (last : ℕ) → Sound (rows-of (Some h) seats es) → h.closed ≡ None → MayTake es x.number old x.entry → as_made x.entry ≡ as_made old → (is_settled old ≡ true → settlement_day (Some x.entry) ≤ settlement_day (Some old)) → h.last ≤ last → IsBy last x.entry → IsRising x.entry → Sound (changed_by (edit.Exchange x) last (rows-of (Some h) seats es))
+rows-exchange h seats es x old last s unclosed may same settled later by rising = record {
   backed = sound-with es x.number old x.entry s.backed may;
   seated = s.seated;
   headed = (dated-with h es x.number old x.entry last s.headed.0 may.at same later by rising, not-closed (record h { last = last }) h.closed _ unclosed);
+  bare = not-bare h.holder h.closed h.last last seats _ es _ s.bare unclosed;
+  funded = funded-exchanged es x.number old x.entry s.backed.named s.funded may.at same may.named settled;
 }
 
 -- a person takes a seat, or gives it up
@@ -55,6 +58,8 @@ rows-seat h seats es new last s unclosed later = record {
   backed = s.backed;
   seated = order-with seats new s.seated;
   headed = (dated-later h es last s.headed.0 later, not-closed (record h { last = last }) h.closed es unclosed);
+  bare = not-bare h.holder h.closed h.last last seats _ es _ s.bare unclosed;
+  funded = s.funded;
 }
 
 pub rows-unseat : (h : Head) (seats : List Seat) (es : List Entry) (person : List ℕ) (last : ℕ) → Sound (rows-of (Some h) seats es) → h.closed ≡ None → h.last ≤ last → Sound (changed_by (edit.Unseat person) last (rows-of (Some h) seats es))
@@ -62,17 +67,52 @@ rows-unseat h seats es person last s unclosed later = record {
   backed = s.backed;
   seated = order-without seats person s.seated;
   headed = (dated-later h es last s.headed.0 later, not-closed (record h { last = last }) h.closed es unclosed);
+  bare = not-bare h.holder h.closed h.last last seats _ es _ s.bare unclosed;
+  funded = s.funded;
 }
 
+-- the matter is closed
+pub rows-close : (h : Head) (seats : List Seat) (es : List Entry) (day : ℕ) → Sound (rows-of (Some h) seats es) → h.closed ≡ None → h.last ≤ day → ledger es ≡ pos 0 → pending es ≡ pos 0 → Sound (changed_by (edit.Close day) day (rows-of (Some h) seats es))
+rows-close h seats es day s unclosed later empty none_waits =
+    let d = dated-later h es day s.headed.0 later in
+    record {
+      backed = s.backed;
+      seated = s.seated;
+      headed = (
+        record { opened = d.opened; by_last = d.by_last; made = d.made; changed = d.changed },
+        record { empty = empty; none_waits = none_waits; by_close = d.by_last; opened = d.opened; last = omega arith },
+      );
+      bare = unclosed-bare h.holder h.closed (Some day) h.last day seats seats es es s.bare unclosed;
+      funded = s.funded;
+    }
+
+-- the matter is purged, once it was closed
+pub rows-clear : (h : Head) (seats : List Seat) (es : List Entry) (day : ℕ) → Sound (rows-of (Some h) seats es) → IsSome h.closed → h.last ≤ day → Sound (changed_by (edit.Clear day) day (rows-of (Some h) seats es))
+rows-clear h seats es day s closed later =
+    let opened = s.headed.0.opened in
+    record {
+      backed = backed-none;
+      seated = tt;
+      headed = (record { opened = omega (arith, opened, later); by_last = tt; made = tt; changed = tt }, rest h.closed s.headed.1);
+      bare = (closed, (refl, (refl, refl)));
+      funded = tt;
+    }
+  where
+    rest : (c : Option ℕ) → IsAtRestIfClosed h c es → IsAtRestIfClosed (record h { holder = holder.Purged day; last = day }) c []
+    rest None at_rest = tt
+    rest (Some close) at_rest = let opened = at_rest.opened in let last = at_rest.last in record { empty = refl; none_waits = refl; by_close = tt; opened = opened; last = omega (arith, last, later) }
+
 -- the matter is opened
-pub rows-unclosed : (seats : List Seat) (es : List Entry) (o : Opening) (last : ℕ) → Sound (rows-of None seats es) → o.head.opened ≤ o.head.last → o.head.closed ≡ None → Sound (changed_by (edit.Open o) last (rows-of None seats es))
-rows-unclosed seats es o last s opened unclosed =
+pub rows-unclosed : (seats : List Seat) (es : List Entry) (o : Opening) (last : ℕ) → Sound (rows-of None seats es) → o.head.opened ≤ o.head.last → o.head.closed ≡ None → IsBare o.head.holder o.head.closed o.head.last (o.seat ∷ []) es → Sound (changed_by (edit.Open o) last (rows-of None seats es))
+rows-unclosed seats es o last s opened unclosed bare =
     let P : List Entry → Type 0 = λ v. AreDated o.head v in
     let empty : AreDated o.head [] = record { opened = opened; by_last = tt; made = tt; changed = tt } in
     record {
       backed = s.backed;
       seated = (tt, tt);
       headed = (subst P (sym s.headed.1) empty, not-closed o.head o.head.closed es unclosed);
+      bare = bare;
+      funded = s.funded;
     }
 
 -- What an edit moves.
@@ -86,11 +126,6 @@ abbrev pub AreWithin : ℕ → ℕ → List Event → Type 0
 AreWithin from to [] = Unit {0}
 AreWithin from to (e ∷ []) = (from ≤ e.day) × (e.day ≤ to)
 AreWithin from to (e ∷ d ∷ more) = ⊥
-
--- what an edit moves is behind what was moved before, on no day before the first, and on none after the second
-pub record MovesWithin (es : List Entry) (e : Edit) (from to : ℕ) : Type 0 where
-  pub moved : AreMoved es e (movement_of es e)
-  pub dated : IsMovedWithin from to (movement_of es e)
 
 moved-by : (n from to : ℕ) (olds news more : List Event) → news ≡ olds ++ more → AreWithin from to more → news ≡ olds ++ events_by (moved_beyond n olds news)
 moved-by n from to olds news [] is within =
@@ -146,6 +181,7 @@ pub held-is : (s : DepositState) → not (is_held_state s) ≡ false → s ≡ d
 held-is deposit.Held h = refl
 held-is (deposit.Cleared c) h = absurd (cc)
 held-is (deposit.Cancelled day) h = absurd (cc)
+held-is (deposit.Returned r) h = absurd (cc)
 
 -- only the cashier may unclosed a matter; to others one without a head is unknown
 pub head-there : (head : Option Head) (seats : List Seat) (es : List Entry) (c : Caller) (a : Ask) → IsHeaded head seats es → is_unknown_to c head seats a ≡ false → is_opening a ≡ false → is_some head ≡ true
@@ -156,21 +192,9 @@ head-there None seats es (caller.Person p) a headed known other =
     let g : true ≡ false = subst P headed.0 known in
     absurd (cc)
 
--- A step.
-
--- the edit fits, leaves the rows sound, and moves one event in the journal at most, no earlier than the last day
--- before it and no later than the one after it; it is of entry n, which draws on t
-pub record IsStepOf (rows : Rows) (t n : ℕ) (e : Edit) (last : ℕ) : Type 0 where
-  pub place : IsPlace rows e
-  pub sound : Sound (changed_by e last rows)
-  pub not_before : last_of rows.head ≤ last
-  pub seen : last_of (changed_by e last rows).head ≡ last
-  pub moves : MovesWithin rows.entries e (last_of rows.head) last
-  pub may : MayEdit rows.entries t n e
-
 -- the step of an ask
 abbrev pub IsStep : Rows → Asked → Edit → ℕ → Type 0
-IsStep rows a e last = IsStepOf rows (other_of a.ask (entry_at rows.entries (number_of a.ask))) (number_of a.ask) e last
+IsStep rows a e last = IsStepOf rows (other_of a.ask (entry_at rows.entries (number_named a.ask))) (number_named a.ask) e last
 
 abbrev pub asked : Caller → Ask → ℕ → Asked
 asked c a day = record { caller = c; ask = a; day = day }
@@ -184,7 +208,7 @@ step-nothing h seats es a s = record { place = tt; sound = s; not_before = omega
 pub step-unclosed : (seats : List Seat) (es : List Entry) (c : Caller) (o : OpenAsk) (day : ℕ) → Sound (rows-of None seats es) → Stepped None seats es (asked c (ask.OpenMatter o) day) (edit.Open (opening o day))
 step-unclosed seats es c o day s = record {
   place = refl;
-  sound = rows-unclosed seats es (opening o day) day s (omega arith) refl;
+  sound = rows-unclosed seats es (opening o day) day s (omega arith) refl tt;
   not_before = omega arith;
   seen = refl;
   moves = record { moved = refl; dated = tt };
@@ -200,6 +224,42 @@ step-seat h seats es c new day s unclosed later free = record {
   moves = record { moved = refl; dated = tt };
   may = tt;
 }
+
+zero-is : (z : ℤ) → is_zero z ≡ true → z ≡ pos 0
+zero-is (pos n) h = let none : n ≡ 0 = grind (arith, nat_tests) in ap (λ (k : ℕ). pos k) none
+zero-is (negsuc n) h = absurd (cc)
+
+both-zero : (a b : Bool) → (a && b) ≡ true → (a ≡ true) × (b ≡ true)
+both-zero true b h = (refl, h)
+both-zero false b h = absurd (cc)
+
+pub step-close : (h : Head) (seats : List Seat) (es : List Entry) (c : Caller) (day : ℕ) → Sound (rows-of (Some h) seats es) → h.closed ≡ None → h.last ≤ day → not (is_zero (ledger es) && is_zero (pending es)) ≡ false → Stepped (Some h) seats es (asked c ask.CloseMatter day) (edit.Close day)
+step-close h seats es c day s unclosed later empty =
+    let both = both-zero (is_zero (ledger es)) (is_zero (pending es)) (not-false (is_zero (ledger es) && is_zero (pending es)) empty) in
+    record {
+      place = (refl, unclosed);
+      sound = rows-close h seats es day s unclosed later (zero-is (ledger es) both.0) (zero-is (pending es) both.1);
+      not_before = later;
+      seen = refl;
+      moves = record { moved = refl; dated = tt };
+      may = tt;
+    }
+
+or-false : (b : Bool) → (b || false) ≡ false → b ≡ false
+or-false true h = h
+or-false false h = refl
+
+pub step-purge : (h : Head) (seats : List Seat) (es : List Entry) (c : Caller) (day : ℕ) → Sound (rows-of (Some h) seats es) → is_purged (Some h) ≡ false → h.last ≤ day → (is_none h.closed || false) ≡ false → Stepped (Some h) seats es (asked c ask.Purge day) (edit.Clear day)
+step-purge h seats es c day s kept later state =
+    let closed = some-is h.closed (or-false (is_none h.closed) state) in
+    record {
+      place = (closed, kept);
+      sound = rows-clear h seats es day s closed later;
+      not_before = later;
+      seen = refl;
+      moves = record { moved = refl; dated = tt };
+      may = tt;
+    }
 
 pub step-unseat : (h : Head) (seats : List Seat) (es : List Entry) (c : Caller) (person : List ℕ) (day : ℕ) → Sound (rows-of (Some h) seats es) → h.closed ≡ None → h.last ≤ day → is_some (role_in seats person) ≡ true → Stepped (Some h) seats es (asked c (ask.DropSeat person) day) (edit.Unseat person)
 step-unseat h seats es c person day s unclosed later seated = record {

@@ -1,31 +1,46 @@
 -- Sound rows stay sound at every accepted ask.
-use Rattle.std.proofs.Common.{◌≡◌, ℕ, Bool, true, false, cond, List, [], ◌∷◌, length, refl, sym, Option, Some, None}
-use Rattle.std.specs.Prelude.{is_some}
+use Rattle.std.specs.Prelude.{◌&&◌, is_some, nat_lt}
+use Rattle.std.proofs.Common.{◌≡◌, ℕ, Bool, true, false, cond, List, length, refl, sym, Option, Some, None}
 use Rattle.std.proofs.lemmas.Bool.{false≢true}
 use Rattle.trust_base.specs.declared.refusal.Refusal.{Refusal}
-use Rattle.trust_matter.specs.declared.rows.Entry.{Entry}
-use Rattle.trust_matter.specs.declared.rows.Head.{Head}
-use Rattle.trust_matter.specs.declared.rows.Seat.{Seat}
-use Rattle.trust_matter.specs.declared.asks.Ask.{Ask}
-use Rattle.trust_matter.specs.declared.asks.Ask.TheVariants as ask
-use Rattle.trust_matter.specs.declared.asks.Caller.{Caller}
-use Rattle.trust_matter.specs.declared.edits.Edit.TheVariants as edit
+use Rattle.matter_rows.specs.declared.claim.Against.{Against}
+use Rattle.matter_rows.specs.declared.claim.Against.TheVariants as against
+use Rattle.matter_rows.specs.declared.entry.Entry.{Entry}
+use Rattle.matter_rows.specs.declared.head.Head.{Head}
+use Rattle.matter_rows.specs.declared.seat.Seat.{Seat}
+use Rattle.matter_rows.specs.Rows.{Rows, entry_at, role_in}
+use Rattle.matter_rows.specs.Sound.{Sound}
+use Rattle.matter_parts.specs.declared.edit.Edit.TheVariants as edit
+use Rattle.matter_parts.specs.Changes.{last_after}
+use Rattle.matter_parts.proofs.StepForms.{rows-of}
+use Rattle.trust_matter.specs.declared.ask.Ask.{Ask}
+use Rattle.trust_matter.specs.declared.ask.Ask.TheVariants as ask
+use Rattle.trust_matter.specs.declared.ask.Caller.{Caller}
 use Rattle.trust_matter.specs.Conditions.{is_opening, is_repeat, comes_again}
-use Rattle.trust_matter.specs.Facts.{Asked, facts_of, number_of}
+use Rattle.trust_matter.specs.Facts.{Asked, facts_of, number_named}
 use Rattle.trust_matter.specs.Laws.{SoundForEver}
-use Rattle.trust_matter.specs.Rows.{Rows, entry_at, role_in}
-use Rattle.trust_matter.specs.Sound.{Sound}
-use Rattle.trust_matter.specs.Step.{HasAmount, first, conditions, early_conditions, refusal, edit_on, edit_of, last_after, after}
+use Rattle.trust_matter.specs.Policy.{changes_matter, rule_against}
+use Rattle.trust_matter.specs.Step.{HasAmount, first, conditions, early_conditions, refusal, edit_on, edit_of, after}
 use Rattle.trust_matter.proofs.Table.{Passes, passes}
-use Rattle.trust_matter.proofs.StepForms.{rows-of, asked, IsStep, Stepped, head-there, none-is, some-is, not-before, next-is, step-nothing, step-unclosed, step-seat, step-unseat}
+use Rattle.trust_matter.proofs.StepForms.{asked, IsStep, Stepped, head-there, none-is, some-is, not-before, next-is, step-nothing, step-unclosed, step-seat, step-unseat, step-close, step-purge}
 use Rattle.trust_matter.proofs.DepositSteps.{step-deposit, step-cancel}
 use Rattle.trust_matter.proofs.PaymentSteps.{step-propose, step-approve, step-decline, step-void}
 use Rattle.trust_matter.proofs.ClaimSteps.{step-fee, step-claim, step-offer, step-accept, step-award}
 
+-- A claim changes the matter, whatever it is on.
+
+claim-unclosed : (on : Against) (closed : Bool) → (((changes_matter (rule_against on) && true) && true) && closed) ≡ false → closed ≡ false
+claim-unclosed (against.General who) closed h = h
+claim-unclosed (against.Fee k) closed h = h
+
+claim-forwards : (on : Against) (back : Bool) → (changes_matter (rule_against on) && back) ≡ false → back ≡ false
+claim-forwards (against.General who) back h = h
+claim-forwards (against.Fee k) back h = h
+
 -- All asks.
 
 -- what passes the table
-step-made : (head : Option Head) (seats : List Seat) (es : List Entry) (c : Caller) (a : Ask) (day : ℕ) → Sound (rows-of head seats es) → HasAmount a → Passes (facts_of (rows-of head seats es) a) (asked c a day) → Stepped head seats es (asked c a day) (edit_of a (entry_at es (number_of a)) day)
+step-made : (head : Option Head) (seats : List Seat) (es : List Entry) (c : Caller) (a : Ask) (day : ℕ) → Sound (rows-of head seats es) → HasAmount a → Passes (facts_of (rows-of head seats es) a) (asked c a day) → Stepped head seats es (asked c a day) (edit_of a (entry_at es (number_named a)) day)
 step-made None seats es c (ask.OpenMatter o) day s amount p = step-unclosed seats es c o day s
 step-made None seats es c (ask.AddSeat new) day s amount p = absurd (let h = head-there None seats es c (ask.AddSeat new) s.headed p.seat refl in cc)
 step-made None seats es c (ask.DropSeat q) day s amount p = absurd (let h = head-there None seats es c (ask.DropSeat q) s.headed p.seat refl in cc)
@@ -40,6 +55,8 @@ step-made None seats es c (ask.RaiseClaim a) day s amount p = absurd (let h = he
 step-made None seats es c (ask.Offer a) day s amount p = absurd (let h = head-there None seats es c (ask.Offer a) s.headed p.seat refl in cc)
 step-made None seats es c (ask.Accept a) day s amount p = absurd (let h = head-there None seats es c (ask.Accept a) s.headed p.seat refl in cc)
 step-made None seats es c (ask.Award a) day s amount p = absurd (let h = head-there None seats es c (ask.Award a) s.headed p.seat refl in cc)
+step-made None seats es c ask.CloseMatter day s amount p = absurd (let h = head-there None seats es c ask.CloseMatter s.headed p.seat refl in cc)
+step-made None seats es c ask.Purge day s amount p = absurd (let h = head-there None seats es c ask.Purge s.headed p.seat refl in cc)
 step-made None seats es c ask.Show day s amount p = absurd (let h = head-there None seats es c ask.Show s.headed p.seat refl in cc)
 step-made None seats es c (ask.ShowEntry n) day s amount p = absurd (let h = head-there None seats es c (ask.ShowEntry n) s.headed p.seat refl in cc)
 step-made (Some h) seats es c (ask.OpenMatter o) day s amount p = absurd (let g = p.not_opened in false≢true (sym g))
@@ -56,10 +73,13 @@ step-made (Some h) seats es c (ask.Approve n) day s amount p = step-approve h se
 step-made (Some h) seats es c (ask.Decline n) day s amount p = step-decline h seats es c n day s (none-is h.closed p.not_closed) (not-before day h.last p.forwards) p
 step-made (Some h) seats es c (ask.VoidPayment n) day s amount p = step-void h seats es c n day s (none-is h.closed p.not_closed) (not-before day h.last p.forwards) p
 step-made (Some h) seats es c (ask.EarnFee a) day s amount p = step-fee h seats es c a day s amount (none-is h.closed p.not_closed) (not-before day h.last p.forwards) p
-step-made (Some h) seats es c (ask.RaiseClaim a) day s amount p = step-claim h seats es c a day s amount (none-is h.closed p.not_closed) (not-before day h.last p.forwards) p
+step-made (Some h) seats es c (ask.RaiseClaim a) day s amount p =
+    step-claim h seats es c a day s amount (none-is h.closed (claim-unclosed a.against (is_some h.closed) p.not_closed)) (not-before day h.last (claim-forwards a.against (nat_lt day h.last) p.forwards)) p
 step-made (Some h) seats es c (ask.Offer a) day s amount p = step-offer h seats es c a day s (none-is h.closed p.not_closed) (not-before day h.last p.forwards) p
 step-made (Some h) seats es c (ask.Accept a) day s amount p = step-accept h seats es c a day s (none-is h.closed p.not_closed) (not-before day h.last p.forwards) p
 step-made (Some h) seats es c (ask.Award a) day s amount p = step-award h seats es c a day s (none-is h.closed p.not_closed) (not-before day h.last p.forwards) p
+step-made (Some h) seats es c ask.CloseMatter day s amount p = step-close h seats es c day s (none-is h.closed p.not_closed) (not-before day h.last p.forwards) p.empty
+step-made (Some h) seats es c ask.Purge day s amount p = step-purge h seats es c day s p.kept (not-before day h.last p.forwards) p.state
 step-made (Some h) seats es c ask.Show day s amount p = step-nothing h seats es (asked c ask.Show day) s
 step-made (Some h) seats es c (ask.ShowEntry n) day s amount p = step-nothing h seats es (asked c (ask.ShowEntry n) day) s
 
@@ -78,6 +98,8 @@ again-other (ask.RaiseClaim a) e h = refl
 again-other (ask.Offer a) e h = refl
 again-other (ask.Accept a) e h = refl
 again-other (ask.Award a) e h = refl
+again-other ask.CloseMatter e h = refl
+again-other ask.Purge e h = refl
 again-other ask.Show e h = refl
 again-other (ask.ShowEntry n) e h = refl
 
@@ -85,14 +107,14 @@ step-again : (head : Option Head) (seats : List Seat) (es : List Entry) (a : Ask
 step-again None seats es a s there = absurd (cc)
 step-again (Some h) seats es a s there = step-nothing h seats es a s
 
-known : (b x : Bool) (r q : Refusal) → first ((b, r) ∷ (x, q) ∷ []) ≡ None → b ≡ false
-known true x r q h = absurd (cc)
-known false x r q h = refl
+known : (b : Bool) (r : Refusal) (rest : Option Refusal) → cond b (Some r) rest ≡ None → b ≡ false
+known true r rest h = absurd (cc)
+known false r rest h = refl
 
-step-either : (rows : Rows) (a : Asked) (b : Bool) → is_repeat (facts_of rows a.ask) a ≡ b → Sound rows → HasAmount a.ask → first (cond b (early_conditions (facts_of rows a.ask) a) (conditions (facts_of rows a.ask) a)) ≡ None → Stepped rows.head rows.seats rows.entries a (cond b edit.Nothing (edit_of a.ask (entry_at rows.entries (number_of a.ask)) a.day))
+step-either : (rows : Rows) (a : Asked) (b : Bool) → is_repeat (facts_of rows a.ask) a ≡ b → Sound rows → HasAmount a.ask → first (cond b (early_conditions (facts_of rows a.ask) a) (conditions (facts_of rows a.ask) a)) ≡ None → Stepped rows.head rows.seats rows.entries a (cond b edit.Nothing (edit_of a.ask (entry_at rows.entries (number_named a.ask)) a.day))
 step-either rows a true is s amount none =
     step-again rows.head rows.seats rows.entries a s
-    (head-there rows.head rows.seats rows.entries a.caller a.ask s.headed (known _ _ _ _ none) (again-other a.ask (entry_at rows.entries (number_of a.ask)) is))
+    (head-there rows.head rows.seats rows.entries a.caller a.ask s.headed (known _ _ _ none) (again-other a.ask (entry_at rows.entries (number_named a.ask)) is))
 step-either rows a false is s amount none =
     step-made rows.head rows.seats rows.entries a.caller a.ask a.day s amount (passes (facts_of rows a.ask) a none)
 

@@ -5,7 +5,7 @@ use Rattle.std.proofs.lemmas.Bool.{false≢true}
 use Rattle.trust_base.specs.declared.refusal.Refusal.{Refusal}
 use Rattle.trust_base.specs.Refusals.{number_of}
 use Rattle.trust_matter.specs.Facts.{Facts, Asked}
-use Rattle.trust_matter.specs.Conditions.{has_no_seat, is_not_allowed, is_opened_already, is_closed, goes_backwards, is_not_next, is_not_there, is_of_another_kind, is_in_another_state, is_to_cash, is_to_wrong_payee, is_bad_split, is_short, has_a_seat_already, has_none_to_drop, would_lose_its_last_lawyer, is_repeat}
+use Rattle.trust_matter.specs.Conditions.{has_no_seat, was_purged, is_not_allowed, is_opened_already, is_closed, goes_backwards, is_not_next, is_not_there, is_of_another_kind, is_in_another_state, is_to_cash, is_to_wrong_payee, is_bad_split, is_short, has_a_seat_already, has_none_to_drop, would_lose_its_last_lawyer, is_not_empty, is_too_early, is_repeat}
 use Rattle.trust_matter.specs.Step.{first, conditions, early_conditions, later_conditions}
 use Rattle.trust_matter.specs.Laws.{Stands, LeastRefusal, NoneHolds as NoRefusal}
 
@@ -27,6 +27,7 @@ none_hold ((false, r) ∷ cs) h = (refl, none_hold cs h)
 -- no condition of the table holds
 pub record Passes (f : Facts) (a : Asked) : Type 0 where
   pub seat : has_no_seat f a ≡ false
+  pub kept : was_purged f a ≡ false
   pub allowed : is_not_allowed f a ≡ false
   pub not_opened : is_opened_already f a ≡ false
   pub not_closed : is_closed f a ≡ false
@@ -42,14 +43,17 @@ pub record Passes (f : Facts) (a : Asked) : Type 0 where
   pub seat_free : has_a_seat_already f a ≡ false
   pub seat_taken : has_none_to_drop f a ≡ false
   pub lawyer_left : would_lose_its_last_lawyer f a ≡ false
+  pub empty : is_not_empty f a ≡ false
+  pub not_early : is_too_early f a ≡ false
 
 pub passes : (f : Facts) (a : Asked) → first (conditions f a) ≡ None → Passes f a
 passes f a h =
     let n : NoneHolds (conditions f a) = none_hold (conditions f a) h in
-    let l : NoneHolds (later_conditions f a) = n.1.1 in
+    let l : NoneHolds (later_conditions f a) = n.1.1.1 in
     record {
       seat = n.0;
-      allowed = n.1.0;
+      kept = n.1.0;
+      allowed = n.1.1.0;
       not_opened = l.0;
       not_closed = l.1.0;
       forwards = l.1.1.0;
@@ -64,6 +68,8 @@ passes f a h =
       seat_free = l.1.1.1.1.1.1.1.1.1.1.1.0;
       seat_taken = l.1.1.1.1.1.1.1.1.1.1.1.1.0;
       lawyer_left = l.1.1.1.1.1.1.1.1.1.1.1.1.1.0;
+      empty = l.1.1.1.1.1.1.1.1.1.1.1.1.1.1.0;
+      not_early = l.1.1.1.1.1.1.1.1.1.1.1.1.1.1.1.0;
     }
 
 pub first_stands : (cs : List (Bool × Refusal)) (r : Refusal) → first cs ≡ Some r → Stands cs r

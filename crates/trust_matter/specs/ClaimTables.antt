@@ -3,8 +3,8 @@
 use Rattle.std.specs.Prelude.{ℕ, Bool, ◌&&◌, List, [], ◌∷◌, Option, is_none}
 use Rattle.trust_base.specs.declared.refusal.Refusal.{Refusal}
 use Rattle.trust_base.specs.declared.refusal.Refusal.TheVariants as refusals
-use Rattle.trust_matter.specs.declared.rows.Against.{Against}
-use Rattle.trust_matter.specs.declared.rows.Entry.{Entry}
+use Rattle.matter_rows.specs.declared.claim.Against.{Against}
+use Rattle.matter_rows.specs.declared.entry.Entry.{Entry}
 use Rattle.trust_matter.specs.Conditions.{is_on_fee, is_no_fee, is_cash_claimant, is_no_claim, is_claim_settled, exceeds_claim}
 
 -- of the fee, or of the claimant, that a claim names

@@ -1,36 +1,31 @@
 -- When an ask is refused: one test for each refusal, told by its name.
-use Rattle.std.specs.Prelude.{ℕ, Bool, true, false, not, ◌&&◌, ◌==◌, nat_lt, List, Option, Some, None, is_some, is_none, ℤ, pos, negsuc}
-use Rattle.std.specs.List.{list_any}
+use Rattle.std.specs.Prelude.{ℕ, Bool, true, false, not, ◌&&◌, ◌||◌, ◌==◌, nat_lt, List, Option, Some, None, is_some, is_none, ℤ, pos, negsuc}
 use Rattle.std.specs.Str.{bytes_eq}
-use Rattle.trust_matter.specs.declared.rows.Role.{Role}
-use Rattle.trust_matter.specs.declared.rows.Role.TheVariants as role
-use Rattle.trust_matter.specs.declared.rows.Head.{Head}
-use Rattle.trust_matter.specs.declared.rows.Seat.{Seat}
-use Rattle.trust_matter.specs.declared.rows.DepositState.{DepositState}
-use Rattle.trust_matter.specs.declared.rows.DepositState.TheVariants as deposit
-use Rattle.trust_matter.specs.declared.rows.PaymentState.{PaymentState}
-use Rattle.trust_matter.specs.declared.rows.PaymentState.TheVariants as payment
-use Rattle.trust_matter.specs.declared.rows.ClaimState.{ClaimState}
-use Rattle.trust_matter.specs.declared.rows.ClaimState.TheVariants as claim
-use Rattle.trust_matter.specs.declared.rows.Fund.{Fund}
-use Rattle.trust_matter.specs.declared.rows.Fund.TheVariants as fund
-use Rattle.trust_matter.specs.declared.rows.Against.{Against}
-use Rattle.trust_matter.specs.declared.rows.Against.TheVariants as against
-use Rattle.trust_matter.specs.declared.rows.Entry.{Entry}
-use Rattle.trust_matter.specs.declared.rows.Entry.TheVariants as entry
-use Rattle.trust_matter.specs.declared.asks.DepositAsk.{DepositAsk}
-use Rattle.trust_matter.specs.declared.asks.PaymentAsk.{PaymentAsk}
-use Rattle.trust_matter.specs.declared.asks.FeeAsk.{FeeAsk}
-use Rattle.trust_matter.specs.declared.asks.ClaimAsk.{ClaimAsk}
-use Rattle.trust_matter.specs.declared.asks.Caller.{Caller}
-use Rattle.trust_matter.specs.declared.asks.Caller.TheVariants as caller
-use Rattle.trust_matter.specs.declared.asks.Ask.{Ask}
-use Rattle.trust_matter.specs.declared.asks.Ask.TheVariants as ask
 use Rattle.trust_base.specs.Names.{is_cash_label, is_firm_label}
-use Rattle.trust_matter.specs.Shares.{has_settled}
-use Rattle.trust_matter.specs.Balances.{is_fee, is_general_claim}
-use Rattle.trust_matter.specs.Rows.{role_in, last_of, closed_on, next_number}
-use Rattle.trust_matter.specs.Policy.{rule_of, allows}
+use Rattle.trust_values.specs.Retention.{first_purge_day}
+use Rattle.matter_rows.specs.declared.seat.Role.{Role}
+use Rattle.matter_rows.specs.declared.head.Head.{Head}
+use Rattle.matter_rows.specs.declared.seat.Seat.{Seat}
+use Rattle.matter_rows.specs.declared.claim.ClaimState.{ClaimState}
+use Rattle.matter_rows.specs.declared.claim.ClaimState.TheVariants as claim
+use Rattle.matter_rows.specs.declared.payment.Fund.{Fund}
+use Rattle.matter_rows.specs.declared.payment.Fund.TheVariants as fund
+use Rattle.matter_rows.specs.declared.claim.Against.{Against}
+use Rattle.matter_rows.specs.declared.claim.Against.TheVariants as against
+use Rattle.matter_rows.specs.declared.entry.Entry.{Entry}
+use Rattle.matter_rows.specs.declared.entry.Entry.TheVariants as entry
+use Rattle.matter_rows.specs.Shares.{has_settled}
+use Rattle.matter_rows.specs.Balances.{is_fee, is_general_claim, exceeds, fund_left}
+use Rattle.matter_rows.specs.Rows.{is_purged, role_in, last_of, closed_on, next_number, has_other_lawyer, is_held_state, is_issued_state, is_lawyer, is_number, is_proposed_state, is_same_against, is_same_fund}
+use Rattle.trust_matter.specs.declared.deposit.DepositAsk.{DepositAsk}
+use Rattle.trust_matter.specs.declared.payment.PaymentAsk.{PaymentAsk}
+use Rattle.trust_matter.specs.declared.fee.FeeAsk.{FeeAsk}
+use Rattle.trust_matter.specs.declared.claim.ClaimAsk.{ClaimAsk}
+use Rattle.trust_matter.specs.declared.ask.Caller.{Caller}
+use Rattle.trust_matter.specs.declared.ask.Caller.TheVariants as caller
+use Rattle.trust_matter.specs.declared.ask.Ask.{Ask}
+use Rattle.trust_matter.specs.declared.ask.Ask.TheVariants as ask
+use Rattle.trust_matter.specs.Policy.{rule_of, changes_matter, allows}
 use Rattle.trust_matter.specs.Facts.{Facts, Asked}
 
 -- What kind of ask it is.
@@ -39,11 +34,13 @@ abbrev pub is_opening : Ask → Bool
 is_opening (ask.OpenMatter a) = true
 is_opening _ = false
 
--- all asks but those that only read
+abbrev pub is_purging : Ask → Bool
+is_purging ask.Purge = true
+is_purging _ = false
+
+-- the ask comes under a rule by which a matter changes
 abbrev pub is_changing : Ask → Bool
-is_changing ask.Show = false
-is_changing (ask.ShowEntry n) = false
-is_changing _ = true
+is_changing a = changes_matter (rule_of a)
 
 -- the number of the entry that the ask makes
 abbrev pub number_made : Ask → Option ℕ
@@ -64,6 +61,10 @@ is_unknown_to (caller.Person p) head seats ask = is_none (role_in seats p)
 abbrev pub has_no_seat : Facts → Asked → Bool
 has_no_seat f a = is_unknown_to a.caller f.head f.seats a.ask
 
+-- the matter was purged
+abbrev pub was_purged : Facts → Asked → Bool
+was_purged f a = is_purged f.head
+
 -- the policy says no
 abbrev pub is_not_allowed : Facts → Asked → Bool
 is_not_allowed f a = not (allows f.seats a.caller (rule_of a.ask))
@@ -72,17 +73,13 @@ is_not_allowed f a = not (allows f.seats a.caller (rule_of a.ask))
 abbrev pub is_opened_already : Facts → Asked → Bool
 is_opened_already f a = is_opening a.ask && is_some f.head
 
--- a change of a matter that was closed
+-- a change of a matter that was closed, other than purging it
 abbrev pub is_closed : Facts → Asked → Bool
-is_closed f a = is_changing a.ask && not (is_opening a.ask) && is_some (closed_on f.head)
+is_closed f a = is_changing a.ask && not (is_opening a.ask) && not (is_purging a.ask) && is_some (closed_on f.head)
 
 -- a change on a day before the last one
 abbrev pub goes_backwards : Facts → Asked → Bool
 goes_backwards f a = is_changing a.ask && nat_lt a.day (last_of f.head)
-
-abbrev pub is_number : Option ℕ → ℕ → Bool
-is_number None n = false
-is_number (Some next) n = next == n
 
 abbrev pub misses : Option ℕ → Option ℕ → Bool
 misses next None = false
@@ -171,31 +168,12 @@ is_of_another_kind_for _ e other = false
 abbrev pub is_of_another_kind : Facts → Asked → Bool
 is_of_another_kind f a = is_of_another_kind_for a.ask f.entry f.other
 
-abbrev pub is_held_state : DepositState → Bool
-is_held_state deposit.Held = true
-is_held_state (deposit.Cleared c) = false
-is_held_state (deposit.Cancelled day) = false
-
 abbrev pub is_deposit_not_held : Option Entry → Bool
 is_deposit_not_held None = false
 is_deposit_not_held (Some (entry.Deposit d)) = not (is_held_state d.state)
 is_deposit_not_held (Some (entry.Payment p)) = false
 is_deposit_not_held (Some (entry.Fee f)) = false
 is_deposit_not_held (Some (entry.Claim c)) = false
-
-abbrev pub is_proposed_state : PaymentState → Bool
-is_proposed_state payment.Proposed = true
-is_proposed_state payment.Declined = false
-is_proposed_state (payment.Issued day) = false
-is_proposed_state (payment.Cleared c) = false
-is_proposed_state (payment.Voided v) = false
-
-abbrev pub is_issued_state : PaymentState → Bool
-is_issued_state payment.Proposed = false
-is_issued_state payment.Declined = false
-is_issued_state (payment.Issued day) = true
-is_issued_state (payment.Cleared c) = false
-is_issued_state (payment.Voided v) = false
 
 abbrev pub is_payment_not_proposed : Option Entry → Bool
 is_payment_not_proposed None = false
@@ -256,8 +234,13 @@ is_in_another_state_for (ask.Accept a) e other = is_claim_without_offer e
 is_in_another_state_for (ask.Award a) e other = is_claim_settled e
 is_in_another_state_for _ e other = false
 
+-- a matter is purged once it was closed
+abbrev pub is_not_yet_closed_for : Ask → Option Head → Bool
+is_not_yet_closed_for ask.Purge head = is_none (closed_on head)
+is_not_yet_closed_for _ head = false
+
 abbrev pub is_in_another_state : Facts → Asked → Bool
-is_in_another_state f a = is_in_another_state_for a.ask f.entry f.other
+is_in_another_state f a = is_not_yet_closed_for a.ask f.head || is_in_another_state_for a.ask f.entry f.other
 
 -- Who is paid.
 
@@ -331,17 +314,6 @@ is_bad_split_for _ e = false
 abbrev pub is_bad_split : Facts → Asked → Bool
 is_bad_split f a = is_bad_split_for a.ask f.entry
 
--- the amount exceeds what is left
-abbrev pub exceeds : ℕ → ℤ → Bool
-exceeds amount (pos n) = nat_lt n amount
-exceeds amount (negsuc n) = true
-
--- what is left of a fund: what is available, or what is left of the fee or claim
-abbrev pub fund_left : Fund → ℤ → ℤ → ℤ
-fund_left fund.General available left = available
-fund_left (fund.Fee k) available left = left
-fund_left (fund.Claim k) available left = left
-
 abbrev pub against_left : Against → ℤ → ℤ → ℤ
 against_left (against.General claimant) available left = available
 against_left (against.Fee k) available left = left
@@ -393,17 +365,9 @@ has_none_for _ seats = false
 abbrev pub has_none_to_drop : Facts → Asked → Bool
 has_none_to_drop f a = has_none_for a.ask f.seats
 
-abbrev pub is_lawyer : Role → Bool
-is_lawyer role.Client = false
-is_lawyer role.Lawyer = true
-
 abbrev pub is_lawyers : Option Role → Bool
 is_lawyers None = false
 is_lawyers (Some r) = is_lawyer r
-
--- another person has a lawyer's seat
-abbrev pub has_other_lawyer : List Seat → List ℕ → Bool
-has_other_lawyer seats person = list_any (λ s. not (bytes_eq s.person person) && is_lawyer s.role) seats
 
 -- the seat is a lawyer's, and no other is
 abbrev pub is_last_lawyers : Ask → List Seat → Bool
@@ -413,28 +377,44 @@ is_last_lawyers _ seats = false
 abbrev pub would_lose_its_last_lawyer : Facts → Asked → Bool
 would_lose_its_last_lawyer f a = is_last_lawyers a.ask f.seats
 
+-- What is left.
+
+abbrev pub is_closing : Ask → Bool
+is_closing ask.CloseMatter = true
+is_closing _ = false
+
+abbrev pub is_zero : ℤ → Bool
+is_zero (pos n) = n == 0
+is_zero (negsuc n) = false
+
+-- a matter to be closed has money in its ledger, or a payment proposed or issued
+abbrev pub is_not_empty : Facts → Asked → Bool
+is_not_empty f a = is_closing a.ask && not (is_zero f.ledger && is_zero f.pending)
+
+-- When it may be purged.
+
+-- the first day on which a matter may be purged that was closed on a day, 0 for one that was not closed
+abbrev pub purge_day : Option ℕ → ℕ
+purge_day None = 0
+purge_day (Some close) = first_purge_day close
+
+-- a matter is to be purged while its records must be kept
+abbrev pub is_too_early : Facts → Asked → Bool
+is_too_early f a = is_purging a.ask && nat_lt a.day (purge_day (closed_on f.head))
+
 -- Whether the ask comes again.
 
 -- the deposit has the asked fields
 abbrev pub is_as_asked : Option Entry → DepositAsk → Bool
-is_as_asked (Some (entry.Deposit d)) a = d.amount == a.amount && bytes_eq d.source a.source && bytes_eq d.description a.description
+is_as_asked (Some (entry.Deposit d)) a =
+    d.amount == a.amount && bytes_eq d.source a.source && bytes_eq d.description a.description
 is_as_asked _ a = false
-
-abbrev pub is_same_fund : Fund → Fund → Bool
-is_same_fund fund.General fund.General = true
-is_same_fund fund.General (fund.Fee k) = false
-is_same_fund fund.General (fund.Claim k) = false
-is_same_fund (fund.Fee j) fund.General = false
-is_same_fund (fund.Fee j) (fund.Fee k) = j == k
-is_same_fund (fund.Fee j) (fund.Claim k) = false
-is_same_fund (fund.Claim j) fund.General = false
-is_same_fund (fund.Claim j) (fund.Fee k) = false
-is_same_fund (fund.Claim j) (fund.Claim k) = j == k
 
 -- the payment has the asked fields
 abbrev pub is_payment_asked : Option Entry → PaymentAsk → Bool
 is_payment_asked (Some (entry.Payment p)) a =
-    p.amount == a.amount && is_same_fund p.fund a.fund && bytes_eq p.payee a.payee && bytes_eq p.purpose a.purpose && bytes_eq p.instrument a.instrument
+    p.amount == a.amount && is_same_fund p.fund a.fund && bytes_eq p.payee a.payee && bytes_eq p.purpose a.purpose
+    && bytes_eq p.instrument a.instrument
 is_payment_asked _ a = false
 
 -- the fee has the asked fields
@@ -442,15 +422,10 @@ abbrev pub is_fee_asked : Option Entry → FeeAsk → Bool
 is_fee_asked (Some (entry.Fee f)) a = f.amount == a.amount && bytes_eq f.description a.description
 is_fee_asked _ a = false
 
-abbrev pub is_same_against : Against → Against → Bool
-is_same_against (against.General c) (against.General d) = bytes_eq c d
-is_same_against (against.General c) (against.Fee k) = false
-is_same_against (against.Fee j) (against.General d) = false
-is_same_against (against.Fee j) (against.Fee k) = j == k
-
 -- the claim has the asked fields
 abbrev pub is_claim_asked : Option Entry → ClaimAsk → Bool
-is_claim_asked (Some (entry.Claim c)) a = c.amount == a.amount && is_same_against c.against a.against && bytes_eq c.reason a.reason
+is_claim_asked (Some (entry.Claim c)) a =
+    c.amount == a.amount && is_same_against c.against a.against && bytes_eq c.reason a.reason
 is_claim_asked _ a = false
 
 abbrev pub comes_again : Ask → Option Entry → Bool

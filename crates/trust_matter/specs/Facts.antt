@@ -1,14 +1,14 @@
 -- What an ask is decided on.
-use Rattle.std.specs.Prelude.{ℕ, List, length, ℤ, pos, Option, Some, None}
-use Rattle.trust_matter.specs.declared.rows.Head.{Head}
-use Rattle.trust_matter.specs.declared.rows.Seat.{Seat}
-use Rattle.trust_matter.specs.declared.rows.Entry.{Entry}
-use Rattle.trust_matter.specs.declared.asks.Caller.{Caller}
-use Rattle.trust_matter.specs.declared.asks.Ask.{Ask}
-use Rattle.trust_matter.specs.declared.asks.Ask.TheVariants as ask
-use Rattle.trust_matter.specs.Rows.{Rows, entry_at}
-use Rattle.trust_matter.specs.Shares.{target, fund_no, against_no}
-use Rattle.trust_matter.specs.Balances.{available, ledger, pending, left_of}
+use Rattle.std.specs.Prelude.{ℕ, List, length, ℤ, Option}
+use Rattle.matter_rows.specs.declared.head.Head.{Head}
+use Rattle.matter_rows.specs.declared.seat.Seat.{Seat}
+use Rattle.matter_rows.specs.declared.entry.Entry.{Entry}
+use Rattle.matter_rows.specs.Rows.{Rows, entry_at}
+use Rattle.matter_rows.specs.Shares.{fund_no, against_no, target_in}
+use Rattle.matter_rows.specs.Balances.{available, ledger, pending, left_in}
+use Rattle.trust_matter.specs.declared.ask.Caller.{Caller}
+use Rattle.trust_matter.specs.declared.ask.Ask.{Ask}
+use Rattle.trust_matter.specs.declared.ask.Ask.TheVariants as ask
 
 -- who asks what, on which business day
 pub record Asked : Type 0 where
@@ -18,8 +18,7 @@ pub record Asked : Type 0 where
 
 -- the head and the seats; how many entries there are, what is available, the ledger and the number of
 -- payments proposed or issued; the entry whose number the ask has; the fee or claim that the ask, or else
--- this entry, names, with what is left of it; no condition reads the ledger and the number of payments yet, which
--- are for the closing of a matter
+-- this entry, names, with what is left of it
 pub record Facts : Type 0 where
   pub head : Option Head
   pub seats : List Seat
@@ -32,28 +31,25 @@ pub record Facts : Type 0 where
   pub left : ℤ
 
 -- the entry's number in an ask, 0 for none
-abbrev pub number_of : Ask → ℕ
-number_of (ask.OpenMatter a) = 0
-number_of (ask.AddSeat s) = 0
-number_of (ask.DropSeat p) = 0
-number_of (ask.Deposit a) = a.number
-number_of (ask.CancelDeposit n) = n
-number_of (ask.Propose a) = a.number
-number_of (ask.Approve n) = n
-number_of (ask.Decline n) = n
-number_of (ask.VoidPayment n) = n
-number_of (ask.EarnFee a) = a.number
-number_of (ask.RaiseClaim a) = a.number
-number_of (ask.Offer a) = a.number
-number_of (ask.Accept a) = a.number
-number_of (ask.Award a) = a.number
-number_of ask.Show = 0
-number_of (ask.ShowEntry n) = n
-
--- the number of the entry that an entry draws on, 0 for none
-abbrev pub target_in : Option Entry → ℕ
-target_in None = 0
-target_in (Some e) = target e
+abbrev pub number_named : Ask → ℕ
+number_named (ask.OpenMatter a) = 0
+number_named (ask.AddSeat s) = 0
+number_named (ask.DropSeat p) = 0
+number_named (ask.Deposit a) = a.number
+number_named (ask.CancelDeposit n) = n
+number_named (ask.Propose a) = a.number
+number_named (ask.Approve n) = n
+number_named (ask.Decline n) = n
+number_named (ask.VoidPayment n) = n
+number_named (ask.EarnFee a) = a.number
+number_named (ask.RaiseClaim a) = a.number
+number_named (ask.Offer a) = a.number
+number_named (ask.Accept a) = a.number
+number_named (ask.Award a) = a.number
+number_named ask.CloseMatter = 0
+number_named ask.Purge = 0
+number_named ask.Show = 0
+number_named (ask.ShowEntry n) = n
 
 -- the number of the fee or claim that the ask itself names, 0 for none
 abbrev pub fund_named : Ask → ℕ
@@ -67,15 +63,10 @@ other_of (ask.Propose a) e = fund_no a.fund
 other_of (ask.RaiseClaim a) e = against_no a.against
 other_of _ e = target_in e
 
--- what is left of an entry that may not be there
-abbrev pub left_in : List Entry → ℕ → Option Entry → ℤ
-left_in es n None = pos 0
-left_in es n (Some e) = left_of es n e
-
 -- the facts by the rows, with all sums added up anew
 abbrev pub facts_of : Rows → Ask → Facts
 facts_of rows ask =
-    let entry = entry_at rows.entries (number_of ask) in
+    let entry = entry_at rows.entries (number_named ask) in
     let other = other_of ask entry in
     record {
       head = rows.head;

@@ -1,20 +1,20 @@
 -- Laws over the definitions.
-use Rattle.std.specs.Prelude.{◌≡◌, ℕ, ◌≤◌, ◌<◌, ◌⊎◌, Bool, true, false, List, [], ◌∷◌, ◌++◌, map, length, pos, ◌+ℤ◌, ◌≤ℤ◌, Option, Some, None, IsSome}
+use Rattle.std.specs.Prelude.{◌≡◌, ℕ, ◌≤◌, ◌<◌, ◌⊎◌, Bool, true, false, List, [], ◌∷◌, ◌++◌, map, length, ◌+ℤ◌, ◌≤ℤ◌, Option, Some, None, IsSome}
 use Rattle.std.specs.List.{AllByRecursion}
 use Rattle.trust_base.specs.declared.refusal.Refusal.{Refusal}
 use Rattle.trust_base.specs.declared.refusal.Refusal.TheVariants as refusals
 use Rattle.trust_base.specs.Refusals.{number_of}
-use Rattle.trust_matter.specs.declared.rows.Entry.{Entry}
-use Rattle.trust_matter.specs.Rows.{Rows, entry_at, as_made}
-use Rattle.trust_matter.specs.Balances.{held, available, disputed, fees, claims, total}
-use Rattle.trust_matter.specs.Sound.{Sound, AreBacked}
-use Rattle.trust_matter.specs.Facts.{Facts, Asked, facts_of}
-use Rattle.trust_matter.specs.Conditions.{is_repeat, number_made}
-use Rattle.trust_matter.specs.Step.{conditions, refusal_of, refusal, rows_after, HasAmount}
+use Rattle.matter_rows.specs.declared.entry.Entry.{Entry}
+use Rattle.matter_rows.specs.Rows.{Rows, as_made, last_of, closed_on, is_purged}
+use Rattle.matter_rows.specs.Sound.{Sound}
+use Rattle.matter_parts.specs.Purging.{stub_rows}
 use Rattle.trust_matter.specs.declared.bank_line.BankLine.{BankLine}
 use Rattle.trust_matter.specs.declared.line_verdict.Reason.{Reason}
-use Rattle.trust_matter.specs.declared.line_verdict.LineEdit.TheVariants as told
-use Rattle.trust_matter.specs.LineStep.{reasons, line_on, rows_after_line, IsApplied}
+use Rattle.trust_matter.specs.declared.line_verdict.LineEffect.TheVariants as told
+use Rattle.trust_matter.specs.Facts.{Facts, Asked, facts_of}
+use Rattle.trust_matter.specs.Conditions.{is_purging, is_repeat, number_made}
+use Rattle.trust_matter.specs.Step.{conditions, refusal_of, refusal, rows_after, HasAmount}
+use Rattle.trust_matter.specs.LineStep.{line_facts, reasons, line_on, rows_after_line, IsApplied}
 
 -- no ask whose amount is one leaves a matter unsound
 abbrev pub SoundForEver : Type 0
@@ -60,7 +60,7 @@ pub record IsFirstReason (cs : List (Bool × Reason)) (r : Reason) : Type 0 wher
 
 -- the reasons against a line, each with whether it holds
 abbrev pub reasons_on : Rows → BankLine → ℕ → List (Bool × Reason)
-reasons_on rows l today = reasons rows.head (entry_at rows.entries l.entry) l.line today
+reasons_on rows l today = reasons (line_facts rows l today)
 
 -- a line that matches no entry is told the first reason that holds
 abbrev pub FirstReason : Type 0
@@ -70,20 +70,6 @@ FirstReason = (rows : Rows) (l : BankLine) (today : ℕ) (r : Reason) → line_o
 abbrev pub NoReason : Type 0
 NoReason = (rows : Rows) (l : BankLine) (today : ℕ) → IsApplied (line_on rows l today) → NoReasonHolds (reasons_on rows l today)
 
--- the total, cleared deposits less payments, is what is available, disputed, left of fees and left of claims; and
--- none of these is below zero
-pub record IsCovered (es : List Entry) : Type 0 where
-  pub sum : total es ≡ ((available es +ℤ disputed es) +ℤ fees es) +ℤ claims es
-  pub held : pos 0 ≤ℤ held es
-  pub available : pos 0 ≤ℤ available es
-  pub disputed : pos 0 ≤ℤ disputed es
-  pub fees : pos 0 ≤ℤ fees es
-  pub claims : pos 0 ≤ℤ claims es
-  pub total : pos 0 ≤ℤ total es
-
-abbrev pub Covered : Type 0
-Covered = (es : List Entry) → AreBacked es → IsCovered es
-
 -- the entries as they were made, in the order of their numbers
 abbrev pub made_in : Rows → List Entry
 made_in rows = map as_made rows.entries
@@ -92,9 +78,13 @@ made_in rows = map as_made rows.entries
 abbrev pub Grows : Rows → Rows → Type 0
 Grows rows later = (more : List Entry) × (made_in later ≡ made_in rows ++ more)
 
--- no ask takes away an entry, or changes its kind, its day or what was asked
+-- no ask but the purging takes away an entry, or changes its kind, its day or what was asked
 abbrev pub MadeStays : Type 0
-MadeStays = (rows : Rows) (a : Asked) → Grows rows (rows_after rows a)
+MadeStays = (rows : Rows) (a : Asked) → is_purging a.ask ≡ false → Grows rows (rows_after rows a)
+
+-- after every ask what was made is there, or the matter is purged
+abbrev pub MadeStaysOrGoes : Type 0
+MadeStaysOrGoes = (rows : Rows) (a : Asked) → Grows rows (rows_after rows a) ⊎ (is_purged (rows_after rows a).head ≡ true)
 
 -- no line does
 abbrev pub LinesLeaveMade : Type 0
@@ -114,15 +104,21 @@ abbrev pub all_after : Rows → List Doing → Rows
 all_after rows [] = rows
 all_after rows (d ∷ more) = all_after (after_doing rows d) more
 
--- the ask comes again, and changes nothing
-pub record IsSpent (rows : Rows) (a : Asked) : Type 0 where
-  pub repeat : is_repeat (facts_of rows a.ask) a ≡ true
-  pub unchanged : rows_after rows a ≡ rows
+-- nothing changes a purged matter
+abbrev pub PurgedStays : Type 0
+PurgedStays = (rows : Rows) (d : Doing) → is_purged rows.head ≡ true → after_doing rows d ≡ rows
 
--- an ask that makes an entry and was accepted is spent, whoever asks it again on whatever day, and whatever
--- was asked or came from the bank in between
-abbrev pub AtMostOnce : Type 0
-AtMostOnce = (rows : Rows) (a again : Asked) (between : List Doing) → IsSome (number_made a.ask) → refusal rows a ≡ None → again.ask ≡ a.ask → IsSpent (all_after (rows_after rows a) between) again
+-- an ask that makes an entry and was accepted changes nothing when it comes again, whoever asks it on whatever day, and
+-- whatever was asked or came from the bank in between, purging too
+abbrev pub AskUnchanged : Type 0
+AskUnchanged = (rows : Rows) (a again : Asked) (between : List Doing) → IsSome (number_made a.ask) → refusal rows a ≡ None → again.ask ≡ a.ask
+    → rows_after (all_after (rows_after rows a) between) again ≡ all_after (rows_after rows a) between
+
+-- and it is a repeat as long as the matter is not purged
+abbrev pub AskRepeat : Type 0
+AskRepeat = (rows : Rows) (a again : Asked) (between : List Doing) → IsSome (number_made a.ask) → refusal rows a ≡ None → again.ask ≡ a.ask
+    → is_purged (all_after (rows_after rows a) between).head ≡ false
+    → is_repeat (facts_of (all_after (rows_after rows a) between) again.ask) again ≡ true
 
 -- a line for the same entry, of the same date, reference of the bank and amount, in whatever words
 pub record IsSameLine (l again : BankLine) : Type 0 where
@@ -131,15 +127,21 @@ pub record IsSameLine (l again : BankLine) : Type 0 where
   pub bank_ref : again.line.bank_ref ≡ l.line.bank_ref
   pub amount : again.line.amount ≡ l.line.amount
 
--- the line is a repeat, and changes nothing
-pub record IsLineSpent (rows : Rows) (l : BankLine) (today : ℕ) : Type 0 where
-  pub repeat : line_on rows l today ≡ told.Repeat
-  pub unchanged : rows_after_line rows l today ≡ rows
+-- a line that was applied changes nothing when it comes again, on whatever day, and whatever was asked or came from the
+-- bank in between, purging too
+abbrev pub LineUnchanged : Type 0
+LineUnchanged = (rows : Rows) (l again : BankLine) (today later : ℕ) (between : List Doing) → IsApplied (line_on rows l today) → IsSameLine l again
+    → rows_after_line (all_after (rows_after_line rows l today) between) again later ≡ all_after (rows_after_line rows l today) between
 
--- a line that was applied is spent, on whatever day it comes again, and whatever was asked or came from the
--- bank in between
-abbrev pub LineAtMostOnce : Type 0
-LineAtMostOnce = (rows : Rows) (l again : BankLine) (today later : ℕ) (between : List Doing) → IsApplied (line_on rows l today) → IsSameLine l again → IsLineSpent (all_after (rows_after_line rows l today) between) again later
+-- and it is a repeat as long as the matter is not purged
+abbrev pub LineRepeat : Type 0
+LineRepeat = (rows : Rows) (l again : BankLine) (today later : ℕ) (between : List Doing) → IsApplied (line_on rows l today) → IsSameLine l again
+    → is_purged (all_after (rows_after_line rows l today) between).head ≡ false
+    → line_on (all_after (rows_after_line rows l today) between) again later ≡ told.Repeat
+
+-- the stub of a sound closed matter is sound
+abbrev pub StubIsSound : Type 0
+StubIsSound = (day : ℕ) (rows : Rows) → Sound rows → IsSome (closed_on rows.head) → last_of rows.head ≤ day → Sound (stub_rows day rows)
 
 -- the ask is refused, and no number is told to be the next
 abbrev pub TellsNoNumber : Option Refusal → Type 0

@@ -4,16 +4,16 @@ use Rattle.std.specs.List.{list_any}
 use Rattle.std.specs.Option.{option_map}
 use Rattle.trust_base.specs.declared.refusal.Rule.{Rule}
 use Rattle.trust_base.specs.declared.refusal.Rule.TheVariants as rule
-use Rattle.trust_matter.specs.declared.rows.Role.{Role}
-use Rattle.trust_matter.specs.declared.rows.Role.TheVariants as role
-use Rattle.trust_matter.specs.declared.rows.Seat.{Seat}
-use Rattle.trust_matter.specs.declared.rows.Against.{Against}
-use Rattle.trust_matter.specs.declared.rows.Against.TheVariants as against
-use Rattle.trust_matter.specs.declared.asks.Caller.{Caller}
-use Rattle.trust_matter.specs.declared.asks.Caller.TheVariants as caller
-use Rattle.trust_matter.specs.declared.asks.Ask.{Ask}
-use Rattle.trust_matter.specs.declared.asks.Ask.TheVariants as ask
-use Rattle.trust_matter.specs.Rows.{role_in}
+use Rattle.matter_rows.specs.declared.seat.Role.{Role}
+use Rattle.matter_rows.specs.declared.seat.Role.TheVariants as role
+use Rattle.matter_rows.specs.declared.seat.Seat.{Seat}
+use Rattle.matter_rows.specs.declared.claim.Against.{Against}
+use Rattle.matter_rows.specs.declared.claim.Against.TheVariants as against
+use Rattle.matter_rows.specs.Rows.{role_in}
+use Rattle.trust_matter.specs.declared.ask.Caller.{Caller}
+use Rattle.trust_matter.specs.declared.ask.Caller.TheVariants as caller
+use Rattle.trust_matter.specs.declared.ask.Ask.{Ask}
+use Rattle.trust_matter.specs.declared.ask.Ask.TheVariants as ask
 
 -- what a caller is to a matter
 pub data Standing : Type 0 where
@@ -42,8 +42,20 @@ rule_of (ask.RaiseClaim a) = rule_against a.against
 rule_of (ask.Offer a) = rule.Sign
 rule_of (ask.Accept a) = rule.Dispute
 rule_of (ask.Award a) = rule.Office
+rule_of ask.CloseMatter = rule.Office
+rule_of ask.Purge = rule.Office
 rule_of ask.Show = rule.Read
 rule_of (ask.ShowEntry n) = rule.Read
+
+-- under each rule but those of reading and of the firm as a whole, a matter changes
+abbrev pub changes_matter : Rule → Bool
+changes_matter rule.Read = false
+changes_matter rule.Dispute = true
+changes_matter rule.Claim = true
+changes_matter rule.Propose = true
+changes_matter rule.Sign = true
+changes_matter rule.Office = true
+changes_matter rule.Firm = false
 
 -- the policy: each standing with each rule under which it may ask
 abbrev pub policy : List (Standing × Rule)

@@ -1,32 +1,32 @@
 -- What an ask is answered and what it changes: a table of refusals, of which the least number is given.
 use Rattle.std.specs.Prelude.{◌≡◌, ℕ, Bool, List, [], ◌∷◌, ◌++◌, Option, Some, None, if◌then◌else◌, Result, Ok, Err, ℤ, pos, negsuc}
-use Rattle.trust_base.specs.Limits.{IsAmount}
 use Rattle.trust_base.specs.declared.refusal.Refusal.{Refusal}
 use Rattle.trust_base.specs.declared.refusal.Refusal.TheVariants as refusals
-use Rattle.trust_matter.specs.declared.rows.Role.TheVariants as role
-use Rattle.trust_matter.specs.declared.rows.Head.{Head}
-use Rattle.trust_matter.specs.declared.rows.DepositState.TheVariants as deposit
-use Rattle.trust_matter.specs.declared.rows.PaymentState.{PaymentState}
-use Rattle.trust_matter.specs.declared.rows.PaymentState.TheVariants as payment
-use Rattle.trust_matter.specs.declared.rows.ClaimState.{ClaimState}
-use Rattle.trust_matter.specs.declared.rows.ClaimState.TheVariants as claim
-use Rattle.trust_matter.specs.declared.rows.Entry.{Entry}
-use Rattle.trust_matter.specs.declared.rows.Entry.TheVariants as entry
-use Rattle.trust_matter.specs.declared.asks.OpenAsk.{OpenAsk}
-use Rattle.trust_matter.specs.declared.asks.DepositAsk.{DepositAsk}
-use Rattle.trust_matter.specs.declared.asks.PaymentAsk.{PaymentAsk}
-use Rattle.trust_matter.specs.declared.asks.FeeAsk.{FeeAsk}
-use Rattle.trust_matter.specs.declared.asks.ClaimAsk.{ClaimAsk}
-use Rattle.trust_matter.specs.declared.asks.Ask.{Ask}
-use Rattle.trust_matter.specs.declared.asks.Ask.TheVariants as ask
-use Rattle.trust_matter.specs.declared.edits.Opening.{Opening}
-use Rattle.trust_matter.specs.declared.edits.Edit.{Edit}
-use Rattle.trust_matter.specs.declared.edits.Edit.TheVariants as edit
-use Rattle.trust_matter.specs.Rows.{Rows, last_of, next_number}
+use Rattle.trust_values.specs.Limits.{IsAmount}
+use Rattle.matter_rows.specs.declared.head.Holder.TheVariants as holder
+use Rattle.matter_rows.specs.declared.seat.Role.TheVariants as role
+use Rattle.matter_rows.specs.declared.deposit.DepositState.TheVariants as deposit
+use Rattle.matter_rows.specs.declared.payment.PaymentState.{PaymentState}
+use Rattle.matter_rows.specs.declared.payment.PaymentState.TheVariants as payment
+use Rattle.matter_rows.specs.declared.claim.ClaimState.{ClaimState}
+use Rattle.matter_rows.specs.declared.claim.ClaimState.TheVariants as claim
+use Rattle.matter_rows.specs.declared.entry.Entry.{Entry}
+use Rattle.matter_rows.specs.declared.entry.Entry.TheVariants as entry
+use Rattle.matter_rows.specs.Rows.{Rows, last_of, closed_on, next_number}
+use Rattle.matter_parts.specs.declared.edit.Opening.{Opening}
+use Rattle.matter_parts.specs.declared.edit.Edit.{Edit}
+use Rattle.matter_parts.specs.declared.edit.Edit.TheVariants as edit
+use Rattle.matter_parts.specs.Changes.{MatterChange, IsChange, changed_by, last_after}
+use Rattle.trust_matter.specs.declared.ask.OpenAsk.{OpenAsk}
+use Rattle.trust_matter.specs.declared.deposit.DepositAsk.{DepositAsk}
+use Rattle.trust_matter.specs.declared.payment.PaymentAsk.{PaymentAsk}
+use Rattle.trust_matter.specs.declared.fee.FeeAsk.{FeeAsk}
+use Rattle.trust_matter.specs.declared.claim.ClaimAsk.{ClaimAsk}
+use Rattle.trust_matter.specs.declared.ask.Ask.{Ask}
+use Rattle.trust_matter.specs.declared.ask.Ask.TheVariants as ask
 use Rattle.trust_matter.specs.Policy.{rule_of}
 use Rattle.trust_matter.specs.Facts.{Facts, Asked, facts_of}
-use Rattle.trust_matter.specs.Conditions.{has_no_seat, is_not_allowed, is_opened_already, is_closed, goes_backwards, is_not_next, is_not_there, is_of_another_kind, is_in_another_state, is_to_cash, is_to_wrong_payee, is_bad_split, is_short, left_for, has_a_seat_already, has_none_to_drop, would_lose_its_last_lawyer, is_repeat}
-use Rattle.trust_matter.specs.Changes.{MatterChange, IsChange, changed_by}
+use Rattle.trust_matter.specs.Conditions.{has_no_seat, was_purged, is_not_allowed, is_opened_already, is_closed, goes_backwards, is_not_next, is_not_there, is_of_another_kind, is_in_another_state, is_to_cash, is_to_wrong_payee, is_bad_split, is_short, left_for, has_a_seat_already, has_none_to_drop, would_lose_its_last_lawyer, is_not_empty, is_too_early, purge_day, is_repeat}
 
 -- The refusals.
 
@@ -39,6 +39,7 @@ natural (negsuc n) = 0
 abbrev pub early_conditions : Facts → Asked → List (Bool × Refusal)
 early_conditions f a =
     (has_no_seat f a, refusals.NoMatter)
+    ∷ (was_purged f a, refusals.Purged)
     ∷ (is_not_allowed f a, refusals.NotAllowed (rule_of a.ask))
     ∷ []
 
@@ -59,6 +60,8 @@ later_conditions f a =
     ∷ (has_a_seat_already f a, refusals.SeatTaken)
     ∷ (has_none_to_drop f a, refusals.NoSeat)
     ∷ (would_lose_its_last_lawyer f a, refusals.LastLawyer)
+    ∷ (is_not_empty f a, refusals.NotEmpty)
+    ∷ (is_too_early f a, refusals.TooEarly (purge_day (closed_on f.head)))
     ∷ []
 
 abbrev pub conditions : Facts → Asked → List (Bool × Refusal)
@@ -83,27 +86,49 @@ late_refusal f a = if is_repeat f a then None else first (later_conditions f a)
 -- What changes.
 
 abbrev pub opening : OpenAsk → ℕ → Opening
-opening a day = record { head = record { client = a.client; opened = day; closed = None; last = day }; seat = record { person = a.lawyer; role = role.Lawyer } }
+opening a day = record { head = record { holder = holder.Client a.client; opened = day; closed = None; last = day }; seat = record { person = a.lawyer; role = role.Lawyer } }
 
 abbrev pub deposit_of : DepositAsk → ℕ → Entry
-deposit_of a day = entry.Deposit (record { book = day; amount = a.amount; source = a.source; description = a.description; state = deposit.Held })
+deposit_of a day = entry.Deposit (record {
+  book = day;
+  amount = a.amount;
+  source = a.source;
+  description = a.description;
+  state = deposit.Held;
+})
 
 abbrev pub cancelled : ℕ → Option Entry → ℕ → Edit
-cancelled n (Some (entry.Deposit d)) day = edit.Exchange (record { number = n; entry = entry.Deposit (record d { state = deposit.Cancelled day }) })
+cancelled n (Some (entry.Deposit d)) day =
+    edit.Exchange (record { number = n; entry = entry.Deposit (record d { state = deposit.Cancelled day }) })
 cancelled n _ day = edit.Nothing
 
 abbrev pub payment_of : PaymentAsk → ℕ → Entry
-payment_of a day = entry.Payment (record { book = day; amount = a.amount; fund = a.fund; payee = a.payee; purpose = a.purpose; instrument = a.instrument; state = payment.Proposed })
+payment_of a day = entry.Payment (record {
+  book = day;
+  amount = a.amount;
+  fund = a.fund;
+  payee = a.payee;
+  purpose = a.purpose;
+  instrument = a.instrument;
+  state = payment.Proposed;
+})
 
 abbrev pub fee_of : FeeAsk → ℕ → Entry
 fee_of a day = entry.Fee (record { book = day; amount = a.amount; description = a.description })
 
 abbrev pub claim_of : ClaimAsk → ℕ → Entry
-claim_of a day = entry.Claim (record { book = day; amount = a.amount; against = a.against; reason = a.reason; state = claim.Open })
+claim_of a day = entry.Claim (record {
+  book = day;
+  amount = a.amount;
+  against = a.against;
+  reason = a.reason;
+  state = claim.Open;
+})
 
 -- a payment in another state
 abbrev pub with_payment : ℕ → Option Entry → (PaymentState → PaymentState) → Edit
-with_payment n (Some (entry.Payment p)) next = edit.Exchange (record { number = n; entry = entry.Payment (record p { state = next p.state }) })
+with_payment n (Some (entry.Payment p)) next =
+    edit.Exchange (record { number = n; entry = entry.Payment (record p { state = next p.state }) })
 with_payment n _ next = edit.Nothing
 
 -- an issued payment, taken back on a day
@@ -113,7 +138,8 @@ voided day s = s
 
 -- a claim in another state
 abbrev pub with_claim : ℕ → Option Entry → ClaimState → Edit
-with_claim n (Some (entry.Claim c)) next = edit.Exchange (record { number = n; entry = entry.Claim (record c { state = next }) })
+with_claim n (Some (entry.Claim c)) next =
+    edit.Exchange (record { number = n; entry = entry.Claim (record c { state = next }) })
 with_claim n _ next = edit.Nothing
 
 abbrev pub settled : ℕ → ℕ → ClaimState
@@ -135,17 +161,14 @@ edit_of (ask.RaiseClaim a) e day = edit.Append (record { number = a.number; entr
 edit_of (ask.Offer a) e day = with_claim a.number e (claim.Offered a.to_client)
 edit_of (ask.Accept a) e day = with_claim a.number e (settled day a.to_client)
 edit_of (ask.Award a) e day = with_claim a.number e (settled day a.to_client)
+edit_of ask.CloseMatter e day = edit.Close day
+edit_of ask.Purge e day = edit.Clear day
 edit_of ask.Show e day = edit.Nothing
 edit_of (ask.ShowEntry n) e day = edit.Nothing
 
 -- what an accepted ask changes
 abbrev pub decided : Facts → Asked → Edit
 decided f a = if is_repeat f a then edit.Nothing else edit_of a.ask f.entry a.day
-
--- the last day after an edit that was asked for
-abbrev pub last_after : Option Head → Edit → ℕ → ℕ
-last_after (Some h) edit.Nothing day = h.last
-last_after h _ day = day
 
 -- The step.
 

@@ -1,39 +1,35 @@
-//! The machine of one matter, which keeps its totals and some of its entries.
+//! The step of one matter: what an ask and a line of the bank are answered, and what they change.
 #![tactic(auto)]
 
-mod asks;
+mod ask;
 mod bank_line;
-pub mod cases;
-mod change;
-mod copies;
+mod claim;
 mod deciding;
-mod deciding_claims;
-mod deciding_line;
-mod deciding_payments;
-mod edits;
-mod keep;
+mod deposit;
+mod fee;
+mod head;
 pub mod laws;
+mod line;
 mod line_verdict;
-mod matter;
-mod movement;
-mod named;
-mod rows;
-mod seats;
-mod shares;
-mod totals;
-mod whole;
+mod payment;
+mod policy;
+mod seat;
 
-pub use asks::{Ask, Caller, ClaimAsk, DepositAsk, FeeAsk, OpenAsk, PaymentAsk, SplitAsk};
+pub use ask::{Ask, Caller, OpenAsk};
 pub use bank_line::BankLine;
-pub use change::{Change, Left, Movement, Moves};
-pub use deciding::decide;
-pub use deciding_line::decide_line;
-pub use edits::{Edit, Numbered, Opening};
+pub use claim::{ClaimAsk, SplitAsk};
+pub use deciding::{decide, holds_for};
+pub use deposit::DepositAsk;
+pub use fee::FeeAsk;
+pub use line::{decide_line, holds_for_line};
 pub use line_verdict::{LineVerdict, Reason};
-pub use matter::{Balances, Figures, Kept, Matter};
-pub use rows::{
-    Against, Claim, ClaimState, ClearedPayment, Clearing, Deposit, DepositState, Entry, Fee, Fund,
-    Head, Payment, PaymentState, Role, Seat, Settlement, VoidedPayment,
+pub use matter_parts::{
+    Balances, Change, Edit, Figures, Kept, Left, Matter, Numbered, Opening, TotalsAfter, balances,
+    claim_left, fee_left, whole_holds_all,
 };
-pub use totals::{balances, claim_left, fee_left};
-pub use whole::whole_holds_all;
+pub use matter_rows::{
+    Against, Claim, ClaimState, ClearedPayment, Clearing, Deposit, DepositState, Entry,
+    EntryMovement, Fee, Fund, Head, Holder, Payment, PaymentState, ReturnedDeposit, Role, Seat,
+    Settlement, VoidedPayment,
+};
+pub use payment::PaymentAsk;

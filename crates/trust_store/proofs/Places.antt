@@ -1,13 +1,21 @@
 -- What a binary search finds among lines in their order, and what a book of lists keeps then.
-use Rattle.std.proofs.Common.{◌≡◌, ℕ, ◌<◌, List, [], length, get_or, Result, Ok, Err, IfOk, IfErr, sym, subst, arith}
+use Rattle.std.proofs.Common.{◌≡◌, ◌≢◌, ℕ, ◌<◌, ◌++◌, ◌∷◌, ◌+ℤ◌, None, insert, List, [], length, get_or, Result, Ok, Err, IfOk, IfErr, sym, subst, arith}
 use Rattle.std.specs.List.Sorted.{IsStrictlySortedBy, IsSearchInRange, IsBinarySearchResult}
 use Rattle.trust_base.specs.LineOrder.{line_cmp}
 use Rattle.trust_base.specs.declared.line.Line.{Line}
 use Rattle.trust_base.proofs.LineFacts.{line_total, line_same}
-use Rattle.trust_firm.specs.Firm.{with_line, without_line}
-use Rattle.trust_firm.proofs.Ordered.{found-at, absent-at, rises, with-sorted, without-sorted}
+use Rattle.firm_rows.specs.declared.movement.Movement.{Movement}
+use Rattle.firm_rows.specs.declared.ledger.FirmLine.{FirmLine}
+use Rattle.firm_rows.specs.declared.ledger.StatementRow.{StatementRow}
+use Rattle.firm_rows.specs.FirmLines.{IsOwnBalance, balance_of, balance_cmp, with_balance, kept_balance}
+use Rattle.firm_rows.specs.Firm.{Firm, empty_firm, with_line, without_line, own_movement}
+use Rattle.firm_rows.specs.FirmSound.{FirmSound}
+use Rattle.firm_rows.proofs.Balances.{balance_total, none-tied}
+use Rattle.firm_rows.proofs.Lines.{match-sound, stray-stays-sound}
+use Rattle.firm_rows.proofs.Ordered.{found-at, absent-at, rises}
+use Rattle.firm_rows.proofs.OwnLines.{own_line-sound, statement-sound}
 use Rattle.trust_store.specs.declared.plain.KeptMatter.{KeptMatter}
-use Rattle.trust_store.specs.Kept.{AreKept, StandsAt, WouldStandAt}
+use Rattle.trust_store.specs.Kept.{AreKeptWhole, AreKept, firm_of, StandsAt, WouldStandAt}
 
 module _ (line : Line) (lines : List Line) (up : IsStrictlySortedBy line_cmp lines) where
   stands : (i : ℕ) → i < length lines → get_or lines i line ≡ line → StandsAt line lines i
@@ -22,30 +30,56 @@ module _ (line : Line) (lines : List Line) (up : IsStrictlySortedBy line_cmp lin
   pub absent-line : (r : Result ℕ ℕ) → IsSearchInRange r (length lines) → IsBinarySearchResult (λ x. line_cmp x line) lines r → IfErr r (WouldStandAt line lines)
   absent-line (Ok i) within is = tt
   absent-line (Err i) within is =
-      let parted = is (rises line_cmp line_total line_same line lines up) in
-      let absent = absent-at line_cmp line_total line_same line lines i within (λ j d lt. parted.0 j d (omega arith) lt) (λ j d le lt. parted.1 j d le lt) in
+      let parted = is (rises line_cmp line_total line lines up) in
+      let absent = absent-at line_cmp line_total line lines i within (λ j d lt. parted.0 j d (omega arith) lt) (λ j d le lt. parted.1 j d le lt) in
       record { within = within; with = absent.0; without = absent.1 }
 
--- The lines stay in order.
+-- What a book of lists keeps.
 
-none-kept : AreKept [] []
-unfolding IsStrictlySortedBy
-none-kept = record { matters = record { ascends = tt; whole = tt }; exceptions = tt }
+-- a book without rows
+pub nothing_kept : (ks : List KeptMatter) (moves : List Movement) (own : List FirmLine) (lines : List Line) (balances : List StatementRow) → ks ≡ [] → moves ≡ [] → own ≡ [] → lines ≡ [] → balances ≡ [] → FirmSound empty_firm → AreKept ks moves own lines balances
+nothing_kept ks moves own lines balances a b c d e sound = record {
+  matters = subst AreKeptWhole (sym a) (record { ascends = tt; whole = tt });
+  firm = subst FirmSound (λ i. firm_of (sym a i) (sym b i) (sym c i) (sym d i) (sym e i)) sound;
+}
 
-pub kept_nothing : (ks : List KeptMatter) (lines : List Line) → ks ≡ [] → lines ≡ [] → AreKept ks lines
-kept_nothing ks lines no_matters no_lines = subst (λ (js : List KeptMatter). AreKept js lines) (sym no_matters) (subst (AreKept []) (sym no_lines) none-kept)
+module _ (ks : List KeptMatter) (moves : List Movement) (own : List FirmLine) (lines : List Line) (balances : List StatementRow) (kept : AreKept ks moves own lines balances) where
+  abbrev firm : Firm
+  firm = firm_of ks moves own lines balances
 
-module _ (ks : List KeptMatter) (lines after : List Line) (line : Line) (kept : AreKept ks lines) where
-  pub kept_with_line : after ≡ with_line line lines → AreKept ks after
-  kept_with_line is = record {
+  pub kept_with_line : (line : Line) (after : List Line) → after ≡ with_line line lines → AreKept ks moves own after balances
+  kept_with_line line after is = record {
     matters = kept.matters;
-    exceptions = subst (IsStrictlySortedBy line_cmp) (sym is) (with-sorted line_cmp line_total line_same line lines kept.exceptions);
+    firm = subst (λ (ls : List Line). FirmSound (firm_of ks moves own ls balances)) (sym is) (stray-stays-sound line firm kept.firm);
   }
 
-  pub kept_without_line : after ≡ without_line line lines → AreKept ks after
-  kept_without_line is = record {
+  pub kept_without_line : (line : Line) (after : List Line) → after ≡ without_line line lines → AreKept ks moves own after balances
+  kept_without_line line after is = record {
     matters = kept.matters;
-    exceptions = subst (IsStrictlySortedBy line_cmp) (sym is) (without-sorted line_cmp line_total line_same line lines kept.exceptions);
+    firm = subst (λ (ls : List Line). FirmSound (firm_of ks moves own ls balances)) (sym is) (match-sound line firm kept.firm);
   }
 
-pub ruleset kept_in_order = (kept_with_line, kept_without_line)
+  pub kept_with_balance : (row : StatementRow) (after : List StatementRow) → after ≡ with_balance row balances → AreKept ks moves own lines after
+  kept_with_balance row after is = record {
+    matters = kept.matters;
+    firm = subst (λ (rows : List StatementRow). FirmSound (firm_of ks moves own lines rows)) (sym is) (statement-sound row firm kept.firm);
+  }
+
+  pub kept_with_own : (l : FirmLine) (moves' : List Movement) (own' : List FirmLine) → IsOwnBalance (balance_of own +ℤ l.amount) → moves' ≡ moves ++ own_movement l ∷ [] → own' ≡ own ++ l ∷ [] → AreKept ks moves' own' lines balances
+  kept_with_own l moves' own' may moved booked = record {
+    matters = kept.matters;
+    firm = subst FirmSound (λ i. firm_of ks (sym moved i) (sym booked i) lines balances) (own_line-sound l firm kept.firm may);
+  }
+
+-- What a binary search finds among balances.
+
+module _ (row : StatementRow) (rows : List StatementRow) (up : IsStrictlySortedBy balance_cmp rows) where
+  pub found-balance : (r : Result ℕ ℕ) → IsSearchInRange r (length rows) → IsBinarySearchResult (λ x. balance_cmp x row) rows r → IfOk r (λ i. kept_balance row.kind row.day rows ≢ None)
+  found-balance (Ok i) within is = λ none. none-tied row rows i row none within (is row)
+  found-balance (Err i) within is = tt
+
+  pub absent-balance : (r : Result ℕ ℕ) → IsSearchInRange r (length rows) → IsBinarySearchResult (λ x. balance_cmp x row) rows r → IfErr r (λ i. with_balance row rows ≡ insert rows i row)
+  absent-balance (Ok i) within is = tt
+  absent-balance (Err i) within is =
+      let parted = is (rises balance_cmp balance_total row rows up) in
+      (absent-at balance_cmp balance_total row rows i within (λ j d lt. parted.0 j d (omega arith) lt) (λ j d le lt. parted.1 j d le lt)).0

@@ -1,14 +1,16 @@
 -- Whole matters that are kept one by one, by number, and the joined rows that they stand for; and exceptions in their order.
 use Rattle.std.specs.Prelude.{ℕ, suc, ◌≡◌, ◌<◌, ◌≤◌, ◌==◌, nat_lt, List, [], ◌∷◌, ◌++◌, length, Option, Some, None, Result, Ok, Err, if◌then◌else◌, slice_get}
 use Rattle.std.specs.List.{AllByRecursion, insert, remove}
-use Rattle.std.specs.List.Sorted.{IsStrictlySortedBy}
-use Rattle.trust_base.specs.LineOrder.{line_cmp}
 use Rattle.trust_base.specs.declared.line.Line.{Line}
-use Rattle.trust_matter.specs.declared.matter.Kept as matter
-use Rattle.trust_matter.specs.Rows.{Rows, unopened}
-use Rattle.trust_matter.specs.Sound.{Sound}
-use Rattle.trust_matter.specs.Parts.{Part, IsWhole, entries_kept}
-use Rattle.trust_firm.specs.Firm.{Row, EntryRow, pairs, with_line, without_line}
+use Rattle.matter_parts.specs.declared.kept.Kept as matter
+use Rattle.matter_rows.specs.Rows.{Rows, unopened}
+use Rattle.matter_rows.specs.Sound.{Sound}
+use Rattle.matter_parts.specs.Parts.{Part, IsWhole, entries_kept}
+use Rattle.firm_rows.specs.declared.movement.Movement.{Movement}
+use Rattle.firm_rows.specs.declared.ledger.FirmLine.{FirmLine}
+use Rattle.firm_rows.specs.declared.ledger.StatementRow.{StatementRow}
+use Rattle.firm_rows.specs.Firm.{Row, EntryRow, Firm, pairs, with_line, without_line}
+use Rattle.firm_rows.specs.FirmSound.{FirmSound}
 use Rattle.trust_store.specs.declared.plain.KeptMatter.{KeptMatter}
 
 -- the rows of a matter that keeps all its entries
@@ -47,10 +49,14 @@ pub record AreKeptWhole (ks : List KeptMatter) : Type 0 where
   pub ascends : Ascends ks
   pub whole : AllByRecursion IsKeptWhole ks
 
--- and lines in their order, each once
-pub record AreKept (ks : List KeptMatter) (lines : List Line) : Type 0 where
+-- the rows of a firm that keeps these matters, movements, lines of its own, exceptions and balances
+abbrev pub firm_of : List KeptMatter → List Movement → List FirmLine → List Line → List StatementRow → Firm
+firm_of ks movements own lines balances = record { rows = joined ks; movements = movements; firm_lines = own; exceptions = lines; balances = balances }
+
+-- sound matters with all their entries, and the firm that they make with the other rows is sound
+pub record AreKept (ks : List KeptMatter) (movements : List Movement) (own : List FirmLine) (lines : List Line) (balances : List StatementRow) : Type 0 where
   pub matters : AreKeptWhole ks
-  pub exceptions : IsStrictlySortedBy line_cmp lines
+  pub firm : FirmSound (firm_of ks movements own lines balances)
 
 -- One of them.
 
@@ -73,18 +79,18 @@ rows_in m [] = unopened
 rows_in m (k ∷ ks) = if nat_lt k.number m then rows_in m ks else (if k.number == m then rows_kept k.matter else unopened)
 
 -- with this for the matter of the number, in its place among the others
-abbrev pub kept_with : ℕ → Part → List KeptMatter → List KeptMatter
-kept_with m part [] = record { number = m; matter = part } ∷ []
-kept_with m part (k ∷ ks) =
+abbrev pub matters_with : ℕ → Part → List KeptMatter → List KeptMatter
+matters_with m part [] = record { number = m; matter = part } ∷ []
+matters_with m part (k ∷ ks) =
     if nat_lt k.number m
-    then k ∷ kept_with m part ks
+    then k ∷ matters_with m part ks
     else (if k.number == m then record { number = m; matter = part } ∷ ks else record { number = m; matter = part } ∷ k ∷ ks)
 
 -- the matter of the number is kept whole with these rows, and the others as they were
 pub record IsKeptAs (m : ℕ) (rows : Rows) (old new : List KeptMatter) : Type 0 where
   pub part : Part
   pub whole : IsWhole part rows
-  pub kept : new ≡ kept_with m part old
+  pub kept : new ≡ matters_with m part old
 
 -- A line among others.
 

@@ -1,3 +1,5 @@
 pub mod Books
+pub mod Calls
+pub mod Crashes
 pub mod Kept
 pub mod Named

@@ -1,21 +1,29 @@
 // A book of lists.
 
-ghost use Rattle.std.specs.Prelude.{◌≡◌, ◌++◌, fold, IfOk, OnOk, OnErr};
-ghost use Rattle.trust_matter.specs.Parts.{IsWhole, AreNumbered};
-ghost use Rattle.trust_matter.specs.Changes.{IsChange, changed};
-ghost use Rattle.trust_firm.specs.Firm.{empty_firm, joined_movement, pairs, head_pairs, seat_pairs};
-ghost use Rattle.trust_firm.specs.FirmSound.{FirmSound};
+ghost use Rattle.std.specs.Prelude.{◌≡◌, ◌≤◌, ◌++◌, ◌∷◌, [], ◌+ℤ◌, None, ℕ, length, fold, IfOk, IfSome, OnOk, OnErr, IsOk};
+ghost use Rattle.matter_parts.specs.declared.edit.Edit.TheVariants.{Nothing};
+ghost use Rattle.matter_parts.specs.Parts.{IsWhole, AreNumbered};
+ghost use Rattle.matter_parts.specs.Changes.{IsChange, changed};
+ghost use Rattle.firm_rows.specs.Countable.{IsRowInRange, MOST_ROWS};
+ghost use Rattle.firm_rows.specs.Firm.{empty_firm, of, joined_movement, kept_movements, moved_without, is_of_matter, pairs, head_pairs, seat_pairs, after_change, after_stray, after_match, own_movement, with_firm_line, with_statement};
+ghost use Rattle.firm_rows.specs.FirmLines.{IsOwnBalance, balance_of, as_firm_line, balance_row, kept_balance};
+ghost use Rattle.firm_rows.specs.FirmSound.{FirmSound};
 ghost use Rattle.trust_store.specs.Books.{FoldsFront};
+ghost use Rattle.trust_store.specs.Calls.{AreHanded};
 ghost use Rattle.trust_store.specs.Named.{IsPartFor};
 ghost use Rattle.trust_store.specs.Kept.{AreKeptWhole, IsKeptAs, joined, kept_pairs, rows_kept, rows_in, seek};
 
 use crate::Book;
-use crate::exceptions::{add_line, hand_lines, remove_line};
+use crate::balances::{add_balance, balance_kept};
+use crate::exceptions::{add_line, remove_line};
+use crate::handing::{hand_balances, hand_firm_lines, hand_lines, hand_movements};
+use firm_rows::laws::{firm_stays_sound, verdicts_fit};
+use firm_rows::{
+    BalanceKind, FirmLedger, FirmLine, Movement, Owner, RowSink, StatementRow, Verdict,
+};
 use std::alloc::{AllocError, Global};
 use std::marker::Model;
-use trust_base::{EntryNo, Line, MatterNo, StoreFault};
-use trust_firm::laws::firm_stays_sound;
-use trust_firm::{Movement, Owner, RowSink};
+use trust_base::{Day, EntryNo, Line, MatterNo, StoreFault};
 use trust_matter::{BankLine, Change, Edit, Kept, LineVerdict, Matter, Seat};
 
 /// A matter with its number.
@@ -25,26 +33,29 @@ pub struct KeptMatter {
     pub matter: Matter,
 }
 
-/// Keeps each matter whole in a list, by number, what was moved in another, and the exceptions in a third, in their order.
+/// Keeps each matter whole in a list, by number, what was moved in another, the firm's own ledger, and the exceptions and
+/// the balances in two lists, in their order.
 ///
-/// It never answers Store.
+/// It never answers Store, and promises nothing of what a crash leaves.
 #[derive(Drop)]
 pub struct PlainBook {
     matters: Vec<KeptMatter>,
     movements: Vec<Movement>,
+    own: FirmLedger,
     exceptions: Vec<Line>,
+    balances: Vec<StatementRow>,
 }
 
 impl Model for PlainBook {
-    ghost use Rattle.trust_firm.specs.Firm.{Firm};
+    ghost use Rattle.firm_rows.specs.Firm.{Firm};
 
     ghost Value = { Firm };
 
-    ghost use Rattle.trust_store.specs.Kept.{joined, AreKept};
+    ghost use Rattle.trust_store.specs.Kept.{firm_of, AreKept};
 
-    ghost view = { λ b. record { rows = joined b.matters.items; movements = b.movements.items; exceptions = b.exceptions.items } };
+    ghost view = { λ b. firm_of b.matters.items b.movements.items b.own b.exceptions.items b.balances.items };
 
-    ghost invariant = { λ b. AreKept b.matters.items b.exceptions.items };
+    ghost invariant = { λ b. AreKept b.matters.items b.movements.items b.own b.exceptions.items b.balances.items };
 }
 
 impl PlainBook {
@@ -58,8 +69,75 @@ impl PlainBook {
         PlainBook {
             matters: Vec::new(alloc),
             movements: Vec::new(alloc),
+            own: FirmLedger::new(alloc),
             exceptions: Vec::new(alloc),
+            balances: Vec::new(alloc),
         }
+    }
+
+    // Its rows are always those of a sound firm.
+    fn is_sound(&self)
+        ensures { FirmSound self.now }
+    {
+        let _matters = &self.matters;
+    }
+
+    // Makes one change of a matter, or none at an error.
+    fn change(&mut self, alloc: Global, matter: MatterNo, change: &Change) -> Result<(), AllocError>
+        requires { IsChange (of matter self.old) change.now }
+        ensures ok { OnOk result (self.new ≡ after_change matter change.now self.old) }
+        ensures err { OnErr result (self.new ≡ self.old) }
+        ensures nothing { change.now.edit ≡ Nothing → IsOk result }
+    {
+        firm_stays_sound();
+        if let Edit::Nothing = change.edit() {
+            return Ok(());
+        }
+        write_kept(
+            alloc,
+            &mut self.matters,
+            &mut self.movements,
+            matter,
+            change,
+        )?;
+        Ok(())
+    }
+
+    // Books a line of the firm's own, with what it moves, or nothing at an error.
+    fn book(&mut self, line: &Line) -> Result<(), AllocError>
+        requires { IsOwnBalance (balance_of (self.old).firm_lines +ℤ line.now.amount) }
+        ensures ok { OnOk result (self.new ≡ with_firm_line (as_firm_line line.now) self.old) }
+        ensures err { OnErr result (self.new ≡ self.old) }
+    {
+        book_line(&mut self.movements, &mut self.own, line)?;
+        Ok(())
+    }
+
+    // Keeps a balance, where none of its kind and day is kept.
+    fn keep(&mut self, kind: BalanceKind, line: &Line) -> Result<(), AllocError>
+        requires { kept_balance kind line.now.date (self.old).balances ≡ None }
+        ensures ok { OnOk result (self.new ≡ with_statement (balance_row kind line.now) self.old) }
+        ensures err { OnErr result (self.new ≡ self.old) }
+    {
+        let row = StatementRow::of(kind, line);
+        add_balance(&mut self.balances, row)?;
+        Ok(())
+    }
+
+    // Adds a line to the exceptions.
+    fn except(&mut self, line: &Line) -> Result<(), AllocError>
+        ensures ok { OnOk result (self.new ≡ after_stray line.now self.old) }
+        ensures err { OnErr result (self.new ≡ self.old) }
+    {
+        add_line(&mut self.exceptions, line)?;
+        Ok(())
+    }
+
+    // Takes a line out of the exceptions. It takes no memory.
+    fn settle(&mut self, line: &Line)
+        ensures { self.new ≡ after_match line.now self.old }
+    {
+        remove_line(&mut self.exceptions, line);
     }
 }
 
@@ -67,6 +145,14 @@ impl Book for PlainBook {
     ghost firm = { λ b. b };
 
     ghost clean = { λ _. Unit {0} };
+
+    ghost sure = { λ _. Unit {0} };
+
+    ghost stands = { FirmSound };
+
+    ghost leaves = { λ _ _. ⊥ };
+
+    ghost sound = { λ _ sound. sound };
 
     ghost refusals = { λ _. 0 };
 
@@ -84,52 +170,105 @@ impl Book for PlainBook {
         Ok(part_of(alloc, &self.matters, matter, entry, other)?)
     }
 
+    fn firm(&mut self, alloc: Global) -> Result<FirmLedger, StoreFault> {
+        Ok(self.own.copied(alloc)?)
+    }
+
+    fn balance(&mut self, kind: BalanceKind, day: Day) -> Result<Option<i64>, StoreFault> {
+        Ok(balance_kept(&self.balances, kind, day))
+    }
+
+    fn each_row<S: RowSink>(&mut self, sink: &mut S) -> Result<(), StoreFault> {
+        Ok(hand_counted(&self.matters, sink)?)
+    }
+
+    fn each_movement<S: RowSink>(&mut self, sink: &mut S) -> Result<(), StoreFault> {
+        Ok(hand_movements(&self.movements, sink)?)
+    }
+
+    fn each_firm_line<S: RowSink>(&mut self, sink: &mut S) -> Result<(), StoreFault> {
+        Ok(hand_firm_lines(self.own.lines(), sink)?)
+    }
+
+    fn each_exception<S: RowSink>(&mut self, sink: &mut S) -> Result<(), StoreFault> {
+        Ok(hand_lines(&self.exceptions, sink)?)
+    }
+
+    fn each_balance<S: RowSink>(&mut self, sink: &mut S) -> Result<(), StoreFault> {
+        Ok(hand_balances(&self.balances, sink)?)
+    }
+
     fn write_change(
         &mut self,
         alloc: Global,
         matter: MatterNo,
         change: &Change,
     ) -> Result<(), StoreFault> {
-        if let Edit::Nothing = change.edit() {
-            return Ok(());
-        }
-        Ok(write_kept(
-            alloc,
-            &mut self.matters,
-            &mut self.movements,
-            matter,
-            change,
-        )?)
-    }
-
-    fn each_row<S: RowSink>(&mut self, sink: &mut S) -> Result<(), StoreFault> {
-        Ok(hand_all(&self.matters, sink)?)
+        self.is_sound();
+        self.change(alloc, matter, change)?;
+        self.is_sound();
+        Ok(())
     }
 
     // The change comes first, since it may want memory; taking the exception out wants none, and ends the write.
-    #[tactic(auto, using(crate::proofs::Places::kept_in_order))]
     fn write_line(
         &mut self,
         alloc: Global,
         line: &BankLine,
         verdict: &LineVerdict,
     ) -> Result<(), StoreFault> {
+        self.is_sound();
         match verdict {
-            LineVerdict::Applied(change) => self.write_change(alloc, line.matter, change)?,
+            LineVerdict::Applied(change) => self.change(alloc, line.matter, change)?,
             LineVerdict::Repeat => {}
-            LineVerdict::Unmatched(_) => return Ok(add_line(&mut self.exceptions, &line.line)?),
+            LineVerdict::Unmatched(_) => return self.write_stray(alloc, &line.line),
         }
-        remove_line(&mut self.exceptions, &line.line);
+        self.settle(&line.line);
+        self.is_sound();
         Ok(())
     }
 
-    #[tactic(auto, using(crate::proofs::Places::kept_in_order))]
-    fn write_stray(&mut self, _alloc: Global, line: &Line) -> Result<(), StoreFault> {
-        Ok(add_line(&mut self.exceptions, line)?)
+    fn write_firm(
+        &mut self,
+        alloc: Global,
+        line: &Line,
+        verdict: Verdict,
+    ) -> Result<(), StoreFault> {
+        self.is_sound();
+        verdicts_fit();
+        match verdict {
+            Verdict::Applied => self.book(line)?,
+            Verdict::Repeat => {}
+            Verdict::Unmatched => return self.write_stray(alloc, line),
+        }
+        self.settle(line);
+        self.is_sound();
+        Ok(())
     }
 
-    fn each_exception<S: RowSink>(&mut self, sink: &mut S) -> Result<(), StoreFault> {
-        Ok(hand_lines(&self.exceptions, sink)?)
+    fn write_balance(
+        &mut self,
+        alloc: Global,
+        kind: BalanceKind,
+        line: &Line,
+        verdict: Verdict,
+    ) -> Result<(), StoreFault> {
+        self.is_sound();
+        verdicts_fit();
+        match verdict {
+            Verdict::Applied => self.keep(kind, line)?,
+            Verdict::Repeat => {}
+            Verdict::Unmatched => return self.write_stray(alloc, line),
+        }
+        self.settle(line);
+        self.is_sound();
+        Ok(())
+    }
+
+    fn write_stray(&mut self, _alloc: Global, line: &Line) -> Result<(), StoreFault> {
+        self.except(line)?;
+        self.is_sound();
+        Ok(())
     }
 }
 
@@ -180,17 +319,81 @@ fn write_kept(
     requires whole { AreKeptWhole kept.old.items }
     requires change { IsChange (rows_in matter kept.old.items) change.now }
     ensures kept { OnOk result (IsKeptAs matter (changed change.now (rows_in matter kept.old.items)) kept.old.items kept.new.items) }
-    ensures moved { OnOk result (movements.new.items ≡ movements.old.items ++ joined_movement matter change.now.movement) }
+    // Those of a matter that is purged go, and what the change moves comes behind the others.
+    ensures moved { OnOk result (movements.new.items ≡ kept_movements matter change.now.edit (movements.old.items ++ joined_movement matter change.now.movement)) }
     ensures err { OnErr result ((kept.new.items ≡ kept.old.items) × (movements.new.items ≡ movements.old.items)) }
 {
     let before = movements.len();
     push_movement(movements, matter, change)?;
     match change_kept(alloc, kept, matter, change) {
-        Ok(()) => Ok(()),
+        Ok(()) => {
+            drop_movements(movements, matter, change.edit());
+            Ok(())
+        }
         Err(error) => {
             movements.truncate(before);
             Err(error)
         }
+    }
+}
+
+// Books a line of the firm's own, with what it moves, or nothing at all.
+fn book_line(
+    movements: &mut Vec<Movement>,
+    own: &mut FirmLedger,
+    line: &Line,
+) -> Result<(), AllocError>
+    requires { IsOwnBalance (balance_of own.old +ℤ line.now.amount) }
+    ensures moved { OnOk result (movements.new.items ≡ movements.old.items ++ own_movement (as_firm_line line.now) ∷ []) }
+    ensures booked { OnOk result (own.new ≡ own.old ++ as_firm_line line.now ∷ []) }
+    ensures err { OnErr result ((movements.new.items ≡ movements.old.items) × (own.new ≡ own.old)) }
+{
+    let count = movements.len();
+    let kept = FirmLine::of(line)?;
+    movements.push(Movement {
+        owner: Owner::Firm,
+        day: line.date,
+        amount: line.amount.get(),
+    })?;
+    match own.add(kept) {
+        Ok(()) => Ok(()),
+        Err(error) => {
+            movements.truncate(count);
+            Err(error)
+        }
+    }
+}
+
+// Takes out what a matter moved, where it is purged.
+fn drop_movements(movements: &mut Vec<Movement>, matter: MatterNo, edit: &Edit)
+    ensures { movements.new.items ≡ kept_movements matter edit.now movements.old.items }
+{
+    match edit {
+        Edit::Clear(_) => take_out(movements, matter),
+        Edit::Nothing
+        | Edit::Open(_)
+        | Edit::Seat(_)
+        | Edit::Unseat(_)
+        | Edit::Close(_)
+        | Edit::Append(_)
+        | Edit::Exchange(_) => {}
+    }
+}
+
+// Takes out what a matter moved.
+fn take_out(movements: &mut Vec<Movement>, matter: MatterNo)
+    ensures { movements.new.items ≡ moved_without matter movements.old.items }
+{
+    movements.retain(|moved| !is_of_matter(&moved.owner, matter));
+}
+
+// Is it a movement of this matter?
+fn is_of_matter(owner: &Owner, number: MatterNo) -> bool
+    ensures { result ≡ is_of_matter number owner.now }
+{
+    match owner {
+        Owner::Matter { matter, entry: _ } => matter.get() == number.get(),
+        Owner::Firm => false,
     }
 }
 
@@ -245,6 +448,50 @@ fn change_kept(
             )?;
             Ok(())
         }
+    }
+}
+
+// Hands over all rows; where they were 2^64 or more, none, as for want of memory.
+fn hand_counted<S: RowSink>(kept: &[KeptMatter], sink: &mut S) -> Result<(), AllocError>
+    requires { AreKeptWhole kept.now }
+    ensures { AreHanded S.stepped IsRowInRange (joined kept.now) result sink.old sink.new }
+{
+    match row_count(kept) {
+        Some(_) => hand_all(kept, sink),
+        None => Err(AllocError),
+    }
+}
+
+// How many rows there are, or None where they are 2^64 or more.
+fn row_count(kept: &[KeptMatter]) -> Option<u64>
+    ensures value { IfSome result (λ n. n ≡ length (joined kept.now)) }
+    ensures few { IfSome result (λ n. n ≤ MOST_ROWS) }
+{
+    let mut count: u64 = 0;
+    for k in kept {
+        let rows = rows_of(&k.matter)?;
+        count = count.checked_add(rows)?;
+    }
+    Some(count)
+}
+
+// How many rows a matter has, or None where they are 2^64 or more.
+fn rows_of(matter: &Matter) -> Option<u64>
+    ensures { IfSome result (λ n. (number : ℕ) → n ≡ length (pairs number (rows_kept matter.now))) }
+{
+    let seats = matter.seats().len() as u64;
+    let entries = matter.kept().len() as u64;
+    let others = seats.checked_add(entries)?;
+    let all = others.checked_add(head_count(matter))?;
+    Some(all)
+}
+
+fn head_count(matter: &Matter) -> u64
+    ensures { (number : ℕ) → result ≡ length (head_pairs number matter.now.head) }
+{
+    match matter.head() {
+        Some(_) => 1,
+        None => 0,
     }
 }
 

@@ -4,9 +4,9 @@ ghost use Rattle.std.specs.Prelude.{◌≡◌, ◌==◌, ◌-◌};
 ghost use Rattle.trust_store.specs.Books.{counted_fault};
 
 use crate::Book;
+use firm_rows::{BalanceKind, FirmLedger, RowSink, Verdict};
 use std::alloc::Global;
-use trust_base::{EntryNo, Line, MatterNo, StoreFault};
-use trust_firm::RowSink;
+use trust_base::{Day, EntryNo, Line, MatterNo, StoreFault};
 use trust_matter::{BankLine, Change, Edit, LineVerdict, Matter};
 
 /// A book for tests: it answers Store to its nth write, and hands each other call on. A change that is nothing is no
@@ -48,6 +48,14 @@ impl<B: Book> Book for RefusingBook<B> {
 
     ghost clean = { λ b. B.clean b.inner };
 
+    ghost sure = { λ b. B.sure b.inner };
+
+    ghost stands = { λ b. B.stands b.inner };
+
+    ghost leaves = { λ b. B.leaves b.inner };
+
+    ghost sound = { λ b. B.sound b.inner };
+
     ghost refusals = { λ b. b.refusals };
 
     fn matter(&mut self, alloc: Global, matter: MatterNo) -> Result<Matter, StoreFault> {
@@ -66,6 +74,55 @@ impl<B: Book> Book for RefusingBook<B> {
     ) -> Result<Matter, StoreFault> {
         match self.inner.matter_for(alloc, matter, entry, other) {
             Ok(found) => Ok(found),
+            Err(fault) => Err(told(&mut self.refusals, fault)),
+        }
+    }
+
+    fn firm(&mut self, alloc: Global) -> Result<FirmLedger, StoreFault> {
+        match self.inner.firm(alloc) {
+            Ok(found) => Ok(found),
+            Err(fault) => Err(told(&mut self.refusals, fault)),
+        }
+    }
+
+    fn balance(&mut self, kind: BalanceKind, day: Day) -> Result<Option<i64>, StoreFault> {
+        match self.inner.balance(kind, day) {
+            Ok(found) => Ok(found),
+            Err(fault) => Err(told(&mut self.refusals, fault)),
+        }
+    }
+
+    fn each_row<S: RowSink>(&mut self, sink: &mut S) -> Result<(), StoreFault> {
+        match self.inner.each_row(sink) {
+            Ok(()) => Ok(()),
+            Err(fault) => Err(told(&mut self.refusals, fault)),
+        }
+    }
+
+    fn each_movement<S: RowSink>(&mut self, sink: &mut S) -> Result<(), StoreFault> {
+        match self.inner.each_movement(sink) {
+            Ok(()) => Ok(()),
+            Err(fault) => Err(told(&mut self.refusals, fault)),
+        }
+    }
+
+    fn each_firm_line<S: RowSink>(&mut self, sink: &mut S) -> Result<(), StoreFault> {
+        match self.inner.each_firm_line(sink) {
+            Ok(()) => Ok(()),
+            Err(fault) => Err(told(&mut self.refusals, fault)),
+        }
+    }
+
+    fn each_exception<S: RowSink>(&mut self, sink: &mut S) -> Result<(), StoreFault> {
+        match self.inner.each_exception(sink) {
+            Ok(()) => Ok(()),
+            Err(fault) => Err(told(&mut self.refusals, fault)),
+        }
+    }
+
+    fn each_balance<S: RowSink>(&mut self, sink: &mut S) -> Result<(), StoreFault> {
+        match self.inner.each_balance(sink) {
+            Ok(()) => Ok(()),
             Err(fault) => Err(told(&mut self.refusals, fault)),
         }
     }
@@ -103,25 +160,42 @@ impl<B: Book> Book for RefusingBook<B> {
         }
     }
 
+    fn write_firm(
+        &mut self,
+        alloc: Global,
+        line: &Line,
+        verdict: Verdict,
+    ) -> Result<(), StoreFault> {
+        if is_refused(&mut self.writes_left) {
+            return Err(told(&mut self.refusals, StoreFault::Store));
+        }
+        match self.inner.write_firm(alloc, line, verdict) {
+            Ok(()) => Ok(()),
+            Err(fault) => Err(told(&mut self.refusals, fault)),
+        }
+    }
+
+    fn write_balance(
+        &mut self,
+        alloc: Global,
+        kind: BalanceKind,
+        line: &Line,
+        verdict: Verdict,
+    ) -> Result<(), StoreFault> {
+        if is_refused(&mut self.writes_left) {
+            return Err(told(&mut self.refusals, StoreFault::Store));
+        }
+        match self.inner.write_balance(alloc, kind, line, verdict) {
+            Ok(()) => Ok(()),
+            Err(fault) => Err(told(&mut self.refusals, fault)),
+        }
+    }
+
     fn write_stray(&mut self, alloc: Global, line: &Line) -> Result<(), StoreFault> {
         if is_refused(&mut self.writes_left) {
             return Err(told(&mut self.refusals, StoreFault::Store));
         }
         match self.inner.write_stray(alloc, line) {
-            Ok(()) => Ok(()),
-            Err(fault) => Err(told(&mut self.refusals, fault)),
-        }
-    }
-
-    fn each_exception<S: RowSink>(&mut self, sink: &mut S) -> Result<(), StoreFault> {
-        match self.inner.each_exception(sink) {
-            Ok(()) => Ok(()),
-            Err(fault) => Err(told(&mut self.refusals, fault)),
-        }
-    }
-
-    fn each_row<S: RowSink>(&mut self, sink: &mut S) -> Result<(), StoreFault> {
-        match self.inner.each_row(sink) {
             Ok(()) => Ok(()),
             Err(fault) => Err(told(&mut self.refusals, fault)),
         }

@@ -1,136 +1,72 @@
 // Books as they are read whole: a matter with all its entries, and the rows of a firm in their order.
 
-ghost use Rattle.std.specs.Prelude.{◌+◌};
-ghost use Rattle.trust_firm.specs.FirmSound.{FirmSound};
-
-use crate::imports::retained;
-use crate::values::{day, matter_no};
-use std::alloc::{AllocError, Global};
-use std::marker::Model;
-use std::test::Fail;
-use trust_base::{EntryNo, Line, MatterNo};
+use crate::play::{Step, Way, ask_all};
+use crate::rows::rows_are;
+use crate::texts::{DEPOSIT, OPEN, OPENED, RECEIPT};
+use crate::values::{Wrong, matter_no};
+use std::alloc::Global;
 use trust_desk::Desk;
-use trust_firm::RowSink;
-use trust_matter::{Entry, Head, Seat};
 use trust_store::{Book, PlainBook, RefusingBook};
 
-// A row of a matter of a number, and that of its entry.
-#[derive(Clone, Copy, Debug, PartialEq, Eq)]
-enum Row {
-    OfHead(u32),
-    OfSeat(u32),
-    OfEntry(u32, u16),
-}
+const OTHER_OPENED: &str =
+    r#"{"available":"0.00","claims":"0.00","client":"Ada Chen","closed":null,"disputed":"0.00","entries":0,"fees":"0.00","held":"0.00","matter":"000002","opened":"2024-01-10","seats":[{"person":"lee","role":"lawyer"}],"total":"0.00"}"#;
 
-// Keeps what rows it is handed. Contracts see it as their count.
-#[derive(Drop)]
-struct Seen {
-    rows: Vec<Row>,
-}
+const OTHER_RECEIPT: &str =
+    r#"{"amount":"70.00","day":"2024-01-10","description":"retainer","entry":"0001","kind":"deposit","matter":"000002","source":"Ada Chen"}"#;
 
-impl Model for Seen {
-    ghost use Rattle.std.specs.Prelude.{ℕ, length};
-
-    ghost Value = { ℕ };
-
-    ghost view = { λ s. length s.rows.items };
-}
-
-impl RowSink for Seen {
-    ghost stepped = { λ count _. count + 1 };
-
-    ghost noted = { λ count _. count };
-
-    fn head(&mut self, matter: MatterNo, _head: &Head) -> Result<(), AllocError> {
-        self.rows.push(Row::OfHead(matter.get()))?;
-        Ok(())
-    }
-
-    fn seat(&mut self, matter: MatterNo, _seat: &Seat) -> Result<(), AllocError> {
-        self.rows.push(Row::OfSeat(matter.get()))?;
-        Ok(())
-    }
-
-    fn entry(
-        &mut self,
-        matter: MatterNo,
-        number: EntryNo,
-        _entry: &Entry,
-    ) -> Result<(), AllocError> {
-        self.rows.push(Row::OfEntry(matter.get(), number.get()))?;
-        Ok(())
-    }
-
-    fn exception(&mut self, _line: &Line) -> Result<(), AllocError> {
-        Ok(())
-    }
-}
-
-// The rows of a book in which matter 000002 was entered, and then matter 000001.
-fn rows_of_two<B: Book + Drop>(alloc: Global, book: B) -> Result<Vec<Row>, Fail>
-    requires { B.clean book → FirmSound (B.firm book) }
-{
-    let today = day("2024-01-10")?;
-    let mut desk = Desk::new(book);
-    retained(&mut desk, alloc, today, "000002", "70.00")?;
-    retained(&mut desk, alloc, today, "000001", "500.00")?;
-    let mut book = desk.into_book();
-    let mut seen = Seen {
-        rows: Vec::new(alloc),
-    };
-    match book.each_row(&mut seen) {
-        Ok(()) => Ok(seen.rows),
-        Err(_) => Err(Fail::from("no rows")),
-    }
-}
-
-const BY_MATTER: [Row; 6] = [
-    Row::OfHead(1),
-    Row::OfSeat(1),
-    Row::OfEntry(1, 1),
-    Row::OfHead(2),
-    Row::OfSeat(2),
-    Row::OfEntry(2, 1),
+// Matter 000002 is entered, and then matter 000001.
+const BOOKED: [Step; 4] = [
+    (
+        "2024-01-10",
+        "",
+        "open,000002,,Ada Chen,lee",
+        201,
+        OTHER_OPENED,
+    ),
+    (
+        "2024-01-10",
+        "",
+        "deposit,000002,0001,70.00,Ada Chen,retainer",
+        201,
+        OTHER_RECEIPT,
+    ),
+    ("2024-01-10", "", OPEN, 201, OPENED),
+    ("2024-01-10", "", DEPOSIT, 201, RECEIPT),
 ];
 
-#[test]
-fn rows_come_by_matter(rt: HostRuntime) -> Result<(), Fail> {
-    let alloc = rt.alloc();
-    let listed = rows_of_two(alloc, PlainBook::new(alloc))?;
-    assert_eq!(rt; listed.as_slice(), BY_MATTER.as_slice());
-    let handed_on = rows_of_two(alloc, RefusingBook::new(PlainBook::new(alloc), 0))?;
-    assert_eq!(rt; handed_on.as_slice(), BY_MATTER.as_slice());
-    Ok(())
-}
-
 // How many heads, seats and entries a book holds of a matter.
-fn held<B: Book>(book: &mut B, alloc: Global, matter: &str) -> Result<[usize; 3], Fail> {
+fn held<B: Book>(book: &mut B, alloc: Global, matter: &str) -> Result<[usize; 3], Wrong> {
     let Ok(found) = book.matter(alloc, matter_no(matter)?) else {
-        return Err(Fail::from("no matter"));
+        return Err(Wrong::Memory);
     };
     let heads = if found.head().is_some() { 1 } else { 0 };
     Ok([heads, found.seats().len(), found.kept().len()])
 }
 
-// Fails where a book, in which matter 000001 is entered, does not hold that one alone.
-fn holds_one<B: Book + Drop>(alloc: Global, book: B) -> Result<(), Fail>
-    requires { B.clean book → FirmSound (B.firm book) }
-{
+// Fails where a book, once both matters are entered, does not hold them alone, in the order of their numbers.
+fn holds_both<B: Book + Drop>(book: B, alloc: Global) -> Result<(), Wrong> {
     let mut desk = Desk::new(book);
-    retained(&mut desk, alloc, day("2024-01-10")?, "000001", "500.00")?;
+    ask_all(&mut desk, alloc, Way::Asked, &BOOKED)?;
     let mut book = desk.into_book();
-    if held(&mut book, alloc, "000001")? != [1, 1, 1] {
-        return Err(Fail::from("another matter"));
+    for (matter, wanted) in [
+        ("000001", [1, 1, 1]),
+        ("000002", [1, 1, 1]),
+        ("000003", [0, 0, 0]),
+    ] {
+        if held(&mut book, alloc, matter)? != wanted {
+            return Err(Wrong::Left);
+        }
     }
-    if held(&mut book, alloc, "000002")? != [0, 0, 0] {
-        return Err(Fail::from("a matter that was never opened"));
-    }
-    Ok(())
+    rows_are(book, alloc, ROWS)
 }
 
+// Rows by matter, and movements as they came.
+const ROWS: &str =
+    "head 000001 Ada Chen\nseat 000001 lee\nentry 000001 0001\nhead 000002 Ada Chen\nseat 000002 lee\nentry 000002 0001\n000002 0001 2024-01-10 70.00\n000001 0001 2024-01-10 500.00\n";
+
 #[test]
-fn a_matter_is_read_whole(rt: HostRuntime) -> Result<(), Fail> {
+fn rows_come_by_matter(rt: HostRuntime) -> Result<(), Wrong> {
     let alloc = rt.alloc();
-    holds_one(alloc, PlainBook::new(alloc))?;
-    holds_one(alloc, RefusingBook::new(PlainBook::new(alloc), 0))
+    holds_both(PlainBook::new(alloc), alloc)?;
+    holds_both(RefusingBook::new(PlainBook::new(alloc), 0), alloc)
 }

@@ -1,32 +1,16 @@
 // Fees that are set apart, and claims that keep money apart until they are settled.
 
-use crate::imports::{DEPOSITED_AT_ONCE, ONE_APPLIED, imports, retained};
-use crate::steps::{On, PaidFrom, Step, Told, follow, propose_from};
-use crate::values::day;
-use std::alloc::Global;
-use std::test::Fail;
-use trust_desk::Desk;
-use trust_store::PlainBook;
+use crate::play::{Step, play};
+use crate::texts::{
+    BANKED_AT_ONCE, DEPOSIT, NO_ENTRY, ONE_APPLIED, OPEN, OPENED, RECEIPT, SHOW, WRONG_KIND,
+    WRONG_PAYEE, WRONG_STATE,
+};
+use crate::values::Wrong;
+
+const SEAT: &str = "seat,000001,,ada,client";
 
 const SEATED: &str =
     r#"{"available":"0.00","claims":"0.00","client":"Ada Chen","closed":null,"disputed":"0.00","entries":1,"fees":"0.00","held":"500.00","matter":"000001","opened":"2024-01-10","seats":[{"person":"ada","role":"client"},{"person":"lee","role":"lawyer"}],"total":"0.00"}"#;
-
-// Follows steps of a matter of which 500.00 are cleared, of the lawyer lee and the client ada.
-fn follow_cleared(alloc: Global, steps: &[Told]) -> Result<(), Fail> {
-    let today = day("2024-01-10")?;
-    let mut desk = Desk::new(PlainBook::new(alloc));
-    retained(&mut desk, alloc, today, "000001", "500.00")?;
-    let seated: [Told; 1] = [("", Step::SeatClient("ada"), 200, SEATED)];
-    follow(&mut desk, alloc, today, "000001", &seated)?;
-    imports(
-        &mut desk,
-        alloc,
-        today,
-        DEPOSITED_AT_ONCE.as_bytes(),
-        ONE_APPLIED,
-    )?;
-    follow(&mut desk, alloc, today, "000001", steps)
-}
 
 const FEE: &str =
     r#"{"amount":"200.00","day":"2024-01-10","description":"advice","entry":"0002","kind":"fee","matter":"000001"}"#;
@@ -58,40 +42,65 @@ const AFTER_PAYING: &str =
 const FIRM_UNPAID: &str =
     r#"{"amount":"160.00","bank_day":null,"bank_ref":null,"day":"2024-01-10","entry":"0004","from":"fee","instrument":"1001","issued":"2024-01-10","kind":"payment","matter":"000001","of":"0002","payee":"FIRM","purpose":"filing fee","state":"voided","undone":"2024-01-10"}"#;
 
+const SHORT: &str = r#"{"left":"150.00","name":"Short","refusal":21}"#;
+
+const BAD_SPLIT: &str = r#"{"name":"BadSplit","refusal":20}"#;
+
+const FEE_LEFT: &str =
+    r#"{"amount":"200.00","day":"2024-01-10","description":"advice","entry":"0002","kind":"fee","left":"150.00","matter":"000001"}"#;
+
+const CLAIM_OPEN: &str =
+    r#"{"amount":"50.00","claimant":null,"day":"2024-01-10","entry":"0003","kind":"claim","left":null,"matter":"000001","of":"0002","on":"fee","reason":"hours","settled":null,"state":"open","to_client":null}"#;
+
 #[test]
-fn a_claim_on_a_fee_is_settled(rt: HostRuntime) -> Result<(), Fail> {
-    let claim = Step::Claim("0003", "50.00", On::Fee("0002"));
-    let paid = propose_from(PaidFrom::Fee("0002"), "0004", "160.00", "FIRM");
-    let steps: [Told; 16] = [
-        ("lee", Step::Fee("0002", "200.00"), 201, FEE),
-        ("lee", Step::Fee("0002", "200.00"), 200, FEE),
-        ("", Step::Show, 200, FEE_EARNED),
-        ("ada", claim, 201, ON_FEE),
-        ("ada", claim, 200, ON_FEE),
-        ("", paid, 201, FROM_FEE),
+fn a_claim_on_a_fee_is_settled(rt: HostRuntime) -> Result<(), Wrong> {
+    let earn = "fee,000001,0002,200.00,advice";
+    let dispute = "dispute,000001,0003,50.00,0002,hours";
+    let pay = "propose,000001,0004,160.00,fee,0002,FIRM,filing fee,1001";
+    let steps: [Step; 22] = [
+        ("2024-01-10", "", OPEN, 201, OPENED),
+        ("2024-01-10", "", DEPOSIT, 201, RECEIPT),
+        ("2024-01-10", "", SEAT, 200, SEATED),
+        ("2024-01-10", "", BANKED_AT_ONCE, 200, ONE_APPLIED),
+        ("2024-01-10", "lee", earn, 201, FEE),
+        ("2024-01-10", "lee", earn, 200, FEE),
+        ("2024-01-10", "", SHOW, 200, FEE_EARNED),
+        ("2024-01-10", "ada", dispute, 201, ON_FEE),
+        ("2024-01-10", "ada", dispute, 200, ON_FEE),
+        ("2024-01-10", "", "entry,000001,0002", 200, FEE_LEFT),
+        ("2024-01-10", "", "entry,000001,0003", 200, CLAIM_OPEN),
+        ("2024-01-10", "", pay, 201, FROM_FEE),
+        ("2024-01-10", "lee", "approve,000001,0004", 409, SHORT),
+        ("2024-01-10", "lee", "offer,000001,0003,20.00", 200, OFFERED),
         (
-            "lee",
-            Step::Approve("0004"),
-            409,
-            r#"{"left":"150.00","name":"Short","refusal":21}"#,
-        ),
-        ("lee", Step::Offer("0003", "20.00"), 200, OFFERED),
-        (
+            "2024-01-10",
             "ada",
-            Step::Accept("0003", "30.00"),
+            "accept,000001,0003,30.00",
             422,
-            r#"{"name":"BadSplit","refusal":20}"#,
+            BAD_SPLIT,
         ),
-        ("ada", Step::Accept("0003", "20.00"), 200, SETTLED),
-        ("", Step::Show, 200, AFTER_SETTLING),
-        ("lee", Step::Approve("0004"), 200, FIRM_PAID),
-        ("", Step::Show, 200, AFTER_PAYING),
-        ("lee", Step::Void("0004"), 200, FIRM_UNPAID),
-        ("", Step::Show, 200, AFTER_SETTLING),
-        ("", paid, 200, FROM_FEE),
+        (
+            "2024-01-10",
+            "ada",
+            "accept,000001,0003,20.00",
+            200,
+            SETTLED,
+        ),
+        ("2024-01-10", "", SHOW, 200, AFTER_SETTLING),
+        ("2024-01-10", "lee", "approve,000001,0004", 200, FIRM_PAID),
+        ("2024-01-10", "", SHOW, 200, AFTER_PAYING),
+        ("2024-01-10", "lee", "void,000001,0004", 200, FIRM_UNPAID),
+        ("2024-01-10", "", SHOW, 200, AFTER_SETTLING),
+        ("2024-01-10", "", pay, 200, FROM_FEE),
     ];
-    follow_cleared(rt.alloc(), &steps)
+    play(rt.alloc(), &steps, "")
 }
+
+const CLAIM: &str = "claim,000001,0002,120.00,Roof Builders,hours";
+
+const PAY_CLAIMANT: &str = "propose,000001,0003,100.00,claim,0002,Roof Builders,filing fee,1001";
+
+const PAY_ANOTHER: &str = "propose,000001,0003,100.00,claim,0002,Ada Chen,filing fee,1001";
 
 const CLAIMED: &str =
     r#"{"amount":"120.00","claimant":"Roof Builders","day":"2024-01-10","entry":"0002","kind":"claim","matter":"000001","of":null,"on":"general","reason":"hours"}"#;
@@ -114,74 +123,58 @@ const CLAIMANT_PAID: &str =
 const CLAIM_EMPTY: &str =
     r#"{"available":"400.00","claims":"0.00","client":"Ada Chen","closed":null,"disputed":"0.00","entries":3,"fees":"0.00","held":"0.00","matter":"000001","opened":"2024-01-10","seats":[{"person":"ada","role":"client"},{"person":"lee","role":"lawyer"}],"total":"400.00"}"#;
 
-const WRONG_PAYEE: &str = r#"{"name":"WrongPayee","refusal":19}"#;
-
 #[test]
-fn a_claimant_is_paid(rt: HostRuntime) -> Result<(), Fail> {
-    let claim = Step::Claim("0002", "120.00", On::General("Roof Builders"));
-    let paid = propose_from(PaidFrom::Claim("0002"), "0003", "100.00", "Roof Builders");
-    let steps: [Told; 12] = [
-        ("", claim, 201, CLAIMED),
-        ("", claim, 200, CLAIMED),
-        ("", Step::Show, 200, KEPT_APART),
-        ("", paid, 409, r#"{"name":"WrongState","refusal":17}"#),
-        ("", Step::Award("0002", "20.00"), 200, AWARDED),
-        ("", Step::Show, 200, LEFT_TO_CLAIMANT),
+fn a_claimant_is_paid(rt: HostRuntime) -> Result<(), Wrong> {
+    let more = "claim,000001,0004,400.01,Roof Builders,hours";
+    let short = r#"{"left":"400.00","name":"Short","refusal":21}"#;
+    let steps: [Step; 16] = [
+        ("2024-01-10", "", OPEN, 201, OPENED),
+        ("2024-01-10", "", DEPOSIT, 201, RECEIPT),
+        ("2024-01-10", "", SEAT, 200, SEATED),
+        ("2024-01-10", "", BANKED_AT_ONCE, 200, ONE_APPLIED),
+        ("2024-01-10", "", CLAIM, 201, CLAIMED),
+        ("2024-01-10", "", CLAIM, 200, CLAIMED),
+        ("2024-01-10", "", SHOW, 200, KEPT_APART),
+        ("2024-01-10", "", PAY_CLAIMANT, 409, WRONG_STATE),
+        ("2024-01-10", "", "award,000001,0002,20.00", 200, AWARDED),
+        ("2024-01-10", "", SHOW, 200, LEFT_TO_CLAIMANT),
+        ("2024-01-10", "", PAY_ANOTHER, 422, WRONG_PAYEE),
+        ("2024-01-10", "", PAY_CLAIMANT, 201, FROM_CLAIM),
         (
-            "",
-            propose_from(PaidFrom::Claim("0002"), "0003", "100.00", "Ada Chen"),
-            422,
-            WRONG_PAYEE,
+            "2024-01-10",
+            "lee",
+            "approve,000001,0003",
+            200,
+            CLAIMANT_PAID,
         ),
-        ("", paid, 201, FROM_CLAIM),
-        ("lee", Step::Approve("0003"), 200, CLAIMANT_PAID),
-        ("", Step::Show, 200, CLAIM_EMPTY),
-        (
-            "",
-            Step::Claim("0004", "400.01", On::General("Roof Builders")),
-            409,
-            r#"{"left":"400.00","name":"Short","refusal":21}"#,
-        ),
-        ("", Step::Show, 200, CLAIM_EMPTY),
+        ("2024-01-10", "", SHOW, 200, CLAIM_EMPTY),
+        ("2024-01-10", "", more, 409, short),
+        ("2024-01-10", "", SHOW, 200, CLAIM_EMPTY),
     ];
-    follow_cleared(rt.alloc(), &steps)
+    play(rt.alloc(), &steps, "")
 }
 
 #[test]
-fn claims_that_are_refused(rt: HostRuntime) -> Result<(), Fail> {
-    let steps: [Told; 5] = [
-        (
-            "",
-            propose_from(PaidFrom::Claim("0001"), "0002", "100.00", "Roof Builders"),
-            409,
-            r#"{"name":"WrongKind","refusal":16}"#,
-        ),
-        (
-            "",
-            propose_from(PaidFrom::Claim("0007"), "0002", "100.00", "Roof Builders"),
-            404,
-            r#"{"name":"NoEntry","refusal":15}"#,
-        ),
-        (
-            "",
-            Step::Claim("0002", "120.00", On::General("cash")),
-            422,
-            r#"{"name":"PayeeIsCash","refusal":18}"#,
-        ),
-        (
-            "ada",
-            Step::Claim("0002", "120.00", On::General("Roof Builders")),
-            403,
-            r#"{"name":"NotAllowed","refusal":10,"rule":"claim"}"#,
-        ),
-        (
-            "",
-            Step::Claim("0002", "120.00", On::Fee("0001")),
-            403,
-            r#"{"name":"NotAllowed","refusal":10,"rule":"dispute"}"#,
-        ),
+fn claims_that_are_refused(rt: HostRuntime) -> Result<(), Wrong> {
+    let of_deposit = "propose,000001,0002,100.00,claim,0001,Roof Builders,filing fee,1001";
+    let of_nothing = "propose,000001,0002,100.00,claim,0007,Roof Builders,filing fee,1001";
+    let by_cash = "claim,000001,0002,120.00,cash,hours";
+    let on_deposit = "dispute,000001,0002,120.00,0001,hours";
+    let cash = r#"{"name":"PayeeIsCash","refusal":18}"#;
+    let claim = r#"{"name":"NotAllowed","refusal":10,"rule":"claim"}"#;
+    let dispute = r#"{"name":"NotAllowed","refusal":10,"rule":"dispute"}"#;
+    let steps: [Step; 9] = [
+        ("2024-01-10", "", OPEN, 201, OPENED),
+        ("2024-01-10", "", DEPOSIT, 201, RECEIPT),
+        ("2024-01-10", "", SEAT, 200, SEATED),
+        ("2024-01-10", "", BANKED_AT_ONCE, 200, ONE_APPLIED),
+        ("2024-01-10", "", of_deposit, 409, WRONG_KIND),
+        ("2024-01-10", "", of_nothing, 404, NO_ENTRY),
+        ("2024-01-10", "", by_cash, 422, cash),
+        ("2024-01-10", "ada", CLAIM, 403, claim),
+        ("2024-01-10", "", on_deposit, 403, dispute),
     ];
-    follow_cleared(rt.alloc(), &steps)
+    play(rt.alloc(), &steps, "")
 }
 
 const FIRM_CLAIMS: &str =
@@ -195,30 +188,26 @@ const TO_FIRM: &str =
 
 // The firm may claim money of the general fund like anybody else, and is paid from its claim alone.
 #[test]
-fn the_firm_is_a_claimant(rt: HostRuntime) -> Result<(), Fail> {
-    let claim = Step::Claim("0002", "120.00", On::General("FIRM"));
-    let claimed = PaidFrom::Claim("0002");
-    let steps: [Told; 5] = [
-        ("", claim, 201, FIRM_CLAIMS),
-        ("", Step::Award("0002", "20.00"), 200, FIRM_AWARDED),
+fn the_firm_is_a_claimant(rt: HostRuntime) -> Result<(), Wrong> {
+    let claim = "claim,000001,0002,120.00,FIRM,hours";
+    let from_general = "propose,000001,0003,100.00,general,,FIRM,filing fee,1001";
+    let from_claim = "propose,000001,0003,100.00,claim,0002,FIRM,filing fee,1001";
+    let steps: [Step; 9] = [
+        ("2024-01-10", "", OPEN, 201, OPENED),
+        ("2024-01-10", "", DEPOSIT, 201, RECEIPT),
+        ("2024-01-10", "", SEAT, 200, SEATED),
+        ("2024-01-10", "", BANKED_AT_ONCE, 200, ONE_APPLIED),
+        ("2024-01-10", "", claim, 201, FIRM_CLAIMS),
         (
+            "2024-01-10",
             "",
-            propose_from(PaidFrom::General, "0003", "100.00", "FIRM"),
-            422,
-            WRONG_PAYEE,
+            "award,000001,0002,20.00",
+            200,
+            FIRM_AWARDED,
         ),
-        (
-            "",
-            propose_from(claimed, "0003", "100.00", "Roof Builders"),
-            422,
-            WRONG_PAYEE,
-        ),
-        (
-            "",
-            propose_from(claimed, "0003", "100.00", "FIRM"),
-            201,
-            TO_FIRM,
-        ),
+        ("2024-01-10", "", from_general, 422, WRONG_PAYEE),
+        ("2024-01-10", "", PAY_CLAIMANT, 422, WRONG_PAYEE),
+        ("2024-01-10", "", from_claim, 201, TO_FIRM),
     ];
-    follow_cleared(rt.alloc(), &steps)
+    play(rt.alloc(), &steps, "")
 }

@@ -1,23 +1,21 @@
 // Items of a statement that are applied one by one.
 
-ghost use Rattle.trust_firm.specs.FirmSound.{FirmSound};
-
-use crate::imports::{DEPOSITED, retained};
-use crate::values::day;
+use crate::play::{Step, Way, ask_all};
+use crate::texts::{DEPOSIT, OPEN, OPENED, RECEIPT};
+use crate::values::{Wrong, day};
 use statement_csv::{Item, Lines};
 use std::alloc::Global;
-use std::test::Fail;
 use trust_base::Day;
 use trust_desk::{Counted, Desk};
 use trust_store::{Book, PlainBook};
 
 // The first item of a statement.
-fn first_item(alloc: Global, statement: &str) -> Result<Item, Fail> {
+fn first_item(alloc: Global, statement: &str) -> Result<Item, Wrong> {
     let mut lines = Lines::new(alloc, statement.as_bytes());
-    let Ok(Some(item)) = lines.next() else {
-        return Err(Fail::from("no item"));
-    };
-    Ok(item)
+    match lines.next() {
+        Ok(Some(item)) => Ok(item),
+        _ => Err(Wrong::Value),
+    }
 }
 
 // Fails where something else than what is wanted becomes of the first item of a statement.
@@ -27,33 +25,34 @@ fn becomes<B: Book>(
     today: Day,
     statement: &str,
     wanted: Counted,
-) -> Result<(), Fail>
-    requires { B.clean desk.old → FirmSound (B.firm desk.old) }
-    ensures { B.clean desk.new → FirmSound (B.firm desk.new) }
-{
+) -> Result<(), Wrong> {
     let item = first_item(alloc, statement)?;
-    let Ok(counted) = desk.apply_line(alloc, &item, today) else {
-        return Err(Fail::from("not applied"));
-    };
-    if counted == wanted {
-        Ok(())
-    } else {
-        Err(Fail::from("counted as another"))
+    match desk.apply_line(alloc, &item, today) {
+        Ok(counted) if counted == wanted => Ok(()),
+        _ => Err(Wrong::End),
     }
 }
+
+const BOOKED: [Step; 2] = [
+    ("2024-01-10", "", OPEN, 201, OPENED),
+    ("2024-01-10", "", DEPOSIT, 201, RECEIPT),
+];
+
+const OF_THE_DEPOSIT: &str =
+    "date,reference,bank_ref,amount,text\n2024-01-12,M000001-0001,B1,500.00,\n";
 
 const OF_NO_ENTRY: &str = "date,reference,bank_ref,amount,text\n2024-01-12,M000001-0002,B2,1.00,\n";
 
 const NO_LINE: &str = "date,reference,bank_ref,amount,text\ngarbage\n";
 
 #[test]
-fn items_are_applied_one_by_one(rt: HostRuntime) -> Result<(), Fail> {
+fn items_are_applied_one_by_one(rt: HostRuntime) -> Result<(), Wrong> {
     let alloc = rt.alloc();
     let today = day("2024-01-12")?;
     let mut desk = Desk::new(PlainBook::new(alloc));
-    retained(&mut desk, alloc, day("2024-01-10")?, "000001", "500.00")?;
-    becomes(&mut desk, alloc, today, DEPOSITED, Counted::Applied)?;
-    becomes(&mut desk, alloc, today, DEPOSITED, Counted::Repeated)?;
+    ask_all(&mut desk, alloc, Way::Asked, &BOOKED)?;
+    becomes(&mut desk, alloc, today, OF_THE_DEPOSIT, Counted::Applied)?;
+    becomes(&mut desk, alloc, today, OF_THE_DEPOSIT, Counted::Repeated)?;
     becomes(&mut desk, alloc, today, OF_NO_ENTRY, Counted::Exception)?;
     becomes(&mut desk, alloc, today, NO_LINE, Counted::Unreadable)
 }

@@ -2,6 +2,8 @@
 #![tactic(auto)]
 
 #[cfg(test)]
+mod bank_balances;
+#[cfg(test)]
 mod bodies;
 #[cfg(test)]
 mod books;
@@ -10,9 +12,13 @@ mod claims;
 #[cfg(test)]
 mod desk;
 #[cfg(test)]
-mod handed_in;
+mod entries;
 #[cfg(test)]
-mod imports;
+mod faults;
+#[cfg(test)]
+mod firm_lines;
+#[cfg(test)]
+mod handed_in;
 #[cfg(test)]
 mod items;
 #[cfg(test)]
@@ -20,16 +26,28 @@ mod matter;
 #[cfg(test)]
 mod payments;
 #[cfg(test)]
+mod play;
+#[cfg(test)]
+mod purging;
+#[cfg(test)]
 mod refused_writes;
 #[cfg(test)]
-mod requests;
+mod returns;
+#[cfg(test)]
+mod rows;
 #[cfg(test)]
 mod runs;
 #[cfg(test)]
+mod sizes;
+#[cfg(test)]
 mod statements;
 #[cfg(test)]
-mod steps;
+mod stored_rows;
+#[cfg(test)]
+mod texts;
 #[cfg(test)]
 mod values;
 #[cfg(test)]
 mod whole;
+#[cfg(test)]
+mod words;

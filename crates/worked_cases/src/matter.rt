@@ -1,43 +1,28 @@
-// A matter that is opened, its seats, and deposits that are booked and cancelled.
+// A matter by itself: what an ask makes of it, and what a refusal leaves as it was.
 
-use crate::values::{cents, day, entry_no, label, person};
+use crate::values::{Wrong, day};
+use crate::words::asked;
 use std::alloc::Global;
-use std::test::Fail;
-use trust_base::{Day, Refusal, Rule};
-use trust_matter::{
-    Ask, Caller, Change, DepositAsk, DepositState, Edit, Entry, Matter, OpenAsk, Role, Seat,
-    balances, decide,
-};
+use trust_base::{Day, EntryNo, Refusal, Rule};
+use trust_matter::{Ask, Caller, Change, Edit, Matter, decide, holds_for};
 
-fn open_for_ada(alloc: Global) -> Result<Ask, Fail> {
-    Ok(Ask::OpenMatter(OpenAsk {
-        client: label(alloc, "Ada Chen")?,
-        lawyer: person(alloc, "lee")?,
-    }))
+// What becomes of an ask.
+#[derive(Clone, Copy)]
+enum Wanted {
+    Refused(Refusal),
+    // Nothing changes.
+    Nothing,
+    // It changes, and moves nothing in the journal.
+    Edited,
+    // The entry of this number moves so many cents on the day.
+    Moved(u16, i64),
 }
 
-fn add_seat(alloc: Global, name: &str, role: Role) -> Result<Ask, Fail> {
-    Ok(Ask::AddSeat(Seat {
-        person: person(alloc, name)?,
-        role,
-    }))
-}
+// An ask: its day, its caller (the cashier where none is named), the record of what is asked, and what becomes of it.
+type Asked = (&'static str, &'static str, &'static str, Wanted);
 
-fn drop_seat(alloc: Global, name: &str) -> Result<Ask, Fail> {
-    Ok(Ask::DropSeat(person(alloc, name)?))
-}
-
-fn deposit(alloc: Global, amount: &str) -> Result<Ask, Fail> {
-    Ok(Ask::Deposit(DepositAsk {
-        number: entry_no("0001")?,
-        amount: cents(amount)?,
-        source: label(alloc, "Ada Chen")?,
-        description: label(alloc, "retainer")?,
-    }))
-}
-
-// What of a matter a refusal leaves as it was.
-fn told(matter: &Matter) -> [u64; 7] {
+// What of a matter a refusal leaves as it was: its entries, its money held and available, its seats and its last day.
+fn told(matter: &Matter) -> [u64; 5] {
     let last = match matter.head() {
         None => 0,
         Some(head) => head.last.get(),
@@ -47,202 +32,183 @@ fn told(matter: &Matter) -> [u64; 7] {
         figures.entries,
         figures.held,
         figures.available,
-        figures.fees,
         matter.seats().len() as u64,
-        matter.kept().len() as u64,
         last as u64,
     ]
 }
 
-// Decides on an ask; where memory is refused, a second time.
-fn decided(
-    matter: &Matter,
+// Whether a change is the wanted one of a day.
+fn is_wanted(change: &Change, today: Day, wanted: Wanted) -> bool {
+    let is_nothing = matches!(change.edit(), Edit::Nothing);
+    match (change.movement(), wanted) {
+        (None, Wanted::Nothing) => is_nothing,
+        (None, Wanted::Edited) => !is_nothing,
+        (Some(moved), Wanted::Moved(entry, amount)) => {
+            moved.entry.get() == entry && moved.amount == amount && moved.day == today
+        }
+        _ => false,
+    }
+}
+
+// Makes a change; where memory is refused, the matter is as before, and takes it a second time.
+fn apply(matter: &mut Matter, change: &Change) -> Result<(), Wrong> {
+    let before = told(matter);
+    if matter.apply(change).is_ok() {
+        return Ok(());
+    }
+    if told(matter) != before {
+        return Err(Wrong::Left);
+    }
+    Ok(matter.apply(change)?)
+}
+
+// Fails where something else becomes of an ask.
+fn ask_one(
+    matter: &mut Matter,
     caller: &Caller,
     ask: &Ask,
-    day: Day,
-) -> Result<Result<Change, Refusal>, Fail> {
-    if !matter.holds_for(ask) {
-        return Err(Fail::from("not held"));
+    today: Day,
+    wanted: Wanted,
+) -> Result<(), Wrong> {
+    if !holds_for(matter, ask) {
+        return Err(Wrong::Value);
     }
-    match decide(matter, caller, ask, day) {
-        Err(Refusal::Memory) => Ok(decide(matter, caller, ask, day)),
-        answer => Ok(answer),
+    match decide(matter, caller, ask, today) {
+        Ok(change) if is_wanted(&change, today, wanted) => apply(matter, &change),
+        Err(Refusal::Memory) => Err(Wrong::Memory),
+        Err(refusal) => match wanted {
+            Wanted::Refused(other) if other == refusal => Ok(()),
+            _ => Err(Wrong::Value),
+        },
+        Ok(_) => Err(Wrong::Value),
     }
 }
 
-// Makes an ask's change; where memory is refused, the matter is as before, and takes it a second time.
-fn accepted(matter: &mut Matter, caller: &Caller, ask: &Ask, day: Day) -> Result<Change, Fail> {
-    let Ok(change) = decided(matter, caller, ask, day)? else {
-        return Err(Fail::from("refused"));
-    };
-    let before = told(matter);
-    if matter.apply(&change).is_err() {
-        if told(matter) != before {
-            return Err(Fail::from("changed without memory"));
-        }
-        matter.apply(&change)?;
-    }
-    Ok(change)
-}
-
-// The refusal of an ask.
-fn refused(matter: &Matter, caller: &Caller, ask: &Ask, day: Day) -> Result<Refusal, Fail> {
-    let Err(refusal) = decided(matter, caller, ask, day)? else {
-        return Err(Fail::from("accepted"));
-    };
-    Ok(refusal)
-}
-
-// A matter for Ada Chen, which the cashier opened with the lawyer lee.
-fn opened(alloc: Global) -> Result<Matter, Fail> {
+// The matter after asks.
+fn after(alloc: Global, asks: &[Asked]) -> Result<Matter, Wrong> {
     let mut matter = Matter::unopened(alloc);
-    accepted(
-        &mut matter,
-        &Caller::Cashier,
-        &open_for_ada(alloc)?,
-        day("2024-01-10")?,
-    )?;
+    for (today, name, record, wanted) in asks {
+        let (caller, ask) = asked(alloc, name, record)?;
+        ask_one(&mut matter, &caller, &ask, day(today)?, *wanted)?;
+    }
     Ok(matter)
 }
 
-#[test]
-fn opening(rt: HostRuntime) -> Result<(), Fail> {
-    let alloc = rt.alloc();
-    let today = day("2024-01-10")?;
-    let cashier = Caller::Cashier;
-    let open = open_for_ada(alloc)?;
-    let mut matter = Matter::unopened(alloc);
-    let early = refused(&matter, &cashier, &Ask::Show, today)?;
-    assert_eq!(rt; early, Refusal::NoMatter);
-    let change = accepted(&mut matter, &cashier, &open, today)?;
-    assert!(rt; change.movement().is_none());
-    let head = matter.head().ok_or("a head")?;
-    assert_eq!(rt; head.client.as_slice(), b"Ada Chen".as_slice());
-    assert_eq!(rt; head.opened, today);
-    assert_eq!(rt; head.last, today);
-    assert!(rt; head.closed.is_none());
-    assert_eq!(rt; matter.seats().len(), 1);
-    let role = matter.role_of(&person(alloc, "lee")?);
-    assert!(rt; matches!(role, Some(Role::Lawyer)));
-    let again = refused(&matter, &cashier, &open, today)?;
-    assert_eq!(rt; again, Refusal::AlreadyOpen);
-    let shown = accepted(&mut matter, &cashier, &Ask::Show, today)?;
-    assert!(rt; matches!(shown.edit(), Edit::Nothing));
-    Ok(())
-}
-
-#[test]
-fn deposits(rt: HostRuntime) -> Result<(), Fail> {
-    let alloc = rt.alloc();
-    let today = day("2024-01-11")?;
-    let cashier = Caller::Cashier;
-    let mut matter = opened(alloc)?;
-    let booked = accepted(&mut matter, &cashier, &deposit(alloc, "500.00")?, today)?;
-    let movement = booked.movement().ok_or("a movement")?;
-    assert_eq!(rt; movement.entry, entry_no("0001")?);
-    assert_eq!(rt; movement.day, today);
-    assert_eq!(rt; movement.amount, 50_000);
-    assert_eq!(rt; balances(&matter).held, 50_000);
-    assert_eq!(rt; balances(&matter).available, 0);
-    assert_eq!(rt; balances(&matter).total, 0);
-    assert_eq!(rt; matter.figures().entries, 1);
-    let before = told(&matter);
-    let later = day("2024-01-12")?;
-    let again = accepted(&mut matter, &cashier, &deposit(alloc, "500.00")?, later)?;
-    assert!(rt; matches!(again.edit(), Edit::Nothing));
-    assert!(rt; again.movement().is_none());
-    assert!(rt; told(&matter) == before);
-    let other = refused(&matter, &cashier, &deposit(alloc, "500.01")?, today)?;
-    assert_eq!(rt; other, Refusal::WrongNumber(Some(entry_no("0002")?)));
-    let lee = Caller::Person(person(alloc, "lee")?);
-    let office = refused(&matter, &lee, &deposit(alloc, "500.00")?, today)?;
-    assert_eq!(rt; office, Refusal::NotAllowed(Rule::Office));
-    Ok(())
-}
-
-#[test]
-fn strangers(rt: HostRuntime) -> Result<(), Fail> {
-    let alloc = rt.alloc();
-    let today = day("2024-01-11")?;
-    let stranger = Caller::Person(person(alloc, "mallory")?);
-    let matters = [Matter::unopened(alloc), opened(alloc)?];
-    for matter in matters.iter() {
-        let shown = refused(matter, &stranger, &Ask::Show, today)?;
-        assert_eq!(rt; shown, Refusal::NoMatter);
-        let booked = refused(matter, &stranger, &deposit(alloc, "500.00")?, today)?;
-        assert_eq!(rt; booked, Refusal::NoMatter);
+// Fails where asks end otherwise, or leave a matter of which something else is told.
+fn leads(alloc: Global, asks: &[Asked], wanted: [u64; 5]) -> Result<(), Wrong> {
+    if told(&after(alloc, asks)?) == wanted {
+        Ok(())
+    } else {
+        Err(Wrong::Left)
     }
-    Ok(())
+}
+
+const OPEN: &str = "open,000001,,Ada Chen,lee";
+
+const SHOW: &str = "show,000001,";
+
+const DEPOSIT: &str = "deposit,000001,0001,500.00,Ada Chen,retainer";
+
+const CANCEL: &str = "cancel,000001,0001";
+
+const NO_MATTER: Wanted = Wanted::Refused(Refusal::NoMatter);
+
+#[test]
+fn opening(rt: HostRuntime) -> Result<(), Wrong> {
+    let asks: [Asked; 4] = [
+        ("2024-01-10", "", SHOW, NO_MATTER),
+        ("2024-01-10", "", OPEN, Wanted::Edited),
+        (
+            "2024-01-10",
+            "",
+            OPEN,
+            Wanted::Refused(Refusal::AlreadyOpen),
+        ),
+        ("2024-01-10", "", SHOW, Wanted::Nothing),
+    ];
+    leads(rt.alloc(), &asks, [0, 0, 0, 1, 20_240_110])
 }
 
 #[test]
-fn seats(rt: HostRuntime) -> Result<(), Fail> {
-    let alloc = rt.alloc();
-    let today = day("2024-01-11")?;
-    let cashier = Caller::Cashier;
-    let mut matter = opened(alloc)?;
-    let taken = refused(
-        &matter,
-        &cashier,
-        &add_seat(alloc, "lee", Role::Client)?,
-        today,
-    )?;
-    assert_eq!(rt; taken, Refusal::SeatTaken);
-    let none = refused(&matter, &cashier, &drop_seat(alloc, "bob")?, today)?;
-    assert_eq!(rt; none, Refusal::NoSeat);
-    let last = refused(&matter, &cashier, &drop_seat(alloc, "lee")?, today)?;
-    assert_eq!(rt; last, Refusal::LastLawyer);
-    accepted(
-        &mut matter,
-        &cashier,
-        &add_seat(alloc, "ada", Role::Client)?,
-        today,
-    )?;
-    let first = matter.seats().first().ok_or("a seat")?;
-    assert_eq!(rt; first.person.as_slice(), b"ada".as_slice());
-    let ada = Caller::Person(person(alloc, "ada")?);
-    let before = day("2024-01-10")?;
-    accepted(&mut matter, &ada, &Ask::Show, before)?;
-    let backwards = refused(
-        &matter,
-        &cashier,
-        &add_seat(alloc, "bob", Role::Lawyer)?,
-        before,
-    )?;
-    assert_eq!(rt; backwards, Refusal::DateBackwards(today));
-    accepted(&mut matter, &cashier, &drop_seat(alloc, "ada")?, today)?;
-    assert_eq!(rt; matter.seats().len(), 1);
-    let gone = refused(&matter, &ada, &Ask::Show, today)?;
-    assert_eq!(rt; gone, Refusal::NoMatter);
-    Ok(())
+fn deposits(rt: HostRuntime) -> Result<(), Wrong> {
+    let more = "deposit,000001,0001,500.01,Ada Chen,retainer";
+    let second = Wanted::Refused(Refusal::WrongNumber(EntryNo::from_number(2)));
+    let office = Wanted::Refused(Refusal::NotAllowed(Rule::Office));
+    let asks: [Asked; 5] = [
+        ("2024-01-10", "", OPEN, Wanted::Edited),
+        ("2024-01-11", "", DEPOSIT, Wanted::Moved(1, 50_000)),
+        ("2024-01-12", "", DEPOSIT, Wanted::Nothing),
+        ("2024-01-11", "", more, second),
+        ("2024-01-11", "lee", DEPOSIT, office),
+    ];
+    leads(rt.alloc(), &asks, [1, 50_000, 0, 1, 20_240_111])
 }
 
 #[test]
-fn cancelling(rt: HostRuntime) -> Result<(), Fail> {
-    let alloc = rt.alloc();
-    let booked = day("2024-01-11")?;
-    let today = day("2024-01-12")?;
-    let cashier = Caller::Cashier;
-    let first = entry_no("0001")?;
-    let mut matter = opened(alloc)?;
-    let missing = refused(&matter, &cashier, &Ask::CancelDeposit(first), today)?;
-    assert_eq!(rt; missing, Refusal::NoEntry);
-    accepted(&mut matter, &cashier, &deposit(alloc, "500.00")?, booked)?;
-    let change = accepted(&mut matter, &cashier, &Ask::CancelDeposit(first), today)?;
-    let movement = change.movement().ok_or("a movement")?;
-    assert_eq!(rt; movement.day, today);
-    assert_eq!(rt; movement.amount, -50_000);
-    assert_eq!(rt; balances(&matter).held, 0);
-    assert_eq!(rt; balances(&matter).total, 0);
-    let kept = matter.find(first).ok_or("an entry")?;
-    let Entry::Deposit(cancelled) = &kept.entry else {
-        return Err(Fail::from("no deposit"));
-    };
-    assert!(rt; matches!(&cancelled.state, DepositState::Cancelled(on) if *on == today));
-    assert_eq!(rt; cancelled.book, booked);
-    let again = refused(&matter, &cashier, &Ask::CancelDeposit(first), today)?;
-    assert_eq!(rt; again, Refusal::WrongState);
-    let repeated = accepted(&mut matter, &cashier, &deposit(alloc, "500.00")?, today)?;
-    assert!(rt; matches!(repeated.edit(), Edit::Nothing));
-    Ok(())
+fn strangers(rt: HostRuntime) -> Result<(), Wrong> {
+    let asks: [Asked; 5] = [
+        ("2024-01-11", "mallory", SHOW, NO_MATTER),
+        ("2024-01-11", "mallory", DEPOSIT, NO_MATTER),
+        ("2024-01-10", "", OPEN, Wanted::Edited),
+        ("2024-01-11", "mallory", SHOW, NO_MATTER),
+        ("2024-01-11", "mallory", DEPOSIT, NO_MATTER),
+    ];
+    leads(rt.alloc(), &asks, [0, 0, 0, 1, 20_240_110])
+}
+
+#[test]
+fn seats(rt: HostRuntime) -> Result<(), Wrong> {
+    let client = "seat,000001,,ada,client";
+    let lawyer = "seat,000001,,bob,lawyer";
+    let last = Refusal::DateBackwards(day("2024-01-11")?);
+    let asks: [Asked; 9] = [
+        ("2024-01-10", "", OPEN, Wanted::Edited),
+        (
+            "2024-01-11",
+            "",
+            "seat,000001,,lee,client",
+            Wanted::Refused(Refusal::SeatTaken),
+        ),
+        (
+            "2024-01-11",
+            "",
+            "drop,000001,,bob",
+            Wanted::Refused(Refusal::NoSeat),
+        ),
+        (
+            "2024-01-11",
+            "",
+            "drop,000001,,lee",
+            Wanted::Refused(Refusal::LastLawyer),
+        ),
+        ("2024-01-11", "", client, Wanted::Edited),
+        ("2024-01-10", "ada", SHOW, Wanted::Nothing),
+        ("2024-01-10", "", lawyer, Wanted::Refused(last)),
+        ("2024-01-11", "", "drop,000001,,ada", Wanted::Edited),
+        (
+            "2024-01-11",
+            "ada",
+            SHOW,
+            Wanted::Refused(Refusal::NoMatter),
+        ),
+    ];
+    leads(rt.alloc(), &asks, [0, 0, 0, 1, 20_240_111])
+}
+
+#[test]
+fn cancelling(rt: HostRuntime) -> Result<(), Wrong> {
+    let asks: [Asked; 6] = [
+        ("2024-01-10", "", OPEN, Wanted::Edited),
+        ("2024-01-12", "", CANCEL, Wanted::Refused(Refusal::NoEntry)),
+        ("2024-01-11", "", DEPOSIT, Wanted::Moved(1, 50_000)),
+        ("2024-01-12", "", CANCEL, Wanted::Moved(1, -50_000)),
+        (
+            "2024-01-12",
+            "",
+            CANCEL,
+            Wanted::Refused(Refusal::WrongState),
+        ),
+        ("2024-01-12", "", DEPOSIT, Wanted::Nothing),
+    ];
+    leads(rt.alloc(), &asks, [1, 0, 0, 1, 20_240_112])
 }

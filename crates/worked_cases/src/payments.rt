@@ -1,50 +1,36 @@
 // Payments: they are proposed, signed for by a lawyer, told of by the bank or voided.
 
-use crate::imports::{
-    CLEARED, DEPOSITED, DEPOSITED_AT_ONCE, ONE_APPLIED, ONE_EXCEPTION, imports, retained,
+use crate::play::{Step, play};
+use crate::texts::{
+    BANKED, BANKED_AT_ONCE, CLEARED, DEPOSIT, NONE_LEFT, ONE_APPLIED, ONE_EXCEPTION, OPEN, OPENED,
+    PAID_OUT, PROPOSE, PROPOSED, RECEIPT, SHOW, WRONG_PAYEE, WRONG_STATE,
 };
-use crate::steps::{Step, Told, follow, propose, propose_at};
-use crate::values::day;
-use std::test::Fail;
-use trust_desk::Desk;
-use trust_store::PlainBook;
-
-const NONE_LEFT: &str = r#"{"left":"0.00","name":"Short","refusal":21}"#;
-
-const WRONG_STATE: &str = r#"{"name":"WrongState","refusal":17}"#;
-
-const PROPOSED: &str =
-    r#"{"amount":"100.00","day":"2024-01-10","entry":"0002","from":"general","instrument":"1001","kind":"payment","matter":"000001","of":null,"payee":"Court Clerk","purpose":"filing fee"}"#;
+use crate::values::Wrong;
 
 const NOTHING_CLEARED: &str =
     r#"{"available":"0.00","claims":"0.00","client":"Ada Chen","closed":null,"disputed":"0.00","entries":2,"fees":"0.00","held":"500.00","matter":"000001","opened":"2024-01-10","seats":[{"person":"lee","role":"lawyer"}],"total":"0.00"}"#;
 
 #[test]
-fn nothing_is_paid_from_what_is_held(rt: HostRuntime) -> Result<(), Fail> {
-    let alloc = rt.alloc();
-    let today = day("2024-01-10")?;
-    let mut desk = Desk::new(PlainBook::new(alloc));
-    retained(&mut desk, alloc, today, "000001", "500.00")?;
-    let steps: [Told; 6] = [
-        ("", propose("0002", "100.00"), 201, PROPOSED),
-        ("", propose("0002", "100.00"), 200, PROPOSED),
-        (
-            "",
-            propose("0002", "100.01"),
-            409,
-            r#"{"name":"WrongNumber","next":"0003","refusal":14}"#,
-        ),
-        ("lee", Step::Approve("0002"), 409, NONE_LEFT),
-        (
-            "",
-            Step::Approve("0002"),
-            403,
-            r#"{"name":"NotAllowed","refusal":10,"rule":"sign"}"#,
-        ),
-        ("", Step::Show, 200, NOTHING_CLEARED),
+fn nothing_is_paid_from_what_is_held(rt: HostRuntime) -> Result<(), Wrong> {
+    let other = "propose,000001,0002,100.01,general,,Court Clerk,filing fee,1001";
+    let next = r#"{"name":"WrongNumber","next":"0003","refusal":14}"#;
+    let sign = r#"{"name":"NotAllowed","refusal":10,"rule":"sign"}"#;
+    let steps: [Step; 8] = [
+        ("2024-01-10", "", OPEN, 201, OPENED),
+        ("2024-01-10", "", DEPOSIT, 201, RECEIPT),
+        ("2024-01-10", "", PROPOSE, 201, PROPOSED),
+        ("2024-01-10", "", PROPOSE, 200, PROPOSED),
+        ("2024-01-10", "", other, 409, next),
+        ("2024-01-10", "lee", "approve,000001,0002", 409, NONE_LEFT),
+        ("2024-01-10", "", "approve,000001,0002", 403, sign),
+        ("2024-01-10", "", SHOW, 200, NOTHING_CLEARED),
     ];
-    follow(&mut desk, alloc, today, "000001", &steps)
+    play(rt.alloc(), &steps, "")
 }
+
+const OPEN_OTHER: &str = "open,000002,,Ada Chen,lee";
+
+const PROPOSE_OF_OTHER: &str = "propose,000002,0001,200.00,general,,Court Clerk,filing fee,1001";
 
 const OF_THE_OTHER: &str =
     r#"{"amount":"200.00","day":"2024-01-10","entry":"0001","from":"general","instrument":"1001","kind":"payment","matter":"000002","of":null,"payee":"Court Clerk","purpose":"filing fee"}"#;
@@ -53,26 +39,17 @@ const OTHER_OPENED: &str =
     r#"{"available":"0.00","claims":"0.00","client":"Ada Chen","closed":null,"disputed":"0.00","entries":0,"fees":"0.00","held":"0.00","matter":"000002","opened":"2024-01-10","seats":[{"person":"lee","role":"lawyer"}],"total":"0.00"}"#;
 
 #[test]
-fn no_matter_pays_for_another(rt: HostRuntime) -> Result<(), Fail> {
-    let alloc = rt.alloc();
-    let today = day("2024-01-10")?;
-    let mut desk = Desk::new(PlainBook::new(alloc));
-    retained(&mut desk, alloc, today, "000001", "500.00")?;
-    imports(
-        &mut desk,
-        alloc,
-        today,
-        DEPOSITED_AT_ONCE.as_bytes(),
-        ONE_APPLIED,
-    )?;
-    let steps: [Told; 3] = [
-        ("", Step::Open, 201, OTHER_OPENED),
-        ("", propose("0001", "200.00"), 201, OF_THE_OTHER),
-        ("lee", Step::Approve("0001"), 409, NONE_LEFT),
+fn no_matter_pays_for_another(rt: HostRuntime) -> Result<(), Wrong> {
+    let steps: [Step; 7] = [
+        ("2024-01-10", "", OPEN, 201, OPENED),
+        ("2024-01-10", "", DEPOSIT, 201, RECEIPT),
+        ("2024-01-10", "", BANKED_AT_ONCE, 200, ONE_APPLIED),
+        ("2024-01-10", "", OPEN_OTHER, 201, OTHER_OPENED),
+        ("2024-01-10", "", PROPOSE_OF_OTHER, 201, OF_THE_OTHER),
+        ("2024-01-10", "lee", "approve,000002,0001", 409, NONE_LEFT),
+        ("2024-01-10", "", SHOW, 200, CLEARED),
     ];
-    follow(&mut desk, alloc, today, "000002", &steps)?;
-    let shown: [Told; 1] = [("", Step::Show, 200, CLEARED)];
-    follow(&mut desk, alloc, today, "000001", &shown)
+    play(rt.alloc(), &steps, "")
 }
 
 const ISSUED: &str =
@@ -87,29 +64,23 @@ const PAID: &str =
 const UNPAID: &str =
     r#"{"available":"500.00","claims":"0.00","client":"Ada Chen","closed":null,"disputed":"0.00","entries":2,"fees":"0.00","held":"0.00","matter":"000001","opened":"2024-01-10","seats":[{"person":"lee","role":"lawyer"}],"total":"500.00"}"#;
 
-const PAID_OUT: &str = "date,reference,bank_ref,amount,text\n2024-01-12,M000001-0002,B2,-100.00,\n";
-
 // A payment is proposed before its money has come, signed for afterwards, and voided.
 #[test]
-fn a_payment_is_issued_and_voided(rt: HostRuntime) -> Result<(), Fail> {
-    let alloc = rt.alloc();
-    let booked = day("2024-01-10")?;
-    let today = day("2024-01-12")?;
-    let mut desk = Desk::new(PlainBook::new(alloc));
-    retained(&mut desk, alloc, booked, "000001", "500.00")?;
-    let proposed: [Told; 1] = [("", propose("0002", "100.00"), 201, PROPOSED)];
-    follow(&mut desk, alloc, booked, "000001", &proposed)?;
-    imports(&mut desk, alloc, today, DEPOSITED.as_bytes(), ONE_APPLIED)?;
-    let steps: [Told; 6] = [
-        ("lee", Step::Approve("0002"), 200, ISSUED),
-        ("", Step::Show, 200, PAID),
-        ("lee", Step::Void("0002"), 200, VOIDED),
-        ("", Step::Show, 200, UNPAID),
-        ("lee", Step::Void("0002"), 409, WRONG_STATE),
-        ("", propose("0002", "100.00"), 200, PROPOSED),
+fn a_payment_is_issued_and_voided(rt: HostRuntime) -> Result<(), Wrong> {
+    let steps: [Step; 11] = [
+        ("2024-01-10", "", OPEN, 201, OPENED),
+        ("2024-01-10", "", DEPOSIT, 201, RECEIPT),
+        ("2024-01-10", "", PROPOSE, 201, PROPOSED),
+        ("2024-01-12", "", BANKED, 200, ONE_APPLIED),
+        ("2024-01-12", "lee", "approve,000001,0002", 200, ISSUED),
+        ("2024-01-12", "", SHOW, 200, PAID),
+        ("2024-01-12", "lee", "void,000001,0002", 200, VOIDED),
+        ("2024-01-12", "", SHOW, 200, UNPAID),
+        ("2024-01-12", "lee", "void,000001,0002", 409, WRONG_STATE),
+        ("2024-01-12", "", PROPOSE, 200, PROPOSED),
+        ("2024-01-12", "", PAID_OUT, 200, ONE_EXCEPTION),
     ];
-    follow(&mut desk, alloc, today, "000001", &steps)?;
-    imports(&mut desk, alloc, today, PAID_OUT.as_bytes(), ONE_EXCEPTION)
+    play(rt.alloc(), &steps, "2024-01-12,M000001-0002,B2,-100.00,\n")
 }
 
 const DECLINED: &str =
@@ -117,79 +88,80 @@ const DECLINED: &str =
 
 // A payment that a lawyer declines is paid no more, and its proposal is still answered by its receipt.
 #[test]
-fn a_payment_is_declined(rt: HostRuntime) -> Result<(), Fail> {
-    let alloc = rt.alloc();
-    let today = day("2024-01-10")?;
-    let mut desk = Desk::new(PlainBook::new(alloc));
-    retained(&mut desk, alloc, today, "000001", "500.00")?;
-    imports(
-        &mut desk,
-        alloc,
-        today,
-        DEPOSITED_AT_ONCE.as_bytes(),
-        ONE_APPLIED,
-    )?;
-    let steps: [Told; 6] = [
-        ("", propose("0002", "100.00"), 201, PROPOSED),
-        ("lee", Step::Decline("0002"), 200, DECLINED),
-        ("lee", Step::Decline("0002"), 409, WRONG_STATE),
-        ("lee", Step::Approve("0002"), 409, WRONG_STATE),
-        ("", propose("0002", "100.00"), 200, PROPOSED),
-        ("", Step::Show, 200, UNPAID),
+fn a_payment_is_declined(rt: HostRuntime) -> Result<(), Wrong> {
+    let steps: [Step; 9] = [
+        ("2024-01-10", "", OPEN, 201, OPENED),
+        ("2024-01-10", "", DEPOSIT, 201, RECEIPT),
+        ("2024-01-10", "", BANKED_AT_ONCE, 200, ONE_APPLIED),
+        ("2024-01-10", "", PROPOSE, 201, PROPOSED),
+        ("2024-01-10", "lee", "decline,000001,0002", 200, DECLINED),
+        ("2024-01-10", "lee", "decline,000001,0002", 409, WRONG_STATE),
+        ("2024-01-10", "lee", "approve,000001,0002", 409, WRONG_STATE),
+        ("2024-01-10", "", PROPOSE, 200, PROPOSED),
+        ("2024-01-10", "", SHOW, 200, UNPAID),
     ];
-    follow(&mut desk, alloc, today, "000001", &steps)
+    play(rt.alloc(), &steps, "")
 }
+
+const PROPOSED_ENTRY: &str =
+    r#"{"amount":"100.00","bank_day":null,"bank_ref":null,"day":"2024-01-10","entry":"0002","from":"general","instrument":"1001","issued":null,"kind":"payment","matter":"000001","of":null,"payee":"Court Clerk","purpose":"filing fee","state":"proposed","undone":null}"#;
+
+const CLEARED_ENTRY: &str =
+    r#"{"amount":"100.00","bank_day":"2024-01-12","bank_ref":"B2","day":"2024-01-10","entry":"0002","from":"general","instrument":"1001","issued":"2024-01-12","kind":"payment","matter":"000001","of":null,"payee":"Court Clerk","purpose":"filing fee","state":"cleared","undone":null}"#;
 
 // Days do not go backwards after a line of the bank, and a payment that was issued is cleared by its line.
 #[test]
-fn a_payment_is_cleared(rt: HostRuntime) -> Result<(), Fail> {
-    let alloc = rt.alloc();
-    let booked = day("2024-01-10")?;
-    let today = day("2024-01-12")?;
-    let mut desk = Desk::new(PlainBook::new(alloc));
-    retained(&mut desk, alloc, booked, "000001", "500.00")?;
-    let proposed: [Told; 1] = [("", propose("0002", "100.00"), 201, PROPOSED)];
-    follow(&mut desk, alloc, booked, "000001", &proposed)?;
-    imports(&mut desk, alloc, today, DEPOSITED.as_bytes(), ONE_APPLIED)?;
-    let text = r#"{"last":"2024-01-12","name":"DateBackwards","refusal":13}"#;
-    let early: [Told; 1] = [("lee", Step::Approve("0002"), 409, text)];
-    follow(&mut desk, alloc, day("2024-01-11")?, "000001", &early)?;
-    let issued: [Told; 1] = [("lee", Step::Approve("0002"), 200, ISSUED)];
-    follow(&mut desk, alloc, today, "000001", &issued)?;
-    imports(&mut desk, alloc, today, PAID_OUT.as_bytes(), ONE_APPLIED)?;
-    let shown: [Told; 1] = [("", Step::Show, 200, PAID)];
-    follow(&mut desk, alloc, today, "000001", &shown)
+fn a_payment_is_cleared(rt: HostRuntime) -> Result<(), Wrong> {
+    let last = r#"{"last":"2024-01-12","name":"DateBackwards","refusal":13}"#;
+    let steps: [Step; 11] = [
+        ("2024-01-10", "", OPEN, 201, OPENED),
+        ("2024-01-10", "", DEPOSIT, 201, RECEIPT),
+        ("2024-01-10", "", PROPOSE, 201, PROPOSED),
+        ("2024-01-10", "", "entry,000001,0002", 200, PROPOSED_ENTRY),
+        ("2024-01-12", "", BANKED, 200, ONE_APPLIED),
+        ("2024-01-11", "lee", "approve,000001,0002", 409, last),
+        ("2024-01-12", "lee", "approve,000001,0002", 200, ISSUED),
+        ("2024-01-12", "", PAID_OUT, 200, ONE_APPLIED),
+        ("2024-01-12", "", SHOW, 200, PAID),
+        ("2024-01-12", "", "entry,000001,0002", 200, CLEARED_ENTRY),
+        ("2024-01-12", "lee", "void,000001,0002", 409, WRONG_STATE),
+    ];
+    play(rt.alloc(), &steps, "")
 }
 
 const TO_CASH_LIMITED: &str =
     r#"{"amount":"100.00","day":"2024-01-10","entry":"0002","from":"general","instrument":"1001","kind":"payment","matter":"000001","of":null,"payee":"Cash Ltd","purpose":"filing fee"}"#;
 
 #[test]
-fn payees_that_are_refused(rt: HostRuntime) -> Result<(), Fail> {
-    let alloc = rt.alloc();
-    let today = day("2024-01-10")?;
-    let mut desk = Desk::new(PlainBook::new(alloc));
-    retained(&mut desk, alloc, today, "000001", "500.00")?;
-    let steps: [Told; 4] = [
-        (
-            "",
-            propose_at("0002", "100.00", " Cash "),
-            422,
-            r#"{"name":"PayeeIsCash","refusal":18}"#,
-        ),
-        (
-            "",
-            propose_at("0002", "100.00", "FIRM"),
-            422,
-            r#"{"name":"WrongPayee","refusal":19}"#,
-        ),
-        (
-            "",
-            propose_at("0002", "100.00", "Cash Ltd"),
-            201,
-            TO_CASH_LIMITED,
-        ),
-        ("lee", Step::Approve("0002"), 409, NONE_LEFT),
+fn payees_that_are_refused(rt: HostRuntime) -> Result<(), Wrong> {
+    let to_cash = "propose,000001,0002,100.00,general,, Cash ,filing fee,1001";
+    let to_firm = "propose,000001,0002,100.00,general,,FIRM,filing fee,1001";
+    let to_company = "propose,000001,0002,100.00,general,,Cash Ltd,filing fee,1001";
+    let cash = r#"{"name":"PayeeIsCash","refusal":18}"#;
+    let steps: [Step; 6] = [
+        ("2024-01-10", "", OPEN, 201, OPENED),
+        ("2024-01-10", "", DEPOSIT, 201, RECEIPT),
+        ("2024-01-10", "", to_cash, 422, cash),
+        ("2024-01-10", "", to_firm, 422, WRONG_PAYEE),
+        ("2024-01-10", "", to_company, 201, TO_CASH_LIMITED),
+        ("2024-01-10", "lee", "approve,000001,0002", 409, NONE_LEFT),
     ];
-    follow(&mut desk, alloc, today, "000001", &steps)
+    play(rt.alloc(), &steps, "")
+}
+
+const SEAT: &str = "seat,000001,,ada,client";
+
+const SEATED: &str =
+    r#"{"available":"0.00","claims":"0.00","client":"Ada Chen","closed":null,"disputed":"0.00","entries":0,"fees":"0.00","held":"0.00","matter":"000001","opened":"2024-01-10","seats":[{"person":"ada","role":"client"},{"person":"lee","role":"lawyer"}],"total":"0.00"}"#;
+
+#[test]
+fn a_client_proposes_no_payment(rt: HostRuntime) -> Result<(), Wrong> {
+    let propose = r#"{"name":"NotAllowed","refusal":10,"rule":"propose"}"#;
+    let steps: [Step; 4] = [
+        ("2024-01-10", "", OPEN, 201, OPENED),
+        ("2024-01-10", "", SEAT, 200, SEATED),
+        ("2024-01-10", "ada", PROPOSE, 403, propose),
+        ("2024-01-10", "ada", SHOW, 200, SEATED),
+    ];
+    play(rt.alloc(), &steps, "")
 }

@@ -331,3 +331,47 @@ fn greatest_length(rt: HostRuntime) -> Result<(), Fail> {
     assert!(rt; letters_of(alloc, TrialReader::new(&long, 1, reads + 1)).is("Mll"));
     Ok(())
 }
+
+// A statement of this many bytes: a line again and again, the last one cut where it does not fit.
+fn repeated_line(alloc: Global, line: &str, len: usize) -> Result<Vec<u8>, AllocError> {
+    let mut bytes = Vec::from_slice(alloc, HEADER.as_bytes())?;
+    for _ in 0..len {
+        if bytes.len() >= len {
+            break;
+        }
+        bytes.extend_from_slice(line.as_bytes())?;
+    }
+    bytes.truncate(len);
+    Ok(bytes)
+}
+
+// How many items a statement gives, and the letter of what ends them.
+fn count_of_items(alloc: Global, bytes: &[u8]) -> (u64, u8) {
+    let mut lines = Lines::new(alloc, bytes);
+    for count in 0..bytes.len() as u64 {
+        let next = letter(&mut lines);
+        if !next.is_ascii_uppercase() {
+            return (count, next);
+        }
+    }
+    (0, 0)
+}
+
+#[test]
+fn items_of_the_first_bytes(rt: HostRuntime) -> Result<(), Fail> {
+    // The header has 36 bytes, so that a last line of eight bytes is left of lines of twenty.
+    for (line, len, count, end) in [
+        ("x\n", MOST_BYTES, 2_097_134, b'.'),
+        ("x\n", MOST_BYTES + 2_000, 2_097_134, b'l'),
+        ("2024-01-12,,b,0.00,\n", MOST_BYTES, 209_714, b'.'),
+        ("2024-01-12,,b,0.00,\n", MOST_BYTES + 2_000, 209_713, b'l'),
+    ] {
+        let bytes = repeated_line(rt.alloc(), line, len)?;
+        assert_eq!(rt;
+            count_of_items(rt.alloc(), &bytes),
+            (count, end),
+            "of {len} bytes of {line:?}"
+        );
+    }
+    Ok(())
+}

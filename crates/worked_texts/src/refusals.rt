@@ -52,7 +52,7 @@ fn plain_cases() -> [Case; 8] {
     ]
 }
 
-fn carrying_cases(last: Day, next: EntryNo, first: CivilDay) -> [Case; 9] {
+fn carrying_cases(last: Day, next: EntryNo, first: CivilDay) -> [Case; 11] {
     [
         (
             Refusal::BadField(Field::Amount),
@@ -65,6 +65,18 @@ fn carrying_cases(last: Day, next: EntryNo, first: CivilDay) -> [Case; 9] {
             7,
             422,
             r#"{"field":"to_client","name":"BadField","refusal":7}"#,
+        ),
+        (
+            Refusal::NotAllowed(Rule::Read),
+            10,
+            403,
+            r#"{"name":"NotAllowed","refusal":10,"rule":"read"}"#,
+        ),
+        (
+            Refusal::NotAllowed(Rule::Propose),
+            10,
+            403,
+            r#"{"name":"NotAllowed","refusal":10,"rule":"propose"}"#,
         ),
         (
             Refusal::NotAllowed(Rule::Sign),

@@ -4,7 +4,7 @@ ghost use Rattle.std.specs.Prelude.{◌≡◌, nat_lt};
 
 use std::test::Fail;
 use trust_base::{
-    Cents, CivilDay, Day, Dollars, MatterNo, ReadFault, TrialReader, TrialWriter, WriteFault,
+    Cents, CivilDay, Day, Dollars, InputFault, MatterNo, TrialReader, TrialWriter, WriteFault,
     read_whole, send, write_amount,
 };
 
@@ -159,7 +159,7 @@ fn whole_inputs(rt: HostRuntime) -> Result<(), Fail> {
     assert!(rt; matches!(read_whole(rt.alloc(), &mut long, 17), Ok(None)));
     let mut faulty = TrialReader::new(text, 7, 2);
     let fault = read_whole(rt.alloc(), &mut faulty, 18);
-    assert!(rt; matches!(fault, Err(ReadFault::Reader)));
+    assert!(rt; matches!(fault, Err(InputFault::Reader)));
     Ok(())
 }
 

@@ -1,5 +1,6 @@
 use Rattle.std.proofs.Common.{◌≡◌, ◌+◌, ap, true, false, Some, None, option_map}
-use Rattle.statement_csv.specs.Reading.{PassesHeader, items_left, records_left}
+use Rattle.statement_csv.specs.Reading.{PassesHeader, Stands, items_left, records_left}
+use Rattle.statement_csv.proofs.GivenFacts.{stands-item}
 use Rattle.statement_csv.proofs.ReadingFacts.{gives-begun, gives-end, gives-item}
 use Rattle.csv.specs.Records.{fields_of}
 use Rattle.statement_csv.proofs.lines.read_next.Goals as goal
@@ -38,3 +39,11 @@ returns-in-Ok-clause-gives g c =
     let gives = rw c.if-not-branch.false at c.in_ok-read_row.ensures.gives in
     let item = gives-item c.args.number mid new (fields_of c.read_row.new.row) gives in
     gives-begun c.args.awaits_header c.args.number old mid after (Some c.in-Ok.item) passed kept (rw c.in-Ok.ensures item)
+
+pub returns-in-Ok-clause-stands : goal.returns-in-Ok-clause-stands
+returns-in-Ok-clause-stands g c = λ found.
+    let stands : Stands g.K.Whole.bytes false c.args.number c.if-awaits_header.records = elim c.if-awaits_header.branch [
+      | then-awaits_header+in_ok-pass_header w ↦ rw w.records-is (w.in_ok-pass_header.ensures.stands c.args.number (rw w.if-awaits_header.true at c.requires.stands))
+      | else-awaits_header w ↦ rw w.records-is (rw w.if-awaits_header.false at c.requires.stands)
+    ] in
+    stands-item g.K.Whole.bytes c.args.number c.if-awaits_header.records c.read_row.new.records (fields_of c.read_row.new.row) (c.in_ok-read_row.ensures.read c.if-not-branch.false) stands

@@ -1,5 +1,5 @@
 use Rattle.std.proofs.Common.{ℕ, subst, IfOk}
-use Rattle.trust_matter.specs.Moves.{IsMade}
+use Rattle.matter_parts.specs.TotalsAfter.{IsMade}
 use Rattle.trust_matter.proofs.Decided.{decided-made, decided-refused}
 use Rattle.trust_matter.proofs.deciding.decide.Goals as goal
 

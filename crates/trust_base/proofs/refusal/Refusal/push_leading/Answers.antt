@@ -1,6 +1,6 @@
 use Rattle.std.proofs.Common.{arith}
-use Rattle.trust_base.proofs.DayFacts.{day-bounds}
-use Rattle.trust_base.proofs.CivilDayFacts.{civil_day-bound}
+use Rattle.trust_values.proofs.DayFacts.{day-bounds}
+use Rattle.trust_values.proofs.CivilDayFacts.{civil_day-bound}
 use Rattle.trust_base.proofs.refusal.Refusal.push_leading.Goals as goal
 
 pub push_day_end-requires-clause-short : goal.push_day_end-requires-clause-short

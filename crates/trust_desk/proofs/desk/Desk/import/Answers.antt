@@ -1,12 +1,8 @@
 use Rattle.std.specs.Prelude.{option_map}
 use Rattle.statement_csv.specs.Items.{items}
-use Rattle.trust_desk.proofs.ItemsRead.{imports-others, imports-own}
+use Rattle.trust_desk.proofs.ItemsRead.{imports-others}
 use Rattle.trust_desk.proofs.desk.Desk.import.Goals as goal
 
 pub returns-clause-others : goal.returns-clause-others
 returns-clause-others g c =
-    λ clean. imports-others c.args.day (g.B.Book.firm c.args.self.now) (g.B.Book.firm c.import_whole.new.self) (option_map items (g.R.Read.remaining c.args.reader)) c.import_whole.result (c.import_whole.ensures.front clean)
-
-pub returns-clause-own : goal.returns-clause-own
-returns-clause-own g c =
-    λ clean. imports-own c.args.day (g.B.Book.firm c.args.self.now) (g.B.Book.firm c.import_whole.new.self) (option_map items (g.R.Read.remaining c.args.reader)) c.import_whole.result (c.import_whole.ensures.front clean)
+    λ clean stands. imports-others c.args.day (g.B.Book.firm c.args.self.now) (g.B.Book.firm c.import_whole.new.self) (option_map items (g.R.Read.remaining c.args.reader)) c.import_whole.result (c.import_whole.ensures.front clean stands)

@@ -1,37 +1,45 @@
-use Rattle.std.proofs.Common.{◌∙◌, ◌+◌, Some, ap, refl, arith}
+use Rattle.std.proofs.Common.{◌+◌, Some, ap, refl, arith}
 use Rattle.std.specs.Prelude.{option_map}
 use Rattle.statement_csv.specs.Items.{items}
 use Rattle.trust_base.specs.declared.refusal.Refusal.TheVariants as refusal
 use Rattle.trust_desk.specs.declared.importing.ImportEnd.{ImportEnd}
 use Rattle.trust_desk.specs.declared.importing.ImportStop.TheVariants as stop
-use Rattle.trust_desk.proofs.ItemsRead.{amid-imports, amid-more, below-more, read-lacks}
+use Rattle.trust_desk.proofs.Calls.{kept-still, kept-then}
+use Rattle.trust_desk.proofs.ItemsRead.{amid-none, room-none, takes-where, amid-imports, amid-more, below-more, read-lacks}
 use Rattle.trust_desk.proofs.desk.Desk.import_whole.Goals as goal
+
+pub loop-turn-init : goal.loop-turn-init
+loop-turn-init g c = record {
+  amid = amid-none c.args.day (g.B.Book.clean c.args.self.now × g.B.Book.stands c.args.self.now) (g.B.Book.firm c.args.self.now) (option_map items (g.R.Read.remaining c.args.reader)) c.of_whole-lines.result.left c.none_counted-reply.result c.of_whole-lines.ensures.left c.none_counted-reply.ensures;
+  room = room-none c.none_counted-reply.result c.none_counted-reply.ensures;
+  kept = kept-still c.args.self.now;
+  day = refl;
+}
 
 pub loop-turn-preserved : goal.loop-turn-preserved
 loop-turn-preserved g c =
     let firm = g.B.Book.firm in
-    let clean = g.B.Book.clean in
+    let B = g.B.Book in
     let i = c.loop-turn.invariant in
     let next = c.in_default.ensures in
     let takes = next.takes in
     record {
-      amid = amid-more c.args.day (clean c.loop-turn.self) (clean c.import_next.new.self) (firm c.args.self.now) (firm c.loop-turn.self) (firm c.import_next.new.self) (option_map items (g.R.Read.remaining c.args.reader)) c.loop-turn.lines.left c.import_next.new.lines.left c.loop-turn.reply c.import_next.new.reply next.was_clean i.amid takes;
-      room = below-more (c.loop-turn._turn + 1) (c.loop-turn._turn + 1 + 1) takes.counted.kind c.loop-turn.reply c.import_next.new.reply i.room takes.counted.counts (omega arith);
-      sound = next.sound;
-      was_clean = λ is. i.was_clean (next.was_clean is);
-      count = λ is. next.cause is ∙ i.count (next.was_clean is);
+      amid = amid-more c.args.day (B.clean c.loop-turn.self × B.stands c.args.self.now) (B.clean c.import_next.new.self × B.stands c.args.self.now) (firm c.args.self.now) (firm c.loop-turn.self) (firm c.import_next.new.self) (option_map items (g.R.Read.remaining c.args.reader)) c.loop-turn.lines.left c.import_next.new.lines.left c.loop-turn.reply c.import_next.new.reply (λ p. (next.kept.was_clean p.0, p.1)) i.amid (takes-where (λ (p : B.clean c.import_next.new.self × B.stands c.args.self.now). (p.0, i.kept.still_stands (next.kept.was_clean p.0) p.1)) takes);
+      room = below-more (c.loop-turn._turn + 1) (c.loop-turn._turn + 1 + 1) takes.item takes.counted.kind c.loop-turn.reply c.import_next.new.reply i.room takes.counted.counts (omega arith);
+      kept = kept-then i.kept next.kept;
       day = refl;
     }
 
 pub returns-in-Some-clause-front : goal.returns-in-Some-clause-front
 returns-in-Some-clause-front g c =
-    λ is.
+    λ is stands.
     let firm = g.B.Book.firm in
-    let clean = g.B.Book.clean in
+    let B = g.B.Book in
     let told = option_map items (g.R.Read.remaining c.args.reader) in
     let next = c.in-Some.ensures in
     let result : ImportEnd = record { reply = c.import_next.new.reply; end = c.in-Some.end } in
-    amid-imports c.args.day (clean c.loop-turn.self) (firm c.args.self.now) (firm c.loop-turn.self) (firm c.import_next.new.self) told c.loop-turn.lines.left c.import_next.new.lines.left c.loop-turn.reply result (next.was_clean is) c.loop-turn.invariant.amid next.keeps.0 (next.keeps.1 is) (λ done. next.done (ap Some done))
+    let was = next.kept.was_clean is in
+    amid-imports c.args.day (B.clean c.loop-turn.self × B.stands c.args.self.now) (firm c.args.self.now) (firm c.loop-turn.self) (firm c.import_next.new.self) told c.loop-turn.lines.left c.import_next.new.lines.left c.loop-turn.reply result (was, stands) (B.sound c.args.self.now stands) c.loop-turn.invariant.amid next.keeps.0 (next.keeps.1 is (c.loop-turn.invariant.kept.still_stands was stands)) (λ done. next.done (ap Some done))
 
 pub returns-in-Some-clause-header : goal.returns-in-Some-clause-header
 returns-in-Some-clause-header g c =
@@ -42,8 +50,8 @@ returns-in-Some-clause-header g c =
 
 pub returns-clause-front : goal.returns-clause-front
 returns-clause-front g c =
-    λ is.
+    λ is stands.
     let firm = g.B.Book.firm in
     let told = option_map items (g.R.Read.remaining c.args.reader) in
     let result : ImportEnd = record { reply = c.loop-turn.reply; end = stop.Refused refusal.Memory } in
-    amid-imports c.args.day (g.B.Book.clean c.loop-turn.self) (firm c.args.self.now) (firm c.loop-turn.self) (firm c.loop-turn.self) told c.loop-turn.lines.left c.loop-turn.lines.left c.loop-turn.reply result is c.loop-turn.invariant.amid refl refl (λ done. absurd (cc))
+    amid-imports c.args.day (g.B.Book.clean c.loop-turn.self × g.B.Book.stands c.args.self.now) (firm c.args.self.now) (firm c.loop-turn.self) (firm c.loop-turn.self) told c.loop-turn.lines.left c.loop-turn.lines.left c.loop-turn.reply result (is, stands) (g.B.Book.sound c.args.self.now stands) c.loop-turn.invariant.amid refl refl (λ done. absurd (cc))

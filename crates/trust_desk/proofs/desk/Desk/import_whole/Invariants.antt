@@ -1,7 +1,7 @@
 use Rattle.std.proofs.Common.{◌≡◌, ◌+◌}
 use Rattle.std.specs.Prelude.{option_map}
 use Rattle.statement_csv.specs.Items.{items}
-use Rattle.trust_firm.specs.FirmSound.{FirmSound}
+use Rattle.trust_desk.specs.Calls.{KeepsBook}
 use Rattle.trust_desk.specs.Imports.{AreBelow, IsAmid}
 use Rattle.trust_desk.proofs.desk.Desk.import_whole.Given as goal
 
@@ -9,12 +9,10 @@ use Rattle.trust_desk.proofs.desk.Desk.import_whole.Given as goal
 abbrev pub invariant-loop-turn : goal.invariant-loop-turn
 invariant-loop-turn g l =
     let firm = g.B.Book.firm in
-    let clean = g.B.Book.clean in
+    let B = g.B.Book in
     record {
-      amid : IsAmid l.fn.day (clean l.self) (firm l.fn.self) (firm l.self) (option_map items (g.R.Read.remaining l.fn.reader)) l.lines.left l.reply;
+      amid : IsAmid l.fn.day (B.clean l.self × B.stands l.fn.self) (firm l.fn.self) (firm l.self) (option_map items (g.R.Read.remaining l.fn.reader)) l.lines.left l.reply;
       room : AreBelow (l._turn + 1) l.reply;
-      sound : clean l.self → FirmSound (firm l.self);
-      was_clean : clean l.self → clean l.fn.self;
-      count : clean l.self → g.B.Book.refusals l.self ≡ g.B.Book.refusals l.fn.self;
+      kept : KeepsBook B.clean B.sure B.stands B.refusals (λ n. n) l.fn.self l.self;
       day : l.day ≡ l.fn.day;
     }

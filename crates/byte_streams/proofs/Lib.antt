@@ -1,0 +1,3 @@
+pub mod CsvFronts
+pub mod CsvRecords
+pub mod FixedFacts

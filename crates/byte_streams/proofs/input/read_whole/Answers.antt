@@ -1,0 +1,12 @@
+use Rattle.std.proofs.Common.{arith, length-append, take, ◌++◌}
+use Rattle.std.proofs.KnownBytes.{Consumes-trans}
+use Rattle.std.proofs.lemmas.List.{length-take}
+use Rattle.byte_streams.proofs.input.read_whole.Goals as goal
+
+pub returns-then-is_err-clause-err : goal.returns-then-is_err-clause-err
+returns-then-is_err-clause-err g c =
+    let front = take c.in-Ok.n c.read.new.buf in
+    let more = Consumes-trans _ _ _ c.loop.bytes.items front c.loop.invariant.bytes c.in-Ok.ensures.bytes.0 in
+    let joined = length-append c.loop.bytes.items front in
+    let taken = length-take c.in-Ok.n c.read.new.buf in
+    (c.loop.bytes.items ++ front, (omega arith, omega arith), more)

@@ -1,0 +1,3 @@
+pub mod CsvRecords
+pub mod Digits
+pub mod Streams

@@ -1,0 +1,52 @@
+// Reading a whole input.
+
+ghost use Rattle.std.specs.Prelude.{◌≡◌, ℕ, List, ◌+◌, ◌<◌, ◌≤◌, ◌^◌, length, IfErr, IfOk, IfSome, MatchOption};
+ghost use Rattle.std.specs.Io.KnownBytes.{Consumes, IsAtEnd};
+ghost use Rattle.byte_streams.specs.Streams.{IsTakenBefore};
+
+use std::alloc::Global;
+use std::io::Read;
+
+/// Why an input was not read.
+#[derive(Clone, Copy, PartialEq, Eq, Debug)]
+pub enum InputFault {
+    /// A read failed, an interrupted one too.
+    Reader,
+    /// The growth of the bytes read was refused.
+    Memory,
+}
+
+/// The bytes of a whole input, or none exactly where it has more than `limit` bytes.
+///
+/// `limit` is below 2^63. At most `limit` + 1 reads are made. At a fault no more than `limit` bytes were taken from the
+/// reader; of a longer input up to 4,096 bytes past the limit may have been taken.
+pub fn read_whole<R: Read>(
+    alloc: Global,
+    reader: &mut R,
+    limit: usize,
+) -> Result<Option<Vec<u8>>, InputFault>
+    requires { limit < 2 ^ 63 }
+    ensures bytes { IfOk result (λ o. IfSome (R.remaining reader.old) (λ all.
+        MatchOption o (limit < length all) (λ v. (v.items ≡ all) × (length all ≤ limit)))) }
+    ensures end { IfOk result (λ o. IfSome o (λ _. IsAtEnd (R.remaining reader.new))) }
+    ensures err { IfErr result (λ f. (bs : List ℕ) × IsTakenBefore f limit bs
+        × Consumes (R.remaining reader.old) (R.remaining reader.new) bs) }
+{
+    let mut bytes = Vec::new(alloc);
+    let mut buffer = [0u8; 4096];
+    for _ in 0..limit + 1 {
+        match reader.read(&mut buffer) {
+            Ok(0) => return Ok(Some(bytes)),
+            Ok(n) => {
+                if n > limit - bytes.len() {
+                    return Ok(None);
+                }
+                if bytes.extend_from_slice(&buffer[..n]).is_err() {
+                    return Err(InputFault::Memory);
+                }
+            }
+            Err(_) => return Err(InputFault::Reader),
+        }
+    }
+    Ok(None)
+}

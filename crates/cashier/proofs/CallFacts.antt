@@ -1,0 +1,46 @@
+-- What one run over a desk after another leaves of its book.
+use Rattle.std.proofs.Common.{◌≡◌, ℕ, refl}
+use Rattle.trust_desk.specs.Calls.{KeepsBook}
+use Rattle.cashier.specs.Calls.{IsSame, LeavesBook}
+
+-- a book of which nothing was asked
+pub book-alone : {B : Type 0} (clean sure stands : B → Type 0) (refusals : B → ℕ) (b : B) → LeavesBook clean sure stands refusals IsSame b b
+book-alone clean sure stands refusals b = record {
+  was_clean = λ clean. clean;
+  was_sure = λ sure. sure;
+  still_stands = λ _ stands. stands;
+  cause = λ _ _. refl;
+}
+
+-- the same said otherwise of the count
+pub book-as : {B : Type 0} {clean sure stands : B → Type 0} {refusals : B → ℕ} {Goes Told : ℕ → ℕ → Type 0} {old new : B}
+    → ((before after : ℕ) → Goes before after → Told before after)
+    → LeavesBook clean sure stands refusals Goes old new → LeavesBook clean sure stands refusals Told old new
+book-as tells h = record {
+  was_clean = h.was_clean;
+  was_sure = h.was_sure;
+  still_stands = h.still_stands;
+  cause = λ clean stands. tells _ _ (h.cause clean stands);
+}
+
+-- what a call of the desk leaves, by what its answer counts
+pub book-kept : {B : Type 0} {clean sure stands : B → Type 0} {refusals : B → ℕ} {counted : ℕ → ℕ} {Told : ℕ → ℕ → Type 0} {old new : B}
+    → ((before after : ℕ) → after ≡ counted before → Told before after)
+    → KeepsBook clean sure stands refusals counted old new → LeavesBook clean sure stands refusals Told old new
+book-kept tells h = record {
+  was_clean = h.was_clean;
+  was_sure = h.was_sure;
+  still_stands = h.still_stands;
+  cause = λ clean stands. tells _ _ (h.cause clean stands);
+}
+
+-- one after another, where the first met no fault
+pub book-then : {B : Type 0} {clean sure stands : B → Type 0} {refusals : B → ℕ} {Told : ℕ → ℕ → Type 0} {old mid new : B}
+    → LeavesBook clean sure stands refusals IsSame old mid → LeavesBook clean sure stands refusals Told mid new
+    → LeavesBook clean sure stands refusals Told old new
+book-then a b = record {
+  was_clean = λ clean. a.was_clean (b.was_clean clean);
+  was_sure = λ sure. a.was_sure (b.was_sure sure);
+  still_stands = λ clean stands. b.still_stands clean (a.still_stands (b.was_clean clean) stands);
+  cause = λ clean stands. rw (a.cause (b.was_clean clean) stands) at (b.cause clean (a.still_stands (b.was_clean clean) stands));
+}

@@ -1,0 +1,81 @@
+-- The lines of one matter among those of others.
+use Rattle.std.proofs.Common.{◌≡◌, ◌∙◌, ℕ, Bool, true, false, List, [], ◌∷◌, Option, Some, None, Result, Ok, Err, refl, sym, ap}
+use Rattle.std.specs.List.{filter}
+use Rattle.trust_values.specs.Texts.{matter_of}
+use Rattle.trust_base.specs.declared.refusal.Field.{Field}
+use Rattle.trust_matter.specs.declared.ask.Ask.{Ask}
+use Rattle.firm_rows.specs.Firm.{Firm, of}
+use Rattle.trust_desk.specs.Heard.{concerns, is_the, names}
+use Rattle.trust_desk.proofs.Own.{other-rows, same-reply, same-rows}
+use Rattle.cashier.specs.Records.{ask_of, asked_of, by_cashier, of_matter, of_verb, text_at, verb_in}
+use Rattle.cashier.specs.Sheet.{OwnRecordsAlone, heard_as, heard_of, lines_at, lines_from, names_matter, record_step, reply_line}
+use Rattle.cashier.specs.declared.record.Verb.{Verb}
+
+-- ---- the matter of a record is that of what the desk hears
+
+of_cashier : (m n : ℕ) (asked : Result Ask Field) → names m (heard_as (by_cashier n asked) (Some n)) ≡ is_the m (Some n)
+of_cashier m n (Err f) = refl
+of_cashier m n (Ok a) = refl
+
+of_read : (m : ℕ) (read : Option ℕ) (asked : Result Ask Field) → names m (heard_as (of_matter read asked) read) ≡ is_the m read
+of_read m None asked = refl
+of_read m (Some n) asked = of_cashier m n asked
+
+of_some : (m : ℕ) (verb : Option Verb) (fields : List (List ℕ)) → names m (heard_as (of_verb verb fields) (matter_of (text_at fields 1))) ≡ names_matter m fields
+of_some m None fields = refl
+of_some m (Some v) fields = of_read m (matter_of (text_at fields 1)) (ask_of v fields)
+
+same_matter : (m : ℕ) (fields : List (List ℕ)) → names m (heard_of fields) ≡ names_matter m fields
+unfolding heard_of asked_of
+same_matter m fields = of_some m (verb_in fields) fields
+
+-- and so is the matter that it concerns
+concerned_by_cashier : (m n : ℕ) (asked : Result Ask Field) → concerns m (heard_as (by_cashier n asked) (Some n)) ≡ is_the m (Some n)
+concerned_by_cashier m n (Err f) = refl
+concerned_by_cashier m n (Ok a) = refl
+
+concerned_read : (m : ℕ) (read : Option ℕ) (asked : Result Ask Field) → concerns m (heard_as (of_matter read asked) read) ≡ is_the m read
+concerned_read m None asked = refl
+concerned_read m (Some n) asked = concerned_by_cashier m n asked
+
+concerned_some : (m : ℕ) (verb : Option Verb) (fields : List (List ℕ)) → concerns m (heard_as (of_verb verb fields) (matter_of (text_at fields 1))) ≡ names_matter m fields
+concerned_some m None fields = refl
+concerned_some m (Some v) fields = concerned_read m (matter_of (text_at fields 1)) (ask_of v fields)
+
+same_concern : (m : ℕ) (fields : List (List ℕ)) → concerns m (heard_of fields) ≡ names_matter m fields
+unfolding heard_of asked_of
+same_concern m fields = concerned_some m (verb_in fields) fields
+
+-- ---- one record
+
+own_line : (m day : ℕ) (f g : Firm) (r : List (List ℕ)) → names_matter m r ≡ true → of m f ≡ of m g
+    → reply_line (record_step day f r).reply ≡ reply_line (record_step day g r).reply
+own_line m day f g r e same = ap reply_line (same-reply m day f g (heard_of r) (same_matter m r ∙ e) same)
+
+own_firm : (m day : ℕ) (f g : Firm) (r : List (List ℕ)) → of m f ≡ of m g → of m (record_step day f r).firm ≡ of m (record_step day g r).firm
+own_firm m day f g r same = same-rows m day f g (heard_of r) same
+
+other_firm : (m day : ℕ) (f g : Firm) (r : List (List ℕ)) → names_matter m r ≡ false → of m f ≡ of m g → of m (record_step day f r).firm ≡ of m g
+other_firm m day f g r e same = other-rows m day f (heard_of r) (same_concern m r ∙ e) ∙ same
+
+-- ---- all records
+
+-- the lines at the records of a matter are those of these records run alone
+solo : (m day : ℕ) (records : List (List (List ℕ))) (f g : Firm) → of m f ≡ of m g
+    → lines_at (names_matter m) records (lines_from day f records) ≡ lines_from day g (filter (names_matter m) records)
+solo m day [] f g same = refl
+solo m day (r ∷ rest) f g same = by (names_matter m r) refl (solo m day rest)
+  where
+    by : (b : Bool) → names_matter m r ≡ b
+        → ((u v : Firm) → of m u ≡ of m v → lines_at (names_matter m) rest (lines_from day u rest) ≡ lines_from day v (filter (names_matter m) rest))
+        → lines_at (names_matter m) (r ∷ rest) (lines_from day f (r ∷ rest)) ≡ lines_from day g (filter (names_matter m) (r ∷ rest))
+    by true e more =
+        rw e (
+        ap (λ (line : List ℕ). line ∷ lines_at (names_matter m) rest (lines_from day (record_step day f r).firm rest)) (own_line m day f g r e same)
+        ∙ ap (λ (lines : List (List ℕ)). reply_line (record_step day g r).reply ∷ lines) (more (record_step day f r).firm (record_step day g r).firm (own_firm m day f g r same))
+        )
+    by false e more = rw e (more (record_step day f r).firm g (other_firm m day f g r e same))
+
+pub own_records-alone : OwnRecordsAlone
+own_records-alone m day f g a b same own =
+    solo m day a f g same ∙ ap (lines_from day g) own ∙ sym (solo m day b g g refl)

@@ -1,0 +1,5 @@
+pub mod CallFacts
+pub mod IsolationFacts
+pub mod LineFacts
+pub mod SheetFacts
+pub mod StatementFacts

@@ -1,0 +1,315 @@
+-- What the lines of a sheet are, record after record.
+use Rattle.std.proofs.Common.{◌≡◌, ◌≢◌, ◌∙◌, ◌<◌, ◌≤◌, ◌+◌, ◌++◌, nat_lt, IfSome, ◌∷◌, ◌&&◌, ◌||◌, not, cond, ℕ, Bool, true, false, List, [], length, take, Option, Some, None, Result, Ok, Err, inl, inr, refl, sym, ap, arith, append_assoc, length-append}
+use Rattle.std.specs.Prelude.{⊤}
+use Rattle.std.proofs.Math.Seq.{take-append-add, take-append_seam}
+use Rattle.std.proofs.KnownBytes.{Appends-trans}
+use Rattle.std.proofs.lemmas.Bool.Decides.{nat_tests}
+use Rattle.std.proofs.lemmas.List.{append-nil, take-append-le}
+use Rattle.std.specs.Io.KnownBytes.{Appends}
+use Rattle.std.specs.List.{concat}
+use Rattle.trust_base.specs.Refusals.{is_fault}
+use Rattle.trust_values.specs.Texts.{matter_of}
+use Rattle.trust_base.specs.declared.refusal.Field.{Field}
+use Rattle.trust_base.specs.declared.refusal.Refusal.{Refusal}
+use Rattle.trust_base.specs.declared.refusal.Refusal.TheVariants.{BadField, Store, Memory}
+use Rattle.firm_rows.specs.Firm.{Firm}
+use Rattle.trust_desk.specs.Counts.{counted_body, counted_refusal}
+use Rattle.trust_desk.specs.FirmStep.{Steps, Stopped, firm_step}
+use Rattle.trust_desk.specs.Heard.{Asks, Heard, Unread}
+use Rattle.trust_desk.specs.Replies.{is_fault_body, is_fault_reply, refused}
+use Rattle.trust_desk.specs.declared.requests.Body.{Body}
+use Rattle.trust_desk.specs.declared.requests.Body.TheVariants.{Json, Refused}
+use Rattle.trust_desk.specs.declared.requests.Reply.{Reply}
+use Rattle.trust_desk.specs.declared.requests.Request.{Request}
+use Rattle.trust_desk.specs.declared.requests.Request.TheVariants.{Import, Matter}
+use Rattle.trust_desk.proofs.Steps.{nothing-done, steps-fault as steps-stopped}
+use Rattle.trust_matter.specs.declared.ask.Ask.{Ask}
+use Rattle.cashier.specs.Records.{Reads, ask_of, asked_of, by_cashier, of_matter, of_verb, text_at, verb_in}
+use Rattle.cashier.specs.declared.record.Verb.{Verb}
+use Rattle.cashier.specs.Sheet.{Cut, CutsLine, Ends, LargeEnds, Leaves, RunEnds, sheet_records, all_accepted, body_line, body_kind, firm_from, heard_as, heard_of, is_accepting, lines_from, ran_by, record_step, refusal_kind, refusal_line, reply_kind, reply_line, IsCounted, RecordEnds}
+use Rattle.cashier.specs.declared.sheet.SheetEnd.{SheetEnd}
+use Rattle.cashier.specs.declared.sheet.SheetEnd.TheVariants as end
+use Rattle.cashier.specs.declared.reply_kind.ReplyKind.{ReplyKind}
+use Rattle.cashier.specs.declared.reply_kind.ReplyKind.TheVariants as kind
+use Rattle.trust_base.specs.declared.limits.TheConstants.{MAX_FILE_BYTES}
+
+-- ---- parts of a text that is written piece after piece
+
+-- a proper front of a text was written
+abbrev pub IsCut : Option (List ℕ) → Option (List ℕ) → List ℕ → Type 0
+IsCut old new text = (n : ℕ) × (n < length text) × Appends old new (take n text)
+
+pub cut-first : (old new : Option (List ℕ)) (text more : List ℕ) → IsCut old new text → IsCut old new (text ++ more)
+cut-first old new text more (n, less, part) =
+    let front : take n (text ++ more) ≡ take n text = take-append-le n text more (omega arith) in
+    let size = length-append text more in
+    (n, omega arith, rw front part)
+
+pub cut-later : (old mid new : Option (List ℕ)) (text more : List ℕ) → Appends old mid text → IsCut mid new more → IsCut old new (text ++ more)
+cut-later old mid new text more before (n, less, part) =
+    let size = length-append text more in
+    (length text + n, omega arith, rw (take-append-add text more n) (Appends-trans old mid new text (take n more) before part))
+
+-- ---- lines
+
+concat-append : (xs ys : List (List ℕ)) → concat (xs ++ ys) ≡ concat xs ++ concat ys
+concat-append [] ys = refl
+concat-append (x ∷ xs) ys = ap (λ (rest : List ℕ). x ++ rest) (concat-append xs ys) ∙ sym (append_assoc x (concat xs) (concat ys))
+
+pub concat-push : (xs : List (List ℕ)) (line : List ℕ) → concat (xs ++ line ∷ []) ≡ concat xs ++ line
+concat-push xs line = concat-append xs (line ∷ []) ∙ ap (λ (end : List ℕ). concat xs ++ end) (append-nil line)
+
+pub lines-push : (day : ℕ) (firm : Firm) (past : List (List (List ℕ))) (r : List (List ℕ))
+    → lines_from day firm (past ++ r ∷ []) ≡ lines_from day firm past ++ reply_line (record_step day (firm_from day firm past) r).reply ∷ []
+lines-push day firm [] r = refl
+lines-push day firm (p ∷ past) r = ap (λ (lines : List (List ℕ)). reply_line (record_step day firm p).reply ∷ lines) (lines-push day (record_step day firm p).firm past r)
+
+pub firm-push : (day : ℕ) (firm : Firm) (past : List (List (List ℕ))) (r : List (List ℕ))
+    → firm_from day firm (past ++ r ∷ []) ≡ (record_step day (firm_from day firm past) r).firm
+firm-push day firm [] r = refl
+firm-push day firm (p ∷ past) r = firm-push day (record_step day firm p).firm past r
+
+pub accepted-push : (day : ℕ) (firm : Firm) (past : List (List (List ℕ))) (r : List (List ℕ))
+    → all_accepted day firm (past ++ r ∷ []) ≡ (all_accepted day firm past && is_accepting (record_step day (firm_from day firm past) r).reply.body)
+accepted-push day firm [] r = by (is_accepting (record_step day firm r).reply.body)
+  where
+    by : (b : Bool) → cond b true false ≡ b
+    by true = refl
+    by false = refl
+accepted-push day firm (p ∷ past) r = by (is_accepting (record_step day firm p).reply.body) (accepted-push day (record_step day firm p).firm past r)
+  where
+    by : (b : Bool)
+        → all_accepted day (record_step day firm p).firm (past ++ r ∷ [])
+        ≡ (all_accepted day (record_step day firm p).firm past && is_accepting (record_step day (firm_from day (record_step day firm p).firm past) r).reply.body)
+        → cond b (all_accepted day (record_step day firm p).firm (past ++ r ∷ [])) false
+        ≡ (cond b (all_accepted day (record_step day firm p).firm past) false && is_accepting (record_step day (firm_from day (record_step day firm p).firm past) r).reply.body)
+    by true e = e
+    by false e = refl
+
+-- the records so far are the first of all
+pub first_records : (all past rest : List (List (List ℕ))) → past ++ rest ≡ all → take (length past) all ≡ past
+first_records all past rest e = rw (← e) (take-append_seam past rest)
+
+-- ---- what the desk hears
+
+pub heard-read : (fields : List (List ℕ)) (request : Request) → asked_of fields ≡ Ok request → heard_of fields ≡ Asks request
+unfolding heard_of
+heard-read fields request e = ap (λ (o : Result Request Field). heard_as o (matter_of (text_at fields 1))) e
+
+heard-bad : (fields : List (List ℕ)) (f : Field) → asked_of fields ≡ Err f → heard_of fields ≡ Unread (matter_of (text_at fields 1)) (BadField f)
+unfolding heard_of
+heard-bad fields f e = ap (λ (o : Result Request Field). heard_as o (matter_of (text_at fields 1))) e
+
+-- what is heard is of one matter, or names one or none: no import
+abbrev IsNoImport : Heard → Type 0
+IsNoImport (Asks (Matter m caller a)) = ⊤
+IsNoImport (Asks (Import caller statement)) = ⊥
+IsNoImport (Unread named r) = ⊤
+
+-- no record asks for an import
+by_cashier-none : (n : ℕ) (asked : Result Ask Field) (named : Option ℕ) → IsNoImport (heard_as (by_cashier n asked) named)
+by_cashier-none n (Err f) named = tt
+by_cashier-none n (Ok a) named = tt
+
+of_matter-none : (read : Option ℕ) (asked : Result Ask Field) (named : Option ℕ) → IsNoImport (heard_as (of_matter read asked) named)
+of_matter-none None asked named = tt
+of_matter-none (Some n) asked named = by_cashier-none n asked named
+
+of_verb-none : (verb : Option Verb) (fields : List (List ℕ)) (named : Option ℕ) → IsNoImport (heard_as (of_verb verb fields) named)
+of_verb-none None fields named = tt
+of_verb-none (Some v) fields named = of_matter-none (matter_of (text_at fields 1)) (ask_of v fields) named
+
+record-none : (fields : List (List ℕ)) → IsNoImport (heard_of fields)
+unfolding heard_of asked_of
+record-none fields = of_verb-none (verb_in fields) fields (matter_of (text_at fields 1))
+
+-- a record that could not be read is refused, and changes nothing
+pub refused-step : (day : ℕ) (firm : Firm) (fields : List (List ℕ)) (r : Refusal) → Reads (asked_of fields) (Err r) → Steps day firm (heard_of fields) (refused r) firm
+refused-step day firm fields (BadField f) h = rw (heard-bad fields f h) (refl, refl)
+refused-step day firm fields Memory h = steps-stopped day firm firm (heard_of fields) Memory refl (nothing-done day firm (heard_of fields))
+refused-step day firm fields _ h = absurd h
+
+-- ---- what replies say
+
+stopped-is : (day : ℕ) (firm after : Firm) (h : Heard) → IsNoImport h → Stopped day firm h after → after ≡ firm
+stopped-is day firm after (Asks (Matter m caller a)) none s = s
+stopped-is day firm after (Asks (Import caller statement)) none s = absurd none
+stopped-is day firm after (Unread named r) none s = s
+
+steps-fault : (day : ℕ) (firm after : Firm) (fields : List (List ℕ)) (reply : Reply) → is_fault_reply reply ≡ true → Steps day firm (heard_of fields) reply after
+    → after ≡ firm
+steps-fault day firm after fields reply e steps = let stopped = rw e at steps in stopped-is day firm after (heard_of fields) (record-none fields) stopped.leaves
+
+steps-plain : (day : ℕ) (firm after : Firm) (h : Heard) (reply : Reply) → is_fault_reply reply ≡ false → Steps day firm h reply after
+    → (reply ≡ (firm_step day firm h).reply) × (after ≡ (firm_step day firm h).firm)
+steps-plain day firm after h reply e steps = rw e at steps
+
+-- an end of the run, where it did not go on
+abbrev stopped_by : SheetEnd → Result Bool SheetEnd
+stopped_by e = Err e
+
+err-same : (x y : SheetEnd) → stopped_by x ≡ stopped_by y → x ≡ y
+err-same x y e = cc
+
+-- a record that lets the run go on tells of no fault, and says whether it was accepted
+goes-refused : (r : Refusal) (accepted : Bool) → Ok accepted ≡ ran_by (refusal_kind r) → (is_fault r ≡ false) × (false ≡ accepted)
+goes-refused Store accepted e = cc
+goes-refused Memory accepted e = cc
+goes-refused _ accepted e = (refl, cc)
+
+goes-body : (b : Body) (accepted : Bool) → Ok accepted ≡ ran_by (body_kind b) → (is_fault_body b ≡ false) × (is_accepting b ≡ accepted)
+goes-body (Json text) accepted e = (refl, cc)
+goes-body (Refused r) accepted e = goes-refused r accepted e
+
+store-refused : (r : Refusal) → Err end.Store ≡ ran_by (refusal_kind r) → r ≡ Store
+store-refused Store e = refl
+store-refused Memory e = cc
+store-refused _ e = cc
+
+store-body : (b : Body) → Err end.Store ≡ ran_by (body_kind b) → b ≡ Refused Store
+store-body (Json text) e = cc
+store-body (Refused r) e = ap Refused (store-refused r e)
+
+memory-refused : (r : Refusal) → Err end.NoMemory ≡ ran_by (refusal_kind r) → r ≡ Memory
+memory-refused Store e = cc
+memory-refused Memory e = refl
+memory-refused _ e = cc
+
+memory-body : (b : Body) → Err end.NoMemory ≡ ran_by (body_kind b) → b ≡ Refused Memory
+memory-body (Json text) e = cc
+memory-body (Refused r) e = ap Refused (memory-refused r e)
+
+-- no other end comes of a reply
+ends-other : (k : ReplyKind) (e : SheetEnd) → Err e ≡ ran_by k → (e ≢ end.Store) → (e ≢ end.NoMemory) → ⊥
+ends-other kind.Accepted e same s m = cc
+ends-other kind.Refused e same s m = cc
+ends-other kind.Store e same s m = s (err-same e end.Store same)
+ends-other kind.Memory e same s m = m (err-same e end.NoMemory same)
+
+-- what the reply to a record adds to the count of the book's faults
+counted-refused : (r : Refusal) (before after : ℕ) → after ≡ counted_refusal r before → IsCounted (ran_by (refusal_kind r)) before after
+counted-refused Store before after e = e
+counted-refused Memory before after e = tt
+counted-refused _ before after e = e
+
+pub counted-ran : (b : Body) (before after : ℕ) → after ≡ counted_body b before → IsCounted (ran_by (body_kind b)) before after
+counted-ran (Json text) before after e = e
+counted-ran (Refused r) before after e = counted-refused r before after e
+
+-- ---- one more record
+
+not-and : (a b : Bool) → (not a || not b) ≡ not (a && b)
+not-and true b = refl
+not-and false b = refl
+
+abbrev pub SoFar : ℕ → Firm → List (List (List ℕ)) → Firm → Option (List ℕ) → Option (List ℕ) → Bool → Type 0
+SoFar day before past firm old new refused =
+    Appends old new (concat (lines_from day before past)) × (firm ≡ firm_from day before past) × (refused ≡ not (all_accepted day before past))
+
+so_far-more : (day : ℕ) (before firm after : Firm) (past : List (List (List ℕ))) (r : List (List ℕ)) (old mid new : Option (List ℕ)) (reply : Reply) (off on : Bool)
+    → SoFar day before past firm old mid off → Steps day firm (heard_of r) reply after → is_fault_reply reply ≡ false
+    → Appends mid new (reply_line reply) → on ≡ (off || not (is_accepting reply.body)) → SoFar day before (past ++ r ∷ []) after old new on
+so_far-more day before firm after past r old mid new reply off on (written, is, was) steps plain sent now =
+    let went = rw is at steps in
+    let (same, left) = steps-plain day (firm_from day before past) after (heard_of r) reply plain went in
+    let all = all_accepted day before past in
+    let lines = ap concat (lines-push day before past r) ∙ concat-push (lines_from day before past) (reply_line (record_step day (firm_from day before past) r).reply) in
+    let text = lines ∙ ap (λ (x : Reply). concat (lines_from day before past) ++ reply_line x) (sym same) in (
+      rw text (Appends-trans old mid new (concat (lines_from day before past)) (reply_line reply) written sent),
+      left ∙ sym (firm-push day before past r),
+      now ∙ ap (λ (b : Bool). b || not (is_accepting reply.body)) was ∙ not-and all (is_accepting reply.body)
+          ∙ ap not (ap (λ (x : Reply). all && is_accepting x.body) same ∙ sym (accepted-push day before past r)),
+    )
+
+-- ---- where a run stops
+
+abbrev pub cut-at : (all past left rest : List (List (List ℕ))) (r : List (List ℕ)) → past ++ left ≡ all → left ≡ r ∷ rest → Cut all
+cut-at all past left rest r e first = record { past = past; here = r; later = rest; parts = rw first at e }
+
+-- a record that was answered by a fault: its line is written, and nothing is changed
+stops : (day : ℕ) (before firm after : Firm) (past : List (List (List ℕ))) (r : List (List ℕ)) (old mid new : Option (List ℕ)) (reply : Reply) (off : Bool) (fault : Refusal)
+    → SoFar day before past firm old mid off → Steps day firm (heard_of r) reply after → reply.body ≡ Refused fault → is_fault fault ≡ true
+    → Appends mid new (reply_line reply) → Leaves day before past (refusal_line fault) after old new
+stops day before firm after past r old mid new reply off fault (written, is, was) steps body e sent =
+    let line : reply_line reply ≡ refusal_line fault = ap (body_line reply.status) body in
+    record {
+      written = Appends-trans old mid new _ _ written (rw line at sent);
+      firm = steps-fault day firm after r reply (ap is_fault_body body ∙ e) steps ∙ is;
+    }
+
+-- a part of a record's line
+cuts-line : (day : ℕ) (before firm after : Firm) (past : List (List (List ℕ))) (r : List (List ℕ)) (old mid new : Option (List ℕ)) (reply : Reply) (off : Bool)
+    → SoFar day before past firm old mid off → Steps day firm (heard_of r) reply after → IsCut mid new (reply_line reply) → CutsLine day before past r after old new
+cuts-line day before firm after past r old mid new reply off (written, is, was) steps (n, less, part) = record {
+  reply = reply;
+  steps = rw is at steps;
+  count = n;
+  proper = less;
+  written = Appends-trans old mid new _ _ written part;
+}
+
+-- how far the run of a sheet is, once one more record let it go on
+pub record-goes : (day : ℕ) (before firm after : Firm) (past : List (List (List ℕ))) (r : List (List ℕ)) (old mid new : Option (List ℕ)) (off accepted : Bool)
+    → SoFar day before past firm old mid off → RecordEnds day firm r after mid new (Ok accepted) → SoFar day before (past ++ r ∷ []) after old new (off || not accepted)
+record-goes day before firm after past r old mid new off accepted so (inl w) =
+    let (plain, is) = goes-body w.reply.body accepted w.goes in
+    so_far-more day before firm after past r old mid new w.reply off (off || not accepted) so w.steps plain w.written (ap (λ (a : Bool). off || not a) (sym is))
+record-goes day before firm after past r old mid new off accepted so (inr (e, cut)) = cc
+
+-- how it ended, where that record ended it
+pub record-stops : (day : ℕ) (before firm after : Firm) (all past left rest : List (List (List ℕ))) (r : List (List ℕ)) (old mid new : Option (List ℕ)) (off : Bool) (e : SheetEnd)
+    → past ++ left ≡ all → left ≡ r ∷ rest → SoFar day before past firm old mid off → RecordEnds day firm r after mid new (Err e) → RunEnds day before all after old new e
+record-stops day before firm after all past left rest r old mid new off end.Store parts first so (inl w) =
+    (cut-at all past left rest r parts first, stops day before firm after past r old mid new w.reply off Store so w.steps (store-body w.reply.body w.goes) refl w.written)
+record-stops day before firm after all past left rest r old mid new off end.NoMemory parts first so (inl w) =
+    inr (cut-at all past left rest r parts first, stops day before firm after past r old mid new w.reply off Memory so w.steps (memory-body w.reply.body w.goes) refl w.written)
+record-stops day before firm after all past left rest r old mid new off end.Done parts first so (inl w) =
+    absurd (ends-other (reply_kind w.reply) end.Done w.goes (λ s. cc) (λ m. cc))
+record-stops day before firm after all past left rest r old mid new off end.Refused parts first so (inl w) =
+    absurd (ends-other (reply_kind w.reply) end.Refused w.goes (λ s. cc) (λ m. cc))
+record-stops day before firm after all past left rest r old mid new off end.ReadFault parts first so (inl w) =
+    absurd (ends-other (reply_kind w.reply) end.ReadFault w.goes (λ s. cc) (λ m. cc))
+record-stops day before firm after all past left rest r old mid new off end.WriteFault parts first so (inl w) =
+    absurd (ends-other (reply_kind w.reply) end.WriteFault w.goes (λ s. cc) (λ m. cc))
+record-stops day before firm after all past left rest r old mid new off e parts first so (inr (is, cut)) =
+    rw (← err-same end.WriteFault e (sym is)) (cut-at all past left rest r parts first, cuts-line day before firm after past r old mid new cut.reply off so cut.steps (cut.count, cut.proper, cut.written))
+
+-- whole lines of the first records
+pub leaves-past : (day : ℕ) (before firm : Firm) (past : List (List (List ℕ))) (old new : Option (List ℕ)) (off : Bool)
+    → SoFar day before past firm old new off → Leaves day before past [] firm old new
+leaves-past day before firm past old new off (written, is, was) = record { written = rw (append-nil (concat (lines_from day before past))) written; firm = is }
+
+pub leaves-first : (day : ℕ) (before firm : Firm) (all past left : List (List (List ℕ))) (old new : Option (List ℕ)) (off : Bool) → past ++ left ≡ all
+    → SoFar day before past firm old new off → (k : ℕ) × Leaves day before (take k all) [] firm old new
+leaves-first day before firm all past left old new off e so =
+    (length past, rw (first_records all past left e) (leaves-past day before firm past old new off so))
+
+-- at the end of the records all were run
+pub past-all : (all past left : List (List (List ℕ))) → past ++ left ≡ all → left ≡ [] → past ≡ all
+past-all all past left e none = sym (append-nil past) ∙ rw none at e
+
+-- whether all was accepted, by what was kept of it
+pub all-refused : (all : Bool) → true ≡ not all → all ≡ false
+all-refused true e = cc
+all-refused false e = refl
+
+pub none-refused : (all : Bool) → false ≡ not all → all ≡ true
+none-refused true e = refl
+none-refused false e = cc
+
+-- ---- a whole sheet, of bytes that are known or not
+
+pub ends-run : (known : Option (List ℕ)) (items : List ℕ) (day : ℕ) (before after : Firm) (old new : Option (List ℕ)) (e : SheetEnd)
+    → IfSome known (λ all. (items ≡ all) × (length all ≤ MAX_FILE_BYTES)) → RunEnds day before (sheet_records items) after old new e
+    → IfSome known (λ bytes. Ends day before bytes after old new e)
+ends-run None items day before after old new e read h = tt
+ends-run (Some bytes) items day before after old new e (same, short) h =
+    let within : nat_lt MAX_FILE_BYTES (length bytes) ≡ false = grind (arith, nat_tests) in
+    rw within (rw same at h)
+
+pub ends-large : (known : Option (List ℕ)) (day : ℕ) (firm : Firm) (old new : Option (List ℕ)) (e : SheetEnd)
+    → IfSome known (λ all. MAX_FILE_BYTES < length all) → LargeEnds firm firm old new e → IfSome known (λ bytes. Ends day firm bytes firm old new e)
+ends-large None day firm old new e long h = tt
+ends-large (Some bytes) day firm old new e long h =
+    let beyond : nat_lt MAX_FILE_BYTES (length bytes) ≡ true = grind (arith, nat_tests) in
+    rw beyond h

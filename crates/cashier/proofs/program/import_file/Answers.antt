@@ -1,0 +1,15 @@
+use Rattle.std.proofs.Common.{inl, sym}
+use Rattle.cashier.proofs.StatementFacts.{ends-known}
+use Rattle.cashier.proofs.program.import_file.Goals as goal
+
+pub returns-clause-ends : goal.returns-clause-ends
+returns-clause-ends g c = λ clean stands. inl (record {
+  size = c.in-Some.file.length;
+  opened = c.in-Some.ensures.told;
+  end = c.run_import.result;
+  outcome = sym c.outcome_of_statement.ensures;
+  ends =
+      ends-known c.args.today (g.B.Book.firm c.args.desk.now) (g.B.Book.firm c.run_import.new.desk) c.in-Some.file.length _ _
+      (g.W.Write.contents c.args.writer.now) (g.W.Write.contents c.run_import.new.writer) c.run_import.result
+      c.in-Some.ensures.bytes (c.run_import.ensures.ends clean stands);
+})

@@ -1,0 +1,10 @@
+use Rattle.csv.specs.Records.{fields_of}
+use Rattle.cashier.proofs.SheetFacts.{heard-read, refused-step}
+use Rattle.cashier.proofs.record.answer_record.Goals as goal
+
+pub returns-in-Ok-clause-step : goal.returns-in-Ok-clause-step
+returns-in-Ok-clause-step g c = λ clean stands. rw (heard-read (fields_of c.args.row.now) c.in-Ok.request c.in-Ok.ensures) (c.answer.ensures.step clean stands)
+
+pub returns-in-Err-clause-step : goal.returns-in-Err-clause-step
+returns-in-Err-clause-step g c =
+    λ _ _. rw c.refused.ensures (refused-step c.args.day (g.B.Book.firm c.args.desk.now) (fields_of c.args.row.now) c.in-Err.refusal c.in-Err.ensures)

@@ -1,0 +1,24 @@
+use Rattle.std.proofs.Common.{◌≡◌, ◌<◌, ◌++◌, not, ℕ, List, Some, Bor}
+use Rattle.std.specs.Io.KnownBytes.{Appends}
+use Rattle.std.specs.List.{concat}
+use Rattle.csv.specs.Reading.{Ready, default_config, source_of}
+use Rattle.csv.specs.declared.reader.Trim.TheVariants as trim
+use Rattle.byte_streams.specs.CsvRecords.{rest_records}
+use Rattle.cashier.specs.Calls.{IsSame, LeavesBook}
+use Rattle.cashier.specs.Sheet.{all_accepted, firm_from, lines_from, sheet_records}
+use Rattle.cashier.proofs.sheet.run_records.Given as goal
+
+abbrev pub invariant-loop-row : goal.invariant-loop-row
+invariant-loop-row g l = record {
+  plain : l.row-iterator.rdr.trim ≡ trim.None;
+  ready : Ready l.row-iterator.rdr;
+  turns : 0 < l.row-iterator.left;
+  config : l.row-iterator.rdr.config ≡ default_config;
+  kept : LeavesBook g.B.Book.clean g.B.Book.sure g.B.Book.stands g.B.Book.refusals IsSame l.initial.desk l.desk;
+  left : (y : List ℕ) × (source_of (λ (s : Bor (List ℕ)). Some s.now) l.row-iterator.rdr ≡ Some y)
+      × (g.B.Book.clean l.desk → g.B.Book.stands l.initial.desk → (past : List (List (List ℕ)))
+      × (past ++ rest_records l.row-iterator.rdr.state y ≡ sheet_records l.fn.bytes)
+      × Appends (g.W.Write.contents l.initial.writer) (g.W.Write.contents l.writer) (concat (lines_from l.fn.day (g.B.Book.firm l.initial.desk) past))
+      × (g.B.Book.firm l.desk ≡ firm_from l.fn.day (g.B.Book.firm l.initial.desk) past)
+      × (l.refused ≡ not (all_accepted l.fn.day (g.B.Book.firm l.initial.desk) past)));
+}

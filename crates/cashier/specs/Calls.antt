@@ -1,0 +1,21 @@
+-- What each run over a desk leaves of its book, however it ends.
+use Rattle.std.specs.Prelude.{◌≡◌, ℕ}
+use Rattle.trust_base.specs.declared.refusal.StoreFault.TheVariants as faults
+use Rattle.trust_store.specs.Books.{counted_fault}
+
+-- what its store is sure of now it was sure of before, and where it serves now it served before; where it stood for a
+-- sound firm it still does; and its count of faults went as the end of the run tells
+pub record LeavesBook {B : Type 0} (clean sure stands : B → Type 0) (refusals : B → ℕ)
+    (Goes : ℕ → ℕ → Type 0) (old new : B) : Type 0 where
+  pub was_clean : clean new → clean old
+  pub was_sure : sure new → sure old
+  pub still_stands : clean new → stands old → stands new
+  pub cause : clean new → stands old → Goes (refusals old) (refusals new)
+
+-- no fault was counted
+abbrev pub IsSame : ℕ → ℕ → Type 0
+IsSame before after = after ≡ before
+
+-- one more fault of the store was counted, where a run ended by it
+abbrev pub CountsStore : {E : Type 0} → E → E → ℕ → ℕ → Type 0
+CountsStore store end before after = end ≡ store → after ≡ counted_fault faults.Store before

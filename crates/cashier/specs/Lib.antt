@@ -1,0 +1,6 @@
+pub mod Calls
+pub mod Outcome
+pub mod Program
+pub mod Records
+pub mod Sheet
+pub mod Statement

@@ -1,0 +1,135 @@
+-- How a run of the program ends for its caller: the exit status and the notice on standard error.
+use Rattle.std.specs.Prelude.{◌≡◌, ◌≢◌, ◌⊎◌, ℕ, List, [], Option, Some, None, IfSome, codes, ⊤}
+use Rattle.std.specs.Borrow.{Bor}
+use Rattle.std.specs.Io.KnownBytes.{Appends}
+use Rattle.clap.specs.Words.{Text}
+use Rattle.firm_rows.specs.Firm.{Firm, empty_firm}
+use Rattle.firm_rows.specs.FirmSound.{FirmSound}
+use Rattle.cashier.specs.Program.{Means, MeansNothing}
+use Rattle.cashier.specs.Sheet.{Ends}
+use Rattle.cashier.specs.Statement.{StatementEnds}
+use Rattle.cashier.specs.declared.command.Task.{Task}
+use Rattle.cashier.specs.declared.command.Task.TheVariants as task
+use Rattle.cashier.specs.declared.outcome.Outcome.{Outcome}
+use Rattle.cashier.specs.declared.outcome.Outcome.TheVariants as outcome
+use Rattle.std.specs.declared.io.ErrorKind.{ErrorKind}
+use Rattle.std.specs.declared.io.ErrorKind.TheVariants as kind
+use Rattle.cashier.specs.declared.sheet.SheetEnd.{SheetEnd}
+use Rattle.cashier.specs.declared.sheet.SheetEnd.TheVariants as sheet
+use Rattle.cashier.specs.declared.statement.StatementEnd.{StatementEnd}
+use Rattle.cashier.specs.declared.statement.StatementEnd.TheVariants as statement
+
+-- 0 done, 1 something was refused, 2 the command line, 3 a fault
+abbrev pub exit_status : Outcome → ℕ
+exit_status outcome.Done = 0
+exit_status outcome.Refused = 1
+exit_status outcome.CommandLine = 2
+exit_status outcome.FileFault = 3
+exit_status outcome.StoreFault = 3
+exit_status outcome.MemoryFault = 3
+
+-- the line on standard error, where there is one
+abbrev pub notice : Outcome → Option (List ℕ)
+notice outcome.Done = None
+notice outcome.Refused = None
+notice outcome.CommandLine = Some (codes "usage: cashier_cli --today DAY (sheet | import FILE)")
+notice outcome.FileFault = Some (codes "file fault")
+notice outcome.StoreFault = Some (codes "store fault")
+notice outcome.MemoryFault = Some (codes "memory fault")
+
+-- what an error in reading the words is to the program
+abbrev pub words_outcome : ErrorKind → Outcome
+words_outcome kind.OutOfMemory = outcome.MemoryFault
+words_outcome _ = outcome.CommandLine
+
+-- what the end of a sheet is to the program
+abbrev pub sheet_outcome : SheetEnd → Outcome
+sheet_outcome sheet.Done = outcome.Done
+sheet_outcome sheet.Refused = outcome.Refused
+sheet_outcome sheet.ReadFault = outcome.FileFault
+sheet_outcome sheet.WriteFault = outcome.FileFault
+sheet_outcome sheet.Store = outcome.StoreFault
+sheet_outcome sheet.NoMemory = outcome.MemoryFault
+
+-- what the end of an import is to the program
+abbrev pub statement_outcome : StatementEnd → Outcome
+statement_outcome statement.Done = outcome.Done
+statement_outcome statement.Refused = outcome.Refused
+statement_outcome statement.ReadFault = outcome.FileFault
+statement_outcome statement.WriteFault = outcome.FileFault
+statement_outcome statement.Store = outcome.StoreFault
+statement_outcome statement.NoMemory = outcome.MemoryFault
+
+-- the words were understood, and their task began
+abbrev pub HasBegun : Outcome → Type 0
+HasBegun outcome.Done = ⊤
+HasBegun outcome.Refused = ⊤
+HasBegun outcome.CommandLine = ⊥
+HasBegun outcome.FileFault = ⊤
+HasBegun outcome.StoreFault = ⊤
+HasBegun outcome.MemoryFault = ⊥
+
+-- the file of a path was not opened, as its folder may tell, and nothing was done
+pub record IsUnopened (opens : Option (Option ℕ) → Type 0) (before after : Firm) (old new : Option (List ℕ))
+    (told : Outcome) : Type 0 where
+  pub opened : opens None
+  pub outcome : told ≡ outcome.FileFault
+  pub written : Appends old new []
+  pub firm : after ≡ before
+
+-- the statement of these bytes, where they are known, was imported with the length that its folder may tell, and that
+-- ended with this outcome
+pub record IsImported (day : ℕ) (before : Firm) (bytes : Option (List ℕ)) (opens : Option (Option ℕ) → Type 0)
+    (after : Firm) (old new : Option (List ℕ)) (told : Outcome) : Type 0 where
+  pub size : Option ℕ
+  pub opened : opens (Some size)
+  pub end : StatementEnd
+  pub outcome : statement_outcome end ≡ told
+  pub ends : StatementEnds day before size bytes after old new end
+
+-- what became of a file that is to be imported, by its bytes, where they are known, and what opening it may tell
+abbrev pub FileEnds : ℕ → Firm → Option (List ℕ) → (Option (Option ℕ) → Type 0) → Firm → Option (List ℕ)
+    → Option (List ℕ) → Outcome → Type 0
+FileEnds day before bytes opens after old new told =
+    IsImported day before bytes opens after old new told ⊎ IsUnopened opens before after old new told
+
+-- the words mean that a sheet is run on a day, and it ended with that outcome
+pub record RanSheet (words : List Text) (input : Option (List ℕ)) (before after : Firm) (old new : Option (List ℕ))
+    (told : Outcome) : Type 0 where
+  pub today : ℕ
+  pub means : Means words today task.Sheet
+  pub end : SheetEnd
+  pub outcome : sheet_outcome end ≡ told
+  pub ends : IfSome input (λ bytes. Ends today before bytes after old new end)
+
+-- the words mean that the statement of a path is imported on a day, and that ended with that outcome
+pub record RanImport (words : List Text) (known : Text → Option (List ℕ))
+    (opens : Text → Option (Option ℕ) → Type 0) (before after : Firm) (old new : Option (List ℕ))
+    (told : Outcome) : Type 0 where
+  pub today : ℕ
+  pub path : Bor (List ℕ)
+  pub means : Means words today (task.Import path)
+  pub ends : FileEnds today before (known path.now) (opens path.now) after old new told
+
+-- memory was refused before anything was run
+pub record RanNothing (before after : Firm) (old new : Option (List ℕ)) (told : Outcome) : Type 0 where
+  pub outcome : told ≡ outcome.MemoryFault
+  pub written : Appends old new []
+  pub firm : after ≡ before
+
+-- what became of the words, the sheet on standard input, the files of paths and the firm
+abbrev pub Ran : List Text → Option (List ℕ) → (Text → Option (List ℕ)) → (Text → Option (Option ℕ) → Type 0)
+    → Firm → Firm → Option (List ℕ) → Option (List ℕ) → Outcome → Type 0
+Ran words input known opens before after old new told =
+    RanSheet words input before after old new told
+    ⊎ (RanImport words known opens before after old new told ⊎ RanNothing before after old new told)
+
+-- the run of words over a book that begins without rows: it ended at the command line only where they mean nothing;
+-- they mean what was begun; and, of any other end, what became of the sheet or the file, and the firm that is left is
+-- sound
+pub record HasRun (words : List Text) (input : Option (List ℕ)) (known : Text → Option (List ℕ))
+    (opens : Text → Option (Option ℕ) → Type 0) (old new : Option (List ℕ)) (told : Outcome) : Type 0 where
+  pub line : told ≡ outcome.CommandLine → MeansNothing words
+  pub meant : HasBegun told → (today : ℕ) × (task : Task) × Means words today task
+  pub ends : told ≢ outcome.CommandLine → (after : Firm) × FirmSound after
+      × Ran words input known opens empty_firm after old new told

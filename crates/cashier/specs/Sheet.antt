@@ -1,0 +1,206 @@
+-- What a day sheet prints, and the firm that it leaves.
+use Rattle.std.specs.Prelude.{◌≡◌, ◌<◌, ◌⊎◌, ℕ, Bool, true, false, List, [], ◌∷◌, ◌++◌, Option, Result, Ok, Err, length, nat_lt, take, ⊤, if◌then◌else◌, MatchBool}
+use Rattle.std.specs.Fmt.{decimal}
+use Rattle.std.specs.Io.KnownBytes.{Appends}
+use Rattle.std.specs.List.{concat, filter}
+use Rattle.csv.specs.Reading.{default_config, records, strip_bom}
+use Rattle.trust_base.specs.declared.limits.TheConstants.{MAX_FILE_BYTES}
+use Rattle.trust_base.specs.Refusals.{refusal_text, status_of}
+use Rattle.trust_values.specs.Texts.{matter_of}
+use Rattle.trust_base.specs.declared.refusal.Field.{Field}
+use Rattle.trust_base.specs.declared.refusal.Refusal.{Refusal}
+use Rattle.trust_base.specs.declared.refusal.Refusal.TheVariants.{BadField, TooLarge, Store, Memory}
+use Rattle.trust_base.specs.declared.refusal.StoreFault.TheVariants as faults
+use Rattle.firm_rows.specs.Firm.{Firm, of}
+use Rattle.trust_store.specs.Books.{counted_fault}
+use Rattle.trust_desk.specs.FirmStep.{Stepped, Steps, firm_step}
+use Rattle.trust_desk.specs.Heard.{Asks, Heard, Unread, is_the}
+use Rattle.trust_desk.specs.declared.requests.Body.{Body}
+use Rattle.trust_desk.specs.declared.requests.Body.TheVariants.{Json, Refused}
+use Rattle.trust_desk.specs.declared.requests.Reply.{Reply}
+use Rattle.trust_desk.specs.declared.requests.Request.{Request}
+use Rattle.cashier.specs.Records.{asked_of, text_at}
+use Rattle.cashier.specs.declared.sheet.SheetEnd.{SheetEnd}
+use Rattle.cashier.specs.declared.sheet.SheetEnd.TheVariants as end
+use Rattle.cashier.specs.declared.reply_kind.ReplyKind.{ReplyKind}
+use Rattle.cashier.specs.declared.reply_kind.ReplyKind.TheVariants as kind
+
+-- ---- one record
+
+abbrev pub heard_as : Result Request Field → Option ℕ → Heard
+heard_as (Ok request) named = Asks request
+heard_as (Err f) named = Unread named (BadField f)
+
+-- what the desk hears of a record: its request, or its refusal; a record names the matter of its second field
+unfoldable pub heard_of : List (List ℕ) → Heard
+heard_of fields = heard_as (asked_of fields) (matter_of (text_at fields 1))
+
+-- what a record does to a firm on a day
+abbrev pub record_step : ℕ → Firm → List (List ℕ) → Stepped
+record_step day firm fields = firm_step day firm (heard_of fields)
+
+-- ---- lines
+
+-- a status, a space, a body and a line feed
+unfoldable pub line_of : ℕ → List ℕ → List ℕ
+line_of status body = decimal status ++ (32 ∷ (body ++ 10 ∷ []))
+
+abbrev pub refusal_line : Refusal → List ℕ
+refusal_line r = line_of (status_of r) (refusal_text r)
+
+abbrev pub body_line : ℕ → Body → List ℕ
+body_line status (Json text) = line_of status text
+body_line status (Refused r) = refusal_line r
+
+-- the line of a reply
+abbrev pub reply_line : Reply → List ℕ
+reply_line reply = body_line reply.status reply.body
+
+-- ---- what replies say
+
+abbrev pub refusal_kind : Refusal → ReplyKind
+refusal_kind Store = kind.Store
+refusal_kind Memory = kind.Memory
+refusal_kind _ = kind.Refused
+
+abbrev pub body_kind : Body → ReplyKind
+body_kind (Json text) = kind.Accepted
+body_kind (Refused r) = refusal_kind r
+
+-- whether a reply accepts, refuses or tells of a fault
+abbrev pub reply_kind : Reply → ReplyKind
+reply_kind reply = body_kind reply.body
+
+abbrev pub is_accepting : Body → Bool
+is_accepting (Json text) = true
+is_accepting (Refused r) = false
+
+-- ---- all records
+
+-- the lines of records, one for each
+abbrev pub lines_from : ℕ → Firm → List (List (List ℕ)) → List (List ℕ)
+lines_from day firm [] = []
+lines_from day firm (r ∷ rest) =
+    reply_line (record_step day firm r).reply ∷ lines_from day (record_step day firm r).firm rest
+
+-- the firm once records were run
+abbrev pub firm_from : ℕ → Firm → List (List (List ℕ)) → Firm
+firm_from day firm [] = firm
+firm_from day firm (r ∷ rest) = firm_from day (record_step day firm r).firm rest
+
+-- whether each record is accepted
+abbrev pub all_accepted : ℕ → Firm → List (List (List ℕ)) → Bool
+all_accepted day firm [] = true
+all_accepted day firm (r ∷ rest) =
+    if is_accepting (record_step day firm r).reply.body then all_accepted day (record_step day firm r).firm rest
+    else false
+
+-- the records of a sheet, as CSV, with a byte order mark taken off
+abbrev pub sheet_records : List ℕ → List (List (List ℕ))
+sheet_records bytes = records default_config (strip_bom bytes)
+
+-- ---- the end of a run
+
+-- these records were run and no others: their lines were written, and more behind them, and the firm is the one
+-- that they leave
+pub record Leaves (day : ℕ) (before : Firm) (past : List (List (List ℕ))) (more : List ℕ) (after : Firm)
+    (old new : Option (List ℕ)) : Type 0 where
+  pub written : Appends old new (concat (lines_from day before past) ++ more)
+  pub firm : after ≡ firm_from day before past
+
+-- the records before one, that one, and those behind it
+pub record Cut (all : List (List (List ℕ))) : Type 0 where
+  pub past : List (List (List ℕ))
+  pub here : List (List ℕ)
+  pub later : List (List (List ℕ))
+  pub parts : past ++ here ∷ later ≡ all
+
+-- a record was run, and of its line a proper front was written
+pub record CutsLine (day : ℕ) (before : Firm) (past : List (List (List ℕ))) (here : List (List ℕ)) (after : Firm)
+    (old new : Option (List ℕ)) : Type 0 where
+  pub reply : Reply
+  pub steps : Steps day (firm_from day before past) (heard_of here) reply after
+  pub count : ℕ
+  pub proper : count < length (reply_line reply)
+  pub written : Appends old new (concat (lines_from day before past) ++ take count (reply_line reply))
+
+-- how a run goes on once a record was answered so and its line written: whether it was accepted, or the run's end
+abbrev pub ran_by : ReplyKind → Result Bool SheetEnd
+ran_by kind.Accepted = Ok true
+ran_by kind.Refused = Ok false
+ran_by kind.Store = Err end.Store
+ran_by kind.Memory = Err end.NoMemory
+
+-- a record was run, its line was written, and its reply says how the run goes on
+pub record WritesLine (day : ℕ) (before : Firm) (here : List (List ℕ)) (after : Firm) (old new : Option (List ℕ))
+    (ran : Result Bool SheetEnd) : Type 0 where
+  pub reply : Reply
+  pub steps : Steps day before (heard_of here) reply after
+  pub written : Appends old new (reply_line reply)
+  pub goes : ran ≡ ran_by (reply_kind reply)
+
+-- how the run of one record goes: its line was written, or a write failed
+abbrev pub RecordEnds : ℕ → Firm → List (List ℕ) → Firm → Option (List ℕ) → Option (List ℕ) → Result Bool SheetEnd
+    → Type 0
+RecordEnds day before here after old new ran =
+    WritesLine day before here after old new ran
+    ⊎ ((ran ≡ Err end.WriteFault) × CutsLine day before [] here after old new)
+
+-- the count of calls of the book that answered Store, before and after a record: one more at an end by Store
+abbrev pub IsCounted : Result Bool SheetEnd → ℕ → ℕ → Type 0
+IsCounted (Ok accepted) before after = after ≡ before
+IsCounted (Err end.Store) before after = after ≡ counted_fault faults.Store before
+IsCounted (Err _) before after = ⊤
+
+-- how a run of these records ends, the firm before and after, and what a writer was given by then: all lines; nothing
+-- before a read failed; where a write failed a front of that record's line; where the store or memory was refused
+-- the lines before, and the refusal's own where a record was answered so
+abbrev pub RunEnds : ℕ → Firm → List (List (List ℕ)) → Firm → Option (List ℕ) → Option (List ℕ) → SheetEnd → Type 0
+RunEnds day before all after old new end.Done = Leaves day before all [] after old new
+    × (all_accepted day before all ≡ true)
+RunEnds day before all after old new end.Refused = Leaves day before all [] after old new
+    × (all_accepted day before all ≡ false)
+RunEnds day before all after old new end.ReadFault = Leaves day before [] [] after old new
+RunEnds day before all after old new end.WriteFault = (cut : Cut all)
+    × CutsLine day before cut.past cut.here after old new
+RunEnds day before all after old new end.Store = (cut : Cut all)
+    × Leaves day before cut.past (refusal_line Store) after old new
+RunEnds day before all after old new end.NoMemory =
+    ((k : ℕ) × Leaves day before (take k all) [] after old new)
+    ⊎ ((cut : Cut all) × Leaves day before cut.past (refusal_line Memory) after old new)
+
+-- how a sheet above the limit ends, of which no record is run: by one line
+abbrev pub LargeEnds : Firm → Firm → Option (List ℕ) → Option (List ℕ) → SheetEnd → Type 0
+LargeEnds before after old new end.Done = ⊥
+LargeEnds before after old new end.Refused = Appends old new (refusal_line TooLarge) × (after ≡ before)
+LargeEnds before after old new end.ReadFault = Appends old new [] × (after ≡ before)
+LargeEnds before after old new end.WriteFault = (n : ℕ) × (n < length (refusal_line TooLarge))
+    × Appends old new (take n (refusal_line TooLarge)) × (after ≡ before)
+LargeEnds before after old new end.Store = ⊥
+LargeEnds before after old new end.NoMemory = Appends old new [] × (after ≡ before)
+
+-- how a sheet ends
+abbrev pub Ends : ℕ → Firm → List ℕ → Firm → Option (List ℕ) → Option (List ℕ) → SheetEnd → Type 0
+Ends day before bytes after old new e =
+    MatchBool (nat_lt MAX_FILE_BYTES (length bytes)) (LargeEnds before after old new e)
+    (RunEnds day before (sheet_records bytes) after old new e)
+
+-- ---- the lines of one matter
+
+-- a record names a matter: its second field is the matter's six digits, whatever the others are
+abbrev pub names_matter : ℕ → List (List ℕ) → Bool
+names_matter m fields = is_the m (matter_of (text_at fields 1))
+
+-- the lines at the records that pass a test
+abbrev pub lines_at : (List (List ℕ) → Bool) → List (List (List ℕ)) → List (List ℕ) → List (List ℕ)
+lines_at test [] lines = []
+lines_at test (r ∷ rest) [] = []
+lines_at test (r ∷ rest) (line ∷ lines) = if test r then line ∷ lines_at test rest lines else lines_at test rest lines
+
+-- the lines of a matter depend on its own rows and records alone: two firms with the same rows of a matter, and
+-- records of which the same name it, among whatever others, print the same lines at them
+abbrev pub OwnRecordsAlone : Type 0
+OwnRecordsAlone =
+    (m day : ℕ) (f g : Firm) (a b : List (List (List ℕ))) → of m f ≡ of m g
+    → filter (names_matter m) a ≡ filter (names_matter m) b
+    → lines_at (names_matter m) a (lines_from day f a) ≡ lines_at (names_matter m) b (lines_from day g b)

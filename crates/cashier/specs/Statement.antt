@@ -1,0 +1,97 @@
+-- What the import of a bank's statement prints, and the firm that it leaves.
+use Rattle.std.specs.Prelude.{◌≡◌, ◌<◌, ◌⊎◌, ℕ, Bool, false, List, [], Option, Some, None, option_map, length, nat_lt, take, MatchBool}
+use Rattle.std.specs.Io.KnownBytes.{Appends}
+use Rattle.statement_csv.specs.Items.{items}
+use Rattle.trust_base.specs.declared.limits.TheConstants.{MAX_FILE_BYTES}
+use Rattle.statement_csv.specs.Limits.{IsTooLong, IsWithin}
+use Rattle.statement_csv.specs.Reading.{LacksHeader}
+use Rattle.trust_base.specs.declared.refusal.Field.TheVariants as field
+use Rattle.trust_base.specs.declared.refusal.Refusal.TheVariants.{BadField, Memory, TooLarge}
+use Rattle.firm_rows.specs.Firm.{Firm}
+use Rattle.matter_bodies.specs.Bodies.{import_body}
+use Rattle.trust_desk.specs.Imports.{Imports, IsStop}
+use Rattle.matter_bodies.specs.declared.bodies.ImportReply.{ImportReply}
+use Rattle.trust_desk.specs.declared.importing.ImportEnd.{ImportEnd}
+use Rattle.trust_desk.specs.declared.importing.ImportStop.{ImportStop}
+use Rattle.trust_desk.specs.declared.importing.ImportStop.TheVariants as stop
+use Rattle.cashier.specs.Sheet.{line_of, refusal_line, refusal_kind}
+use Rattle.cashier.specs.declared.statement.StatementEnd.{StatementEnd}
+use Rattle.cashier.specs.declared.statement.StatementEnd.TheVariants as end
+use Rattle.cashier.specs.declared.reply_kind.ReplyKind.{ReplyKind}
+use Rattle.cashier.specs.declared.reply_kind.ReplyKind.TheVariants as kind
+
+-- ---- what is told of an import
+
+-- the line of the counts
+abbrev pub counts_line : ImportReply → List ℕ
+counts_line c = line_of 200 (import_body c.applied c.exceptions c.repeated c.statement c.unreadable)
+
+-- what is printed of an import: its counts where it is done, its refusal, and nothing where a read failed
+abbrev pub stop_text : ImportReply → ImportStop → List ℕ
+stop_text counts stop.Done = counts_line counts
+stop_text counts (stop.Refused r) = refusal_line r
+stop_text counts stop.Limit = refusal_line TooLarge
+stop_text counts stop.ReadFault = []
+
+-- how its run ends by what a refusal says
+abbrev pub refused_end : ReplyKind → StatementEnd
+refused_end kind.Accepted = end.Done
+refused_end kind.Refused = end.Refused
+refused_end kind.Store = end.Store
+refused_end kind.Memory = end.NoMemory
+
+-- how its run ends, where all of that was written
+abbrev pub stop_end : ImportStop → StatementEnd
+stop_end stop.Done = end.Done
+stop_end (stop.Refused r) = refused_end (refusal_kind r)
+stop_end stop.Limit = end.Refused
+stop_end stop.ReadFault = end.ReadFault
+
+-- a text was written and the run ended so, or a write failed and a proper front of the text was written
+abbrev pub Sent : List ℕ → StatementEnd → Option (List ℕ) → Option (List ℕ) → StatementEnd → Type 0
+Sent text told old new result =
+    ((result ≡ told) × Appends old new text)
+    ⊎ ((result ≡ end.WriteFault) × ((n : ℕ) × (n < length text) × Appends old new (take n text)))
+
+-- what is told of an import was written; where memory for its counts was refused, that was told in their place
+abbrev pub Answers : ImportEnd → Option (List ℕ) → Option (List ℕ) → StatementEnd → Type 0
+Answers ran old new result =
+    Sent (stop_text ran.reply ran.end) (stop_end ran.end) old new result
+    ⊎ ((ran.end ≡ stop.Done) × Sent (refusal_line Memory) end.NoMemory old new result)
+
+-- ---- what an import has done
+
+-- the first items of a statement of these bytes, where they are known, were applied and counted; and what the import's
+-- end says of the bytes
+pub record Imported (day : ℕ) (before : Firm) (bytes : Option (List ℕ)) (after : Firm) (ran : ImportEnd) : Type 0 where
+  pub imports : Imports day before (option_map items bytes) ran after
+  pub stops : IsStop ran.end
+  pub header : ran.end ≡ stop.Refused (BadField field.Header) → LacksHeader (option_map items bytes)
+  pub limit : ran.end ≡ stop.Limit → IsTooLong bytes
+  pub within : ran.end ≡ stop.Done → IsWithin bytes
+
+-- ---- the end of a run
+
+-- the length is told, and above the limit
+abbrev pub is_told_longer : Option ℕ → Bool
+is_told_longer None = false
+is_told_longer (Some n) = nat_lt MAX_FILE_BYTES n
+
+-- a statement that tells so is refused, and no item of it applied
+pub record Large (before after : Firm) (old new : Option (List ℕ)) (result : StatementEnd) : Type 0 where
+  pub firm : after ≡ before
+  pub sent : Sent (refusal_line TooLarge) end.Refused old new result
+
+-- any other is imported, and the import answered
+pub record Run (day : ℕ) (before : Firm) (bytes : Option (List ℕ)) (after : Firm) (old new : Option (List ℕ))
+    (result : StatementEnd) : Type 0 where
+  pub ran : ImportEnd
+  pub imported : Imported day before bytes after ran
+  pub answers : Answers ran old new result
+
+-- how the import of a statement of this length, where it is told, and these bytes, where they are known, ends on a day;
+-- the firm before and after, and what a writer was given by then
+abbrev pub StatementEnds : ℕ → Firm → Option ℕ → Option (List ℕ) → Firm → Option (List ℕ) → Option (List ℕ)
+    → StatementEnd → Type 0
+StatementEnds day before size bytes after old new result =
+    MatchBool (is_told_longer size) (Large before after old new result) (Run day before bytes after old new result)

@@ -1,0 +1,96 @@
+// How a run of the program ends.
+
+ghost use Rattle.std.specs.Prelude.{◌≡◌, option_map};
+ghost use Rattle.std.specs.Process.{exit_status as process_status};
+ghost use Rattle.cashier.specs.Outcome.{exit_status, notice, sheet_outcome, statement_outcome, words_outcome};
+
+use crate::sheet::SheetEnd;
+use crate::statement::StatementEnd;
+use std::io::ErrorKind;
+use std::process::ExitCode;
+
+/// How a run of the program ended.
+#[derive(Clone, Copy, PartialEq, Eq, Debug)]
+pub enum Outcome {
+    /// All was done.
+    Done,
+    /// Something was refused.
+    Refused,
+    /// The command line names no run.
+    CommandLine,
+    /// A file could not be opened, or a read or a write failed.
+    FileFault,
+    /// The store refused a call.
+    StoreFault,
+    /// A growth was refused.
+    MemoryFault,
+}
+
+// 0 done, 1 something was refused, 2 the command line, 3 a fault.
+fn status_of(outcome: Outcome) -> u8
+    ensures { result ≡ exit_status outcome }
+{
+    match outcome {
+        Outcome::Done => 0,
+        Outcome::Refused => 1,
+        Outcome::CommandLine => 2,
+        Outcome::FileFault | Outcome::StoreFault | Outcome::MemoryFault => 3,
+    }
+}
+
+/// What the program exits with, as `main` answers it: status 0 done, 1 something was refused, 2 the command line,
+/// 3 a fault.
+pub fn exit_of(outcome: Outcome) -> ExitCode
+    ensures { process_status result ≡ exit_status outcome }
+{
+    ExitCode::from(status_of(outcome))
+}
+
+/// What standard error is told of an outcome, without the line's end.
+pub fn notice_of(outcome: Outcome) -> Option<&'static str>
+    ensures { option_map (λ s. s.now) result ≡ notice outcome }
+{
+    match outcome {
+        Outcome::Done | Outcome::Refused => None,
+        Outcome::CommandLine => Some("usage: cashier_cli --today DAY (sheet | import FILE)"),
+        Outcome::FileFault => Some("file fault"),
+        Outcome::StoreFault => Some("store fault"),
+        Outcome::MemoryFault => Some("memory fault"),
+    }
+}
+
+/// The outcome of a run whose words were not read: want of memory, or a word that is no text.
+pub fn outcome_of_words(kind: ErrorKind) -> Outcome
+    ensures { result ≡ words_outcome kind }
+{
+    match kind {
+        ErrorKind::OutOfMemory => Outcome::MemoryFault,
+        _ => Outcome::CommandLine,
+    }
+}
+
+/// The outcome of a sheet's run.
+pub fn outcome_of_sheet(end: SheetEnd) -> Outcome
+    ensures { result ≡ sheet_outcome end }
+{
+    match end {
+        SheetEnd::Done => Outcome::Done,
+        SheetEnd::Refused => Outcome::Refused,
+        SheetEnd::ReadFault | SheetEnd::WriteFault => Outcome::FileFault,
+        SheetEnd::Store => Outcome::StoreFault,
+        SheetEnd::NoMemory => Outcome::MemoryFault,
+    }
+}
+
+/// The outcome of an import.
+pub fn outcome_of_statement(end: StatementEnd) -> Outcome
+    ensures { result ≡ statement_outcome end }
+{
+    match end {
+        StatementEnd::Done => Outcome::Done,
+        StatementEnd::Refused => Outcome::Refused,
+        StatementEnd::ReadFault | StatementEnd::WriteFault => Outcome::FileFault,
+        StatementEnd::Store => Outcome::StoreFault,
+        StatementEnd::NoMemory => Outcome::MemoryFault,
+    }
+}

@@ -1,0 +1,149 @@
+// A day sheet.
+
+ghost use Rattle.std.specs.Prelude.{◌≡◌, ◌≢◌, IfErr, IfSome, []};
+ghost use Rattle.std.specs.Io.KnownBytes.{Appends};
+ghost use Rattle.csv.specs.Records.{fields_of};
+ghost use Rattle.firm_rows.specs.Firm.{Firm};
+ghost use Rattle.cashier.specs.Calls.{CountsStore, LeavesBook};
+ghost use Rattle.cashier.specs.Sheet.{Ends, IsCounted, LargeEnds, RecordEnds, RunEnds, ran_by, sheet_records};
+
+use crate::record::answer_record;
+use crate::reply_kind::{ReplyKind, kind_of_reply};
+use crate::reply_line::{write_refusal, write_reply};
+use csv::{ByteRecord, ReaderBuilder};
+use std::alloc::Global;
+use std::io::{Read, Write};
+use trust_base::{Day, InputFault, MAX_FILE_BYTES, Refusal, read_whole};
+use trust_desk::Desk;
+use trust_store::Book;
+
+/// How a sheet ended.
+#[derive(Clone, Copy, PartialEq, Eq, Debug)]
+pub enum SheetEnd {
+    /// Each record was accepted.
+    Done,
+    /// A record was refused, or the whole sheet as too large.
+    Refused,
+    /// A read failed: no record was run, and nothing was written.
+    ReadFault,
+    /// A write failed: a part of the lines was written. The changes of the record whose line was cut stay.
+    WriteFault,
+    /// A record was answered Store: its line was written, and no later record was run.
+    Store,
+    /// A growth was refused: the lines of the first records were written, each whole, and the line of the record
+    /// that was answered Memory, if one was.
+    NoMemory,
+}
+
+// How the run of a sheet goes on once a record was answered so, and its line written: whether the record was accepted,
+// or the end of the run.
+fn ran_of(kind: ReplyKind) -> Result<bool, SheetEnd>
+    ensures is { result ≡ ran_by kind }
+    ensures read { IfErr result (λ end. end ≢ SheetEnd.ReadFault) }
+{
+    match kind {
+        ReplyKind::Accepted => Ok(true),
+        ReplyKind::Refused => Ok(false),
+        ReplyKind::Store => Err(SheetEnd::Store),
+        ReplyKind::Memory => Err(SheetEnd::NoMemory),
+    }
+}
+
+// Runs one record and writes its line: whether it was accepted, or the end of the run.
+fn run_record<W: Write, B: Book>(
+    alloc: Global,
+    row: &ByteRecord,
+    writer: &mut W,
+    desk: &mut Desk<B>,
+    day: Day,
+) -> Result<bool, SheetEnd>
+    ensures ends { B.clean desk.new → B.stands desk.old
+        → RecordEnds day (B.firm desk.old) (fields_of row.now) (B.firm desk.new) (W.contents writer.old)
+        (W.contents writer.new) result }
+    ensures read { IfErr result (λ end. end ≢ SheetEnd.ReadFault) }
+    ensures kept { LeavesBook B.clean B.sure B.stands B.refusals (IsCounted result) desk.old desk.new }
+{
+    let reply = answer_record(alloc, row, desk, day);
+    let Ok(()) = write_reply(writer, &reply) else {
+        return Err(SheetEnd::WriteFault);
+    };
+    ran_of(kind_of_reply(&reply))
+}
+
+// Runs the records of a sheet.
+fn run_records<W: Write, B: Book>(
+    alloc: Global,
+    bytes: &[u8],
+    writer: &mut W,
+    desk: &mut Desk<B>,
+    day: Day,
+) -> SheetEnd
+    ensures ends { B.clean desk.new → B.stands desk.old
+        → RunEnds day (B.firm desk.old) (sheet_records bytes.now) (B.firm desk.new)
+        (W.contents writer.old) (W.contents writer.new) result }
+    ensures read { result ≢ SheetEnd.ReadFault }
+    ensures kept { LeavesBook B.clean B.sure B.stands B.refusals (CountsStore SheetEnd.Store result)
+        desk.old desk.new }
+{
+    let mut refused = false;
+    let rdr = ReaderBuilder::new()
+        .has_headers(false)
+        .flexible(true)
+        .from_reader(alloc, bytes);
+    for row in rdr.into_byte_records() {
+        let Ok(row) = row else {
+            return SheetEnd::NoMemory;
+        };
+        match run_record(alloc, &row, writer, desk, day) {
+            Ok(accepted) => refused |= !accepted,
+            Err(end) => return end,
+        }
+    }
+    if refused {
+        SheetEnd::Refused
+    } else {
+        SheetEnd::Done
+    }
+}
+
+// Answers a sheet above the limit.
+fn refuse_whole<W: Write>(writer: &mut W) -> SheetEnd
+    ensures ends { (firm : Firm) → LargeEnds firm firm (W.contents writer.old) (W.contents writer.new) result }
+    ensures read { result ≢ SheetEnd.ReadFault }
+    ensures stored { result ≢ SheetEnd.Store }
+{
+    let Ok(()) = write_refusal(writer, &Refusal::TooLarge) else {
+        return SheetEnd::WriteFault;
+    };
+    SheetEnd::Refused
+}
+
+/// Runs a day sheet over a desk on a business day: reads it whole, and writes a line for each of its records, which
+/// the cashier asks.
+///
+/// A sheet above 4,194,304 bytes runs no record and is answered by one line. What is written is a function of the
+/// sheet's bytes, the firm's rows before and the day, however the reads and writes are cut.
+pub fn run_sheet<R: Read, W: Write, B: Book>(
+    alloc: Global,
+    reader: &mut R,
+    writer: &mut W,
+    desk: &mut Desk<B>,
+    day: Day,
+) -> SheetEnd
+    ensures ends { B.clean desk.new → B.stands desk.old → IfSome (R.remaining reader.old)
+        (λ bytes. Ends day (B.firm desk.old) bytes (B.firm desk.new) (W.contents writer.old)
+        (W.contents writer.new) result) }
+    ensures unread { result ≡ SheetEnd.ReadFault
+        → Appends (W.contents writer.old) (W.contents writer.new) [] × (desk.new ≡ desk.old) }
+
+    // It ends by Store only where a call of the book was refused.
+    ensures kept { LeavesBook B.clean B.sure B.stands B.refusals (CountsStore SheetEnd.Store result)
+        desk.old desk.new }
+{
+    match read_whole(alloc, reader, MAX_FILE_BYTES) {
+        Ok(Some(bytes)) => run_records(alloc, bytes.as_slice(), writer, desk, day),
+        Ok(None) => refuse_whole(writer),
+        Err(InputFault::Reader) => SheetEnd::ReadFault,
+        Err(InputFault::Memory) => SheetEnd::NoMemory,
+    }
+}

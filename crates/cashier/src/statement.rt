@@ -1,0 +1,121 @@
+// A bank's statement.
+
+ghost use Rattle.std.specs.Prelude.{◌≡◌, ◌⊎◌};
+ghost use Rattle.std.specs.Io.KnownBytes.{Appends};
+ghost use Rattle.trust_base.specs.declared.refusal.Refusal.TheVariants as refusals;
+ghost use Rattle.cashier.specs.Calls.{CountsStore, LeavesBook};
+ghost use Rattle.cashier.specs.Sheet.{refusal_kind, refusal_line};
+ghost use Rattle.cashier.specs.Statement as spec;
+ghost use Rattle.cashier.specs.Statement.{Answers, Sent, StatementEnds, counts_line, refused_end};
+
+use crate::reply_kind::{ReplyKind, kind_of_refusal};
+use crate::reply_line::{write_answer_line, write_refusal};
+use std::alloc::Global;
+use std::io::{Read, Write};
+use trust_base::{Day, MAX_FILE_BYTES, Refusal};
+use trust_desk::{Desk, ImportEnd, ImportReply, ImportStop, import_body};
+use trust_store::Book;
+
+/// How the import of a statement ended.
+#[derive(Clone, Copy, PartialEq, Eq, Debug)]
+pub enum StatementEnd {
+    /// Each item was taken, and the counts were written.
+    Done,
+    /// The statement was refused: its header is another, or it is too large. Where its length told so, none of its
+    /// items was applied.
+    Refused,
+    /// A read failed: the items before stay applied, and nothing was written.
+    ReadFault,
+    /// A write failed: a part of the line was written. The items that were applied stay so.
+    WriteFault,
+    /// The store refused a call: its line was written, and the items before stay applied.
+    Store,
+    /// A growth was refused: its line was written, and the items before stay applied.
+    NoMemory,
+}
+
+// Whether the length is told and above the limit.
+fn is_told_longer(length: Option<u64>) -> bool
+    ensures { result ≡ spec.is_told_longer length }
+{
+    match length {
+        Some(bytes) => bytes > MAX_FILE_BYTES as u64,
+        None => false,
+    }
+}
+
+// How a run ends by a refusal.
+fn end_of(refusal: &Refusal) -> StatementEnd
+    ensures { result ≡ refused_end (refusal_kind refusal.now) }
+{
+    match kind_of_refusal(refusal) {
+        ReplyKind::Accepted => StatementEnd::Done,
+        ReplyKind::Refused => StatementEnd::Refused,
+        ReplyKind::Store => StatementEnd::Store,
+        ReplyKind::Memory => StatementEnd::NoMemory,
+    }
+}
+
+fn refuse<W: Write>(writer: &mut W, refusal: &Refusal) -> StatementEnd
+    ensures { Sent (refusal_line refusal.now) (refused_end (refusal_kind refusal.now)) (W.contents writer.old)
+        (W.contents writer.new) result }
+{
+    let Ok(()) = write_refusal(writer, refusal) else {
+        return StatementEnd::WriteFault;
+    };
+    end_of(refusal)
+}
+
+fn accept<W: Write>(writer: &mut W, alloc: Global, counts: &ImportReply) -> StatementEnd
+    ensures { Sent (counts_line counts.now) StatementEnd.Done (W.contents writer.old) (W.contents writer.new) result
+        ⊎ Sent (refusal_line refusals.Memory) StatementEnd.NoMemory (W.contents writer.old)
+        (W.contents writer.new) result }
+{
+    let Ok(body) = import_body(alloc, counts) else {
+        return refuse(writer, &Refusal::Memory);
+    };
+    let Ok(()) = write_answer_line(writer, 200, body.as_slice()) else {
+        return StatementEnd::WriteFault;
+    };
+    StatementEnd::Done
+}
+
+// Writes the line of an import, where it has one.
+fn answer<W: Write>(writer: &mut W, alloc: Global, ran: &ImportEnd) -> StatementEnd
+    ensures { Answers ran.now (W.contents writer.old) (W.contents writer.new) result }
+{
+    match &ran.end {
+        ImportStop::Done => accept(writer, alloc, &ran.reply),
+        ImportStop::Refused(refusal) => refuse(writer, refusal),
+        ImportStop::Limit => refuse(writer, &Refusal::TooLarge),
+        ImportStop::ReadFault => StatementEnd::ReadFault,
+    }
+}
+
+/// Imports a bank's statement over a desk on a business day, and writes one line: the counts of its items, or its
+/// refusal. `length` is what the statement tells of its length in bytes before it is read.
+///
+/// A statement that tells a length above 4,194,304 bytes is refused, and nothing of it applied. One that tells none is
+/// read until it passes that length; the items before stay applied then, as they do at any fault.
+pub fn run_import<R: Read + Drop, W: Write, B: Book>(
+    alloc: Global,
+    reader: R,
+    length: Option<u64>,
+    writer: &mut W,
+    desk: &mut Desk<B>,
+    today: Day,
+) -> StatementEnd
+    ensures ends { B.clean desk.new → B.stands desk.old
+        → StatementEnds today (B.firm desk.old) length (R.remaining reader) (B.firm desk.new)
+        (W.contents writer.old) (W.contents writer.new) result }
+
+    // It ends by Store only where a call of the book was refused.
+    ensures kept { LeavesBook B.clean B.sure B.stands B.refusals (CountsStore StatementEnd.Store result)
+        desk.old desk.new }
+{
+    if is_told_longer(length) {
+        return refuse(writer, &Refusal::TooLarge);
+    }
+    let ran = desk.import(alloc, reader, today);
+    answer(writer, alloc, &ran)
+}

@@ -1,4 +1,0 @@
-pub mod IsolationFacts
-pub mod LineFacts
-pub mod SheetFacts
-pub mod StatementFacts

@@ -1,5 +1,0 @@
-pub mod Outcome
-pub mod Program
-pub mod Records
-pub mod Sheet
-pub mod Statement

@@ -1,0 +1,175 @@
+-- What the movements say and what the entries and the firm's own lines say agree, share by share.
+use Rattle.std.proofs.Common.{◌≡◌, ℕ, ◌+◌, ◌-◌, Bool, true, false, cond, List, [], ◌∷◌, map, Option, Some, None, refl, sym, ap, ◌∙◌, arith}
+use Rattle.std.specs.Prelude.{ℤ, pos, ◌+ℤ◌, ◌==◌, ◌&&◌}
+use Rattle.std.specs.List.{filter}
+use Rattle.std.proofs.lemmas.Int.{ints}
+use Rattle.std.proofs.lemmas.Bool.Decides.{nat_tests}
+use Rattle.matter_rows.specs.declared.entry.Entry.{Entry}
+use Rattle.matter_rows.specs.Rows.{entry_at}
+use Rattle.matter_rows.specs.Events.{Event, events_of, events_in}
+use Rattle.firm_rows.specs.declared.movement.Movement.{Movement}
+use Rattle.firm_rows.specs.declared.movement.Owner.{Owner}
+use Rattle.firm_rows.specs.declared.movement.Owner.TheVariants as owner
+use Rattle.firm_rows.specs.declared.ledger.FirmLine.{FirmLine}
+use Rattle.firm_rows.specs.Sums.{sum_of}
+use Rattle.firm_rows.specs.Firm.{is_of_matter, Row, HeadRow, SeatRow, EntryRow, Firm, of, among, rows_of, entries_among}
+use Rattle.firm_rows.specs.Journal.{event_of, line_event, is_of_entry, is_of_firm, events_moved, firm_events}
+use Rattle.firm_rows.specs.FirmSound.{FirmSound}
+use Rattle.firm_rows.proofs.Sums.{at, sum-agree}
+
+-- The joined rows.
+
+-- what a row adds, if it is an entry
+abbrev pub of_row : (Entry → ℤ) → Row → ℤ
+of_row g (HeadRow head) = pos 0
+of_row g (SeatRow seat) = pos 0
+of_row g (EntryRow number entry) = g entry
+
+-- the shares of a matter's rows are those of its entries
+pub rows-entries : (g : Entry → ℤ) (m : ℕ) (joined : List (ℕ × Row)) → sum_of (at (λ p. p.0) (λ p. of_row g p.1) m) joined ≡ sum_of g (among (rows_of m joined)).entries
+rows-entries g m [] = refl
+rows-entries g m ((k, row) ∷ joined) = cases (k == m) row (rows-entries g m joined)
+  where
+    cases : (b : Bool) (r : Row) → sum_of (at (λ p. p.0) (λ p. of_row g p.1) m) joined ≡ sum_of g (entries_among (rows_of m joined)) → cond b (of_row g r) (pos 0) +ℤ sum_of (at (λ p. p.0) (λ p. of_row g p.1) m) joined ≡ sum_of g (entries_among (map (λ p. p.1) (cond b ((k, r) ∷ filter (λ p. p.0 == m) joined) (filter (λ p. p.0 == m) joined))))
+    cases true (HeadRow head) more = omega (arith, ints, more)
+    cases true (SeatRow seat) more = omega (arith, ints, more)
+    cases true (EntryRow number entry) more = omega (arith, ints, more)
+    cases false r more = omega (arith, ints, more)
+
+-- and those of all rows are those of all entries
+pub all-entries : (g : Entry → ℤ) (joined : List (ℕ × Row)) → sum_of g (entries_among (map (λ p. p.1) joined)) ≡ sum_of (λ p. of_row g p.1) joined
+all-entries g [] = refl
+all-entries g ((k, HeadRow head) ∷ joined) = omega (arith, ints, all-entries g joined)
+all-entries g ((k, SeatRow seat) ∷ joined) = omega (arith, ints, all-entries g joined)
+all-entries g ((k, EntryRow number entry) ∷ joined) = omega (arith, ints, all-entries g joined)
+
+-- The entries by number.
+
+entry_at-zero : (es : List Entry) → entry_at es 0 ≡ None
+entry_at-zero [] = refl
+entry_at-zero (e ∷ es) = entry_at-zero es
+
+numbered : ℕ → List Entry → List (ℕ × Entry)
+numbered k [] = []
+numbered k (e ∷ es) = (k, e) ∷ numbered (k + 1) es
+
+numbered-all : (g : Entry → ℤ) (k : ℕ) (es : List Entry) → sum_of (λ p. g p.1) (numbered k es) ≡ sum_of g es
+unfolding numbered
+numbered-all g k [] = refl
+numbered-all g k (e ∷ es) = omega (arith, ints, numbered-all g (k + 1) es)
+
+less-none : (n : ℕ) → n - 0 ≡ n
+less-none n = omega arith
+
+-- what an entry that may not be there adds
+abbrev maybe : (Entry → ℤ) → Option Entry → ℤ
+maybe g None = pos 0
+maybe g (Some e) = g e
+
+numbered-at : (g : Entry → ℤ) (n k : ℕ) (es : List Entry) → sum_of (at (λ p. p.0) (λ p. g p.1) n) (numbered (k + 1) es) ≡ maybe g (entry_at es (n - k))
+unfolding numbered
+numbered-at g n k [] = refl
+numbered-at g n k (e ∷ es) = cases (k + 1 == n) refl (numbered-at g n (k + 1) es)
+  where
+    cases : (b : Bool) → (k + 1 == n) ≡ b → sum_of (at (λ p. p.0) (λ p. g p.1) n) (numbered (k + 1 + 1) es) ≡ maybe g (entry_at es (n - (k + 1))) → cond b (g e) (pos 0) +ℤ sum_of (at (λ p. p.0) (λ p. g p.1) n) (numbered (k + 1 + 1) es) ≡ maybe g (cond (n - k == 1) (Some e) (entry_at es (n - k - 1)))
+    cases true is more =
+        let here : (n - k == 1) ≡ true = grind (arith, nat_tests) in
+        let past : n - (k + 1) ≡ 0 = grind (arith, nat_tests) in
+        let none : maybe g (entry_at es (n - (k + 1))) ≡ pos 0 = ap (λ i. maybe g (entry_at es i)) past ∙ ap (maybe g) (entry_at-zero es) in
+        rw here (omega (arith, ints, more, none))
+    cases false is more =
+        let other : (n - k == 1) ≡ false = grind (arith, nat_tests) in
+        let next : n - (k + 1) ≡ n - k - 1 = omega arith in
+        rw other (omega (arith, ints, more, ap (λ i. maybe g (entry_at es i)) next))
+
+-- The movements.
+
+-- one share for each event
+module _ (h : Event → ℤ) where
+  -- what an entry's events add
+  abbrev pub events_share : Entry → ℤ
+  events_share e = sum_of h (events_of e)
+
+  abbrev share : Movement → ℤ
+  share v = h (event_of v)
+
+  abbrev pub of_firm : Movement → ℤ
+  of_firm v = cond (is_of_firm v.owner) (share v) (pos 0)
+
+  abbrev pub of_matters : Movement → ℤ
+  of_matters v = cond (is_of_firm v.owner) (pos 0) (share v)
+
+  abbrev pub of_matter : ℕ → Movement → ℤ
+  of_matter m v = cond (is_of_matter m v.owner) (share v) (pos 0)
+
+  pub split : (vs : List Movement) → sum_of share vs ≡ sum_of of_matters vs +ℤ sum_of of_firm vs
+  split [] = refl
+  split (v ∷ vs) = cases (is_of_firm v.owner) (split vs)
+    where
+      cases : (b : Bool) → sum_of share vs ≡ sum_of of_matters vs +ℤ sum_of of_firm vs → share v +ℤ sum_of share vs ≡ (cond b (pos 0) (share v) +ℤ sum_of of_matters vs) +ℤ (cond b (share v) (pos 0) +ℤ sum_of of_firm vs)
+      cases true more = omega (arith, ints, more)
+      cases false more = omega (arith, ints, more)
+
+  pub own-part : (vs : List Movement) → sum_of of_firm vs ≡ sum_of h (firm_events vs)
+  own-part [] = refl
+  own-part (v ∷ vs) = cases (is_of_firm v.owner) (own-part vs)
+    where
+      cases : (b : Bool) → sum_of of_firm vs ≡ sum_of h (firm_events vs) → cond b (share v) (pos 0) +ℤ sum_of of_firm vs ≡ sum_of h (map event_of (cond b (v ∷ filter (λ v. is_of_firm v.owner) vs) (filter (λ v. is_of_firm v.owner) vs)))
+      cases true more = omega (arith, ints, more)
+      cases false more = omega (arith, ints, more)
+
+  pub own-lines : (ls : List FirmLine) → sum_of h (map line_event ls) ≡ sum_of (λ l. h (line_event l)) ls
+  own-lines [] = refl
+  own-lines (l ∷ ls) = omega (arith, ints, own-lines ls)
+
+  pub matter_of : Owner → ℕ
+  matter_of (owner.Matter m n) = m
+  matter_of owner.Firm = 0
+
+  entry_of : Owner → ℕ
+  entry_of (owner.Matter m n) = n
+  entry_of owner.Firm = 0
+
+  pub matter-at : (m : ℕ) (vs : List Movement) → sum_of (at (λ v. matter_of v.owner) of_matters m) vs ≡ sum_of (of_matter m) vs
+  unfolding matter_of
+  matter-at m [] = refl
+  matter-at m (v ∷ vs) = omega (arith, ints, matter-at m vs, one v.owner)
+    where
+      one : (o : Owner) → cond (matter_of o == m) (cond (is_of_firm o) (pos 0) (share v)) (pos 0) ≡ cond (is_of_matter m o) (share v) (pos 0)
+      one (owner.Matter k n) = refl
+      one owner.Firm = elim (0 == m) as (λ b. cond b (pos 0) (pos 0) ≡ pos 0) [ true ↦ refl | false ↦ refl ]
+
+  entry-at : (m n : ℕ) (vs : List Movement) → sum_of (at (λ v. entry_of v.owner) (of_matter m) n) vs ≡ sum_of h (events_moved m n vs)
+  unfolding entry_of
+  entry-at m n [] = refl
+  entry-at m n (v ∷ vs) = one v.owner refl (entry-at m n vs)
+    where
+      both : (b c : Bool) → sum_of (at (λ v. entry_of v.owner) (of_matter m) n) vs ≡ sum_of h (events_moved m n vs) → cond c (cond b (share v) (pos 0)) (pos 0) +ℤ sum_of (at (λ v. entry_of v.owner) (of_matter m) n) vs ≡ sum_of h (map event_of (cond (b && c) (v ∷ filter (λ v. is_of_entry m n v.owner) vs) (filter (λ v. is_of_entry m n v.owner) vs)))
+      both true true more = omega (arith, ints, more)
+      both true false more = omega (arith, ints, more)
+      both false true more = omega (arith, ints, more)
+      both false false more = omega (arith, ints, more)
+
+      one : (o : Owner) → v.owner ≡ o → sum_of (at (λ v. entry_of v.owner) (of_matter m) n) vs ≡ sum_of h (events_moved m n vs) → cond (entry_of o == n) (cond (is_of_matter m o) (share v) (pos 0)) (pos 0) +ℤ sum_of (at (λ v. entry_of v.owner) (of_matter m) n) vs ≡ sum_of h (map event_of (cond (is_of_entry m n o) (v ∷ filter (λ v. is_of_entry m n v.owner) vs) (filter (λ v. is_of_entry m n v.owner) vs)))
+      one (owner.Matter k j) is more = both (k == m) (j == n) more
+      one owner.Firm is more = both false (0 == n) more
+
+  -- where the movements of each entry are its events, those of the matter say what its entries say
+  matter-agrees : (m : ℕ) (vs : List Movement) (es : List Entry) → ((n : ℕ) → events_moved m n vs ≡ events_in (entry_at es n)) → sum_of (of_matter m) vs ≡ sum_of events_share es
+  matter-agrees m vs es told =
+      sum-agree (λ v. entry_of v.owner) (of_matter m) vs (λ p. p.0) (λ p. events_share p.1) (numbered 1 es) at-each
+      ∙ numbered-all events_share 1 es
+    where
+      maybe-events : (o : Option Entry) → sum_of h (events_in o) ≡ maybe events_share o
+      maybe-events None = refl
+      maybe-events (Some e) = refl
+
+      at-each : (n : ℕ) → sum_of (at (λ v. entry_of v.owner) (of_matter m) n) vs ≡ sum_of (at (λ p. p.0) (λ p. events_share p.1) n) (numbered 1 es)
+      at-each n = entry-at m n vs ∙ (ap (sum_of h) (told n) ∙ (maybe-events (entry_at es n) ∙ sym (numbered-at events_share n 0 es ∙ ap (λ i. maybe events_share (entry_at es i)) (less-none n))))
+
+  -- all movements say what all entries and the firm's own lines say
+  pub agree : (firm : Firm) → FirmSound firm → sum_of (λ v. h (event_of v)) firm.movements ≡ sum_of (λ p. of_row events_share p.1) firm.rows +ℤ sum_of (λ l. h (line_event l)) firm.firm_lines
+  agree firm sound =
+      let matters = sum-agree (λ v. matter_of v.owner) of_matters firm.movements (λ p. p.0) (λ p. of_row events_share p.1) firm.rows (λ m. matter-at m firm.movements ∙ (matter-agrees m firm.movements (of m firm).entries (sound.events m) ∙ sym (rows-entries events_share m firm.rows))) in
+      let own = own-part firm.movements ∙ (ap (sum_of h) sound.own ∙ own-lines firm.firm_lines) in
+      omega (arith, ints, split firm.movements, matters, own)

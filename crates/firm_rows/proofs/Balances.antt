@@ -1,0 +1,49 @@
+-- The balances stay in order.
+use Rattle.std.proofs.Common.{◌≡◌, ◌≢◌, ℕ, zero, suc, ◌<◌, ◌≤◌, Bool, true, false, cond, List, [], ◌∷◌, ◌++◌, filter, length, get_or, insert, Option, Some, None, Result, Ok, Err, IfOk, IfErr, refl, sym, ap, ◌∙◌, subst, arith}
+use Rattle.std.specs.List.Sorted.{IsStrictlySortedBy}
+use Rattle.std.specs.Cmp.{IsTotalOrder}
+use Rattle.std.specs.declared.cmp.Ordering.{Ordering}
+use Rattle.std.specs.Prelude.{◌==◌, find}
+use Rattle.std.specs.Option.{option_map}
+use Rattle.std.specs.declared.cmp.Ordering.TheVariants.{Less, Equal, Greater}
+use Rattle.std.specs.Ordering.{nat_cmp, ordering_then}
+use Rattle.std.proofs.lemmas.Bool.{false≢true}
+use Rattle.std.proofs.lemmas.Bool.Decides.{nat_tests}
+use Rattle.std.proofs.lemmas.Map.Lookups.{exact_unsigned}
+use Rattle.std.proofs.lemmas.Cmp.{on_total, then_total, nat_cmp_total}
+use Rattle.firm_rows.specs.declared.ledger.StatementRow.{StatementRow}
+use Rattle.firm_rows.specs.FirmLines.{place_of, balance_cmp, with_balance, is_balance_on, kept_balance}
+use Rattle.firm_rows.proofs.Ordered.{with-sorted}
+
+pub balance_total : IsTotalOrder balance_cmp
+balance_total = then_total (on_total (λ (r : StatementRow). place_of r.kind) nat_cmp_total) (on_total (λ (r : StatementRow). r.day) nat_cmp_total)
+
+pub balances-sorted : (row : StatementRow) (rows : List StatementRow) → IsStrictlySortedBy balance_cmp rows → IsStrictlySortedBy balance_cmp (with_balance row rows)
+balances-sorted row rows up = with-sorted balance_cmp balance_total row rows up
+
+-- What a search finds.
+
+both-equal : (r s : Ordering) → ordering_then r s ≡ Equal → (r ≡ Equal) × (s ≡ Equal)
+both-equal Less s is = absurd (cc)
+both-equal Equal s is = (refl, is)
+both-equal Greater s is = absurd (cc)
+
+-- a balance that ties with another is of its kind and day
+tied-on : (row x : StatementRow) → balance_cmp x row ≡ Equal → is_balance_on row.kind row.day x ≡ true
+tied-on row x is =
+    let both = both-equal (nat_cmp (place_of x.kind) (place_of row.kind)) (nat_cmp x.day row.day) is in
+    let kinds : place_of x.kind ≡ place_of row.kind = exact_unsigned (place_of x.kind) (place_of row.kind) both.0 in
+    let days : x.day ≡ row.day = exact_unsigned x.day row.day both.1 in
+    let same_kind : (place_of x.kind == place_of row.kind) ≡ true = grind (arith, nat_tests) in
+    let same_day : (x.day == row.day) ≡ true = grind (arith, nat_tests) in
+    rw (same_kind, same_day) refl
+
+-- so where none of its kind and day is kept, none ties with it
+pub none-tied : (row : StatementRow) (rows : List StatementRow) (i : ℕ) (d : StatementRow) → kept_balance row.kind row.day rows ≡ None → i < length rows → balance_cmp (get_or rows i d) row ≢ Equal
+none-tied row [] i d none lt is = omega (arith, lt)
+none-tied row (x ∷ xs) i d none lt is = cases (is_balance_on row.kind row.day x) refl none (none-tied row xs) i lt is
+  where
+    cases : (b : Bool) → is_balance_on row.kind row.day x ≡ b → option_map (λ (r : StatementRow). r.amount) (cond b (Some x) (find (is_balance_on row.kind row.day) xs)) ≡ None → ((i : ℕ) (d : StatementRow) → kept_balance row.kind row.day xs ≡ None → i < length xs → balance_cmp (get_or xs i d) row ≢ Equal) → (i : ℕ) → i < length (x ∷ xs) → balance_cmp (get_or (x ∷ xs) i d) row ≡ Equal → ⊥
+    cases true on none more i lt is = absurd (cc)
+    cases false off none more zero lt is = false≢true (sym off ∙ tied-on row x is)
+    cases false off none more (suc i) lt is = more i d none (omega (arith, lt)) is

@@ -1,0 +1,198 @@
+-- A firm stays sound where a matter is left without an entry and its movements go.
+use Rattle.std.proofs.Common.{◌≡◌, ◌≢◌, ℕ, zero, suc, ◌≤◌, Bool, true, false, not, cond, List, [], ◌∷◌, map, take, refl, sym, ap, ◌∙◌, subst, arith}
+use Rattle.std.specs.Prelude.{◌==◌, pos, ◌+ℤ◌, ◌≤ℤ◌}
+use Rattle.std.specs.List.{filter, AllByRecursion}
+use Rattle.std.proofs.lemmas.Int.{ints}
+use Rattle.std.proofs.lemmas.Bool.Decides.{nat_tests}
+use Rattle.matter_rows.specs.declared.entry.Entry.{Entry}
+use Rattle.matter_rows.specs.Rows.{Rows, entry_at, last_of}
+use Rattle.matter_rows.specs.Balances.{ledger}
+use Rattle.matter_rows.specs.Events.{events_in}
+use Rattle.matter_rows.specs.Sound.{Sound}
+use Rattle.firm_rows.specs.declared.movement.Movement.{Movement}
+use Rattle.firm_rows.specs.declared.movement.Owner.{Owner}
+use Rattle.firm_rows.specs.declared.movement.Owner.TheVariants as owner
+use Rattle.firm_rows.specs.Firm.{Firm, of, is_of_matter, moved_without, cleared_by}
+use Rattle.firm_rows.specs.Journal.{event_of, is_of_entry, is_of_firm, events_moved, days_moved, amount_for, moved_for}
+use Rattle.firm_rows.specs.FirmSound.{AreMovedInTime, FirmSound, PurgedMovesNothing, PurgeLeavesOthers}
+use Rattle.firm_rows.proofs.Changed.{of-cleared_by, of_other-cleared_by}
+use Rattle.firm_rows.proofs.Order.{in_order-cleared_by}
+
+-- rows that a matter may be left with: sound, and without an entry
+pub record IsClear (rows : Rows) : Type 0 where
+  pub none : rows.entries ≡ []
+  pub sound : Sound rows
+
+-- The movements that stay.
+
+-- a test that only movements of others pass
+module _ (m : ℕ) (t : Owner → Bool) (h : (o : Owner) → is_of_matter m o ≡ true → t o ≡ false) where
+  pub passing-kept : (vs : List Movement) → filter (λ v. t v.owner) (moved_without m vs) ≡ filter (λ v. t v.owner) vs
+  passing-kept [] = refl
+  passing-kept (v ∷ vs) = cases (is_of_matter m v.owner) refl (passing-kept vs)
+    where
+      cases : (b : Bool) → is_of_matter m v.owner ≡ b → filter (λ v. t v.owner) (moved_without m vs) ≡ filter (λ v. t v.owner) vs → filter (λ v. t v.owner) (cond (not b) (v ∷ moved_without m vs) (moved_without m vs)) ≡ cond (t v.owner) (v ∷ filter (λ v. t v.owner) vs) (filter (λ v. t v.owner) vs)
+      cases true is more = rw (h v.owner is) more
+      cases false is more = elim (t v.owner) as (λ c. cond c (v ∷ filter (λ v. t v.owner) (moved_without m vs)) (filter (λ v. t v.owner) (moved_without m vs)) ≡ cond c (v ∷ filter (λ v. t v.owner) vs) (filter (λ v. t v.owner) vs)) [ true ↦ ap (λ xs. v ∷ xs) more | false ↦ more ]
+
+-- a test that only movements of the matter pass
+module _ (m : ℕ) (t : Owner → Bool) (h : (o : Owner) → is_of_matter m o ≡ false → t o ≡ false) where
+  pub passing-gone : (vs : List Movement) → filter (λ v. t v.owner) (moved_without m vs) ≡ []
+  passing-gone [] = refl
+  passing-gone (v ∷ vs) = cases (is_of_matter m v.owner) refl (passing-gone vs)
+    where
+      cases : (b : Bool) → is_of_matter m v.owner ≡ b → filter (λ v. t v.owner) (moved_without m vs) ≡ [] → filter (λ v. t v.owner) (cond (not b) (v ∷ moved_without m vs) (moved_without m vs)) ≡ []
+      cases true is more = more
+      cases false is more = rw (h v.owner is) more
+
+-- Whose they are.
+
+entry-other : (m k n : ℕ) (o : Owner) → k ≢ m → is_of_matter m o ≡ true → is_of_entry k n o ≡ false
+entry-other m k n (owner.Matter i j) apart is = let f : (i == k) ≡ false = grind (arith, nat_tests) in rw f refl
+entry-other m k n owner.Firm apart is = refl
+
+matter-other : (m k : ℕ) (o : Owner) → k ≢ m → is_of_matter m o ≡ true → is_of_matter k o ≡ false
+matter-other m k (owner.Matter i j) apart is = grind (arith, nat_tests)
+matter-other m k owner.Firm apart is = refl
+
+firm-other : (m : ℕ) (o : Owner) → is_of_matter m o ≡ true → is_of_firm o ≡ false
+firm-other m (owner.Matter i j) is = refl
+firm-other m owner.Firm is = sym is
+
+entry-own : (m n : ℕ) (o : Owner) → is_of_matter m o ≡ false → is_of_entry m n o ≡ false
+entry-own m n (owner.Matter i j) is = rw is refl
+entry-own m n owner.Firm is = refl
+
+-- Sums so far: those of the movements that stay are those of some place of the old list.
+
+own-sum : (m k : ℕ) (vs : List Movement) → moved_for m (take k (moved_without m vs)) ≡ pos 0
+own-sum m zero vs = refl
+own-sum m (suc k) [] = refl
+own-sum m (suc k) (v ∷ vs) = cases (is_of_matter m v.owner) refl (own-sum m (suc k) vs) (own-sum m k vs)
+  where
+    cases : (b : Bool) → is_of_matter m v.owner ≡ b → moved_for m (take (suc k) (moved_without m vs)) ≡ pos 0 → moved_for m (take k (moved_without m vs)) ≡ pos 0 → moved_for m (take (suc k) (cond (not b) (v ∷ moved_without m vs) (moved_without m vs))) ≡ pos 0
+    cases true is past here = past
+    cases false is past here = rw is (omega (arith, ints, here))
+
+-- up to a place the list without them is the list up to some place without them
+place-kept : (m k : ℕ) (vs : List Movement) → (j : ℕ) × (take k (moved_without m vs) ≡ moved_without m (take j vs))
+place-kept m zero vs = (0, refl)
+place-kept m (suc k) [] = (0, refl)
+place-kept m (suc k) (v ∷ vs) = cases (is_of_matter m v.owner) refl (place-kept m (suc k) vs) (place-kept m k vs)
+  where
+    cases : (b : Bool) → is_of_matter m v.owner ≡ b → (j : ℕ) × (take (suc k) (moved_without m vs) ≡ moved_without m (take j vs)) → (j : ℕ) × (take k (moved_without m vs) ≡ moved_without m (take j vs)) → (j : ℕ) × (take (suc k) (cond (not b) (v ∷ moved_without m vs) (moved_without m vs)) ≡ moved_without m (take j (v ∷ vs)))
+    cases true is past here = (suc past.0, rw is past.1)
+    cases false is past here = (suc here.0, rw is (ap (λ xs. v ∷ xs) here.1))
+
+-- another matter's sum is what it was
+other-sum : (m k : ℕ) (vs : List Movement) → k ≢ m → moved_for k (moved_without m vs) ≡ moved_for k vs
+other-sum m k [] apart = refl
+other-sum m k (v ∷ vs) apart = cases (is_of_matter m v.owner) refl (other-sum m k vs apart)
+  where
+    cases : (b : Bool) → is_of_matter m v.owner ≡ b → moved_for k (moved_without m vs) ≡ moved_for k vs → moved_for k (cond (not b) (v ∷ moved_without m vs) (moved_without m vs)) ≡ amount_for k v +ℤ moved_for k vs
+    cases true is more = let f = matter-other m k v.owner apart is in rw f (omega (arith, ints, more))
+    cases false is more = omega (arith, ints, more)
+
+-- Soundness.
+
+module _ (m : ℕ) (rows : Rows) (firm : Firm) (sound : FirmSound firm) (is : IsClear rows) where
+  abbrev after : Firm
+  after = cleared_by m rows firm
+
+  matters : (k : ℕ) → Sound (of k after)
+  matters k = cases (k == m) refl
+    where
+      cases : (b : Bool) → (k == m) ≡ b → Sound (of k after)
+      cases true same_test = let same : k ≡ m = grind (arith, nat_tests) in subst Sound (sym (ap (λ n. of n after) same ∙ of-cleared_by m rows firm)) is.sound
+      cases false other_test = let apart : k ≢ m = grind (arith, nat_tests) in subst Sound (sym (of_other-cleared_by k m rows firm apart)) (sound.matters k)
+
+  none : (of m after).entries ≡ []
+  none = ap (λ (r : Rows). r.entries) (of-cleared_by m rows firm) ∙ is.none
+
+  events : (k n : ℕ) → events_moved k n after.movements ≡ events_in (entry_at (of k after).entries n)
+  events k n = cases (k == m) refl
+    where
+      cases : (b : Bool) → (k == m) ≡ b → events_moved k n after.movements ≡ events_in (entry_at (of k after).entries n)
+      cases true same_test =
+          let same : k ≡ m = grind (arith, nat_tests) in
+          let here : events_moved m n after.movements ≡ events_in (entry_at (of m after).entries n) =
+          ap (map event_of) (passing-gone m (is_of_entry m n) (entry-own m n) firm.movements) ∙ ap (λ (es : List Entry). events_in (entry_at es n)) (sym none) in
+          subst (λ j. events_moved j n after.movements ≡ events_in (entry_at (of j after).entries n)) (sym same) here
+      cases false other_test =
+          let apart : k ≢ m = grind (arith, nat_tests) in
+          ap (map event_of) (passing-kept m (is_of_entry k n) (λ o own. entry-other m k n o apart own) firm.movements)
+          ∙ (sound.events k n ∙ ap (λ (r : Rows). events_in (entry_at r.entries n)) (sym (of_other-cleared_by k m rows firm apart)))
+
+  days : (k : ℕ) → k ≢ m → days_moved k after.movements ≡ days_moved k firm.movements
+  days k apart = ap (map (λ v. v.day)) (passing-kept m (is_of_matter k) (λ o own. matter-other m k o apart own) firm.movements)
+
+  no_days : days_moved m after.movements ≡ []
+  no_days = ap (map (λ v. v.day)) (passing-gone m (is_of_matter m) (λ o other. other) firm.movements)
+
+  in_time : (k : ℕ) → AreMovedInTime k after
+  in_time k = cases (k == m) refl
+    where
+      cases : (b : Bool) → (k == m) ≡ b → AreMovedInTime k after
+      cases true same_test =
+          let same : k ≡ m = grind (arith, nat_tests) in
+          let here : AreMovedInTime m after = record { rising = rw no_days tt; by_last = rw no_days tt } in
+          subst (λ j. AreMovedInTime j after) (sym same) here
+      cases false other_test =
+          let apart : k ≢ m = grind (arith, nat_tests) in
+          let before = sound.in_time k in
+          let same : last_of (of k firm).head ≡ last_of (of k after).head = ap (λ (r : Rows). last_of r.head) (sym (of_other-cleared_by k m rows firm apart)) in
+          record { rising = rw (days k apart) before.rising; by_last = subst (λ last. AllByRecursion (λ day. day ≤ last) (days_moved k after.movements)) same (rw (days k apart) before.by_last) }
+
+  ledgers : (k : ℕ) → moved_for k after.movements ≡ ledger (of k after).entries
+  ledgers k = cases (k == m) refl
+    where
+      cases : (b : Bool) → (k == m) ≡ b → moved_for k after.movements ≡ ledger (of k after).entries
+      cases true same_test =
+          let same : k ≡ m = grind (arith, nat_tests) in
+          let here : moved_for m after.movements ≡ ledger (of m after).entries = gone firm.movements ∙ ap ledger (sym none) in
+          subst (λ j. moved_for j after.movements ≡ ledger (of j after).entries) (sym same) here
+        where
+          gone : (vs : List Movement) → moved_for m (moved_without m vs) ≡ pos 0
+          gone [] = refl
+          gone (v ∷ vs) = one (is_of_matter m v.owner) refl (gone vs)
+            where
+              one : (b : Bool) → is_of_matter m v.owner ≡ b → moved_for m (moved_without m vs) ≡ pos 0 → moved_for m (cond (not b) (v ∷ moved_without m vs) (moved_without m vs)) ≡ pos 0
+              one true is more = more
+              one false is more = rw is (omega (arith, ints, more))
+      cases false other_test =
+          let apart : k ≢ m = grind (arith, nat_tests) in
+          other-sum m k firm.movements apart ∙ (sound.ledgers k ∙ ap (λ (r : Rows). ledger r.entries) (sym (of_other-cleared_by k m rows firm apart)))
+
+  covered : (k n : ℕ) → pos 0 ≤ℤ moved_for k (take n after.movements)
+  covered k n = cases (k == m) refl
+    where
+      cases : (b : Bool) → (k == m) ≡ b → pos 0 ≤ℤ moved_for k (take n after.movements)
+      cases true same_test =
+          let same : k ≡ m = grind (arith, nat_tests) in
+          let here : pos 0 ≤ℤ moved_for m (take n after.movements) = let z = own-sum m n firm.movements in omega (arith, ints, z) in
+          subst (λ j. pos 0 ≤ℤ moved_for j (take n after.movements)) (sym same) here
+      cases false other_test =
+          let apart : k ≢ m = grind (arith, nat_tests) in
+          let place = place-kept m n firm.movements in
+          let so_far : moved_for k (take n after.movements) ≡ moved_for k (take place.0 firm.movements) = ap (moved_for k) place.1 ∙ other-sum m k (take place.0 firm.movements) apart in
+          subst (λ z. pos 0 ≤ℤ z) (sym so_far) (sound.covered k place.0)
+
+  pub sound-cleared : FirmSound after
+  sound-cleared = record {
+    in_order = in_order-cleared_by m rows firm sound.in_order;
+    matters = matters;
+    events = events;
+    own = ap (map event_of) (passing-kept m is_of_firm (firm-other m) firm.movements) ∙ sound.own;
+    in_time = in_time;
+    ledgers = ledgers;
+    covered = covered;
+    within = sound.within;
+  }
+
+-- Whose movements go.
+
+pub purged-moves-nothing : PurgedMovesNothing
+purged-moves-nothing m day last firm = passing-gone m (is_of_matter m) (λ o other. other) firm.movements
+
+pub purge-leaves-others : PurgeLeavesOthers
+purge-leaves-others n m day last firm apart = passing-kept m (is_of_matter n) (λ o own. matter-other m n o apart own) firm.movements

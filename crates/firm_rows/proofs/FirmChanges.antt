@@ -1,0 +1,69 @@
+-- Each change of a firm's rows changes those of one matter at most, and leaves a sound firm sound.
+use Rattle.std.proofs.Common.{◌≡◌, ◌≢◌, ℕ, Bool, true, false, cond, Option, Some, None, refl, sym, ap, ◌∙◌, subst, arith}
+use Rattle.std.specs.Prelude.{◌==◌}
+use Rattle.std.proofs.lemmas.Bool.Decides.{nat_tests}
+use Rattle.trust_base.specs.declared.line.Line.{Line}
+use Rattle.trust_matter.specs.declared.line_verdict.LineVerdict.TheVariants as verdict
+use Rattle.matter_rows.specs.Laws.{Covered}
+use Rattle.matter_parts.specs.Changes.{changed}
+use Rattle.firm_rows.specs.FirmLines.{as_firm_line, balance_row}
+use Rattle.firm_rows.specs.Firm.{Firm, of, after_change, with_firm_line, with_statement}
+use Rattle.firm_rows.specs.FirmChange.{FirmChange, OfMatter, Repeated, Unmatched, OfFirm, OfBalance, matched_by, after}
+use Rattle.firm_rows.specs.FirmSound.{FirmSound, IsInOrder, ChangesOne, StaysSound, StaysInOrder, LineFits}
+use Rattle.firm_rows.proofs.Balances.{balances-sorted}
+use Rattle.firm_rows.proofs.Changed.{changes-own, changes-no_other}
+use Rattle.firm_rows.proofs.Kept.{stays-sound}
+use Rattle.firm_rows.proofs.Lines.{match-in_order, stray-stays-in_order, match-sound, stray-stays-sound}
+use Rattle.firm_rows.proofs.Order.{stays-in_order}
+use Rattle.firm_rows.proofs.OwnLines.{own_line-sound, statement-sound}
+
+-- The line that made a change.
+
+of-matched : (n : ℕ) (line : Option Line) (firm : Firm) → of n (matched_by line firm) ≡ of n firm
+of-matched n None firm = refl
+of-matched n (Some line) firm = refl
+
+in_order-matched : (line : Option Line) (firm : Firm) → IsInOrder firm → IsInOrder (matched_by line firm)
+in_order-matched None firm order = order
+in_order-matched (Some line) firm order = match-in_order line firm order
+
+sound-matched : (line : Option Line) (firm : Firm) → FirmSound firm → FirmSound (matched_by line firm)
+sound-matched None firm sound = sound
+sound-matched (Some line) firm sound = match-sound line firm sound
+
+-- The rows of one matter.
+
+pub changes-one : ChangesOne
+changes-one n (OfMatter m line change) firm = of-matched n line (after_change m change firm) ∙ cases (n == m) refl
+  where
+    cases : (b : Bool) → (n == m) ≡ b → of n (after_change m change firm) ≡ cond b (changed change (of n firm)) (of n firm)
+    cases true same_test =
+        let same : n ≡ m = grind (arith, nat_tests) in
+        subst (λ (k : ℕ). of k (after_change m change firm) ≡ changed change (of k firm)) (sym same) (changes-own m change firm)
+    cases false other_test = changes-no_other n m change firm (grind (arith, nat_tests))
+changes-one n (Repeated line) firm = refl
+changes-one n (Unmatched line) firm = refl
+changes-one n (OfFirm line) firm = refl
+changes-one n (OfBalance kind line) firm = refl
+
+-- The firm stays in order, and sound.
+
+pub change-stays-in_order : StaysInOrder
+change-stays-in_order (OfMatter m line change) firm order = in_order-matched line (after_change m change firm) (stays-in_order m change firm order)
+change-stays-in_order (Repeated line) firm order = match-in_order line firm order
+change-stays-in_order (Unmatched line) firm order = stray-stays-in_order line firm order
+change-stays-in_order (OfFirm line) firm order = match-in_order line (with_firm_line (as_firm_line line) firm) (record { rows = order.rows; exceptions = order.exceptions; balances = order.balances })
+change-stays-in_order (OfBalance kind line) firm order = match-in_order line (with_statement (balance_row kind line) firm) (record { rows = order.rows; exceptions = order.exceptions; balances = balances-sorted (balance_row kind line) firm.balances order.balances })
+
+pub change-stays-sound : Covered → StaysSound
+change-stays-sound law (OfMatter m line change) firm sound fits = sound-matched line (after_change m change firm) (stays-sound law m change firm sound fits)
+change-stays-sound law (Repeated line) firm sound fits = match-sound line firm sound
+change-stays-sound law (Unmatched line) firm sound fits = stray-stays-sound line firm sound
+change-stays-sound law (OfFirm line) firm sound fits = match-sound line (with_firm_line (as_firm_line line) firm) (own_line-sound (as_firm_line line) firm sound fits)
+change-stays-sound law (OfBalance kind line) firm sound fits = match-sound line (with_statement (balance_row kind line) firm) (statement-sound (balance_row kind line) firm sound)
+
+-- What is decided of a line of a matter fits.
+pub line-fits : LineFits
+line-fits firm l (verdict.Applied change) is = is.1.change
+line-fits firm l verdict.Repeat is = tt
+line-fits firm l (verdict.Unmatched reason) is = tt

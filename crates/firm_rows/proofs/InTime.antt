@@ -1,0 +1,52 @@
+-- The movements of a matter follow one another in time, also after a change.
+use Rattle.std.proofs.Common.{◌≡◌, ◌≢◌, ℕ, ◌≤◌, true, false, List, [], ◌∷◌, ◌++◌, map, Option, Some, None, refl, sym, ap, ◌∙◌, subst, arith, append-nil}
+use Rattle.std.specs.Prelude.{◌==◌}
+use Rattle.std.specs.List.{AllByRecursion}
+use Rattle.std.proofs.lemmas.Bool.Decides.{nat_tests}
+use Rattle.std.proofs.lemmas.List.{map-append}
+use Rattle.std.proofs.lemmas.List.Elements.{filter-append}
+use Rattle.matter_rows.specs.declared.movement.EntryMovement as change
+use Rattle.matter_rows.specs.Sound.{AreRising}
+use Rattle.matter_parts.specs.Changes.{IsMovedWithin}
+use Rattle.matter_rows.proofs.Days.{up-to}
+use Rattle.firm_rows.specs.declared.movement.Movement.{Movement}
+use Rattle.firm_rows.specs.Firm.{is_of_matter, joined_movement}
+use Rattle.firm_rows.specs.Journal.{days_moved}
+
+-- days that rise, and then one that is not before them
+rising-append : (from day : ℕ) (days : List ℕ) → AreRising from days → AllByRecursion (λ d. d ≤ day) days → from ≤ day → AreRising from (days ++ day ∷ [])
+rising-append from day [] up by after = (after, tt)
+rising-append from day (d ∷ days) up by after = (up.0, rising-append d day days up.1 by.1 by.0)
+
+up_to-append : (last day : ℕ) (days : List ℕ) → AllByRecursion (λ d. d ≤ last) days → day ≤ last → AllByRecursion (λ d. d ≤ last) (days ++ day ∷ [])
+up_to-append last day [] by le = (le, tt)
+up_to-append last day (d ∷ days) by le = (by.0, up_to-append last day days by.1 le)
+
+pub days-append : (m : ℕ) (xs ys : List Movement) → days_moved m (xs ++ ys) ≡ days_moved m xs ++ days_moved m ys
+days-append m xs ys = ap (map (λ v. v.day)) (filter-append (λ v. is_of_matter m v.owner) xs ys) ∙ map-append (λ v. v.day) _ _
+
+days-own : (m : ℕ) (v : change.EntryMovement) → days_moved m (joined_movement m (Some v)) ≡ v.day ∷ []
+days-own m v = let t : (m == m) ≡ true = grind (arith, nat_tests) in rw t refl
+
+days-other : (m k : ℕ) (o : Option change.EntryMovement) → k ≢ m → days_moved k (joined_movement m o) ≡ []
+days-other m k None apart = refl
+days-other m k (Some v) apart = let f : (m == k) ≡ false = grind (arith, nat_tests) in rw f refl
+
+-- the movements of another matter stay
+pub days-same : (m k : ℕ) (xs : List Movement) (o : Option change.EntryMovement) → k ≢ m → days_moved k (xs ++ joined_movement m o) ≡ days_moved k xs
+days-same m k xs o apart = days-append k xs (joined_movement m o) ∙ (ap (λ ys. days_moved k xs ++ ys) (days-other m k o apart) ∙ append-nil (days_moved k xs))
+
+-- days that rise up to a last one
+abbrev pub RiseTo : ℕ → List ℕ → Type 0
+RiseTo last days = AreRising 0 days × AllByRecursion (λ d. d ≤ last) days
+
+-- what a matter moves between two last days is moved in time
+pub rise-own : (m old new : ℕ) (xs : List Movement) (o : Option change.EntryMovement) → RiseTo old (days_moved m xs) → old ≤ new → IsMovedWithin old new o → RiseTo new (days_moved m (xs ++ joined_movement m o))
+rise-own m old new xs None rise later within =
+    subst (λ ys. RiseTo new (days_moved m ys)) (sym (append-nil xs)) (rise.0, up-to old new (days_moved m xs) later rise.1)
+rise-own m old new xs (Some v) rise later within =
+    let days = days_moved m xs in
+    let is : days_moved m (xs ++ joined_movement m (Some v)) ≡ days ++ v.day ∷ [] = days-append m xs (joined_movement m (Some v)) ∙ ap (λ ys. days ++ ys) (days-own m v) in
+    let rising = rising-append 0 v.day days rise.0 (up-to old v.day days within.0 rise.1) (omega arith) in
+    let by_last = up_to-append new v.day days (up-to old new days later rise.1) within.1 in
+    subst (RiseTo new) (sym is) (rising, by_last)

@@ -1,0 +1,187 @@
+-- A change of a sound firm leaves it sound.
+use Rattle.std.proofs.Common.{◌≡◌, ◌≢◌, ℕ, ◌+◌, ◌<◌, ◌≤◌, Bool, true, false, List, [], ◌∷◌, ◌++◌, length, map, take, Option, Some, None, refl, sym, ap, ◌∙◌, subst, arith, rules, append-nil, length-append, ◌⊎◌, inl, inr}
+use Rattle.std.specs.Prelude.{pos, ◌+ℤ◌, ◌≤ℤ◌, ◌==◌}
+use Rattle.std.proofs.lemmas.Int.{ints}
+use Rattle.std.proofs.lemmas.Bool.{cases_lt}
+use Rattle.std.proofs.lemmas.Bool.Decides.{nat_tests}
+use Rattle.std.proofs.Math.Seq.{take-nil}
+use Rattle.std.proofs.lemmas.List.{take-append-le, take_all}
+use Rattle.std.specs.List.Sorted.{IsStrictlySortedBy}
+use Rattle.matter_parts.specs.declared.edit.Edit.{Edit}
+use Rattle.matter_rows.specs.declared.movement.EntryMovement as change
+use Rattle.matter_rows.specs.Rows.{Rows, unopened, entry_at, last_of}
+use Rattle.matter_rows.specs.Balances.{ledger}
+use Rattle.matter_rows.specs.Events.{events_in}
+use Rattle.matter_rows.specs.Sound.{Sound}
+use Rattle.matter_rows.specs.Laws.{Covered}
+use Rattle.matter_parts.specs.Changes.{MatterChange, IsChange, changed_by, movement_of, AreMoved, IsMovedWithin, IsPlace}
+use Rattle.firm_rows.specs.declared.movement.Movement.{Movement}
+use Rattle.firm_rows.specs.Firm.{Firm, empty_firm, of, joined_movement, moved_by, rewritten_by, after_edit, after_change}
+use Rattle.firm_rows.specs.declared.ledger.FirmLine.{FirmLine}
+use Rattle.firm_rows.specs.FirmLines.{balance_of, IsOwnBalance}
+use Rattle.firm_rows.specs.Journal.{events_moved, firm_events, line_event, days_moved, amount_for, moved_for}
+use Rattle.firm_rows.specs.FirmSound.{AreMovedInTime, FirmSound}
+use Rattle.firm_rows.proofs.Sums.{sum-append}
+use Rattle.firm_rows.proofs.InTime.{RiseTo, days-same, rise-own}
+use Rattle.firm_rows.proofs.Order.{in_order-rewritten_by}
+use Rattle.firm_rows.proofs.Clearing.{sound-cleared}
+use Rattle.firm_rows.proofs.Changed.{IsNoClear, EditCases, edit-cases, of-rewritten_by, of_other-rewritten_by}
+use Rattle.firm_rows.proofs.Told.{events-append, firm-append, joined-other, joined-firm, moved-other, events-told, ledger-told}
+
+-- no ledger of a sound matter is below zero
+pub ledger-least : Covered → (rows : Rows) → Sound rows → pos 0 ≤ℤ ledger rows.entries
+ledger-least covered rows sound = let c = covered rows.entries sound.backed in omega (arith, ints, c.total, c.held)
+
+-- a list with one element more, or none: up to a place it is the old list so far, or the whole
+pub take-more : {A : Type 0} (xs : List A) (y : A) (k : ℕ) → (take k (xs ++ y ∷ []) ≡ take k xs) ⊎ (take k (xs ++ y ∷ []) ≡ xs ++ y ∷ [])
+take-more xs y k = cases (cases_lt k (length xs + 1))
+  where
+    cases : (k < length xs + 1) ⊎ (length xs + 1 ≤ k) → (take k (xs ++ y ∷ []) ≡ take k xs) ⊎ (take k (xs ++ y ∷ []) ≡ xs ++ y ∷ [])
+    cases (inl lt) = inl (take-append-le k xs (y ∷ []) (omega arith))
+    cases (inr le) = inr (let long = length-append xs (y ∷ []) in take_all k (xs ++ y ∷ []) (omega (arith, long)))
+
+-- the sums so far, where the whole is at least zero
+covered-more : (k : ℕ) (m : ℕ) (xs : List Movement) (n : ℕ) (o : Option change.EntryMovement) → ((j : ℕ) → pos 0 ≤ℤ moved_for k (take j xs)) → pos 0 ≤ℤ moved_for k (xs ++ joined_movement m o) → pos 0 ≤ℤ moved_for k (take n (xs ++ joined_movement m o))
+covered-more k m xs n None so_far whole = subst (λ (ys : List Movement). pos 0 ≤ℤ moved_for k (take n ys)) (sym (append-nil xs)) (so_far n)
+covered-more k m xs n (Some v) so_far whole = cases (take-more xs _ n)
+  where
+    cases : (take n (xs ++ joined_movement m (Some v)) ≡ take n xs) ⊎ (take n (xs ++ joined_movement m (Some v)) ≡ xs ++ joined_movement m (Some v)) → pos 0 ≤ℤ moved_for k (take n (xs ++ joined_movement m (Some v)))
+    cases (inl is) = subst (λ (ys : List Movement). pos 0 ≤ℤ moved_for k ys) (sym is) (so_far n)
+    cases (inr is) = subst (λ (ys : List Movement). pos 0 ≤ℤ moved_for k ys) (sym is) whole
+
+-- an edit that fits these rows and leaves them sound, and what it moves, which is not before their last day
+pub record IsKept (rows : Rows) (e : Edit) (last : ℕ) : Type 0 where
+  pub place : IsPlace rows e
+  pub sound : Sound (changed_by e last rows)
+  pub moved : AreMoved rows.entries e (movement_of rows.entries e)
+  pub not_before : last_of rows.head ≤ last
+  pub seen : last_of (changed_by e last rows).head ≡ last
+  pub dated : IsMovedWithin (last_of rows.head) last (movement_of rows.entries e)
+
+module _ (m : ℕ) (e : Edit) (last : ℕ) (firm : Firm) (sound : FirmSound firm) (is : IsKept (of m firm) e last) (keeps : IsNoClear e) where
+  abbrev old : Rows
+  old = of m firm
+
+  abbrev after : Firm
+  after = rewritten_by m e last firm
+
+  own : of m after ≡ changed_by e last old
+  own = of-rewritten_by m e last firm
+
+  matters : (k : ℕ) → Sound (of k after)
+  matters k = cases (k == m) refl
+    where
+      cases : (b : Bool) → (k == m) ≡ b → Sound (of k after)
+      cases true same_test = let same : k ≡ m = grind (arith, nat_tests) in subst Sound (sym (ap (λ n. of n after) same ∙ own)) is.sound
+      cases false other_test = let apart : k ≢ m = grind (arith, nat_tests) in subst Sound (sym (of_other-rewritten_by k m e last firm apart)) (sound.matters k)
+
+  events : (k n : ℕ) → events_moved k n after.movements ≡ events_in (entry_at (of k after).entries n)
+  events k n = events-append k n firm.movements (moved_by m e old) ∙ cases (k == m) refl
+    where
+      cases : (b : Bool) → (k == m) ≡ b → events_moved k n firm.movements ++ events_moved k n (moved_by m e old) ≡ events_in (entry_at (of k after).entries n)
+      cases true same_test =
+          let same : k ≡ m = grind (arith, nat_tests) in
+          let here : events_moved m n firm.movements ++ events_moved m n (moved_by m e old) ≡ events_in (entry_at (of m after).entries n) =
+          ap (λ xs. xs ++ events_moved m n (moved_by m e old)) (sound.events m n)
+          ∙ (sym (events-told m old e n keeps is.place is.moved) ∙ ap (λ (r : Rows). events_in (entry_at r.entries n)) (sym own)) in
+          subst (λ j. events_moved j n firm.movements ++ events_moved j n (moved_by m e old) ≡ events_in (entry_at (of j after).entries n)) (sym same) here
+      cases false other_test =
+          let apart : k ≢ m = grind (arith, nat_tests) in
+          ap (λ xs. events_moved k n firm.movements ++ xs) (joined-other m k n (movement_of old.entries e) apart)
+          ∙ (append-nil (events_moved k n firm.movements) ∙ (sound.events k n ∙ ap (λ (r : Rows). events_in (entry_at r.entries n)) (sym (of_other-rewritten_by k m e last firm apart))))
+
+  own_money : firm_events after.movements ≡ map line_event firm.firm_lines
+  own_money = firm-append firm.movements (moved_by m e old) ∙ ((λ i. sound.own i ++ joined-firm m (movement_of old.entries e) i) ∙ append-nil (map line_event firm.firm_lines))
+
+  in_time : (k : ℕ) → AreMovedInTime k after
+  in_time k = cases (k == m) refl
+    where
+      cases : (b : Bool) → (k == m) ≡ b → AreMovedInTime k after
+      cases true same_test =
+          let same : k ≡ m = grind (arith, nat_tests) in
+          let before = sound.in_time m in
+          let rise : RiseTo last (days_moved m after.movements) = rise-own m (last_of old.head) last firm.movements (movement_of old.entries e) (before.rising, before.by_last) is.not_before is.dated in
+          let seen : last_of (of m after).head ≡ last = ap (λ (r : Rows). last_of r.head) own ∙ is.seen in
+          let by_last = (subst (λ n. RiseTo n (days_moved m after.movements)) (sym seen) rise).1 in
+          subst (λ j. AreMovedInTime j after) (sym same) (record { rising = rise.0; by_last = by_last })
+      cases false other_test =
+          let apart : k ≢ m = grind (arith, nat_tests) in
+          let before = sound.in_time k in
+          let rise : RiseTo (last_of (of k firm).head) (days_moved k after.movements) = subst (RiseTo (last_of (of k firm).head)) (sym (days-same m k firm.movements (movement_of old.entries e) apart)) (before.rising, before.by_last) in
+          let same : last_of (of k firm).head ≡ last_of (of k after).head = ap (λ (r : Rows). last_of r.head) (sym (of_other-rewritten_by k m e last firm apart)) in
+          record { rising = rise.0; by_last = (subst (λ n. RiseTo n (days_moved k after.movements)) same rise).1 }
+
+  ledgers : (k : ℕ) → moved_for k after.movements ≡ ledger (of k after).entries
+  ledgers k = sum-append (amount_for k) firm.movements (moved_by m e old) ∙ cases (k == m) refl
+    where
+      cases : (b : Bool) → (k == m) ≡ b → moved_for k firm.movements +ℤ moved_for k (moved_by m e old) ≡ ledger (of k after).entries
+      cases true same_test =
+          let same : k ≡ m = grind (arith, nat_tests) in
+          let here : moved_for m firm.movements +ℤ moved_for m (moved_by m e old) ≡ ledger (of m after).entries =
+          ap (λ z. z +ℤ moved_for m (moved_by m e old)) (sound.ledgers m)
+          ∙ (sym (ledger-told m old e keeps is.place is.moved) ∙ ap (λ (r : Rows). ledger r.entries) (sym own)) in
+          subst (λ j. moved_for j firm.movements +ℤ moved_for j (moved_by m e old) ≡ ledger (of j after).entries) (sym same) here
+      cases false other_test =
+          let apart : k ≢ m = grind (arith, nat_tests) in
+          let none = moved-other m k (movement_of old.entries e) apart in
+          let same : moved_for k firm.movements +ℤ moved_for k (moved_by m e old) ≡ moved_for k firm.movements = omega (arith, ints, none) in
+          same ∙ (sound.ledgers k ∙ ap (λ (r : Rows). ledger r.entries) (sym (of_other-rewritten_by k m e last firm apart)))
+
+  covered : Covered → (k n : ℕ) → pos 0 ≤ℤ moved_for k (take n after.movements)
+  covered law k n = covered-more k m firm.movements n (movement_of old.entries e) (sound.covered k) (subst (λ z. pos 0 ≤ℤ z) (sym (ledgers k)) (ledger-least law (of k after) (matters k)))
+
+  pub sound-rewritten : Covered → FirmSound after
+  sound-rewritten law = record {
+    in_order = in_order-rewritten_by m e last firm sound.in_order;
+    matters = matters;
+    events = events;
+    own = own_money;
+    in_time = in_time;
+    ledgers = ledgers;
+    covered = covered law;
+    within = sound.within;
+  }
+
+pub edit-sound : Covered → (m : ℕ) (e : Edit) (last : ℕ) (firm : Firm) → FirmSound firm → IsKept (of m firm) e last → FirmSound (after_edit m e last firm)
+edit-sound law m e last firm sound is = cases (edit-cases m e last firm)
+  where
+    cases : EditCases m e last firm → FirmSound (after_edit m e last firm)
+    cases (inl same) = subst FirmSound (sym same.1) sound
+    cases (inr (inl to)) = subst FirmSound (sym to.0) (sound-rewritten m e last firm sound is to.1 law)
+    cases (inr (inr to)) = subst FirmSound (sym to.after) (sound-cleared m (changed_by e last (of m firm)) firm sound (record { none = ap (λ (x : Edit). (changed_by x last (of m firm)).entries) to.edit; sound = is.sound }))
+
+-- a change of a matter leaves a sound firm sound
+pub stays-sound : Covered → (m : ℕ) (change : MatterChange) (firm : Firm) → FirmSound firm → IsChange (of m firm) change → FirmSound (after_change m change firm)
+stays-sound law m change firm sound is =
+    edit-sound law m change.edit change.last firm sound (record {
+      place = is.place;
+      sound = is.sound;
+      moved = subst (λ o. AreMoved (of m firm).entries change.edit o) is.movement is.moved;
+      not_before = is.not_before;
+      seen = is.seen;
+      dated = subst (λ o. IsMovedWithin (last_of (of m firm).head) change.last o) is.movement is.dated;
+    })
+
+-- A firm without rows.
+
+pub unopened-sound : Sound unopened
+unopened-sound = record {
+  backed = record { few = omega arith; ranged = tt; named = tt; available = search rules; left = λ n e there. absurd (cc) };
+  seated = tt;
+  headed = (refl, refl);
+  bare = tt;
+  funded = tt;
+}
+
+pub empty-sound : FirmSound empty_firm
+unfolding IsStrictlySortedBy
+empty-sound = record {
+  in_order = record { rows = λ m. refl; exceptions = tt; balances = tt };
+  matters = λ m. unopened-sound;
+  events = λ m n. refl;
+  own = refl;
+  in_time = λ m. record { rising = tt; by_last = tt };
+  ledgers = λ m. refl;
+  covered = λ m k. subst (λ (xs : List Movement). pos 0 ≤ℤ moved_for m xs) (sym (take-nil k)) (search rules);
+  within = λ k. subst (λ (ls : List FirmLine). IsOwnBalance (balance_of ls)) (sym (take-nil k)) (omega (arith, ints), omega (arith, ints));
+}

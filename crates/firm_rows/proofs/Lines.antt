@@ -1,0 +1,49 @@
+-- A line of the bank, the firm's rows and its exceptions.
+use Rattle.std.proofs.Common.{List}
+use Rattle.trust_base.specs.LineOrder.{line_cmp}
+use Rattle.trust_base.specs.declared.line.Line.{Line}
+use Rattle.trust_base.proofs.LineFacts.{line_total, line_same}
+use Rattle.firm_rows.specs.Firm.{Firm, after_match, after_stray}
+use Rattle.firm_rows.specs.FirmSound.{FirmSound, IsInOrder}
+use Rattle.firm_rows.specs.Exceptions.{WithLineAdds, WithoutLineTakes, WithLineAgain}
+use Rattle.firm_rows.proofs.Ordered.{with-sorted, without-sorted, with-contains, without-contains, with-again}
+
+-- The exceptions are a set.
+
+pub with-adds : WithLineAdds
+with-adds line x lines = with-contains line_cmp line_total line_same line x lines
+
+pub without-takes : WithoutLineTakes
+without-takes line x lines = without-contains line_cmp line_total line_same line x lines
+
+pub with_line-again : WithLineAgain
+with_line-again line lines up there = with-again line_cmp line_total line_same line lines up there
+
+-- The firm stays in order.
+
+pub match-in_order : (line : Line) (firm : Firm) → IsInOrder firm → IsInOrder (after_match line firm)
+match-in_order line firm order = record { rows = order.rows; exceptions = without-sorted line_cmp line_total line firm.exceptions order.exceptions; balances = order.balances }
+
+pub stray-stays-in_order : (line : Line) (firm : Firm) → IsInOrder firm → IsInOrder (after_stray line firm)
+stray-stays-in_order line firm order = record { rows = order.rows; exceptions = with-sorted line_cmp line_total line firm.exceptions order.exceptions; balances = order.balances }
+
+-- And sound.
+
+-- exceptions are no matter's rows, and move nothing
+with-exceptions : (firm : Firm) (lines : List Line) → FirmSound firm → IsInOrder (record firm { exceptions = lines }) → FirmSound (record firm { exceptions = lines })
+with-exceptions firm lines sound order = record {
+  in_order = order;
+  matters = sound.matters;
+  events = sound.events;
+  own = sound.own;
+  in_time = λ m. record { rising = (sound.in_time m).rising; by_last = (sound.in_time m).by_last };
+  ledgers = sound.ledgers;
+  covered = sound.covered;
+  within = sound.within;
+}
+
+pub match-sound : (line : Line) (firm : Firm) → FirmSound firm → FirmSound (after_match line firm)
+match-sound line firm sound = with-exceptions firm _ sound (match-in_order line firm sound.in_order)
+
+pub stray-stays-sound : (line : Line) (firm : Firm) → FirmSound firm → FirmSound (after_stray line firm)
+stray-stays-sound line firm sound = with-exceptions firm _ sound (stray-stays-in_order line firm sound.in_order)

@@ -1,0 +1,116 @@
+-- A line of the firm's own, and a balance, leave a sound firm sound.
+use Rattle.std.proofs.Common.{◌≡◌, ℕ, Bool, true, false, List, [], ◌∷◌, ◌++◌, length, take, refl, sym, ap, ◌∙◌, subst, arith, append-nil, ◌⊎◌, inl, inr, Option, Some, None}
+use Rattle.std.specs.Prelude.{ℤ, pos, ◌+ℤ◌, ◌≤ℤ◌, ◌&&◌, not, nat_le, if◌then◌else◌}
+use Rattle.std.specs.Ordering.{int_eq}
+use Rattle.std.specs.List.{list_any}
+use Rattle.std.proofs.lemmas.Int.{ints}
+use Rattle.std.proofs.lemmas.List.{map-append, take_all}
+use Rattle.matter_rows.specs.Rows.{last_of}
+use Rattle.firm_rows.specs.declared.movement.Movement.{Movement}
+use Rattle.firm_rows.specs.declared.ledger.FirmLine.{FirmLine}
+use Rattle.firm_rows.specs.declared.ledger.Verdict.{Verdict}
+use Rattle.firm_rows.specs.declared.ledger.Verdict.TheVariants as told
+use Rattle.firm_rows.specs.declared.ledger.StatementRow.{StatementRow}
+use Rattle.firm_rows.specs.FirmLines.{balance_of, IsOwnBalance, is_own_balance, is_kept_as, is_bookable, kept_balance, balance_verdict}
+use Rattle.firm_rows.specs.Firm.{Firm, of, own_movement, with_firm_line, with_statement}
+use Rattle.firm_rows.specs.FirmChange.{FitsFirm, by_firm_line, by_balance}
+use Rattle.firm_rows.specs.Journal.{events_moved, line_event, days_moved, amount_for, moved_for}
+use Rattle.firm_rows.specs.FirmSound.{AreMovedInTime, FirmSound, FirmLineFits, BalanceFits}
+use Rattle.firm_rows.proofs.Sums.{sum-append}
+use Rattle.firm_rows.proofs.InTime.{RiseTo, days-append}
+use Rattle.firm_rows.proofs.Told.{events-append, firm-append}
+use Rattle.firm_rows.proofs.Kept.{take-more}
+use Rattle.firm_rows.proofs.Balances.{balances-sorted}
+
+module _ (l : FirmLine) (firm : Firm) (sound : FirmSound firm) (may : IsOwnBalance (balance_of firm.firm_lines +ℤ l.amount)) where
+  abbrev new : List Movement
+  new = own_movement l ∷ []
+
+  in_time : (m : ℕ) → AreMovedInTime m (with_firm_line l firm)
+  in_time m =
+      let old = sound.in_time m in
+      let same : days_moved m firm.movements ≡ days_moved m (firm.movements ++ new) = sym (days-append m firm.movements new ∙ append-nil (days_moved m firm.movements)) in
+      let rise : RiseTo (last_of (of m firm).head) (days_moved m (firm.movements ++ new)) = subst (RiseTo (last_of (of m firm).head)) same (old.rising, old.by_last) in
+      record { rising = rise.0; by_last = rise.1 }
+
+  moved-same : (m : ℕ) → moved_for m (firm.movements ++ new) ≡ moved_for m firm.movements
+  moved-same m = omega (arith, ints, sum-append (amount_for m) firm.movements new)
+
+  covered : (m k : ℕ) → pos 0 ≤ℤ moved_for m (take k (firm.movements ++ new))
+  covered m k = cases (take-more firm.movements (own_movement l) k)
+    where
+      cases : (take k (firm.movements ++ new) ≡ take k firm.movements) ⊎ (take k (firm.movements ++ new) ≡ firm.movements ++ new) → pos 0 ≤ℤ moved_for m (take k (firm.movements ++ new))
+      cases (inl is) = subst (λ (vs : List Movement). pos 0 ≤ℤ moved_for m vs) (sym is) (sound.covered m k)
+      cases (inr is) =
+          let all : take (length firm.movements) firm.movements ≡ firm.movements = take_all (length firm.movements) firm.movements (omega arith) in
+          let whole : pos 0 ≤ℤ moved_for m firm.movements = subst (λ (vs : List Movement). pos 0 ≤ℤ moved_for m vs) all (sound.covered m (length firm.movements)) in
+          subst (λ (vs : List Movement). pos 0 ≤ℤ moved_for m vs) (sym is) (subst (λ z. pos 0 ≤ℤ z) (sym (moved-same m)) whole)
+
+  within : (k : ℕ) → IsOwnBalance (balance_of (take k (firm.firm_lines ++ l ∷ [])))
+  within k = cases (take-more firm.firm_lines l k)
+    where
+      cases : (take k (firm.firm_lines ++ l ∷ []) ≡ take k firm.firm_lines) ⊎ (take k (firm.firm_lines ++ l ∷ []) ≡ firm.firm_lines ++ l ∷ []) → IsOwnBalance (balance_of (take k (firm.firm_lines ++ l ∷ [])))
+      cases (inl is) = subst (λ (ls : List FirmLine). IsOwnBalance (balance_of ls)) (sym is) (sound.within k)
+      cases (inr is) =
+          let more : balance_of firm.firm_lines +ℤ l.amount ≡ balance_of (firm.firm_lines ++ l ∷ []) = omega (arith, ints, sum-append (λ (x : FirmLine). x.amount) firm.firm_lines (l ∷ [])) in
+          subst (λ (ls : List FirmLine). IsOwnBalance (balance_of ls)) (sym is) (subst IsOwnBalance more may)
+
+  pub own_line-sound : FirmSound (with_firm_line l firm)
+  own_line-sound = record {
+    in_order = record { rows = sound.in_order.rows; exceptions = sound.in_order.exceptions; balances = sound.in_order.balances };
+    matters = sound.matters;
+    events = λ m n. events-append m n firm.movements new ∙ (append-nil (events_moved m n firm.movements) ∙ sound.events m n);
+    own = firm-append firm.movements new ∙ (ap (λ es. es ++ line_event l ∷ []) sound.own ∙ sym (map-append line_event firm.firm_lines (l ∷ [])));
+    in_time = in_time;
+    ledgers = λ m. moved-same m ∙ sound.ledgers m;
+    covered = covered;
+    within = within;
+  }
+
+-- what a test of an own balance says
+own-balance : (z : ℤ) (b : Bool) → is_own_balance z ≡ b → b ≡ true → IsOwnBalance z
+own-balance z b is holds = let passed : is_own_balance z ≡ true = is ∙ holds in (grind (arith, ints), grind (arith, ints))
+
+-- a line that may be booked leaves a balance that the firm may have
+and-last : (a b c : Bool) → (a && b && c) ≡ true → c ≡ true
+and-last true true c is = is
+and-last true false c is = absurd (cc)
+and-last false b c is = absurd (cc)
+
+-- so a line that is decided fits
+pub firm_line-fits : FirmLineFits
+firm_line-fits firm line v is = subst (λ (u : Verdict). FitsFirm firm (by_firm_line line u)) (sym is.1) (cases (list_any (is_kept_as line) firm.firm_lines) (is_bookable firm.firm_lines line is.0) refl)
+  where
+    cases : (a b : Bool) → is_bookable firm.firm_lines line is.0 ≡ b → FitsFirm firm (by_firm_line line (if a then told.Repeat else (if b then told.Applied else told.Unmatched)))
+    cases true b bookable = tt
+    cases false true bookable = own-balance (balance_of firm.firm_lines +ℤ line.amount) (is_own_balance (balance_of firm.firm_lines +ℤ line.amount)) refl (and-last (nat_le line.date is.0) (not (int_eq line.amount (pos 0))) (is_own_balance (balance_of firm.firm_lines +ℤ line.amount)) bookable)
+    cases false false bookable = tt
+
+-- and so does a balance: it is applied where none of its kind and day is kept
+pub balance-fits : BalanceFits
+balance-fits firm kind line v is = subst (λ (u : Verdict). FitsFirm firm (by_balance kind line u)) (sym is.1) (cases (kept_balance kind line.date firm.balances) refl)
+  where
+    later : (b : Bool) → kept_balance kind line.date firm.balances ≡ None → FitsFirm firm (by_balance kind line (if b then told.Applied else told.Unmatched))
+    later true none = none
+    later false none = tt
+
+    again : (b : Bool) → FitsFirm firm (by_balance kind line (if b then told.Repeat else told.Unmatched))
+    again true = tt
+    again false = tt
+
+    cases : (o : Option ℤ) → kept_balance kind line.date firm.balances ≡ o → FitsFirm firm (by_balance kind line (balance_verdict o line is.0))
+    cases None none = later (nat_le line.date is.0) none
+    cases (Some amount) kept = again (int_eq amount line.amount)
+
+-- balances are no matter's rows, and move nothing
+pub statement-sound : (row : StatementRow) (firm : Firm) → FirmSound firm → FirmSound (with_statement row firm)
+statement-sound row firm sound = record {
+  in_order = record { rows = sound.in_order.rows; exceptions = sound.in_order.exceptions; balances = balances-sorted row firm.balances sound.in_order.balances };
+  matters = sound.matters;
+  events = sound.events;
+  own = sound.own;
+  in_time = λ m. record { rising = (sound.in_time m).rising; by_last = (sound.in_time m).by_last };
+  ledgers = sound.ledgers;
+  covered = sound.covered;
+  within = sound.within;
+}

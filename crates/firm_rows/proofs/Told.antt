@@ -1,0 +1,165 @@
+-- What a change moves is what its entry's events say, and what the ledger gains.
+use Rattle.std.proofs.Common.{◌≡◌, ◌≢◌, ℕ, ◌+◌, Bool, true, false, cond, List, [], ◌∷◌, ◌++◌, length, Option, Some, None, refl, sym, ap, ◌∙◌, arith, append-nil, eqb, map}
+use Rattle.std.specs.Prelude.{pos, ◌+ℤ◌, ◌-ℤ◌, ◌==◌, slice_get, option_map}
+use Rattle.std.proofs.lemmas.Int.{ints}
+use Rattle.std.proofs.lemmas.Bool.Decides.{nat_tests}
+use Rattle.std.proofs.lemmas.List.{map-append}
+use Rattle.std.proofs.lemmas.List.Elements.{filter-append}
+use Rattle.matter_rows.specs.declared.entry.Entry.{Entry}
+use Rattle.matter_rows.specs.declared.entry.Entry.TheVariants as entry
+use Rattle.matter_rows.specs.declared.deposit.DepositState.{DepositState}
+use Rattle.matter_rows.specs.declared.deposit.DepositState.TheVariants as deposit
+use Rattle.matter_rows.specs.declared.payment.PaymentState.{PaymentState}
+use Rattle.matter_rows.specs.declared.payment.PaymentState.TheVariants as payment
+use Rattle.matter_parts.specs.declared.edit.Numbered.{Numbered}
+use Rattle.matter_parts.specs.declared.edit.Edit.{Edit}
+use Rattle.matter_parts.specs.declared.edit.Edit.TheVariants as edit
+use Rattle.matter_rows.specs.declared.movement.EntryMovement as change
+use Rattle.matter_rows.specs.Rows.{Rows, entry_at, with_entry}
+use Rattle.matter_rows.specs.Shares.{total_share, held_share, held_deposit, cleared_deposit, paid}
+use Rattle.matter_rows.specs.Balances.{ledger}
+use Rattle.matter_rows.specs.Events.{Event, events_of, events_in, cancelling, payments, received}
+use Rattle.matter_rows.specs.Events.{as_movement}
+use Rattle.matter_parts.specs.Changes.{edited, movement_of, events_by, AreMoved, IsPlace}
+use Rattle.matter_parts.specs.Changes as changes
+use Rattle.matter_rows.proofs.Entries.{entry_at-append, entry_at-with, none-past}
+use Rattle.matter_rows.proofs.Sums.{total-append, total-with}
+use Rattle.firm_rows.specs.declared.movement.Movement.{Movement}
+use Rattle.firm_rows.specs.declared.movement.Owner.TheVariants as owner
+use Rattle.firm_rows.specs.Firm.{joined_movement}
+use Rattle.firm_rows.specs.Sums.{sum_of}
+use Rattle.firm_rows.specs.Journal.{event_of, is_of_entry, is_of_firm, events_moved, firm_events, moved_for, ledger_share}
+use Rattle.firm_rows.proofs.Changed.{IsNoClear}
+use Rattle.firm_rows.proofs.Sums.{sum-append}
+
+pub events-append : (m n : ℕ) (xs ys : List Movement) → events_moved m n (xs ++ ys) ≡ events_moved m n xs ++ events_moved m n ys
+events-append m n xs ys = ap (map event_of) (filter-append (λ v. is_of_entry m n v.owner) xs ys) ∙ map-append event_of _ _
+
+pub firm-append : (xs ys : List Movement) → firm_events (xs ++ ys) ≡ firm_events xs ++ firm_events ys
+firm-append xs ys = ap (map event_of) (filter-append (λ v. is_of_firm v.owner) xs ys) ∙ map-append event_of _ _
+
+-- The movement of a change, if it has one.
+
+-- what it says of entry n of its matter
+abbrev by_entry : ℕ → Option change.EntryMovement → List Event
+by_entry n None = []
+by_entry n (Some v) = cond (v.entry == n) (changes.event_of v ∷ []) []
+
+pub joined-other : (m k n : ℕ) (o : Option change.EntryMovement) → k ≢ m → events_moved k n (joined_movement m o) ≡ []
+joined-other m k n None apart = refl
+joined-other m k n (Some v) apart = let f : (m == k) ≡ false = grind (arith, nat_tests) in rw f refl
+
+joined-own : (m n : ℕ) (o : Option change.EntryMovement) → events_moved m n (joined_movement m o) ≡ by_entry n o
+joined-own m n None = refl
+joined-own m n (Some v) =
+    let t : (m == m) ≡ true = grind (arith, nat_tests) in
+    rw t (elim (v.entry == n) as (λ b. map event_of (cond b (record { owner = owner.Matter m v.entry; day = v.day; amount = v.amount } ∷ []) []) ≡ cond b (changes.event_of v ∷ []) []) [ true ↦ refl | false ↦ refl ])
+
+pub joined-firm : (m : ℕ) (o : Option change.EntryMovement) → firm_events (joined_movement m o) ≡ []
+joined-firm m None = refl
+joined-firm m (Some v) = refl
+
+pub moved-other : (m k : ℕ) (o : Option change.EntryMovement) → k ≢ m → moved_for k (joined_movement m o) ≡ pos 0
+moved-other m k None apart = refl
+moved-other m k (Some v) apart = let f : (m == k) ≡ false = grind (arith, nat_tests) in rw f refl
+
+moved-own : (m : ℕ) (o : Option change.EntryMovement) → moved_for m (joined_movement m o) ≡ sum_of (λ e. e.amount) (events_by o)
+moved-own m None = refl
+moved-own m (Some v) = let t : (m == m) ≡ true = grind (arith, nat_tests) in rw t refl
+
+-- the movement of entry n says what was moved of n, and nothing of another
+by-own : (n k : ℕ) (o : Option Event) → k ≡ n → by_entry k (option_map (λ e. as_movement n e) o) ≡ events_by (option_map (λ e. as_movement n e) o)
+by-own n k None same = refl
+by-own n k (Some e) same = let t : (n == k) ≡ true = grind (arith, nat_tests) in rw t refl
+
+by-other : (n k : ℕ) (o : Option Event) → (k == n) ≡ false → by_entry k (option_map (λ e. as_movement n e) o) ≡ []
+by-other n k None apart = refl
+by-other n k (Some e) apart = let f : (n == k) ≡ false = grind (arith, nat_tests) in rw f refl
+
+-- The events of the entries after an edit.
+
+events-append_entry : (es : List Entry) (x : Numbered) (k : ℕ) → x.number ≡ length es + 1 → AreMoved es (edit.Append x) (movement_of es (edit.Append x)) → events_in (entry_at (es ++ x.entry ∷ []) k) ≡ events_in (entry_at es k) ++ by_entry k (movement_of es (edit.Append x))
+events-append_entry es x k next moved = ap events_in (entry_at-append es x.entry k) ∙ cases (eqb k (length es + 1)) refl
+  where
+    cases : (b : Bool) → eqb k (length es + 1) ≡ b → events_in (cond b (Some x.entry) (entry_at es k)) ≡ events_in (entry_at es k) ++ by_entry k (movement_of es (edit.Append x))
+    cases true at =
+        let same : k ≡ length es + 1 = grind (arith, nat_tests) in
+        let none = none-past es k (omega (arith, same)) in
+        moved ∙ (sym (by-own x.number k _ (same ∙ sym next)) ∙ ap (λ o. events_in o ++ by_entry k (movement_of es (edit.Append x))) (sym none))
+    cases false at =
+        let apart : (k == x.number) ≡ false = rw next at in
+        sym (ap (λ ys. events_in (entry_at es k) ++ ys) (by-other x.number k _ apart) ∙ append-nil (events_in (entry_at es k)))
+
+events-with : (es : List Entry) (x : Numbered) (old : Entry) (k : ℕ) → entry_at es x.number ≡ Some old → AreMoved es (edit.Exchange x) (movement_of es (edit.Exchange x)) → events_in (entry_at (with_entry es x.number x.entry) k) ≡ events_in (entry_at es k) ++ by_entry k (movement_of es (edit.Exchange x))
+events-with es x old k there moved = ap events_in (entry_at-with es x.number old x.entry k there) ∙ cases (eqb k x.number) refl
+  where
+    cases : (b : Bool) → eqb k x.number ≡ b → events_in (cond b (Some x.entry) (entry_at es k)) ≡ events_in (entry_at es k) ++ by_entry k (movement_of es (edit.Exchange x))
+    cases true at =
+        let same : k ≡ x.number = grind (arith, nat_tests) in
+        moved ∙ (λ i. events_in (entry_at es (sym same i)) ++ sym (by-own x.number k (slice_get (events_of x.entry) (length (events_in (entry_at es x.number)))) same) i)
+    cases false at =
+        sym (ap (λ ys. events_in (entry_at es k) ++ ys) (by-other x.number k _ at) ∙ append-nil (events_in (entry_at es k)))
+
+events-same : (es : List Entry) (k : ℕ) → events_in (entry_at es k) ≡ events_in (entry_at es k) ++ []
+events-same es k = sym (append-nil (events_in (entry_at es k)))
+
+events-edited : (rows : Rows) (e : Edit) (k : ℕ) → IsNoClear e → IsPlace rows e → AreMoved rows.entries e (movement_of rows.entries e) → events_in (entry_at (edited rows.entries e) k) ≡ events_in (entry_at rows.entries k) ++ by_entry k (movement_of rows.entries e)
+events-edited rows edit.Nothing k keeps place moved = events-same rows.entries k
+events-edited rows (edit.Open o) k keeps place moved = events-same rows.entries k
+events-edited rows (edit.Seat s) k keeps place moved = events-same rows.entries k
+events-edited rows (edit.Unseat p) k keeps place moved = events-same rows.entries k
+events-edited rows (edit.Close d) k keeps place moved = events-same rows.entries k
+events-edited rows (edit.Clear d) k keeps place moved = absurd (keeps d refl)
+events-edited rows (edit.Append x) k keeps place moved = events-append_entry rows.entries x k place.1 moved
+events-edited rows (edit.Exchange x) k keeps place moved = events-with rows.entries x place.1.0 k place.1.1.there moved
+
+-- the events of a matter's entries after a change are those before it, and then what it moved
+pub events-told : (m : ℕ) (rows : Rows) (e : Edit) (k : ℕ) → IsNoClear e → IsPlace rows e → AreMoved rows.entries e (movement_of rows.entries e) → events_in (entry_at (edited rows.entries e) k) ≡ events_in (entry_at rows.entries k) ++ events_moved m k (joined_movement m (movement_of rows.entries e))
+events-told m rows e k keeps place moved = events-edited rows e k keeps place moved ∙ ap (λ ys. events_in (entry_at rows.entries k) ++ ys) (sym (joined-own m k (movement_of rows.entries e)))
+
+-- The ledger after an edit.
+
+deposit-share : (s : DepositState) (day a : ℕ) → cleared_deposit s a +ℤ held_deposit s a ≡ sum_of (λ e. e.amount) (received day a ∷ cancelling s a)
+deposit-share deposit.Held day a = omega (arith, ints)
+deposit-share (deposit.Cleared c) day a = omega (arith, ints)
+deposit-share (deposit.Cancelled d) day a = omega (arith, ints)
+deposit-share (deposit.Returned r) day a = omega (arith, ints)
+
+payment-share : (s : PaymentState) (a : ℕ) → (pos 0 -ℤ paid s a) +ℤ pos 0 ≡ sum_of (λ e. e.amount) (payments s a)
+payment-share payment.Proposed a = omega (arith, ints)
+payment-share payment.Declined a = omega (arith, ints)
+payment-share (payment.Issued d) a = omega (arith, ints)
+payment-share (payment.Cleared c) a = omega (arith, ints)
+payment-share (payment.Voided v) a = omega (arith, ints)
+
+-- an entry adds to the ledger what it has moved
+pub share-events : (e : Entry) → ledger_share e ≡ sum_of (λ e. e.amount) (events_of e)
+unfolding total_share held_share events_of
+share-events (entry.Deposit d) = deposit-share d.state d.book d.amount
+share-events (entry.Payment p) = payment-share p.state p.amount
+share-events (entry.Fee f) = omega (arith, ints)
+share-events (entry.Claim c) = omega (arith, ints)
+
+ledger-append : (es : List Entry) (x : Entry) (news : List Event) → events_of x ≡ news → ledger (es ++ x ∷ []) ≡ ledger es +ℤ sum_of (λ e. e.amount) news
+ledger-append es x news moved =
+    let share = share-events x ∙ ap (sum_of (λ e. e.amount)) moved in
+    omega (arith, ints, total-append total_share es x, total-append held_share es x, share)
+
+ledger-with : (es : List Entry) (n : ℕ) (old x : Entry) (news : List Event) → entry_at es n ≡ Some old → events_of x ≡ events_in (entry_at es n) ++ news → ledger (with_entry es n x) ≡ ledger es +ℤ sum_of (λ e. e.amount) news
+ledger-with es n old x news there moved =
+    let share = share-events x ∙ (ap (sum_of (λ e. e.amount)) (moved ∙ ap (λ o. events_in o ++ news) there) ∙ sum-append (λ (e : Event). e.amount) (events_of old) news) in
+    omega (arith, ints, total-with total_share es n old x there, total-with held_share es n old x there, share, share-events old)
+
+ledger-edited : (rows : Rows) (e : Edit) → IsNoClear e → IsPlace rows e → AreMoved rows.entries e (movement_of rows.entries e) → ledger (edited rows.entries e) ≡ ledger rows.entries +ℤ sum_of (λ v. v.amount) (events_by (movement_of rows.entries e))
+ledger-edited rows edit.Nothing keeps place moved = omega (arith, ints)
+ledger-edited rows (edit.Open o) keeps place moved = omega (arith, ints)
+ledger-edited rows (edit.Seat s) keeps place moved = omega (arith, ints)
+ledger-edited rows (edit.Unseat p) keeps place moved = omega (arith, ints)
+ledger-edited rows (edit.Close d) keeps place moved = omega (arith, ints)
+ledger-edited rows (edit.Clear d) keeps place moved = absurd (keeps d refl)
+ledger-edited rows (edit.Append x) keeps place moved = ledger-append rows.entries x.entry _ moved
+ledger-edited rows (edit.Exchange x) keeps place moved = ledger-with rows.entries x.number place.1.0 x.entry _ place.1.1.there moved
+
+-- the ledger of a matter after a change is that before it, and what it moved
+pub ledger-told : (m : ℕ) (rows : Rows) (e : Edit) → IsNoClear e → IsPlace rows e → AreMoved rows.entries e (movement_of rows.entries e) → ledger (edited rows.entries e) ≡ ledger rows.entries +ℤ moved_for m (joined_movement m (movement_of rows.entries e))
+ledger-told m rows e keeps place moved = ledger-edited rows e keeps place moved ∙ ap (λ z. ledger rows.entries +ℤ z) (sym (moved-own m (movement_of rows.entries e)))

@@ -1,0 +1,253 @@
+// The firm's own ledger, the balances that the bank tells of, and what becomes of their lines.
+
+ghost use Rattle.std.specs.Prelude.{◌≡◌, List, [], ◌∷◌, ◌++◌, IfOk, OnOk, OnErr, ◌+ℤ◌};
+ghost use Rattle.std.specs.List.{list_any};
+ghost use Rattle.firm_rows.specs.declared.ledger.FirmLine.{FirmLine};
+ghost use Rattle.firm_rows.specs.FirmLines.{balance_of, IsOwnBalance, is_own_balance, is_kept_as, is_bookable, firm_verdict, balance_verdict, as_firm_line};
+ghost use Rattle.firm_rows.specs.FirmLines.{place_of, balance_cmp, balance_row, is_balance_on};
+
+use std::alloc::{AllocError, Global};
+use std::cmp::Ordering;
+use std::marker::Model;
+use trust_base::{BankAmount, BankText, Day, Line, LineText};
+
+/// A line of the firm's own ledger: the bank's line without its reference. Its day by the books is its date.
+#[derive(Drop, Debug)]
+pub struct FirmLine {
+    pub date: Day,
+    pub bank_ref: BankText,
+    pub amount: BankAmount,
+    pub text: LineText,
+}
+
+/// What becomes of a line of the firm, or of a balance.
+#[derive(Clone, Copy, Debug, PartialEq, Eq)]
+pub enum Verdict {
+    Applied,
+    Repeat,
+    Unmatched,
+}
+
+/// An opening or a closing balance.
+#[derive(Clone, Copy, Debug, PartialEq, Eq)]
+pub enum BalanceKind {
+    Opening,
+    Closing,
+}
+
+/// A balance that the bank told of.
+#[derive(Clone, Copy, Debug)]
+pub struct StatementRow {
+    pub kind: BalanceKind,
+    pub day: Day,
+    pub amount: BankAmount,
+}
+
+impl FirmLine {
+    /// The line as the firm's ledger keeps it, or an error for want of memory.
+    pub fn of(line: &Line) -> Result<FirmLine, AllocError>
+        ensures { IfOk result (λ l. l ≡ as_firm_line line.now) }
+    {
+        let bank_ref = line.bank_ref.copied()?;
+        let text = line.text.copied()?;
+        Ok(FirmLine {
+            date: line.date,
+            bank_ref,
+            amount: line.amount,
+            text,
+        })
+    }
+
+    /// A copy, or an error for want of memory.
+    pub fn copied(&self) -> Result<FirmLine, AllocError>
+        ensures { IfOk result (λ same. same ≡ self.now) }
+    {
+        let bank_ref = self.bank_ref.copied()?;
+        let text = self.text.copied()?;
+        Ok(FirmLine {
+            date: self.date,
+            bank_ref,
+            amount: self.amount,
+            text,
+        })
+    }
+
+    // Does it have the date, the bank's reference and the amount of a line?
+    fn is_kept_as(&self, line: &Line) -> bool
+        ensures { result ≡ is_kept_as line.now self.now }
+    {
+        self.date.get() == line.date.get()
+            && self.bank_ref.is_same(&line.bank_ref)
+            && self.amount.get() == line.amount.get()
+    }
+}
+
+impl BalanceKind {
+    // Openings stand before closings.
+    fn place(self) -> u8
+        ensures { result ≡ place_of self }
+    {
+        match self {
+            BalanceKind::Opening => 0,
+            BalanceKind::Closing => 1,
+        }
+    }
+}
+
+impl StatementRow {
+    /// The line as a balance of a kind. It takes no memory.
+    pub fn of(kind: BalanceKind, line: &Line) -> StatementRow
+        ensures { result ≡ balance_row kind line.now }
+    {
+        StatementRow {
+            kind,
+            day: line.date,
+            amount: line.amount,
+        }
+    }
+
+    /// The order of balances: openings before closings, each by day.
+    pub fn compare(&self, other: &StatementRow) -> Ordering
+        ensures { result ≡ balance_cmp self.now other.now }
+    {
+        let by_kind = self.kind.place().cmp(&other.kind.place());
+        let by_day = self.day.get().cmp(&other.day.get());
+        by_kind.then(by_day)
+    }
+
+    /// Whether it is the balance of a kind and day.
+    pub fn is_on(&self, kind: BalanceKind, day: Day) -> bool
+        ensures { result ≡ is_balance_on kind day self.now }
+    {
+        self.kind.place() == kind.place() && self.day.get() == day.get()
+    }
+}
+
+/// The firm's own money in the account: its lines in the order of acceptance, which add up to a balance of 0 to 50,000 cents.
+///
+/// Contracts see it as the list of its lines.
+#[derive(Drop)]
+pub struct FirmLedger {
+    lines: Vec<FirmLine>,
+    balance: i64,
+}
+
+impl Model for FirmLedger {
+    ghost Value = { List FirmLine };
+
+    ghost view = { λ l. l.lines.items };
+
+    ghost invariant = { λ l. (l.balance ≡ balance_of l.lines.items) × IsOwnBalance l.balance };
+}
+
+// Copies of the lines.
+fn lines_copied(alloc: Global, lines: &[FirmLine]) -> Result<Vec<FirmLine>, AllocError>
+    ensures { IfOk result (λ copies. copies.items ≡ lines.now) }
+{
+    let mut copies = Vec::new(alloc);
+    for line in lines {
+        copies.push(line.copied()?)?;
+    }
+    Ok(copies)
+}
+
+// Is it a balance that the firm may have of its own money?
+fn is_own_balance(cents: i64) -> bool
+    ensures { result ≡ is_own_balance cents }
+{
+    0 <= cents && cents <= 50_000
+}
+
+// Is a line with this one's date, bank's reference and amount kept?
+fn is_kept(lines: &[FirmLine], line: &Line) -> bool
+    ensures { result ≡ list_any (is_kept_as line.now) lines.now }
+{
+    lines.iter().any(|l| l.is_kept_as(line))
+}
+
+// May the line be booked on this day, where the lines kept add up to this balance?
+fn is_bookable(balance: i64, line: &Line, today: Day) -> bool
+    requires { IsOwnBalance balance }
+    ensures { (lines : List FirmLine) → balance ≡ balance_of lines → result ≡ is_bookable lines line.now today }
+{
+    let amount = line.amount.get();
+    line.date.get() <= today.get() && amount != 0 && is_own_balance(balance + amount)
+}
+
+impl FirmLedger {
+    /// A ledger without lines.
+    pub fn new(alloc: Global) -> FirmLedger
+        ensures { result ≡ [] }
+    {
+        FirmLedger {
+            lines: Vec::new(alloc),
+            balance: 0,
+        }
+    }
+
+    /// What the lines add up to, in cents.
+    pub fn balance(&self) -> i64
+        ensures value { result ≡ balance_of self.now }
+        ensures within { IsOwnBalance result }
+    {
+        self.balance
+    }
+
+    /// The lines, in the order of acceptance.
+    pub fn lines(&self) -> &[FirmLine]
+        ensures { result.now ≡ self.now }
+    {
+        self.lines.as_slice()
+    }
+
+    /// A copy with the allocator given, or an error for want of memory.
+    pub fn copied(&self, alloc: Global) -> Result<FirmLedger, AllocError>
+        ensures { IfOk result (λ same. same ≡ self.now) }
+    {
+        let lines = lines_copied(alloc, &self.lines)?;
+        Ok(FirmLedger {
+            lines,
+            balance: self.balance,
+        })
+    }
+
+    /// Adds a line at the end; where memory is refused, the ledger stays and the line is lost.
+    pub fn add(&mut self, line: FirmLine) -> Result<(), AllocError>
+        requires { IsOwnBalance (balance_of self.old +ℤ line.amount) }
+        ensures ok { OnOk result (self.new ≡ self.old ++ line ∷ []) }
+        ensures err { OnErr result (self.new ≡ self.old) }
+    {
+        let balance = self.balance + line.amount.get();
+        self.lines.push(line)?;
+        self.balance = balance;
+        Ok(())
+    }
+}
+
+/// What becomes of a line of the firm on a business day: a repeat where the ledger holds its date, bank's reference and
+/// amount; applied where it is not dated after the day, moves something and leaves the ledger within 0 to 50,000 cents;
+/// and otherwise unmatched. Takes no memory.
+pub fn decide_firm_line(ledger: &FirmLedger, line: &Line, today: Day) -> Verdict
+    ensures { result ≡ firm_verdict ledger.now line.now today }
+{
+    if is_kept(ledger.lines(), line) {
+        return Verdict::Repeat;
+    }
+    if is_bookable(ledger.balance(), line, today) {
+        Verdict::Applied
+    } else {
+        Verdict::Unmatched
+    }
+}
+
+/// What becomes of a balance on a business day, where the one of its kind and day is given, if it is kept: a repeat of an equal
+/// one, applied where none is kept and it is not dated after the day, and otherwise unmatched. Takes no memory.
+pub fn decide_balance(kept: Option<i64>, line: &Line, today: Day) -> Verdict
+    ensures { result ≡ balance_verdict kept line.now today }
+{
+    match kept {
+        Some(amount) if amount == line.amount.get() => Verdict::Repeat,
+        None if line.date.get() <= today.get() => Verdict::Applied,
+        _ => Verdict::Unmatched,
+    }
+}

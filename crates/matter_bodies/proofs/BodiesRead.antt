@@ -1,0 +1,82 @@
+-- The bodies read back as their objects.
+use Rattle.std.proofs.Common.{ℕ, ℤ, List, [], ◌∷◌, map, length, refl, rules, arith}
+use Rattle.std.specs.Prelude.{codes}
+use Rattle.serde_json.specs.Data.{Data, string}
+use Rattle.matter_rows.specs.declared.seat.Seat.{Seat}
+use Rattle.matter_rows.specs.declared.head.Holder.{Holder}
+use Rattle.matter_rows.specs.declared.head.Holder.TheVariants as holder
+use Rattle.matter_rows.specs.declared.claim.Against.{Against}
+use Rattle.matter_rows.specs.declared.claim.Against.TheVariants as against
+use Rattle.matter_rows.specs.declared.entry.Entry.TheVariants as entry
+use Rattle.matter_rows.specs.declared.head.Holder.{Holder}
+use Rattle.matter_rows.specs.declared.head.Holder.TheVariants as holder
+use Rattle.matter_bodies.specs.Json.{array_of}
+use Rattle.matter_bodies.specs.Values.{seat_object, role_name}
+use Rattle.matter_bodies.specs.Bodies.{holder_value, purged_on, purge_members, matter_members, sums_of, receipt_members, entry_members, import_members, claim_left_value}
+use Rattle.matter_bodies.specs.BodyLaws.{PurgeReadsBack, MatterReadsBack, ReceiptReadsBack, EntryReadsBack, ImportReadsBack}
+use Rattle.matter_bodies.proofs.ReadBack.{Reads, AllRead, AllValuesRead, read-compact_text, null-reads, string-reads, count-reads, or_null-reads, object-reads, array-reads}
+
+seat-reads : (s : Seat) → Reads 1 (seat_object s)
+seat-reads s =
+    let members : List (List ℕ × Data) = (codes "person", string s.person) ∷ (codes "role", string (role_name s.role)) ∷ [] in
+    object-reads 0 members (string-reads 0 s.person, (string-reads 0 (role_name s.role), tt)) refl
+
+seats-read : (ss : List Seat) → AllValuesRead 1 (map seat_object ss)
+seats-read [] = tt
+seats-read (s ∷ ss) = (seat-reads s, seats-read ss)
+
+claim_left-reads : (n : ℕ) (a : Against) (left : ℤ) → Reads n (claim_left_value a left)
+claim_left-reads n (against.General c) left = string-reads n _
+claim_left-reads n (against.Fee k) left = null-reads n
+
+pub receipt-reads : ReceiptReadsBack
+receipt-reads m n (entry.Deposit d) =
+    let all : AllRead 0 (receipt_members m n (entry.Deposit d)) = search (rules, string-reads) in
+    read-compact_text 1 _ (omega arith) (object-reads 0 (receipt_members m n (entry.Deposit d)) all refl)
+receipt-reads m n (entry.Payment p) =
+    let all : AllRead 0 (receipt_members m n (entry.Payment p)) = search (rules, string-reads, or_null-reads) in
+    read-compact_text 1 _ (omega arith) (object-reads 0 (receipt_members m n (entry.Payment p)) all refl)
+receipt-reads m n (entry.Fee f) =
+    let all : AllRead 0 (receipt_members m n (entry.Fee f)) = search (rules, string-reads) in
+    read-compact_text 1 _ (omega arith) (object-reads 0 (receipt_members m n (entry.Fee f)) all refl)
+receipt-reads m n (entry.Claim c) =
+    let all : AllRead 0 (receipt_members m n (entry.Claim c)) = search (rules, string-reads, or_null-reads) in
+    read-compact_text 1 _ (omega arith) (object-reads 0 (receipt_members m n (entry.Claim c)) all refl)
+
+pub entry-reads : EntryReadsBack
+entry-reads m n (entry.Deposit d) left =
+    let all : AllRead 0 (entry_members m n (entry.Deposit d) left) = search (rules, string-reads, or_null-reads) in
+    read-compact_text 1 _ (omega arith) (object-reads 0 (entry_members m n (entry.Deposit d) left) all refl)
+entry-reads m n (entry.Payment p) left =
+    let all : AllRead 0 (entry_members m n (entry.Payment p) left) = search (rules, string-reads, or_null-reads) in
+    read-compact_text 1 _ (omega arith) (object-reads 0 (entry_members m n (entry.Payment p) left) all refl)
+entry-reads m n (entry.Fee f) left =
+    let all : AllRead 0 (entry_members m n (entry.Fee f) left) = search (rules, string-reads) in
+    read-compact_text 1 _ (omega arith) (object-reads 0 (entry_members m n (entry.Fee f) left) all refl)
+entry-reads m n (entry.Claim c) left =
+    let all : AllRead 0 (entry_members m n (entry.Claim c) left) = search (rules, string-reads, or_null-reads, claim_left-reads) in
+    read-compact_text 1 _ (omega arith) (object-reads 0 (entry_members m n (entry.Claim c) left) all refl)
+
+pub import-reads : ImportReadsBack
+import-reads applied exceptions repeated statement unreadable a e r u =
+    let members = import_members applied exceptions repeated statement unreadable in
+    let all : AllRead 0 members = search (rules, string-reads, count-reads, or_null-reads) in
+    read-compact_text 1 _ (omega arith) (object-reads 0 members all refl)
+
+-- whose it is
+holder-reads : (n : ℕ) (o : Holder) → Reads n (holder_value o)
+holder-reads n (holder.Client c) = search (rules, string-reads)
+holder-reads n (holder.Purged day) = search rules
+
+pub purge-reads : PurgeReadsBack
+purge-reads m rows =
+    let members = purge_members m (purged_on rows.head) in
+    let all : AllRead 0 members = search (rules, string-reads, or_null-reads) in
+    read-compact_text 1 _ (omega arith) (object-reads 0 members all refl)
+
+pub matter-reads : MatterReadsBack
+matter-reads m rows few =
+    let members = matter_members m rows.head rows.seats (length rows.entries) (sums_of rows.entries) in
+    let seats : Reads 2 (array_of (map seat_object rows.seats)) = array-reads 1 (map seat_object rows.seats) (seats-read rows.seats) in
+    let all : AllRead 2 members = search (rules, string-reads, holder-reads, count-reads, or_null-reads) in
+    read-compact_text 3 _ (omega arith) (object-reads 2 members all refl)

@@ -1,0 +1,4 @@
+pub mod TextFacts
+pub mod ObjectFacts
+pub mod ReadBack
+pub mod BodiesRead

@@ -1,0 +1,36 @@
+-- Persons, labels and references are UTF-8.
+use Rattle.std.proofs.Common.{◌≡◌, ℕ, zero, suc, List, [], ◌∷◌, Bool, true, ◌<◌, rules, arith}
+use Rattle.std.specs.Str.{IsUtf8, IsAscii, is_utf8}
+use Rattle.std.specs.List.{list_all}
+use Rattle.std.proofs.lemmas.Bool.{and_parts}
+use Rattle.std.proofs.lemmas.Bool.Decides.{nat_tests}
+use Rattle.std.proofs.lemmas.Str.{IsUtf8-from_is_utf8, IsUtf8-from_ascii}
+use Rattle.trust_base.specs.Names.{IsLabel, IsPerson, is_label_text, is_person_text, is_person_byte}
+use Rattle.trust_base.specs.BankTexts.{IsBankText, is_bank_text, is_printed_byte}
+
+IsAscii-list_all : (p : ℕ → Bool) → ((b : ℕ) → p b ≡ true → b < 128) → (bs : List ℕ) → list_all p bs ≡ true → IsAscii bs
+IsAscii-list_all p low [] h i = search rules
+IsAscii-list_all p low (b ∷ bs) h zero = low b (and_parts (p b) (list_all p bs) h).0
+IsAscii-list_all p low (b ∷ bs) h (suc i) = IsAscii-list_all p low bs (and_parts (p b) (list_all p bs) h).1 i
+
+low-person : (b : ℕ) → is_person_byte b ≡ true → b < 128
+low-person b h = grind (arith, nat_tests)
+
+low-printed : (b : ℕ) → is_printed_byte b ≡ true → b < 128
+low-printed b h = grind (arith, nat_tests)
+
+pub IsUtf8-label : (bs : List ℕ) → IsLabel bs → IsUtf8 bs
+unfolding is_label_text
+IsUtf8-label bs h = let text : is_utf8 bs ≡ true = grind arith in IsUtf8-from_is_utf8 bs text
+
+pub IsUtf8-person : (bs : List ℕ) → IsPerson bs → IsUtf8 bs
+unfolding is_person_text
+IsUtf8-person bs h =
+    let bytes : list_all is_person_byte bs ≡ true = grind arith in
+    IsUtf8-from_ascii bs (IsAscii-list_all is_person_byte low-person bs bytes)
+
+pub IsUtf8-bank_text : (bs : List ℕ) → IsBankText bs → IsUtf8 bs
+unfolding is_bank_text
+IsUtf8-bank_text bs h =
+    let bytes : list_all is_printed_byte bs ≡ true = grind arith in
+    IsUtf8-from_ascii bs (IsAscii-list_all is_printed_byte low-printed bs bytes)

@@ -1,0 +1,27 @@
+-- The laws of the bodies: what serde_json reads of a body is the object that it is the text of.
+use Rattle.std.specs.Prelude.{◌≡◌, ◌<◌, ◌^◌, ℕ, ℤ, length, Option, Some}
+use Rattle.serde_json.specs.Read.{read}
+use Rattle.matter_rows.specs.declared.entry.Entry.{Entry}
+use Rattle.matter_rows.specs.Rows.{Rows}
+use Rattle.matter_bodies.specs.Bodies.{matter_body, matter_object, purge_body, purge_object, receipt_body, receipt_object, entry_body, entry_object, import_body, import_object}
+
+abbrev pub MatterReadsBack : Type 0
+MatterReadsBack =
+    (m : ℕ) (rows : Rows) → length rows.entries < 2 ^ 64
+    → read (matter_body m rows) ≡ Some (matter_object m rows)
+
+abbrev pub PurgeReadsBack : Type 0
+PurgeReadsBack = (m : ℕ) (rows : Rows) → read (purge_body m rows) ≡ Some (purge_object m rows)
+
+abbrev pub ReceiptReadsBack : Type 0
+ReceiptReadsBack = (m n : ℕ) (e : Entry) → read (receipt_body m n e) ≡ Some (receipt_object m n e)
+
+abbrev pub EntryReadsBack : Type 0
+EntryReadsBack = (m n : ℕ) (e : Entry) (left : ℤ) → read (entry_body m n e left) ≡ Some (entry_object m n e left)
+
+abbrev pub ImportReadsBack : Type 0
+ImportReadsBack =
+    (applied exceptions repeated : ℕ) (statement : Option ℕ) (unreadable : ℕ) → applied < 2 ^ 64 → exceptions < 2 ^ 64
+    → repeated < 2 ^ 64 → unreadable < 2 ^ 64
+    → read (import_body applied exceptions repeated statement unreadable)
+    ≡ Some (import_object applied exceptions repeated statement unreadable)

@@ -1,0 +1,4 @@
+pub mod Json
+pub mod Values
+pub mod Bodies
+pub mod BodyLaws

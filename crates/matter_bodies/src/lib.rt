@@ -1,0 +1,11 @@
+//! The JSON bodies of answers: of a matter, of an entry as it was made and as it is, and of an import.
+#![tactic(auto)]
+
+mod bodies;
+mod entries;
+mod json_text;
+pub mod laws;
+mod receipts;
+mod texts;
+
+pub use bodies::{ImportReply, entry_body, import_body, matter_body, purge_body, receipt_body};

@@ -1,0 +1,2 @@
+pub mod SoundExamples
+pub mod LastNumber

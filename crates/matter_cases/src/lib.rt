@@ -1,0 +1,4 @@
+//! Worked cases over the definitions of a matter.
+#![tactic(auto)]
+
+pub mod cases;

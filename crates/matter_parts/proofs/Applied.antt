@@ -1,0 +1,358 @@
+-- What is kept after a change is a part of the rows after it.
+use Rattle.std.proofs.Common.{◌≡◌, ◌≢◌, ℕ, ◌+◌, ◌||◌, ltb, Bool, true, false, cond, List, [], ◌∷◌, ◌++◌, length, refl, ap, sym, ◌∙◌, arith, subst, Option, Some, None, eqb, is_some, pos, Result, Ok, Err, OnOk}
+use Rattle.std.proofs.lemmas.Int.{ints}
+use Rattle.std.proofs.lemmas.List.{length_push}
+use Rattle.std.proofs.lemmas.Bool.Decides.{nat_tests}
+use Rattle.matter_rows.specs.declared.entry.Entry.{Entry}
+use Rattle.matter_rows.specs.declared.entry.Entry.TheVariants as entry
+use Rattle.matter_rows.specs.declared.head.Head.{Head}
+use Rattle.matter_rows.specs.declared.seat.Seat.{Seat}
+use Rattle.matter_rows.specs.Balances.{left_of}
+use Rattle.matter_rows.specs.Rows.{seen_on, closed_head, cleared_head, entry_at, with_entry, Rows, as_made, role_in, seats_with, seats_without}
+use Rattle.matter_rows.specs.Shares.{target}
+use Rattle.matter_rows.specs.Sound.{Sound, AreInOrder, IsHeaded}
+use Rattle.matter_rows.proofs.Entries.{entry_at-append, entry_at-with, within, length-with}
+use Rattle.matter_rows.proofs.Keeping.{draw-apart, left-append, left-with}
+use Rattle.matter_parts.specs.declared.edit.Numbered.{Numbered}
+use Rattle.matter_parts.specs.declared.edit.Opening.{Opening}
+use Rattle.matter_parts.specs.declared.edit.Edit.{Edit}
+use Rattle.matter_parts.specs.declared.edit.Edit.TheVariants as edit
+use Rattle.matter_parts.specs.declared.figures.Figures.{Figures}
+use Rattle.matter_parts.specs.declared.kept.Kept.{Kept}
+use Rattle.matter_parts.specs.declared.change.Left.{Left}
+use Rattle.matter_parts.specs.declared.change.TotalsAfter.{TotalsAfter}
+use Rattle.matter_parts.specs.Applied.{IsWritten, kept_as, kept_with, other_written}
+use Rattle.matter_parts.specs.Changes.{changed, changed_by, MatterChange, edited, head_after, seats_after, IsOther, AreLeft, AreLefts, IsPlace, IsExchange, IsChange}
+use Rattle.matter_parts.specs.Parts.{Part, no_figures, is_held, kept_in, AreFigures, IsPart, IsEntryOf, AreKept, HoldsOn, IsWhole, entries_kept, AreNumbered}
+use Rattle.matter_parts.proofs.AllKept.{entries-end, numbered-end, entries-at, numbered-at, entries-other, numbered-other, length-kept}
+use Rattle.matter_parts.proofs.Keepers.{put_in, with_left, other_relieved, kept-with, kept-other}
+use Rattle.matter_parts.proofs.Moved.{figures-none}
+
+abbrev no-one : Option Kept
+no-one = None
+
+abbrev some : Kept → Option Kept
+some k = Some k
+
+-- a kept entry is that of the rows, and so is what is left of it, unless it is number t
+record IsNearly (fs : List Entry) (t n : ℕ) (k : Kept) : Type 0 where
+  there : entry_at fs n ≡ Some k.entry
+  left : t ≢ n → pos k.left ≡ left_of fs n k.entry
+
+-- what was kept of another entry
+stays-append : (es : List Entry) (x : Entry) (n : ℕ) (k : Kept) → n ≢ length es + 1 → IsEntryOf es n k → IsNearly (es ++ x ∷ []) (target x) n k
+stays-append es x n k elsewhere is =
+    let other : eqb n (length es + 1) ≡ false = grind (arith, nat_tests) in
+    record {
+      there = rw (entry_at-append es x n) (rw other is.there);
+      left = λ apart. omega (arith, ints, is.left, left-append es x n k.entry, draw-apart n x apart);
+    }
+
+stays-with : (es : List Entry) (at : ℕ) (old x : Entry) (n : ℕ) (k : Kept) → entry_at es at ≡ Some old → target old ≡ target x → n ≢ at → IsEntryOf es n k → IsNearly (with_entry es at x) (target x) n k
+stays-with es at old x n k here same elsewhere is =
+    let other : eqb n at ≡ false = grind (arith, nat_tests) in
+    record {
+      there = rw (entry_at-with es at old x n here) (rw other is.there);
+      left = λ apart. omega (arith, ints, is.left, left-with es at old x n k.entry here, draw-apart n x apart, draw-apart n old (λ q. apart (sym same ∙ q)));
+    }
+
+put-append : (ks : List Kept) (es : List Entry) (x : Numbered) (v : TotalsAfter) → AreKept ks es → x.number ≡ length es + 1 → pos v.left ≡ left_of (es ++ x.entry ∷ []) x.number x.entry → (n : ℕ) (k : Kept) → put_in ks (kept_as x v) n ≡ Some k → IsNearly (es ++ x.entry ∷ []) (target x.entry) n k
+put-append ks es x v kept place own n k h =
+    elim (eqb x.number n) as (λ b. eqb x.number n ≡ b → cond b (Some (kept_as x v)) (kept_in ks n) ≡ Some k → IsNearly (es ++ x.entry ∷ []) (target x.entry) n k) [
+      | true ↦ λ s g.
+          let same : x.number ≡ n = grind (arith, nat_tests) in
+          let end : eqb n (length es + 1) ≡ true = grind (arith, nat_tests) in
+          let is : kept_as x v ≡ k = cc in
+          let P : Kept → Type 0 = λ j. IsNearly (es ++ x.entry ∷ []) (target x.entry) n j in
+          let Q : ℕ → Type 0 = λ j. pos v.left ≡ left_of (es ++ x.entry ∷ []) j x.entry in
+          subst P is (record { there = rw (entry_at-append es x.entry n) (rw end refl); left = λ _. subst Q same own })
+      | false ↦ λ s g. stays-append es x.entry n k (λ q. let yes : eqb x.number n ≡ true = grind (arith, nat_tests) in cc) (kept n k g)
+    ] refl h
+
+put-with : (ks : List Kept) (es : List Entry) (old : Entry) (x : Numbered) (v : TotalsAfter) → AreKept ks es → entry_at es x.number ≡ Some old → target old ≡ target x.entry → pos v.left ≡ left_of (with_entry es x.number x.entry) x.number x.entry → (n : ℕ) (k : Kept) → put_in ks (kept_as x v) n ≡ Some k → IsNearly (with_entry es x.number x.entry) (target x.entry) n k
+put-with ks es old x v kept here same_target own n k h =
+    elim (eqb x.number n) as (λ b. eqb x.number n ≡ b → cond b (Some (kept_as x v)) (kept_in ks n) ≡ Some k → IsNearly (with_entry es x.number x.entry) (target x.entry) n k) [
+      | true ↦ λ s g.
+          let same : x.number ≡ n = grind (arith, nat_tests) in
+          let yes : eqb n x.number ≡ true = grind (arith, nat_tests) in
+          let is : kept_as x v ≡ k = cc in
+          let P : Kept → Type 0 = λ j. IsNearly (with_entry es x.number x.entry) (target x.entry) n j in
+          let Q : ℕ → Type 0 = λ j. pos v.left ≡ left_of (with_entry es x.number x.entry) j x.entry in
+          subst P is (record { there = rw (entry_at-with es x.number old x.entry n here) (rw yes refl); left = λ _. subst Q same own })
+      | false ↦ λ s g. stays-with es x.number old x.entry n k here same_target (λ q. let yes : eqb x.number n ≡ true = grind (arith, nat_tests) in cc) (kept n k g)
+    ] refl h
+
+-- with what is left of number t written, each is
+written : (fs : List Entry) (t : ℕ) (o : Option Left) (n : ℕ) (p : Option Kept) → ((k : Kept) → p ≡ Some k → IsNearly fs t n k) → IsOther fs t o → (k : Kept) → other_relieved o n p ≡ Some k → IsEntryOf fs n k
+written fs t None n p near none k h =
+    let is = near k h in
+    record { there = is.there; left = is.left (λ q. absurd (let w = (within fs n k.entry is.there).0 in omega (arith, w, none, q))) }
+written fs t (Some o) n None near other k h =
+    elim (eqb o.number n) as (λ b. cond b no-one no-one ≡ Some k → IsEntryOf fs n k) [ true ↦ λ g. cc | false ↦ λ g. cc ] h
+written fs t (Some o) n (Some j) near other k h =
+    let is = near j refl in
+    elim (eqb o.number n) as (λ b. eqb o.number n ≡ b → cond b (some (record j { left = o.left })) (some j) ≡ Some k → IsEntryOf fs n k) [
+      | true ↦ λ s g.
+          let same : record j { left = o.left } ≡ k = cc in
+          let here : t ≡ n = let q = other.0 in grind (arith, nat_tests) in
+          let P : Kept → Type 0 = λ w. IsEntryOf fs n w in
+          let Q : ℕ → Type 0 = λ w. entry_at fs w ≡ Some j.entry → pos o.left ≡ left_of fs w j.entry in
+          subst P same (record { there = is.there; left = subst Q here (other.1 j.entry) is.there })
+      | false ↦ λ s g.
+          let same : j ≡ k = cc in
+          let P : Kept → Type 0 = λ w. IsEntryOf fs n w in
+          subst P same (record { there = is.there; left = is.left (λ q. let r = other.0 in let yes : eqb o.number n ≡ true = grind (arith, nat_tests) in cc) })
+    ] refl h
+
+-- What is kept is a part of the rows after the change.
+
+applied-kept : (m m' : Part) (x : Numbered) (v : TotalsAfter) (day : ℕ) → IsWritten m x v day m' → (n : ℕ) → kept_in m'.kept n ≡ other_relieved v.other n (put_in m.kept (kept_as x v) n)
+applied-kept m m' x v day a n =
+    ap (λ ks. kept_in ks n) a.kept ∙ kept-other (kept_with m.kept (kept_as x v)) v.other n ∙ ap (other_relieved v.other n) (kept-with m.kept (kept_as x v) n)
+
+pub applied-append : (m m' : Part) (rows : Rows) (x : Numbered) (v : TotalsAfter) (day : ℕ) → IsPart m rows → x.number ≡ length rows.entries + 1 → AreFigures v.figures (rows.entries ++ x.entry ∷ []) → AreLeft (rows.entries ++ x.entry ∷ []) x v → IsWritten m x v day m' → IsPart m' (changed_by (edit.Append x) day rows)
+applied-append m m' rows x v day p place figures lefts a = record {
+  head = a.head ∙ ap (λ h. seen_on h day) p.head;
+  seats = a.seats ∙ p.seats;
+  figures = let P : Figures → Type 0 = λ f. AreFigures f (rows.entries ++ x.entry ∷ []) in subst P (sym a.figures) figures;
+  kept = λ n k h. written (rows.entries ++ x.entry ∷ []) (target x.entry) v.other n (put_in m.kept (kept_as x v) n)
+      (put-append m.kept rows.entries x v p.kept place lefts.0 n) lefts.1 k (sym (applied-kept m m' x v day a n) ∙ h);
+}
+
+-- an entry names what it named when it was made
+target-made : (e : Entry) → target (as_made e) ≡ target e
+target-made (entry.Deposit d) = refl
+target-made (entry.Payment p) = refl
+target-made (entry.Fee f) = refl
+target-made (entry.Claim c) = refl
+
+pub applied-exchange : (m m' : Part) (rows : Rows) (x : Numbered) (old : Entry) (v : TotalsAfter) (day : ℕ) → IsPart m rows → IsExchange rows.entries x old → AreFigures v.figures (with_entry rows.entries x.number x.entry) → AreLeft (with_entry rows.entries x.number x.entry) x v → IsWritten m x v day m' → IsPart m' (changed_by (edit.Exchange x) day rows)
+applied-exchange m m' rows x old v day p place figures lefts a =
+    let same : target old ≡ target x.entry = sym (target-made old) ∙ ap target (sym place.same) ∙ target-made x.entry in
+    record {
+      head = a.head ∙ ap (λ h. seen_on h day) p.head;
+      seats = a.seats ∙ p.seats;
+      figures = let P : Figures → Type 0 = λ f. AreFigures f (with_entry rows.entries x.number x.entry) in subst P (sym a.figures) figures;
+      kept = λ n k h. written (with_entry rows.entries x.number x.entry) (target x.entry) v.other n (put_in m.kept (kept_as x v) n)
+          (put-with m.kept rows.entries old x v p.kept place.there same lefts.0 n) lefts.1 k (sym (applied-kept m m' x v day a n) ∙ h);
+    }
+
+-- What was held is held.
+
+stays-kept : (o : Option Left) (n : ℕ) (k : Option Kept) → is_some (other_relieved o n k) ≡ is_some k
+stays-kept None n k = refl
+stays-kept (Some o) n None = elim (eqb o.number n) as (λ b. is_some (cond b (with_left None o.left) None) ≡ false) [ true ↦ refl | false ↦ refl ]
+stays-kept (Some o) n (Some k) = elim (eqb o.number n) as (λ b. is_some (cond b (some (record k { left = o.left })) (some k)) ≡ true) [ true ↦ refl | false ↦ refl ]
+
+applied-held : (m m' : Part) (x : Numbered) (v : TotalsAfter) (day : ℕ) → IsWritten m x v day m' → ((n : ℕ) → n ≢ x.number → ltb m.figures.entries n ≡ true → ltb m'.figures.entries n ≡ true) → HoldsOn m m'
+applied-held m m' x v day a past n h =
+    let now : is_some (kept_in m'.kept n) ≡ is_some (put_in m.kept (kept_as x v) n) = ap is_some (applied-kept m m' x v day a n) ∙ stays-kept v.other n (put_in m.kept (kept_as x v) n) in
+    rw now (elim (eqb x.number n) as (λ b. eqb x.number n ≡ b → (is_some (cond b (some (kept_as x v)) (kept_in m.kept n)) || ltb m'.figures.entries n) ≡ true) [
+      | true ↦ λ s. refl
+      | false ↦ λ s. held-or (is_some (kept_in m.kept n)) (ltb m.figures.entries n) (ltb m'.figures.entries n) (past n (grind (arith, nat_tests))) h
+    ] refl)
+  where
+    held-or : (a b c : Bool) → (b ≡ true → c ≡ true) → (a || b) ≡ true → (a || c) ≡ true
+    held-or true b c f h = refl
+    held-or false b c f h = f h
+
+pub held-append : (m m' : Part) (rows : Rows) (x : Numbered) (v : TotalsAfter) (day : ℕ) → IsPart m rows → x.number ≡ length rows.entries + 1 → AreFigures v.figures (rows.entries ++ x.entry ∷ []) → IsWritten m x v day m' → HoldsOn m m'
+held-append m m' rows x v day p place figures a =
+    let was : m.figures.entries ≡ length rows.entries = p.figures.entries in
+    let now : m'.figures.entries ≡ length rows.entries + 1 = ap (λ f. f.entries) a.figures ∙ figures.entries ∙ length_push rows.entries x.entry in
+    applied-held m m' x v day a (λ n apart h. grind (arith, nat_tests))
+
+pub held-exchange : (m m' : Part) (rows : Rows) (x : Numbered) (v : TotalsAfter) (day : ℕ) → IsPart m rows → AreFigures v.figures (with_entry rows.entries x.number x.entry) → IsWritten m x v day m' → HoldsOn m m'
+held-exchange m m' rows x v day p figures a =
+    let same : m'.figures.entries ≡ m.figures.entries = ap (λ f. f.entries) a.figures ∙ figures.entries ∙ length-with rows.entries x.number x.entry ∙ sym p.figures.entries in
+    applied-held m m' x v day a (λ n apart h. rw same h)
+
+-- What was whole is whole.
+
+whole-append : (m m' : Part) (rows : Rows) (x : Numbered) (v : TotalsAfter) (day : ℕ) → IsWhole m rows → x.number ≡ length rows.entries + 1 → IsWritten m x v day m' → (entries_kept m'.kept ≡ rows.entries ++ x.entry ∷ []) × AreNumbered 1 m'.kept
+whole-append m m' rows x v day whole place a =
+    let len = length-kept m.kept rows.entries whole.entries in
+    let next : x.number ≡ 1 + length m.kept = omega (arith, len, place) in
+    let ks = kept_with m.kept (kept_as x v) in
+    let numbered : AreNumbered 1 (other_written ks v.other) = numbered-other 1 ks v.other (numbered-end 1 m.kept (kept_as x v) whole.numbered next) in
+    let P : List Kept → Type 0 = λ l. AreNumbered 1 l in
+    (ap entries_kept a.kept ∙ entries-other ks v.other ∙ entries-end 1 m.kept (kept_as x v) whole.numbered next ∙ ap (λ es. es ++ x.entry ∷ []) whole.entries, subst P (sym a.kept) numbered)
+
+whole-exchange : (m m' : Part) (rows : Rows) (x : Numbered) (old : Entry) (v : TotalsAfter) (day : ℕ) → IsWhole m rows → entry_at rows.entries x.number ≡ Some old → IsWritten m x v day m' → (entries_kept m'.kept ≡ with_entry rows.entries x.number x.entry) × AreNumbered 1 m'.kept
+whole-exchange m m' rows x old v day whole there a =
+    let here : entry_at (entries_kept m.kept) x.number ≡ Some old = ap (λ es. entry_at es x.number) whole.entries ∙ there in
+    let ks = kept_with m.kept (kept_as x v) in
+    let numbered : AreNumbered 1 (other_written ks v.other) = numbered-other 1 ks v.other (numbered-at 1 x.number m.kept old (kept_as x v) whole.numbered here (omega arith)) in
+    let P : List Kept → Type 0 = λ l. AreNumbered 1 l in
+    (ap entries_kept a.kept ∙ entries-other ks v.other ∙ entries-at 1 x.number m.kept old (kept_as x v) whole.numbered here (omega arith) ∙ ap (λ es. with_entry es x.number x.entry) whole.entries, subst P (sym a.kept) numbered)
+
+-- The matter after each edit.
+
+-- the matter is what the change makes of it: a part stays a part, what was held is held, a whole matter stays whole
+pub record IsAfter (m : Part) (c : MatterChange) (m' : Part) : Type 0 where
+  pub part : (rows : Rows) → Sound rows → IsPart m rows → IsChange rows c → IsPart m' (changed c rows)
+  pub held : (rows : Rows) → Sound rows → IsPart m rows → IsChange rows c → HoldsOn m m'
+  pub whole : (rows : Rows) → Sound rows → IsWhole m rows → IsChange rows c → IsWhole m' (changed c rows)
+
+as-told : (m m' : Part) (x : Numbered) (v w : TotalsAfter) (day last : ℕ) → v ≡ w → day ≡ last → IsWritten m x v day m' → IsWritten m x w last m'
+as-told m m' x v w day last moves on a =
+    let P : TotalsAfter → Type 0 = λ u. IsWritten m x u day m' in
+    let Q : ℕ → Type 0 = λ d. IsWritten m x w d m' in
+    subst Q on (subst P moves a)
+
+pub after-append : (m m' : Part) (c : MatterChange) (x : Numbered) (v : TotalsAfter) (day : ℕ) → c.edit ≡ edit.Append x → v ≡ c.moves → day ≡ c.last → IsWritten m x v day m' → IsAfter m c m'
+after-append m m' c x v day is moves on told =
+    let a : IsWritten m x c.moves c.last m' = as-told m m' x v c.moves day c.last moves on told in
+    let place : (rows : Rows) → IsChange rows c → x.number ≡ length rows.entries + 1 = λ rows ch. let P : Edit → Type 0 = λ e. IsPlace rows e in (subst P is ch.place).1 in
+    let figures : (rows : Rows) → IsChange rows c → AreFigures c.moves.figures (rows.entries ++ x.entry ∷ []) = λ rows ch. let P : Edit → Type 0 = λ e. AreFigures c.moves.figures (edited rows.entries e) in subst P is ch.figures in
+    let lefts : (rows : Rows) → IsChange rows c → AreLeft (rows.entries ++ x.entry ∷ []) x c.moves = λ rows ch. let P : Edit → Type 0 = λ e. AreLefts (edited rows.entries e) e c.moves in subst P is ch.lefts in
+    let part : (rows : Rows) → IsPart m rows → IsChange rows c → IsPart m' (changed_by c.edit c.last rows) = λ rows p ch.
+    let Q : Edit → Type 0 = λ e. IsPart m' (changed_by e c.last rows) in
+    subst Q (sym is) (applied-append m m' rows x c.moves c.last p (place rows ch) (figures rows ch) (lefts rows ch) a) in
+    record {
+      part = λ rows s p ch. part rows p ch;
+      held = λ rows s p ch. held-append m m' rows x c.moves c.last p (place rows ch) (figures rows ch) a;
+      whole = λ rows s w ch.
+          let kept = whole-append m m' rows x c.moves c.last w (place rows ch) a in
+          record { part = part rows w.part ch; entries = kept.0 ∙ ap (edited rows.entries) (sym is); numbered = kept.1 };
+    }
+
+pub after-exchange : (m m' : Part) (c : MatterChange) (x : Numbered) (v : TotalsAfter) (day : ℕ) → c.edit ≡ edit.Exchange x → v ≡ c.moves → day ≡ c.last → IsWritten m x v day m' → IsAfter m c m'
+after-exchange m m' c x v day is moves on told =
+    let a : IsWritten m x c.moves c.last m' = as-told m m' x v c.moves day c.last moves on told in
+    let place : (rows : Rows) → IsChange rows c → (old : Entry) × IsExchange rows.entries x old = λ rows ch. let P : Edit → Type 0 = λ e. IsPlace rows e in (subst P is ch.place).1 in
+    let figures : (rows : Rows) → IsChange rows c → AreFigures c.moves.figures (with_entry rows.entries x.number x.entry) = λ rows ch. let P : Edit → Type 0 = λ e. AreFigures c.moves.figures (edited rows.entries e) in subst P is ch.figures in
+    let lefts : (rows : Rows) → IsChange rows c → AreLeft (with_entry rows.entries x.number x.entry) x c.moves = λ rows ch. let P : Edit → Type 0 = λ e. AreLefts (edited rows.entries e) e c.moves in subst P is ch.lefts in
+    let part : (rows : Rows) → IsPart m rows → IsChange rows c → IsPart m' (changed_by c.edit c.last rows) = λ rows p ch.
+    let Q : Edit → Type 0 = λ e. IsPart m' (changed_by e c.last rows) in
+    subst Q (sym is) (applied-exchange m m' rows x (place rows ch).0 c.moves c.last p (place rows ch).1 (figures rows ch) (lefts rows ch) a) in
+    record {
+      part = λ rows s p ch. part rows p ch;
+      held = λ rows s p ch. held-exchange m m' rows x c.moves c.last p (figures rows ch) a;
+      whole = λ rows s w ch.
+          let kept = whole-exchange m m' rows x (place rows ch).0 c.moves c.last w (place rows ch).1.there a in
+          record { part = part rows w.part ch; entries = kept.0 ∙ ap (edited rows.entries) (sym is); numbered = kept.1 };
+    }
+
+-- a change of the head and the seats alone
+record IsSeated (m : Part) (e : Edit) (day : ℕ) (m' : Part) : Type 0 where
+  kept : (rows : Rows) → edited rows.entries e ≡ rows.entries
+  figures : m'.figures ≡ m.figures
+  same : m'.kept ≡ m.kept
+  parts : (rows : Rows) → Sound rows → IsPart m rows → IsPlace rows e → (m'.head ≡ head_after rows.head e day) × (m'.seats ≡ seats_after rows.seats e)
+
+after-seated : (m m' : Part) (c : MatterChange) → IsSeated m c.edit c.last m' → IsAfter m c m'
+after-seated m m' c is =
+    let part : (rows : Rows) → Sound rows → IsPart m rows → IsChange rows c → IsPart m' (changed_by c.edit c.last rows) = λ rows s p ch.
+    let ends = is.parts rows s p ch.place in
+    let P : Figures → Type 0 = λ f. AreFigures f rows.entries in
+    let Q : List Kept → Type 0 = λ ks. AreKept ks rows.entries in
+    let F : List Entry → Type 0 = λ es. AreFigures m'.figures es in
+    let K : List Entry → Type 0 = λ es. AreKept m'.kept es in
+    record {
+      head = ends.0;
+      seats = ends.1;
+      figures = subst F (sym (is.kept rows)) (subst P (sym is.figures) p.figures);
+      kept = subst K (sym (is.kept rows)) (subst Q (sym is.same) p.kept);
+    } in
+    record {
+      part = part;
+      held = λ rows s p ch n h. rw (is.same, is.figures) h;
+      whole = λ rows s w ch.
+          let N : List Kept → Type 0 = λ ks. AreNumbered 1 ks in
+          record { part = part rows s w.part ch; entries = ap entries_kept is.same ∙ w.entries ∙ sym (is.kept rows); numbered = subst N (sym is.same) w.numbered };
+    }
+
+pub after-nothing : (m : Part) (c : MatterChange) → c.edit ≡ edit.Nothing → IsAfter m c m
+after-nothing m c is = after-seated m m c (let P : Edit → Type 0 = λ e. IsSeated m e c.last m in subst P (sym is) (record { kept = λ rows. refl; figures = refl; same = refl; parts = λ rows s p place. (p.head, p.seats) }))
+
+no-seats : (h : Option Head) (seats : List Seat) (es : List Entry) → h ≡ None → IsHeaded h seats es → seats ≡ []
+no-seats None seats es none headed = headed.0
+no-seats (Some h) seats es none headed = cc
+
+pub after-open : (m m' : Part) (c : MatterChange) (o : Opening) → c.edit ≡ edit.Open o → m' ≡ record m { head = Some o.head; seats = m.seats ++ o.seat ∷ [] } → IsAfter m c m'
+after-open m m' c o is made = after-seated m m' c
+    (let P : Edit → Type 0 = λ e. IsSeated m e c.last m' in
+    subst P (sym is) (record {
+      kept = λ rows. refl;
+      figures = ap (λ p. p.figures) made;
+      same = ap (λ p. p.kept) made;
+      parts = λ rows s p place. (ap (λ p. p.head) made, ap (λ p. p.seats) made ∙ ap (λ l. l ++ o.seat ∷ []) (p.seats ∙ no-seats rows.head rows.seats rows.entries place s.headed));
+    }))
+
+pub after-seat : (m m' : Part) (c : MatterChange) (seat : Seat) (day : ℕ) → c.edit ≡ edit.Seat seat → day ≡ c.last → m' ≡ record m { head = seen_on m.head day; seats = m'.seats } → (AreInOrder m.seats → role_in m.seats seat.person ≡ None → m'.seats ≡ seats_with m.seats seat) → IsAfter m c m'
+after-seat m m' c seat day is on made seats = after-seated m m' c
+    (let P : Edit → Type 0 = λ e. IsSeated m e c.last m' in
+    subst P (sym is) (record {
+      kept = λ rows. refl;
+      figures = ap (λ p. p.figures) made;
+      same = ap (λ p. p.kept) made;
+      parts = λ rows s p place.
+          let O : List Seat → Type 0 = AreInOrder in
+          let R : List Seat → Type 0 = λ l. role_in l seat.person ≡ None in
+          let e = seats (subst O (sym p.seats) s.seated) (subst R (sym p.seats) place.1) in
+          (ap (λ p. p.head) made ∙ ap (λ h. seen_on h day) p.head ∙ ap (seen_on rows.head) on, e ∙ ap (λ l. seats_with l seat) p.seats);
+    }))
+
+pub after-unseat : (m m' : Part) (c : MatterChange) (person : List ℕ) (day : ℕ) → c.edit ≡ edit.Unseat person → day ≡ c.last → m' ≡ record m { head = seen_on m.head day; seats = seats_without m.seats person } → IsAfter m c m'
+after-unseat m m' c person day is on made = after-seated m m' c
+    (let P : Edit → Type 0 = λ e. IsSeated m e c.last m' in
+    subst P (sym is) (record {
+      kept = λ rows. refl;
+      figures = ap (λ p. p.figures) made;
+      same = ap (λ p. p.kept) made;
+      parts = λ rows s p place. (ap (λ p. p.head) made ∙ ap (λ h. seen_on h day) p.head ∙ ap (seen_on rows.head) on, ap (λ p. p.seats) made ∙ ap (λ l. seats_without l person) p.seats);
+    }))
+
+pub after-close : (m m' : Part) (c : MatterChange) (on last : ℕ) → c.edit ≡ edit.Close on → last ≡ c.last → m' ≡ record m { head = closed_head m.head on last } → IsAfter m c m'
+after-close m m' c on last is seen made = after-seated m m' c
+    (let P : Edit → Type 0 = λ e. IsSeated m e c.last m' in
+    subst P (sym is) (record {
+      kept = λ rows. refl;
+      figures = ap (λ p. p.figures) made;
+      same = ap (λ p. p.kept) made;
+      parts = λ rows s p place. (ap (λ p. p.head) made ∙ ap (λ h. closed_head h on last) p.head ∙ ap (closed_head rows.head on) seen, ap (λ p. p.seats) made ∙ p.seats);
+    }))
+
+held-none : (m : Part) (rows : Rows) (n : ℕ) → IsPart m rows → is_held m n ≡ true → ltb 0 n ≡ true
+held-none m rows n p h = cases (kept_in m.kept n) refl h
+  where
+    cases : (o : Option Kept) → kept_in m.kept n ≡ o → (is_some o || ltb m.figures.entries n) ≡ true → ltb 0 n ≡ true
+    cases None at h = grind (arith, nat_tests)
+    cases (Some k) at h = let w = (within rows.entries n k.entry (p.kept n k at).there).0 in grind (arith, nat_tests)
+
+-- nothing is kept but the head
+abbrev cleared_part : Part → ℕ → ℕ → Part
+cleared_part m on last = record { head = cleared_head m.head on last; seats = []; figures = no_figures; kept = [] }
+
+pub after-clear : (m m' : Part) (c : MatterChange) (on last : ℕ) → c.edit ≡ edit.Clear on → last ≡ c.last → m' ≡ cleared_part m on last → IsAfter m c m'
+after-clear m m' c on last is seen made =
+    let Q : (rows : Rows) → Edit → Type 0 = λ rows e. IsPart m' (changed_by e c.last rows) in
+    let W : (rows : Rows) → Edit → Type 0 = λ rows e. IsWhole m' (changed_by e c.last rows) in
+    let part : (rows : Rows) → IsPart m rows → IsPart m' (changed_by (edit.Clear on) c.last rows) = λ rows p.
+    let R : Part → Type 0 = λ x. IsPart x (changed_by (edit.Clear on) c.last rows) in
+    subst R (sym made) (record {
+      head = ap (λ h. cleared_head h on last) p.head ∙ ap (cleared_head rows.head on) seen;
+      seats = refl;
+      figures = figures-none;
+      kept = λ n k there. absurd (cc);
+    }) in
+    record {
+      part = λ rows s p ch. subst (Q rows) (sym is) (part rows p);
+      held = λ rows s p ch n h.
+          let H : Part → Type 0 = λ x. is_held x n ≡ true in
+          subst H (sym made) (held-none m rows n p h);
+      whole = λ rows s w ch. subst (W rows) (sym is) (record {
+        part = part rows w.part;
+        entries = ap (λ (x : Part). entries_kept x.kept) made;
+        numbered = let N : Part → Type 0 = λ x. AreNumbered 1 x.kept in subst N (sym made) tt;
+      });
+    }
+
+pub ok-map : {X E : Type 0} (A B : Type 0) (r : Result X E) → OnOk r A → (A → B) → OnOk r B
+ok-map A B (Ok x) h f = f h
+ok-map A B (Err e) h f = tt
+
+pub ok-both : {X E : Type 0} (A B D : Type 0) (r : Result X E) → OnOk r A → OnOk r B → (A → B → D) → OnOk r D
+ok-both A B D (Ok x) h g f = f h g
+ok-both A B D (Err e) h g f = tt

@@ -1,0 +1,84 @@
+-- Edits of backed entries that leave them backed.
+use Rattle.std.proofs.Common.{◌≡◌, ℕ, ◌+◌, ◌<◌, true, false, cond, List, [], length, refl, arith, rules, subst, Some, eqb, ◌⊎◌, pos, ◌+ℤ◌, ◌-ℤ◌, ◌≤ℤ◌}
+use Rattle.std.proofs.lemmas.Int.{ints}
+use Rattle.std.proofs.lemmas.Bool.Decides.{nat_tests}
+use Rattle.trust_values.specs.Limits.{IsAmount}
+use Rattle.matter_rows.specs.declared.deposit.Deposit.{Deposit}
+use Rattle.matter_rows.specs.declared.deposit.DepositState.TheVariants as deposit
+use Rattle.matter_rows.specs.declared.entry.Entry.{Entry}
+use Rattle.matter_rows.specs.declared.entry.Entry.TheVariants as entry
+use Rattle.matter_rows.specs.Rows.{entry_at}
+use Rattle.matter_rows.specs.Shares.{draw, draw_on, target, worth, available_share}
+use Rattle.matter_rows.specs.Balances.{left_of, names}
+use Rattle.matter_rows.specs.Sound.{AreBacked}
+use Rattle.matter_rows.proofs.Keeping.{MayAdd, MayTake, sound-append, sound-with}
+use Rattle.matter_parts.specs.declared.edit.Edit.{Edit}
+use Rattle.matter_parts.specs.declared.edit.Edit.TheVariants as edit
+use Rattle.matter_parts.specs.Changes.{edited}
+
+pub left-drawn : (es : List Entry) (x : Entry) → ((e : Entry) → entry_at es (target x) ≡ Some e → pos 0 ≤ℤ (left_of es (target x) e -ℤ draw x)) → ((n : ℕ) (e : Entry) → entry_at es n ≡ Some e → pos 0 ≤ℤ left_of es n e) → (n : ℕ) (e : Entry) → entry_at es n ≡ Some e → pos 0 ≤ℤ (left_of es n e -ℤ draw_on n x)
+left-drawn es x enough lefts n e h =
+    elim (eqb (target x) n) as (λ b. eqb (target x) n ≡ b → pos 0 ≤ℤ (left_of es n e -ℤ cond b (draw x) (pos 0))) [
+      | true ↦ λ s. let same : target x ≡ n = grind (arith, nat_tests) in
+          let P : ℕ → Type 0 = λ k. entry_at es k ≡ Some e → pos 0 ≤ℤ (left_of es k e -ℤ draw x) in
+          subst P same (enough e) h
+      | false ↦ λ s. omega (arith, ints, lefts n e h)
+    ] refl
+
+pub left-moved : (es : List Entry) (old new : Entry) → target old ≡ target new → ((e : Entry) → entry_at es (target new) ≡ Some e → pos 0 ≤ℤ ((left_of es (target new) e +ℤ draw old) -ℤ draw new)) → ((n : ℕ) (e : Entry) → entry_at es n ≡ Some e → pos 0 ≤ℤ left_of es n e) → (n : ℕ) (e : Entry) → entry_at es n ≡ Some e → pos 0 ≤ℤ ((left_of es n e +ℤ draw_on n old) -ℤ draw_on n new)
+left-moved es old new t enough lefts n e h =
+    rw t (elim (eqb (target new) n) as (λ b. eqb (target new) n ≡ b → pos 0 ≤ℤ ((left_of es n e +ℤ cond b (draw old) (pos 0)) -ℤ cond b (draw new) (pos 0))) [
+      | true ↦ λ s. let same : target new ≡ n = grind (arith, nat_tests) in
+          let P : ℕ → Type 0 = λ k. entry_at es k ≡ Some e → pos 0 ≤ℤ ((left_of es k e +ℤ draw old) -ℤ draw new) in
+          subst P same (enough e) h
+      | false ↦ λ s. omega (arith, ints, lefts n e h)
+    ] refl)
+
+-- A deposit.
+
+pub deposit-may : (es : List Entry) (d : Deposit) → AreBacked es → d.state ≡ deposit.Held → length es < 9_999 → IsAmount d.amount → MayAdd es (entry.Deposit d)
+unfolding names draw worth available_share
+deposit-may es d s held room few = record {
+  room = room;
+  ranged = record { amount = few; part = tt };
+  named = refl;
+  available = rw held (let a = s.available in omega (arith, ints, a));
+  worth = omega (arith, ints);
+  left = left-drawn es (entry.Deposit d) (λ e h. let l = s.left 0 e h in omega (arith, ints, l)) s.left;
+}
+
+-- The edits.
+
+-- a new entry comes next, an exchanged one names what the old one named
+abbrev pub IsPlace : List Entry → Edit → Type 0
+IsPlace es (edit.Append x) = x.number ≡ length es + 1
+IsPlace es (edit.Exchange x) = (old : Entry) × (entry_at es x.number ≡ Some old) × (target old ≡ target x.entry)
+IsPlace es edit.Nothing = Unit {0}
+IsPlace es (edit.Open o) = Unit {0}
+IsPlace es (edit.Seat s) = Unit {0}
+IsPlace es (edit.Unseat p) = Unit {0}
+IsPlace es (edit.Close d) = Unit {0}
+IsPlace es (edit.Clear d) = Unit {0}
+
+abbrev pub MayEdit : List Entry → ℕ → ℕ → Edit → Type 0
+MayEdit es t n (edit.Append x) = (x.number ≡ length es + 1) × MayAdd es x.entry × ((target x.entry ≡ 0) ⊎ (target x.entry ≡ t))
+MayEdit es t n (edit.Exchange x) = (old : Entry) × MayTake es x.number old x.entry × ((target x.entry ≡ 0) ⊎ (target x.entry ≡ t)) × (x.number ≡ n)
+MayEdit es t n edit.Nothing = Unit {0}
+MayEdit es t n (edit.Open o) = Unit {0}
+MayEdit es t n (edit.Seat s) = Unit {0}
+MayEdit es t n (edit.Unseat p) = Unit {0}
+MayEdit es t n (edit.Close d) = Unit {0}
+MayEdit es t n (edit.Clear d) = Unit {0}
+
+pub backed-none : AreBacked []
+backed-none = record { few = omega arith; ranged = tt; named = tt; available = search rules; left = λ n e there. absurd (cc) }
+
+pub sound-edited : (es : List Entry) (t n : ℕ) (e : Edit) → AreBacked es → MayEdit es t n e → AreBacked (edited es e)
+sound-edited es t n edit.Nothing s m = s
+sound-edited es t n (edit.Open o) s m = s
+sound-edited es t n (edit.Seat x) s m = s
+sound-edited es t n (edit.Unseat p) s m = s
+sound-edited es t n (edit.Close d) s m = s
+sound-edited es t n (edit.Clear d) s m = backed-none
+sound-edited es t n (edit.Append x) s m = sound-append es x.entry s m.1
+sound-edited es t n (edit.Exchange x) s m = sound-with es x.number m.0 x.entry s m.1

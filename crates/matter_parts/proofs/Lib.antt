@@ -1,0 +1,16 @@
+pub mod AllKept
+pub mod Applied
+pub mod Collected
+pub mod MadeChange
+pub mod Naming
+pub mod NeverStore
+pub mod Editing
+pub mod Existence
+pub mod Moved
+pub mod FoundSmall
+pub mod Keepers
+pub mod Moving
+pub mod Parts
+pub mod WholeRows
+pub mod StepForms
+pub mod Telling

@@ -1,0 +1,87 @@
+-- Store is never answered for a part of backed rows.
+use Rattle.std.proofs.Common.{◌≡◌, ℕ, Bool, true, List, refl, sym, subst, Option, Some, None, ◌⊎◌, inl, inr, arith, length}
+use Rattle.std.proofs.lemmas.Int.{ints}
+use Rattle.matter_rows.specs.declared.entry.Entry.TheVariants as entry
+use Rattle.matter_rows.specs.declared.payment.Fund.{Fund}
+use Rattle.matter_rows.specs.declared.payment.Fund.TheVariants as fund
+use Rattle.matter_rows.specs.declared.claim.Against.{Against}
+use Rattle.matter_rows.specs.declared.claim.Against.TheVariants as against
+use Rattle.matter_rows.specs.declared.entry.Entry.{Entry}
+use Rattle.matter_rows.specs.Balances.{passes, names, funds, is_against, is_fee, is_settled}
+use Rattle.matter_rows.specs.Rows.{Rows, entry_at}
+use Rattle.matter_rows.specs.Shares.{target, fund_no, against_no}
+use Rattle.matter_rows.specs.Sound.{AreBacked}
+use Rattle.matter_rows.proofs.Store.{held-balance, pending-balance, disputed-balance, available-balance, fees-balance, claims-balance}
+use Rattle.matter_parts.specs.declared.edit.Edit.TheVariants as edit
+use Rattle.matter_parts.specs.declared.figures.Figures.{Figures}
+use Rattle.matter_parts.specs.declared.edit.Edit.{Edit}
+use Rattle.matter_parts.specs.declared.change.TotalsAfter.{TotalsAfter}
+use Rattle.matter_parts.specs.Changes.{AreSmallTotals}
+use Rattle.matter_parts.specs.TotalsAfter.{EditMoved}
+use Rattle.matter_parts.specs.Parts.{Part, no_figures, AreSmall, IsPart, AreFigures, is_held_or_none}
+use Rattle.matter_parts.proofs.Existence.{IsKeptOrNone, small-none, exist-append, exist-exchange, held-kept}
+use Rattle.matter_parts.proofs.Editing.{MayEdit}
+
+small-kept : (f : Figures) (es : List Entry) → AreFigures f es → AreBacked es → AreSmall f
+small-kept f es a s = record {
+  entries = let e = a.entries in let r = s.few in omega (arith, e, r);
+  pending = let b = pending-balance es s in omega (arith, ints, a.pending, b.is, b.small);
+  held = let b = held-balance es s in omega (arith, ints, a.held, b.is, b.small);
+  available = let b = available-balance es s in omega (arith, ints, a.available, b.is, b.small);
+  disputed = let b = disputed-balance es s in omega (arith, ints, a.disputed, b.is, b.small);
+  fees = let b = fees-balance es s in omega (arith, ints, a.fees, b.is, b.small);
+  claims = let b = claims-balance es s in omega (arith, ints, a.claims, b.is, b.small);
+}
+
+small-none-kept : AreSmall no_figures
+small-none-kept = record { entries = omega arith; pending = omega arith; held = omega arith; available = omega arith; disputed = omega arith; fees = omega arith; claims = omega arith }
+
+passes-some : (kind : Entry → Bool) (o : Option Entry) → passes kind o ≡ true → (e : Entry) × (o ≡ Some e)
+passes-some kind None h = cc
+passes-some kind (Some e) h = (e, refl)
+
+fund-there : (es : List Entry) (f : Fund) → funds es f ≡ true → (fund_no f ≡ 0) ⊎ ((e : Entry) × (entry_at es (fund_no f) ≡ Some e))
+fund-there es fund.General h = inl refl
+fund-there es (fund.Fee k) h = inr (passes-some is_fee (entry_at es k) h)
+fund-there es (fund.Claim k) h = inr (passes-some is_settled (entry_at es k) h)
+
+against-there : (es : List Entry) (f : Against) → is_against es f ≡ true → (against_no f ≡ 0) ⊎ ((e : Entry) × (entry_at es (against_no f) ≡ Some e))
+against-there es (against.General c) h = inl refl
+against-there es (against.Fee k) h = inr (passes-some is_fee (entry_at es k) h)
+
+target-there : (es : List Entry) (r : Entry) → names es r ≡ true → (target r ≡ 0) ⊎ ((e : Entry) × (entry_at es (target r) ≡ Some e))
+unfolding names
+target-there es (entry.Deposit d) h = inl refl
+target-there es (entry.Payment p) h = fund-there es p.fund h
+target-there es (entry.Fee f) h = inl refl
+target-there es (entry.Claim c) h = against-there es c.against h
+
+named-kept : (m : Part) (es : List Entry) (r : Entry) (t : ℕ) → m.figures.entries ≡ length es → names es r ≡ true → is_held_or_none m t ≡ true → (target r ≡ 0) ⊎ (target r ≡ t) → IsKeptOrNone m (target r)
+named-kept m es r t few named held (inl none) = inl none
+named-kept m es r t few named held (inr same) =
+    elim (target-there es r named) [
+      | inl none ↦ inl none
+      | inr there ↦ let P : ℕ → Type 0 = λ n. is_held_or_none m n ≡ true in inr (held-kept m es (target r) there.0 few there.1 (subst P (sym same) held))
+    ]
+
+pub never-store : (m : Part) (rows : Rows) (t n : ℕ) (e : Edit) → AreBacked rows.entries → IsPart m rows → MayEdit rows.entries t n e → is_held_or_none m t ≡ true → is_held_or_none m n ≡ true → ((v : TotalsAfter) → AreSmallTotals v → EditMoved m e v → ⊥) → ⊥
+never-store m rows t n edit.Nothing s p may ht hn no-move =
+    no-move (record { figures = m.figures; left = 0; other = None }) (record { figures = small-kept m.figures rows.entries p.figures s; left = omega arith; other = small-none }) (record { figures = refl; left = refl; other = refl })
+never-store m rows t n (edit.Open o) s p may ht hn no-move =
+    no-move (record { figures = m.figures; left = 0; other = None }) (record { figures = small-kept m.figures rows.entries p.figures s; left = omega arith; other = small-none }) (record { figures = refl; left = refl; other = refl })
+never-store m rows t n (edit.Seat x) s p may ht hn no-move =
+    no-move (record { figures = m.figures; left = 0; other = None }) (record { figures = small-kept m.figures rows.entries p.figures s; left = omega arith; other = small-none }) (record { figures = refl; left = refl; other = refl })
+never-store m rows t n (edit.Unseat q) s p may ht hn no-move =
+    no-move (record { figures = m.figures; left = 0; other = None }) (record { figures = small-kept m.figures rows.entries p.figures s; left = omega arith; other = small-none }) (record { figures = refl; left = refl; other = refl })
+never-store m rows t n (edit.Close d) s p may ht hn no-move =
+    no-move (record { figures = m.figures; left = 0; other = None }) (record { figures = small-kept m.figures rows.entries p.figures s; left = omega arith; other = small-none }) (record { figures = refl; left = refl; other = refl })
+never-store m rows t n (edit.Clear d) s p may ht hn no-move =
+    no-move (record { figures = no_figures; left = 0; other = None }) (record { figures = small-none-kept; left = omega arith; other = small-none }) (record { figures = refl; left = refl; other = refl })
+never-store m rows t n (edit.Append x) s p may ht hn no-move =
+    let v = exist-append m rows.entries x p.figures p.kept s may.0 may.1 (named-kept m rows.entries x.entry t p.figures.entries may.1.named ht may.2) in
+    no-move v.0 v.1 v.2
+never-store m rows t n (edit.Exchange x) s p may ht hn no-move =
+    let P : ℕ → Type 0 = λ k. is_held_or_none m k ≡ true in
+    let own = held-kept m rows.entries x.number may.0 p.figures.entries may.1.at (subst P (sym may.3) hn) in
+    let v = exist-exchange m rows.entries x may.0 own.0 p.figures p.kept s may.1 own.1 (named-kept m rows.entries x.entry t p.figures.entries may.1.named ht may.2) in
+    no-move v.0 v.1 v.2

@@ -1,0 +1,43 @@
+-- What a part tells of the balances and of what is left.
+use Rattle.std.proofs.Common.{◌≡◌, ℕ, ◌+◌, ◌==◌, ◌||◌, Bool, true, false, refl, sym, arith, subst, Option, Some, None}
+use Rattle.std.proofs.lemmas.Int.{ints}
+use Rattle.matter_rows.specs.declared.entry.Entry.{Entry}
+use Rattle.matter_rows.specs.Rows.{Rows, entry_at}
+use Rattle.matter_rows.specs.Balances.{left_at, left_in}
+use Rattle.matter_rows.specs.Sound.{Sound}
+use Rattle.matter_rows.proofs.Covered.{total-covered}
+use Rattle.matter_parts.specs.declared.figures.Figures.{Figures}
+use Rattle.matter_parts.specs.declared.kept.Kept.{Kept}
+use Rattle.matter_parts.specs.Parts.{Part, IsPart, AreBalances, is_held, kept_in, kept_at, entry_in, left_kept, left_if}
+use Rattle.matter_parts.proofs.Parts.{held-entry}
+
+or-right : (a b : Bool) → b ≡ true → (a || b) ≡ true
+or-right true b h = refl
+or-right false b h = h
+
+-- what is left of an entry that is held is what is left by the rows
+pub left-held : (kind : Entry → Bool) (m : Part) (rows : Rows) (n : ℕ) → IsPart m rows → is_held m n ≡ true → left_if kind (kept_at m n) ≡ left_at kind rows.entries n (entry_at rows.entries n)
+left-held kind m rows n p h =
+    let held = held-entry m.kept m.figures.entries n rows.entries p.kept p.figures.entries (or-right (n == 0) (is_held m n) h) in
+    told (kept_in m.kept n) (entry_at rows.entries n) held.0 held.1
+  where
+    told : (o : Option Kept) (e : Option Entry) → entry_in o ≡ e → left_kept o ≡ left_in rows.entries n e → left_if kind o ≡ left_at kind rows.entries n e
+    told None None at left = refl
+    told None (Some e) at left = cc
+    told (Some k) None at left = cc
+    told (Some k) (Some e) at left =
+        let same : k.entry ≡ e = cc in
+        rw (same, left) refl
+
+pub balances-of : (m : Part) (rows : Rows) (f : Figures) → Sound rows → IsPart m rows → f ≡ m.figures → AreBalances (record { held = f.held; available = f.available; fees = f.fees; claims = f.claims; disputed = f.disputed; total = f.available + f.disputed + f.fees + f.claims }) rows.entries
+balances-of m rows f s p same =
+    let t = total-covered rows.entries s.backed.named in
+    let P : Figures → Type 0 = λ g. AreBalances (record { held = g.held; available = g.available; fees = g.fees; claims = g.claims; disputed = g.disputed; total = g.available + g.disputed + g.fees + g.claims }) rows.entries in
+    subst P (sym same) (record {
+      held = p.figures.held;
+      available = p.figures.available;
+      fees = p.figures.fees;
+      claims = p.figures.claims;
+      disputed = p.figures.disputed;
+      total = omega (arith, ints, t, p.figures.available, p.figures.disputed, p.figures.fees, p.figures.claims);
+    })

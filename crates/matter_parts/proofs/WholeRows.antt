@@ -1,0 +1,156 @@
+-- Whole rows are sound where each of their tests passes, and only there.
+use Rattle.std.specs.Prelude.{find, is_some}
+use Rattle.std.specs.List.{AllByRecursion}
+use Rattle.std.proofs.Common.{◌≡◌, ℕ, ◌≤◌, ◌==◌, eqb, cond, true, false, List, [], ◌∷◌, length, refl, sym, subst, arith, Option, Some, None, pos, ◌≤ℤ◌, All}
+use Rattle.std.proofs.lemmas.Int.{ints}
+use Rattle.std.proofs.lemmas.List.Elements.{All-head, All-tail}
+use Rattle.matter_rows.specs.declared.head.Head.{Head}
+use Rattle.matter_rows.specs.declared.seat.Seat.{Seat}
+use Rattle.matter_rows.specs.declared.entry.Entry.{Entry}
+use Rattle.matter_rows.specs.Rows.{entry_at, closed_on}
+use Rattle.matter_rows.specs.Balances.{available, left_of, names}
+use Rattle.matter_rows.specs.Sound.{AreBacked, AreInOrder, AreDated, IsAtRestIfClosed, IsRanged, IsBy, IsRising, IsFundedInTime, Sound}
+use Rattle.matter_rows.specs.SoundRows.{IsByIfClosed, IsSoundEntry, IsClosedWithin, IsSoundHead, AreInForm}
+use Rattle.matter_rows.specs.Shares.{most}
+use Rattle.matter_rows.proofs.Covered.{total-covered}
+use Rattle.matter_rows.proofs.Entries.{within}
+use Rattle.matter_rows.proofs.Exchange.{all-map}
+use Rattle.matter_parts.specs.declared.figures.Figures.{Figures}
+use Rattle.matter_parts.specs.declared.kept.Kept.{Kept}
+use Rattle.matter_parts.specs.Parts.{AreEmptyIfClosed, AreFigures, AreAllKept, kept_in}
+use Rattle.matter_parts.proofs.AllKept.{kept-numbered, length-kept}
+use Rattle.matter_parts.proofs.StepForms.{rows-of}
+
+-- What sound rows pass.
+
+close-all : (closed : Option ℕ) (es : List Entry) (h : Head) → IsAtRestIfClosed h closed es → AllByRecursion (IsByIfClosed closed) es
+close-all (Some day) es h rest = rest.by_close
+close-all None [] h rest = tt
+close-all None (e ∷ es) h rest = (tt, close-all None es h tt)
+
+closed-within : (closed : Option ℕ) (es : List Entry) (h : Head) → IsAtRestIfClosed h closed es → IsClosedWithin h.opened h.last closed
+closed-within None es h rest = tt
+closed-within (Some day) es h rest = (rest.opened, rest.last)
+
+-- the facts of each entry, from each fact of all
+entries-all : (h : Head) (es some : List Entry) → AllByRecursion IsRanged some → AllByRecursion (λ e. names es e ≡ true) some → AllByRecursion (IsBy h.last) some → AllByRecursion (IsByIfClosed h.closed) some → AllByRecursion IsRising some → AllByRecursion (IsFundedInTime es) some → AllByRecursion (IsSoundEntry h es) some
+entries-all h es [] ranged named by_last by_close rising funded = tt
+entries-all h es (e ∷ some) ranged named by_last by_close rising funded = (
+  record { ranged = ranged.0; named = named.0; by_last = by_last.0; by_close = by_close.0; rising = rising.0; funded = funded.0 },
+  entries-all h es some ranged.1 named.1 by_last.1 by_close.1 rising.1 funded.1,
+)
+
+pub form-of : (head : Option Head) (seats : List Seat) (es : List Entry) → Sound (rows-of head seats es) → AreInForm head seats es
+form-of None seats es s = s.headed
+form-of (Some h) seats es s =
+    let d : AreDated h es = s.headed.0 in (
+      record {
+        opened = d.opened;
+        closed = closed-within h.closed es h s.headed.1;
+        made = d.made;
+        entries = entries-all h es es s.backed.ranged s.backed.named d.by_last (close-all h.closed es h s.headed.1) d.changed s.funded;
+      },
+      s.bare,
+    )
+
+empty-at : (closed : Option ℕ) (es : List Entry) (h : Head) (f : Figures) → AllByRecursion (λ e. names es e ≡ true) es → AreFigures f es → IsAtRestIfClosed h closed es → AreEmptyIfClosed closed f
+empty-at None es h f named a rest = tt
+empty-at (Some day) es h f named a rest =
+    let t = total-covered es named in
+    let empty = rest.empty in
+    let waits = rest.none_waits in
+    (omega (arith, ints, t, empty, a.held, a.available, a.disputed, a.fees, a.claims), omega (arith, ints, waits, a.pending))
+
+pub empty-of : (head : Option Head) (seats : List Seat) (es : List Entry) (f : Figures) → Sound (rows-of head seats es) → AreFigures f es → AreEmptyIfClosed (closed_on head) f
+empty-of None seats es f s a = tt
+empty-of (Some h) seats es f s a = empty-at h.closed es h f s.backed.named a s.headed.1
+
+-- Rows that pass are sound.
+
+ranged-of : (head : Option Head) (seats : List Seat) (es : List Entry) → AreInForm head seats es → AllByRecursion IsRanged es
+ranged-of None seats es form = let P : List Entry → Type 0 = AllByRecursion IsRanged in subst P (sym form.1) tt
+ranged-of (Some h) seats es form = all-map (IsSoundEntry h es) IsRanged es (λ e i. i.ranged) form.0.entries
+
+named-of : (head : Option Head) (seats : List Seat) (es : List Entry) → AreInForm head seats es → AllByRecursion (λ e. names es e ≡ true) es
+named-of None seats es form = let P : List Entry → Type 0 = λ l. AllByRecursion (λ e. names l e ≡ true) l in subst P (sym form.1) tt
+named-of (Some h) seats es form = all-map (IsSoundEntry h es) (λ e. names es e ≡ true) es (λ e i. i.named) form.0.entries
+
+funded-of : (head : Option Head) (seats : List Seat) (es : List Entry) → AreInForm head seats es → AllByRecursion (IsFundedInTime es) es
+funded-of None seats es form = let P : List Entry → Type 0 = λ l. AllByRecursion (IsFundedInTime l) l in subst P (sym form.1) tt
+funded-of (Some h) seats es form = all-map (IsSoundEntry h es) (IsFundedInTime es) es (λ e i. i.funded) form.0.entries
+
+-- what is left of each entry is a total
+lefts-of : (es : List Entry) (ks : List Kept) → AreAllKept ks es → (n : ℕ) (e : Entry) → entry_at es n ≡ Some e → pos 0 ≤ℤ left_of es n e
+lefts-of es ks all n e at =
+    let inside = within es n e at in
+    let len = length-kept ks es all.entries in
+    kept (kept_in ks n) refl (kept-numbered 1 n ks all.numbered (omega (arith, inside.0)) (omega (arith, inside.1, len)))
+  where
+    kept : (o : Option Kept) → kept_in ks n ≡ o → is_some o ≡ true → pos 0 ≤ℤ left_of es n e
+    kept None is there = absurd (cc)
+    kept (Some k) is there =
+        let own = all.own n k is in
+        let same_there = own.there in
+        let same : k.entry ≡ e = cc in
+        let P : Entry → Type 0 = λ x. pos k.left ≡ left_of es n x in
+        let left = subst P same own.left in
+        omega (arith, ints, left)
+
+pub backed-of : (head : Option Head) (seats : List Seat) (es : List Entry) (f : Figures) (ks : List Kept) → length es ≤ 9_999 → AreInForm head seats es → pos f.available ≡ available es → AreAllKept ks es → AreBacked es
+backed-of head seats es f ks few form is all = record {
+  few = few;
+  ranged = ranged-of head seats es form;
+  named = named-of head seats es form;
+  available = omega (arith, ints, is);
+  left = lefts-of es ks all;
+}
+
+by-closes : (closed : Option ℕ) (es : List Entry) (day : ℕ) → closed ≡ Some day → AllByRecursion (IsByIfClosed closed) es → AllByRecursion (IsBy day) es
+by-closes closed es day is all = let P : Option ℕ → Type 0 = λ c. AllByRecursion (IsByIfClosed c) es in subst P is all
+
+rest-of : (closed : Option ℕ) (es : List Entry) (h : Head) (f : Figures) → AllByRecursion (λ e. names es e ≡ true) es → AreFigures f es → AreEmptyIfClosed closed f → IsClosedWithin h.opened h.last closed → AllByRecursion (IsByIfClosed closed) es → IsAtRestIfClosed h closed es
+rest-of None es h f named a empty between all = tt
+rest-of (Some day) es h f named a empty between all =
+    let t = total-covered es named in
+    let none = empty.0 in
+    let waits = empty.1 in
+    record {
+      empty = omega (arith, ints, t, none, a.held, a.available, a.disputed, a.fees, a.claims);
+      none_waits = omega (arith, ints, waits, a.pending);
+      by_close = all;
+      opened = between.0;
+      last = between.1;
+    }
+
+pub sound-of : (head : Option Head) (seats : List Seat) (es : List Entry) (f : Figures) → AreInOrder seats → AreInForm head seats es → AreBacked es → AreFigures f es → AreEmptyIfClosed (closed_on head) f → Sound (rows-of head seats es)
+sound-of None seats es f order form backed a empty = record { backed = backed; seated = order; headed = form; funded = funded-of None seats es form; bare = tt }
+sound-of (Some h) seats es f order form backed a empty =
+    let form-h : IsSoundHead h es = form.0 in
+    record {
+      backed = backed;
+      seated = order;
+      headed = (
+        record {
+          opened = form-h.opened;
+          by_last = all-map (IsSoundEntry h es) (IsBy h.last) es (λ e i. i.by_last) form-h.entries;
+          made = form-h.made;
+          changed = all-map (IsSoundEntry h es) IsRising es (λ e i. i.rising) form-h.entries;
+        },
+        rest-of h.closed es h f backed.named a empty form-h.closed (all-map (IsSoundEntry h es) (IsByIfClosed h.closed) es (λ e i. i.by_close) form-h.entries),
+      );
+      funded = funded-of (Some h) seats es form;
+      bare = form.1;
+    }
+
+-- Stored figures.
+
+pub lefts-within : (ks : List Kept) → All (λ k. k.left ≤ most) ks → (n : ℕ) (k : Kept) → find (λ j. j.number == n) ks ≡ Some k → k.left ≤ most
+lefts-within [] all n k found = absurd (cc)
+lefts-within (j ∷ ks) all n k found =
+    elim (eqb j.number n) as (λ b. cond b (Some j) (find (λ i. i.number == n) ks) ≡ Some k → k.left ≤ most) [
+      | true ↦ λ g.
+          let same : j ≡ k = cc in
+          let P : Kept → Type 0 = λ x. x.left ≤ most in
+          subst P same (All-head P j ks all)
+      | false ↦ λ g. lefts-within ks (All-tail (λ (x : Kept). x.left ≤ most) j ks all) n k g
+    ] found

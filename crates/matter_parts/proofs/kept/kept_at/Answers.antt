@@ -1,0 +1,35 @@
+use Rattle.std.proofs.Common.{arith, ◌+◌, ◌≡◌}
+use Rattle.std.proofs.lemmas.Int.{ints}
+use Rattle.matter_rows.specs.Balances.{left_of}
+use Rattle.matter_rows.proofs.Collected.{entry-at-place}
+use Rattle.matter_rows.proofs.Store.{left-balance}
+use Rattle.matter_parts.proofs.Collected.{no-total, left-is, kept-of}
+use Rattle.matter_parts.proofs.kept.kept_at.Goals as goal
+
+pub overflow_sub-worth : goal.overflow_sub-worth
+overflow_sub-worth c =
+    let drawn = c.drawn_on.ensures.small in
+    let own = c.worth.ensures.small in
+    omega (arith, ints, drawn.low, drawn.high, own.low, own.high)
+
+pub returns-in_default-as_total-clause-err : goal.returns-in_default-as_total-clause-err
+returns-in_default-as_total-clause-err c = λ _ backed.
+    let es = c.args.entries.now in
+    let drawn = c.drawn_on.ensures.small in
+    let own = c.worth.ensures.small in
+    let number : c.in-Some.number ≡ c.args.place + 1 = omega (arith, c.in-Some.ensures.some.0) in
+    let there = entry-at-place es c.args.place c.index-entries-place.result c.requires.there c.index-entries-place.is in
+    let left = left-is es c.in-Some.number (c.args.place + 1) c.index-entries-place.result _ _ number c.worth.ensures.is c.drawn_on.ensures.is in
+    no-total (left_of es (c.args.place + 1) c.index-entries-place.result) _ (left-balance es (c.args.place + 1) c.index-entries-place.result backed there)
+    (omega (arith, ints, left, drawn.low, drawn.high, own.low, own.high)) c.in_default-as_total.ensures.none
+
+pub returns-clause-own : goal.returns-clause-own
+returns-clause-own c =
+    let es = c.args.entries.now in
+    let drawn = c.drawn_on.ensures.small in
+    let own = c.worth.ensures.small in
+    let number : c.in-Some.number ≡ c.args.place + 1 = omega (arith, c.in-Some.ensures.some.0) in
+    let there = entry-at-place es c.args.place c.index-entries-place.result c.requires.there c.index-entries-place.is in
+    let left = left-is es c.in-Some.number (c.args.place + 1) c.index-entries-place.result _ _ number c.worth.ensures.is c.drawn_on.ensures.is in
+    kept-of es (c.args.place + 1) c.in-Some.number c.in-Some-as_total.left c.index-entries-place.result c.in_ok-entry.entry there c.in_ok-entry.ensures
+    (omega (arith, ints, c.in-Some-as_total.ensures.some.1, left, drawn.low, drawn.high, own.low, own.high))

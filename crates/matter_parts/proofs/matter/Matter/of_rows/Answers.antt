@@ -1,0 +1,36 @@
+use Rattle.std.proofs.Common.{List, sym, ◌∙◌, subst}
+use Rattle.std.proofs.lemmas.Bool.{false≢true}
+use Rattle.matter_rows.specs.declared.seat.Seat.{Seat}
+use Rattle.matter_rows.specs.Sound.{AreInOrder}
+use Rattle.matter_rows.specs.SoundRows.{AreInForm}
+use Rattle.matter_parts.proofs.Collected.{made-whole}
+use Rattle.matter_parts.proofs.WholeRows.{form-of, empty-of, backed-of, sound-of}
+use Rattle.matter_parts.proofs.StepForms.{rows-of}
+use Rattle.matter_parts.proofs.matter.Matter.of_rows.Goals as goal
+
+pub returns-then-not-are_in_form-clause-store : goal.returns-then-not-are_in_form-clause-store
+returns-then-not-are_in_form-clause-store c = λ _ s.
+    let P : List Seat → Type 0 = λ seats. AreInForm c.args.head seats c.args.entries.now in
+    let form = subst P (sym c.as_slice-2.ensures.value) (form-of c.args.head c.args.seats.items c.args.entries.now s) in
+    false≢true (sym c.if-not-are_in_form.true ∙ c.are_in_form.ensures.1 form)
+
+pub returns-then-not-is_empty_if_closed-clause-store : goal.returns-then-not-is_empty_if_closed-clause-store
+returns-then-not-is_empty_if_closed-clause-store c = λ _ s.
+    let empty = empty-of c.args.head c.args.seats.items c.args.entries.now c.in-Some.figures s (c.in-Some.ensures.some s.backed) in
+    false≢true (sym c.if-not-is_empty_if_closed.true ∙ c.is_empty_if_closed.ensures.1 empty)
+
+pub returns-clause-sound : goal.returns-clause-sound
+returns-clause-sound c =
+    let P : List Seat → Type 0 = λ seats. AreInForm c.args.head seats c.args.entries.now in
+    let O : List Seat → Type 0 = AreInOrder in
+    let form = subst P c.as_slice-2.ensures.value (c.are_in_form.ensures.0 c.if-not-are_in_form.false) in
+    let order = subst O c.as_slice.ensures.value (c.are_in_order.ensures.0 c.if-not-are_in_order.false) in
+    let backed = backed-of c.args.head c.args.seats.items c.args.entries.now c.in-Some.figures c.in_ok-kept.kept.items c.if-entries-gt9999.false form c.in-Some.ensures.available c.in_ok-kept.ensures.ok in
+    sound-of c.args.head c.args.seats.items c.args.entries.now c.in-Some.figures order form backed (c.in-Some.ensures.some backed) (c.is_empty_if_closed.ensures.0 c.if-not-is_empty_if_closed.false)
+
+pub returns-clause-ok : goal.returns-clause-ok
+returns-clause-ok c =
+    let P : List Seat → Type 0 = λ seats. AreInForm c.args.head seats c.args.entries.now in
+    let form = subst P c.as_slice-2.ensures.value (c.are_in_form.ensures.0 c.if-not-are_in_form.false) in
+    let backed = backed-of c.args.head c.args.seats.items c.args.entries.now c.in-Some.figures c.in_ok-kept.kept.items c.if-entries-gt9999.false form c.in-Some.ensures.available c.in_ok-kept.ensures.ok in
+    made-whole c.made.result (rows-of c.args.head c.args.seats.items c.args.entries.now) c.in-Some.figures c.in_ok-kept.kept.items c.made.ensures (c.in-Some.ensures.some backed) c.in_ok-kept.ensures.ok

@@ -1,0 +1,11 @@
+use Rattle.std.proofs.Common.{ap, ◌∙◌}
+use Rattle.matter_rows.specs.Balances.{is_general_claim}
+use Rattle.matter_parts.specs.Parts.{left_if}
+use Rattle.matter_parts.proofs.Telling.{left-held}
+use Rattle.matter_parts.proofs.totals.claim_left.Goals as goal
+
+pub returns-in_default : goal.returns-in_default
+returns-in_default c = λ rows p. ap (left_if is_general_claim) c.in_default.ensures.is ∙ left-held is_general_claim c.args.matter.now rows c.args.number p c.requires
+
+pub returns : goal.returns
+returns c = λ rows p. c.left_if_claim.ensures ∙ ap (left_if is_general_claim) c.in-Some.ensures.is ∙ left-held is_general_claim c.args.matter.now rows c.args.number p c.requires

@@ -1,0 +1,6 @@
+pub mod Applied
+pub mod Changes
+pub mod TotalsAfter
+pub mod NamedEntries
+pub mod Parts
+pub mod Purging

@@ -1,0 +1,158 @@
+-- A matter as it is kept: its totals, its counts and some of its entries.
+use Rattle.std.specs.Prelude.{◌≡◌, ℕ, ◌+◌, ◌≤◌, ◌==◌, ◌&&◌, ◌||◌, nat_lt, cond, Bool, true, false, List, [], ◌∷◌, length, map, ℤ, pos, ◌+ℤ◌, ◌≤ℤ◌, Option, Some, None, find, is_some}
+use Rattle.std.specs.List.{filter}
+use Rattle.matter_rows.specs.declared.head.Head.{Head}
+use Rattle.matter_rows.specs.declared.seat.Seat.{Seat}
+use Rattle.matter_rows.specs.declared.entry.Entry.{Entry}
+use Rattle.matter_rows.specs.Rows.{Rows, entry_at}
+use Rattle.matter_rows.specs.Balances.{left_of, held, available, disputed, fees, claims, total, pending}
+use Rattle.matter_rows.specs.Shares.{target_in, most}
+use Rattle.matter_parts.specs.declared.figures.Balances.{Balances}
+use Rattle.matter_parts.specs.declared.figures.Figures.{Figures}
+use Rattle.matter_parts.specs.declared.kept.Kept.{Kept}
+
+-- what is kept of a matter
+pub record Part : Type 0 where
+  pub head : Option Head
+  pub seats : List Seat
+  pub figures : Figures
+  pub kept : List Kept
+
+pub record AreSmall (f : Figures) : Type 0 where
+  pub entries : f.entries ≤ 9_999
+  pub pending : f.pending ≤ most
+  pub held : f.held ≤ most
+  pub available : f.available ≤ most
+  pub disputed : f.disputed ≤ most
+  pub fees : f.fees ≤ most
+  pub claims : f.claims ≤ most
+
+-- the totals of a matter without an entry
+abbrev pub no_figures : Figures
+no_figures = record { entries = 0; pending = 0; held = 0; available = 0; disputed = 0; fees = 0; claims = 0 }
+
+-- the kept entry n
+abbrev pub kept_in : List Kept → ℕ → Option Kept
+kept_in ks n = find (λ k. k.number == n) ks
+
+abbrev pub kept_at : Part → ℕ → Option Kept
+kept_at m n = kept_in m.kept n
+
+pub record AreInRange (f : Figures) (kept : List Kept) : Type 0 where
+  pub figures : AreSmall f
+  pub lefts : (n : ℕ) (k : Kept) → find (λ k. k.number == n) kept ≡ Some k → k.left ≤ most
+
+-- the entry is kept, or it is not there
+abbrev pub is_held : Part → ℕ → Bool
+is_held m n = is_some (kept_at m n) || nat_lt m.figures.entries n
+
+-- every entry is kept, or is not there
+abbrev pub HoldsAll : Part → Type 0
+HoldsAll m = (n : ℕ) → 1 ≤ n → is_held m n ≡ true
+
+-- what was held is held
+abbrev pub HoldsOn : Part → Part → Type 0
+HoldsOn m m' = (n : ℕ) → is_held m n ≡ true → is_held m' n ≡ true
+
+-- these totals and counts are those of the entries, added up anew
+pub record AreFigures (f : Figures) (es : List Entry) : Type 0 where
+  pub entries : f.entries ≡ length es
+  pub pending : pos f.pending ≡ pending es
+  pub held : pos f.held ≡ held es
+  pub available : pos f.available ≡ available es
+  pub disputed : pos f.disputed ≡ disputed es
+  pub fees : pos f.fees ≡ fees es
+  pub claims : pos f.claims ≡ claims es
+
+-- these balances are those of the entries, added up anew
+pub record AreBalances (b : Balances) (es : List Entry) : Type 0 where
+  pub held : pos b.held ≡ held es
+  pub available : pos b.available ≡ available es
+  pub fees : pos b.fees ≡ fees es
+  pub claims : pos b.claims ≡ claims es
+  pub disputed : pos b.disputed ≡ disputed es
+  pub total : pos b.total ≡ total es
+
+-- the kept entry is that of the entries, and what is left of it is added up anew
+pub record IsEntryOf (es : List Entry) (n : ℕ) (k : Kept) : Type 0 where
+  pub there : entry_at es n ≡ Some k.entry
+  pub left : pos k.left ≡ left_of es n k.entry
+
+abbrev pub AreKept : List Kept → List Entry → Type 0
+AreKept ks es = (n : ℕ) (k : Kept) → kept_in ks n ≡ Some k → IsEntryOf es n k
+
+-- the matter is a part of the rows: it has their head, seats, totals and counts, and keeps some of the entries
+pub record IsPart (m : Part) (rows : Rows) : Type 0 where
+  pub head : m.head ≡ rows.head
+  pub seats : m.seats ≡ rows.seats
+  pub figures : AreFigures m.figures rows.entries
+  pub kept : AreKept m.kept rows.entries
+
+-- what is kept has the numbers n, n + 1 and so on
+abbrev pub AreNumbered : ℕ → List Kept → Type 0
+AreNumbered n [] = Unit {0}
+AreNumbered n (k ∷ ks) = (k.number ≡ n) × AreNumbered (n + 1) ks
+
+-- the entries of what is kept
+abbrev pub entries_kept : List Kept → List Entry
+entries_kept ks = map (λ k. k.entry) ks
+
+-- all entries are kept in the order of their numbers, each with what is left of it, in range
+pub record AreAllKept (ks : List Kept) (es : List Entry) : Type 0 where
+  pub entries : entries_kept ks ≡ es
+  pub numbered : AreNumbered 1 ks
+  pub own : AreKept ks es
+  pub small : (n : ℕ) (k : Kept) → kept_in ks n ≡ Some k → k.left ≤ most
+
+-- the matter is a part of the rows that keeps all their entries, in the order of their numbers
+pub record IsWhole (m : Part) (rows : Rows) : Type 0 where
+  pub part : IsPart m rows
+  pub entries : entries_kept m.kept ≡ rows.entries
+  pub numbered : AreNumbered 1 m.kept
+
+-- a matter that keeps all entries holds all
+abbrev pub WholeHoldsAll : Type 0
+WholeHoldsAll = (m : Part) (rows : Rows) → IsWhole m rows → HoldsAll m
+
+abbrev pub entry_in : Option Kept → Option Entry
+entry_in None = None
+entry_in (Some k) = Some k.entry
+
+abbrev pub left_kept : Option Kept → ℤ
+left_kept None = pos 0
+left_kept (Some k) = pos k.left
+
+-- the entry that a named entry draws on, by what is kept, 0 for none
+abbrev pub target_by : Part → Option ℕ → ℕ
+target_by m None = 0
+target_by m (Some n) = target_in (entry_in (kept_at m n))
+
+abbrev pub is_it : Option ℕ → ℕ → Bool
+is_it None n = false
+is_it (Some m) n = n == m
+
+-- the entry is one of two that are named, or one that either draws on
+abbrev pub is_named : Part → Option ℕ → Option ℕ → ℕ → Bool
+is_named m a b n = is_it a n || (is_it b n || (n == target_by m a || n == target_by m b))
+
+-- of what is kept only what is named
+abbrev pub named_part : Part → Option ℕ → Option ℕ → Part
+named_part m a b = record m { kept = filter (λ k. is_named m a b k.number) m.kept }
+
+-- what is left of a kept entry, where it is of a kind
+abbrev pub left_if : (Entry → Bool) → Option Kept → Option ℤ
+left_if kind None = None
+left_if kind (Some k) = cond (kind k.entry) (Some (pos k.left)) None
+
+-- cleared deposits less payments, by the totals
+abbrev pub total_kept : Figures → ℕ
+total_kept f = f.available + f.disputed + f.fees + f.claims
+
+-- no entry is named, or it is kept, or it is not there
+abbrev pub is_held_or_none : Part → ℕ → Bool
+is_held_or_none m n = n == 0 || is_held m n
+
+-- nothing is left, and nothing waits
+abbrev pub AreEmptyIfClosed : Option ℕ → Figures → Type 0
+AreEmptyIfClosed None f = Unit {0}
+AreEmptyIfClosed (Some day) f = (total_kept f + f.held ≡ 0) × (f.pending ≡ 0)

@@ -1,0 +1,95 @@
+-- How the totals and what is left move, by what is kept.
+use Rattle.std.specs.Prelude.{◌≡◌, ℕ, ◌+◌, [], Option, Some, None, ℤ, pos, ◌+ℤ◌, ◌-ℤ◌}
+use Rattle.matter_rows.specs.declared.shares.Shares.{Shares}
+use Rattle.matter_rows.specs.declared.movement.EntryMovement.{EntryMovement}
+use Rattle.matter_rows.specs.Shares.{shares_of, no_shares, worth, draw, target}
+use Rattle.matter_rows.specs.Events.{events_of, events_in, moved_beyond}
+use Rattle.matter_parts.specs.declared.figures.Figures.{Figures}
+use Rattle.matter_parts.specs.declared.kept.Kept.{Kept}
+use Rattle.matter_parts.specs.declared.edit.Numbered.{Numbered}
+use Rattle.matter_parts.specs.declared.edit.Edit.{Edit}
+use Rattle.matter_parts.specs.declared.edit.Edit.TheVariants as edit
+use Rattle.matter_parts.specs.declared.change.Left.{Left}
+use Rattle.matter_parts.specs.declared.change.TotalsAfter.{TotalsAfter}
+use Rattle.matter_parts.specs.Parts.{Part, no_figures, kept_at, entry_in}
+use Rattle.matter_parts.specs.Changes.{MatterChange}
+
+abbrev pub TheTotalsAfter : Type 0
+TheTotalsAfter = TotalsAfter
+
+abbrev pub TheFigures : Type 0
+TheFigures = Figures
+
+-- each total of g is that of f, with one entry's share exchanged for another's
+pub record FiguresMoved (f : Figures) (entries : ℕ) (out shares : Shares) (g : Figures) : Type 0 where
+  pub count : g.entries ≡ entries
+  pub pending : pos g.pending ≡ (pos f.pending -ℤ out.pending) +ℤ shares.pending
+  pub held : pos g.held ≡ (pos f.held -ℤ out.held) +ℤ shares.held
+  pub available : pos g.available ≡ (pos f.available -ℤ out.available) +ℤ shares.available
+  pub disputed : pos g.disputed ≡ (pos f.disputed -ℤ out.disputed) +ℤ shares.disputed
+  pub fees : pos g.fees ≡ (pos f.fees -ℤ out.fees) +ℤ shares.fees
+  pub claims : pos g.claims ≡ (pos f.claims -ℤ out.claims) +ℤ shares.claims
+
+-- what is left of the entry named, number t, moves by what is drawn on it
+abbrev pub OtherCases : Part → ℕ → ℤ → ℤ → Option Left → Type 0
+OtherCases m t out draw None = t ≡ 0
+OtherCases m t out draw (Some o) =
+    (o.number ≡ t) × ((k : Kept) × (kept_at m t ≡ Some k) × (pos o.left ≡ (pos k.left -ℤ draw) +ℤ out))
+
+pub record OtherMoved (m : Part) (t : ℕ) (out draw : ℤ) (o : Option Left) : Type 0 where
+  pub cases : OtherCases m t out draw o
+
+-- the figures after an entry is added, and what is left of it and of the one that it names
+pub record AppendMoved (m : Part) (x : Numbered) (v : TotalsAfter) : Type 0 where
+  pub number : x.number ≡ m.figures.entries + 1
+  pub figures : FiguresMoved m.figures (m.figures.entries + 1) no_shares (shares_of x.entry) v.figures
+  pub left : pos v.left ≡ worth x.entry
+  pub other : OtherMoved m (target x.entry) (pos 0) (draw x.entry) v.other
+
+-- the same after a kept entry is exchanged
+pub record ExchangeMoved (m : Part) (x : Numbered) (k : Kept) (v : TotalsAfter) : Type 0 where
+  pub kept : kept_at m x.number ≡ Some k
+  pub figures : FiguresMoved m.figures m.figures.entries (shares_of k.entry) (shares_of x.entry) v.figures
+  pub left : pos v.left ≡ (pos k.left -ℤ worth k.entry) +ℤ worth x.entry
+  pub other : OtherMoved m (target x.entry) (draw k.entry) (draw x.entry) v.other
+
+-- no entry is written: the figures stay, and nothing is left to write
+pub record NoneMoved (m : Part) (v : TotalsAfter) : Type 0 where
+  pub figures : v.figures ≡ m.figures
+  pub left : v.left ≡ 0
+  pub other : v.other ≡ None
+
+-- no entry is left: all totals are zero, and nothing is left to write
+pub record AllCleared (v : TotalsAfter) : Type 0 where
+  pub figures : v.figures ≡ no_figures
+  pub left : v.left ≡ 0
+  pub other : v.other ≡ None
+
+abbrev pub EditMoved : Part → Edit → TotalsAfter → Type 0
+EditMoved m (edit.Append x) v = AppendMoved m x v
+EditMoved m (edit.Exchange x) v = (k : Kept) × ExchangeMoved m x k v
+EditMoved m edit.Nothing v = NoneMoved m v
+EditMoved m (edit.Open o) v = NoneMoved m v
+EditMoved m (edit.Seat s) v = NoneMoved m v
+EditMoved m (edit.Unseat p) v = NoneMoved m v
+EditMoved m (edit.Close d) v = NoneMoved m v
+EditMoved m (edit.Clear d) v = AllCleared v
+
+-- what an edit moves in the journal, by what is kept
+abbrev pub movement_kept : Part → Edit → Option EntryMovement
+movement_kept m (edit.Append x) = moved_beyond x.number [] (events_of x.entry)
+movement_kept m (edit.Exchange x) =
+    moved_beyond x.number (events_in (entry_in (kept_at m x.number))) (events_of x.entry)
+movement_kept m edit.Nothing = None
+movement_kept m (edit.Open o) = None
+movement_kept m (edit.Seat s) = None
+movement_kept m (edit.Unseat p) = None
+movement_kept m (edit.Close d) = None
+movement_kept m (edit.Clear d) = None
+
+-- the change that an edit makes of what is kept
+pub record IsMade (m : Part) (e : Edit) (last : ℕ) (c : MatterChange) : Type 0 where
+  pub of_edit : c.edit ≡ e
+  pub on_day : c.last ≡ last
+  pub moved : EditMoved m e c.moves
+  pub movement : c.movement ≡ movement_kept m e

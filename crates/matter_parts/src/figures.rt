@@ -1,0 +1,151 @@
+//! The totals and counts of a matter.
+
+ghost use Rattle.std.specs.Prelude.{◌≡◌, ◌+◌, ◌-◌, ◌<◌, ◌≤◌, ◌≤ℤ◌, ◌-ℤ◌, ◌+ℤ◌, pos, IfSome, IfNone, [], ◌++◌, ◌∷◌, None, ◌≢◌, ◌↔◌, length, IsTrue};
+ghost use Rattle.matter_rows.specs.Shares.{AreSmallShares};
+ghost use Rattle.matter_rows.specs.Balances.{available};
+ghost use Rattle.matter_rows.specs.Sound.{AreBacked};
+ghost use Rattle.matter_parts.specs.Parts.{AreSmall, no_figures, AreFigures};
+ghost use Rattle.matter_parts.specs.TotalsAfter.{FiguresMoved, TheFigures};
+
+use matter_rows::{Entry, Shares, as_total, moved, sums_of};
+
+/// The totals of a matter in cents, the number of its entries, and that of the payments proposed or issued.
+#[derive(Clone, Copy)]
+pub struct Figures {
+    pub entries: u64,
+    pub pending: u64,
+    pub held: u64,
+    pub available: u64,
+    pub disputed: u64,
+    pub fees: u64,
+    pub claims: u64,
+}
+
+impl Figures {
+    /// The totals of a matter without an entry.
+    pub(crate) fn none() -> Figures
+        ensures { result ≡ no_figures }
+    {
+        Figures {
+            entries: 0,
+            pending: 0,
+            held: 0,
+            available: 0,
+            disputed: 0,
+            fees: 0,
+            claims: 0,
+        }
+    }
+}
+
+/// The balances of a matter, in cents.
+#[derive(Clone, Copy)]
+pub struct Balances {
+    /// Deposits that the bank has not told of.
+    pub held: u64,
+    /// What may be paid.
+    pub available: u64,
+    /// What is left of fees that were earned.
+    pub fees: u64,
+    /// What is left of claims on the general fund.
+    pub claims: u64,
+    /// Open claims on fees.
+    pub disputed: u64,
+    /// Cleared deposits less payments issued or cleared; the money of an issued payment may still lie at the bank.
+    pub total: u64,
+}
+
+/// The figures with one entry's shares exchanged for another's; none where one of them would leave its range.
+pub(crate) fn figures_after(
+    figures: &Figures,
+    entries: u64,
+    out: &Shares,
+    shares: &Shares,
+) -> Option<Figures>
+    requires small { AreSmall figures.now }
+    requires entries { entries ≤ 9_999 }
+    requires out { AreSmallShares out.now }
+    requires shares { AreSmallShares shares.now }
+    ensures small { IfSome result (λ f. AreSmall f) }
+    ensures some { IfSome result (λ f. FiguresMoved figures.now entries out.now shares.now f) }
+    ensures none { IfNone result ((f : TheFigures) → AreSmall f → FiguresMoved figures.now entries out.now shares.now f → ⊥) }
+{
+    let Some(held) = moved(figures.held, out.held, shares.held) else {
+        return None;
+    };
+    let Some(available) = moved(figures.available, out.available, shares.available) else {
+        return None;
+    };
+    let Some(disputed) = moved(figures.disputed, out.disputed, shares.disputed) else {
+        return None;
+    };
+    let Some(fees) = moved(figures.fees, out.fees, shares.fees) else {
+        return None;
+    };
+    let Some(claims) = moved(figures.claims, out.claims, shares.claims) else {
+        return None;
+    };
+    let Some(pending) = moved(figures.pending, out.pending, shares.pending) else {
+        return None;
+    };
+    Some(Figures {
+        entries,
+        pending,
+        held,
+        available,
+        disputed,
+        fees,
+        claims,
+    })
+}
+
+// The totals of all entries, where each is one. The fees and claims are those of entries that name what is there.
+pub(crate) fn figures_of(entries: &[Entry]) -> Option<Figures>
+    requires { length entries.now ≤ 9_999 }
+    ensures small { IfSome result AreSmall }
+    ensures some { IfSome result (λ f. AreBacked entries.now → AreFigures f entries.now) }
+    ensures available { IfSome result (λ f. pos f.available ≡ available entries.now) }
+    ensures none { IfNone result (AreBacked entries.now → ⊥) }
+{
+    let sums = sums_of(entries);
+    let Some(pending) = as_total(sums.pending) else {
+        return None;
+    };
+    let Some(held) = as_total(sums.held) else {
+        return None;
+    };
+    let Some(available) = as_total(sums.available) else {
+        return None;
+    };
+    let Some(disputed) = as_total(sums.disputed) else {
+        return None;
+    };
+    let Some(fees) = as_total(sums.fees) else {
+        return None;
+    };
+    let Some(claims) = as_total(sums.claims) else {
+        return None;
+    };
+    Some(Figures {
+        entries: entries.len() as u64,
+        pending,
+        held,
+        available,
+        disputed,
+        fees,
+        claims,
+    })
+}
+
+// Are all totals and counts in range?
+pub(crate) fn are_small(figures: &Figures) -> bool
+    ensures { IsTrue result ↔ AreSmall figures.now }
+{
+    figures.entries <= 9_999
+        && figures.pending <= 999_899_999_990_001
+        && figures.held <= 999_899_999_990_001
+        && figures.available <= 999_899_999_990_001
+        && figures.disputed <= 999_899_999_990_001
+        && figures.fees <= 999_899_999_990_001
+        && figures.claims <= 999_899_999_990_001
+}

@@ -1,0 +1,534 @@
+//! A matter as it is kept: its head, seats and totals, and some of its entries.
+
+ghost use Rattle.std.specs.Prelude.{◌≡◌, ℕ, ◌+◌, ◌<◌, ◌≤◌, ◌++◌, ◌∷◌, [], true, false, find, is_some, None, pos, nat_lt, IfSome, IfOk, OnOk, OnErr, MatchOption, ◌≢◌, ◌↔◌, All, IsTrue, IsOk, IfErr, ◌&&◌, not};
+ghost use Rattle.std.specs.Option.{option_copied};
+ghost use Rattle.matter_rows.specs.Rows.{Rows, is_purged, is_gone, unopened, role_in, last_of, closed_on, next_number, seats_with, seats_without, has_other_lawyer, is_number, seen_on, closed_head, cleared_head, entry_amount};
+ghost use Rattle.matter_rows.specs.Shares.{number_or_none, most, fund_no};
+ghost use Rattle.matter_rows.specs.Sound.{Sound, AreInOrder};
+ghost use Rattle.matter_rows.specs.Balances.{fund_left, exceeds};
+ghost use Rattle.matter_parts.specs.NamedEntries.{has_number};
+ghost use Rattle.matter_parts.specs.Parts.{Part, no_figures, IsPart, IsWhole, HoldsOn, kept_at, is_held, is_named, named_part, target_by, AreSmall, AreInRange, WholeHoldsAll, is_held_or_none, left_kept, AreEmptyIfClosed};
+ghost use Rattle.matter_parts.specs.Changes.{IsChange, AreSmallTotals, changed, last_after};
+ghost use Rattle.matter_parts.specs.Applied.{IsWritten};
+
+use crate::change::{Change, TotalsAfter};
+use crate::edit::{Edit, Numbered, Opening};
+use crate::figures::{Figures, are_small, figures_of};
+use crate::kept::{Kept, all_kept, are_small_lefts, found, kept_copied, kept_of, put, set_other};
+use crate::named_entries::NamedEntries;
+use matter_rows::{
+    Entry, Fund, Head, Holder, Role, Seat, add_seat, are_in_form, are_in_order, clear_on, close_on,
+    drop_seat, has_other_lawyer, head_copied, role_of, seats_copied, see_on,
+};
+use std::alloc::{AllocError, Global};
+use std::marker::Model;
+use trust_base::{Day, EntryNo, PersonId, StoreFault};
+
+/// A matter, with its head, its seats, its totals and some of its entries.
+///
+/// Contracts see it as a part of the rows that it is of.
+pub struct Matter {
+    head: Option<Head>,
+    seats: Vec<Seat>,
+    figures: Figures,
+    kept: Vec<Kept>,
+}
+
+impl Drop for Matter {
+    fn drop(self) {
+        let Matter {
+            head: _head,
+            seats: _seats,
+            figures: _figures,
+            kept: _kept,
+        } = self;
+    }
+}
+
+impl Model for Matter {
+    ghost use Rattle.matter_parts.specs.Parts.{Part, AreInRange};
+
+    ghost Value = { Part };
+
+    ghost view = { λ m. record { head = m.head; seats = m.seats.items; figures = m.figures; kept = m.kept.items } };
+
+    ghost invariant = { λ m. AreInRange m.figures m.kept.items };
+}
+
+impl Matter {
+    /// A matter that was never opened. It takes no memory.
+    pub fn unopened(alloc: Global) -> Matter
+        ensures { IsWhole result unopened }
+    {
+        Matter {
+            head: None,
+            seats: Vec::new(alloc),
+            figures: Figures::none(),
+            kept: Vec::new(alloc),
+        }
+    }
+
+    // A matter of what is kept.
+    pub(crate) fn made(
+        head: Option<Head>,
+        seats: Vec<Seat>,
+        figures: Figures,
+        kept: Vec<Kept>,
+    ) -> Matter
+        requires { AreInRange figures kept.items }
+        ensures { result ≡ record { head = head; seats = seats.items; figures = figures; kept = kept.items } }
+    {
+        Matter {
+            head,
+            seats,
+            figures,
+            kept,
+        }
+    }
+
+    /// What the matter was opened with, if it was.
+    pub fn head(&self) -> Option<&Head>
+        ensures { option_copied result ≡ self.now.head }
+    {
+        self.head.as_ref()
+    }
+
+    /// The seats, by person in the order of bytes.
+    pub fn seats(&self) -> &[Seat]
+        ensures { result.now ≡ self.now.seats }
+    {
+        self.seats.as_slice()
+    }
+
+    /// The totals and counts.
+    pub fn figures(&self) -> Figures
+        ensures is { result ≡ self.now.figures }
+        ensures small { AreSmall result }
+    {
+        self.figures
+    }
+
+    /// Is the entry kept, or not there? It takes no memory.
+    pub fn holds(&self, number: EntryNo) -> bool
+        ensures { result ≡ is_held self.now number }
+    {
+        self.find(number).is_some() || self.figures.entries < number.get() as u64
+    }
+
+    /// The entry with this number, if it is kept.
+    pub fn find(&self, number: EntryNo) -> Option<&Kept>
+        ensures is { option_copied result ≡ kept_at self.now number }
+        ensures small { IfSome result (λ k. k.now.left ≤ most) }
+    {
+        found(&self.kept, number)
+    }
+
+    /// The entries that are kept, of a whole matter all in the order of their numbers.
+    pub fn kept(&self) -> &[Kept]
+        ensures { result.now ≡ self.now.kept }
+    {
+        self.kept.as_slice()
+    }
+
+    // The entry that a kept entry draws on.
+    fn target_by(&self, named: &Option<EntryNo>) -> Option<EntryNo>
+        ensures { number_or_none result ≡ target_by self.now named.now }
+    {
+        let Some(number) = named else {
+            return None;
+        };
+        let Some(kept) = self.find(*number) else {
+            return None;
+        };
+        kept.entry.target()
+    }
+
+    // Two entries, and the one that each draws on.
+    fn named(&self, first: &Option<EntryNo>, second: &Option<EntryNo>) -> NamedEntries
+        ensures { (n : ℕ) → has_number result n ≡ is_named self.now first.now second.now n }
+    {
+        NamedEntries {
+            first: *first,
+            second: *second,
+            under_first: self.target_by(first),
+            under_second: self.target_by(second),
+        }
+    }
+
+    /// The same matter, with all that it keeps. An error means that a growth was refused; `self` stays as it is.
+    pub fn copied(&self, alloc: Global) -> Result<Matter, AllocError>
+        ensures { IfOk result (λ m. m ≡ self.now) }
+    {
+        let figures = self.figures;
+        let kept = kept_copied(alloc, self.kept())?;
+        let head = head_copied(self.head())?;
+        let seats = seats_copied(alloc, self.seats())?;
+        Ok(Matter::made(head, seats, figures, kept))
+    }
+
+    /// The same matter with, of what it keeps, only two entries and the ones that these draw on. An error means that
+    /// a growth was refused; `self` stays as it is.
+    pub fn part(
+        &self,
+        alloc: Global,
+        entry: Option<EntryNo>,
+        of: Option<EntryNo>,
+    ) -> Result<Matter, AllocError>
+        ensures is { IfOk result (λ m. m ≡ named_part self.now entry of) }
+        // It is a part of all rows of which this is one.
+        ensures part { IfOk result (λ m. (rows : Rows) → IsPart self.now rows → IsPart m rows) }
+        // What is named and was held is held.
+        ensures held { IfOk result (λ m. (n : ℕ) → is_named self.now entry of n ≡ true → is_held self.now n ≡ true
+            → is_held m n ≡ true) }
+        // Nothing else is kept.
+        ensures only { IfOk result (λ m. (n : ℕ) → is_named self.now entry of n ≡ false → kept_at m n ≡ None) }
+    {
+        let figures = self.figures;
+        let named = self.named(&entry, &of);
+        let kept = kept_of(alloc, self.kept(), named)?;
+        let head = head_copied(self.head())?;
+        let seats = seats_copied(alloc, self.seats())?;
+        Ok(Matter::made(head, seats, figures, kept))
+    }
+
+    /// The role of a person, if there is a seat.
+    pub fn role_of(&self, person: &PersonId) -> Option<Role>
+        ensures { result ≡ role_in self.now.seats person.now }
+    {
+        role_of(&self.seats, person)
+    }
+
+    /// Has another person a lawyer's seat?
+    pub fn has_other_lawyer(&self, person: &PersonId) -> bool
+        ensures { result ≡ has_other_lawyer self.now.seats person.now }
+    {
+        has_other_lawyer(&self.seats, person)
+    }
+
+    /// Was the matter purged?
+    pub fn is_purged(&self) -> bool
+        ensures { result ≡ is_purged self.now.head }
+    {
+        match &self.head {
+            None => false,
+            Some(head) => matches!(head.holder, Holder::Purged(_)),
+        }
+    }
+
+    /// Was the matter never opened, or was it purged?
+    pub fn is_gone(&self) -> bool
+        ensures { result ≡ is_gone self.now.head }
+    {
+        match &self.head {
+            None => true,
+            Some(head) => matches!(head.holder, Holder::Purged(_)),
+        }
+    }
+
+    /// Was the matter closed?
+    pub fn is_closed(&self) -> bool
+        ensures { result ≡ is_some (closed_on self.now.head) }
+    {
+        match &self.head {
+            None => false,
+            Some(head) => head.closed.is_some(),
+        }
+    }
+
+    /// The day on which the matter was closed, if it was.
+    pub fn closed_on(&self) -> Option<Day>
+        ensures { result ≡ closed_on self.now.head }
+    {
+        match &self.head {
+            None => None,
+            Some(head) => head.closed,
+        }
+    }
+
+    /// The last day, where this day is before it.
+    pub fn last_behind(&self, day: Day) -> Option<Day>
+        ensures { MatchOption result (nat_lt day (last_of self.now.head) ≡ false)
+            (λ last. (nat_lt day (last_of self.now.head) ≡ true) × (last ≡ last_of self.now.head)) }
+    {
+        match &self.head {
+            None => None,
+            Some(head) => {
+                if day.get() < head.last.get() {
+                    Some(head.last)
+                } else {
+                    None
+                }
+            }
+        }
+    }
+
+    /// The last day after an edit that was asked for on this day.
+    pub fn last_after(&self, edit: &Edit, day: Day) -> Day
+        ensures { result ≡ last_after self.now.head edit.now day }
+    {
+        match (&self.head, edit) {
+            (Some(head), Edit::Nothing) => head.last,
+            (None, _) => day,
+            (
+                Some(_),
+                Edit::Open(_)
+                | Edit::Seat(_)
+                | Edit::Unseat(_)
+                | Edit::Close(_)
+                | Edit::Clear(_)
+                | Edit::Append(_)
+                | Edit::Exchange(_),
+            ) => day,
+        }
+    }
+
+    /// The number of the next entry; none after 9999.
+    pub fn next_number(&self) -> Option<EntryNo>
+        ensures { result ≡ next_number self.now.figures.entries }
+    {
+        if self.figures.entries < 9_999 {
+            EntryNo::from_number((self.figures.entries + 1) as u16)
+        } else {
+            None
+        }
+    }
+
+    /// Does this number come next?
+    pub fn is_next(&self, number: EntryNo) -> bool
+        ensures { result ≡ is_number (next_number self.now.figures.entries) number }
+    {
+        self.figures.entries < 9_999 && number.get() as u64 == self.figures.entries + 1
+    }
+
+    /// Makes a change. Where memory is refused, the matter is unchanged.
+    pub fn apply(&mut self, change: &Change) -> Result<(), AllocError>
+        // The matter is a part of the rows after the change, of all rows that it changes and of which the
+        // matter was a part.
+        ensures ok { OnOk result ((rows : Rows) → Sound rows → IsPart self.old rows → IsChange rows change.now
+            → IsPart self.new (changed change.now rows)) }
+        ensures held { OnOk result ((rows : Rows) → Sound rows → IsPart self.old rows → IsChange rows change.now
+            → HoldsOn self.old self.new) }
+        // A matter that keeps all entries keeps all of them.
+        ensures whole { OnOk result ((rows : Rows) → Sound rows → IsWhole self.old rows → IsChange rows change.now
+            → IsWhole self.new (changed change.now rows)) }
+        ensures err { OnErr result (self.new ≡ self.old) }
+    {
+        match change.edit() {
+            Edit::Nothing => Ok(()),
+            Edit::Open(opening) => self.open(opening),
+            Edit::Seat(seat) => self.seat(seat, change.last()),
+            Edit::Unseat(person) => {
+                self.unseat(person, change.last());
+                Ok(())
+            }
+            Edit::Close(day) => {
+                self.close(*day, change.last());
+                Ok(())
+            }
+            Edit::Clear(day) => {
+                self.clear(*day, change.last());
+                Ok(())
+            }
+            Edit::Append(added) => self.keep(added, change.moves(), change.last()),
+            Edit::Exchange(changed) => self.keep(changed, change.moves(), change.last()),
+        }
+    }
+
+    // Takes a head and a seat.
+    fn open(&mut self, opening: &Opening) -> Result<(), AllocError>
+        ensures ok { OnOk result (self.new
+            ≡ record self.old { head = Some opening.now.head; seats = self.old.seats ++ opening.now.seat ∷ [] }) }
+        ensures err { OnErr result (self.new ≡ self.old) }
+    {
+        let head = opening.head.copied()?;
+        let seat = opening.seat.copied()?;
+        self.seats.push(seat)?;
+        self.head = Some(head);
+        Ok(())
+    }
+
+    // Adds a seat.
+    fn seat(&mut self, seat: &Seat, last: Day) -> Result<(), AllocError>
+        ensures ok { OnOk result (self.new
+            ≡ record self.old { head = seen_on self.old.head last; seats = self.new.seats }) }
+        ensures seats { OnOk result (AreInOrder self.old.seats → role_in self.old.seats seat.now.person ≡ None
+            → self.new.seats ≡ seats_with self.old.seats seat.now) }
+        ensures err { OnErr result (self.new ≡ self.old) }
+    {
+        let seat = seat.copied()?;
+        add_seat(&mut self.seats, seat)?;
+        see_on(&mut self.head, last);
+        Ok(())
+    }
+
+    // Takes out a seat.
+    fn unseat(&mut self, person: &PersonId, last: Day)
+        ensures { self.new
+            ≡ record self.old { head = seen_on self.old.head last; seats = seats_without self.old.seats person.now } }
+    {
+        drop_seat(&mut self.seats, person);
+        see_on(&mut self.head, last);
+    }
+
+    // Leaves nothing but the stub of its head.
+    fn clear(&mut self, day: Day, last: Day)
+        ensures { self.new ≡ record { head = cleared_head self.old.head day last; seats = []; figures = no_figures; kept = [] } }
+    {
+        clear_on(&mut self.head, day, last);
+        self.seats.clear();
+        self.figures = Figures::none();
+        self.kept.clear();
+    }
+
+    // Closes it on a day.
+    fn close(&mut self, day: Day, last: Day)
+        ensures { self.new ≡ record self.old { head = closed_head self.old.head day last } }
+    {
+        close_on(&mut self.head, day, last);
+    }
+
+    // Keeps an entry, what is left of it and of the one that it names, and new totals.
+    fn keep(&mut self, entry: &Numbered, moves: TotalsAfter, last: Day) -> Result<(), AllocError>
+        requires { AreSmallTotals moves }
+        ensures ok { OnOk result (IsWritten self.old entry.now moves last self.new) }
+        ensures err { OnErr result (self.new ≡ self.old) }
+    {
+        let copy = entry.entry.copied()?;
+        let kept = Kept {
+            number: entry.number,
+            left: moves.left,
+            entry: copy,
+        };
+        put(&mut self.kept, kept)?;
+        set_other(&mut self.kept, moves.other);
+        self.figures = moves.figures;
+        see_on(&mut self.head, last);
+        Ok(())
+    }
+
+    /// The matter of whole rows: a head, seats and all entries in order. It keeps them all. Store is answered where
+    /// the rows are not sound, and only there, and Memory for want of memory.
+    pub fn of_rows(
+        alloc: Global,
+        head: Option<Head>,
+        seats: Vec<Seat>,
+        entries: &[Entry],
+    ) -> Result<Matter, StoreFault>
+        ensures sound { IfOk result (λ m. Sound (record { head = head; seats = seats.items; entries = entries.now })) }
+        ensures ok { IfOk result (λ m. IsWhole m (record { head = head; seats = seats.items; entries = entries.now })) }
+        ensures store { IfErr result (λ f. f ≡ StoreFault.Store
+            → Sound (record { head = head; seats = seats.items; entries = entries.now }) → ⊥) }
+    {
+        if entries.len() > 9_999 {
+            return Err(StoreFault::Store);
+        }
+        if !are_in_order(seats.as_slice()) {
+            return Err(StoreFault::Store);
+        }
+        if !are_in_form(&head, seats.as_slice(), entries) {
+            return Err(StoreFault::Store);
+        }
+        let Some(figures) = figures_of(entries) else {
+            return Err(StoreFault::Store);
+        };
+        if !is_empty_if_closed(&head, &figures) {
+            return Err(StoreFault::Store);
+        }
+        let kept = all_kept(alloc, entries)?;
+        Ok(Matter::made(head, seats, figures, kept))
+    }
+
+    /// The matter of stored figures: a head, seats, totals and counts, and some of the entries, each with what is
+    /// left of it. Store is answered where a total or what is left is above 999,899,999,990,001 cents, or a count
+    /// above its own range, and only there.
+    pub fn of_part(
+        head: Option<Head>,
+        seats: Vec<Seat>,
+        figures: Figures,
+        kept: Vec<Kept>,
+    ) -> Result<Matter, StoreFault>
+        ensures ok { IfOk result (λ m. m
+            ≡ record { head = head; seats = seats.items; figures = figures; kept = kept.items }) }
+        ensures in_range { IsOk result ↔ (AreSmall figures × All (λ k. k.left ≤ most) kept.items) }
+        ensures store { IfErr result (λ f. f ≡ StoreFault.Store) }
+    {
+        if !are_small(&figures) || !are_small_lefts(kept.as_slice()) {
+            return Err(StoreFault::Store);
+        }
+        Ok(Matter::made(head, seats, figures, kept))
+    }
+
+    /// Is the entry of this number held, if there is a number?
+    pub fn holds_or_none(&self, number: Option<EntryNo>) -> bool
+        ensures { result ≡ is_held_or_none self.now (number_or_none number) }
+    {
+        match number {
+            None => true,
+            Some(number) => self.holds(number),
+        }
+    }
+
+    /// The entry of this number, if there is a number and it is kept; no entry has number 0.
+    pub fn kept_under(&self, number: Option<EntryNo>) -> Option<&Kept>
+        ensures { option_copied result ≡ kept_at self.now (number_or_none number) }
+    {
+        let number = number_or_zero(number);
+        self.kept().iter().find(|k| k.number.get() == number)
+    }
+
+    /// What is left of a fund, in cents.
+    pub fn left_of_fund(&self, fund: Fund) -> u64
+        ensures { pos result ≡ fund_left fund (pos self.now.figures.available) (left_kept (kept_at self.now (fund_no fund))) }
+    {
+        match fund {
+            Fund::General => self.figures().available,
+            Fund::Fee(number) | Fund::Claim(number) => match self.find(number) {
+                None => 0,
+                Some(kept) => kept.left,
+            },
+        }
+    }
+
+    /// Does what is available cover the entry's amount?
+    pub fn covers(&self, entry: &Entry) -> bool
+        ensures { result ≡ not (exceeds (entry_amount entry.now) (pos self.now.figures.available)) }
+    {
+        let amount = match entry {
+            Entry::Deposit(deposit) => deposit.amount.get(),
+            Entry::Payment(payment) => payment.amount.get(),
+            Entry::Fee(fee) => fee.amount.get(),
+            Entry::Claim(claim) => claim.amount.get(),
+        };
+        amount <= self.figures().available
+    }
+}
+
+/// A matter that keeps all entries holds all.
+pub fn whole_holds_all()
+    ensures { WholeHoldsAll }
+{}
+
+// The number, 0 for none.
+fn number_or_zero(number: Option<EntryNo>) -> u16
+    ensures { result ≡ number_or_none number }
+{
+    match number {
+        None => 0,
+        Some(number) => number.get(),
+    }
+}
+
+/// Is nothing left of a matter that was closed, and does nothing wait?
+pub(crate) fn is_empty_if_closed(head: &Option<Head>, figures: &Figures) -> bool
+    requires { AreSmall figures.now }
+    ensures { IsTrue result ↔ AreEmptyIfClosed (closed_on head.now) figures.now }
+{
+    let Some(head) = head else {
+        return true;
+    };
+    if head.closed.is_none() {
+        return true;
+    }
+    let total = figures.available + figures.disputed + figures.fees + figures.claims;
+    total + figures.held == 0 && figures.pending == 0
+}

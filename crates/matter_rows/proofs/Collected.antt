@@ -1,0 +1,17 @@
+-- A matter that is made of whole rows, entry by entry.
+use Rattle.std.proofs.Common.{zero, suc, ◌≡◌, ◌≢◌, ℕ, ◌+◌, ◌-◌, ◌<◌, ◌≤◌, false, List, [], ◌∷◌, ◌++◌, length, get_or, refl, ap, sym, ◌∙◌, arith, Some, eqb, ◌-ℤ◌}
+use Rattle.std.proofs.lemmas.Bool.Decides.{nat_tests}
+use Rattle.matter_rows.specs.declared.entry.Entry.{Entry}
+use Rattle.matter_rows.specs.Rows.{entry_at}
+
+-- entry i + 1 is that of place i
+pub entry-at : (es : List Entry) (i : ℕ) (d : Entry) → i < length es → entry_at es (i + 1) ≡ Some (get_or es i d)
+entry-at [] i d inside = absurd (omega arith)
+entry-at (x ∷ es) zero d inside = refl
+entry-at (x ∷ es) (suc i) d inside =
+    let no : eqb (suc i + 1) 1 ≡ false = grind (arith, nat_tests) in
+    let next : suc i + 1 - 1 ≡ i + 1 = omega arith in
+    rw (no, next) (entry-at es i d (omega arith))
+
+pub entry-at-place : (es : List Entry) (i : ℕ) (e : Entry) → i < length es → e ≡ get_or es i e → entry_at es (i + 1) ≡ Some e
+entry-at-place es i e inside at = entry-at es i e inside ∙ ap Some (sym at)

@@ -1,0 +1,122 @@
+-- The seats by person, after one is added or given up.
+use Rattle.std.specs.declared.cmp.Ordering.{Ordering}
+use Rattle.std.specs.declared.cmp.Ordering.TheVariants.{Less, Equal, Greater}
+use Rattle.std.specs.List.{AllByRecursion, filter, insert, position, position_or_len}
+use Rattle.std.specs.Option.{option_map}
+use Rattle.std.specs.Str.{bytes_eq}
+use Rattle.std.specs.Cmp.Lexicographic.{slice_cmp}
+use Rattle.std.specs.Ordering.{nat_cmp, is_lt, is_eq, ordering_reverse}
+use Rattle.std.proofs.Common.{suc, ◌≡◌, ℕ, ◌+◌, ◌≤◌, not, Bool, true, false, cond, List, [], ◌∷◌, ◌++◌, length, refl, ap, sym, ◌∙◌, arith, Some, None}
+use Rattle.std.proofs.lemmas.Cmp.{nat_list_cmp_total}
+use Rattle.std.proofs.lemmas.Map.Text.{is_eq-slice_cmp}
+use Rattle.matter_rows.specs.declared.seat.Seat.{Seat}
+use Rattle.matter_rows.specs.Rows.{comes_before, role_in, seat_of, seats_with}
+use Rattle.matter_rows.specs.Sound.{AreInOrder}
+use Rattle.matter_rows.proofs.Places.{place-some, place-none}
+
+-- The order of names.
+
+abbrev by_bytes : List ℕ → List ℕ → Ordering
+by_bytes a b = slice_cmp nat_cmp a b
+
+less : (o : Ordering) → is_lt o ≡ true → o ≡ Less
+less Less h = refl
+less Equal h = cc
+less Greater h = cc
+
+never-both : (o : Ordering) → is_lt o ≡ true → is_lt (ordering_reverse o) ≡ false
+never-both Less h = refl
+never-both Equal h = cc
+never-both Greater h = cc
+
+one-or-other : (o : Ordering) → is_lt o ≡ false → is_eq o ≡ false → is_lt (ordering_reverse o) ≡ true
+one-or-other Less h g = cc
+one-or-other Equal h g = cc
+one-or-other Greater h g = refl
+
+before-trans : (a b c : List ℕ) → comes_before a b ≡ true → comes_before b c ≡ true → comes_before a c ≡ true
+before-trans a b c h g = ap is_lt (nat_list_cmp_total.trans a b c (less (by_bytes a b) h) (less (by_bytes b c) g))
+
+pub before-antisym : (a b : List ℕ) → comes_before a b ≡ true → comes_before b a ≡ false
+before-antisym a b h = ap is_lt (nat_list_cmp_total.antisymm b a) ∙ never-both (by_bytes a b) h
+
+pub before-total : (a b : List ℕ) → comes_before a b ≡ false → bytes_eq a b ≡ false → comes_before b a ≡ true
+before-total a b h g = ap is_lt (nat_list_cmp_total.antisymm b a) ∙ one-or-other (by_bytes a b) h (is_eq-slice_cmp a b ∙ g)
+
+-- A seat in its place.
+
+abbrev stands_after : List ℕ → Seat → Bool
+stands_after p s = comes_before p s.person
+
+-- the place of a seat: in front of the first person who comes after
+abbrev place : List Seat → List ℕ → ℕ
+place ss p = position_or_len (stands_after p) ss
+
+abbrev pub before : List ℕ → List Seat → List Seat
+before p ss = filter (λ s. comes_before s.person p) ss
+
+abbrev pub after : List ℕ → List Seat → List Seat
+after p ss = filter (λ s. comes_before p s.person) ss
+
+-- of seats that all come after, none comes before
+pub all-after : (p : List ℕ) (ss : List Seat) → AllByRecursion (λ s. comes_before p s.person ≡ true) ss → (before p ss ≡ []) × (after p ss ≡ ss)
+all-after p [] h = (refl, refl)
+all-after p (s ∷ ss) h =
+    let more = all-after p ss h.1 in
+    let yes : comes_before p s.person ≡ true = h.0 in
+    let no = before-antisym p s.person yes in
+    (rw no more.0, rw yes (ap (λ l. s ∷ l) more.1))
+
+pub after-more : (p q : List ℕ) (ss : List Seat) → comes_before p q ≡ true → AllByRecursion (λ s. comes_before q s.person ≡ true) ss → AllByRecursion (λ s. comes_before p s.person ≡ true) ss
+after-more p q [] h all = tt
+after-more p q (s ∷ ss) h all = (before-trans p q s.person h all.0, after-more p q ss h all.1)
+
+-- who has no seat is not the first, and has none behind it
+pub no-seat : (s : Seat) (ss : List Seat) (p : List ℕ) → role_in (s ∷ ss) p ≡ None → (bytes_eq s.person p ≡ false) × (role_in ss p ≡ None)
+no-seat s ss p h =
+    elim (bytes_eq s.person p) as (λ b. option_map (λ t. t.role) (cond b (Some s) (seat_of ss p)) ≡ None → (b ≡ false) × (role_in ss p ≡ None)) [
+      | true ↦ λ g. cc
+      | false ↦ λ g. (refl, g)
+    ] h
+
+pub bytes_eq-swap : (a b : List ℕ) → bytes_eq a b ≡ false → bytes_eq b a ≡ false
+bytes_eq-swap a b h =
+    let e : is_eq (ordering_reverse (by_bytes a b)) ≡ is_eq (by_bytes a b) = reversed (by_bytes a b) in
+    sym (is_eq-slice_cmp b a) ∙ ap is_eq (nat_list_cmp_total.antisymm b a) ∙ e ∙ is_eq-slice_cmp a b ∙ h
+  where
+    reversed : (o : Ordering) → is_eq (ordering_reverse o) ≡ is_eq o
+    reversed Less = refl
+    reversed Equal = refl
+    reversed Greater = refl
+
+at-place : (ss : List Seat) (new : Seat) → AreInOrder ss → role_in ss new.person ≡ None → insert ss (place ss new.person) new ≡ seats_with ss new
+at-place [] new order none = refl
+at-place (s ∷ ss) new order none =
+    let apart = no-seat s ss new.person none in
+    elim (comes_before new.person s.person) as (λ b. comes_before new.person s.person ≡ b → insert (s ∷ ss) (cond (not b) (1 + place ss new.person) 0) new ≡ seats_with (s ∷ ss) new) [
+      | true ↦ λ yes.
+          let all : AllByRecursion (λ t. comes_before new.person t.person ≡ true) (s ∷ ss) = (yes, after-more new.person s.person ss yes order.0) in
+          let split = all-after new.person (s ∷ ss) all in
+          rw (split.0, split.1) refl
+      | false ↦ λ no.
+          let yes : comes_before s.person new.person ≡ true = before-total new.person s.person no (bytes_eq-swap s.person new.person apart.0) in
+          let next : 1 + place ss new.person ≡ suc (place ss new.person) = omega arith in
+          rw (next, yes, no) (ap (λ l. s ∷ l) (at-place ss new order.1 apart.1))
+    ] refl
+
+at-end : (ss : List Seat) (new : Seat) → role_in ss new.person ≡ None → length ss ≤ place ss new.person → ss ++ new ∷ [] ≡ seats_with ss new
+at-end [] new none last = refl
+at-end (s ∷ ss) new none last =
+    let apart = no-seat s ss new.person none in
+    elim (comes_before new.person s.person) as (λ b. comes_before new.person s.person ≡ b → suc (length ss) ≤ cond (not b) (1 + place ss new.person) 0 → s ∷ (ss ++ new ∷ []) ≡ seats_with (s ∷ ss) new) [
+      | true ↦ λ yes g. absurd (omega arith)
+      | false ↦ λ no g.
+          let yes : comes_before s.person new.person ≡ true = before-total new.person s.person no (bytes_eq-swap s.person new.person apart.0) in
+          rw (yes, no) (ap (λ l. s ∷ l) (at-end ss new apart.1 (omega arith)))
+    ] refl last
+
+pub seated-at : (ss : List Seat) (new : Seat) (i : ℕ) → Some i ≡ position (stands_after new.person) ss → AreInOrder ss → role_in ss new.person ≡ None → insert ss i new ≡ seats_with ss new
+seated-at ss new i h order none = ap (λ j. insert ss j new) (place-some (stands_after new.person) ss i h).1 ∙ at-place ss new order none
+
+pub seated-last : (ss : List Seat) (new : Seat) → None ≡ position (stands_after new.person) ss → role_in ss new.person ≡ None → ss ++ new ∷ [] ≡ seats_with ss new
+seated-last ss new h none = at-end ss new none (place-none (stands_after new.person) ss h)

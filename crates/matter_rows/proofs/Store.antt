@@ -1,0 +1,227 @@
+-- For a part of sound rows there is always a change in range, so Store is never answered.
+use Rattle.std.specs.List.{AllByRecursion}
+use Rattle.std.proofs.Common.{zero, suc, ◌≡◌, ℕ, ◌+◌, ◌-◌, ◌*◌, ◌<◌, ◌≤◌, Bool, true, false, cond, List, [], ◌∷◌, length, refl, sym, arith, subst, Some, eqb, ℤ, pos, negsuc, ◌+ℤ◌, ◌-ℤ◌, ◌≤ℤ◌}
+use Rattle.std.proofs.lemmas.Int.{ints}
+use Rattle.std.proofs.lemmas.Bool.Decides.{nat_tests}
+use Rattle.matter_rows.specs.declared.entry.Entry.{Entry}
+use Rattle.matter_rows.specs.declared.entry.Entry.TheVariants as entry
+use Rattle.matter_rows.specs.declared.payment.Fund.TheVariants as fund
+use Rattle.matter_rows.specs.declared.claim.Against.TheVariants as against
+use Rattle.matter_rows.specs.declared.deposit.DepositState.TheVariants as deposit
+use Rattle.matter_rows.specs.declared.payment.PaymentState.{PaymentState}
+use Rattle.matter_rows.specs.declared.payment.PaymentState.TheVariants as payment
+use Rattle.matter_rows.specs.declared.claim.ClaimState.{ClaimState}
+use Rattle.matter_rows.specs.declared.claim.ClaimState.TheVariants as claim
+use Rattle.matter_rows.specs.Balances.{total_of, left_of, lefts_from, is_fee, is_general_claim, available, held, disputed, fees, claims}
+use Rattle.matter_rows.specs.Shares.{most, draw, draw_on, target, worth, available_share, held_share, disputed_share, fee_share, claim_share, pending_share, paid, apart, to_client, to_claimant, off_fee, on_fee, on_general, from_general, from_fee, from_claim, held_deposit, cleared_deposit, pending_payment}
+use Rattle.matter_rows.specs.Rows.{entry_at}
+use Rattle.matter_rows.specs.Sound.{AreBacked, IsRanged, part_of}
+use Rattle.matter_rows.proofs.Entries.{all-at}
+use Rattle.matter_rows.proofs.Exchange.{fees-by_share, claims-by_share}
+
+-- each share of an entry in range is small, and some are never below zero
+
+abbrev Few : ℤ → Type 0
+Few z = z ≤ℤ pos 99_999_999_999
+
+held-few : (e : Entry) → IsRanged e → Few (held_share e) × (pos 0 ≤ℤ held_share e)
+unfolding held_share
+held-few (entry.Deposit d) r =
+    let a = r.amount in
+    elim d.state as (λ s. Few (held_deposit s d.amount) × (pos 0 ≤ℤ held_deposit s d.amount)) [ deposit.Held ↦ (omega (arith, ints, a), omega (arith, ints)) | _ ↦ (omega (arith, ints, a), omega (arith, ints)) ]
+held-few (entry.Payment p) r = (omega (arith, ints), omega (arith, ints))
+held-few (entry.Fee f) r = (omega (arith, ints), omega (arith, ints))
+held-few (entry.Claim c) r = (omega (arith, ints), omega (arith, ints))
+
+pending-few : (e : Entry) → Few (pending_share e) × (pos 0 ≤ℤ pending_share e)
+unfolding pending_share
+pending-few (entry.Deposit d) = (omega (arith, ints), omega (arith, ints))
+pending-few (entry.Payment p) = elim p.state as (λ s. Few (pending_payment s) × (pos 0 ≤ℤ pending_payment s)) [ payment.Proposed ↦ (omega (arith, ints), omega (arith, ints)) | _ ↦ (omega (arith, ints), omega (arith, ints)) ]
+pending-few (entry.Fee f) = (omega (arith, ints), omega (arith, ints))
+pending-few (entry.Claim c) = (omega (arith, ints), omega (arith, ints))
+
+paid-few : (s : PaymentState) (a : ℕ) → pos 0 ≤ℤ paid s a
+paid-few payment.Proposed a = omega (arith, ints)
+paid-few payment.Declined a = omega (arith, ints)
+paid-few (payment.Issued day) a = omega (arith, ints)
+paid-few (payment.Cleared x) a = omega (arith, ints)
+paid-few (payment.Voided v) a = omega (arith, ints)
+
+apart-few : (s : ClaimState) (a : ℕ) → (apart s a ≤ℤ pos a) × (pos 0 ≤ℤ apart s a)
+apart-few claim.Open a = (omega (arith, ints), omega (arith, ints))
+apart-few (claim.Offered x) a = (omega (arith, ints), omega (arith, ints))
+apart-few (claim.Settled x) a = (omega (arith, ints), omega (arith, ints))
+
+client-few : (s : ClaimState) (a : ℕ) → part_of s ≤ a → (to_client s ≤ℤ pos a) × (pos 0 ≤ℤ to_client s)
+client-few claim.Open a h = (omega (arith, ints), omega (arith, ints))
+client-few (claim.Offered x) a h = (omega (arith, ints), omega (arith, ints))
+client-few (claim.Settled x) a h = (omega (arith, ints, h), omega (arith, ints))
+
+claimant-few : (s : ClaimState) (a : ℕ) → part_of s ≤ a → (to_claimant s a ≤ℤ pos a) × (pos 0 ≤ℤ to_claimant s a)
+claimant-few claim.Open a h = (omega (arith, ints), omega (arith, ints))
+claimant-few (claim.Offered x) a h = (omega (arith, ints), omega (arith, ints))
+claimant-few (claim.Settled x) a h = (omega (arith, ints), omega (arith, ints, h))
+
+disputed-few : (e : Entry) → IsRanged e → Few (disputed_share e) × (pos 0 ≤ℤ disputed_share e)
+unfolding disputed_share
+disputed-few (entry.Deposit d) r = (omega (arith, ints), omega (arith, ints))
+disputed-few (entry.Payment p) r = (omega (arith, ints), omega (arith, ints))
+disputed-few (entry.Fee f) r = (omega (arith, ints), omega (arith, ints))
+disputed-few (entry.Claim c) r =
+    let a = r.amount in
+    let h = apart-few c.state c.amount in
+    elim c.against as (λ g. Few (on_fee g (apart c.state c.amount)) × (pos 0 ≤ℤ on_fee g (apart c.state c.amount))) [
+      | against.General x ↦ (omega (arith, ints), omega (arith, ints))
+      | against.Fee k ↦ (omega (arith, ints, a, h.0), h.1)
+    ]
+
+available-few : (e : Entry) → IsRanged e → Few (available_share e)
+unfolding available_share
+available-few (entry.Deposit d) r =
+    let a = r.amount in elim d.state as (λ s. Few (cleared_deposit s d.amount)) [ deposit.Held ↦ omega (arith, ints, a) | _ ↦ omega (arith, ints, a) ]
+available-few (entry.Payment p) r =
+    let h = paid-few p.state p.amount in
+    elim p.fund as (λ g. Few (pos 0 -ℤ from_general g (paid p.state p.amount))) [ fund.General ↦ omega (arith, ints, h) | _ ↦ omega (arith, ints, h) ]
+available-few (entry.Fee f) r = omega (arith, ints)
+available-few (entry.Claim c) r =
+    let a = r.amount in
+    let h = client-few c.state c.amount r.part in
+    let g = claimant-few c.state c.amount r.part in
+    elim c.against as (λ w. Few (on_fee w (to_client c.state) -ℤ on_general w (to_claimant c.state c.amount))) [
+      | against.General x ↦ omega (arith, ints, g.1)
+      | against.Fee k ↦ omega (arith, ints, a, h.0)
+    ]
+
+fee-few : (e : Entry) → IsRanged e → Few (fee_share e)
+unfolding fee_share
+fee-few (entry.Deposit d) r = omega (arith, ints)
+fee-few (entry.Payment p) r =
+    let h = paid-few p.state p.amount in
+    elim p.fund as (λ g. Few (pos 0 -ℤ from_fee g (paid p.state p.amount))) [ fund.General ↦ omega (arith, ints, h) | _ ↦ omega (arith, ints, h) ]
+fee-few (entry.Fee f) r = let a = r.amount in omega (arith, ints, a)
+fee-few (entry.Claim c) r =
+    let h = client-few c.state c.amount r.part in
+    let g = apart-few c.state c.amount in
+    elim c.against as (λ w. Few (pos 0 -ℤ on_fee w (off_fee c.state c.amount))) [ against.General x ↦ omega (arith, ints, h.1, g.1) | _ ↦ omega (arith, ints, h.1, g.1) ]
+
+claim-few : (e : Entry) → IsRanged e → Few (claim_share e)
+unfolding claim_share
+claim-few (entry.Deposit d) r = omega (arith, ints)
+claim-few (entry.Payment p) r =
+    let h = paid-few p.state p.amount in
+    elim p.fund as (λ g. Few (pos 0 -ℤ from_claim g (paid p.state p.amount))) [ fund.General ↦ omega (arith, ints, h) | _ ↦ omega (arith, ints, h) ]
+claim-few (entry.Fee f) r = omega (arith, ints)
+claim-few (entry.Claim c) r =
+    let a = r.amount in
+    let g = claimant-few c.state c.amount r.part in
+    elim c.against as (λ w. Few (on_general w (to_claimant c.state c.amount))) [ against.General x ↦ omega (arith, ints, a, g.0) | _ ↦ omega (arith, ints, a, g.0) ]
+
+-- sums of small shares
+
+sum-few : (f : Entry → ℤ) (es : List Entry) → ((e : Entry) → IsRanged e → Few (f e)) → AllByRecursion IsRanged es → total_of f es ≤ℤ pos (length es * 99_999_999_999)
+sum-few f [] h r = omega (arith, ints)
+sum-few f (e ∷ es) h r = omega (arith, ints, sum-few f es h r.1, h e r.0)
+
+sum-least : (f : Entry → ℤ) (es : List Entry) → ((e : Entry) → IsRanged e → pos 0 ≤ℤ f e) → AllByRecursion IsRanged es → pos 0 ≤ℤ total_of f es
+sum-least f [] h r = omega (arith, ints)
+sum-least f (e ∷ es) h r = omega (arith, ints, sum-least f es h r.1, h e r.0)
+
+lefts-least : (kind : Entry → Bool) (es : List Entry) (n : ℕ) (part : List Entry) → 0 < n → ((i : ℕ) (e : Entry) → entry_at part i ≡ Some e → pos 0 ≤ℤ left_of es (n + i - 1) e) → pos 0 ≤ℤ lefts_from kind es n part
+lefts-least kind es n [] p h = omega (arith, ints)
+lefts-least kind es n (e ∷ part) p h =
+    let one : n + 1 - 1 ≡ n = omega arith in
+    let P : ℕ → Type 0 = λ k. pos 0 ≤ℤ left_of es k e in
+    let first = subst P one (h 1 e refl) in
+    let more = lefts-least kind es (n + 1) part (omega arith) (λ i x g.
+    elim i as (λ j. entry_at part j ≡ Some x → pos 0 ≤ℤ left_of es (n + 1 + j - 1) x) [
+      | zero ↦ λ q. absurd (none-zero part x q)
+      | suc j ↦ λ q.
+          let at : entry_at (e ∷ part) (suc (suc j)) ≡ Some x = let no-one : eqb (suc (suc j)) 1 ≡ false = grind (arith, nat_tests) in let less : suc (suc j) - 1 ≡ suc j = omega arith in rw no-one (rw less q) in
+          let same : n + suc (suc j) - 1 ≡ n + 1 + suc j - 1 = omega arith in
+          let Q : ℕ → Type 0 = λ k. pos 0 ≤ℤ left_of es k x in
+          subst Q same (h (suc (suc j)) x at)
+    ] g) in
+    elim (kind e) as (λ b. pos 0 ≤ℤ (cond b (left_of es n e) (pos 0) +ℤ lefts_from kind es (n + 1) part)) [ true ↦ omega (arith, ints, first, more) | false ↦ omega (arith, ints, more) ]
+  where
+    none-zero : (es : List Entry) (x : Entry) → entry_at es 0 ≡ Some x → ⊥
+    none-zero [] x q = cc
+    none-zero (e ∷ es) x q = none-zero es x q
+
+-- a number for a sum
+-- z as a natural number, 0 below zero
+abbrev pub natural : ℤ → ℕ
+natural (pos n) = n
+natural (negsuc n) = 0
+
+is-natural : (z : ℤ) → pos 0 ≤ℤ z → pos (natural z) ≡ z
+is-natural (pos n) h = refl
+is-natural (negsuc n) h = absurd (omega (arith, ints, h))
+
+-- a balance of sound entries, as a number in range
+pub record IsBalance (z : ℤ) : Type 0 where
+  pub is : pos (natural z) ≡ z
+  pub small : natural z ≤ most
+
+balance : (z : ℤ) (n : ℕ) → n ≤ 9_999 → pos 0 ≤ℤ z → z ≤ℤ pos (n * 99_999_999_999) → IsBalance z
+balance z n few low high =
+    let is = is-natural z low in
+    record { is = is; small = omega (arith, ints, is, high, few) }
+
+pub held-balance : (es : List Entry) → AreBacked es → IsBalance (held es)
+held-balance es s = balance (held es) (length es) s.few (sum-least held_share es (λ e r. (held-few e r).1) s.ranged) (sum-few held_share es (λ e r. (held-few e r).0) s.ranged)
+
+pub pending-balance : (es : List Entry) → AreBacked es → IsBalance (total_of pending_share es)
+pending-balance es s = balance (total_of pending_share es) (length es) s.few (sum-least pending_share es (λ e r. (pending-few e).1) s.ranged) (sum-few pending_share es (λ e r. (pending-few e).0) s.ranged)
+
+pub disputed-balance : (es : List Entry) → AreBacked es → IsBalance (disputed es)
+disputed-balance es s = balance (disputed es) (length es) s.few (sum-least disputed_share es (λ e r. (disputed-few e r).1) s.ranged) (sum-few disputed_share es (λ e r. (disputed-few e r).0) s.ranged)
+
+pub available-balance : (es : List Entry) → AreBacked es → IsBalance (available es)
+available-balance es s = balance (available es) (length es) s.few s.available (sum-few available_share es available-few s.ranged)
+
+lefts-sound : (kind : Entry → Bool) (es : List Entry) → AreBacked es → pos 0 ≤ℤ lefts_from kind es 1 es
+lefts-sound kind es s = lefts-least kind es 1 es (omega arith) (λ i e h. let same : 1 + i - 1 ≡ i = omega arith in let P : ℕ → Type 0 = λ k. pos 0 ≤ℤ left_of es k e in subst P (sym same) (s.left i e h))
+
+pub fees-balance : (es : List Entry) → AreBacked es → IsBalance (fees es)
+fees-balance es s = balance (fees es) (length es) s.few (lefts-sound is_fee es s) (let f = fees-by_share es s.named in let g = sum-few fee_share es fee-few s.ranged in omega (arith, ints, f, g))
+
+pub claims-balance : (es : List Entry) → AreBacked es → IsBalance (claims es)
+claims-balance es s = balance (claims es) (length es) s.few (lefts-sound is_general_claim es s) (let f = claims-by_share es s.named in let g = sum-few claim_share es claim-few s.ranged in omega (arith, ints, f, g))
+
+draw-least : (e : Entry) → pos 0 ≤ℤ draw e
+unfolding draw
+draw-least (entry.Deposit d) = omega (arith, ints)
+draw-least (entry.Payment p) = paid-few p.state p.amount
+draw-least (entry.Fee f) = omega (arith, ints)
+draw-least (entry.Claim c) =
+    let a = apart-few c.state c.amount in
+    let b = client-least c.state in
+    elim c.against as (λ w. pos 0 ≤ℤ on_fee w (off_fee c.state c.amount)) [ against.General x ↦ omega (arith, ints) | _ ↦ omega (arith, ints, a.1, b) ]
+  where
+    client-least : (s : ClaimState) → pos 0 ≤ℤ to_client s
+    client-least claim.Open = omega (arith, ints)
+    client-least (claim.Offered x) = omega (arith, ints)
+    client-least (claim.Settled x) = omega (arith, ints)
+
+draws-least : (n : ℕ) (es : List Entry) → pos 0 ≤ℤ total_of (draw_on n) es
+draws-least n [] = omega (arith, ints)
+draws-least n (e ∷ es) =
+    let more = draws-least n es in
+    let d = draw-least e in
+    elim (eqb (target e) n) as (λ b. pos 0 ≤ℤ (cond b (draw e) (pos 0) +ℤ total_of (draw_on n) es)) [ true ↦ omega (arith, ints, more, d) | false ↦ omega (arith, ints, more) ]
+
+worth-few : (e : Entry) → IsRanged e → Few (worth e)
+unfolding worth
+worth-few (entry.Deposit d) r = omega (arith, ints)
+worth-few (entry.Payment p) r = omega (arith, ints)
+worth-few (entry.Fee f) r = let a = r.amount in omega (arith, ints, a)
+worth-few (entry.Claim c) r =
+    let a = r.amount in
+    let g = claimant-few c.state c.amount r.part in
+    elim c.against as (λ w. Few (on_general w (to_claimant c.state c.amount))) [ against.General x ↦ omega (arith, ints, a, g.0) | _ ↦ omega (arith, ints) ]
+
+-- what is left of an entry of sound entries, as a number in range
+pub left-balance : (es : List Entry) (n : ℕ) (e : Entry) → AreBacked es → entry_at es n ≡ Some e → IsBalance (left_of es n e)
+left-balance es n e s at =
+    balance (left_of es n e) 1 (omega arith) (s.left n e at)
+    (let w = worth-few e (all-at IsRanged es n e s.ranged at) in let d = draws-least n es in omega (arith, ints, w, d))

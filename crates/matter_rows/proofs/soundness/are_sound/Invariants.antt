@@ -1,0 +1,7 @@
+use Rattle.std.specs.List.{AllByRecursion}
+use Rattle.std.proofs.Common.{◌↔◌, drop}
+use Rattle.matter_rows.specs.SoundRows.{IsSoundEntry}
+use Rattle.matter_rows.proofs.soundness.are_sound.Given as goal
+
+abbrev pub invariant-loop-entry : goal.invariant-loop-entry
+invariant-loop-entry l = AllByRecursion (IsSoundEntry l.head l.entries) l.entries ↔ AllByRecursion (IsSoundEntry l.head l.entries) (drop l.entry-index l.entries)

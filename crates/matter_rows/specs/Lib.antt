@@ -1,0 +1,9 @@
+pub mod Balances
+pub mod Events
+pub mod Laws
+pub mod LeftLaws
+pub mod Clearings
+pub mod Rows
+pub mod Shares
+pub mod Sound
+pub mod SoundRows

@@ -1,0 +1,38 @@
+-- What is tested of whole rows: each entry by itself and with those that it names, the head, and what is left.
+use Rattle.std.specs.Prelude.{◌≡◌, ℕ, ◌+◌, ◌≤◌, true, List, [], map, Option, Some, None}
+use Rattle.std.specs.List.{AllByRecursion}
+use Rattle.matter_rows.specs.declared.head.Head.{Head}
+use Rattle.matter_rows.specs.declared.seat.Seat.{Seat}
+use Rattle.matter_rows.specs.declared.entry.Entry.{Entry}
+use Rattle.matter_rows.specs.Rows.{book_day}
+use Rattle.matter_rows.specs.Balances.{names}
+use Rattle.matter_rows.specs.Sound.{IsRanged, IsBy, IsRising, AreRising, IsFundedInTime, IsBare}
+
+abbrev pub IsByIfClosed : Option ℕ → Entry → Type 0
+IsByIfClosed None e = Unit {0}
+IsByIfClosed (Some day) e = IsBy day e
+
+-- an entry of a matter with this head, among its entries
+pub record IsSoundEntry (h : Head) (es : List Entry) (e : Entry) : Type 0 where
+  pub ranged : IsRanged e
+  pub named : names es e ≡ true
+  pub by_last : IsBy h.last e
+  pub by_close : IsByIfClosed h.closed e
+  pub rising : IsRising e
+  pub funded : IsFundedInTime es e
+
+-- a matter is closed between its opening and the last day
+abbrev pub IsClosedWithin : ℕ → ℕ → Option ℕ → Type 0
+IsClosedWithin opened last None = Unit {0}
+IsClosedWithin opened last (Some day) = (opened ≤ day) × (day ≤ last)
+
+pub record IsSoundHead (h : Head) (es : List Entry) : Type 0 where
+  pub opened : h.opened ≤ h.last
+  pub closed : IsClosedWithin h.opened h.last h.closed
+  pub made : AreRising h.opened (map book_day es)
+  pub entries : AllByRecursion (IsSoundEntry h es) es
+
+-- rows without a head have nothing else, nor has a purged matter
+abbrev pub AreInForm : Option Head → List Seat → List Entry → Type 0
+AreInForm None seats es = (seats ≡ []) × (es ≡ [])
+AreInForm (Some h) seats es = IsSoundHead h es × IsBare h.holder h.closed h.last seats es

@@ -1,0 +1,45 @@
+//! What the bank told of an entry.
+
+ghost use Rattle.std.specs.Prelude.{◌≡◌, IfOk};
+ghost use Rattle.matter_rows.specs.Clearings.{clearing_by, is_clearing_by};
+
+use std::alloc::AllocError;
+use trust_base::{BankText, Day, Line};
+
+/// The line of the bank that cleared an entry, or took a deposit back: its date and the bank's own reference.
+#[derive(Drop)]
+pub struct Clearing {
+    pub bank_day: Day,
+    pub bank_ref: BankText,
+}
+
+impl Clearing {
+    /// The same, with texts of its own. An error means that a growth was refused; `self` stays as it is.
+    pub fn copied(&self) -> Result<Clearing, AllocError>
+        ensures { IfOk result (λ m. m ≡ self.now) }
+    {
+        let bank_ref = self.bank_ref.copied()?;
+        Ok(Clearing {
+            bank_day: self.bank_day,
+            bank_ref,
+        })
+    }
+
+    // Is it the line's date and the bank's reference?
+    pub(crate) fn is_by(&self, line: &Line) -> bool
+        ensures { result ≡ is_clearing_by self.now line.now }
+    {
+        self.bank_day.get() == line.date.get() && self.bank_ref.is_same(&line.bank_ref)
+    }
+}
+
+// The line's date and the bank's reference.
+pub(crate) fn clearing_by(line: &Line) -> Result<Clearing, AllocError>
+    ensures { IfOk result (λ c. c ≡ clearing_by line.now) }
+{
+    let bank_ref = line.bank_ref.copied()?;
+    Ok(Clearing {
+        bank_day: line.date,
+        bank_ref,
+    })
+}

@@ -1,0 +1,213 @@
+//! Deposits: their states, what they add to the balances and what they move.
+
+ghost use Rattle.std.specs.Prelude.{◌≡◌, IfOk, ◌+◌, ◌-◌, ◌<◌, ◌≤◌, ◌≤ℤ◌, ◌-ℤ◌, ◌+ℤ◌, true, ◌++◌, ◌↔◌, ◌&&◌, IsTrue};
+ghost use Rattle.std.specs.List.{AllByRecursion};
+ghost use Rattle.matter_rows.specs.Shares.{shares_of, no_shares, AreSmallShares};
+ghost use Rattle.matter_rows.specs.Events.{events_of, nth_moved};
+ghost use Rattle.matter_rows.specs.Clearings.{has_amount_back, clearing_by, is_deposit_cleared_by, is_deposit_returned_by, is_line_again, deposit_by};
+ghost use Rattle.matter_rows.specs.Sound.{deposit_days, deposit_bank, AreRising, IsBackInTime};
+
+use crate::clearing::{Clearing, clearing_by};
+use crate::entry::Entry;
+use crate::movement::{EntryMovement, movement};
+use crate::shares::{Shares, no_shares};
+use crate::soundness::is_up_to;
+use std::alloc::AllocError;
+use trust_base::{Cents, Day, EntryNo, Label, Line};
+
+/// A deposit that the bank cleared and then took back: both of its lines, and the day on which the return was
+/// booked.
+#[derive(Drop)]
+pub struct ReturnedDeposit {
+    pub clearing: Clearing,
+    pub returning: Clearing,
+    pub undone: Day,
+}
+
+/// A deposit is held until the bank tells of it, or is cancelled on a day; the bank may take a cleared one back.
+#[derive(Drop)]
+pub enum DepositState {
+    Held,
+    Cleared(Clearing),
+    Cancelled(Day),
+    Returned(ReturnedDeposit),
+}
+
+impl DepositState {
+    /// The same, with texts of its own. An error means that a growth was refused; `self` stays as it is.
+    pub fn copied(&self) -> Result<DepositState, AllocError>
+        ensures { IfOk result (λ s. s ≡ self.now) }
+    {
+        match self {
+            DepositState::Held => Ok(DepositState::Held),
+            DepositState::Cleared(clearing) => Ok(DepositState::Cleared(clearing.copied()?)),
+            DepositState::Cancelled(day) => Ok(DepositState::Cancelled(*day)),
+            DepositState::Returned(back) => {
+                let clearing = back.clearing.copied()?;
+                let returning = back.returning.copied()?;
+                Ok(DepositState::Returned(ReturnedDeposit {
+                    clearing,
+                    returning,
+                    undone: back.undone,
+                }))
+            }
+        }
+    }
+
+    /// Was the deposit cleared with the line's date and the bank's reference?
+    pub fn is_cleared_by(&self, line: &Line) -> bool
+        ensures { result ≡ is_deposit_cleared_by self.now line.now }
+    {
+        match self {
+            DepositState::Cleared(clearing) => clearing.is_by(line),
+            DepositState::Returned(back) => back.clearing.is_by(line),
+            DepositState::Held | DepositState::Cancelled(_) => false,
+        }
+    }
+
+    // Was the deposit taken back with the line's date and the bank's reference?
+    fn is_returned_by(&self, line: &Line) -> bool
+        ensures { result ≡ is_deposit_returned_by self.now line.now }
+    {
+        match self {
+            DepositState::Returned(back) => back.returning.is_by(line),
+            DepositState::Held | DepositState::Cleared(_) | DepositState::Cancelled(_) => false,
+        }
+    }
+
+    /// The state once the line has cleared a held deposit, or taken a cleared one back on the business day; the
+    /// same in any other state.
+    pub fn told(&self, line: &Line, today: Day) -> Result<DepositState, AllocError>
+        ensures { IfOk result (λ s. s ≡ deposit_by line.now today self.now) }
+    {
+        match self {
+            DepositState::Held => Ok(DepositState::Cleared(clearing_by(line)?)),
+            DepositState::Cleared(clearing) => {
+                let clearing = clearing.copied()?;
+                let returning = clearing_by(line)?;
+                Ok(DepositState::Returned(ReturnedDeposit {
+                    clearing,
+                    returning,
+                    undone: today,
+                }))
+            }
+            DepositState::Cancelled(_) | DepositState::Returned(_) => self.copied(),
+        }
+    }
+
+    pub(crate) fn is_by(&self, day: Day) -> bool
+        ensures { IsTrue result ↔ AllByRecursion (λ d. d ≤ day) (deposit_days self.now ++ deposit_bank self.now) }
+    {
+        match self {
+            DepositState::Held => true,
+            DepositState::Cleared(clearing) => is_up_to(clearing.bank_day, day),
+            DepositState::Cancelled(cancelled) => is_up_to(*cancelled, day),
+            DepositState::Returned(returned) => {
+                is_up_to(returned.undone, day)
+                    && is_up_to(returned.clearing.bank_day, day)
+                    && is_up_to(returned.returning.bank_day, day)
+            }
+        }
+    }
+
+    pub(crate) fn is_rising(&self, book: Day) -> bool
+        ensures { IsTrue result ↔ (AreRising book (deposit_days self.now) × IsBackInTime self.now) }
+    {
+        match self {
+            DepositState::Held | DepositState::Cleared(_) => true,
+            DepositState::Cancelled(day) => is_up_to(book, *day),
+            DepositState::Returned(returned) => {
+                is_up_to(book, returned.undone)
+                    && is_up_to(returned.returning.bank_day, returned.undone)
+            }
+        }
+    }
+}
+
+/// Money received for the client.
+#[derive(Drop)]
+pub struct Deposit {
+    pub book: Day,
+    pub amount: Cents,
+    pub source: Label,
+    pub description: Label,
+    pub state: DepositState,
+}
+
+impl Deposit {
+    /// The deposit in another state. An error means that a growth was refused; `self` stays as it is.
+    pub fn restated(&self, state: DepositState) -> Result<Deposit, AllocError>
+        ensures { IfOk result (λ d. d ≡ record self.now { state = state }) }
+    {
+        let source = self.source.copied()?;
+        let description = self.description.copied()?;
+        Ok(Deposit {
+            book: self.book,
+            amount: self.amount,
+            source,
+            description,
+            state,
+        })
+    }
+
+    pub(crate) fn copied(&self) -> Result<Deposit, AllocError>
+        ensures { IfOk result (λ d. d ≡ self.now) }
+    {
+        let state = self.state.copied()?;
+        self.restated(state)
+    }
+
+    // What the deposit adds to each balance.
+    #[tactic(auto, unfolding(crate::specs::Shares::held_share, crate::specs::Shares::available_share, crate::specs::Shares::disputed_share, crate::specs::Shares::fee_share, crate::specs::Shares::claim_share, crate::specs::Shares::pending_share))]
+    pub(crate) fn shares(&self) -> Shares
+        ensures is { result ≡ shares_of (Entry.Deposit self.now) }
+        ensures small { AreSmallShares result }
+    {
+        let none = no_shares();
+        let amount = self.amount.get() as i64;
+        match &self.state {
+            DepositState::Held => Shares {
+                held: amount,
+                ..none
+            },
+            DepositState::Cleared(_) => Shares {
+                available: amount,
+                ..none
+            },
+            DepositState::Cancelled(_) | DepositState::Returned(_) => none,
+        }
+    }
+
+    // Its event of this place, the first being 0.
+    #[tactic(auto, unfolding(crate::specs::Events::events_of))]
+    pub(crate) fn event(&self, number: EntryNo, place: usize) -> Option<EntryMovement>
+        ensures { result ≡ nth_moved number place (events_of (Entry.Deposit self.now)) }
+    {
+        let amount = self.amount.get() as i64;
+        if place == 0 {
+            return Some(movement(number, self.book, amount));
+        }
+        match &self.state {
+            DepositState::Cancelled(day) if place == 1 => Some(movement(number, *day, -amount)),
+            DepositState::Returned(r) if place == 1 => Some(movement(number, r.undone, -amount)),
+            _ => None,
+        }
+    }
+
+    // Does the line have the negative of its amount?
+    pub(crate) fn has_amount_back(&self, line: &Line) -> bool
+        ensures { result ≡ has_amount_back self.now line.now }
+    {
+        -(self.amount.get() as i64) == line.amount.get()
+    }
+
+    /// Did the line clear it, or take it back, before?
+    pub fn is_again(&self, line: &Line) -> bool
+        ensures { result ≡ is_line_again (Some (Entry.Deposit self.now)) line.now }
+    {
+        if self.state.is_cleared_by(line) && self.amount.get() as i64 == line.amount.get() {
+            return true;
+        }
+        self.state.is_returned_by(line) && self.has_amount_back(line)
+    }
+}

@@ -1,0 +1,304 @@
+//! The entries of a matter, of whatever kind.
+
+ghost use Rattle.std.specs.Prelude.{◌≡◌, IfOk, ◌+◌, ◌-◌, ◌<◌, ◌≤◌, ◌≤ℤ◌, ◌-ℤ◌, ◌+ℤ◌, length, ◌≢◌, ◌↔◌, IsTrue, true, ◌++◌, ◌&&◌};
+ghost use Rattle.matter_rows.specs.Shares.{shares_of, worth, draw, target, AreSmallShares, IsSmallShare, number_or_none, draw_on};
+ghost use Rattle.matter_rows.specs.Events.{events_of, nth_moved};
+ghost use Rattle.matter_rows.specs.Sound.{Sound, IsRanged, IsBy, IsRising, IsFundedInTime};
+ghost use Rattle.matter_rows.specs.Clearings.{cleared_amount, has_its_amount, is_return};
+ghost use Rattle.matter_rows.specs.Rows.{book_day};
+ghost use Rattle.matter_rows.specs.Balances.{is_settled, names};
+ghost use Rattle.matter_rows.specs.SoundRows.{IsByIfClosed, IsSoundEntry};
+
+use crate::claim::{Against, Claim, ClaimState};
+use crate::deposit::{Deposit, DepositState};
+use crate::fee::Fee;
+use crate::head::Head;
+use crate::movement::EntryMovement;
+use crate::payment::{Fund, Payment, PaymentState};
+use crate::shares::Shares;
+use crate::soundness::is_up_to;
+use std::alloc::AllocError;
+use trust_base::{Day, EntryNo, Line};
+
+/// An entry of a matter. `book` is in each the day on which it was made.
+#[derive(Drop)]
+pub enum Entry {
+    Deposit(Deposit),
+    Payment(Payment),
+    Fee(Fee),
+    Claim(Claim),
+}
+
+impl Entry {
+    /// The same entry, with texts of its own. An error means that a growth was refused; `self` stays as it is.
+    pub fn copied(&self) -> Result<Entry, AllocError>
+        ensures { IfOk result (λ e. e ≡ self.now) }
+    {
+        match self {
+            Entry::Deposit(d) => Ok(Entry::Deposit(d.copied()?)),
+            Entry::Payment(p) => Ok(Entry::Payment(p.copied()?)),
+            Entry::Fee(f) => Ok(Entry::Fee(f.copied()?)),
+            Entry::Claim(c) => Ok(Entry::Claim(c.copied()?)),
+        }
+    }
+
+    /// What the entry adds to each balance, in cents, and to the count of pending payments. No share is greater in
+    /// size than twice the greatest amount.
+    pub fn shares(&self) -> Shares
+        ensures is { result ≡ shares_of self.now }
+        ensures small { AreSmallShares result }
+    {
+        match self {
+            Entry::Deposit(d) => d.shares(),
+            Entry::Payment(p) => p.shares(),
+            Entry::Fee(f) => f.shares(),
+            Entry::Claim(c) => c.shares(),
+        }
+    }
+
+    #[tactic(auto, unfolding(crate::specs::Shares::worth))]
+    /// What the entry is worth before others draw on it, in cents: a fee its amount; a claim on the general fund its
+    /// amount while open, then the claimant's part; otherwise 0.
+    pub fn worth(&self) -> i64
+        ensures is { result ≡ worth self.now }
+        ensures small { IsSmallShare result }
+    {
+        match self {
+            Entry::Fee(f) => f.amount.get() as i64,
+            Entry::Claim(c) => match &c.against {
+                Against::General(_) => c.to_claimant(),
+                Against::Fee(_) => 0,
+            },
+            _ => 0,
+        }
+    }
+
+    #[tactic(auto, unfolding(crate::specs::Shares::draw))]
+    /// What it takes out of its fund, in cents: a payment while issued or cleared, from whatever fund; a claim on a
+    /// fee its amount while open, then the client's part; otherwise 0.
+    pub fn draw(&self) -> i64
+        ensures is { result ≡ draw self.now }
+        ensures small { IsSmallShare result }
+    {
+        match self {
+            Entry::Payment(p) => p.paid(),
+            Entry::Claim(c) => match &c.against {
+                Against::General(_) => 0,
+                Against::Fee(_) => c.off_fee(),
+            },
+            _ => 0,
+        }
+    }
+
+    /// The entry that it draws on.
+    pub fn target(&self) -> Option<EntryNo>
+        ensures { number_or_none result ≡ target self.now }
+    {
+        match self {
+            Entry::Payment(p) => match p.fund {
+                Fund::General => None,
+                Fund::Fee(number) | Fund::Claim(number) => Some(number),
+            },
+            Entry::Claim(c) => match &c.against {
+                Against::General(_) => None,
+                Against::Fee(number) => Some(*number),
+            },
+            _ => None,
+        }
+    }
+
+    // How many events it has had.
+    #[tactic(auto, unfolding(crate::specs::Events::events_of))]
+    pub(crate) fn event_count(&self) -> usize
+        ensures { result ≡ length (events_of self.now) }
+    {
+        match self {
+            Entry::Deposit(d) => match &d.state {
+                DepositState::Cancelled(_) | DepositState::Returned(_) => 2,
+                _ => 1,
+            },
+            Entry::Payment(p) => match &p.state {
+                PaymentState::Issued(_) | PaymentState::Cleared(_) => 1,
+                PaymentState::Voided(_) => 2,
+                _ => 0,
+            },
+            _ => 0,
+        }
+    }
+
+    // Its event of this place, the first being 0.
+    #[tactic(auto, unfolding(crate::specs::Events::events_of))]
+    pub(crate) fn event(&self, number: EntryNo, place: usize) -> Option<EntryMovement>
+        ensures { result ≡ nth_moved number place (events_of self.now) }
+    {
+        match self {
+            Entry::Deposit(d) => d.event(number, place),
+            Entry::Payment(p) => p.event(number, place),
+            _ => None,
+        }
+    }
+
+    // What the entry draws on the one of a number.
+    pub(crate) fn draw_on(&self, number: EntryNo) -> i64
+        ensures is { result ≡ draw_on number self.now }
+        ensures small { IsSmallShare result }
+    {
+        let drawn = self.draw();
+        match self.target() {
+            None => 0,
+            Some(target) => {
+                if target.get() == number.get() {
+                    drawn
+                } else {
+                    0
+                }
+            }
+        }
+    }
+
+    // The amount of the line that clears it, in cents: a deposit comes in, a payment goes out.
+    fn cleared_amount(&self) -> i64
+        ensures { result ≡ cleared_amount self.now }
+    {
+        match self {
+            Entry::Deposit(deposit) => deposit.amount.get() as i64,
+            Entry::Payment(payment) => -(payment.amount.get() as i64),
+            Entry::Fee(_) | Entry::Claim(_) => 0,
+        }
+    }
+
+    /// Does the line take it back: is it a cleared deposit, and the line of the negative of its amount?
+    pub fn is_return(&self, line: &Line) -> bool
+        ensures { result ≡ is_return (Some self.now) line.now }
+    {
+        match self {
+            Entry::Deposit(deposit) => {
+                matches!(deposit.state, DepositState::Cleared(_)) && deposit.has_amount_back(line)
+            }
+            Entry::Payment(_) | Entry::Fee(_) | Entry::Claim(_) => false,
+        }
+    }
+
+    /// Does the line have this amount?
+    pub fn has_its_amount(&self, line: &Line) -> bool
+        ensures { result ≡ has_its_amount self.now line.now }
+    {
+        self.cleared_amount() == line.amount.get()
+    }
+
+    // Is it a claim on the general fund that was settled?
+    pub(crate) fn is_settled(&self) -> bool
+        ensures { result ≡ is_settled self.now }
+    {
+        match self {
+            Entry::Claim(claim) => match (&claim.against, &claim.state) {
+                (Against::General(_), ClaimState::Settled(_)) => true,
+                (Against::General(_), ClaimState::Open | ClaimState::Offered(_)) => false,
+                (Against::Fee(_), _) => false,
+            },
+            Entry::Deposit(_) | Entry::Payment(_) | Entry::Fee(_) => false,
+        }
+    }
+
+    // Is its amount one, and a claim's part within it? The type says the first.
+    fn is_ranged(&self) -> bool
+        ensures { IsTrue result ↔ IsRanged self.now }
+    {
+        match self {
+            Entry::Deposit(deposit) => {
+                let _amount = deposit.amount.get();
+                true
+            }
+            Entry::Payment(payment) => {
+                let _amount = payment.amount.get();
+                true
+            }
+            Entry::Fee(fee) => {
+                let _amount = fee.amount.get();
+                true
+            }
+            Entry::Claim(claim) => claim.state.part() <= claim.amount.get(),
+        }
+    }
+
+    // Is what it names there, and of the kind that it wants?
+    #[tactic(auto, unfolding(crate::specs::Balances::names))]
+    fn names(&self, entries: &[Entry]) -> bool
+        ensures { result ≡ names entries.now self.now }
+    {
+        match self {
+            Entry::Payment(payment) => payment.fund.is_in(entries),
+            Entry::Claim(claim) => claim.against.is_in(entries),
+            Entry::Deposit(_) | Entry::Fee(_) => true,
+        }
+    }
+
+    // Is no day of it after this one?
+    #[tactic(auto, unfolding(crate::specs::Sound::days_of))]
+    fn is_by(&self, day: Day) -> bool
+        ensures { IsTrue result ↔ IsBy day self.now }
+    {
+        match self {
+            Entry::Deposit(deposit) => is_up_to(deposit.book, day) && deposit.state.is_by(day),
+            Entry::Payment(payment) => is_up_to(payment.book, day) && payment.state.is_by(day),
+            Entry::Fee(fee) => is_up_to(fee.book, day),
+            Entry::Claim(claim) => is_up_to(claim.book, day) && claim.state.is_by(day),
+        }
+    }
+
+    // Is no day of it after the closing?
+    fn is_by_close(&self, closed: Option<Day>) -> bool
+        ensures { IsTrue result ↔ IsByIfClosed closed self.now }
+    {
+        match closed {
+            None => true,
+            Some(day) => self.is_by(day),
+        }
+    }
+
+    // Did it change on no day before an earlier change?
+    fn is_rising(&self) -> bool
+        ensures { IsTrue result ↔ IsRising self.now }
+    {
+        match self {
+            Entry::Deposit(deposit) => deposit.state.is_rising(deposit.book),
+            Entry::Payment(payment) => payment.state.is_rising(payment.book),
+            Entry::Fee(_) => true,
+            Entry::Claim(claim) => claim.state.is_rising(claim.book),
+        }
+    }
+
+    // Is a payment from a claim booked on no day before the settling?
+    fn is_funded_in_time(&self, entries: &[Entry]) -> bool
+        ensures { IsTrue result ↔ IsFundedInTime entries.now self.now }
+    {
+        match self {
+            Entry::Payment(payment) => payment.fund.is_ready_by(entries, payment.book),
+            Entry::Deposit(_) | Entry::Fee(_) | Entry::Claim(_) => true,
+        }
+    }
+
+    // Is it an entry of a sound matter with this head, among these entries?
+    pub(crate) fn is_sound(&self, head: &Head, entries: &[Entry]) -> bool
+        ensures { IsTrue result ↔ IsSoundEntry head.now entries.now self.now }
+    {
+        self.is_ranged()
+            && self.names(entries)
+            && self.is_by(head.last)
+            && self.is_by_close(head.closed)
+            && self.is_rising()
+            && self.is_funded_in_time(entries)
+    }
+
+    // The day on which it was made.
+    pub(crate) fn book(&self) -> Day
+        ensures { result ≡ book_day self.now }
+    {
+        match self {
+            Entry::Deposit(deposit) => deposit.book,
+            Entry::Payment(payment) => payment.book,
+            Entry::Fee(fee) => fee.book,
+            Entry::Claim(claim) => claim.book,
+        }
+    }
+}

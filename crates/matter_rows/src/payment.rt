@@ -1,0 +1,285 @@
+//! Payments: their states, what they draw and what they move.
+
+ghost use Rattle.std.specs.Prelude.{◌≡◌, IfOk, ◌+◌, ◌-◌, ◌<◌, ◌≤◌, ◌≤ℤ◌, ◌-ℤ◌, ◌+ℤ◌, pos, true, ◌&&◌, ◌++◌, ◌↔◌, IsTrue};
+ghost use Rattle.std.specs.List.{AllByRecursion};
+ghost use Rattle.matter_rows.specs.Shares.{shares_of, no_shares, AreSmallShares, number_or_none, paid, fund_no};
+ghost use Rattle.matter_rows.specs.Events.{events_of, nth_moved};
+ghost use Rattle.matter_rows.specs.Rows.{is_same_fund, entry_at};
+ghost use Rattle.matter_rows.specs.Clearings.{clearing_by, is_payment_cleared_by, cleared_payment};
+ghost use Rattle.matter_rows.specs.Balances.{funds};
+ghost use Rattle.matter_rows.specs.Sound.{payment_days, payment_bank, AreRising, funded_from};
+
+use crate::claim::Claim;
+use crate::clearing::{Clearing, clearing_by};
+use crate::entry::Entry;
+use crate::fee::Fee;
+use crate::movement::{EntryMovement, movement};
+use crate::shares::{Shares, no_shares};
+use crate::soundness::{entry_at, has_fee, is_up_to};
+use std::alloc::AllocError;
+use trust_base::{Cents, Day, EntryNo, Label, Line};
+
+/// Where a payment takes its money: what is available, a fee that was earned, or a claim that was settled.
+#[derive(Clone, Copy)]
+pub enum Fund {
+    General,
+    Fee(EntryNo),
+    Claim(EntryNo),
+}
+
+impl Fund {
+    /// The number of the fee or claim that it is, if it is one.
+    pub fn number(self) -> Option<EntryNo>
+        ensures { number_or_none result ≡ fund_no self }
+    {
+        match self {
+            Fund::General => None,
+            Fund::Fee(number) | Fund::Claim(number) => Some(number),
+        }
+    }
+
+    /// Is it the same fund?
+    pub fn is_same(self, other: Fund) -> bool
+        ensures { result ≡ is_same_fund self other }
+    {
+        match self {
+            Fund::General => matches!(other, Fund::General),
+            Fund::Fee(number) => match other {
+                Fund::Fee(k) => number.get() == k.get(),
+                _ => false,
+            },
+            Fund::Claim(number) => match other {
+                Fund::Claim(k) => number.get() == k.get(),
+                _ => false,
+            },
+        }
+    }
+
+    // Is the fund among the entries, and of its kind?
+    pub(crate) fn is_in(self, entries: &[Entry]) -> bool
+        ensures { result ≡ funds entries.now self }
+    {
+        match self {
+            Fund::General => true,
+            Fund::Fee(number) => has_fee(entries, number),
+            Fund::Claim(number) => match entry_at(entries, number) {
+                None => false,
+                Some(entry) => entry.is_settled(),
+            },
+        }
+    }
+
+    // Was it settled by the day, if it is a claim that was?
+    pub(crate) fn is_ready_by(self, entries: &[Entry], day: Day) -> bool
+        ensures { IsTrue result ↔ (funded_from entries.now self ≤ day) }
+    {
+        match self {
+            Fund::General | Fund::Fee(_) => true,
+            Fund::Claim(number) => match entry_at(entries, number) {
+                Some(Entry::Claim(claim)) => claim.state.is_ready_by(day),
+                Some(Entry::Deposit(_) | Entry::Payment(_) | Entry::Fee(_)) | None => true,
+            },
+        }
+    }
+}
+
+/// A payment that the bank told of: the day of its issue and the line.
+#[derive(Drop)]
+pub struct ClearedPayment {
+    pub issued: Day,
+    pub clearing: Clearing,
+}
+
+/// A payment that was taken back: the day of its issue and that of the voiding.
+#[derive(Clone, Copy)]
+pub struct VoidedPayment {
+    pub issued: Day,
+    pub undone: Day,
+}
+
+/// A payment is proposed, and then declined, or issued on a day and then cleared or voided.
+#[derive(Drop)]
+pub enum PaymentState {
+    Proposed,
+    Declined,
+    Issued(Day),
+    Cleared(ClearedPayment),
+    Voided(VoidedPayment),
+}
+
+impl PaymentState {
+    /// The same, with texts of its own. An error means that a growth was refused; `self` stays as it is.
+    pub fn copied(&self) -> Result<PaymentState, AllocError>
+        ensures { IfOk result (λ s. s ≡ self.now) }
+    {
+        match self {
+            PaymentState::Proposed => Ok(PaymentState::Proposed),
+            PaymentState::Declined => Ok(PaymentState::Declined),
+            PaymentState::Issued(day) => Ok(PaymentState::Issued(*day)),
+            PaymentState::Cleared(paid) => {
+                let clearing = paid.clearing.copied()?;
+                Ok(PaymentState::Cleared(ClearedPayment {
+                    issued: paid.issued,
+                    clearing,
+                }))
+            }
+            PaymentState::Voided(voided) => Ok(PaymentState::Voided(*voided)),
+        }
+    }
+
+    /// Was the payment cleared with the line's date and the bank's reference?
+    pub fn is_cleared_by(&self, line: &Line) -> bool
+        ensures { result ≡ is_payment_cleared_by self.now line.now }
+    {
+        match self {
+            PaymentState::Cleared(paid) => paid.clearing.is_by(line),
+            PaymentState::Proposed
+            | PaymentState::Declined
+            | PaymentState::Issued(_)
+            | PaymentState::Voided(_) => false,
+        }
+    }
+
+    /// The state once the line has cleared an issued payment, which keeps the day of its issue; the same in
+    /// any other state.
+    pub fn cleared(&self, line: &Line) -> Result<PaymentState, AllocError>
+        ensures { IfOk result (λ s. s ≡ cleared_payment line.now self.now) }
+    {
+        match self {
+            PaymentState::Issued(issued) => {
+                let clearing = clearing_by(line)?;
+                Ok(PaymentState::Cleared(ClearedPayment {
+                    issued: *issued,
+                    clearing,
+                }))
+            }
+            _ => self.copied(),
+        }
+    }
+
+    pub(crate) fn is_by(&self, day: Day) -> bool
+        ensures { IsTrue result ↔ AllByRecursion (λ d. d ≤ day) (payment_days self.now ++ payment_bank self.now) }
+    {
+        match self {
+            PaymentState::Proposed | PaymentState::Declined => true,
+            PaymentState::Issued(issued) => is_up_to(*issued, day),
+            PaymentState::Cleared(cleared) => {
+                is_up_to(cleared.issued, day) && is_up_to(cleared.clearing.bank_day, day)
+            }
+            PaymentState::Voided(voided) => {
+                is_up_to(voided.issued, day) && is_up_to(voided.undone, day)
+            }
+        }
+    }
+
+    pub(crate) fn is_rising(&self, book: Day) -> bool
+        ensures { IsTrue result ↔ AreRising book (payment_days self.now) }
+    {
+        match self {
+            PaymentState::Proposed | PaymentState::Declined => true,
+            PaymentState::Issued(issued) => is_up_to(book, *issued),
+            PaymentState::Cleared(cleared) => is_up_to(book, cleared.issued),
+            PaymentState::Voided(voided) => {
+                is_up_to(book, voided.issued) && is_up_to(voided.issued, voided.undone)
+            }
+        }
+    }
+}
+
+/// Money paid out for the client.
+#[derive(Drop)]
+pub struct Payment {
+    pub book: Day,
+    pub amount: Cents,
+    pub fund: Fund,
+    pub payee: Label,
+    pub purpose: Label,
+    pub instrument: Label,
+    pub state: PaymentState,
+}
+
+impl Payment {
+    /// The payment in another state. An error means that a growth was refused; `self` stays as it is.
+    pub fn restated(&self, state: PaymentState) -> Result<Payment, AllocError>
+        ensures { IfOk result (λ p. p ≡ record self.now { state = state }) }
+    {
+        let payee = self.payee.copied()?;
+        let purpose = self.purpose.copied()?;
+        let instrument = self.instrument.copied()?;
+        Ok(Payment {
+            book: self.book,
+            amount: self.amount,
+            fund: self.fund,
+            payee,
+            purpose,
+            instrument,
+            state,
+        })
+    }
+
+    pub(crate) fn copied(&self) -> Result<Payment, AllocError>
+        ensures { IfOk result (λ p. p ≡ self.now) }
+    {
+        let state = self.state.copied()?;
+        self.restated(state)
+    }
+
+    // What the payment takes out of its fund, in cents: its amount while issued or cleared.
+    pub(crate) fn paid(&self) -> i64
+        ensures is { result ≡ paid self.now.state self.now.amount }
+        ensures low { pos 0 ≤ℤ result }
+        ensures high { result ≤ℤ pos 99_999_999_999 }
+    {
+        let amount = self.amount.get() as i64;
+        match &self.state {
+            PaymentState::Issued(_) | PaymentState::Cleared(_) => amount,
+            _ => 0,
+        }
+    }
+
+    // What the payment adds to the balance of its fund, and to the count of pending payments.
+    #[tactic(auto, unfolding(crate::specs::Shares::held_share, crate::specs::Shares::available_share, crate::specs::Shares::disputed_share, crate::specs::Shares::fee_share, crate::specs::Shares::claim_share, crate::specs::Shares::pending_share))]
+    pub(crate) fn shares(&self) -> Shares
+        ensures is { result ≡ shares_of (Entry.Payment self.now) }
+        ensures small { AreSmallShares result }
+    {
+        let none = no_shares();
+        let paid = self.paid();
+        let pending = match &self.state {
+            PaymentState::Proposed | PaymentState::Issued(_) => 1,
+            _ => 0,
+        };
+        match self.fund {
+            Fund::General => Shares {
+                available: -paid,
+                pending,
+                ..none
+            },
+            Fund::Fee(_) => Shares {
+                fees: -paid,
+                pending,
+                ..none
+            },
+            Fund::Claim(_) => Shares {
+                claims: -paid,
+                pending,
+                ..none
+            },
+        }
+    }
+
+    // Its event of this place, the first being 0.
+    #[tactic(auto, unfolding(crate::specs::Events::events_of))]
+    pub(crate) fn event(&self, number: EntryNo, place: usize) -> Option<EntryMovement>
+        ensures { result ≡ nth_moved number place (events_of (Entry.Payment self.now)) }
+    {
+        let amount = self.amount.get() as i64;
+        match &self.state {
+            PaymentState::Issued(day) if place == 0 => Some(movement(number, *day, -amount)),
+            PaymentState::Cleared(c) if place == 0 => Some(movement(number, c.issued, -amount)),
+            PaymentState::Voided(v) if place == 0 => Some(movement(number, v.issued, -amount)),
+            PaymentState::Voided(v) if place == 1 => Some(movement(number, v.undone, amount)),
+            _ => None,
+        }
+    }
+}

@@ -1,0 +1,49 @@
+//! What each entry adds to each balance.
+
+ghost use Rattle.std.specs.Prelude.{◌≡◌, ℕ, ◌+◌, ◌-◌, ◌<◌, ◌≤◌, ◌≤ℤ◌, ◌-ℤ◌, ◌+ℤ◌, pos, IfSome, IfNone};
+ghost use Rattle.matter_rows.specs.Shares.{no_shares, AreSmallShares, IsSmallShare, most};
+
+/// What an entry adds to each total, in cents, and `pending`, 1 for a payment proposed or issued.
+#[derive(Clone, Copy)]
+pub struct Shares {
+    pub held: i64,
+    pub available: i64,
+    pub disputed: i64,
+    pub fees: i64,
+    pub claims: i64,
+    pub pending: i64,
+}
+
+/// The shares of an entry that adds nothing: zero to each balance, in cents, and no pending payment.
+pub fn no_shares() -> Shares
+    ensures is { result ≡ no_shares }
+    ensures small { AreSmallShares result }
+{
+    Shares {
+        held: 0,
+        available: 0,
+        disputed: 0,
+        fees: 0,
+        claims: 0,
+        pending: 0,
+    }
+}
+
+/// The total with one share exchanged for another, in cents; none where that is below zero or above
+/// 999,899,999,990,001 (9,999 entries of the greatest amount).
+pub fn moved(total: u64, out: i64, share: i64) -> Option<u64>
+    requires total { total ≤ most }
+    requires out { IsSmallShare out }
+    requires share { IsSmallShare share }
+    ensures some { IfSome result (λ t. (t ≤ most) × (pos t ≡ (pos total -ℤ out) +ℤ share)) }
+    ensures none { IfNone result ((t : ℕ) → t ≤ most → pos t ≡ (pos total -ℤ out) +ℤ share → ⊥) }
+{
+    let sum = total as i64 - out + share;
+    if sum < 0 {
+        None
+    } else if 999_899_999_990_001 < sum {
+        None
+    } else {
+        Some(sum as u64)
+    }
+}

@@ -1,0 +1,58 @@
+//! The shares of many entries, added up.
+
+ghost use Rattle.std.specs.Prelude.{◌≡◌, ◌≢◌, ℕ, ◌+◌, ◌<◌, ◌≤◌, ◌↔◌, pos, length, IfSome, IfNone};
+ghost use Rattle.matter_rows.specs.Shares.{draw_on, held_share, available_share, disputed_share, fee_share, claim_share, pending_share, most, IsSmallSum, AreSmallSums};
+ghost use Rattle.matter_rows.specs.Balances.{available, total_of};
+
+use crate::entry::Entry;
+use crate::shares::{Shares, no_shares};
+use trust_base::EntryNo;
+
+/// The shares of all entries, added up.
+pub fn sums_of(entries: &[Entry]) -> Shares
+    requires { length entries.now ≤ 9_999 }
+    ensures held { result.held ≡ total_of held_share entries.now }
+    ensures available { result.available ≡ total_of available_share entries.now }
+    ensures disputed { result.disputed ≡ total_of disputed_share entries.now }
+    ensures fees { result.fees ≡ total_of fee_share entries.now }
+    ensures claims { result.claims ≡ total_of claim_share entries.now }
+    ensures pending { result.pending ≡ total_of pending_share entries.now }
+    ensures small { AreSmallSums result }
+{
+    let mut sums = no_shares();
+    for entry in entries {
+        let shares = entry.shares();
+        sums.held += shares.held;
+        sums.available += shares.available;
+        sums.disputed += shares.disputed;
+        sums.fees += shares.fees;
+        sums.claims += shares.claims;
+        sums.pending += shares.pending;
+    }
+    sums
+}
+
+/// A sum as a total, where it is one.
+pub fn as_total(sum: i64) -> Option<u64>
+    ensures some { IfSome result (λ t. (t ≤ most) × (pos t ≡ sum)) }
+    ensures none { IfNone result ((t : ℕ) → t ≤ most → pos t ≢ sum) }
+{
+    if sum < 0 || 999_899_999_990_001 < sum {
+        None
+    } else {
+        Some(sum as u64)
+    }
+}
+
+/// What all entries draw on the one of a number.
+pub fn drawn_on(entries: &[Entry], number: EntryNo) -> i64
+    requires { length entries.now ≤ 9_999 }
+    ensures is { result ≡ total_of (draw_on number) entries.now }
+    ensures small { IsSmallSum result }
+{
+    let mut drawn = 0;
+    for entry in entries {
+        drawn += entry.draw_on(number);
+    }
+    drawn
+}

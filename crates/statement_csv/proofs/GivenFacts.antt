@@ -1,0 +1,94 @@
+-- What was given of a statement.
+use Rattle.std.proofs.Common.{◌≡◌, ◌≤◌, ◌+◌, ℕ, Bool, true, false, List, [], ◌∷◌, ◌++◌, length, take, drop, Option, Some, None, refl, sym, ap, subst, ◌∙◌, arith, inl, inr, length-append, length-drop, add-zero}
+use Rattle.std.proofs.lemmas.Bool.{cases_Bool}
+use Rattle.std.specs.Prelude.{option_map}
+use Rattle.std.specs.Io.KnownBytes.{Keeps, prepend_known}
+use Rattle.csv.proofs.ReadFacts.{rows-more}
+use Rattle.csv.specs.Reading.{ReadRecord, Reached, default_config, has_failed, reader_source, reader_state, records, source_of, strip_bom}
+use Rattle.csv.specs.declared.parser.State.TheVariants as st
+use Rattle.byte_streams.specs.CsvRecords.{rest_records}
+use Rattle.byte_streams.proofs.CsvFronts.{front-records, length-strip_bom, rest-all, strip_bom-front}
+use Rattle.trust_base.specs.declared.limits.TheConstants.{MAX_FILE_BYTES}
+use Rattle.statement_csv.specs.Headers.{is_header}
+use Rattle.statement_csv.specs.Items.{item_of, items, items_after_header, items_from}
+use Rattle.statement_csv.specs.Limits.{IsHeldBack, left_of}
+use Rattle.statement_csv.specs.Reading.{GivesWithin, HasRead, IsGivenWithin, Records, Stands, items_left, records_left, unread}
+use Rattle.statement_csv.specs.declared.item.Item.{Item}
+
+kept : (known : Option (List ℕ)) (bytes : List ℕ) → Keeps (Some bytes) known → known ≡ Some bytes
+kept None bytes h = absurd h
+kept (Some ys) bytes h = rw h refl
+
+-- a statement of which nothing was read
+pub stands-start : (whole known : Option (List ℕ)) (rdr : Records) → Keeps whole known → unread rdr ≡ option_map strip_bom known → reader_state rdr ≡ st.StartRecord → Stands whole true 1 rdr
+unfolding Reached
+stands-start whole known rdr keeps source state = (
+  refl,
+  λ bytes is.
+      let same : known ≡ Some bytes = kept known bytes (rw is at keeps) in
+      (strip_bom bytes, source ∙ ap (option_map strip_bom) same, omega (arith, length-strip_bom bytes), (sym state, refl)),
+)
+
+-- the bytes that a CSV reader holds stand before those that its reader has left
+source-long : (b : Records) (z rest : List ℕ) → source_of left_of b ≡ Some z → b.bom_checked ≡ true → left_of (reader_source b) ≡ Some rest → length rest ≤ length z
+source-long b z rest source checked left = elim (cases_Bool (has_failed b)) [
+  | inl t ↦ let none = rw t at source in cc
+  | inr t ↦ by (drop b.at (take b.filled b.buffer)) (rw (t, checked, left) at source)
+]
+  where
+    by : (held : List ℕ) → Some (held ++ rest) ≡ Some z → length rest ≤ length z
+    by held e =
+        let same : held ++ rest ≡ z = cc in
+        rw (← same) (omega (arith, length-append held rest))
+
+-- one more record was read
+pub read-more : (whole : Option (List ℕ)) (a b : Records) (rows : List (List (List ℕ))) (f : List (List ℕ)) → a.config ≡ default_config → ReadRecord left_of a b true f
+    → IsHeldBack whole (reader_source b).left → HasRead whole rows a → HasRead whole (rows ++ (f ∷ [])) b
+read-more whole a b rows f config r held read bytes is =
+    let (rest, source, long, reached) = read bytes is in
+    let (z, at_z, further) = rows-more left_of a b f default_config st.StartRecord (strip_bom bytes) rest rows config source reached r in
+    let (given, most, left) = held bytes is in
+    let behind = source-long b z (drop given bytes) at_z r.1 left in
+    (z, at_z, omega (arith, length-drop given bytes), further)
+
+-- the header was read
+pub stands-header : (whole : Option (List ℕ)) (number : ℕ) (a b : Records) (f : List (List ℕ)) → is_header f ≡ true
+    → ((rows : List (List (List ℕ))) → HasRead whole rows a → HasRead whole (rows ++ (f ∷ [])) b) → Stands whole true number a → Stands whole false number b
+stands-header whole number a b f header more stands = (f, [], header, stands.0, more [] stands.1)
+
+-- the record of an item was read
+pub stands-item : (whole : Option (List ℕ)) (number : ℕ) (a b : Records) (f : List (List ℕ))
+    → ((rows : List (List (List ℕ))) → HasRead whole rows a → HasRead whole (rows ++ (f ∷ [])) b) → Stands whole false number a → Stands whole false (number + 1) b
+stands-item whole number a b f more stands =
+    let (header, rows, is, count, read) = stands in
+    (header, rows ++ (f ∷ []), is, omega (arith, count, length-append rows (f ∷ [])), more (header ∷ rows) read)
+
+items_from-append : (n : ℕ) (xs ys : List (List (List ℕ))) → items_from n (xs ++ ys) ≡ items_from n xs ++ items_from (n + length xs) ys
+unfolding items_from
+items_from-append n [] ys = rw (add-zero n) refl
+items_from-append n (x ∷ xs) ys =
+    let size : n + 1 + length xs ≡ n + length (x ∷ xs) = omega arith in
+    rw (items_from-append (n + 1) xs ys, size) refl
+
+header-items : (header : List (List ℕ)) (rows : List (List (List ℕ))) → is_header header ≡ true → items_after_header 1 (header ∷ rows) ≡ Some (items_from 1 rows)
+header-items header rows is = rw is refl
+
+-- what was given, where the header and some records were read
+pub gives-within : (whole : Option (List ℕ)) (number : ℕ) (rdr : Records) → Stands whole false number rdr → GivesWithin whole (option_map (items_left false number) (records_left rdr))
+gives-within whole number rdr stands bytes told =
+    let (header, rows, is, count, read) = stands in
+    let (rest, source, long, reached) = read bytes told in
+    let (front, joins, of_front) = front-records (strip_bom bytes) rest (header ∷ rows) (reader_state rdr) reached in
+    let (size, place, stripped) = strip_bom-front bytes front rest joins in
+    let all = rest-all st.StartRecord (reader_state rdr) (strip_bom bytes) rest (header ∷ rows) reached in
+    let left = rest_records (reader_state rdr) rest in (
+      items_from number left,
+      ap (λ (known : Option (List ℕ)). option_map (items_left false number) (option_map (rest_records (reader_state rdr)) known)) source,
+      record {
+        given = items_from 1 rows;
+        size = size;
+        within = omega (arith, long, place);
+        front = ap (λ (text : List ℕ). items_after_header 1 (records default_config text)) stripped ∙ ap (items_after_header 1) of_front ∙ header-items header rows is;
+        whole = ap (items_after_header 1) all ∙ header-items header (rows ++ left) is ∙ ap (λ (its : List Item). Some its) (items_from-append 1 rows left ∙ ap (λ (n : ℕ). items_from 1 rows ++ items_from n left) (sym count));
+      },
+    )

@@ -1,6 +1,0 @@
-use Rattle.std.proofs.Common.{arith}
-use Rattle.trust_base.proofs.SignedFacts.{if-zero-none}
-use Rattle.trust_base.proofs.bank_amount.read_negative.Goals as goal
-
-pub returns-clause-none : goal.returns-clause-none
-returns-clause-none c = if-zero-none _ c.in-Some.size _ (omega arith) c.in-Some.ensures.some c.withdrawal.ensures.none

@@ -1,5 +1,0 @@
-use Rattle.trust_base.proofs.ReadFacts.{amount_of-is}
-use Rattle.trust_base.proofs.cents.Cents.read.Goals as goal
-
-pub returns-clause-value : goal.returns-clause-value
-returns-clause-value c = let e = c.read_amount.ensures in amount_of-is _ _ e.range e.some e.none

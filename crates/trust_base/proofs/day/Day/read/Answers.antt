@@ -1,5 +1,0 @@
-use Rattle.trust_base.proofs.DayFacts.{day_of-is}
-use Rattle.trust_base.proofs.day.Day.read.Goals as goal
-
-pub returns-clause-value : goal.returns-clause-value
-returns-clause-value c = let e = c.read_day.ensures in day_of-is _ _ e.range e.some e.none

@@ -1,6 +1,0 @@
-use Rattle.std.proofs.Common.{sym, arith}
-use Rattle.trust_base.proofs.DayFacts.{ten-bytes}
-use Rattle.trust_base.proofs.day.day_bytes.Goals as goal
-
-pub returns : goal.returns
-returns c = sym (ten-bytes c.args.number (omega arith))

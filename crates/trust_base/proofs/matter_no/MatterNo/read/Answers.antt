@@ -1,5 +1,0 @@
-use Rattle.trust_base.proofs.ReadFacts.{matter_of-is}
-use Rattle.trust_base.proofs.matter_no.MatterNo.read.Goals as goal
-
-pub returns-clause-value : goal.returns-clause-value
-returns-clause-value c = let e = c.read_matter.ensures in matter_of-is _ _ e.range e.some e.none

@@ -1,9 +1,0 @@
--- What a fault of a stream leaves.
-use Rattle.std.specs.Prelude.{ℕ, ◌<◌, ◌≤◌, List, length}
-use Rattle.trust_base.specs.declared.input.ReadFault.{ReadFault}
-use Rattle.trust_base.specs.declared.input.ReadFault.TheVariants.{Reader, Memory}
-
--- the bytes taken before a fault: no more than the limit, and some where it is their growth that was refused
-abbrev pub IsTakenBefore : ReadFault → ℕ → List ℕ → Type 0
-IsTakenBefore Reader limit bs = length bs ≤ limit
-IsTakenBefore Memory limit bs = (0 < length bs) × (length bs ≤ limit)

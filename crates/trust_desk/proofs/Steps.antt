@@ -1,0 +1,40 @@
+-- A step by its reply.
+use Rattle.std.proofs.Common.{◌≡◌, inl, inr, ℕ, Bool, true, false, [], refl}
+use Rattle.std.specs.Prelude.{MatchBool}
+use Rattle.trust_base.specs.Refusals.{is_fault}
+use Rattle.trust_base.specs.declared.refusal.Refusal.{Refusal}
+use Rattle.trust_base.specs.declared.refusal.Refusal.TheVariants as refusals
+use Rattle.firm_rows.specs.Firm.{Firm}
+use Rattle.trust_desk.specs.declared.requests.Reply.{Reply}
+use Rattle.trust_desk.specs.declared.requests.Request.TheVariants.{Matter, Import}
+use Rattle.trust_desk.specs.Heard.{Heard, Asks, Unread}
+use Rattle.trust_desk.specs.ImportStep.{imported}
+use Rattle.trust_desk.specs.Replies.{is_fault_reply, refused}
+use Rattle.trust_desk.specs.FirmStep.{IsFaultReply, IsStopped, Stopped, Steps, firm_step}
+
+-- nothing was done of what is heard
+pub nothing-done : (day : ℕ) (firm : Firm) (h : Heard) → Stopped day firm h firm
+nothing-done day firm (Asks (Matter m caller ask)) = refl
+nothing-done day firm (Asks (Import caller statement)) =
+    (imported caller statement, record { front = []; parts = refl; leaves = refl })
+nothing-done day firm (Unread named r) = refl
+
+-- the reply to a fault
+fault-reply : (r : Refusal) → is_fault r ≡ true → IsFaultReply (refused r)
+fault-reply refusals.Store fault = inl refl
+fault-reply refusals.Memory fault = inr refl
+fault-reply _ fault = absurd (cc)
+
+pub steps-fault : (day : ℕ) (firm new : Firm) (h : Heard) (r : Refusal) → is_fault r ≡ true → Stopped day firm h new → Steps day firm h (refused r) new
+steps-fault day firm new h r fault stopped = cases (is_fault r) fault
+  where
+    cases : (b : Bool) → b ≡ true → MatchBool b (IsStopped day firm h (refused r) new) ((refused r ≡ (firm_step day firm h).reply) × (new ≡ (firm_step day firm h).firm))
+    cases true e = record { says = fault-reply r fault; leaves = stopped }
+    cases false e = absurd (cc)
+
+pub steps-plain : (day : ℕ) (firm new : Firm) (h : Heard) (reply : Reply) → is_fault_reply reply ≡ false → reply ≡ (firm_step day firm h).reply → new ≡ (firm_step day firm h).firm → Steps day firm h reply new
+steps-plain day firm new h reply plain says leaves = cases (is_fault_reply reply) plain
+  where
+    cases : (b : Bool) → b ≡ false → MatchBool b (IsStopped day firm h reply new) ((reply ≡ (firm_step day firm h).reply) × (new ≡ (firm_step day firm h).firm))
+    cases true e = absurd (cc)
+    cases false e = (says, leaves)

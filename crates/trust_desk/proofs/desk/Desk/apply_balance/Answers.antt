@@ -1,0 +1,51 @@
+use Rattle.std.proofs.Common.{◌≡◌, ◌∙◌, ap, sym, subst}
+use Rattle.firm_rows.specs.declared.ledger.Verdict.{Verdict}
+use Rattle.firm_rows.specs.Firm.{Firm, of}
+use Rattle.firm_rows.specs.FirmChange.{after, by_balance}
+use Rattle.firm_rows.specs.FirmLines.{balance_verdict, kept_balance}
+use Rattle.trust_desk.specs.Calls.{KeepsBook}
+use Rattle.trust_desk.specs.ItemStep.{counted_by, balance_on}
+use Rattle.trust_desk.proofs.Calls.{read-kept, write-kept, kept-then}
+use Rattle.trust_desk.proofs.OwnItems.{of-balance}
+use Rattle.trust_desk.proofs.desk.Desk.apply_balance.Goals as goal
+
+pub write_balance-requires : goal.write_balance-requires
+write_balance-requires g c =
+    λ clean stands.
+    let found = c.in_ok-kept.ensures in
+    let stood = found.read.stood clean stands in
+    (c.args.day, (c.decide_balance-verdict.ensures ∙ ap (λ k. balance_verdict k c.args.line.now c.args.day) (found.found clean stood)) ∙ ap (λ (f : Firm). balance_verdict (kept_balance c.args.kind c.args.line.now.date f.balances) c.args.line.now c.args.day) (sym (found.read.same clean stood)))
+
+pub returns-clause-step : goal.returns-clause-step
+returns-clause-step g c =
+    λ clean stands.
+    let B = g.B.Book in
+    let firm = g.B.Book.firm in
+    let v = c.decide_balance-verdict.result in
+    let found = c.in_ok-kept.ensures in
+    let write = c.in_ok-write_balance.ensures.written in
+    let read = write.was_clean clean in
+    let book = ap firm c.self.view_is in
+    let stood = subst (B.stands) (sym c.self.view_is) stands in
+    let is : v ≡ balance_on (firm c.args.self.now) c.args.kind c.args.line.now c.args.day = (c.decide_balance-verdict.ensures ∙ ap (λ k. balance_verdict k c.args.line.now c.args.day) (found.found read stood)) ∙ ap (λ (f : Firm). balance_verdict (kept_balance c.args.kind c.args.line.now.date f.balances) c.args.line.now c.args.day) book in
+    let written = write.ok clean (found.read.still_stands read stood) ∙ ap (after (by_balance c.args.kind c.args.line.now v)) (found.read.same read stood ∙ book) in
+    (c.counted_by.ensures ∙ ap counted_by is, written ∙ ap (λ (x : Verdict). after (by_balance c.args.kind c.args.line.now x) (firm c.args.self.now)) is)
+
+pub returns-clause-others : goal.returns-clause-others
+returns-clause-others g c =
+    λ clean stands m.
+    let B = g.B.Book in
+    let firm = g.B.Book.firm in
+    let v = c.decide_balance-verdict.result in
+    let found = c.in_ok-kept.ensures in
+    let write = c.in_ok-write_balance.ensures.written in
+    let read = write.was_clean clean in
+    let stood = subst (B.stands) (sym c.self.view_is) stands in
+    let written = write.ok clean (found.read.still_stands read stood) ∙ ap (after (by_balance c.args.kind c.args.line.now v)) (found.read.same read stood ∙ ap firm c.self.view_is) in
+    ap (of m) written ∙ of-balance m c.args.kind c.args.line.now v (firm c.args.self.now)
+
+pub returns-clause-kept : goal.returns-clause-kept
+returns-clause-kept g c =
+    let B = g.B.Book in
+    subst (λ b. KeepsBook (B.clean) (B.sure) (B.stands) (B.refusals) (λ n. n) b c.write_balance.new.self) c.self.view_is
+    (kept-then (read-kept c.in_ok-kept.ensures.read) (write-kept c.in_ok-write_balance.ensures.written))

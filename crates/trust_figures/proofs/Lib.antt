@@ -1,0 +1,13 @@
+pub mod DifferenceTold
+pub mod Lasts
+pub mod Listing
+pub mod Lists
+pub mod OpeningRows
+pub mod Places
+pub mod PurgedFigures
+pub mod PurgedLists
+pub mod Reconciling
+pub mod Retained
+pub mod Sizes
+pub mod Tidy
+pub mod Trial

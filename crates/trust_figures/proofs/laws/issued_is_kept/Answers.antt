@@ -1,0 +1,5 @@
+use Rattle.trust_figures.proofs.Places.{issued-kept}
+use Rattle.trust_figures.proofs.laws.issued_is_kept.Goals as goal
+
+pub returns : goal.returns
+returns c = issued-kept

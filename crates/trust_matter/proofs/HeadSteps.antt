@@ -1,0 +1,296 @@
+-- What an accepted ask leaves of the head and the seats.
+use Rattle.std.specs.Prelude.{is_some, is_none}
+use Rattle.std.specs.List.{AllByRecursion, filter}
+use Rattle.std.specs.Option.{option_map}
+use Rattle.std.specs.Str.{bytes_eq}
+use Rattle.std.proofs.Common.{◌≡◌, ℕ, Bool, true, false, cond, List, [], ◌∷◌, ◌++◌, refl, ap, sym, ◌∙◌, subst, Option, Some, None}
+use Rattle.std.proofs.lemmas.Bool.{false≢true}
+use Rattle.std.proofs.lemmas.Slice.Eq.{bytes_eq-Decides}
+use Rattle.trust_base.specs.declared.refusal.Refusal.{Refusal}
+use Rattle.matter_rows.specs.declared.claim.Against.{Against}
+use Rattle.matter_rows.specs.declared.claim.Against.TheVariants as against
+use Rattle.matter_rows.specs.declared.claim.ClaimState.{ClaimState}
+use Rattle.matter_rows.specs.declared.payment.PaymentState.{PaymentState}
+use Rattle.matter_rows.specs.declared.payment.PaymentState.TheVariants as payment
+use Rattle.matter_rows.specs.declared.claim.ClaimState.TheVariants as claim
+use Rattle.matter_rows.specs.declared.entry.Entry.{Entry}
+use Rattle.matter_rows.specs.declared.entry.Entry.TheVariants as entry
+use Rattle.matter_rows.specs.declared.head.Head.{Head}
+use Rattle.matter_rows.specs.declared.seat.Seat.{Seat}
+use Rattle.matter_rows.specs.Rows.{Rows, entry_at, last_of, comes_before, role_in, seat_of, seats_with, seats_without}
+use Rattle.matter_rows.specs.Sound.{AreInOrder, IsHeaded, Sound}
+use Rattle.matter_rows.proofs.Seating.{before-antisym, before-total, all-after, after-more, no-seat, bytes_eq-swap}
+use Rattle.matter_parts.specs.declared.edit.Edit.{Edit}
+use Rattle.matter_parts.specs.declared.edit.Edit.TheVariants as edit
+use Rattle.matter_parts.specs.Changes.{changed_by, head_after, last_after}
+use Rattle.matter_parts.proofs.StepForms.{rows-of}
+use Rattle.trust_matter.specs.declared.ask.Ask.{Ask}
+use Rattle.trust_matter.specs.declared.ask.Ask.TheVariants as ask
+use Rattle.trust_matter.specs.declared.ask.Caller.{Caller}
+use Rattle.trust_matter.specs.declared.ask.OpenAsk.{OpenAsk}
+use Rattle.trust_matter.specs.Conditions.{is_changing, is_opening, is_unknown_to, is_repeat, is_no_claim, is_no_deposit, is_no_payment}
+use Rattle.trust_matter.specs.Facts.{Asked, facts_of, number_named}
+use Rattle.trust_matter.specs.HeadLaws.{IsOpened, OpeningOpens, IsClosed, ClosingCloses, HasOneMore, IsSeated, SeatIsAdded, IsUnseated, SeatIsDropped, PurgingPurges, DayIsLast, ReadsChangeNothing}
+use Rattle.trust_matter.specs.Policy.{changes_matter, rule_against}
+use Rattle.trust_matter.specs.Step.{first, conditions, early_conditions, refusal, edit_on, edit_of, rows_after, after, cancelled, with_payment, with_claim, voided, settled, opening}
+use Rattle.trust_matter.proofs.StepForms.{asked, head-there, none-is, some-is}
+use Rattle.trust_matter.proofs.Table.{Passes, passes}
+
+-- One seat more.
+
+-- in order, all who do not come before a person without a seat come behind
+apart-seats : (ss : List Seat) (p : List ℕ) → AreInOrder ss → role_in ss p ≡ None → ss ≡ filter (λ s. comes_before s.person p) ss ++ filter (λ s. comes_before p s.person) ss
+apart-seats [] p order none = refl
+apart-seats (s ∷ ss) p order none =
+    let apart = no-seat s ss p none in
+    elim (comes_before p s.person) as (λ b. comes_before p s.person ≡ b → s ∷ ss ≡ filter (λ t. comes_before t.person p) (s ∷ ss) ++ cond b (s ∷ filter (λ t. comes_before p t.person) ss) (filter (λ t. comes_before p t.person) ss)) [
+      | true ↦ λ yes.
+          let all : AllByRecursion (λ t. comes_before p t.person ≡ true) (s ∷ ss) = (yes, after-more p s.person ss yes order.0) in
+          let none_before = (all-after p (s ∷ ss) all).0 in
+          let rest = (all-after p ss all.1).1 in
+          rw (none_before, rest) refl
+      | false ↦ λ no.
+          let yes : comes_before s.person p ≡ true = before-total p s.person no (bytes_eq-swap s.person p apart.0) in
+          rw yes (ap (λ l. s ∷ l) (apart-seats ss p order.1 apart.1))
+    ] refl
+
+seat-more : (ss : List Seat) (new : Seat) → AreInOrder ss → role_in ss new.person ≡ None → HasOneMore ss new (seats_with ss new)
+seat-more ss new order none = record {
+  before = filter (λ s. comes_before s.person new.person) ss;
+  behind = filter (λ s. comes_before new.person s.person) ss;
+  were = apart-seats ss new.person order none;
+  are = refl;
+}
+
+-- One seat less.
+
+same-person : (a b : List ℕ) → bytes_eq a b ≡ true → a ≡ b
+same-person a b h = (bytes_eq-Decides a b).0 h
+
+-- who comes behind a person is another
+another : (p q : List ℕ) → comes_before p q ≡ true → bytes_eq q p ≡ false
+another p q h =
+    elim (bytes_eq q p) as (λ b. bytes_eq q p ≡ b → b ≡ false) [
+      | true ↦ λ e.
+          let P : List ℕ → Type 0 = λ r. comes_before p r ≡ true in
+          let same = subst P (same-person q p e) h in
+          absurd (false≢true (sym (before-antisym p p same) ∙ same))
+      | false ↦ λ e. refl
+    ] refl
+
+-- of seats behind a person none is given up
+none-dropped : (ss : List Seat) (p q : List ℕ) → bytes_eq p q ≡ true → AllByRecursion (λ t. comes_before p t.person ≡ true) ss → seats_without ss q ≡ ss
+none-dropped [] p q same h = refl
+none-dropped (s ∷ ss) p q same h =
+    let P : List ℕ → Type 0 = λ r. bytes_eq s.person r ≡ false in
+    let no : bytes_eq s.person q ≡ false = subst P (same-person p q same) (another p s.person h.0) in
+    rw no (ap (λ l. s ∷ l) (none-dropped ss p q same h.1))
+
+-- the seat of a person, among the others
+record IsAmong (ss : List Seat) (p : List ℕ) : Type 0 where
+  seat : Seat
+  own : seat.person ≡ p
+  among : HasOneMore (seats_without ss p) seat ss
+
+seat-less : (ss : List Seat) (p : List ℕ) → AreInOrder ss → is_some (role_in ss p) ≡ true → IsAmong ss p
+seat-less [] p order there = absurd (cc)
+seat-less (s ∷ ss) p order there =
+    elim (bytes_eq s.person p) as (λ b. bytes_eq s.person p ≡ b → is_some (option_map (λ (t : Seat). t.role) (cond b (Some s) (seat_of ss p))) ≡ true → IsAmong (s ∷ ss) p) [
+      | true ↦ λ e g. record {
+        seat = s;
+        own = same-person s.person p e;
+        among = record { before = []; behind = ss; were = rw e (none-dropped ss s.person p e order.0); are = refl };
+      }
+      | false ↦ λ e g.
+          let more = seat-less ss p order.1 g in
+          let l = more.among in
+          record {
+            seat = more.seat;
+            own = more.own;
+            among = record { before = s ∷ l.before; behind = l.behind; were = rw e (ap (λ x. s ∷ x) l.were); are = ap (λ x. s ∷ x) l.are };
+          }
+    ] refl there
+
+-- An accepted ask.
+
+-- no condition of the table holds of an ask that is accepted and no repeat
+accepted-passes : (rows : Rows) (a : Asked) → is_repeat (facts_of rows a.ask) a ≡ false → refusal rows a ≡ None → Passes (facts_of rows a.ask) a
+accepted-passes rows a new none =
+    let f = facts_of rows a.ask in
+    let P : Bool → Type 0 = λ b. first (cond b (early_conditions f a) (conditions f a)) ≡ None in
+    passes f a (subst P new none)
+
+-- the rows after it
+accepted-after : (rows : Rows) (a : Asked) → is_repeat (facts_of rows a.ask) a ≡ false → refusal rows a ≡ None → (e : Edit) → edit_of a.ask (entry_at rows.entries (number_named a.ask)) a.day ≡ e → rows_after rows a ≡ changed_by e (last_after rows.head e a.day) rows
+accepted-after rows a new none e is =
+    let P : Option Refusal → Type 0 = λ r. after r (edit_on rows a) a.day rows ≡ changed_by e (last_after rows.head e a.day) rows in
+    let Q : Edit → Type 0 = λ x. changed_by x (last_after rows.head x a.day) rows ≡ changed_by e (last_after rows.head e a.day) rows in
+    let made : edit_on rows a ≡ e = ap (λ (b : Bool). cond b edit.Nothing (edit_of a.ask (entry_at rows.entries (number_named a.ask)) a.day)) new ∙ is in
+    subst P (sym none) (subst Q (sym made) refl)
+
+-- the rows before an ask, and what has passed the table
+abbrev AcceptedOf : Option Head → List Seat → List Entry → Caller → Ask → ℕ → Type 0
+AcceptedOf head seats es who q day = Passes (facts_of (rows-of head seats es) q) (asked who q day)
+
+-- the rows after an edit that was asked for
+abbrev after-edit : Option Head → List Seat → List Entry → Edit → ℕ → Rows
+after-edit head seats es e day = changed_by e (last_after head e day) (rows-of head seats es)
+
+open-made : (head : Option Head) (seats : List Seat) (es : List Entry) (o : OpenAsk) (who : Caller) (day : ℕ) → Sound (rows-of head seats es) → AcceptedOf head seats es who (ask.OpenMatter o) day → IsOpened o day (after-edit head seats es (edit.Open (opening o day)) day)
+open-made None seats es o who day s p = record { head = refl; seats = refl; entries = s.headed.1 }
+open-made (Some h) seats es o who day s p = absurd (false≢true (sym p.not_opened))
+
+pub opening-opens : OpeningOpens
+opening-opens o rows who day s none =
+    let a : Asked = asked who (ask.OpenMatter o) day in
+    let P : Rows → Type 0 = λ after. IsOpened o day after in
+    subst P (sym (accepted-after rows a refl none (edit.Open (opening o day)) refl)) (open-made rows.head rows.seats rows.entries o who day s (accepted-passes rows a refl none))
+
+-- all asks but an opening are of a matter that has a head
+with-head : (head : Option Head) (seats : List Seat) (es : List Entry) (who : Caller) (q : Ask) → IsHeaded head seats es → is_unknown_to who head seats q ≡ false → is_opening q ≡ false → (P : Option Head → Type 0) → ((h : Head) → P (Some h)) → P head
+with-head None seats es who q headed known other P of = absurd (let there = head-there None seats es who q headed known other in cc)
+with-head (Some h) seats es who q headed known other P of = of h
+
+pub closing-closes : ClosingCloses
+closing-closes rows who day s none =
+    let a : Asked = asked who ask.CloseMatter day in
+    let p = accepted-passes rows a refl none in
+    let P : Rows → Type 0 = λ after. IsClosed day rows after in
+    let Q : Option Head → Type 0 = λ head. IsClosed day (rows-of head rows.seats rows.entries) (after-edit head rows.seats rows.entries (edit.Close day) day) in
+    subst P (sym (accepted-after rows a refl none (edit.Close day) refl))
+    (with-head rows.head rows.seats rows.entries who ask.CloseMatter s.headed p.seat refl Q (λ h. record { was = h; head = refl; closed = refl; seats = refl; entries = refl }))
+
+pub seat-is_added : SeatIsAdded
+seat-is_added new rows who day s none =
+    let a : Asked = asked who (ask.AddSeat new) day in
+    let p = accepted-passes rows a refl none in
+    let free = none-is (role_in rows.seats new.person) p.seat_free in
+    let P : Rows → Type 0 = λ after. IsSeated new day rows after in
+    let Q : Option Head → Type 0 = λ head. IsSeated new day (rows-of head rows.seats rows.entries) (after-edit head rows.seats rows.entries (edit.Seat new) day) in
+    subst P (sym (accepted-after rows a refl none (edit.Seat new) refl))
+    (with-head rows.head rows.seats rows.entries who (ask.AddSeat new) s.headed p.seat refl Q (λ h. record { head = refl; seats = seat-more rows.seats new s.seated free; entries = refl }))
+
+pub seat-is_dropped : SeatIsDropped
+seat-is_dropped person rows who day s none =
+    let a : Asked = asked who (ask.DropSeat person) day in
+    let p = accepted-passes rows a refl none in
+    let less = seat-less rows.seats person s.seated (some-is (role_in rows.seats person) p.seat_taken) in
+    let P : Rows → Type 0 = λ after. IsUnseated person day rows after in
+    let Q : Option Head → Type 0 = λ head. IsUnseated person day (rows-of head rows.seats rows.entries) (after-edit head rows.seats rows.entries (edit.Unseat person) day) in
+    subst P (sym (accepted-after rows a refl none (edit.Unseat person) refl))
+    (with-head rows.head rows.seats rows.entries who (ask.DropSeat person) s.headed p.seat refl Q (λ h. record { head = refl; seat = less.seat; own = less.own; seats = less.among; entries = refl }))
+
+last-cleared : (head : Option Head) (day : ℕ) → last_after head (edit.Clear day) day ≡ day
+last-cleared None day = refl
+last-cleared (Some h) day = refl
+
+pub purging-purges : PurgingPurges
+purging-purges rows who day s none =
+    accepted-after rows (asked who ask.Purge day) refl none (edit.Clear day) refl
+    ∙ ap (λ last. changed_by (edit.Clear day) last rows) (last-cleared rows.head day)
+
+-- The last day.
+
+-- after the edit the day is the last
+abbrev SeenOn : ℕ → Edit → Option Head → Type 0
+SeenOn day e head = last_of (head_after head e (last_after head e day)) ≡ day
+
+seen-deposit : (n day : ℕ) (o : Option Entry) → is_none o ≡ false → is_no_deposit o ≡ false → (h : Head) → SeenOn day (cancelled n o day) (Some h)
+seen-deposit n day None there kind h = absurd (cc)
+seen-deposit n day (Some (entry.Deposit d)) there kind h = refl
+seen-deposit n day (Some (entry.Payment p)) there kind h = absurd (cc)
+seen-deposit n day (Some (entry.Fee f)) there kind h = absurd (cc)
+seen-deposit n day (Some (entry.Claim c)) there kind h = absurd (cc)
+
+seen-payment : (n day : ℕ) (next : PaymentState → PaymentState) (o : Option Entry) → is_none o ≡ false → is_no_payment o ≡ false → (h : Head) → SeenOn day (with_payment n o next) (Some h)
+seen-payment n day next None there kind h = absurd (cc)
+seen-payment n day next (Some (entry.Deposit d)) there kind h = absurd (cc)
+seen-payment n day next (Some (entry.Payment p)) there kind h = refl
+seen-payment n day next (Some (entry.Fee f)) there kind h = absurd (cc)
+seen-payment n day next (Some (entry.Claim c)) there kind h = absurd (cc)
+
+seen-claim : (n day : ℕ) (next : ClaimState) (o : Option Entry) → is_none o ≡ false → is_no_claim o ≡ false → (h : Head) → SeenOn day (with_claim n o next) (Some h)
+seen-claim n day next None there kind h = absurd (cc)
+seen-claim n day next (Some (entry.Deposit d)) there kind h = absurd (cc)
+seen-claim n day next (Some (entry.Payment p)) there kind h = absurd (cc)
+seen-claim n day next (Some (entry.Fee f)) there kind h = absurd (cc)
+seen-claim n day next (Some (entry.Claim c)) there kind h = refl
+
+seen-open : (head : Option Head) (o : OpenAsk) (day : ℕ) → SeenOn day (edit.Open (opening o day)) head
+seen-open None o day = refl
+seen-open (Some h) o day = refl
+
+-- an ask that changes the matter writes something on its day
+seen-made : (head : Option Head) (seats : List Seat) (es : List Entry) (who : Caller) (q : Ask) (day : ℕ) → Sound (rows-of head seats es) → AcceptedOf head seats es who q day → is_changing q ≡ true → SeenOn day (edit_of q (entry_at es (number_named q)) day) head
+seen-made head seats es who (ask.OpenMatter o) day s p changing = seen-open head o day
+seen-made head seats es who (ask.AddSeat new) day s p changing =
+    with-head head seats es who (ask.AddSeat new) s.headed p.seat refl (SeenOn day (edit_of (ask.AddSeat new) (entry_at es (number_named (ask.AddSeat new))) day)) (λ h. refl)
+seen-made head seats es who (ask.DropSeat q) day s p changing =
+    with-head head seats es who (ask.DropSeat q) s.headed p.seat refl (SeenOn day (edit_of (ask.DropSeat q) (entry_at es (number_named (ask.DropSeat q))) day)) (λ h. refl)
+seen-made head seats es who (ask.Deposit d) day s p changing =
+    with-head head seats es who (ask.Deposit d) s.headed p.seat refl (SeenOn day (edit_of (ask.Deposit d) (entry_at es (number_named (ask.Deposit d))) day)) (λ h. refl)
+seen-made head seats es who (ask.CancelDeposit n) day s p changing =
+    with-head head seats es who (ask.CancelDeposit n) s.headed p.seat refl (SeenOn day (edit_of (ask.CancelDeposit n) (entry_at es (number_named (ask.CancelDeposit n))) day)) (seen-deposit n day (entry_at es n) p.there p.kind)
+seen-made head seats es who (ask.Propose a) day s p changing =
+    with-head head seats es who (ask.Propose a) s.headed p.seat refl (SeenOn day (edit_of (ask.Propose a) (entry_at es (number_named (ask.Propose a))) day)) (λ h. refl)
+seen-made head seats es who (ask.Approve n) day s p changing =
+    with-head head seats es who (ask.Approve n) s.headed p.seat refl (SeenOn day (edit_of (ask.Approve n) (entry_at es (number_named (ask.Approve n))) day)) (seen-payment n day (λ _. payment.Issued day) (entry_at es n) p.there p.kind)
+seen-made head seats es who (ask.Decline n) day s p changing =
+    with-head head seats es who (ask.Decline n) s.headed p.seat refl (SeenOn day (edit_of (ask.Decline n) (entry_at es (number_named (ask.Decline n))) day)) (seen-payment n day (λ _. payment.Declined) (entry_at es n) p.there p.kind)
+seen-made head seats es who (ask.VoidPayment n) day s p changing =
+    with-head head seats es who (ask.VoidPayment n) s.headed p.seat refl (SeenOn day (edit_of (ask.VoidPayment n) (entry_at es (number_named (ask.VoidPayment n))) day)) (seen-payment n day (voided day) (entry_at es n) p.there p.kind)
+seen-made head seats es who (ask.EarnFee a) day s p changing =
+    with-head head seats es who (ask.EarnFee a) s.headed p.seat refl (SeenOn day (edit_of (ask.EarnFee a) (entry_at es (number_named (ask.EarnFee a))) day)) (λ h. refl)
+seen-made head seats es who (ask.RaiseClaim a) day s p changing =
+    with-head head seats es who (ask.RaiseClaim a) s.headed p.seat refl (SeenOn day (edit_of (ask.RaiseClaim a) (entry_at es (number_named (ask.RaiseClaim a))) day)) (λ h. refl)
+seen-made head seats es who (ask.Offer a) day s p changing =
+    with-head head seats es who (ask.Offer a) s.headed p.seat refl (SeenOn day (edit_of (ask.Offer a) (entry_at es (number_named (ask.Offer a))) day)) (seen-claim a.number day (claim.Offered a.to_client) (entry_at es a.number) p.there p.kind)
+seen-made head seats es who (ask.Accept a) day s p changing =
+    with-head head seats es who (ask.Accept a) s.headed p.seat refl (SeenOn day (edit_of (ask.Accept a) (entry_at es (number_named (ask.Accept a))) day)) (seen-claim a.number day (settled day a.to_client) (entry_at es a.number) p.there p.kind)
+seen-made head seats es who (ask.Award a) day s p changing =
+    with-head head seats es who (ask.Award a) s.headed p.seat refl (SeenOn day (edit_of (ask.Award a) (entry_at es (number_named (ask.Award a))) day)) (seen-claim a.number day (settled day a.to_client) (entry_at es a.number) p.there p.kind)
+seen-made head seats es who ask.CloseMatter day s p changing =
+    with-head head seats es who ask.CloseMatter s.headed p.seat refl (SeenOn day (edit_of ask.CloseMatter (entry_at es (number_named ask.CloseMatter)) day)) (λ h. refl)
+seen-made head seats es who ask.Purge day s p changing =
+    with-head head seats es who ask.Purge s.headed p.seat refl (SeenOn day (edit_of ask.Purge (entry_at es (number_named ask.Purge)) day)) (λ h. refl)
+seen-made head seats es who ask.Show day s p changing = absurd (false≢true changing)
+seen-made head seats es who (ask.ShowEntry n) day s p changing = absurd (false≢true changing)
+
+pub day-is_last : DayIsLast
+day-is_last rows a s none changing new =
+    let e = edit_of a.ask (entry_at rows.entries (number_named a.ask)) a.day in
+    let P : Rows → Type 0 = λ after. last_of after.head ≡ a.day in
+    subst P (sym (accepted-after rows a new none e refl)) (seen-made rows.head rows.seats rows.entries a.caller a.ask a.day s (accepted-passes rows a new none) changing)
+
+-- What only reads.
+
+unchanged : (rows : Rows) (day : ℕ) (r : Option Refusal) → after r edit.Nothing day rows ≡ rows
+unchanged rows day None = refl
+unchanged rows day (Some r) = refl
+
+claim-changes : (on : Against) → changes_matter (rule_against on) ≡ true
+claim-changes (against.General who) = refl
+claim-changes (against.Fee k) = refl
+
+read-nothing : (rows : Rows) (who : Caller) (q : Ask) (day : ℕ) → is_changing q ≡ false → rows_after rows (asked who q day) ≡ rows
+read-nothing rows who (ask.OpenMatter o) day reading = absurd (false≢true (sym reading))
+read-nothing rows who (ask.AddSeat new) day reading = absurd (false≢true (sym reading))
+read-nothing rows who (ask.DropSeat p) day reading = absurd (false≢true (sym reading))
+read-nothing rows who (ask.Deposit d) day reading = absurd (false≢true (sym reading))
+read-nothing rows who (ask.CancelDeposit n) day reading = absurd (false≢true (sym reading))
+read-nothing rows who (ask.Propose a) day reading = absurd (false≢true (sym reading))
+read-nothing rows who (ask.Approve n) day reading = absurd (false≢true (sym reading))
+read-nothing rows who (ask.Decline n) day reading = absurd (false≢true (sym reading))
+read-nothing rows who (ask.VoidPayment n) day reading = absurd (false≢true (sym reading))
+read-nothing rows who (ask.EarnFee a) day reading = absurd (false≢true (sym reading))
+read-nothing rows who (ask.RaiseClaim a) day reading = absurd (false≢true (sym reading ∙ claim-changes a.against))
+read-nothing rows who (ask.Offer a) day reading = absurd (false≢true (sym reading))
+read-nothing rows who (ask.Accept a) day reading = absurd (false≢true (sym reading))
+read-nothing rows who (ask.Award a) day reading = absurd (false≢true (sym reading))
+read-nothing rows who ask.CloseMatter day reading = absurd (false≢true (sym reading))
+read-nothing rows who ask.Purge day reading = absurd (false≢true (sym reading))
+read-nothing rows who ask.Show day reading = unchanged rows day (refusal rows (asked who ask.Show day))
+read-nothing rows who (ask.ShowEntry n) day reading = unchanged rows day (refusal rows (asked who (ask.ShowEntry n) day))
+
+pub reads-change_nothing : ReadsChangeNothing
+reads-change_nothing rows a reading = read-nothing rows a.caller a.ask a.day reading

@@ -1,9 +1,0 @@
-use Rattle.std.proofs.Common.{refl}
-use Rattle.trust_matter.proofs.Naming.{has-named}
-use Rattle.trust_matter.proofs.matter.Matter.named.Goals as goal
-
-pub returns : goal.returns
-returns c =
-    has-named c.args.self.now c.args.first.now c.args.second.now
-    (record { first = c.args.first.now; second = c.args.second.now; under_first = c.target_by.result; under_second = c.target_by-2.result })
-    refl refl c.target_by.ensures c.target_by-2.ensures

@@ -1,0 +1,221 @@
+//! Claims, as they are asked for.
+
+ghost use Rattle.std.specs.Prelude.{◌≡◌, IfOk, MatchResult, None, Some, pos};
+ghost use Rattle.std.specs.Option.{option_copied};
+ghost use Rattle.matter_rows.specs.Shares.{against_no};
+ghost use Rattle.matter_parts.specs.Parts.{kept_at, entry_in, left_kept};
+ghost use Rattle.trust_matter.specs.declared.ask.Caller.{Caller as AnyCaller};
+ghost use Rattle.trust_matter.specs.Conditions.{against_left, is_claim_asked};
+ghost use Rattle.trust_matter.specs.KeptFacts.{kept_facts};
+ghost use Rattle.trust_matter.specs.ClaimTables.{against_conditions, split_conditions};
+ghost use Rattle.trust_matter.specs.Step.{GivesLate, claim_of, first, settled, with_claim};
+
+use crate::ask::Ask;
+use matter_parts::{Edit, Kept, Matter, Numbered};
+use matter_rows::{Against, Claim, ClaimState, Entry, Settlement};
+use std::alloc::AllocError;
+use trust_base::{Cents, CentsOrZero, Day, EntryNo, Label, Refusal};
+
+/// A claim is to be raised under a number, on a fee or on what is available (ABA Model Rule 1.15(e)).
+#[derive(Drop)]
+pub struct ClaimAsk {
+    pub number: EntryNo,
+    pub amount: Cents,
+    pub against: Against,
+    pub reason: Label,
+}
+
+impl ClaimAsk {
+    // The open claim that it makes on a day.
+    fn open_on(&self, day: Day) -> Result<Claim, AllocError>
+        ensures { IfOk result (λ c. Entry.Claim c ≡ claim_of self.now day) }
+    {
+        let against = self.against.copied()?;
+        let reason = self.reason.copied()?;
+        Ok(Claim {
+            book: day,
+            amount: self.amount,
+            against,
+            reason,
+            state: ClaimState::Open,
+        })
+    }
+}
+
+/// A part of a claim is to go to the client: it is offered, accepted or awarded.
+#[derive(Clone, Copy)]
+pub struct SplitAsk {
+    pub number: EntryNo,
+    pub to_client: CentsOrZero,
+}
+
+impl SplitAsk {
+    // A claim that is settled on a day, with this part to the client.
+    fn settled_on(&self, day: Day) -> ClaimState
+        ensures { result ≡ settled day self.now.to_client }
+    {
+        ClaimState::Settled(Settlement {
+            day,
+            part: self.to_client,
+        })
+    }
+}
+
+// Whether the entry of the number is the claim asked for.
+fn is_claim_asked(kept: Option<&Kept>, asked: &ClaimAsk) -> bool
+    ensures { result ≡ is_claim_asked (entry_in (option_copied kept.entry)) asked.now }
+{
+    match kept {
+        None => false,
+        Some(kept) => match &kept.entry {
+            Entry::Claim(c) => {
+                c.amount.get() == asked.amount.get()
+                    && c.against.is_same(&asked.against)
+                    && c.reason.is_same(&asked.reason)
+            }
+            _ => false,
+        },
+    }
+}
+
+// What is left of the fee, or is available to a claimant who is named and not cash.
+fn left_against(matter: &Matter, against: &Against) -> Result<u64, Refusal>
+    ensures { MatchResult result
+        (λ left. (first (against_conditions against.now (entry_in (kept_at matter.now (against_no against.now)))) ≡ None)
+        × (pos left ≡ against_left against.now (pos matter.now.figures.available) (left_kept (kept_at matter.now (against_no against.now)))))
+        (λ r. first (against_conditions against.now (entry_in (kept_at matter.now (against_no against.now)))) ≡ Some r) }
+{
+    match against {
+        Against::General(claimant) => {
+            if claimant.is_cash() {
+                return Err(Refusal::PayeeIsCash);
+            }
+            Ok(matter.figures().available)
+        }
+        Against::Fee(number) => {
+            let Some(kept) = matter.find(*number) else {
+                return Err(Refusal::NoEntry);
+            };
+            let Entry::Fee(_) = &kept.entry else {
+                return Err(Refusal::WrongKind);
+            };
+            Ok(kept.left)
+        }
+    }
+}
+
+// A claim is set apart from its fee, or from what is available.
+pub(crate) fn decide_claim(matter: &Matter, asked: &ClaimAsk, day: Day) -> Result<Edit, Refusal>
+    ensures { (c : AnyCaller) → GivesLate (kept_facts matter.now (Ask.RaiseClaim asked.now)) (record { caller = c; ask = Ask.RaiseClaim asked.now; day = day }) result }
+{
+    if is_claim_asked(matter.find(asked.number), asked) {
+        return Ok(Edit::Nothing);
+    }
+    if matter.is_closed() {
+        return Err(Refusal::Closed);
+    }
+    if let Some(last) = matter.last_behind(day) {
+        return Err(Refusal::DateBackwards(last));
+    }
+    if !matter.is_next(asked.number) {
+        return Err(Refusal::WrongNumber(matter.next_number()));
+    }
+    let left = left_against(matter, &asked.against)?;
+    if left < asked.amount.get() {
+        return Err(Refusal::Short(left));
+    }
+    let claim = asked.open_on(day)?;
+    Ok(Edit::Append(Numbered {
+        number: asked.number,
+        entry: Entry::Claim(claim),
+    }))
+}
+
+// The claim that is to be split, which is open and covers the part asked for.
+fn open_claim<'m>(matter: &'m Matter, asked: &SplitAsk) -> Result<&'m Claim, Refusal>
+    ensures { MatchResult result
+        (λ claim. (first (split_conditions (entry_in (kept_at matter.now asked.now.number)) asked.now.to_client) ≡ None)
+        × (entry_in (kept_at matter.now asked.now.number) ≡ Some (Entry.Claim claim.now)))
+        (λ r. first (split_conditions (entry_in (kept_at matter.now asked.now.number)) asked.now.to_client) ≡ Some r) }
+{
+    let Some(kept) = matter.find(asked.number) else {
+        return Err(Refusal::NoEntry);
+    };
+    let Entry::Claim(claim) = &kept.entry else {
+        return Err(Refusal::WrongKind);
+    };
+    if let ClaimState::Settled(_) = &claim.state {
+        return Err(Refusal::WrongState);
+    }
+    if claim.amount.get() < asked.to_client.get() {
+        return Err(Refusal::BadSplit);
+    }
+    Ok(claim)
+}
+
+// The claim of the number in another state.
+fn claim_restated(number: EntryNo, claim: &Claim, state: ClaimState) -> Result<Edit, AllocError>
+    ensures { IfOk result (λ e. e ≡ with_claim number (Some (Entry.Claim claim.now)) state) }
+{
+    let restated = claim.restated(state)?;
+    Ok(Edit::Exchange(Numbered {
+        number,
+        entry: Entry::Claim(restated),
+    }))
+}
+
+// A part of an open claim is offered to the client, in the place of any offer before.
+pub(crate) fn decide_offer(matter: &Matter, asked: &SplitAsk, day: Day) -> Result<Edit, Refusal>
+    ensures { (c : AnyCaller) → GivesLate (kept_facts matter.now (Ask.Offer asked.now)) (record { caller = c; ask = Ask.Offer asked.now; day = day }) result }
+{
+    if matter.is_closed() {
+        return Err(Refusal::Closed);
+    }
+    if let Some(last) = matter.last_behind(day) {
+        return Err(Refusal::DateBackwards(last));
+    }
+    let claim = open_claim(matter, asked)?;
+    let edit = claim_restated(asked.number, claim, ClaimState::Offered(asked.to_client))?;
+    Ok(edit)
+}
+
+// The part that was offered is accepted, and the claim is settled.
+pub(crate) fn decide_accept(matter: &Matter, asked: &SplitAsk, day: Day) -> Result<Edit, Refusal>
+    ensures { (c : AnyCaller) → GivesLate (kept_facts matter.now (Ask.Accept asked.now)) (record { caller = c; ask = Ask.Accept asked.now; day = day }) result }
+{
+    if matter.is_closed() {
+        return Err(Refusal::Closed);
+    }
+    if let Some(last) = matter.last_behind(day) {
+        return Err(Refusal::DateBackwards(last));
+    }
+    let Some(kept) = matter.find(asked.number) else {
+        return Err(Refusal::NoEntry);
+    };
+    let Entry::Claim(claim) = &kept.entry else {
+        return Err(Refusal::WrongKind);
+    };
+    let ClaimState::Offered(offered) = &claim.state else {
+        return Err(Refusal::WrongState);
+    };
+    if offered.get() != asked.to_client.get() {
+        return Err(Refusal::BadSplit);
+    }
+    let edit = claim_restated(asked.number, claim, asked.settled_on(day))?;
+    Ok(edit)
+}
+
+// An open claim is settled with a part to the client, offered or not.
+pub(crate) fn decide_award(matter: &Matter, asked: &SplitAsk, day: Day) -> Result<Edit, Refusal>
+    ensures { (c : AnyCaller) → GivesLate (kept_facts matter.now (Ask.Award asked.now)) (record { caller = c; ask = Ask.Award asked.now; day = day }) result }
+{
+    if matter.is_closed() {
+        return Err(Refusal::Closed);
+    }
+    if let Some(last) = matter.last_behind(day) {
+        return Err(Refusal::DateBackwards(last));
+    }
+    let claim = open_claim(matter, asked)?;
+    let edit = claim_restated(asked.number, claim, asked.settled_on(day))?;
+    Ok(edit)
+}

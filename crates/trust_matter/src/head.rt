@@ -1,0 +1,67 @@
+//! The opening and the closing of a matter, as they are asked for.
+
+ghost use Rattle.std.specs.Prelude.{◌≡◌};
+ghost use Rattle.trust_matter.specs.declared.ask.Caller.{Caller as AnyCaller};
+ghost use Rattle.trust_matter.specs.KeptFacts.{kept_facts};
+ghost use Rattle.trust_matter.specs.Step.{GivesLate};
+
+use crate::ask::{Ask, OpenAsk};
+use matter_parts::{Edit, Matter, Opening};
+use matter_rows::{Head, Holder, Role, Seat};
+use trust_base::{Day, Refusal};
+
+pub(crate) fn decide_open(matter: &Matter, asked: &OpenAsk, day: Day) -> Result<Edit, Refusal>
+    ensures { (c : AnyCaller) → GivesLate (kept_facts matter.now (Ask.OpenMatter asked.now)) (record { caller = c; ask = Ask.OpenMatter asked.now; day = day }) result }
+{
+    if matter.head().is_some() {
+        return Err(Refusal::AlreadyOpen);
+    }
+    let client = asked.client.copied()?;
+    let person = asked.lawyer.copied()?;
+    Ok(Edit::Open(Opening {
+        head: Head {
+            holder: Holder::Client(client),
+            opened: day,
+            closed: None,
+            last: day,
+        },
+        seat: Seat {
+            person,
+            role: Role::Lawyer,
+        },
+    }))
+}
+
+pub(crate) fn decide_close(matter: &Matter, day: Day) -> Result<Edit, Refusal>
+    ensures { (c : AnyCaller) → GivesLate (kept_facts matter.now Ask.CloseMatter) (record { caller = c; ask = Ask.CloseMatter; day = day }) result }
+{
+    if matter.is_closed() {
+        return Err(Refusal::Closed);
+    }
+    if let Some(last) = matter.last_behind(day) {
+        return Err(Refusal::DateBackwards(last));
+    }
+    let figures = matter.figures();
+    let total = figures.available + figures.disputed + figures.fees + figures.claims;
+    if total + figures.held != 0 || figures.pending != 0 {
+        return Err(Refusal::NotEmpty);
+    }
+    Ok(Edit::Close(day))
+}
+
+// A closed matter is purged from the day on after the last for which its records are kept.
+pub(crate) fn decide_purge(matter: &Matter, day: Day) -> Result<Edit, Refusal>
+    ensures { (c : AnyCaller) → GivesLate (kept_facts matter.now Ask.Purge) (record { caller = c; ask = Ask.Purge; day = day }) result }
+{
+    if let Some(last) = matter.last_behind(day) {
+        return Err(Refusal::DateBackwards(last));
+    }
+    let Some(closed) = matter.closed_on() else {
+        return Err(Refusal::WrongState);
+    };
+    let first = closed.first_purge_day();
+    if day.get() < first.get() {
+        return Err(Refusal::TooEarly(first));
+    }
+    Ok(Edit::Clear(day))
+}

@@ -1,0 +1,7 @@
+use Rattle.std.proofs.Common.{◌≡◌, drop}
+use Rattle.firm_rows.specs.FirmLines.{kept_balance}
+use Rattle.trust_store.proofs.balances.balance_kept.Given as goal
+
+-- it is not among those that were passed
+abbrev pub invariant-loop-row : goal.invariant-loop-row
+invariant-loop-row l = kept_balance l.kind l.day l.rows ≡ kept_balance l.kind l.day (drop l.row-index l.rows)

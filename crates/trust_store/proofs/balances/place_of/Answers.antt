@@ -1,0 +1,18 @@
+use Rattle.std.proofs.Common.{rules}
+use Rattle.std.proofs.lemmas.Fn.{always_returns_same}
+use Rattle.firm_rows.specs.FirmLines.{balance_cmp}
+use Rattle.trust_store.proofs.Places.{found-balance, absent-balance}
+use Rattle.trust_store.proofs.balances.place_of.Goals as goal
+
+-- the closure compares with the balance
+pub returns-clause-found : goal.returns-clause-found
+returns-clause-found c =
+    let facts = c.binary_search_by.ensures in
+    let by = facts.position (λ r. balance_cmp r c.args.row.now) (always_returns_same _ _ _ (λ a r f called. search rules)) in
+    found-balance c.args.row.now c.args.rows.now c.requires c.binary_search_by.result facts.bound by
+
+pub returns-clause-absent : goal.returns-clause-absent
+returns-clause-absent c =
+    let facts = c.binary_search_by.ensures in
+    let by = facts.position (λ r. balance_cmp r c.args.row.now) (always_returns_same _ _ _ (λ a r f called. search rules)) in
+    absent-balance c.args.row.now c.args.rows.now c.requires c.binary_search_by.result facts.bound by

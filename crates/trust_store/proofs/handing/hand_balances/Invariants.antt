@@ -1,0 +1,6 @@
+use Rattle.firm_rows.specs.Countable.{IsBalanceInRange}
+use Rattle.trust_store.proofs.Sinks.{HandedSoFar}
+use Rattle.trust_store.proofs.handing.hand_balances.Given as goal
+
+abbrev pub invariant-loop-row : goal.invariant-loop-row
+invariant-loop-row g l = HandedSoFar g.S.RowSink.balanced IsBalanceInRange l.fn.sink l.rows l.row-index l.sink

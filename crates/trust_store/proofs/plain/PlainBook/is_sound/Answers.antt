@@ -1,0 +1,6 @@
+use Rattle.std.proofs.Common.{subst}
+use Rattle.firm_rows.specs.FirmSound.{FirmSound}
+use Rattle.trust_store.proofs.plain.PlainBook.is_sound.Goals as goal
+
+pub returns : goal.returns
+returns c = subst FirmSound c.self.view_is c.self.invariant.firm

@@ -1,0 +1,15 @@
+-- What a crash may leave.
+use Rattle.std.specs.Prelude.{◌≡◌, ◌⊎◌}
+use Rattle.firm_rows.specs.Firm.{Firm}
+
+-- nothing that was not left before
+abbrev pub LeavesBefore : (Firm → Type 0) → (Firm → Type 0) → Type 0
+LeavesBefore old new = (found : Firm) → new found → old found
+
+-- what was left before, or these rows
+abbrev pub LeavesOr : Firm → (Firm → Type 0) → (Firm → Type 0) → Type 0
+LeavesOr firm old new = (found : Firm) → new found → old found ⊎ (found ≡ firm)
+
+-- these rows alone
+abbrev pub LeavesAlone : Firm → (Firm → Type 0) → Type 0
+LeavesAlone firm new = (found : Firm) → new found → found ≡ firm

@@ -1,0 +1,45 @@
+// The balances that the bank told of, as a list in their order.
+
+ghost use Rattle.std.specs.Prelude.{◌≡◌, ◌≢◌, ◌≤◌, None, length, insert, IfOk, IfErr, OnOk, OnErr};
+ghost use Rattle.std.specs.List.Sorted.{IsStrictlySortedBy};
+ghost use Rattle.firm_rows.specs.FirmLines.{balance_cmp, kept_balance, with_balance};
+
+use firm_rows::{BalanceKind, StatementRow};
+use std::alloc::AllocError;
+use trust_base::Day;
+
+// Where a balance would stand, unless one of its kind and day is kept.
+fn place_of(rows: &[StatementRow], row: &StatementRow) -> Result<usize, usize>
+    requires { IsStrictlySortedBy balance_cmp rows.now }
+    ensures found { IfOk result (λ i. kept_balance row.now.kind row.now.day rows.now ≢ None) }
+    ensures within { IfErr result (λ i. i ≤ length rows.now) }
+    ensures absent { IfErr result (λ i. with_balance row.now rows.now ≡ insert rows.now i row.now) }
+{
+    rows.binary_search_by(|other| other.compare(row))
+}
+
+/// Adds a balance in its place, where none of its kind and day is kept. At an error, want of memory, the balances are as
+/// before.
+pub fn add_balance(rows: &mut Vec<StatementRow>, row: StatementRow) -> Result<(), AllocError>
+    requires order { IsStrictlySortedBy balance_cmp rows.old.items }
+    requires absent { kept_balance row.kind row.day rows.old.items ≡ None }
+    ensures ok { OnOk result (rows.new.items ≡ with_balance row rows.old.items) }
+    ensures err { OnErr result (rows.new.items ≡ rows.old.items) }
+{
+    if let Err(place) = place_of(rows, &row) {
+        rows.insert(place, row)?;
+    }
+    Ok(())
+}
+
+/// The amount of the balance of a kind and day in cents, or None where none is kept.
+pub fn balance_kept(rows: &[StatementRow], kind: BalanceKind, day: Day) -> Option<i64>
+    ensures { result ≡ kept_balance kind day rows.now }
+{
+    for row in rows {
+        if row.is_on(kind, day) {
+            return Some(row.amount.get());
+        }
+    }
+    None
+}

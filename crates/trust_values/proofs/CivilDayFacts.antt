@@ -1,0 +1,11 @@
+-- Days that may lie past those that are kept.
+use Rattle.std.proofs.Common.{ℕ, ◌<◌, arith}
+use Rattle.trust_values.specs.Limits.{IsCivilDay, IsDay}
+
+pub civil_day-of_day : (n : ℕ) → IsDay n → IsCivilDay n
+unfolding IsDay IsCivilDay
+civil_day-of_day n (y, m, d) = (omega arith, m, d)
+
+pub civil_day-bound : (n : ℕ) → IsCivilDay n → n < 100000000
+unfolding IsCivilDay
+civil_day-bound n (y, m, d) = omega arith

@@ -1,0 +1,31 @@
+-- Numbers of entries and their four digits.
+use Rattle.std.proofs.Common.{◌≡◌, ◌≢◌, ℕ, ◌+◌, ◌/◌, ◌%◌, List, [], ◌∷◌, ◌++◌, Option, Some, None, IfSome, IfNone, sym, ◌∙◌, arith}
+use Rattle.std.specs.Fmt.{decimal}
+use Rattle.std.proofs.lemmas.Fmt.{decimal_digit}
+use Rattle.trust_values.specs.Limits.{IsEntryNo}
+use Rattle.byte_streams.specs.Digits.{fixed_digits}
+use Rattle.trust_values.specs.Texts.{entry_of, entry_text}
+use Rattle.byte_streams.proofs.FixedFacts.{fixed-injective}
+use Rattle.trust_values.proofs.ReadFacts.{number-found, number-none}
+
+-- the four digits one by one
+pub four-digits : (n : ℕ) → fixed_digits 4 n ≡ (48 + n / 1000 % 10) ∷ (48 + n / 100 % 10) ∷ (48 + n / 10 % 10) ∷ (48 + n % 10) ∷ []
+unfolding fixed_digits
+four-digits n =
+    let a : n / 10 / 10 ≡ n / 100 = omega arith in
+    let b : n / 100 / 10 ≡ n / 1000 = omega arith in
+    simp (a, b)
+
+-- the four digits as they are printed
+pub printed-four : (n : ℕ) → decimal (n / 1000 % 10) ++ (decimal (n / 100 % 10) ++ (decimal (n / 10 % 10) ++ decimal (n % 10))) ≡ fixed_digits 4 n
+printed-four n =
+    let a = decimal_digit (n / 1000 % 10) (omega arith) in
+    let b = decimal_digit (n / 100 % 10) (omega arith) in
+    let d = decimal_digit (n / 10 % 10) (omega arith) in
+    let e = decimal_digit (n % 10) (omega arith) in
+    rw (a, b, d, e) (sym (four-digits n))
+
+pub entry_of-is : (r : Option ℕ) (bs : List ℕ) → IfSome r IsEntryNo → IfSome r (λ n. entry_text n ≡ bs) → IfNone r ((n : ℕ) → IsEntryNo n → entry_text n ≢ bs) → r ≡ entry_of bs
+entry_of-is (Some n) bs range e none = sym (number-found 1 10000 n entry_text bs range.0 (omega arith) e
+    (λ m a b f. fixed-injective 4 m n (omega arith) (omega arith) (f ∙ sym e)))
+entry_of-is None bs range e none = sym (number-none 1 10000 entry_text bs (λ m a b. none m (a, omega arith)))

@@ -1,0 +1,63 @@
+-- What the text of a number of dollars looks like.
+use Rattle.std.proofs.Common.{◌≡◌, ◌≢◌, ℕ, zero, suc, ◌<◌, ◌^◌, List, length, get_or, refl, arith, Result, Ok, true}
+use Rattle.std.specs.Fmt.{decimal}
+use Rattle.std.specs.Str.{IsUtf8}
+use Rattle.std.specs.Str.Parse.{AllDigits, digits_value, ParsesUnsigned}
+use Rattle.std.proofs.lemmas.Str.{IsUtf8-from_ascii}
+use Rattle.std.proofs.lemmas.Str.Parse.{IsNumeralModel, numerals_by_value, tells_digits, digit_at, parse_plain, parse_gives}
+use Rattle.std.proofs.lemmas.Fmt.{decimal_is_IsNumeral, decimal_digit, first_decimal, IsAscii-decimal, decimal-digits_value}
+use Rattle.trust_values.specs.Texts.{starts_plainly}
+
+-- std's own words for digits and their value
+pub own : IsNumeralModel (AllDigits 10) (digits_value 10)
+own = numerals_by_value (AllDigits 10) tells_digits
+
+pub record IsWholeText (bs : List ℕ) (n : ℕ) : Type 0 where
+  pub utf8 : IsUtf8 bs
+  pub nonempty : 0 < length bs
+  pub no_sign : get_or bs 0 0 ≢ 43
+  pub lone_zero : get_or bs 0 0 ≡ 48 → length bs ≡ 1
+  pub digits : AllDigits 10 bs
+  pub value : digits_value 10 bs ≡ n
+
+lone : (n : ℕ) → n < 2 ^ 64 → get_or (decimal n) 0 0 ≡ 48 → length (decimal n) ≡ 1
+lone n small e = by n refl
+  where
+    by : (m : ℕ) → n ≡ m → length (decimal n) ≡ 1
+    by zero z = rw (z, decimal_digit 0 (omega arith)) refl
+    by (suc m) z = let up : 0 < n = omega arith in let first = first_decimal n up small in absurd (omega arith)
+
+pub decimal-shape : (n : ℕ) (bs : List ℕ) → n < 2 ^ 64 → decimal n ≡ bs → IsWholeText bs n
+decimal-shape n bs le e =
+    let small : n < 2 ^ 64 = omega arith in
+    let (numeral, value) = decimal_is_IsNumeral n small in
+    let first = digit_at (decimal n) 0 numeral.1 numeral.0 in
+    rw (← e) (record {
+      utf8 = IsUtf8-from_ascii (decimal n) (IsAscii-decimal n small);
+      nonempty = numeral.0;
+      no_sign = λ s. omega arith;
+      lone_zero = lone n small;
+      digits = numeral.1;
+      value = value;
+    })
+
+-- what the test of the start says
+pub plain-facts : (bs : List ℕ) → starts_plainly bs ≡ true → (0 < length bs) × (get_or bs 0 0 ≢ 43) × (get_or bs 0 0 ≡ 48 → length bs ≡ 1)
+plain-facts bs e = grind arith
+
+pub plain-test : (n : ℕ) (bs : List ℕ) → n < 2 ^ 64 → decimal n ≡ bs → starts_plainly bs ≡ true
+plain-test n bs le e = let w = decimal-shape n bs le e in by w.nonempty w.no_sign w.lone_zero
+  where
+    by : 0 < length bs → get_or bs 0 0 ≢ 43 → (get_or bs 0 0 ≡ 48 → length bs ≡ 1) → starts_plainly bs ≡ true
+    by a b z = grind arith
+
+-- a text that parses is that of its value
+pub parsed-text : {E : Type 0} (bs : List ℕ) (r : Result ℕ E) (v : ℕ) → ParsesUnsigned 64 10 bs r → r ≡ Ok v → starts_plainly bs ≡ true → decimal v ≡ bs
+parsed-text bs r v p e plainly =
+    let (some, plain, single) = plain-facts bs plainly in
+    let h = rw e at (parse_plain own 64 bs r p plain) in
+    rw h.1 (decimal-digits_value own bs h.0.0 some single h.0.2)
+
+-- a text of a number of dollars parses
+pub text-parses : {E : Type 0} (bs : List ℕ) (r : Result ℕ E) (n : ℕ) → ParsesUnsigned 64 10 bs r → IsWholeText bs n → n < 2 ^ 64 → r ≡ Ok n
+text-parses bs r n p w le = let e = w.value in rw (← e) (parse_gives own 64 bs r p w.digits w.nonempty (omega arith))

@@ -1,0 +1,13 @@
+use Rattle.std.proofs.Common.{◌∙◌, sym, arith}
+use Rattle.trust_values.specs.Limits.{IsAmount}
+use Rattle.trust_values.specs.Texts.{amount_text}
+use Rattle.trust_values.proofs.AmountFacts.{sum-injective}
+use Rattle.trust_values.proofs.ReadFacts.{none-in-range}
+use Rattle.trust_values.proofs.cents.read_amount.Goals as goal
+
+pub returns-clause-none : goal.returns-clause-none
+returns-clause-none c =
+    let text = c.in-Some.ensures.some in
+    let range = c.in-Some.ensures.range in
+    none-in-range c.from_number.result c.in-Some.value amount_text c.args.text.now IsAmount c.from_number.ensures.none
+    (λ n r e. sum-injective n c.in-Some.value (omega arith) (omega arith) (e ∙ sym text))

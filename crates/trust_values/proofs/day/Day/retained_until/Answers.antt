@@ -1,0 +1,37 @@
+use Rattle.std.proofs.Common.{arith, sym, subst, ◌∙◌, ℕ, ◌+◌, ◌≡◌, ◌≤◌, ap}
+use Rattle.trust_values.specs.Limits.{IsCivilDay, year_of}
+use Rattle.trust_values.specs.Retention.{retained_until}
+use Rattle.trust_values.proofs.DayFacts.{day-bounds}
+use Rattle.trust_values.proofs.RetentionFacts.{retained-civil-leap, retained-civil-other, retained-leap, retained-other, retained-year}
+use Rattle.trust_values.proofs.day.Day.retained_until.Goals as goal
+use Rattle.trust_values.proofs.day.Day.retained_until.Goals.{then-number-eq229, else-number-eq229}
+
+pub overflow_add-kept : goal.overflow_add-kept
+overflow_add-kept c =
+    let (low, high) = day-bounds c.get-number.result c.get-number.ensures.range in
+    elim c.if-number-eq229.branch [ then-number-eq229 w ↦ omega arith | else-number-eq229 w ↦ omega arith ]
+
+pub unreachable-requires : goal.unreachable-requires
+unreachable-requires c =
+    let P : ℕ → Type 0 = λ k. IsCivilDay (k + 50000) in
+    c.in_default.ensures.none (elim c.if-number-eq229.branch [
+      | then-number-eq229 w ↦ subst P (sym w.kept-is) (retained-civil-leap c.get-number.result c.get-number.ensures.range (omega arith))
+      | else-number-eq229 w ↦ subst P (sym w.kept-is) (retained-civil-other c.get-number.result c.get-number.ensures.range (λ q. omega arith))
+    ])
+
+pub returns-clause-value : goal.returns-clause-value
+returns-clause-value c =
+    let made : c.if-number-eq229.kept + 50000 ≡ retained_until c.get-number.result = elim c.if-number-eq229.branch [
+      | then-number-eq229 w ↦ ap (λ k. k + 50000) w.kept-is ∙ sym (retained-leap c.get-number.result (omega arith))
+      | else-number-eq229 w ↦ ap (λ k. k + 50000) w.kept-is ∙ sym (retained-other c.get-number.result (λ q. omega arith))
+    ] in
+    c.in-Some.ensures.some.0 ∙ made ∙ ap retained_until c.get-number.ensures.value
+
+pub returns-clause-range : goal.returns-clause-range
+returns-clause-range c =
+    let made : c.if-number-eq229.kept + 50000 ≡ retained_until c.get-number.result = elim c.if-number-eq229.branch [
+      | then-number-eq229 w ↦ ap (λ k. k + 50000) w.kept-is ∙ sym (retained-leap c.get-number.result (omega arith))
+      | else-number-eq229 w ↦ ap (λ k. k + 50000) w.kept-is ∙ sym (retained-other c.get-number.result (λ q. omega arith))
+    ] in
+    let P : ℕ → Type 0 = λ k. year_of k ≤ 2204 in
+    subst P (sym (c.in-Some.ensures.some.0 ∙ made)) (retained-year c.get-number.result c.get-number.ensures.range)

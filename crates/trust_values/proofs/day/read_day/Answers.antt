@@ -1,0 +1,14 @@
+use Rattle.std.proofs.Common.{◌∙◌, arith, sym}
+use Rattle.trust_values.specs.Limits.{IsDay}
+use Rattle.trust_values.specs.Texts.{day_text}
+use Rattle.trust_values.proofs.DayFacts.{day-bounds, day-injective}
+use Rattle.trust_values.proofs.ReadFacts.{none-in-range}
+use Rattle.trust_values.proofs.day.read_day.Goals as goal
+
+pub returns-clause-none : goal.returns-clause-none
+returns-clause-none c = none-in-range c.from_number.result c.in-Some.number day_text c.args.text.now IsDay c.from_number.ensures.none
+    (λ n day e. let (low, high) = day-bounds n day in
+    day-injective n c.in-Some.number (omega arith) c.in-Some.ensures.below (e ∙ sym c.in-Some.ensures.some))
+
+pub returns-in_default-clause-none : goal.returns-in_default-clause-none
+returns-in_default-clause-none c n day e = let (low, high) = day-bounds n day in c.in_default.ensures.none n (omega arith) e

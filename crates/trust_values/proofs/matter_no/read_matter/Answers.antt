@@ -1,0 +1,17 @@
+use Rattle.std.proofs.Common.{ℕ, ◌∙◌, sym, ap, length, List, arith}
+use Rattle.trust_values.specs.Limits.{IsMatterNo}
+use Rattle.trust_values.specs.Texts.{matter_text}
+use Rattle.byte_streams.proofs.FixedFacts.{length-fixed, fixed-injective}
+use Rattle.trust_values.proofs.ReadFacts.{none-in-range}
+use Rattle.trust_values.proofs.matter_no.read_matter.Goals as goal
+
+pub returns-then-text-ne6-clause-none : goal.returns-then-text-ne6-clause-none
+returns-then-text-ne6-clause-none c n r e = c.if-text-ne6.true (ap (λ (t : List ℕ). length t) (sym e) ∙ length-fixed 6 n)
+
+pub returns-clause-none : goal.returns-clause-none
+returns-clause-none c =
+    let six = c.if-text-ne6.false in
+    let below = rw six at c.in-Some.ensures.below in
+    let text = rw six at c.in-Some.ensures.some in
+    none-in-range c.from_number.result c.in-Some.number matter_text c.args.text.now IsMatterNo c.from_number.ensures.none
+    (λ n r e. fixed-injective 6 n c.in-Some.number (omega arith) below (e ∙ sym text))

@@ -1,0 +1,110 @@
+-- The ranges of amounts, bank amounts, matters, entries and days.
+use Rattle.std.specs.Prelude.{◌≤◌, ◌/◌, ◌%◌, ℕ, ℤ, pos, unsigned_abs, Bool, ◌&&◌, nat_le}
+use Rattle.jiff.specs.Words.{days_in_month}
+
+-- the least amount, in cents
+abbrev pub MIN_AMOUNT : ℕ
+MIN_AMOUNT = 1
+
+-- the greatest amount, in cents
+abbrev pub MAX_AMOUNT : ℕ
+MAX_AMOUNT = 99999999999
+
+-- an amount, in cents
+abbrev pub IsAmount : ℕ → Type 0
+IsAmount n = (MIN_AMOUNT ≤ n) × (n ≤ MAX_AMOUNT)
+
+-- the first number of a matter
+abbrev pub MIN_MATTER : ℕ
+MIN_MATTER = 1
+
+-- the last number of a matter
+abbrev pub MAX_MATTER : ℕ
+MAX_MATTER = 999999
+
+-- the number of a matter
+abbrev pub IsMatterNo : ℕ → Type 0
+IsMatterNo n = (MIN_MATTER ≤ n) × (n ≤ MAX_MATTER)
+
+-- the first year of a day
+abbrev pub MIN_YEAR : ℕ
+MIN_YEAR = 2000
+
+-- the last year of a day
+abbrev pub MAX_YEAR : ℕ
+MAX_YEAR = 2199
+
+-- the year of a day
+abbrev pub IsDayYear : ℕ → Type 0
+IsDayYear y = (MIN_YEAR ≤ y) × (y ≤ MAX_YEAR)
+
+-- A civil day is one number, year * 10000 + month * 100 + day of the month, so that days compare as numbers.
+
+-- 2000-01-01
+abbrev pub MIN_DAY : ℕ
+MIN_DAY = 20000101
+
+-- 2199-12-31
+abbrev pub MAX_DAY : ℕ
+MAX_DAY = 21991231
+
+-- the year of a day's number
+abbrev pub year_of : ℕ → ℕ
+year_of n = n / 10000
+
+-- the month of a day's number, from 1
+abbrev pub month_of : ℕ → ℕ
+month_of n = n / 100 % 100
+
+-- the day of the month of a day's number, from 1
+abbrev pub month_day_of : ℕ → ℕ
+month_day_of n = n % 100
+
+-- a day of the Gregorian calendar in the years that are kept
+unfoldable pub IsDay : ℕ → Type 0
+IsDay n =
+    IsDayYear (year_of n)
+    × ((1 ≤ month_of n) × (month_of n ≤ 12))
+    × ((1 ≤ month_day_of n) × (month_day_of n ≤ days_in_month (pos (year_of n)) (month_of n)))
+
+-- the same as a test
+unfoldable pub is_day : ℕ → Bool
+is_day n =
+    (nat_le MIN_YEAR (year_of n) && nat_le (year_of n) MAX_YEAR)
+    && (nat_le 1 (month_of n) && nat_le (month_of n) 12)
+    && (nat_le 1 (month_day_of n) && nat_le (month_day_of n) (days_in_month (pos (year_of n)) (month_of n)))
+
+-- the first number of an entry
+abbrev pub MIN_ENTRY : ℕ
+MIN_ENTRY = 1
+
+-- the last number of an entry
+abbrev pub MAX_ENTRY : ℕ
+MAX_ENTRY = 9999
+
+-- the number of an entry of a matter
+abbrev pub IsEntryNo : ℕ → Type 0
+IsEntryNo n = (MIN_ENTRY ≤ n) × (n ≤ MAX_ENTRY)
+
+-- an amount or nothing, in cents
+abbrev pub IsAmountOrZero : ℕ → Type 0
+IsAmountOrZero n = n ≤ MAX_AMOUNT
+
+-- the greatest size of an amount that a bank writes, in cents: sixteen digits before the point
+abbrev pub MAX_BANK_AMOUNT : ℕ
+MAX_BANK_AMOUNT = 999999999999999999
+
+-- an amount of a bank's line, in cents, below zero for money that went out
+abbrev pub IsBankAmount : ℤ → Type 0
+IsBankAmount z = unsigned_abs z ≤ MAX_BANK_AMOUNT
+
+-- the last year of a civil day that is counted on from a day
+abbrev pub MAX_CIVIL_YEAR : ℕ
+MAX_CIVIL_YEAR = 9999
+
+-- a day of the Gregorian calendar that may lie past the years that are kept
+unfoldable pub IsCivilDay : ℕ → Type 0
+IsCivilDay n =
+    ((MIN_YEAR ≤ year_of n) × (year_of n ≤ MAX_CIVIL_YEAR))
+    × ((1 ≤ month_of n) × (month_of n ≤ 12))
+    × ((1 ≤ month_day_of n) × (month_day_of n ≤ days_in_month (pos (year_of n)) (month_of n)))

@@ -1,0 +1,98 @@
+// Amounts of money, or nothing.
+
+ghost use Rattle.std.specs.Prelude.{Some, ◌≡◌, ◌≢◌, ℕ, ◌++◌, IfSome, IfNone, OnOk, OnErr};
+ghost use Rattle.trust_values.specs.Limits.{IsAmountOrZero};
+ghost use Rattle.trust_values.specs.Texts.{amount_or_zero_of, amount_text};
+
+use crate::cents::read_sum;
+use crate::{Cents, Dollars, write_amount};
+use std::alloc::AllocError;
+use std::fmt;
+use std::marker::Model;
+
+/// An amount of whole cents or nothing, from 0.00 to 999999999.99 dollars.
+///
+/// Contracts see it as the number of cents.
+#[derive(Clone, Copy, PartialEq, Eq, PartialOrd, Ord, Debug)]
+pub struct CentsOrZero {
+    value: u64,
+}
+
+impl Model for CentsOrZero {
+    ghost Value = { ℕ };
+
+    ghost view = { λ c. c.value };
+
+    ghost invariant = { λ c. IsAmountOrZero c.value };
+
+    ghost inverse = { λ n. record { value = n } };
+}
+
+// The amount or zero of a text, where it is the text of one.
+fn read_zero_or(text: &[u8]) -> Option<CentsOrZero>
+    ensures range { IfSome result IsAmountOrZero }
+    ensures some { IfSome result (λ c. amount_text c ≡ text.now) }
+    ensures none { IfNone result ((n : ℕ) → IsAmountOrZero n → amount_text n ≢ text.now) }
+{
+    let Some(value) = read_sum(text, 999_999_999) else {
+        return None;
+    };
+    Some(CentsOrZero { value })
+}
+
+impl CentsOrZero {
+    /// The amount of a text or zero of `0.00`, exactly where it is the text of one.
+    pub fn read(text: &[u8]) -> Option<CentsOrZero>
+        ensures value { result ≡ amount_or_zero_of text.now }
+        ensures some { IfSome result (λ c. amount_text c ≡ text.now) }
+        ensures none { IfNone result ((n : ℕ) → IsAmountOrZero n → amount_text n ≢ text.now) }
+    {
+        read_zero_or(text)
+    }
+
+    /// The sum of a number of cents, exactly where it is one.
+    pub fn from_number(cents: u64) -> Option<CentsOrZero>
+        ensures some { IfSome result (λ c. (c ≡ cents) × IsAmountOrZero c) }
+        ensures none { IfNone result (¬ IsAmountOrZero cents) }
+    {
+        if cents > 99_999_999_999 {
+            return None;
+        }
+        Some(CentsOrZero { value: cents })
+    }
+
+    /// The number of cents.
+    pub fn get(self) -> u64
+        ensures value { result ≡ self }
+        ensures range { IsAmountOrZero result }
+    {
+        self.value
+    }
+
+    /// Appends the amount's text. At an error, want of memory, the vector is as before.
+    pub fn write_to(self, out: &mut Vec<u8>) -> Result<(), AllocError>
+        ensures ok { OnOk result (out.new.items ≡ out.old.items ++ amount_text self) }
+        ensures err { OnErr result (out.new.items ≡ out.old.items) }
+    {
+        write_amount(self.value as i128, out)
+    }
+}
+
+impl fmt::Display for CentsOrZero {
+    ghost output = { λ c. Some (amount_text c) };
+
+    fn fmt<W: fmt::Write>(&self, f: &mut fmt::Formatter<W>) -> fmt::Result {
+        let sum = Dollars(self.get() as i128);
+        write!(f, "{sum}")
+    }
+}
+
+impl From<Cents> for CentsOrZero {
+    ghost from_gives = { λ amount same. same ≡ amount };
+
+    fn from(amount: Cents) -> Self {
+        CentsOrZero {
+            value: amount.get(),
+        }
+    }
+}

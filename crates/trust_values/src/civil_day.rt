@@ -1,0 +1,80 @@
+// Days that may lie past the last business day.
+
+ghost use Rattle.std.specs.Prelude.{◌≡◌, ◌++◌, ◌↔◌, ℕ, IsTrue, IfSome, IfNone, OnOk, OnErr};
+ghost use Rattle.trust_values.specs.Limits.{IsCivilDay};
+ghost use Rattle.trust_values.specs.Texts.{day_text};
+
+use crate::Day;
+use crate::day::day_bytes;
+use jiff::civil::Date;
+use std::alloc::AllocError;
+use std::marker::Model;
+
+/// A civil day from 2000-01-01 to 9999-12-31, as a day counted on from a business day may be.
+///
+/// Contracts see it as the number year * 10000 + month * 100 + day of the month.
+#[derive(Clone, Copy, PartialEq, Eq, PartialOrd, Ord, Debug)]
+pub struct CivilDay {
+    number: u32,
+}
+
+impl Model for CivilDay {
+    ghost Value = { ℕ };
+
+    ghost view = { λ d. d.number };
+
+    ghost invariant = { λ d. IsCivilDay d.number };
+
+    ghost inverse = { λ n. record { number = n } };
+}
+
+// Whether the calendar has the day of a number, in a year from 2000 to 9999.
+#[tactic(auto, unfolding(crate::specs::Limits::IsCivilDay))]
+fn is_on_calendar(number: u32) -> bool
+    ensures { IsTrue result ↔ IsCivilDay number }
+{
+    let year = number / 10_000;
+    if year < 2000 || year > 9999 {
+        return false;
+    }
+    let month = number / 100 % 100;
+    let day = number % 100;
+    Date::new(year as i16, month as i8, day as i8).is_ok()
+}
+
+impl CivilDay {
+    /// The day of a number year * 10000 + month * 100 + day of the month, where the calendar has it.
+    pub fn from_number(number: u32) -> Option<CivilDay>
+        ensures some { IfSome result (λ d. (d ≡ number) × IsCivilDay d) }
+        ensures none { IfNone result (¬ IsCivilDay number) }
+    {
+        if !is_on_calendar(number) {
+            return None;
+        }
+        Some(CivilDay { number })
+    }
+
+    /// The number year * 10000 + month * 100 + day of the month.
+    pub fn get(self) -> u32
+        ensures value { result ≡ self }
+        ensures range { IsCivilDay result }
+    {
+        self.number
+    }
+
+    /// Appends the day's text. At an error, want of memory, the vector is as before.
+    pub fn write_to(self, out: &mut Vec<u8>) -> Result<(), AllocError>
+        ensures ok { OnOk result (out.new.items ≡ out.old.items ++ day_text self) }
+        ensures err { OnErr result (out.new.items ≡ out.old.items) }
+    {
+        out.extend_from_slice(&day_bytes(self.number))
+    }
+}
+
+impl From<Day> for CivilDay {
+    ghost from_gives = { λ day same. same ≡ day };
+
+    fn from(day: Day) -> Self {
+        CivilDay { number: day.get() }
+    }
+}

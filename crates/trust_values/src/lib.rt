@@ -1,0 +1,21 @@
+//! Amounts, days and numbers of trust account records, each value with one text.
+#![tactic(auto)]
+
+mod bank_amount;
+mod cents;
+mod cents_or_zero;
+mod civil_day;
+mod day;
+mod dollars;
+mod entry_no;
+mod matter_no;
+mod retention;
+
+pub use bank_amount::BankAmount;
+pub use cents::Cents;
+pub use cents_or_zero::CentsOrZero;
+pub use civil_day::CivilDay;
+pub use day::{Day, day_bytes};
+pub use dollars::{Dollars, write_amount};
+pub use entry_no::EntryNo;
+pub use matter_no::MatterNo;

@@ -1,0 +1,57 @@
+// Until when the records of a closed matter are kept.
+
+ghost use Rattle.std.specs.Prelude.{◌≡◌, ◌<◌, ◌≤◌};
+ghost use Rattle.trust_values.specs.Limits.{year_of};
+ghost use Rattle.trust_values.specs.Retention.{IsDayAfter, first_purge_day, next_day, retained_until};
+
+use crate::{CivilDay, Day};
+
+// The day after a day of a year before 9999.
+fn day_after(day: CivilDay) -> CivilDay
+    requires { year_of day < 9999 }
+    ensures value { result ≡ next_day day }
+    ensures after { IsDayAfter day result }
+{
+    let number = day.get();
+    if let Some(next) = CivilDay::from_number(number + 1) {
+        return next;
+    }
+    let first = if number / 100 % 100 < 12 {
+        (number / 100 + 1) * 100 + 1
+    } else {
+        (number / 10_000 + 1) * 10_000 + 101
+    };
+    let Some(next) = CivilDay::from_number(first) else {
+        unreachable!()
+    };
+    next
+}
+
+impl Day {
+    /// The last day for which the records of a matter that was closed on this day are kept: the same month and day five
+    /// years later, or 28 February for 29 February. It may lie past 2199, up to 2204-12-31.
+    pub fn retained_until(self) -> CivilDay
+        ensures value { result ≡ retained_until self }
+        ensures range { year_of result ≤ 2204 }
+    {
+        let number = self.get();
+        let kept = if number % 10_000 == 229 {
+            number - 1
+        } else {
+            number
+        };
+        let Some(day) = CivilDay::from_number(kept + 50_000) else {
+            unreachable!()
+        };
+        day
+    }
+
+    /// The first day on which a matter that was closed on this day may be purged: the one after the last for which its
+    /// records are kept. It may lie past 2199.
+    pub fn first_purge_day(self) -> CivilDay
+        ensures value { result ≡ first_purge_day self }
+        ensures after { IsDayAfter (retained_until self) result }
+    {
+        day_after(self.retained_until())
+    }
+}

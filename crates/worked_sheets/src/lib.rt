@@ -1,0 +1,13 @@
+//! Worked cases of day sheets, statements and command lines, as tests of the cashier's program from bytes to bytes.
+#![tactic(auto)]
+
+#[cfg(test)]
+mod command_lines;
+#[cfg(test)]
+mod openings;
+#[cfg(test)]
+mod runs;
+#[cfg(test)]
+mod sheets;
+#[cfg(test)]
+mod statements;
