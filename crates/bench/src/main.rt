@@ -1,5 +1,6 @@
 //! Books deposits at the desk. With the argument `deposits` it measures what one of them takes. With `statement 1` or
-//! `statement 4` it imports a statement of the bank of nearly so many mebibytes, so that the memory of that can be measured.
+//! `statement 4` it imports a statement of the bank of nearly so many mebibytes, so that the memory of that can be
+//! measured.
 #![tactic(auto)]
 
 mod deposits;

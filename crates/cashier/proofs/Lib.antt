@@ -3,3 +3,4 @@ pub mod IsolationFacts
 pub mod LineFacts
 pub mod SheetFacts
 pub mod StatementFacts
+pub mod StreamFacts

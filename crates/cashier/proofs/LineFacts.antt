@@ -1,5 +1,6 @@
 -- What a parse of the program's own command line says.
-use Rattle.std.proofs.Common.{◌≡◌, ◌≢◌, ◌∙◌, inl, inr, ap, sym, refl, subst, true, ℕ, List, [], Option, Some, None, IfNone, option_map, option_and_then, codes}
+use Rattle.std.specs.Prelude.{◌==◌}
+use Rattle.std.proofs.Common.{◌≡◌, ◌≢◌, ◌∙◌, inl, inr, ap, sym, refl, subst, Bool, false, true, ℕ, List, [], ◌∷◌, Option, Some, None, IfNone, option_map, option_and_then, codes}
 use Rattle.clap.specs.Words.{App, Row, Text, fault_of, first_of, found_of, is_simple, is_simple_and_free, kind_of, matches_of, rows_of, subcommand_name_of, subcommand_of, subcommand_rows_of}
 use Rattle.clap.specs.Kinds.{HasKind, Kinds}
 use Rattle.clap.specs.declared.error.Error.{Error}
@@ -11,18 +12,18 @@ use Rattle.clap.proofs.OnLiterals.{clap_on_literals}
 use Rattle.clap.proofs.WalkLemmas.{first_value-rows}
 use Rattle.std.specs.Borrow.{Bor}
 use Rattle.trust_values.specs.Texts.{day_of}
-use Rattle.cashier.specs.Program.{Gives, IsTask, LeavesNoPlan, MeetsTask, Means, MeansNothing, file_rule, import_app, ImportIsNoSheet, program, sheet_app, today_rule}
+use Rattle.cashier.specs.Program.{Gives, IsTask, LeavesNoPlan, MeetsTask, Means, MeansNothing, file_rule, import_app, ImportIsNoSheet, ImportIsNoStream, program, sheet_app, stream_app, today_rule}
 use Rattle.cashier.specs.declared.command.CliFault.{CliFault}
 use Rattle.cashier.specs.declared.command.CliFault.TheVariants as faults
 use Rattle.cashier.specs.declared.command.Task.{Task}
 use Rattle.cashier.specs.declared.command.Task.TheVariants as tasks
 
 is_simple_program : is_simple program ≡ true
-unfolding clap_on_literals program sheet_app today_rule import_app file_rule
+unfolding clap_on_literals program sheet_app today_rule import_app file_rule stream_app
 is_simple_program = refl
 
 is_free_program : is_simple_and_free program ≡ true
-unfolding clap_on_literals program sheet_app today_rule import_app file_rule
+unfolding clap_on_literals program sheet_app today_rule import_app file_rule stream_app
 is_free_program = refl
 
 parses : (a : App) (words : List Text) → a ≡ program → (is_simple_and_free a ≡ true → fault_of a words ≡ []) → fault_of program words ≡ []
@@ -114,19 +115,36 @@ if_none (Some x) P p = tt
 pub imports : (f : Found) (name : Text) (path : Bor (List ℕ)) → name ≡ codes "import" → first_value f (codes "FILE") ≡ Some path.now → IsTask name (rows_of f) (tasks.Import path)
 imports f name path n v = record { named = n; operands = sym (first_value-rows f (codes "FILE")) ∙ v }
 
+-- the names of two commands, by how they begin
+abbrev begins_stream : Text → Bool
+begins_stream [] = false
+begins_stream (c ∷ cs) = c == 115
+
+no_import_stream : codes "import" ≡ codes "stream" → ⊥
+no_import_stream e = let begins : false ≡ true = ap begins_stream e in cc
+
 -- the command without a path is no task
 pub no_file : (f : Found) (name : Text) (task : Task) → name ≡ codes "import" → first_value f (codes "FILE") ≡ None → IsTask name (rows_of f) task → ⊥
 no_file f name tasks.Sheet n v is = let e = sym n ∙ is.named in cc
 no_file f name (tasks.Import path) n v is = let e = sym v ∙ first_value-rows f (codes "FILE") ∙ is.operands in cc
+no_file f name tasks.Stream n v is = no_import_stream (sym n ∙ is.named)
 
 -- the command that was met, and the task that it is
 pub meets : (m : Option (Text × List Row)) (name : Text) (values : List Row) (task : Task) → m ≡ Some (name, values) → IsTask name values task → MeetsTask m task
 meets m name values task e h = rw e h
 
--- a command is no two tasks
-two_tasks : (m : Option (Text × List Row)) (path : Bor (List ℕ)) → MeetsTask m (tasks.Import path) → MeetsTask m tasks.Sheet → ⊥
-two_tasks None path a b = a
-two_tasks (Some met) path a b = let e = sym a.named ∙ b.named in cc
+-- an import is no sheet
+import_or_sheet : (m : Option (Text × List Row)) (path : Bor (List ℕ)) → MeetsTask m (tasks.Import path) → MeetsTask m tasks.Sheet → ⊥
+import_or_sheet None path a b = a
+import_or_sheet (Some met) path a b = let e = sym a.named ∙ b.named in cc
 
 pub import-no-sheet : ImportIsNoSheet
-import-no-sheet words (today, path, a) (later, b) = two_tasks (subcommand_of program words) path a.gives.meets b.gives.meets
+import-no-sheet words (today, path, a) (later, b) = import_or_sheet (subcommand_of program words) path a.gives.meets b.gives.meets
+
+-- and no stream
+import_or_stream : (m : Option (Text × List Row)) (path : Bor (List ℕ)) → MeetsTask m (tasks.Import path) → MeetsTask m tasks.Stream → ⊥
+import_or_stream None path a b = a
+import_or_stream (Some command) path a b = no_import_stream (sym a.named ∙ b.named)
+
+pub import-no-stream : ImportIsNoStream
+import-no-stream words (today, path, a) (later, b) = import_or_stream (subcommand_of program words) path a.gives.meets b.gives.meets

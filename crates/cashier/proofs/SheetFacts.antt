@@ -18,13 +18,14 @@ use Rattle.trust_desk.specs.FirmStep.{Steps, Stopped, firm_step}
 use Rattle.trust_desk.specs.Heard.{Asks, Heard, Unread}
 use Rattle.trust_desk.specs.Replies.{is_fault_body, is_fault_reply, refused}
 use Rattle.trust_desk.specs.declared.requests.Body.{Body}
-use Rattle.trust_desk.specs.declared.requests.Body.TheVariants.{Json, Refused}
+use Rattle.trust_desk.specs.declared.requests.Body.TheVariants.{Json, Refused, Text}
 use Rattle.trust_desk.specs.declared.requests.Reply.{Reply}
 use Rattle.trust_desk.specs.declared.requests.Request.{Request}
 use Rattle.trust_desk.specs.declared.requests.Request.TheVariants.{Import, Matter}
 use Rattle.trust_desk.proofs.Steps.{nothing-done, steps-fault as steps-stopped}
 use Rattle.trust_matter.specs.declared.ask.Ask.{Ask}
-use Rattle.cashier.specs.Records.{Reads, ask_of, asked_of, by_cashier, of_matter, of_verb, text_at, verb_in}
+use Rattle.ask_fields.specs.Fields.{Reads}
+use Rattle.cashier.specs.Records.{ask_of, asked_of, by_cashier, of_matter, of_verb, text_at, verb_in}
 use Rattle.cashier.specs.declared.record.Verb.{Verb}
 use Rattle.cashier.specs.Sheet.{Cut, CutsLine, Ends, LargeEnds, Leaves, RunEnds, sheet_records, all_accepted, body_line, body_kind, firm_from, heard_as, heard_of, is_accepting, lines_from, ran_by, record_step, refusal_kind, refusal_line, reply_kind, reply_line, IsCounted, RecordEnds}
 use Rattle.cashier.specs.declared.sheet.SheetEnd.{SheetEnd}
@@ -159,6 +160,7 @@ goes-refused _ accepted e = (refl, cc)
 
 goes-body : (b : Body) (accepted : Bool) → Ok accepted ≡ ran_by (body_kind b) → (is_fault_body b ≡ false) × (is_accepting b ≡ accepted)
 goes-body (Json text) accepted e = (refl, cc)
+goes-body (Text text) accepted e = (refl, cc)
 goes-body (Refused r) accepted e = goes-refused r accepted e
 
 store-refused : (r : Refusal) → Err end.Store ≡ ran_by (refusal_kind r) → r ≡ Store
@@ -168,6 +170,7 @@ store-refused _ e = cc
 
 store-body : (b : Body) → Err end.Store ≡ ran_by (body_kind b) → b ≡ Refused Store
 store-body (Json text) e = cc
+store-body (Text text) e = cc
 store-body (Refused r) e = ap Refused (store-refused r e)
 
 memory-refused : (r : Refusal) → Err end.NoMemory ≡ ran_by (refusal_kind r) → r ≡ Memory
@@ -177,6 +180,7 @@ memory-refused _ e = cc
 
 memory-body : (b : Body) → Err end.NoMemory ≡ ran_by (body_kind b) → b ≡ Refused Memory
 memory-body (Json text) e = cc
+memory-body (Text text) e = cc
 memory-body (Refused r) e = ap Refused (memory-refused r e)
 
 -- no other end comes of a reply
@@ -194,6 +198,7 @@ counted-refused _ before after e = e
 
 pub counted-ran : (b : Body) (before after : ℕ) → after ≡ counted_body b before → IsCounted (ran_by (body_kind b)) before after
 counted-ran (Json text) before after e = e
+counted-ran (Text text) before after e = e
 counted-ran (Refused r) before after e = counted-refused r before after e
 
 -- ---- one more record

@@ -4,3 +4,4 @@ pub mod Program
 pub mod Records
 pub mod Sheet
 pub mod Statement
+pub mod Stream

@@ -8,6 +8,7 @@ use Rattle.firm_rows.specs.FirmSound.{FirmSound}
 use Rattle.cashier.specs.Program.{Means, MeansNothing}
 use Rattle.cashier.specs.Sheet.{Ends}
 use Rattle.cashier.specs.Statement.{StatementEnds}
+use Rattle.cashier.specs.Stream.{StreamEnds}
 use Rattle.cashier.specs.declared.command.Task.{Task}
 use Rattle.cashier.specs.declared.command.Task.TheVariants as task
 use Rattle.cashier.specs.declared.outcome.Outcome.{Outcome}
@@ -18,6 +19,8 @@ use Rattle.cashier.specs.declared.sheet.SheetEnd.{SheetEnd}
 use Rattle.cashier.specs.declared.sheet.SheetEnd.TheVariants as sheet
 use Rattle.cashier.specs.declared.statement.StatementEnd.{StatementEnd}
 use Rattle.cashier.specs.declared.statement.StatementEnd.TheVariants as statement
+use Rattle.portal_http.specs.declared.stream.StreamEnd.{StreamEnd}
+use Rattle.portal_http.specs.declared.stream.StreamEnd.TheVariants as stream
 
 -- 0 done, 1 something was refused, 2 the command line, 3 a fault
 abbrev pub exit_status : Outcome → ℕ
@@ -32,7 +35,7 @@ exit_status outcome.MemoryFault = 3
 abbrev pub notice : Outcome → Option (List ℕ)
 notice outcome.Done = None
 notice outcome.Refused = None
-notice outcome.CommandLine = Some (codes "usage: cashier_cli --today DAY (sheet | import FILE)")
+notice outcome.CommandLine = Some (codes "usage: cashier_cli --today DAY (sheet | import FILE | stream)")
 notice outcome.FileFault = Some (codes "file fault")
 notice outcome.StoreFault = Some (codes "store fault")
 notice outcome.MemoryFault = Some (codes "memory fault")
@@ -59,6 +62,15 @@ statement_outcome statement.ReadFault = outcome.FileFault
 statement_outcome statement.WriteFault = outcome.FileFault
 statement_outcome statement.Store = outcome.StoreFault
 statement_outcome statement.NoMemory = outcome.MemoryFault
+
+-- what the end of a stream is to the program, whatever its messages were answered
+abbrev pub stream_outcome : StreamEnd → Outcome
+stream_outcome stream.Ended = outcome.Done
+stream_outcome stream.BadFraming = outcome.Refused
+stream_outcome stream.Limit = outcome.Refused
+stream_outcome stream.ReadFault = outcome.FileFault
+stream_outcome stream.WriteFault = outcome.FileFault
+stream_outcome stream.NoMemory = outcome.MemoryFault
 
 -- the words were understood, and their task began
 abbrev pub HasBegun : Outcome → Type 0
@@ -111,22 +123,37 @@ pub record RanImport (words : List Text) (known : Text → Option (List ℕ))
   pub means : Means words today (task.Import path)
   pub ends : FileEnds today before (known path.now) (opens path.now) after old new told
 
+-- a stream was served on a day, and that ended with this outcome
+pub record IsServed (day : ℕ) (before : Firm) (input : Option (List ℕ)) (after : Firm) (old new : Option (List ℕ))
+    (told : Outcome) : Type 0 where
+  pub end : StreamEnd
+  pub outcome : stream_outcome end ≡ told
+  pub ends : StreamEnds day before input after old new end
+
+-- the words mean that standard input is served on a day, and that ended with that outcome
+pub record RanStream (words : List Text) (input : Option (List ℕ)) (before after : Firm) (old new : Option (List ℕ))
+    (told : Outcome) : Type 0 where
+  pub today : ℕ
+  pub means : Means words today task.Stream
+  pub ends : IsServed today before input after old new told
+
 -- memory was refused before anything was run
 pub record RanNothing (before after : Firm) (old new : Option (List ℕ)) (told : Outcome) : Type 0 where
   pub outcome : told ≡ outcome.MemoryFault
   pub written : Appends old new []
   pub firm : after ≡ before
 
--- what became of the words, the sheet on standard input, the files of paths and the firm
+-- what became of the words, the sheet or the stream on standard input, the files of paths and the firm
 abbrev pub Ran : List Text → Option (List ℕ) → (Text → Option (List ℕ)) → (Text → Option (Option ℕ) → Type 0)
     → Firm → Firm → Option (List ℕ) → Option (List ℕ) → Outcome → Type 0
 Ran words input known opens before after old new told =
     RanSheet words input before after old new told
-    ⊎ (RanImport words known opens before after old new told ⊎ RanNothing before after old new told)
+    ⊎ (RanImport words known opens before after old new told
+    ⊎ (RanStream words input before after old new told ⊎ RanNothing before after old new told))
 
 -- the run of words over a book that begins without rows: it ended at the command line only where they mean nothing;
--- they mean what was begun; and, of any other end, what became of the sheet or the file, and the firm that is left is
--- sound
+-- they mean what was begun; and, of any other end, what became of the sheet, the file or the stream, and the firm that
+-- is left is sound
 pub record HasRun (words : List Text) (input : Option (List ℕ)) (known : Text → Option (List ℕ))
     (opens : Text → Option (Option ℕ) → Type 0) (old new : Option (List ℕ)) (told : Outcome) : Type 0 where
   pub line : told ≡ outcome.CommandLine → MeansNothing words

@@ -26,22 +26,29 @@ file_rule = record (new_rule (codes "FILE")) { required = true; action = Some ac
 unfoldable pub import_app : App
 import_app = with_rule (new_app (codes "import")) file_rule
 
+unfoldable pub stream_app : App
+stream_app = new_app (codes "stream")
+
 -- the command line: `--today DAY` and a command
 unfoldable pub program : App
 program =
     on_top (λ s. record s { subcommand_required = true })
     (with_subcommand
+    (with_subcommand
     (with_subcommand (with_rule (new_app (codes "cashier_cli")) today_rule) sheet_app.top) import_app.top)
+    stream_app.top)
 
 -- the name of a task's command
 abbrev pub task_text : Task → Text
 task_text tasks.Sheet = codes "sheet"
 task_text (tasks.Import path) = codes "import"
+task_text tasks.Stream = codes "stream"
 
 -- the values of a command are the task's operands
 abbrev pub HasOperands : List Row → Task → Type 0
 HasOperands values tasks.Sheet = ⊤
 HasOperands values (tasks.Import path) = first_of (codes "FILE") values ≡ Some path.now
+HasOperands values tasks.Stream = ⊤
 
 -- a command of this name with these values is the task
 pub record IsTask (name : Text) (values : List Row) (task : Task) : Type 0 where
@@ -76,9 +83,17 @@ MeansSheet words = (today : ℕ) × Means words today tasks.Sheet
 abbrev pub MeansImport : List Text → Type 0
 MeansImport words = (today : ℕ) × (path : Bor (List ℕ)) × Means words today (tasks.Import path)
 
+-- the words mean that the messages of standard input are served
+abbrev pub MeansStream : List Text → Type 0
+MeansStream words = (today : ℕ) × Means words today tasks.Stream
+
 -- the words of an import mean no sheet
 abbrev pub ImportIsNoSheet : Type 0
 ImportIsNoSheet = (words : List Text) → MeansImport words → ¬ MeansSheet words
+
+-- the words of an import mean no stream
+abbrev pub ImportIsNoStream : Type 0
+ImportIsNoStream = (words : List Text) → MeansImport words → ¬ MeansStream words
 
 -- the words mean no plan
 abbrev pub MeansNothing : List Text → Type 0

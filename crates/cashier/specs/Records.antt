@@ -1,24 +1,17 @@
 -- What a record of a day sheet asks.
-use Rattle.std.specs.Prelude.{◌≡◌, ℕ, Bool, true, false, ◌&&◌, ◌||◌, ◌==◌, List, [], length, codes, Option, Some, None, option_map, unwrap_or, Result, Ok, Err, if◌then◌else◌, ⊤}
+use Rattle.std.specs.Prelude.{ℕ, Bool, true, false, ◌&&◌, ◌||◌, ◌==◌, List, [], length, codes, Option, Some, None, unwrap_or, Result, Ok, Err, if◌then◌else◌}
 use Rattle.std.specs.List.{list_all}
-use Rattle.std.specs.Option.{ok_or}
 use Rattle.std.specs.Str.{bytes_eq, is_utf8}
 use Rattle.csv.specs.Records.{field_at}
 use Rattle.trust_base.specs.Names.{label_of, person_of}
-use Rattle.trust_values.specs.Texts.{amount_of, amount_or_zero_of, entry_of, matter_of}
+use Rattle.trust_values.specs.Texts.{amount_of, amount_or_zero_of, matter_of}
 use Rattle.trust_base.specs.declared.refusal.Field.{Field}
 use Rattle.trust_base.specs.declared.refusal.Field.TheVariants as field
-use Rattle.trust_base.specs.declared.refusal.Refusal.{Refusal}
-use Rattle.trust_base.specs.declared.refusal.Refusal.TheVariants.{BadField, Memory}
 use Rattle.trust_matter.specs.declared.ask.Ask.{Ask}
 use Rattle.trust_matter.specs.declared.ask.Ask.TheVariants as ask
 use Rattle.trust_matter.specs.declared.ask.Caller.TheVariants.{Cashier}
-use Rattle.matter_rows.specs.declared.claim.Against.TheVariants as against
-use Rattle.matter_rows.specs.declared.payment.Fund.{Fund}
-use Rattle.matter_rows.specs.declared.payment.Fund.TheVariants as fund
-use Rattle.matter_rows.specs.declared.seat.Role.{Role}
-use Rattle.matter_rows.specs.declared.seat.Role.TheVariants as role
-use Rattle.matter_bodies.specs.Values.{role_name}
+use Rattle.ask_fields.specs.Asks.{claiming, depositing, dropping, naming, opening, proposing, seating, splitting}
+use Rattle.ask_fields.specs.Fields.{fund_in, of_entry, on_general, role_of}
 use Rattle.trust_desk.specs.declared.requests.Request.{Request}
 use Rattle.trust_desk.specs.declared.requests.Request.TheVariants.{Matter}
 use Rattle.cashier.specs.declared.record.Verb.{Verb}
@@ -90,123 +83,49 @@ verb_if_formed fields (Some v) = if is_of_form fields v then Some v else None
 abbrev pub verb_in : List (List ℕ) → Option Verb
 verb_in fields = verb_if_formed fields (verb_of (text_at fields 0))
 
--- ---- the asks, each from its fields in order: the first that is not of its form is told
+-- ---- the asks, by the fields of a record
 
-abbrev pub role_of : List ℕ → Option Role
-role_of bs =
-    if bytes_eq bs (role_name role.Client) then Some role.Client
-    else if bytes_eq bs (role_name role.Lawyer) then Some role.Lawyer
-    else None
+-- to book a deposit
+abbrev pub depositing_in : List (List ℕ) → Result Ask Field
+depositing_in fields =
+    of_entry (text_at fields 2) (λ n.
+    depositing n (amount_of (text_at fields 3)) (label_of (text_at fields 4)) (label_of (text_at fields 5)))
 
--- to open a matter for a client with a lawyer
-abbrev pub opening : Option (List ℕ) → Option (List ℕ) → Result Ask Field
-opening None lawyer = Err field.Client
-opening (Some client) None = Err field.Lawyer
-opening (Some client) (Some lawyer) = Ok (ask.OpenMatter (record { client = client; lawyer = lawyer }))
+-- the text of a field that may be left out: an empty one is none
+abbrev pub text_given : List ℕ → Option (List ℕ)
+text_given bs = if length bs == 0 then None else Some bs
 
--- to seat a person in a role
-abbrev pub seating : Option (List ℕ) → Option Role → Result Ask Field
-seating None r = Err field.Person
-seating (Some person) None = Err field.Role
-seating (Some person) (Some r) = Ok (ask.AddSeat (record { person = person; role = r }))
-
--- to drop a person's seat
-abbrev pub dropping : Option (List ℕ) → Result Ask Field
-dropping None = Err field.Person
-dropping (Some person) = Ok (ask.DropSeat person)
-
--- to book a deposit of an amount, from a source, with a description
-abbrev pub depositing : Option ℕ → Option ℕ → Option (List ℕ) → Option (List ℕ) → Result Ask Field
-depositing None amount source description = Err field.Entry
-depositing (Some number) None source description = Err field.Amount
-depositing (Some number) (Some amount) None description = Err field.Source
-depositing (Some number) (Some amount) (Some source) None = Err field.Description
-depositing (Some number) (Some amount) (Some source) (Some description) =
-    Ok (ask.Deposit (record { number = number; amount = amount; source = source; description = description }))
-
--- to cancel the deposit of that number
-abbrev pub cancelling : Option ℕ → Result Ask Field
-cancelling None = Err field.Entry
-cancelling (Some number) = Ok (ask.CancelDeposit number)
-
--- the general fund, which is of no entry
-abbrev pub general_of : List ℕ → Option Fund
-general_of of = if length of == 0 then Some fund.General else None
-
--- the fund of a payment: its kind is told first, and then the entry that it is of
-abbrev pub fund_in : List ℕ → List ℕ → Result Fund Field
-fund_in from of =
-    if bytes_eq from (codes "general") then ok_or (general_of of) field.Of
-    else if bytes_eq from (codes "fee") then ok_or (option_map fund.Fee (entry_of of)) field.Of
-    else if bytes_eq from (codes "claim") then ok_or (option_map fund.Claim (entry_of of)) field.Of
-    else Err field.From
-
--- to propose a payment of an amount from a fund, to a payee, for a purpose, by an instrument
-abbrev pub proposing : Option ℕ → Option ℕ → Result Fund Field → Option (List ℕ) → Option (List ℕ)
-    → Option (List ℕ) → Result Ask Field
-proposing None amount from payee purpose instrument = Err field.Entry
-proposing (Some number) None from payee purpose instrument = Err field.Amount
-proposing (Some number) (Some amount) (Err f) payee purpose instrument = Err f
-proposing (Some number) (Some amount) (Ok from) None purpose instrument = Err field.Payee
-proposing (Some number) (Some amount) (Ok from) (Some payee) None instrument = Err field.Purpose
-proposing (Some number) (Some amount) (Ok from) (Some payee) (Some purpose) None = Err field.Instrument
-proposing (Some number) (Some amount) (Ok from) (Some payee) (Some purpose) (Some instrument) =
-    Ok (ask.Propose (record {
-      number = number;
-      amount = amount;
-      fund = from;
-      payee = payee;
-      purpose = purpose;
-      instrument = instrument;
-    }))
-
--- the same, by the fields of a record
+-- to propose a payment
 abbrev pub proposing_in : List (List ℕ) → Result Ask Field
 proposing_in fields =
-    proposing (entry_of (text_at fields 2)) (amount_of (text_at fields 3))
-    (fund_in (text_at fields 4) (text_at fields 5))
-    (label_of (text_at fields 6)) (label_of (text_at fields 7)) (label_of (text_at fields 8))
+    of_entry (text_at fields 2) (λ n.
+    proposing n (amount_of (text_at fields 3)) (fund_in (text_at fields 4) (text_given (text_at fields 5)))
+    (label_of (text_at fields 6)) (label_of (text_at fields 7)) (label_of (text_at fields 8)))
 
--- to raise a claim of an amount on the general fund, by a claimant, for a reason
-abbrev pub claiming : Option ℕ → Option ℕ → Option (List ℕ) → Option (List ℕ) → Result Ask Field
-claiming None amount claimant reason = Err field.Entry
-claiming (Some number) None claimant reason = Err field.Amount
-claiming (Some number) (Some amount) None reason = Err field.Claimant
-claiming (Some number) (Some amount) (Some claimant) None = Err field.Reason
-claiming (Some number) (Some amount) (Some claimant) (Some reason) =
-    Ok (ask.RaiseClaim (record {
-      number = number;
-      amount = amount;
-      against = against.General claimant;
-      reason = reason;
-    }))
+-- to raise a claim, which is on the general fund
+abbrev pub claiming_in : List (List ℕ) → Result Ask Field
+claiming_in fields =
+    of_entry (text_at fields 2) (λ n.
+    claiming n (amount_of (text_at fields 3)) (on_general None (Some (text_at fields 4))) (label_of (text_at fields 5)))
 
--- to award a part of the claim of that number to the client
-abbrev pub awarding : Option ℕ → Option ℕ → Result Ask Field
-awarding None part = Err field.Entry
-awarding (Some number) None = Err field.ToClient
-awarding (Some number) (Some part) = Ok (ask.Award (record { number = number; to_client = part }))
-
--- to show the entry of that number
-abbrev pub showing : Option ℕ → Result Ask Field
-showing None = Err field.Entry
-showing (Some number) = Ok (ask.ShowEntry number)
+-- to award a part of a claim to the client
+abbrev pub awarding_in : List (List ℕ) → Result Ask Field
+awarding_in fields =
+    of_entry (text_at fields 2) (λ n. splitting ask.Award n (amount_or_zero_of (text_at fields 3)))
 
 -- what a record of a verb asks of its matter
 abbrev pub ask_of : Verb → List (List ℕ) → Result Ask Field
 ask_of verb.Open fields = opening (label_of (text_at fields 3)) (person_of (text_at fields 4))
 ask_of verb.Seat fields = seating (person_of (text_at fields 3)) (role_of (text_at fields 4))
 ask_of verb.Drop fields = dropping (person_of (text_at fields 3))
-ask_of verb.Deposit fields = depositing (entry_of (text_at fields 2)) (amount_of (text_at fields 3))
-    (label_of (text_at fields 4)) (label_of (text_at fields 5))
-ask_of verb.Cancel fields = cancelling (entry_of (text_at fields 2))
+ask_of verb.Deposit fields = depositing_in fields
+ask_of verb.Cancel fields = naming ask.CancelDeposit (text_at fields 2)
 ask_of verb.Propose fields = proposing_in fields
-ask_of verb.Claim fields = claiming (entry_of (text_at fields 2)) (amount_of (text_at fields 3))
-    (label_of (text_at fields 4)) (label_of (text_at fields 5))
-ask_of verb.Award fields = awarding (entry_of (text_at fields 2)) (amount_or_zero_of (text_at fields 3))
+ask_of verb.Claim fields = claiming_in fields
+ask_of verb.Award fields = awarding_in fields
 ask_of verb.Close fields = Ok ask.CloseMatter
 ask_of verb.Purge fields = Ok ask.Purge
-ask_of verb.Entry fields = showing (entry_of (text_at fields 2))
+ask_of verb.Entry fields = naming ask.ShowEntry (text_at fields 2)
 ask_of verb.Show fields = Ok ask.Show
 
 -- ---- the request
@@ -227,12 +146,3 @@ of_verb (Some v) fields = of_matter (matter_of (text_at fields 1)) (ask_of v fie
 -- then the matter, the entry and the verb's own fields
 unfoldable pub asked_of : List (List ℕ) → Result Request Field
 asked_of fields = of_verb (verb_in fields) fields
-
--- ---- what was read
-
--- what is wanted was read, or its fault was told, or memory was refused
-abbrev pub Reads : {T : Type 0} → Result T Field → Result T Refusal → Type 0
-Reads wanted (Ok x) = wanted ≡ Ok x
-Reads wanted (Err (BadField f)) = wanted ≡ Err f
-Reads wanted (Err Memory) = ⊤
-Reads wanted (Err _) = ⊥

@@ -16,7 +16,7 @@ use Rattle.trust_store.specs.Books.{counted_fault}
 use Rattle.trust_desk.specs.FirmStep.{Stepped, Steps, firm_step}
 use Rattle.trust_desk.specs.Heard.{Asks, Heard, Unread, is_the}
 use Rattle.trust_desk.specs.declared.requests.Body.{Body}
-use Rattle.trust_desk.specs.declared.requests.Body.TheVariants.{Json, Refused}
+use Rattle.trust_desk.specs.declared.requests.Body.TheVariants.{Json, Refused, Text}
 use Rattle.trust_desk.specs.declared.requests.Reply.{Reply}
 use Rattle.trust_desk.specs.declared.requests.Request.{Request}
 use Rattle.cashier.specs.Records.{asked_of, text_at}
@@ -50,9 +50,10 @@ refusal_line r = line_of (status_of r) (refusal_text r)
 
 abbrev pub body_line : ℕ → Body → List ℕ
 body_line status (Json text) = line_of status text
+body_line status (Text text) = text
 body_line status (Refused r) = refusal_line r
 
--- the line of a reply
+-- the line of a reply; the lines of a report stand as they are, without a status
 abbrev pub reply_line : Reply → List ℕ
 reply_line reply = body_line reply.status reply.body
 
@@ -65,6 +66,7 @@ refusal_kind _ = kind.Refused
 
 abbrev pub body_kind : Body → ReplyKind
 body_kind (Json text) = kind.Accepted
+body_kind (Text text) = kind.Accepted
 body_kind (Refused r) = refusal_kind r
 
 -- whether a reply accepts, refuses or tells of a fault
@@ -73,6 +75,7 @@ reply_kind reply = body_kind reply.body
 
 abbrev pub is_accepting : Body → Bool
 is_accepting (Json text) = true
+is_accepting (Text text) = true
 is_accepting (Refused r) = false
 
 -- ---- all records

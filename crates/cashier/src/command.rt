@@ -19,6 +19,8 @@ pub enum Task<'a> {
     Sheet,
     /// Import the bank's statement that lies at this path.
     Import(&'a str),
+    /// Serve the messages of standard input.
+    Stream,
 }
 
 /// A plan of a run: the business day, and what is to be done.
@@ -54,7 +56,10 @@ fn command<'a>(alloc: Global) -> Result<Command<'a>, CliFault>
     let Ok(with_sheet) = with_day.subcommand(Command::new(alloc, "sheet")) else {
         return Err(CliFault::Memory);
     };
-    let Ok(whole) = with_sheet.subcommand(import_command(alloc)?) else {
+    let Ok(with_import) = with_sheet.subcommand(import_command(alloc)?) else {
+        return Err(CliFault::Memory);
+    };
+    let Ok(whole) = with_import.subcommand(Command::new(alloc, "stream")) else {
         return Err(CliFault::Memory);
     };
     Ok(whole.subcommand_required(true))
@@ -93,6 +98,7 @@ fn task_of<'a>(name: &str, values: &ArgMatches<'a>) -> Option<Task<'a>>
     match name {
         "sheet" => Some(Task::Sheet),
         "import" => Some(Task::Import(values.get_str("FILE")?)),
+        "stream" => Some(Task::Stream),
         _ => None,
     }
 }

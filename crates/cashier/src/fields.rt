@@ -4,18 +4,10 @@ ghost use Rattle.std.specs.Prelude.{◌≡◌, [], unwrap_or};
 ghost use Rattle.csv.specs.Records.{field_at, fields_of};
 
 use csv::ByteRecord;
-use trust_base::{Field, Refusal};
 
 /// A field of a record, empty where there is none.
 pub fn field_bytes(row: &ByteRecord, i: usize) -> &[u8]
     ensures { result.now ≡ unwrap_or (field_at (fields_of row.now) i) [] }
 {
     row.get(i).unwrap_or(&[])
-}
-
-/// The refusal of a field that is not of its form.
-pub fn bad(field: Field) -> Refusal
-    ensures { result ≡ Refusal.BadField field }
-{
-    Refusal::BadField(field)
 }

@@ -1,4 +1,5 @@
-//! The cashier's program: a day sheet from standard input, or a bank's statement from a file, to standard output.
+//! The cashier's program: a day sheet or a stream of messages from standard input, or a bank's statement from a file,
+//! to standard output.
 #![tactic(auto)]
 
 mod command;

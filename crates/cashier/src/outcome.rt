@@ -2,10 +2,12 @@
 
 ghost use Rattle.std.specs.Prelude.{◌≡◌, option_map};
 ghost use Rattle.std.specs.Process.{exit_status as process_status};
-ghost use Rattle.cashier.specs.Outcome.{exit_status, notice, sheet_outcome, statement_outcome, words_outcome};
+ghost use Rattle.cashier.specs.Outcome.{exit_status, notice};
+ghost use Rattle.cashier.specs.Outcome.{sheet_outcome, statement_outcome, stream_outcome, words_outcome};
 
 use crate::sheet::SheetEnd;
 use crate::statement::StatementEnd;
+use portal_http::StreamEnd;
 use std::io::ErrorKind;
 use std::process::ExitCode;
 
@@ -52,7 +54,9 @@ pub fn notice_of(outcome: Outcome) -> Option<&'static str>
 {
     match outcome {
         Outcome::Done | Outcome::Refused => None,
-        Outcome::CommandLine => Some("usage: cashier_cli --today DAY (sheet | import FILE)"),
+        Outcome::CommandLine => Some(
+            "usage: cashier_cli --today DAY (sheet | import FILE | stream)",
+        ),
         Outcome::FileFault => Some("file fault"),
         Outcome::StoreFault => Some("store fault"),
         Outcome::MemoryFault => Some("memory fault"),
@@ -92,5 +96,17 @@ pub fn outcome_of_statement(end: StatementEnd) -> Outcome
         StatementEnd::ReadFault | StatementEnd::WriteFault => Outcome::FileFault,
         StatementEnd::Store => Outcome::StoreFault,
         StatementEnd::NoMemory => Outcome::MemoryFault,
+    }
+}
+
+/// The outcome of a stream, by its end alone: what its messages were answered is no part of it.
+pub fn outcome_of_stream(end: StreamEnd) -> Outcome
+    ensures { result ≡ stream_outcome end }
+{
+    match end {
+        StreamEnd::Ended => Outcome::Done,
+        StreamEnd::BadFraming | StreamEnd::Limit => Outcome::Refused,
+        StreamEnd::ReadFault | StreamEnd::WriteFault => Outcome::FileFault,
+        StreamEnd::NoMemory => Outcome::MemoryFault,
     }
 }

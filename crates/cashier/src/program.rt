@@ -3,15 +3,18 @@
 ghost use Rattle.std.specs.Prelude.{◌≡◌, ◌≢◌, ◌⊎◌, ℕ, IfErr, IfOk, map};
 ghost use Rattle.std.specs.String.{string_bytes};
 ghost use Rattle.cashier.specs.Calls.{CountsStore, LeavesBook};
-ghost use Rattle.cashier.specs.Outcome.{FileEnds, HasBegun, HasRun, Ran, words_outcome};
-ghost use Rattle.cashier.specs.Program.{Means, MeansNothing, MeansSheet, words_of};
+ghost use Rattle.cashier.specs.Outcome.{FileEnds, HasBegun, HasRun, IsServed, Ran, words_outcome};
+ghost use Rattle.cashier.specs.Program.{Means, MeansNothing, MeansSheet, MeansStream, words_of};
 ghost use Rattle.cashier.specs.declared.command.Task.{Task};
 
 use crate::command::{CliFault, Task, command_of};
 use crate::folder::Folder;
-use crate::outcome::{Outcome, outcome_of_sheet, outcome_of_statement, outcome_of_words};
+use crate::outcome::{
+    Outcome, outcome_of_sheet, outcome_of_statement, outcome_of_stream, outcome_of_words,
+};
 use crate::sheet::run_sheet;
 use crate::statement::run_import;
+use portal_http::serve_stream;
 use std::alloc::{AllocError, Global};
 use std::io::{ErrorKind, Read, Write};
 use trust_base::Day;
@@ -51,11 +54,32 @@ fn import_file<F: Folder, W: Write, B: Book>(
     outcome_of_statement(run_import(alloc, file.reader, file.length, writer, desk, today))
 }
 
+// Serves the messages of standard input. It never ends by `StoreFault`: what the store refused was answered, and the
+// end of a stream does not tell of it.
+fn serve_input<R: Read, W: Write, B: Book>(
+    alloc: Global,
+    reader: &mut R,
+    writer: &mut W,
+    desk: &mut Desk<B>,
+    today: Day,
+) -> Outcome
+    ensures began { result ≢ Outcome.CommandLine }
+    ensures store { result ≢ Outcome.StoreFault }
+    ensures ends { B.clean desk.new → B.stands desk.old
+        → IsServed today (B.firm desk.old) (R.remaining reader.old) (B.firm desk.new)
+        (W.contents writer.old) (W.contents writer.new) result }
+    ensures kept { LeavesBook B.clean B.sure B.stands B.refusals (CountsStore Outcome.StoreFault result)
+        desk.old desk.new }
+{
+    outcome_of_stream(serve_stream(alloc, reader, writer, desk, today))
+}
+
 /// Runs what the program's words ask for, its name first among them, over a desk, with `reader` and `writer` for
 /// standard input and output. Where the command line is at fault nothing is read, run or written; nor where a
 /// growth was refused before its plan was known, and the outcome is `MemoryFault` then. Else the outcome is that of
-/// the sheet's or the statement's end, or `FileFault` where the statement can't be opened. Standard input is read
-/// only for a sheet.
+/// the sheet's, the statement's or the stream's end, or `FileFault` where the statement can't be opened. Standard
+/// input is read only for a sheet or a stream. A stream goes by its end alone: it is never `StoreFault`, since what the
+/// store refused was answered to its message.
 pub fn run_words<'a, R: Read, F: Folder, W: Write, B: Book>(
     alloc: Global,
     words: &'a [&'a str],
@@ -69,8 +93,9 @@ pub fn run_words<'a, R: Read, F: Folder, W: Write, B: Book>(
     ensures unwritten { result ≡ Outcome.CommandLine → writer.new ≡ writer.old }
     ensures unasked { result ≡ Outcome.CommandLine → desk.new ≡ desk.old }
 
-    // An import, and whatever else is no sheet, leaves standard input as it was.
-    ensures input { MeansSheet (words_of words.entry.now) ⊎ (reader.new ≡ reader.old) }
+    // An import, and whatever else is no sheet and no stream, leaves standard input as it was.
+    ensures input { MeansSheet (words_of words.entry.now)
+        ⊎ (MeansStream (words_of words.entry.now) ⊎ (reader.new ≡ reader.old)) }
 
     ensures meant { HasBegun result → (today : ℕ) × (task : Task) × Means (words_of words.entry.now) today task }
     ensures ends { B.clean desk.new → B.stands desk.old → result ≢ Outcome.CommandLine
@@ -87,11 +112,12 @@ pub fn run_words<'a, R: Read, F: Folder, W: Write, B: Book>(
     match plan.task {
         Task::Sheet => outcome_of_sheet(run_sheet(alloc, reader, writer, desk, plan.today)),
         Task::Import(path) => import_file(alloc, folder, path, writer, desk, plan.today),
+        Task::Stream => serve_input(alloc, reader, writer, desk, plan.today),
     }
 }
 
 /// Runs what the program's words ask for over a book that is kept in memory, begins without rows and is given up at
-/// the end. The firm that is left then is sound, as it is after each record and each line of a statement.
+/// the end. The firm that is left then is sound, as it is after each record, each line of a statement and each message.
 pub fn run_in_memory<'a, R: Read, F: Folder, W: Write>(
     alloc: Global,
     words: &'a [&'a str],
@@ -103,7 +129,8 @@ pub fn run_in_memory<'a, R: Read, F: Folder, W: Write>(
         (W.contents writer.old) (W.contents writer.new) result }
     ensures unread { result ≡ Outcome.CommandLine → reader.new ≡ reader.old }
     ensures unwritten { result ≡ Outcome.CommandLine → writer.new ≡ writer.old }
-    ensures input { MeansSheet (words_of words.entry.now) ⊎ (reader.new ≡ reader.old) }
+    ensures input { MeansSheet (words_of words.entry.now)
+        ⊎ (MeansStream (words_of words.entry.now) ⊎ (reader.new ≡ reader.old)) }
 {
     let mut desk = Desk::new(PlainBook::new(alloc));
     run_words(alloc, words, reader, folder, writer, &mut desk)
@@ -125,7 +152,9 @@ pub fn run_called<R: Read, F: Folder, W: Write>(
         (F.opens folder.now) (W.contents writer.old) (W.contents writer.new) result) }
     ensures unread { result ≡ Outcome.CommandLine → reader.new ≡ reader.old }
     ensures unwritten { result ≡ Outcome.CommandLine → writer.new ≡ writer.old }
-    ensures input { IfOk called (λ words. MeansSheet (map string_bytes words.items) ⊎ (reader.new ≡ reader.old)) }
+    ensures input { IfOk called
+        (λ words. MeansSheet (map string_bytes words.items)
+        ⊎ (MeansStream (map string_bytes words.items) ⊎ (reader.new ≡ reader.old))) }
 
     // Without words nothing begins.
     ensures untold { IfErr called (λ kind. (result ≡ words_outcome kind) × (reader.new ≡ reader.old)

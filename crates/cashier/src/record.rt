@@ -4,18 +4,17 @@ ghost use Rattle.std.specs.Prelude.{◌≡◌};
 ghost use Rattle.std.specs.List.{list_all};
 ghost use Rattle.std.specs.Str.{is_utf8};
 ghost use Rattle.csv.specs.Records.{fields_of};
+ghost use Rattle.ask_fields.specs.Fields.{Reads};
 ghost use Rattle.trust_desk.specs.Calls.{KeepsBook};
 ghost use Rattle.trust_desk.specs.Counts.{counted_reply};
 ghost use Rattle.trust_desk.specs.FirmStep.{Steps};
 ghost use Rattle.cashier.specs.Records as spec;
-ghost use Rattle.cashier.specs.Records.{Reads, ask_of, asked_of, verb_in, verb_of};
+ghost use Rattle.cashier.specs.Records.{ask_of, asked_of, verb_in, verb_of};
 ghost use Rattle.cashier.specs.Sheet.{heard_of};
 
-use crate::fields::{bad, field_bytes};
-use crate::record_asks::{
-    read_awarding, read_cancelling, read_claiming, read_depositing, read_dropping, read_opening,
-    read_proposing, read_seating, read_showing,
-};
+use crate::fields::field_bytes;
+use crate::record_asks::{read_award, read_claim, read_deposit, read_payment};
+use ask_fields::{bad, read_cancelling, read_dropping, read_opening, read_seating, read_showing};
 use csv::ByteRecord;
 use std::alloc::Global;
 use trust_base::{Day, Field, MatterNo, Refusal};
@@ -156,31 +155,18 @@ fn verb_of_record(row: &ByteRecord) -> Option<Verb>
 fn read_ask(alloc: Global, verb: Verb, row: &ByteRecord) -> Result<Ask, Refusal>
     ensures { Reads (ask_of verb (fields_of row.now)) result }
 {
-    let number = field_bytes(row, 2);
     match verb {
         Verb::Open => read_opening(alloc, field_bytes(row, 3), field_bytes(row, 4)),
         Verb::Seat => read_seating(alloc, field_bytes(row, 3), field_bytes(row, 4)),
         Verb::Drop => read_dropping(alloc, field_bytes(row, 3)),
-        Verb::Deposit => read_depositing(
-            alloc,
-            number,
-            field_bytes(row, 3),
-            field_bytes(row, 4),
-            field_bytes(row, 5),
-        ),
-        Verb::Cancel => read_cancelling(number),
-        Verb::Propose => read_proposing(alloc, row),
-        Verb::Claim => read_claiming(
-            alloc,
-            number,
-            field_bytes(row, 3),
-            field_bytes(row, 4),
-            field_bytes(row, 5),
-        ),
-        Verb::Award => read_awarding(number, field_bytes(row, 3)),
+        Verb::Deposit => read_deposit(alloc, row),
+        Verb::Cancel => read_cancelling(field_bytes(row, 2)),
+        Verb::Propose => read_payment(alloc, row),
+        Verb::Claim => read_claim(alloc, row),
+        Verb::Award => read_award(row),
         Verb::Close => Ok(Ask::CloseMatter),
         Verb::Purge => Ok(Ask::Purge),
-        Verb::Entry => read_showing(number),
+        Verb::Entry => read_showing(field_bytes(row, 2)),
         Verb::Show => Ok(Ask::Show),
     }
 }

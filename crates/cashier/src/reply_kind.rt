@@ -35,7 +35,7 @@ pub fn kind_of_reply(reply: &Reply) -> ReplyKind
     ensures { result ≡ reply_kind reply.now }
 {
     match &reply.body {
-        Body::Json(_) => ReplyKind::Accepted,
+        Body::Json(_) | Body::Text(_) => ReplyKind::Accepted,
         Body::Refused(refusal) => kind_of_refusal(refusal),
     }
 }

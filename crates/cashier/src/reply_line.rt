@@ -42,8 +42,8 @@ pub fn write_refusal<W: Write>(writer: &mut W, refusal: &Refusal) -> Result<(), 
     write_answer_line(writer, refusal.status(), refusal.json().as_slice())
 }
 
-/// Writes the line of a reply. At a fault a proper front of it was written. Takes no memory, so that what a
-/// record changed is told wherever it can be written.
+/// Writes the line of a reply, or the lines of a report as they are. At a fault a proper front of them was written.
+/// Takes no memory, so that what a record changed is told wherever it can be written.
 pub fn write_reply<W: Write>(writer: &mut W, reply: &Reply) -> Result<(), WriteFault>
     ensures ok { OnOk result (Appends (W.contents writer.old) (W.contents writer.new) (reply_line reply.now)) }
     ensures err { OnErr result ((n : ℕ) × (n < length (reply_line reply.now))
@@ -51,6 +51,7 @@ pub fn write_reply<W: Write>(writer: &mut W, reply: &Reply) -> Result<(), WriteF
 {
     match &reply.body {
         Body::Json(text) => write_answer_line(writer, reply.status, text.as_slice()),
+        Body::Text(text) => send(writer, text.as_slice()),
         Body::Refused(refusal) => write_refusal(writer, refusal),
     }
 }

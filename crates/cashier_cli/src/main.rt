@@ -1,4 +1,5 @@
-//! Trust account records of a law firm: a day sheet from standard input, or a bank's statement from a file, to standard output.
+//! Trust account records of a law firm: a day sheet or HTTP messages from standard input, or a bank's statement from a
+//! file, to standard output.
 #![tactic(auto)]
 
 use cashier::run_on_system;

@@ -1,4 +1,5 @@
-//! The cashier's program on a stored statement of the bank, which lies where it runs, while standard input has a day sheet.
+//! The cashier's program on a stored statement of the bank, which lies where it runs, while standard input has a day
+//! sheet.
 #![tactic(auto)]
 
 use cashier::run_on_system;

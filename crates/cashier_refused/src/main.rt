@@ -1,4 +1,5 @@
-//! The cashier's program on a stored day sheet of which a record is refused: it prints every line, and its exit status is 1.
+//! The cashier's program on a stored day sheet of which a record is refused: it prints every line, and its exit status
+//! is 1.
 #![tactic(auto)]
 
 use cashier::run_on_system;

@@ -29,7 +29,7 @@ both-equal Equal s is = (refl, is)
 both-equal Greater s is = absurd (cc)
 
 -- a balance that ties with another is of its kind and day
-tied-on : (row x : StatementRow) → balance_cmp x row ≡ Equal → is_balance_on row.kind row.day x ≡ true
+pub tied-on : (row x : StatementRow) → balance_cmp x row ≡ Equal → is_balance_on row.kind row.day x ≡ true
 tied-on row x is =
     let both = both-equal (nat_cmp (place_of x.kind) (place_of row.kind)) (nat_cmp x.day row.day) is in
     let kinds : place_of x.kind ≡ place_of row.kind = exact_unsigned (place_of x.kind) (place_of row.kind) both.0 in

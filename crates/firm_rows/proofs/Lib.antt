@@ -13,3 +13,4 @@ pub mod OwnLines
 pub mod Solvent
 pub mod Sums
 pub mod Told
+pub mod LinesStay

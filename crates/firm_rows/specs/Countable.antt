@@ -14,7 +14,7 @@ use Rattle.firm_rows.specs.Firm.{Row, HeadRow, SeatRow, EntryRow, Firm}
 abbrev pub MOST_ROWS : ℕ
 MOST_ROWS = 18_446_744_073_709_551_615
 
--- an entry's amount is one that an entry may have
+-- an entry's amount is one that may be booked
 abbrev pub IsRowInRange : ℕ × Row → Type 0
 IsRowInRange (m, HeadRow head) = Unit {0}
 IsRowInRange (m, SeatRow seat) = Unit {0}

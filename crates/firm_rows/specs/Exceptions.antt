@@ -12,8 +12,11 @@ WithLineAdds = (line x : Line) (lines : List Line) → Contains (with_line line 
 
 -- among the lines without one are those that were, but not that one
 abbrev pub WithoutLineTakes : Type 0
-WithoutLineTakes = (line x : Line) (lines : List Line) → Contains (without_line line lines) x ↔ (Contains lines x × (x ≢ line))
+WithoutLineTakes =
+    (line x : Line) (lines : List Line) → Contains (without_line line lines) x ↔ (Contains lines x × (x ≢ line))
 
 -- in order, a line that is there already adds nothing
 abbrev pub WithLineAgain : Type 0
-WithLineAgain = (line : Line) (lines : List Line) → IsStrictlySortedBy line_cmp lines → Contains lines line → with_line line lines ≡ lines
+WithLineAgain =
+    (line : Line) (lines : List Line) → IsStrictlySortedBy line_cmp lines → Contains lines line
+    → with_line line lines ≡ lines

@@ -1,5 +1,5 @@
--- The rows of a firm: one joined list of pairs of a matter and a row, one of what was moved, the lines of the firm's own
--- ledger, the lines of the bank that match nothing, and the balances that the bank told of.
+-- The rows of a firm: one joined list of pairs of a matter and a row, one of what was moved, the lines of the firm's
+-- own ledger, the lines of the bank that match nothing, and the balances that the bank told of.
 use Rattle.std.specs.Prelude.{ℕ, Bool, false, ◌+◌, ◌==◌, nat_lt, List, [], ◌∷◌, ◌++◌, map, not, Option, Some, None}
 use Rattle.std.specs.List.{filter}
 use Rattle.trust_base.specs.LineOrder.{is_before, is_same_line}
@@ -25,9 +25,9 @@ pub data Row : Type 0 where
   SeatRow : (seat : Seat) → Row
   EntryRow : (number : ℕ) (entry : Entry) → Row
 
--- the rows of all matters, each with the number of its matter; the movements and the lines of the firm's own ledger, both
--- in the order of acceptance; the exceptions, a set of whole lines, in their order; and the balances, openings and then
--- closings, by day
+-- the rows of all matters, each with the number of its matter; the movements and the lines of the firm's own ledger,
+-- both in the order of acceptance; the exceptions, a set of whole lines, in their order; and the balances, openings and
+-- then closings, by day
 pub record Firm : Type 0 where
   pub rows : List (ℕ × Row)
   pub movements : List Movement
@@ -45,6 +45,7 @@ empty_firm = record { rows = []; movements = []; firm_lines = []; exceptions = [
 abbrev pub rows_of : ℕ → List (ℕ × Row) → List Row
 rows_of m joined = map (λ p. p.1) (filter (λ p. p.0 == m) joined)
 
+-- the head, the seats and the entries among the rows of a matter
 abbrev pub head_among : List Row → Option Head
 head_among [] = None
 head_among (HeadRow head ∷ rows) = Some head
@@ -66,6 +67,7 @@ entries_among (EntryRow number entry ∷ rows) = entry ∷ entries_among rows
 abbrev pub among : List Row → Rows
 among rows = record { head = head_among rows; seats = seats_among rows; entries = entries_among rows }
 
+-- the rows of matter m
 abbrev pub of : ℕ → Firm → Rows
 of m firm = among (rows_of m firm.rows)
 
@@ -175,7 +177,8 @@ own_movement l = record { owner = owner.Firm; day = l.date; amount = l.amount }
 
 -- the firm with one more line of its own, and what it moved
 abbrev pub with_firm_line : FirmLine → Firm → Firm
-with_firm_line l firm = record firm { firm_lines = firm.firm_lines ++ l ∷ []; movements = firm.movements ++ own_movement l ∷ [] }
+with_firm_line l firm =
+    record firm { firm_lines = firm.firm_lines ++ l ∷ []; movements = firm.movements ++ own_movement l ∷ [] }
 
 -- A balance that the bank told of.
 

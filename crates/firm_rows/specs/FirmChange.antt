@@ -12,8 +12,8 @@ use Rattle.firm_rows.specs.declared.ledger.BalanceKind.{BalanceKind}
 use Rattle.firm_rows.specs.FirmLines.{balance_of, IsOwnBalance, as_firm_line, balance_row, kept_balance}
 use Rattle.firm_rows.specs.Firm.{Firm, of, after_change, after_match, after_stray, with_firm_line, with_statement}
 
--- a change of a matter, with the line of the bank that made it, if one did; a line that comes again; one that matches nothing;
--- a line of the firm's own, and a balance, that are applied
+-- a change of a matter, with the line of the bank that made it, if one did; a line that comes again; one that matches
+-- nothing; a line of the firm's own, and a balance, that are applied
 pub data FirmChange : Type 0 where
   OfMatter : (matter : ℕ) (line : Option Line) (change : MatterChange) → FirmChange
   Repeated : (line : Line) → FirmChange
@@ -26,8 +26,8 @@ abbrev pub matched_by : Option Line → Firm → Firm
 matched_by None firm = firm
 matched_by (Some line) firm = after_match line firm
 
--- the firm after a change: a line that was applied or comes again is no exception from then on, and one that matches nothing
--- is one
+-- the firm after a change: a line that was applied or comes again is no exception from then on, and one that matches
+-- nothing is one
 abbrev pub after : FirmChange → Firm → Firm
 after (OfMatter m line change) firm = matched_by line (after_change m change firm)
 after (Repeated line) firm = after_match line firm
@@ -43,8 +43,8 @@ rows_after n (Unmatched line) rows = rows
 rows_after n (OfFirm line) rows = rows
 rows_after n (OfBalance kind line) rows = rows
 
--- the change may be made of these rows of the firm: it is one of the matter's rows; the firm's own money stays within what it
--- may have; and no other balance is kept of that kind and day
+-- the change may be made of these rows of the firm: it is one of the matter's rows; the firm's own money stays within
+-- what it may have; and no other balance is kept of that kind and day
 abbrev pub FitsFirm : Firm → FirmChange → Type 0
 FitsFirm firm (OfMatter m line change) = IsChange (of m firm) change
 FitsFirm firm (Repeated line) = Unit {0}

@@ -14,12 +14,9 @@ use Rattle.firm_rows.specs.declared.ledger.BalanceKind.{BalanceKind}
 use Rattle.firm_rows.specs.declared.ledger.BalanceKind.TheVariants as kind
 use Rattle.firm_rows.specs.declared.ledger.StatementRow.{StatementRow}
 use Rattle.firm_rows.specs.Sums.{sum_of}
+use Rattle.firm_rows.specs.declared.limits.TheConstants.{MAX_OWN}
 
 -- The firm's own money.
-
--- the most of its own money that a firm keeps in the account, in cents
-abbrev pub MAX_OWN : ℕ
-MAX_OWN = 50_000
 
 -- what its lines add up to
 abbrev pub balance_of : List FirmLine → ℤ
@@ -29,7 +26,7 @@ balance_of lines = sum_of (λ l. l.amount) lines
 abbrev pub IsOwnBalance : ℤ → Type 0
 IsOwnBalance z = (pos 0 ≤ℤ z) × (z ≤ℤ pos MAX_OWN)
 
--- the same as a test
+-- whether it is a balance of its own money that a firm may have
 abbrev pub is_own_balance : ℤ → Bool
 is_own_balance z = le_z (pos 0) z && le_z z (pos MAX_OWN)
 
@@ -49,12 +46,14 @@ is_kept_as line l = l.date == line.date && bytes_eq l.bank_ref line.bank_ref && 
 
 -- the line is not dated after the day, moves something, and leaves a balance that the firm may have
 abbrev pub is_bookable : List FirmLine → Line → ℕ → Bool
-is_bookable lines line today = nat_le line.date today && not (int_eq line.amount (pos 0)) && is_own_balance (balance_of lines +ℤ line.amount)
+is_bookable lines line today =
+    nat_le line.date today && not (int_eq line.amount (pos 0)) && is_own_balance (balance_of lines +ℤ line.amount)
 
 -- what becomes of a line of the firm on a day
 abbrev pub firm_verdict : List FirmLine → Line → ℕ → Verdict
 firm_verdict lines line today =
-    if list_any (is_kept_as line) lines then told.Repeat else (if is_bookable lines line today then told.Applied else told.Unmatched)
+    if list_any (is_kept_as line) lines then told.Repeat
+    else (if is_bookable lines line today then told.Applied else told.Unmatched)
 
 -- A balance.
 
@@ -68,7 +67,8 @@ balance_cmp a b = ordering_then (nat_cmp (place_of a.kind) (place_of b.kind)) (n
 
 -- the balances with one more, in its place
 abbrev pub with_balance : StatementRow → List StatementRow → List StatementRow
-with_balance row rows = filter (λ r. is_lt (balance_cmp r row)) rows ++ (row ∷ filter (λ r. is_lt (balance_cmp row r)) rows)
+with_balance row rows =
+    filter (λ r. is_lt (balance_cmp r row)) rows ++ (row ∷ filter (λ r. is_lt (balance_cmp row r)) rows)
 
 -- the line as a balance of a kind
 abbrev pub balance_row : BalanceKind → Line → StatementRow

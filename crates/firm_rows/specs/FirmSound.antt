@@ -31,10 +31,10 @@ pub record AreMovedInTime (m : ℕ) (firm : Firm) : Type 0 where
   pub rising : AreRising 0 (days_moved m firm.movements)
   pub by_last : AllByRecursion (λ day. day ≤ last_of (of m firm).head) (days_moved m firm.movements)
 
--- the rows are in order, and each matter is sound; the movements of each entry are its events, each once and in order, and
--- there are no others, but for those of the firm's own lines, one each and in order; those of a matter follow one another in
--- time, and add up to its ledger, and at no place of the list to less than zero; the firm's own lines add up at every place
--- of their list to a balance that it may have
+-- the rows are in order, and each matter is sound; the movements of each entry are its events, each once and in order,
+-- and there are no others, but for those of the firm's own lines, one each and in order; those of a matter follow one
+-- another in time, and add up to its ledger, and at no place of the list to less than zero; the firm's own lines add up
+-- at every place of their list to a balance that it may have
 pub record FirmSound (firm : Firm) : Type 0 where
   pub in_order : IsInOrder firm
   pub matters : (m : ℕ) → Sound (of m firm)
@@ -52,9 +52,11 @@ ChangesOne = (n : ℕ) (change : FirmChange) (firm : Firm) → of n (after chang
 
 -- Soundness and order are kept.
 
+-- a change that fits leaves a sound firm sound
 abbrev pub StaysSound : Type 0
 StaysSound = (change : FirmChange) (firm : Firm) → FirmSound firm → FitsFirm firm change → FirmSound (after change firm)
 
+-- every change leaves rows in order that were
 abbrev pub StaysInOrder : Type 0
 StaysInOrder = (change : FirmChange) (firm : Firm) → IsInOrder firm → IsInOrder (after change firm)
 
@@ -62,11 +64,16 @@ StaysInOrder = (change : FirmChange) (firm : Firm) → IsInOrder firm → IsInOr
 
 -- no movement of the matter is left
 abbrev pub PurgedMovesNothing : Type 0
-PurgedMovesNothing = (m day last : ℕ) (firm : Firm) → filter (λ v. is_of_matter m v.owner) (after_edit m (edit.Clear day) last firm).movements ≡ []
+PurgedMovesNothing =
+    (m day last : ℕ) (firm : Firm)
+    → filter (λ v. is_of_matter m v.owner) (after_edit m (edit.Clear day) last firm).movements ≡ []
 
 -- those of each other matter stay, in their order
 abbrev pub PurgeLeavesOthers : Type 0
-PurgeLeavesOthers = (n m day last : ℕ) (firm : Firm) → n ≢ m → filter (λ v. is_of_matter n v.owner) (after_edit m (edit.Clear day) last firm).movements ≡ filter (λ v. is_of_matter n v.owner) firm.movements
+PurgeLeavesOthers =
+    (n m day last : ℕ) (firm : Firm) → n ≢ m
+    → filter (λ v. is_of_matter n v.owner) (after_edit m (edit.Clear day) last firm).movements
+    ≡ filter (λ v. is_of_matter n v.owner) firm.movements
 
 -- What is decided of a line fits.
 
@@ -74,22 +81,27 @@ PurgeLeavesOthers = (n m day last : ℕ) (firm : Firm) → n ≢ m → filter (�
 abbrev pub IsVerdictOn : Firm → BankLine → LineVerdict → Type 0
 IsVerdictOn firm l v = (today : ℕ) × LineDecides (of l.matter firm) l today (Ok v)
 
--- the same of a line of the firm's own
+-- the verdict is that on the line of the firm's own, on some business day, by its ledger
 abbrev pub IsFirmVerdict : Firm → Line → Verdict → Type 0
 IsFirmVerdict firm line v = (today : ℕ) × (v ≡ firm_verdict firm.firm_lines line today)
 
--- and of a balance
+-- the verdict is that on the balance, on some business day, by the balances that are kept
 abbrev pub IsBalanceVerdict : Firm → BalanceKind → Line → Verdict → Type 0
-IsBalanceVerdict firm kind line v = (today : ℕ) × (v ≡ balance_verdict (kept_balance kind line.date firm.balances) line today)
+IsBalanceVerdict firm kind line v =
+    (today : ℕ) × (v ≡ balance_verdict (kept_balance kind line.date firm.balances) line today)
 
+-- what is decided of a line that names an entry may be written, and so of a line of the firm's own and of a balance
 abbrev pub LineFits : Type 0
 LineFits = (firm : Firm) (l : BankLine) (v : LineVerdict) → IsVerdictOn firm l v → FitsFirm firm (by_line l v)
 
 abbrev pub FirmLineFits : Type 0
-FirmLineFits = (firm : Firm) (line : Line) (v : Verdict) → IsFirmVerdict firm line v → FitsFirm firm (by_firm_line line v)
+FirmLineFits =
+    (firm : Firm) (line : Line) (v : Verdict) → IsFirmVerdict firm line v → FitsFirm firm (by_firm_line line v)
 
 abbrev pub BalanceFits : Type 0
-BalanceFits = (firm : Firm) (kind : BalanceKind) (line : Line) (v : Verdict) → IsBalanceVerdict firm kind line v → FitsFirm firm (by_balance kind line v)
+BalanceFits =
+    (firm : Firm) (kind : BalanceKind) (line : Line) (v : Verdict) → IsBalanceVerdict firm kind line v
+    → FitsFirm firm (by_balance kind line v)
 
 -- No client's money pays another's debt.
 

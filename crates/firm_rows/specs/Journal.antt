@@ -55,6 +55,7 @@ moved_for m movements = sum_of (amount_for m) movements
 abbrev pub ledger_share : Entry → ℤ
 ledger_share e = total_share e +ℤ held_share e
 
+-- what a row adds to the ledger of its matter: an entry what was received less what was paid
 abbrev pub row_share : Row → ℤ
 row_share (HeadRow head) = pos 0
 row_share (SeatRow seat) = pos 0

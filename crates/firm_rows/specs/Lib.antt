@@ -6,3 +6,4 @@ pub mod FirmSound
 pub mod Journal
 pub mod Exceptions
 pub mod Countable
+pub mod LinesStay

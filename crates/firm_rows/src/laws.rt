@@ -3,6 +3,7 @@
 ghost use Rattle.firm_rows.specs.Exceptions.{WithLineAdds, WithoutLineTakes, WithLineAgain};
 ghost use Rattle.firm_rows.specs.Firm.{empty_firm};
 ghost use Rattle.firm_rows.specs.FirmSound.{IsInOrder, FirmSound, ChangesOne, StaysSound, StaysInOrder, PurgedMovesNothing, PurgeLeavesOthers, LineFits, FirmLineFits, BalanceFits, SoundIsSolvent};
+ghost use Rattle.firm_rows.specs.LinesStay.{FirmLineIsKept, FirmLinesStay, BalanceIsKept, BalancesStay};
 
 use trust_matter::laws::sound_is_covered;
 
@@ -39,7 +40,17 @@ pub fn verdicts_fit()
     ensures balance { BalanceFits }
 {}
 
-/// The exceptions are a set of whole lines: a line joins or leaves it alone, and one that is there already joins no more.
+/// A line of the firm's own that is applied is kept, and so is a balance, with its amount; and what is kept stays kept
+/// in every change that fits, purging too.
+pub fn applied_stays_kept()
+    ensures firm_line { FirmLineIsKept }
+    ensures firm_lines { FirmLinesStay }
+    ensures balance { BalanceIsKept }
+    ensures balances { BalancesStay }
+{}
+
+/// The exceptions are a set of whole lines: a line joins or leaves it alone, and one that is there already joins no
+/// more.
 pub fn exceptions_are_a_set()
     ensures with { WithLineAdds }
     ensures without { WithoutLineTakes }

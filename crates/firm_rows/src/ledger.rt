@@ -6,6 +6,7 @@ ghost use Rattle.firm_rows.specs.declared.ledger.FirmLine.{FirmLine};
 ghost use Rattle.firm_rows.specs.FirmLines.{balance_of, IsOwnBalance, is_own_balance, is_kept_as, is_bookable, firm_verdict, balance_verdict, as_firm_line};
 ghost use Rattle.firm_rows.specs.FirmLines.{place_of, balance_cmp, balance_row, is_balance_on};
 
+use crate::MAX_OWN;
 use std::alloc::{AllocError, Global};
 use std::cmp::Ordering;
 use std::marker::Model;
@@ -123,7 +124,8 @@ impl StatementRow {
     }
 }
 
-/// The firm's own money in the account: its lines in the order of acceptance, which add up to a balance of 0 to 50,000 cents.
+/// The firm's own money in the account: its lines in the order of acceptance, which add up to a balance of 0 to 50,000
+/// cents.
 ///
 /// Contracts see it as the list of its lines.
 #[derive(Drop)]
@@ -155,7 +157,7 @@ fn lines_copied(alloc: Global, lines: &[FirmLine]) -> Result<Vec<FirmLine>, Allo
 fn is_own_balance(cents: i64) -> bool
     ensures { result ≡ is_own_balance cents }
 {
-    0 <= cents && cents <= 50_000
+    0 <= cents && cents <= MAX_OWN as i64
 }
 
 // Is a line with this one's date, bank's reference and amount kept?
@@ -240,8 +242,9 @@ pub fn decide_firm_line(ledger: &FirmLedger, line: &Line, today: Day) -> Verdict
     }
 }
 
-/// What becomes of a balance on a business day, where the one of its kind and day is given, if it is kept: a repeat of an equal
-/// one, applied where none is kept and it is not dated after the day, and otherwise unmatched. Takes no memory.
+/// What becomes of a balance on a business day, where the one of its kind and day is given, if it is kept: a repeat of
+/// an equal one, applied where none is kept and it is not dated after the day, and otherwise unmatched. Takes no
+/// memory.
 pub fn decide_balance(kept: Option<i64>, line: &Line, today: Day) -> Verdict
     ensures { result ≡ balance_verdict kept line.now today }
 {

@@ -3,11 +3,13 @@
 
 pub mod laws;
 mod ledger;
+mod limits;
 mod movement;
 mod sink;
 
 pub use ledger::{
     BalanceKind, FirmLedger, FirmLine, StatementRow, Verdict, decide_balance, decide_firm_line,
 };
+pub use limits::MAX_OWN;
 pub use movement::{Movement, Owner};
 pub use sink::RowSink;

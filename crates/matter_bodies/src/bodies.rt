@@ -182,7 +182,8 @@ pub struct ImportReply {
 pub fn import_body(alloc: Global, counts: &ImportReply) -> Result<Vec<u8>, AllocError>
     ensures { IfOk result (λ bytes.
         bytes.items
-        ≡ import_body counts.now.applied counts.now.exceptions counts.now.repeated counts.now.statement counts.now.unreadable) }
+        ≡ import_body counts.now.applied counts.now.exceptions counts.now.repeated counts.now.statement
+        counts.now.unreadable) }
 {
     object_text(
         alloc,

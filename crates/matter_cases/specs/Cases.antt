@@ -18,6 +18,7 @@ use Rattle.trust_matter.specs.declared.ask.Ask.TheVariants as ask
 use Rattle.trust_matter.specs.Conditions.{is_repeat}
 use Rattle.trust_matter.specs.Facts.{Asked, facts_of}
 use Rattle.trust_matter.specs.Step.{refusal, rows_after}
+use Rattle.trust_values.specs.declared.limits.TheConstants.{MAX_ENTRY}
 
 -- How an ask is answered.
 
@@ -82,7 +83,8 @@ no_seat_for person = ask.DropSeat person
 
 -- a deposit by the client under a number, of cents
 abbrev pub retainer : ℕ → ℕ → Ask
-retainer number cents = ask.Deposit (record { number = number; amount = cents; source = codes "Ada Chen"; description = codes "retainer" })
+retainer number cents =
+    ask.Deposit (record { number = number; amount = cents; source = codes "Ada Chen"; description = codes "retainer" })
 
 -- The rows.
 
@@ -109,15 +111,26 @@ left_by_ada = record { head = Some (head_seen_on tuesday); seats = seat_of_lee �
 
 -- the retainer of 500.00 in a state
 abbrev pub retainer_in : DepositState → Entry
-retainer_in state = entry.Deposit (record { book = monday; amount = 50000; source = codes "Ada Chen"; description = codes "retainer"; state = state })
+retainer_in state = entry.Deposit (record {
+  book = monday;
+  amount = 50000;
+  source = codes "Ada Chen";
+  description = codes "retainer";
+  state = state;
+})
 
 -- the matter with the retainer
 abbrev pub retained : Rows
-retained = record { head = Some (head_seen_on monday); seats = seat_of_lee ∷ []; entries = retainer_in deposit.Held ∷ [] }
+retained =
+    record { head = Some (head_seen_on monday); seats = seat_of_lee ∷ []; entries = retainer_in deposit.Held ∷ [] }
 
 -- with the retainer cancelled on Tuesday
 abbrev pub cancelled_for_ada : Rows
-cancelled_for_ada = record { head = Some (head_seen_on tuesday); seats = seat_of_lee ∷ []; entries = retainer_in (deposit.Cancelled tuesday) ∷ [] }
+cancelled_for_ada = record {
+  head = Some (head_seen_on tuesday);
+  seats = seat_of_lee ∷ [];
+  entries = retainer_in (deposit.Cancelled tuesday) ∷ [];
+}
 
 -- The last number.
 
@@ -127,8 +140,10 @@ pub record IsAskedOfFull (rows : Rows) (h : Head) (number cents day : ℕ) : Typ
   pub unclosed : h.closed ≡ None
   pub kept : is_of_nobody h.holder ≡ false
   pub forwards : h.last ≤ day
-  pub full : length rows.entries ≡ 9_999
+  pub full : length rows.entries ≡ MAX_ENTRY
   pub new : is_repeat (facts_of rows (retainer number cents)) (by_cashier (retainer number cents) day) ≡ false
 
 abbrev pub FullIsTold : Type 0
-FullIsTold = (rows : Rows) (h : Head) (number cents day : ℕ) → IsAskedOfFull rows h number cents day → Refuses rows (by_cashier (retainer number cents) day) (refusals.WrongNumber None)
+FullIsTold =
+    (rows : Rows) (h : Head) (number cents day : ℕ) → IsAskedOfFull rows h number cents day
+    → Refuses rows (by_cashier (retainer number cents) day) (refusals.WrongNumber None)

@@ -22,7 +22,8 @@ abbrev pub fee_asked : ℕ → ℕ → Ask
 fee_asked number cents = ask.EarnFee (record { number = number; amount = cents; description = codes "hearing" })
 
 abbrev pub claim_asked : ℕ → ℕ → Against → Ask
-claim_asked number cents on = ask.RaiseClaim (record { number = number; amount = cents; against = on; reason = codes "work not done" })
+claim_asked number cents on =
+    ask.RaiseClaim (record { number = number; amount = cents; against = on; reason = codes "work not done" })
 
 abbrev pub offer_asked : ℕ → ℕ → Ask
 offer_asked number cents = ask.Offer (record { number = number; to_client = cents })
@@ -34,7 +35,14 @@ abbrev pub award_asked : ℕ → ℕ → Ask
 award_asked number cents = ask.Award (record { number = number; to_client = cents })
 
 abbrev pub payment_asked : ℕ → ℕ → Fund → List ℕ → Ask
-payment_asked number cents from payee = ask.Propose (record { number = number; amount = cents; fund = from; payee = payee; purpose = codes "as agreed"; instrument = codes "1001" })
+payment_asked number cents from payee = ask.Propose (record {
+  number = number;
+  amount = cents;
+  fund = from;
+  payee = payee;
+  purpose = codes "as agreed";
+  instrument = codes "1001";
+})
 
 abbrev pub the_firm : List ℕ
 the_firm = codes "FIRM"
@@ -73,14 +81,26 @@ fee_earned = cleared_and tuesday (hearing_fee ∷ [])
 
 -- a claim of 50.00 on the fee, in a state
 abbrev pub fee_claim : ClaimState → Entry
-fee_claim state = entry.Claim (record { book = tuesday; amount = 5000; against = against.Fee 2; reason = codes "work not done"; state = state })
+fee_claim state = entry.Claim (record {
+  book = tuesday;
+  amount = 5000;
+  against = against.Fee 2;
+  reason = codes "work not done";
+  state = state;
+})
 
 abbrev pub fee_disputed : ClaimState → Rows
 fee_disputed state = cleared_and tuesday (hearing_fee ∷ fee_claim state ∷ [])
 
 -- a claim of 120.00 on what is available, in a state
 abbrev pub roof_claim : ClaimState → Entry
-roof_claim state = entry.Claim (record { book = tuesday; amount = 12000; against = roofers; reason = codes "work not done"; state = state })
+roof_claim state = entry.Claim (record {
+  book = tuesday;
+  amount = 12000;
+  against = roofers;
+  reason = codes "work not done";
+  state = state;
+})
 
 abbrev pub roof_claimed : ClaimState → Rows
 roof_claimed state = cleared_and tuesday (roof_claim state ∷ [])
@@ -90,15 +110,25 @@ settled_with cents = claim.Settled (record { day = tuesday; part = cents })
 
 -- a payment in a state
 abbrev pub paid_from : Fund → ℕ → List ℕ → PaymentState → Entry
-paid_from from cents payee state = entry.Payment (record { book = tuesday; amount = cents; fund = from; payee = payee; purpose = codes "as agreed"; instrument = codes "1001"; state = state })
+paid_from from cents payee state = entry.Payment (record {
+  book = tuesday;
+  amount = cents;
+  fund = from;
+  payee = payee;
+  purpose = codes "as agreed";
+  instrument = codes "1001";
+  state = state;
+})
 
 -- 160.00 of the fee to the firm
 abbrev pub firm_paid : ClaimState → PaymentState → Rows
-firm_paid dispute state = cleared_and tuesday (hearing_fee ∷ fee_claim dispute ∷ paid_from (fund.Fee 2) 16000 the_firm state ∷ [])
+firm_paid dispute state =
+    cleared_and tuesday (hearing_fee ∷ fee_claim dispute ∷ paid_from (fund.Fee 2) 16000 the_firm state ∷ [])
 
 -- 100.00 of the settled claim to the one who claimed
 abbrev pub roof_paid : PaymentState → Rows
-roof_paid state = cleared_and tuesday (roof_claim (settled_with 2000) ∷ paid_from (fund.Claim 2) 10000 roof_builders state ∷ [])
+roof_paid state =
+    cleared_and tuesday (roof_claim (settled_with 2000) ∷ paid_from (fund.Claim 2) 10000 roof_builders state ∷ [])
 
 abbrev pub voided_at_once : PaymentState
 voided_at_once = payment.Voided (record { issued = tuesday; undone = tuesday })

@@ -56,7 +56,11 @@ fourteenth = 20240114
 
 -- a line for an entry, of cents on a day, in some words
 abbrev pub in_words : List ℕ → ℕ → ℕ → List ℕ → ℤ → BankLine
-in_words text number day bank_ref cents = record { matter = 1; entry = number; line = record { date = day; reference = codes "M000001"; bank_ref = bank_ref; amount = cents; text = text } }
+in_words text number day bank_ref cents = record {
+  matter = 1;
+  entry = number;
+  line = record { date = day; reference = codes "M000001"; bank_ref = bank_ref; amount = cents; text = text };
+}
 
 abbrev pub line_for : ℕ → ℕ → List ℕ → ℤ → BankLine
 line_for number day bank_ref cents = in_words [] number day bank_ref cents
@@ -78,8 +82,11 @@ cleared_on day bank_ref = record { bank_day = day; bank_ref = bank_ref }
 
 -- a matter with these entries, of which a day was the last
 abbrev pub with_entries : ℕ → List Entry → Rows
-with_entries last entries =
-    record { head = Some (record { holder = holder.Client (codes "Ada Chen"); opened = tenth; closed = None; last = last }); seats = seat_of_lee ∷ []; entries = entries }
+with_entries last entries = record {
+  head = Some (record { holder = holder.Client (codes "Ada Chen"); opened = tenth; closed = None; last = last });
+  seats = seat_of_lee ∷ [];
+  entries = entries;
+}
 
 -- a deposit of 500.00 in a state
 abbrev pub deposit_in : ℕ → DepositState → Rows
@@ -87,8 +94,14 @@ deposit_in last state = with_entries last (received tenth 50000 state ∷ [])
 
 -- the same, taken back by the bank on the thirteenth, as was booked on a day
 abbrev pub returned_in : ℕ → ℕ → Rows
-returned_in last day = deposit_in last (deposit.Returned (record { clearing = cleared_on twelfth b1; returning = cleared_on thirteenth b2; undone = day }))
+returned_in last day = deposit_in last (deposit.Returned (record {
+  clearing = cleared_on twelfth b1;
+  returning = cleared_on thirteenth b2;
+  undone = day;
+}))
 
 -- a deposit of 500.00 that is cleared, and a payment of 100.00 in a state
 abbrev pub payment_in : ℕ → PaymentState → Rows
-payment_in last state = with_entries last (received tenth 50000 (deposit.Cleared (cleared_on tenth b1)) ∷ paid tenth 10000 fund.General state ∷ [])
+payment_in last state =
+    with_entries last
+    (received tenth 50000 (deposit.Cleared (cleared_on tenth b1)) ∷ paid tenth 10000 fund.General state ∷ [])

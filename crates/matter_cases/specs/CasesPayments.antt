@@ -44,17 +44,36 @@ cash_company = codes "Cash Ltd"
 
 -- a payment by check under a number, of cents, from a fund to a payee
 abbrev pub check_for : ℕ → ℕ → Fund → List ℕ → Ask
-check_for number cents fund payee = ask.Propose (record { number = number; amount = cents; fund = fund; payee = payee; purpose = codes "filing"; instrument = codes "1001" })
+check_for number cents fund payee = ask.Propose (record {
+  number = number;
+  amount = cents;
+  fund = fund;
+  payee = payee;
+  purpose = codes "filing";
+  instrument = codes "1001";
+})
 
 -- The rows.
 
 -- the same payment, made on Friday, in a state
 abbrev pub check_in : ℕ → Fund → List ℕ → PaymentState → Entry
-check_in cents fund payee state = entry.Payment (record { book = friday; amount = cents; fund = fund; payee = payee; purpose = codes "filing"; instrument = codes "1001"; state = state })
+check_in cents fund payee state = entry.Payment (record {
+  book = friday;
+  amount = cents;
+  fund = fund;
+  payee = payee;
+  purpose = codes "filing";
+  instrument = codes "1001";
+  state = state;
+})
 
 -- a matter that was opened on Wednesday, as of a last day
 abbrev pub with_entries : ℕ → List Entry → Rows
-with_entries last es = record { head = Some (record { holder = holder.Client (codes "Ada Chen"); opened = wednesday; closed = None; last = last }); seats = seats; entries = es }
+with_entries last es = record {
+  head = Some (record { holder = holder.Client (codes "Ada Chen"); opened = wednesday; closed = None; last = last });
+  seats = seats;
+  entries = es;
+}
 
 -- a deposit of 500.00 that the bank has not told of, and one that it told of on Friday
 abbrev pub held_deposit : List Entry
@@ -74,14 +93,17 @@ covered = with_entries friday cleared_deposit
 
 -- with a check for 100.00 to a payee, and to the clerk
 abbrev pub covered_with_check_to : List ℕ → ℕ → PaymentState → Rows
-covered_with_check_to payee last state = with_entries last (cleared_deposit ++ check_in 10000 fund.General payee state ∷ [])
+covered_with_check_to payee last state =
+    with_entries last (cleared_deposit ++ check_in 10000 fund.General payee state ∷ [])
 
 abbrev pub covered_with_check : ℕ → PaymentState → Rows
 covered_with_check last state = covered_with_check_to clerk last state
 
 -- a fee of 200.00, of which 50.00 is claimed, and a claim of 100.00 of the clinic in a state
 abbrev pub set_apart : ClaimState → List Entry
-set_apart state = cleared_deposit ++ earned friday 20000 ∷ claimed friday 5000 (against.Fee 2) claim.Open ∷ claimed friday 10000 (against.General clinic) state ∷ []
+set_apart state =
+    cleared_deposit ++ earned friday 20000 ∷ claimed friday 5000 (against.Fee 2) claim.Open
+    ∷ claimed friday 10000 (against.General clinic) state ∷ []
 
 abbrev pub unsettled : Rows
 unsettled = with_entries friday (set_apart claim.Open)

@@ -27,12 +27,23 @@ later_on = 20290302
 abbrev pub all_gone : List Entry
 all_gone =
     received tenth 50000 (deposit.Cleared (cleared_on twelfth b1))
-    ∷ paid eleventh 50000 fund.General (payment.Cleared (record { issued = twelfth; clearing = cleared_on thirteenth b2 }))
+    ∷ paid eleventh 50000 fund.General
+    (payment.Cleared (record { issued = twelfth; clearing = cleared_on thirteenth b2 }))
     ∷ []
 
 abbrev pub closed_on_leap_day : Rows
-closed_on_leap_day = record { head = Some (record { holder = holder.Client (codes "Ada Chen"); opened = tenth; closed = Some leap_day; last = leap_day }); seats = seat_of_lee ∷ []; entries = all_gone }
+closed_on_leap_day = record {
+  head = Some
+      (record { holder = holder.Client (codes "Ada Chen"); opened = tenth; closed = Some leap_day; last = leap_day });
+  seats = seat_of_lee ∷ [];
+  entries = all_gone;
+}
 
 -- the stub: when the matter was opened, closed and purged
 abbrev pub purged_in_march : Rows
-purged_in_march = record { head = Some (record { holder = holder.Purged day_after_it; opened = tenth; closed = Some leap_day; last = day_after_it }); seats = []; entries = [] }
+purged_in_march = record {
+  head = Some
+      (record { holder = holder.Purged day_after_it; opened = tenth; closed = Some leap_day; last = day_after_it });
+  seats = [];
+  entries = [];
+}

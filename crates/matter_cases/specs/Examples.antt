@@ -22,16 +22,31 @@ use Rattle.matter_rows.specs.Rows.{Rows}
 -- A deposit, a payment, a fee and a claim, of cents, made on a day.
 
 abbrev pub received : ℕ → ℕ → DepositState → Entry
-received day cents state = entry.Deposit (record { book = day; amount = cents; source = codes "Ada Chen"; description = codes "retainer"; state = state })
+received day cents state = entry.Deposit (record {
+  book = day;
+  amount = cents;
+  source = codes "Ada Chen";
+  description = codes "retainer";
+  state = state;
+})
 
 abbrev pub paid : ℕ → ℕ → Fund → PaymentState → Entry
-paid day cents fund state = entry.Payment (record { book = day; amount = cents; fund = fund; payee = codes "Harbor Clinic"; purpose = codes "bill"; instrument = codes "check 1001"; state = state })
+paid day cents fund state = entry.Payment (record {
+  book = day;
+  amount = cents;
+  fund = fund;
+  payee = codes "Harbor Clinic";
+  purpose = codes "bill";
+  instrument = codes "check 1001";
+  state = state;
+})
 
 abbrev pub earned : ℕ → ℕ → Entry
 earned day cents = entry.Fee (record { book = day; amount = cents; description = codes "hearing" })
 
 abbrev pub claimed : ℕ → ℕ → Against → ClaimState → Entry
-claimed day cents against state = entry.Claim (record { book = day; amount = cents; against = against; reason = codes "lien"; state = state })
+claimed day cents against state =
+    entry.Claim (record { book = day; amount = cents; against = against; reason = codes "lien"; state = state })
 
 abbrev pub told_on : ℕ → Clearing
 told_on day = record { bank_day = day; bank_ref = codes "88121" }
@@ -48,18 +63,25 @@ every_state =
     ∷ earned 20260108 30000
     ∷ claimed 20260108 10000 (against.Fee 4) claim.Open
     ∷ claimed 20260108 12000 (against.General (codes "Harbor Clinic")) (claim.Offered 2000)
-    ∷ claimed 20260109 20000 (against.General (codes "Harbor Clinic")) (claim.Settled (record { day = 20260112; part = 8000 }))
+    ∷ claimed 20260109 20000 (against.General (codes "Harbor Clinic"))
+    (claim.Settled (record { day = 20260112; part = 8000 }))
     ∷ claimed 20260109 4000 (against.Fee 4) (claim.Settled (record { day = 20260113; part = 1000 }))
     ∷ paid 20260113 2500 fund.General payment.Proposed
     ∷ paid 20260113 2600 fund.General payment.Declined
     ∷ paid 20260113 1500 fund.General (payment.Issued 20260114)
     ∷ paid 20260114 5000 (fund.Fee 4) (payment.Cleared (record { issued = 20260114; clearing = told_on 20260115 }))
     ∷ paid 20260114 3000 (fund.Claim 7) (payment.Voided (record { issued = 20260114; undone = 20260116 }))
-    ∷ received 20260114 9000 (deposit.Returned (record { clearing = told_on 20260115; returning = told_on 20260113; undone = 20260116 }))
+    ∷ received 20260114 9000
+    (deposit.Returned (record { clearing = told_on 20260115; returning = told_on 20260113; undone = 20260116 }))
     ∷ []
 
 abbrev pub in_every_state : Rows
-in_every_state = record { head = Some (record { holder = holder.Client (codes "Ada Chen"); opened = 20260105; closed = None; last = 20260116 }); seats = seats; entries = every_state }
+in_every_state = record {
+  head = Some
+      (record { holder = holder.Client (codes "Ada Chen"); opened = 20260105; closed = None; last = 20260116 });
+  seats = seats;
+  entries = every_state;
+}
 
 -- what was cleared is paid out, and nothing waits
 abbrev pub all_paid_out : List Entry
@@ -72,15 +94,35 @@ all_paid_out =
     ∷ []
 
 abbrev pub closed_at_rest : Rows
-closed_at_rest = record { head = Some (record { holder = holder.Client (codes "Ada Chen"); opened = 20260105; closed = Some 20260112; last = 20260112 }); seats = seats; entries = all_paid_out }
+closed_at_rest = record {
+  head = Some
+      (record {
+        holder = holder.Client (codes "Ada Chen");
+        opened = 20260105;
+        closed = Some 20260112;
+        last = 20260112;
+      });
+  seats = seats;
+  entries = all_paid_out;
+}
 
 -- the same before it is closed
 abbrev pub at_rest : Rows
-at_rest = record { head = Some (record { holder = holder.Client (codes "Ada Chen"); opened = 20260105; closed = None; last = 20260109 }); seats = seats; entries = all_paid_out }
+at_rest = record {
+  head = Some
+      (record { holder = holder.Client (codes "Ada Chen"); opened = 20260105; closed = None; last = 20260109 });
+  seats = seats;
+  entries = all_paid_out;
+}
 
 -- a matter with nothing but a payment that waits
 abbrev pub waiting : Rows
-waiting = record { head = Some (record { holder = holder.Client (codes "Ada Chen"); opened = 20260105; closed = None; last = 20260109 }); seats = seats; entries = paid 20260107 6000 fund.General payment.Proposed ∷ [] }
+waiting = record {
+  head = Some
+      (record { holder = holder.Client (codes "Ada Chen"); opened = 20260105; closed = None; last = 20260109 });
+  seats = seats;
+  entries = paid 20260107 6000 fund.General payment.Proposed ∷ [];
+}
 
 -- the balances of entries, in cents
 pub record Balance (es : List Entry) (in_hold to_pay in_dispute of_fees of_claims in_total : ℕ) : Type 0 where

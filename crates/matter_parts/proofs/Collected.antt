@@ -1,12 +1,13 @@
 -- A matter that is made of whole rows, entry by entry.
-use Rattle.std.proofs.Common.{◌≡◌, ◌≢◌, ℕ, ◌+◌, ◌-◌, ◌<◌, ◌≤◌, true, false, cond, List, [], ◌∷◌, ◌++◌, take, length, get_or, refl, ap, sym, ◌∙◌, arith, subst, Some, eqb, ℤ, pos, ◌-ℤ◌}
+use Rattle.std.proofs.Common.{◌≡◌, ◌≢◌, ℕ, ◌+◌, ◌<◌, ◌≤◌, true, false, cond, List, [], ◌∷◌, ◌++◌, take, length, get_or, refl, ap, sym, ◌∙◌, arith, subst, Some, eqb, ℤ, pos, ◌-ℤ◌}
 use Rattle.std.proofs.lemmas.Int.{ints}
 use Rattle.std.proofs.lemmas.Bool.Decides.{nat_tests}
 use Rattle.std.proofs.lemmas.List.{take_more, take_all, length_push}
 use Rattle.matter_rows.specs.declared.entry.Entry.{Entry}
 use Rattle.matter_rows.specs.Rows.{Rows, entry_at}
 use Rattle.matter_rows.specs.Balances.{left_of, total_of}
-use Rattle.matter_rows.specs.Shares.{draw_on, worth, most}
+use Rattle.matter_rows.specs.Shares.{draw_on, worth}
+use Rattle.matter_rows.specs.declared.limits.TheConstants.{MAX_TOTAL}
 use Rattle.matter_rows.proofs.Store.{IsBalance, natural}
 use Rattle.matter_rows.proofs.Collected.{entry-at}
 use Rattle.matter_parts.specs.declared.kept.Kept.{Kept}
@@ -45,7 +46,7 @@ own-next es ks new own is n k h =
       | false ↦ λ s g. own n k g
     ] refl h
 
-pub collected-more : (es : List Entry) (i : ℕ) (ks : List Kept) (new : Kept) (ls : List Kept) → IsCollected es i ks → i < length es → new.number ≡ i + 1 → new.left ≤ most → IsEntryOf es (i + 1) new → ls ≡ ks ++ new ∷ [] → IsCollected es (i + 1) ls
+pub collected-more : (es : List Entry) (i : ℕ) (ks : List Kept) (new : Kept) (ls : List Kept) → IsCollected es i ks → i < length es → new.number ≡ i + 1 → new.left ≤ MAX_TOTAL → IsEntryOf es (i + 1) new → ls ≡ ks ++ new ∷ [] → IsCollected es (i + 1) ls
 collected-more es i ks new ls so inside number small is made =
     let count : length ks ≡ i = so.count in
     let next : new.number ≡ 1 + length ks = omega (arith, number, count) in
@@ -70,7 +71,7 @@ pub collected-all : (es : List Entry) (i : ℕ) (ks : List Kept) → IsCollected
 collected-all es i ks so past = record { entries = so.entries ∙ take_all i es past; numbered = so.numbered; own = so.own; small = so.small }
 
 -- a balance is a total
-pub no-total : (z w : ℤ) → IsBalance z → w ≡ z → ((t : ℕ) → t ≤ most → pos t ≢ w) → ⊥
+pub no-total : (z w : ℤ) → IsBalance z → w ≡ z → ((t : ℕ) → t ≤ MAX_TOTAL → pos t ≢ w) → ⊥
 no-total z w is same none = none (natural z) is.small (is.is ∙ sym same)
 
 -- what is left of an entry, from what it is worth and what is drawn on it

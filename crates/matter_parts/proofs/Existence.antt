@@ -4,7 +4,8 @@ use Rattle.std.proofs.lemmas.Int.{ints}
 use Rattle.std.proofs.lemmas.Bool.Decides.{nat_tests}
 use Rattle.matter_rows.specs.declared.entry.Entry.{Entry}
 use Rattle.matter_rows.specs.Balances.{total_of, left_of, held, available, disputed, fees, claims}
-use Rattle.matter_rows.specs.Shares.{most, target, worth, held_share, available_share, disputed_share, fee_share, claim_share, pending_share, no_shares, shares_of}
+use Rattle.matter_rows.specs.Shares.{target, worth, held_share, available_share, disputed_share, fee_share, claim_share, pending_share, no_shares, shares_of}
+use Rattle.matter_rows.specs.declared.limits.TheConstants.{MAX_TOTAL}
 use Rattle.matter_rows.specs.Rows.{entry_at, with_entry}
 use Rattle.matter_rows.specs.Sound.{AreBacked}
 use Rattle.matter_rows.proofs.Store.{natural, held-balance, pending-balance, disputed-balance, available-balance, fees-balance, claims-balance, left-balance}
@@ -70,8 +71,8 @@ IsKeptOrNone m t = (t ≡ 0) ⊎ ((k : Kept) × (kept_at m t ≡ Some k))
 pub small-none : IsSmallOther None
 small-none p h = cc
 
-small-some : (l : Left) → l.left ≤ most → IsSmallOther (Some l)
-small-some l h p e = let same : l ≡ p = cc in let P : Left → Type 0 = λ q. q.left ≤ most in subst P same h
+small-some : (l : Left) → l.left ≤ MAX_TOTAL → IsSmallOther (Some l)
+small-some l h p e = let same : l ≡ p = cc in let P : Left → Type 0 = λ q. q.left ≤ MAX_TOTAL in subst P same h
 
 pub exist-append : (m : Part) (es : List Entry) (x : Numbered) → AreFigures m.figures es → AreKept m.kept es → AreBacked es → x.number ≡ length es + 1 → MayAdd es x.entry → IsKeptOrNone m (target x.entry) → (v : TotalsAfter) × AreSmallTotals v × AppendMoved m x v
 exist-append m es x a kept s place may named =

@@ -3,7 +3,7 @@ use Rattle.std.specs.List.{position, position_or_len}
 use Rattle.std.proofs.Common.{suc, ◌≡◌, ℕ, ◌+◌, ◌<◌, ◌≤◌, ◌==◌, not, Bool, true, false, cond, List, [], ◌∷◌, ◌++◌, length, refl, ap, sym, ◌∙◌, arith, subst, Option, Some, None, eqb, get_or}
 use Rattle.std.proofs.Math.ListN.{set}
 use Rattle.std.proofs.lemmas.Bool.Decides.{nat_tests}
-use Rattle.matter_rows.specs.Shares.{most}
+use Rattle.matter_rows.specs.declared.limits.TheConstants.{MAX_TOTAL}
 use Rattle.matter_rows.proofs.Places.{place-some, place-none}
 use Rattle.matter_parts.specs.declared.kept.Kept.{Kept}
 use Rattle.matter_parts.specs.declared.change.Left.{Left}
@@ -127,24 +127,24 @@ kept-other ks (Some o) n = kept-left ks o.number o.left n
 -- What is left of what is kept stays in range.
 
 abbrev pub AreSmallLefts : List Kept → Type 0
-AreSmallLefts ks = (n : ℕ) (k : Kept) → kept_in ks n ≡ Some k → k.left ≤ most
+AreSmallLefts ks = (n : ℕ) (k : Kept) → kept_in ks n ≡ Some k → k.left ≤ MAX_TOTAL
 
-pub small-with : (ks : List Kept) (new : Kept) → AreSmallLefts ks → new.left ≤ most → (n : ℕ) (k : Kept) → put_in ks new n ≡ Some k → k.left ≤ most
+pub small-with : (ks : List Kept) (new : Kept) → AreSmallLefts ks → new.left ≤ MAX_TOTAL → (n : ℕ) (k : Kept) → put_in ks new n ≡ Some k → k.left ≤ MAX_TOTAL
 small-with ks new old small n k h =
-    elim (eqb new.number n) as (λ b. cond b (Some new) (kept_in ks n) ≡ Some k → k.left ≤ most) [
-      | true ↦ λ g. let same : new ≡ k = cc in let P : Kept → Type 0 = λ j. j.left ≤ most in subst P same small
+    elim (eqb new.number n) as (λ b. cond b (Some new) (kept_in ks n) ≡ Some k → k.left ≤ MAX_TOTAL) [
+      | true ↦ λ g. let same : new ≡ k = cc in let P : Kept → Type 0 = λ j. j.left ≤ MAX_TOTAL in subst P same small
       | false ↦ λ g. old n k g
     ] h
 
-small-relieved : (number left n : ℕ) (o : Option Kept) → ((k : Kept) → o ≡ Some k → k.left ≤ most) → left ≤ most → (k : Kept) → relieved number left n o ≡ Some k → k.left ≤ most
-small-relieved number left n None old small k h = elim (eqb number n) as (λ b. cond b (with_left None left) None ≡ Some k → k.left ≤ most) [ true ↦ λ g. cc | false ↦ λ g. cc ] h
+small-relieved : (number left n : ℕ) (o : Option Kept) → ((k : Kept) → o ≡ Some k → k.left ≤ MAX_TOTAL) → left ≤ MAX_TOTAL → (k : Kept) → relieved number left n o ≡ Some k → k.left ≤ MAX_TOTAL
+small-relieved number left n None old small k h = elim (eqb number n) as (λ b. cond b (with_left None left) None ≡ Some k → k.left ≤ MAX_TOTAL) [ true ↦ λ g. cc | false ↦ λ g. cc ] h
 small-relieved number left n (Some j) old small k h =
-    elim (eqb number n) as (λ b. cond b (some (record j { left = left })) (some j) ≡ Some k → k.left ≤ most) [
-      | true ↦ λ g. let same : record j { left = left } ≡ k = cc in let P : Kept → Type 0 = λ w. w.left ≤ most in subst P same small
+    elim (eqb number n) as (λ b. cond b (some (record j { left = left })) (some j) ≡ Some k → k.left ≤ MAX_TOTAL) [
+      | true ↦ λ g. let same : record j { left = left } ≡ k = cc in let P : Kept → Type 0 = λ w. w.left ≤ MAX_TOTAL in subst P same small
       | false ↦ λ g. old k g
     ] h
 
-pub small-after : (ks : List Kept) (new : Kept) (o : Option Left) → AreSmallLefts ks → new.left ≤ most → IsSmallOther o → AreSmallLefts (other_written (kept_with ks new) o)
+pub small-after : (ks : List Kept) (new : Kept) (o : Option Left) → AreSmallLefts ks → new.left ≤ MAX_TOTAL → IsSmallOther o → AreSmallLefts (other_written (kept_with ks new) o)
 small-after ks new None old small other n k h = small-with ks new old small n k (sym (kept-with ks new n) ∙ h)
 small-after ks new (Some o) old small other n k h =
     small-relieved o.number o.left n (kept_in (kept_with ks new) n) (λ j g. small-with ks new old small n j (sym (kept-with ks new n) ∙ g)) (other o refl) k (sym (kept-left (kept_with ks new) o.number o.left n) ∙ h)

@@ -1,5 +1,5 @@
 -- What a part of rows is decided on is what the rows are.
-use Rattle.std.proofs.Common.{zero, suc, ◌≡◌, ℕ, ◌+◌, ◌==◌, ◌||◌, ◌&&◌, ltb, true, List, [], ◌∷◌, length, refl, sym, ◌∙◌, arith, Some, None, pos, is_some}
+use Rattle.std.proofs.Common.{zero, suc, ◌≡◌, ℕ, ◌==◌, ◌||◌, ltb, true, List, [], ◌∷◌, length, refl, sym, arith, Some, None, pos, is_some}
 use Rattle.std.proofs.lemmas.Bool.Decides.{nat_tests}
 use Rattle.matter_rows.specs.declared.entry.Entry.{Entry}
 use Rattle.matter_rows.specs.Balances.{left_of, left_in}

@@ -11,7 +11,7 @@ use Rattle.matter_rows.specs.Rows.{entry_at, closed_on}
 use Rattle.matter_rows.specs.Balances.{available, left_of, names}
 use Rattle.matter_rows.specs.Sound.{AreBacked, AreInOrder, AreDated, IsAtRestIfClosed, IsRanged, IsBy, IsRising, IsFundedInTime, Sound}
 use Rattle.matter_rows.specs.SoundRows.{IsByIfClosed, IsSoundEntry, IsClosedWithin, IsSoundHead, AreInForm}
-use Rattle.matter_rows.specs.Shares.{most}
+use Rattle.matter_rows.specs.declared.limits.TheConstants.{MAX_TOTAL}
 use Rattle.matter_rows.proofs.Covered.{total-covered}
 use Rattle.matter_rows.proofs.Entries.{within}
 use Rattle.matter_rows.proofs.Exchange.{all-map}
@@ -144,13 +144,13 @@ sound-of (Some h) seats es f order form backed a empty =
 
 -- Stored figures.
 
-pub lefts-within : (ks : List Kept) → All (λ k. k.left ≤ most) ks → (n : ℕ) (k : Kept) → find (λ j. j.number == n) ks ≡ Some k → k.left ≤ most
+pub lefts-within : (ks : List Kept) → All (λ k. k.left ≤ MAX_TOTAL) ks → (n : ℕ) (k : Kept) → find (λ j. j.number == n) ks ≡ Some k → k.left ≤ MAX_TOTAL
 lefts-within [] all n k found = absurd (cc)
 lefts-within (j ∷ ks) all n k found =
-    elim (eqb j.number n) as (λ b. cond b (Some j) (find (λ i. i.number == n) ks) ≡ Some k → k.left ≤ most) [
+    elim (eqb j.number n) as (λ b. cond b (Some j) (find (λ i. i.number == n) ks) ≡ Some k → k.left ≤ MAX_TOTAL) [
       | true ↦ λ g.
           let same : j ≡ k = cc in
-          let P : Kept → Type 0 = λ x. x.left ≤ most in
+          let P : Kept → Type 0 = λ x. x.left ≤ MAX_TOTAL in
           subst P same (All-head P j ks all)
-      | false ↦ λ g. lefts-within ks (All-tail (λ (x : Kept). x.left ≤ most) j ks all) n k g
+      | false ↦ λ g. lefts-within ks (All-tail (λ (x : Kept). x.left ≤ MAX_TOTAL) j ks all) n k g
     ] found

@@ -1,12 +1,13 @@
 -- What a change makes of a matter's rows.
-use Rattle.std.specs.Prelude.{◌≡◌, false, ℕ, ◌+◌, ◌≤◌, List, [], ◌∷◌, ◌++◌, length, pos, Option, Some, None, IsSome, if◌then◌else◌}
+use Rattle.std.specs.Prelude.{◌≡◌, false, ℕ, ◌+◌, ◌≤◌, List, [], ◌∷◌, ◌++◌, length, pos, Option, Some, None, IsSome}
 use Rattle.matter_rows.specs.declared.head.Head.{Head}
 use Rattle.matter_rows.specs.declared.seat.Seat.{Seat}
 use Rattle.matter_rows.specs.declared.entry.Entry.{Entry}
 use Rattle.matter_rows.specs.declared.movement.EntryMovement.{EntryMovement}
 use Rattle.matter_rows.specs.Rows.{Rows, entry_at, with_entry, as_made, last_of, closed_on, is_purged, role_in, seats_with, seats_without, cleared_head, closed_head, seen_on}
 use Rattle.matter_rows.specs.Events.{Event, events_of, events_in, moved_beyond}
-use Rattle.matter_rows.specs.Shares.{target, most}
+use Rattle.matter_rows.specs.Shares.{target}
+use Rattle.matter_rows.specs.declared.limits.TheConstants.{MAX_TOTAL}
 use Rattle.matter_rows.specs.Balances.{left_of}
 use Rattle.matter_rows.specs.Sound.{Sound}
 use Rattle.matter_parts.specs.declared.edit.Numbered.{Numbered}
@@ -24,11 +25,11 @@ pub record MatterChange : Type 0 where
   pub movement : Option EntryMovement
 
 abbrev pub IsSmallOther : Option Left → Type 0
-IsSmallOther o = (p : Left) → o ≡ Some p → p.left ≤ most
+IsSmallOther o = (p : Left) → o ≡ Some p → p.left ≤ MAX_TOTAL
 
 pub record AreSmallTotals (v : TotalsAfter) : Type 0 where
   pub figures : AreSmall v.figures
-  pub left : v.left ≤ most
+  pub left : v.left ≤ MAX_TOTAL
   pub other : IsSmallOther v.other
 
 -- The rows after it.
@@ -91,7 +92,7 @@ abbrev pub events_by : Option EntryMovement → List Event
 events_by None = []
 events_by (Some m) = event_of m ∷ []
 
--- the events of the written entry are those that were there and then the movement
+-- what a written entry has moved is what it had moved before, and then what the edit moves
 abbrev pub AreMoved : List Entry → Edit → Option EntryMovement → Type 0
 AreMoved es (edit.Append x) m = events_of x.entry ≡ events_by m
 AreMoved es (edit.Exchange x) m = events_of x.entry ≡ events_in (entry_at es x.number) ++ events_by m
@@ -102,7 +103,7 @@ AreMoved es (edit.Unseat p) m = m ≡ None
 AreMoved es (edit.Close d) m = m ≡ None
 AreMoved es (edit.Clear d) m = m ≡ None
 
--- what is moved, if anything is, is moved on no day before the first, and on none after the second
+-- what an edit moves, if anything, is of no day before the first and of none after the second
 abbrev pub IsMovedWithin : ℕ → ℕ → Option EntryMovement → Type 0
 IsMovedWithin from to None = Unit {0}
 IsMovedWithin from to (Some v) = (from ≤ v.day) × (v.day ≤ to)
@@ -114,8 +115,8 @@ pub record IsExchange (es : List Entry) (x : Numbered) (old : Entry) : Type 0 wh
   pub there : entry_at es x.number ≡ Some old
   pub same : as_made x.entry ≡ as_made old
 
--- the edit fits: a matter is opened once, closed once and then purged once, a new entry is the next one, an exchanged one
--- stays what it was
+-- the edit fits: a matter is opened once, closed once and then purged once, a new entry is the next one, an exchanged
+-- one stays what it was
 abbrev pub IsPlace : Rows → Edit → Type 0
 IsPlace rows edit.Nothing = Unit {0}
 IsPlace rows (edit.Open o) = rows.head ≡ None

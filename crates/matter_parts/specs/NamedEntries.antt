@@ -6,4 +6,5 @@ use Rattle.matter_parts.specs.Parts.{is_it}
 
 -- the number is one of them
 abbrev pub has_number : NamedEntries → ℕ → Bool
-has_number w n = is_it w.first n || (is_it w.second n || (n == number_or_none w.under_first || n == number_or_none w.under_second))
+has_number w n =
+    is_it w.first n || (is_it w.second n || (n == number_or_none w.under_first || n == number_or_none w.under_second))

@@ -1,15 +1,17 @@
 -- A matter as it is kept: its totals, its counts and some of its entries.
-use Rattle.std.specs.Prelude.{◌≡◌, ℕ, ◌+◌, ◌≤◌, ◌==◌, ◌&&◌, ◌||◌, nat_lt, cond, Bool, true, false, List, [], ◌∷◌, length, map, ℤ, pos, ◌+ℤ◌, ◌≤ℤ◌, Option, Some, None, find, is_some}
+use Rattle.std.specs.Prelude.{◌≡◌, ℕ, ◌+◌, ◌≤◌, ◌==◌, ◌||◌, nat_lt, cond, Bool, true, false, List, [], ◌∷◌, length, map, ℤ, pos, Option, Some, None, find, is_some}
 use Rattle.std.specs.List.{filter}
 use Rattle.matter_rows.specs.declared.head.Head.{Head}
 use Rattle.matter_rows.specs.declared.seat.Seat.{Seat}
 use Rattle.matter_rows.specs.declared.entry.Entry.{Entry}
 use Rattle.matter_rows.specs.Rows.{Rows, entry_at}
 use Rattle.matter_rows.specs.Balances.{left_of, held, available, disputed, fees, claims, total, pending}
-use Rattle.matter_rows.specs.Shares.{target_in, most}
+use Rattle.matter_rows.specs.Shares.{target_in}
+use Rattle.matter_rows.specs.declared.limits.TheConstants.{MAX_TOTAL}
 use Rattle.matter_parts.specs.declared.figures.Balances.{Balances}
 use Rattle.matter_parts.specs.declared.figures.Figures.{Figures}
 use Rattle.matter_parts.specs.declared.kept.Kept.{Kept}
+use Rattle.trust_values.specs.declared.limits.TheConstants.{MAX_ENTRY}
 
 -- what is kept of a matter
 pub record Part : Type 0 where
@@ -18,14 +20,15 @@ pub record Part : Type 0 where
   pub figures : Figures
   pub kept : List Kept
 
+-- a matter has at most 9,999 entries, and no total is above that many of the greatest amount
 pub record AreSmall (f : Figures) : Type 0 where
-  pub entries : f.entries ≤ 9_999
-  pub pending : f.pending ≤ most
-  pub held : f.held ≤ most
-  pub available : f.available ≤ most
-  pub disputed : f.disputed ≤ most
-  pub fees : f.fees ≤ most
-  pub claims : f.claims ≤ most
+  pub entries : f.entries ≤ MAX_ENTRY
+  pub pending : f.pending ≤ MAX_TOTAL
+  pub held : f.held ≤ MAX_TOTAL
+  pub available : f.available ≤ MAX_TOTAL
+  pub disputed : f.disputed ≤ MAX_TOTAL
+  pub fees : f.fees ≤ MAX_TOTAL
+  pub claims : f.claims ≤ MAX_TOTAL
 
 -- the totals of a matter without an entry
 abbrev pub no_figures : Figures
@@ -38,9 +41,10 @@ kept_in ks n = find (λ k. k.number == n) ks
 abbrev pub kept_at : Part → ℕ → Option Kept
 kept_at m n = kept_in m.kept n
 
+-- totals, counts and what is left of each kept entry are no more than a matter may have
 pub record AreInRange (f : Figures) (kept : List Kept) : Type 0 where
   pub figures : AreSmall f
-  pub lefts : (n : ℕ) (k : Kept) → find (λ k. k.number == n) kept ≡ Some k → k.left ≤ most
+  pub lefts : (n : ℕ) (k : Kept) → find (λ k. k.number == n) kept ≡ Some k → k.left ≤ MAX_TOTAL
 
 -- the entry is kept, or it is not there
 abbrev pub is_held : Part → ℕ → Bool
@@ -102,7 +106,7 @@ pub record AreAllKept (ks : List Kept) (es : List Entry) : Type 0 where
   pub entries : entries_kept ks ≡ es
   pub numbered : AreNumbered 1 ks
   pub own : AreKept ks es
-  pub small : (n : ℕ) (k : Kept) → kept_in ks n ≡ Some k → k.left ≤ most
+  pub small : (n : ℕ) (k : Kept) → kept_in ks n ≡ Some k → k.left ≤ MAX_TOTAL
 
 -- the matter is a part of the rows that keeps all their entries, in the order of their numbers
 pub record IsWhole (m : Part) (rows : Rows) : Type 0 where

@@ -20,7 +20,7 @@ TheTotalsAfter = TotalsAfter
 abbrev pub TheFigures : Type 0
 TheFigures = Figures
 
--- each total of g is that of f, with one entry's share exchanged for another's
+-- each total of g is that of f, less what one entry added to it and more what another adds
 pub record FiguresMoved (f : Figures) (entries : ℕ) (out shares : Shares) (g : Figures) : Type 0 where
   pub count : g.entries ≡ entries
   pub pending : pos g.pending ≡ (pos f.pending -ℤ out.pending) +ℤ shares.pending
@@ -30,7 +30,7 @@ pub record FiguresMoved (f : Figures) (entries : ℕ) (out shares : Shares) (g :
   pub fees : pos g.fees ≡ (pos f.fees -ℤ out.fees) +ℤ shares.fees
   pub claims : pos g.claims ≡ (pos f.claims -ℤ out.claims) +ℤ shares.claims
 
--- what is left of the entry named, number t, moves by what is drawn on it
+-- of entry t, the fee or claim that is drawn on, less is left by what is drawn now, and more by what was drawn before
 abbrev pub OtherCases : Part → ℕ → ℤ → ℤ → Option Left → Type 0
 OtherCases m t out draw None = t ≡ 0
 OtherCases m t out draw (Some o) =
@@ -46,7 +46,7 @@ pub record AppendMoved (m : Part) (x : Numbered) (v : TotalsAfter) : Type 0 wher
   pub left : pos v.left ≡ worth x.entry
   pub other : OtherMoved m (target x.entry) (pos 0) (draw x.entry) v.other
 
--- the same after a kept entry is exchanged
+-- the figures after an entry has changed, and what is left of it and of the one that it names
 pub record ExchangeMoved (m : Part) (x : Numbered) (k : Kept) (v : TotalsAfter) : Type 0 where
   pub kept : kept_at m x.number ≡ Some k
   pub figures : FiguresMoved m.figures m.figures.entries (shares_of k.entry) (shares_of x.entry) v.figures

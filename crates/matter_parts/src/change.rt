@@ -1,7 +1,8 @@
 //! The change of a matter: its edit, the totals after it, and what it moves in the journal.
 
 ghost use Rattle.std.specs.Prelude.{◌≡◌, ◌+◌, ◌-◌, ◌<◌, ◌≤◌, ◌≤ℤ◌, ◌-ℤ◌, ◌+ℤ◌, IfOk, IfErr, IfSome, IfNone, OnErr, Option, []};
-ghost use Rattle.matter_rows.specs.Shares.{no_shares, draw, target, IsSmallShare, number_or_none, most};
+ghost use Rattle.matter_rows.specs.Shares.{no_shares, draw, target, IsSmallShare, number_or_none};
+ghost use Rattle.matter_rows.specs.declared.limits.TheConstants.{MAX_TOTAL};
 ghost use Rattle.matter_parts.specs.declared.change.Left.{Left};
 ghost use Rattle.matter_parts.specs.Parts.{kept_at};
 ghost use Rattle.matter_parts.specs.Changes.{AreSmallTotals, IsSmallOther};
@@ -13,7 +14,7 @@ use crate::kept::Kept;
 use crate::matter::Matter;
 use matter_rows::{EntryMovement, moved, movement_beyond, no_shares};
 use std::marker::Model;
-use trust_base::{Day, EntryNo, Refusal};
+use trust_base::{Day, EntryNo, MAX_ENTRY, Refusal};
 
 /// What is left of an entry, in cents.
 #[derive(Clone, Copy)]
@@ -103,17 +104,14 @@ fn other_after(
     requires draw { IsSmallShare draw }
     ensures small { IfSome result (λ o. IsSmallOther o) }
     ensures some { IfSome result (λ o. OtherMoved matter.now (number_or_none target) out draw o) }
-    ensures none { IfNone result ((o : Option Left) → IsSmallOther o → OtherMoved matter.now (number_or_none target) out draw o → ⊥) }
+    ensures none { IfNone result
+        ((o : Option Left) → IsSmallOther o → OtherMoved matter.now (number_or_none target) out draw o → ⊥) }
 {
     match target {
         None => Some(None),
         Some(number) => {
-            let Some(kept) = matter.find(number) else {
-                return None;
-            };
-            let Some(left) = moved(kept.left, draw, out) else {
-                return None;
-            };
+            let kept = matter.find(number)?;
+            let left = moved(kept.left, draw, out)?;
             Some(Some(Left { number, left }))
         }
     }
@@ -125,7 +123,7 @@ fn append_moves(matter: &Matter, added: &Numbered) -> Option<TotalsAfter>
     ensures none { IfNone result ((v : TheTotalsAfter) → AreSmallTotals v → AppendMoved matter.now added.now v → ⊥) }
 {
     let figures = matter.figures();
-    if figures.entries >= 9_999 {
+    if figures.entries >= MAX_ENTRY as u64 {
         return None;
     }
     if added.number.get() as u64 != figures.entries + 1 {
@@ -151,10 +149,11 @@ fn append_moves(matter: &Matter, added: &Numbered) -> Option<TotalsAfter>
 
 fn exchange_moves(matter: &Matter, kept: &Kept, changed: &Numbered) -> Option<TotalsAfter>
     requires kept { kept_at matter.now changed.now.number ≡ Some kept.now }
-    requires small { kept.now.left ≤ most }
+    requires small { kept.now.left ≤ MAX_TOTAL }
     ensures small { IfSome result (λ v. AreSmallTotals v) }
     ensures some { IfSome result (λ v. ExchangeMoved matter.now changed.now kept.now v) }
-    ensures none { IfNone result ((v : TheTotalsAfter) → AreSmallTotals v → ExchangeMoved matter.now changed.now kept.now v → ⊥) }
+    ensures none { IfNone result
+        ((v : TheTotalsAfter) → AreSmallTotals v → ExchangeMoved matter.now changed.now kept.now v → ⊥) }
 {
     let figures = matter.figures();
     let out = kept.entry.shares();

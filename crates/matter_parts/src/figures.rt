@@ -7,7 +7,8 @@ ghost use Rattle.matter_rows.specs.Sound.{AreBacked};
 ghost use Rattle.matter_parts.specs.Parts.{AreSmall, no_figures, AreFigures};
 ghost use Rattle.matter_parts.specs.TotalsAfter.{FiguresMoved, TheFigures};
 
-use matter_rows::{Entry, Shares, as_total, moved, sums_of};
+use matter_rows::{Entry, MAX_TOTAL, Shares, as_total, moved, sums_of};
+use trust_base::MAX_ENTRY;
 
 /// The totals of a matter in cents, the number of its entries, and that of the payments proposed or issued.
 #[derive(Clone, Copy)]
@@ -63,12 +64,13 @@ pub(crate) fn figures_after(
     shares: &Shares,
 ) -> Option<Figures>
     requires small { AreSmall figures.now }
-    requires entries { entries ≤ 9_999 }
+    requires entries { entries ≤ MAX_ENTRY }
     requires out { AreSmallShares out.now }
     requires shares { AreSmallShares shares.now }
     ensures small { IfSome result (λ f. AreSmall f) }
     ensures some { IfSome result (λ f. FiguresMoved figures.now entries out.now shares.now f) }
-    ensures none { IfNone result ((f : TheFigures) → AreSmall f → FiguresMoved figures.now entries out.now shares.now f → ⊥) }
+    ensures none { IfNone result
+        ((f : TheFigures) → AreSmall f → FiguresMoved figures.now entries out.now shares.now f → ⊥) }
 {
     let Some(held) = moved(figures.held, out.held, shares.held) else {
         return None;
@@ -101,7 +103,7 @@ pub(crate) fn figures_after(
 
 // The totals of all entries, where each is one. The fees and claims are those of entries that name what is there.
 pub(crate) fn figures_of(entries: &[Entry]) -> Option<Figures>
-    requires { length entries.now ≤ 9_999 }
+    requires { length entries.now ≤ MAX_ENTRY }
     ensures small { IfSome result AreSmall }
     ensures some { IfSome result (λ f. AreBacked entries.now → AreFigures f entries.now) }
     ensures available { IfSome result (λ f. pos f.available ≡ available entries.now) }
@@ -141,11 +143,11 @@ pub(crate) fn figures_of(entries: &[Entry]) -> Option<Figures>
 pub(crate) fn are_small(figures: &Figures) -> bool
     ensures { IsTrue result ↔ AreSmall figures.now }
 {
-    figures.entries <= 9_999
-        && figures.pending <= 999_899_999_990_001
-        && figures.held <= 999_899_999_990_001
-        && figures.available <= 999_899_999_990_001
-        && figures.disputed <= 999_899_999_990_001
-        && figures.fees <= 999_899_999_990_001
-        && figures.claims <= 999_899_999_990_001
+    figures.entries <= MAX_ENTRY as u64
+        && figures.pending <= MAX_TOTAL
+        && figures.held <= MAX_TOTAL
+        && figures.available <= MAX_TOTAL
+        && figures.disputed <= MAX_TOTAL
+        && figures.fees <= MAX_TOTAL
+        && figures.claims <= MAX_TOTAL
 }

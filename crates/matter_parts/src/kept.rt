@@ -3,7 +3,6 @@
 ghost use Rattle.std.specs.Prelude.{◌≡◌, ◌+◌, ◌<◌, ◌≤◌, ◌++◌, ◌∷◌, [], None, IfOk, OnOk, OnErr, ◌==◌, ◌≢◌, ◌↔◌, length, All, IsTrue, IfErr};
 ghost use Rattle.std.specs.Option.{option_copied};
 ghost use Rattle.std.specs.List.{filter, position};
-ghost use Rattle.matter_rows.specs.Shares.{most};
 ghost use Rattle.matter_rows.specs.Sound.{AreBacked};
 ghost use Rattle.matter_parts.specs.NamedEntries.{has_number};
 ghost use Rattle.matter_parts.specs.Parts.{kept_at, kept_in, IsEntryOf, AreAllKept};
@@ -11,9 +10,9 @@ ghost use Rattle.matter_parts.specs.Applied.{kept_with, left_written, other_writ
 
 use crate::change::Left;
 use crate::named_entries::NamedEntries;
-use matter_rows::{Entry, as_total, drawn_on};
+use matter_rows::{Entry, MAX_TOTAL, as_total, drawn_on};
 use std::alloc::{AllocError, Global};
-use trust_base::{EntryNo, StoreFault};
+use trust_base::{EntryNo, MAX_ENTRY, StoreFault};
 
 /// An entry that is kept, and what is left of it in cents: of a fee, or of a claim on the general fund;
 /// otherwise 0.
@@ -116,10 +115,10 @@ pub fn set_other(kept: &mut Vec<Kept>, other: Option<Left>)
 
 // The entry of a place with its number and what is left of it, where that is a total.
 fn kept_at(entries: &[Entry], place: usize) -> Result<Kept, StoreFault>
-    requires few { length entries.now ≤ 9_999 }
+    requires few { length entries.now ≤ MAX_ENTRY }
     requires there { place < length entries.now }
     ensures number { IfOk result (λ k. k.number ≡ place + 1) }
-    ensures small { IfOk result (λ k. k.left ≤ most) }
+    ensures small { IfOk result (λ k. k.left ≤ MAX_TOTAL) }
     ensures own { IfOk result (λ k. IsEntryOf entries.now (place + 1) k) }
     ensures err { IfErr result (λ f. f ≡ StoreFault.Store → AreBacked entries.now → ⊥) }
 {
@@ -140,7 +139,7 @@ fn kept_at(entries: &[Entry], place: usize) -> Result<Kept, StoreFault>
 
 // All entries with their numbers and what is left of each.
 pub(crate) fn all_kept(alloc: Global, entries: &[Entry]) -> Result<Vec<Kept>, StoreFault>
-    requires { length entries.now ≤ 9_999 }
+    requires { length entries.now ≤ MAX_ENTRY }
     ensures ok { IfOk result (λ ks. AreAllKept ks.items entries.now) }
     ensures err { IfErr result (λ f. f ≡ StoreFault.Store → AreBacked entries.now → ⊥) }
 {
@@ -154,7 +153,7 @@ pub(crate) fn all_kept(alloc: Global, entries: &[Entry]) -> Result<Vec<Kept>, St
 
 // Is what is left of each entry in range?
 pub(crate) fn are_small_lefts(kept: &[Kept]) -> bool
-    ensures { IsTrue result ↔ All (λ k. k.left ≤ most) kept.now }
+    ensures { IsTrue result ↔ All (λ k. k.left ≤ MAX_TOTAL) kept.now }
 {
-    kept.iter().all(|k| k.left <= 999_899_999_990_001)
+    kept.iter().all(|k| k.left <= MAX_TOTAL)
 }

@@ -3,7 +3,8 @@
 ghost use Rattle.std.specs.Prelude.{◌≡◌, ℕ, ◌+◌, ◌<◌, ◌≤◌, ◌++◌, ◌∷◌, [], true, false, find, is_some, None, pos, nat_lt, IfSome, IfOk, OnOk, OnErr, MatchOption, ◌≢◌, ◌↔◌, All, IsTrue, IsOk, IfErr, ◌&&◌, not};
 ghost use Rattle.std.specs.Option.{option_copied};
 ghost use Rattle.matter_rows.specs.Rows.{Rows, is_purged, is_gone, unopened, role_in, last_of, closed_on, next_number, seats_with, seats_without, has_other_lawyer, is_number, seen_on, closed_head, cleared_head, entry_amount};
-ghost use Rattle.matter_rows.specs.Shares.{number_or_none, most, fund_no};
+ghost use Rattle.matter_rows.specs.Shares.{number_or_none, fund_no};
+ghost use Rattle.matter_rows.specs.declared.limits.TheConstants.{MAX_TOTAL};
 ghost use Rattle.matter_rows.specs.Sound.{Sound, AreInOrder};
 ghost use Rattle.matter_rows.specs.Balances.{fund_left, exceeds};
 ghost use Rattle.matter_parts.specs.NamedEntries.{has_number};
@@ -22,7 +23,7 @@ use matter_rows::{
 };
 use std::alloc::{AllocError, Global};
 use std::marker::Model;
-use trust_base::{Day, EntryNo, PersonId, StoreFault};
+use trust_base::{Day, EntryNo, MAX_ENTRY, PersonId, StoreFault};
 
 /// A matter, with its head, its seats, its totals and some of its entries.
 ///
@@ -118,7 +119,7 @@ impl Matter {
     /// The entry with this number, if it is kept.
     pub fn find(&self, number: EntryNo) -> Option<&Kept>
         ensures is { option_copied result ≡ kept_at self.now number }
-        ensures small { IfSome result (λ k. k.now.left ≤ most) }
+        ensures small { IfSome result (λ k. k.now.left ≤ MAX_TOTAL) }
     {
         found(&self.kept, number)
     }
@@ -137,9 +138,7 @@ impl Matter {
         let Some(number) = named else {
             return None;
         };
-        let Some(kept) = self.find(*number) else {
-            return None;
-        };
+        let kept = self.find(*number)?;
         kept.entry.target()
     }
 
@@ -286,7 +285,7 @@ impl Matter {
     pub fn next_number(&self) -> Option<EntryNo>
         ensures { result ≡ next_number self.now.figures.entries }
     {
-        if self.figures.entries < 9_999 {
+        if self.figures.entries < MAX_ENTRY as u64 {
             EntryNo::from_number((self.figures.entries + 1) as u16)
         } else {
             None
@@ -297,7 +296,7 @@ impl Matter {
     pub fn is_next(&self, number: EntryNo) -> bool
         ensures { result ≡ is_number (next_number self.now.figures.entries) number }
     {
-        self.figures.entries < 9_999 && number.get() as u64 == self.figures.entries + 1
+        self.figures.entries < MAX_ENTRY as u64 && number.get() as u64 == self.figures.entries + 1
     }
 
     /// Makes a change. Where memory is refused, the matter is unchanged.
@@ -372,7 +371,8 @@ impl Matter {
 
     // Leaves nothing but the stub of its head.
     fn clear(&mut self, day: Day, last: Day)
-        ensures { self.new ≡ record { head = cleared_head self.old.head day last; seats = []; figures = no_figures; kept = [] } }
+        ensures { self.new
+            ≡ record { head = cleared_head self.old.head day last; seats = []; figures = no_figures; kept = [] } }
     {
         clear_on(&mut self.head, day, last);
         self.seats.clear();
@@ -419,7 +419,7 @@ impl Matter {
         ensures store { IfErr result (λ f. f ≡ StoreFault.Store
             → Sound (record { head = head; seats = seats.items; entries = entries.now }) → ⊥) }
     {
-        if entries.len() > 9_999 {
+        if entries.len() > MAX_ENTRY as usize {
             return Err(StoreFault::Store);
         }
         if !are_in_order(seats.as_slice()) {
@@ -439,7 +439,7 @@ impl Matter {
     }
 
     /// The matter of stored figures: a head, seats, totals and counts, and some of the entries, each with what is
-    /// left of it. Store is answered where a total or what is left is above 999,899,999,990,001 cents, or a count
+    /// left of it. Store is answered where a total or what is left is above the greatest total, or a count
     /// above its own range, and only there.
     pub fn of_part(
         head: Option<Head>,
@@ -449,7 +449,7 @@ impl Matter {
     ) -> Result<Matter, StoreFault>
         ensures ok { IfOk result (λ m. m
             ≡ record { head = head; seats = seats.items; figures = figures; kept = kept.items }) }
-        ensures in_range { IsOk result ↔ (AreSmall figures × All (λ k. k.left ≤ most) kept.items) }
+        ensures in_range { IsOk result ↔ (AreSmall figures × All (λ k. k.left ≤ MAX_TOTAL) kept.items) }
         ensures store { IfErr result (λ f. f ≡ StoreFault.Store) }
     {
         if !are_small(&figures) || !are_small_lefts(kept.as_slice()) {
@@ -478,7 +478,8 @@ impl Matter {
 
     /// What is left of a fund, in cents.
     pub fn left_of_fund(&self, fund: Fund) -> u64
-        ensures { pos result ≡ fund_left fund (pos self.now.figures.available) (left_kept (kept_at self.now (fund_no fund))) }
+        ensures { pos result ≡ fund_left fund (pos self.now.figures.available)
+            (left_kept (kept_at self.now (fund_no fund))) }
     {
         match fund {
             Fund::General => self.figures().available,

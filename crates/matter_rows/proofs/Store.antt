@@ -13,7 +13,8 @@ use Rattle.matter_rows.specs.declared.payment.PaymentState.TheVariants as paymen
 use Rattle.matter_rows.specs.declared.claim.ClaimState.{ClaimState}
 use Rattle.matter_rows.specs.declared.claim.ClaimState.TheVariants as claim
 use Rattle.matter_rows.specs.Balances.{total_of, left_of, lefts_from, is_fee, is_general_claim, available, held, disputed, fees, claims}
-use Rattle.matter_rows.specs.Shares.{most, draw, draw_on, target, worth, available_share, held_share, disputed_share, fee_share, claim_share, pending_share, paid, apart, to_client, to_claimant, off_fee, on_fee, on_general, from_general, from_fee, from_claim, held_deposit, cleared_deposit, pending_payment}
+use Rattle.matter_rows.specs.Shares.{draw, draw_on, target, worth, available_share, held_share, disputed_share, fee_share, claim_share, pending_share, paid, apart, to_client, to_claimant, off_fee, on_fee, on_general, from_general, from_fee, from_claim, held_deposit, cleared_deposit, pending_payment}
+use Rattle.matter_rows.specs.declared.limits.TheConstants.{MAX_TOTAL}
 use Rattle.matter_rows.specs.Rows.{entry_at}
 use Rattle.matter_rows.specs.Sound.{AreBacked, IsRanged, part_of}
 use Rattle.matter_rows.proofs.Entries.{all-at}
@@ -160,7 +161,7 @@ is-natural (negsuc n) h = absurd (omega (arith, ints, h))
 -- a balance of sound entries, as a number in range
 pub record IsBalance (z : ℤ) : Type 0 where
   pub is : pos (natural z) ≡ z
-  pub small : natural z ≤ most
+  pub small : natural z ≤ MAX_TOTAL
 
 balance : (z : ℤ) (n : ℕ) → n ≤ 9_999 → pos 0 ≤ℤ z → z ≤ℤ pos (n * 99_999_999_999) → IsBalance z
 balance z n few low high =

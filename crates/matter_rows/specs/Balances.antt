@@ -1,5 +1,5 @@
 -- The balances of a matter's entries, added up anew.
-use Rattle.std.specs.Prelude.{ℕ, Bool, true, false, List, [], ◌∷◌, ℤ, pos, ◌+ℤ◌, ◌-ℤ◌, ◌+◌, cond, Option, Some, None, ◌&&◌, ◌||◌, ◌==◌, nat_lt, negsuc}
+use Rattle.std.specs.Prelude.{ℕ, Bool, true, false, List, [], ◌∷◌, ℤ, pos, ◌+ℤ◌, ◌-ℤ◌, ◌+◌, cond, Option, Some, None, ◌&&◌, nat_lt, negsuc}
 use Rattle.matter_rows.specs.declared.payment.Fund.{Fund}
 use Rattle.matter_rows.specs.declared.payment.Fund.TheVariants as fund
 use Rattle.matter_rows.specs.declared.claim.Against.{Against}
@@ -9,7 +9,7 @@ use Rattle.matter_rows.specs.declared.entry.Entry.TheVariants as entry
 use Rattle.matter_rows.specs.Rows.{entry_at}
 use Rattle.matter_rows.specs.Shares.{held_share, total_share, available_share, disputed_share, pending_share, worth, draw_on, has_settled}
 
--- one share per entry, added up
+-- what all entries add to a balance, added up
 abbrev pub total_of : (Entry → ℤ) → List Entry → ℤ
 total_of share [] = pos 0
 total_of share (e ∷ es) = share e +ℤ total_of share es
@@ -30,11 +30,12 @@ ledger es = total es +ℤ held es
 abbrev pub pending : List Entry → ℤ
 pending es = total_of pending_share es
 
--- what may be paid
+-- what may be paid out of no fee and no claim: cleared deposits and what clients got back of disputed fees, less the
+-- payments from it, the fees, and the claims on it
 abbrev pub available : List Entry → ℤ
 available es = total_of available_share es
 
--- open claims on fees
+-- what open claims keep apart of fees
 abbrev pub disputed : List Entry → ℤ
 disputed es = total_of disputed_share es
 

@@ -1,5 +1,5 @@
 -- What a line of the bank says of an entry: whether it clears it, takes it back, or did so before.
-use Rattle.std.specs.Prelude.{◌≡◌, ℕ, Bool, true, false, ◌&&◌, ◌||◌, ◌==◌, [], ◌∷◌, ℤ, pos, ◌-ℤ◌, Option, Some, None, if◌then◌else◌}
+use Rattle.std.specs.Prelude.{ℕ, Bool, true, false, ◌&&◌, ◌||◌, ◌==◌, ℤ, pos, ◌-ℤ◌, Option, Some, None}
 use Rattle.std.specs.Ordering.{int_eq}
 use Rattle.std.specs.Str.{bytes_eq}
 use Rattle.trust_base.specs.declared.line.Line.{Line}
@@ -60,8 +60,10 @@ is_payment_cleared_by (payment.Voided v) line = false
 abbrev pub is_line_again : Option Entry → Line → Bool
 is_line_again None line = false
 is_line_again (Some (entry.Deposit d)) line =
-    (is_deposit_cleared_by d.state line && has_its_amount (entry.Deposit d) line) || (is_deposit_returned_by d.state line && has_amount_back d line)
-is_line_again (Some (entry.Payment p)) line = is_payment_cleared_by p.state line && has_its_amount (entry.Payment p) line
+    (is_deposit_cleared_by d.state line && has_its_amount (entry.Deposit d) line)
+    || (is_deposit_returned_by d.state line && has_amount_back d line)
+is_line_again (Some (entry.Payment p)) line =
+    is_payment_cleared_by p.state line && has_its_amount (entry.Payment p) line
 is_line_again (Some (entry.Fee f)) line = false
 is_line_again (Some (entry.Claim c)) line = false
 
@@ -89,6 +91,7 @@ cleared_payment line s = s
 -- a held deposit is cleared, and a cleared one goes back on the business day
 abbrev pub deposit_by : Line → ℕ → DepositState → DepositState
 deposit_by line today deposit.Held = deposit.Cleared (clearing_by line)
-deposit_by line today (deposit.Cleared c) = deposit.Returned (record { clearing = c; returning = clearing_by line; undone = today })
+deposit_by line today (deposit.Cleared c) =
+    deposit.Returned (record { clearing = c; returning = clearing_by line; undone = today })
 deposit_by line today (deposit.Cancelled day) = deposit.Cancelled day
 deposit_by line today (deposit.Returned r) = deposit.Returned r

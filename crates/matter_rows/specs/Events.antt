@@ -1,5 +1,5 @@
 -- What an entry moves in the journal, and when.
-use Rattle.std.specs.Prelude.{ℕ, List, [], ◌∷◌, ℤ, pos, ◌-ℤ◌, Option, Some, None, ◌≡◌, ◌+◌, ◌≤◌, ◌++◌, length, slice_get}
+use Rattle.std.specs.Prelude.{ℕ, List, [], ◌∷◌, ℤ, pos, ◌-ℤ◌, Option, Some, None, length, slice_get}
 use Rattle.std.specs.Option.{option_map}
 use Rattle.matter_rows.specs.declared.deposit.DepositState.{DepositState}
 use Rattle.matter_rows.specs.declared.deposit.DepositState.TheVariants as deposit

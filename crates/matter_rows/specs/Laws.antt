@@ -1,5 +1,5 @@
 -- Laws over the balances.
-use Rattle.std.specs.Prelude.{◌≡◌, ◌≤◌, ◌<◌, ◌⊎◌, List, [], ◌∷◌, ◌++◌, pos, ◌+ℤ◌, ◌≤ℤ◌}
+use Rattle.std.specs.Prelude.{◌≡◌, List, pos, ◌+ℤ◌, ◌≤ℤ◌}
 use Rattle.matter_rows.specs.declared.entry.Entry.{Entry}
 use Rattle.matter_rows.specs.Balances.{held, available, disputed, fees, claims, total}
 use Rattle.matter_rows.specs.Sound.{AreBacked}

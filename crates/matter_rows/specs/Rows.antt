@@ -1,5 +1,5 @@
 -- The rows of a matter: its head, its seats by person, and its entries in the order of their numbers.
-use Rattle.std.specs.Prelude.{ℕ, Bool, true, false, not, cond, List, [], ◌∷◌, ◌++◌, ◌+◌, ◌-◌, ◌==◌, nat_lt, Option, Some, None, find, if◌then◌else◌, ◌≡◌, ◌≤◌, ◌&&◌, ◌||◌}
+use Rattle.std.specs.Prelude.{ℕ, Bool, true, false, not, cond, List, [], ◌∷◌, ◌++◌, ◌+◌, ◌-◌, ◌==◌, nat_lt, Option, Some, None, find, if◌then◌else◌, ◌&&◌}
 use Rattle.std.specs.List.{filter, list_any}
 use Rattle.std.specs.Option.{option_map}
 use Rattle.std.specs.Str.{bytes_eq}
@@ -22,6 +22,7 @@ use Rattle.matter_rows.specs.declared.payment.Fund.{Fund}
 use Rattle.matter_rows.specs.declared.payment.Fund.TheVariants as fund
 use Rattle.matter_rows.specs.declared.claim.Against.{Against}
 use Rattle.matter_rows.specs.declared.claim.Against.TheVariants as against
+use Rattle.trust_values.specs.declared.limits.TheConstants.{MAX_ENTRY}
 
 -- a client's ledger: entry n is the n-th of the list, so that the numbers are 1, 2 and so on
 pub record Rows : Type 0 where
@@ -69,7 +70,7 @@ with_entry (e ∷ es) n e' = cond (n == 1) (e' ∷ es) (e ∷ with_entry es (n -
 
 -- the number that the next entry takes, where there are `count`; none after 9999
 abbrev pub next_number : ℕ → Option ℕ
-next_number count = if nat_lt count 9_999 then Some (count + 1) else None
+next_number count = if nat_lt count MAX_ENTRY then Some (count + 1) else None
 
 -- the amount of an entry, in cents
 abbrev pub entry_amount : Entry → ℕ
@@ -106,7 +107,8 @@ comes_before a b = is_lt (slice_cmp nat_cmp a b)
 
 -- the seats with one more, in its place by person
 abbrev pub seats_with : List Seat → Seat → List Seat
-seats_with seats new = filter (λ s. comes_before s.person new.person) seats ++ new ∷ filter (λ s. comes_before new.person s.person) seats
+seats_with seats new =
+    filter (λ s. comes_before s.person new.person) seats ++ new ∷ filter (λ s. comes_before new.person s.person) seats
 
 -- the seats without that of a person
 abbrev pub seats_without : List Seat → List ℕ → List Seat

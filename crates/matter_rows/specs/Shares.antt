@@ -1,5 +1,5 @@
 -- What each entry adds to each balance.
-use Rattle.std.specs.Prelude.{ℕ, Bool, true, false, ℤ, pos, ◌+ℤ◌, ◌-ℤ◌, ◌==◌, cond, ◌≤ℤ◌, Option, Some, None, ◌≡◌, ◌+◌, ◌≤◌, ◌&&◌, ◌||◌, [], ◌∷◌}
+use Rattle.std.specs.Prelude.{ℕ, Bool, true, false, ℤ, pos, ◌+ℤ◌, ◌-ℤ◌, ◌==◌, cond, ◌≤ℤ◌, Option, Some, None}
 use Rattle.matter_rows.specs.declared.payment.Fund.{Fund}
 use Rattle.matter_rows.specs.declared.payment.Fund.TheVariants as fund
 use Rattle.matter_rows.specs.declared.deposit.DepositState.{DepositState}
@@ -44,19 +44,21 @@ to_claimant claim.Open a = pos a
 to_claimant (claim.Offered part) a = pos a
 to_claimant (claim.Settled s) a = pos a -ℤ pos s.part
 
+-- a deposit is held until the bank tells of it or it is cancelled
 abbrev pub held_deposit : DepositState → ℕ → ℤ
 held_deposit deposit.Held a = pos a
 held_deposit (deposit.Cleared c) a = pos 0
 held_deposit (deposit.Cancelled day) a = pos 0
 held_deposit (deposit.Returned r) a = pos 0
 
+-- a deposit is in the account from its clearing until it is returned
 abbrev pub cleared_deposit : DepositState → ℕ → ℤ
 cleared_deposit deposit.Held a = pos 0
 cleared_deposit (deposit.Cleared c) a = pos a
 cleared_deposit (deposit.Cancelled day) a = pos 0
 cleared_deposit (deposit.Returned r) a = pos 0
 
--- the parts of a payment by fund
+-- what a payment takes from what is available, from fees, and from claims
 abbrev pub from_general : Fund → ℤ → ℤ
 from_general fund.General z = z
 from_general (fund.Fee k) z = pos 0
@@ -72,7 +74,7 @@ from_claim fund.General z = pos 0
 from_claim (fund.Fee k) z = pos 0
 from_claim (fund.Claim k) z = z
 
--- the parts of a claim by what it is on
+-- what a claim comes to on a fee, and what it comes to on the general fund
 abbrev pub on_fee : Against → ℤ → ℤ
 on_fee (against.General c) z = pos 0
 on_fee (against.Fee k) z = z
@@ -88,18 +90,23 @@ held_share (entry.Payment p) = pos 0
 held_share (entry.Fee f) = pos 0
 held_share (entry.Claim c) = pos 0
 
+-- what an entry adds to the total: what was cleared, less what was paid
 unfoldable pub total_share : Entry → ℤ
 total_share (entry.Deposit d) = cleared_deposit d.state d.amount
 total_share (entry.Payment p) = pos 0 -ℤ paid p.state p.amount
 total_share (entry.Fee f) = pos 0
 total_share (entry.Claim c) = pos 0
 
+-- what an entry adds to what is available: what was cleared, less payments from it, fees and claims on it; of a settled
+-- claim on a fee the client's part comes back
 unfoldable pub available_share : Entry → ℤ
 available_share (entry.Deposit d) = cleared_deposit d.state d.amount
 available_share (entry.Payment p) = pos 0 -ℤ from_general p.fund (paid p.state p.amount)
 available_share (entry.Fee f) = pos 0 -ℤ pos f.amount
-available_share (entry.Claim c) = on_fee c.against (to_client c.state) -ℤ on_general c.against (to_claimant c.state c.amount)
+available_share (entry.Claim c) =
+    on_fee c.against (to_client c.state) -ℤ on_general c.against (to_claimant c.state c.amount)
 
+-- what an entry adds to what is disputed: an open claim on a fee its amount
 unfoldable pub disputed_share : Entry → ℤ
 disputed_share (entry.Deposit d) = pos 0
 disputed_share (entry.Payment p) = pos 0
@@ -129,14 +136,15 @@ target (entry.Payment p) = fund_no p.fund
 target (entry.Fee f) = 0
 target (entry.Claim c) = against_no c.against
 
--- what it draws: payments, open claims, and the client's part of settled ones
+-- what an entry draws on the fee or claim that it names: a payment its amount, a claim all while it is open, and then
+-- the client's part
 unfoldable pub draw : Entry → ℤ
 draw (entry.Deposit d) = pos 0
 draw (entry.Payment p) = paid p.state p.amount
 draw (entry.Fee f) = pos 0
 draw (entry.Claim c) = on_fee c.against (off_fee c.state c.amount)
 
--- what it draws on entry k
+-- what an entry draws on entry k
 abbrev pub draw_on : ℕ → Entry → ℤ
 draw_on k e = cond (target e == k) (draw e) (pos 0)
 
@@ -174,12 +182,19 @@ pending_share (entry.Claim c) = pos 0
 
 -- what an entry adds to each total and count
 abbrev pub shares_of : Entry → Shares
-shares_of e = record { held = held_share e; available = available_share e; disputed = disputed_share e; fees = fee_share e; claims = claim_share e; pending = pending_share e }
+shares_of e = record {
+  held = held_share e;
+  available = available_share e;
+  disputed = disputed_share e;
+  fees = fee_share e;
+  claims = claim_share e;
+  pending = pending_share e;
+}
 
 abbrev pub no_shares : Shares
 no_shares = record { held = pos 0; available = pos 0; disputed = pos 0; fees = pos 0; claims = pos 0; pending = pos 0 }
 
--- no share is more than twice the largest amount
+-- what an entry adds to a balance is at most twice the greatest amount, up or down
 pub record IsSmallShare (z : ℤ) : Type 0 where
   pub low : pos 0 ≤ℤ (z +ℤ pos 199_999_999_998)
   pub high : z ≤ℤ pos 199_999_999_998
@@ -202,11 +217,7 @@ abbrev pub target_in : Option Entry → ℕ
 target_in None = 0
 target_in (Some e) = target e
 
--- no total of a matter is more than 9,999 entries of the largest amount, in cents
-abbrev pub most : ℕ
-most = 999_899_999_990_001
-
--- a sum of at most 9,999 shares
+-- what all entries of a matter add to a balance, up or down
 pub record IsSmallSum (z : ℤ) : Type 0 where
   pub low : pos 0 ≤ℤ (z +ℤ pos 1_999_800_000_000_000)
   pub high : z ≤ℤ pos 1_999_800_000_000_000

@@ -18,6 +18,7 @@ use Rattle.matter_rows.specs.declared.entry.Entry.{Entry}
 use Rattle.matter_rows.specs.declared.entry.Entry.TheVariants as entry
 use Rattle.matter_rows.specs.Rows.{Rows, entry_at, entry_amount, book_day, comes_before}
 use Rattle.matter_rows.specs.Balances.{left_of, available, ledger, pending, names}
+use Rattle.trust_values.specs.declared.limits.TheConstants.{MAX_ENTRY}
 
 -- The entries.
 
@@ -27,6 +28,7 @@ part_of claim.Open = 0
 part_of (claim.Offered part) = part
 part_of (claim.Settled s) = s.part
 
+-- the client's part of a claim is within its amount
 abbrev pub HasPart : Entry → Type 0
 HasPart (entry.Deposit d) = Unit {0}
 HasPart (entry.Payment p) = Unit {0}
@@ -40,7 +42,7 @@ pub record IsRanged (e : Entry) : Type 0 where
 
 -- no balance is below zero, and what an entry names is there and of the kind that it wants
 pub record AreBacked (es : List Entry) : Type 0 where
-  pub few : length es ≤ 9_999
+  pub few : length es ≤ MAX_ENTRY
   pub ranged : AllByRecursion IsRanged es
   pub named : AllByRecursion (λ e. names es e ≡ true) es
   pub available : pos 0 ≤ℤ available es
@@ -144,11 +146,12 @@ pub record IsAtRest (h : Head) (day : ℕ) (es : List Entry) : Type 0 where
   pub opened : h.opened ≤ day
   pub last : day ≤ h.last
 
+-- a closed matter is at rest
 abbrev pub IsAtRestIfClosed : Head → Option ℕ → List Entry → Type 0
 IsAtRestIfClosed h None es = Unit {0}
 IsAtRestIfClosed h (Some day) es = IsAtRest h day es
 
--- a matter never opened has no seat and no entry
+-- a matter never opened has no seat and no entry; the days of an opened one are in order, and a closed one is at rest
 abbrev pub IsHeaded : Option Head → List Seat → List Entry → Type 0
 IsHeaded None seats es = (seats ≡ []) × (es ≡ [])
 IsHeaded (Some h) seats es = AreDated h es × IsAtRestIfClosed h h.closed es
@@ -158,6 +161,7 @@ abbrev pub IsBare : Holder → Option ℕ → ℕ → List Seat → List Entry �
 IsBare (holder.Client c) closed last seats es = Unit {0}
 IsBare (holder.Purged day) closed last seats es = IsSome closed × ((last ≡ day) × ((seats ≡ []) × (es ≡ [])))
 
+-- of a purged matter only the head is left
 abbrev pub IsBareIfPurged : Option Head → List Seat → List Entry → Type 0
 IsBareIfPurged None seats es = Unit {0}
 IsBareIfPurged (Some h) seats es = IsBare h.holder h.closed h.last seats es
@@ -192,6 +196,8 @@ IsFundedInTime es (entry.Payment p) = funded_from es p.fund ≤ p.book
 IsFundedInTime es (entry.Fee f) = Unit {0}
 IsFundedInTime es (entry.Claim c) = Unit {0}
 
+-- no balance is below zero, each person has one seat, the days are in order, a closed matter is at rest, of a purged
+-- one the head alone is left, and no claim is paid from before it was settled
 pub record Sound (rows : Rows) : Type 0 where
   pub backed : AreBacked rows.entries
   pub seated : AreInOrder rows.seats

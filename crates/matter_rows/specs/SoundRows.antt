@@ -1,5 +1,6 @@
--- What is tested of whole rows: each entry by itself and with those that it names, the head, and what is left.
-use Rattle.std.specs.Prelude.{◌≡◌, ℕ, ◌+◌, ◌≤◌, true, List, [], map, Option, Some, None}
+-- Sound rows, entry by entry: what holds of each by itself and with those that it names, of the head, and of what is
+-- left.
+use Rattle.std.specs.Prelude.{◌≡◌, ℕ, ◌≤◌, true, List, [], map, Option, Some, None}
 use Rattle.std.specs.List.{AllByRecursion}
 use Rattle.matter_rows.specs.declared.head.Head.{Head}
 use Rattle.matter_rows.specs.declared.seat.Seat.{Seat}
@@ -12,7 +13,8 @@ abbrev pub IsByIfClosed : Option ℕ → Entry → Type 0
 IsByIfClosed None e = Unit {0}
 IsByIfClosed (Some day) e = IsBy day e
 
--- an entry of a matter with this head, among its entries
+-- an entry's amount is one, what it names is there, its days are in order and within the matter's, and a claim that is
+-- paid from was settled by the day of the payment
 pub record IsSoundEntry (h : Head) (es : List Entry) (e : Entry) : Type 0 where
   pub ranged : IsRanged e
   pub named : names es e ≡ true

@@ -6,6 +6,7 @@ ghost use Rattle.matter_rows.specs.Shares.{shares_of, no_shares, worth, AreSmall
 ghost use Rattle.matter_rows.specs.Rows.{is_same_against};
 ghost use Rattle.matter_rows.specs.Balances.{is_against};
 ghost use Rattle.matter_rows.specs.Sound.{part_of, claim_days, AreRising, day_settled};
+ghost use Rattle.trust_values.specs.declared.limits.TheConstants.{MAX_AMOUNT};
 
 use crate::entry::Entry;
 use crate::fee::Fee;
@@ -160,7 +161,7 @@ impl Claim {
     fn apart(&self) -> i64
         ensures is { result ≡ apart self.now.state self.now.amount }
         ensures low { pos 0 ≤ℤ result }
-        ensures high { result ≤ℤ pos 99_999_999_999 }
+        ensures high { result ≤ℤ pos MAX_AMOUNT }
     {
         let amount = self.amount.get() as i64;
         match self.state {
@@ -172,7 +173,7 @@ impl Claim {
     fn to_client(&self) -> i64
         ensures is { result ≡ to_client self.now.state }
         ensures low { pos 0 ≤ℤ result }
-        ensures high { result ≤ℤ pos 99_999_999_999 }
+        ensures high { result ≤ℤ pos MAX_AMOUNT }
     {
         match self.state {
             ClaimState::Settled(s) => s.part.get() as i64,

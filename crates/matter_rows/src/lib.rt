@@ -1,4 +1,5 @@
-//! The rows of a matter: its head, its seats and its entries, what each entry adds to each balance and moves in the journal.
+//! The rows of a matter: its head, its seats and its entries, what each entry adds to each balance and moves in the
+//! journal.
 #![tactic(auto)]
 
 mod claim;
@@ -8,6 +9,7 @@ mod entry;
 mod fee;
 mod head;
 pub mod laws;
+mod limits;
 mod movement;
 mod payment;
 mod seat;
@@ -21,6 +23,7 @@ pub use deposit::{Deposit, DepositState, ReturnedDeposit};
 pub use entry::Entry;
 pub use fee::Fee;
 pub use head::{Head, Holder, clear_on, close_on, head_copied, see_on};
+pub use limits::MAX_TOTAL;
 pub use movement::{EntryMovement, movement_beyond};
 pub use payment::{ClearedPayment, Fund, Payment, PaymentState, VoidedPayment};
 pub use seat::{Role, Seat, add_seat, drop_seat, has_other_lawyer, role_of, seats_copied};

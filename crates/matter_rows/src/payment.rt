@@ -8,6 +8,7 @@ ghost use Rattle.matter_rows.specs.Rows.{is_same_fund, entry_at};
 ghost use Rattle.matter_rows.specs.Clearings.{clearing_by, is_payment_cleared_by, cleared_payment};
 ghost use Rattle.matter_rows.specs.Balances.{funds};
 ghost use Rattle.matter_rows.specs.Sound.{payment_days, payment_bank, AreRising, funded_from};
+ghost use Rattle.trust_values.specs.declared.limits.TheConstants.{MAX_AMOUNT};
 
 use crate::claim::Claim;
 use crate::clearing::{Clearing, clearing_by};
@@ -228,7 +229,7 @@ impl Payment {
     pub(crate) fn paid(&self) -> i64
         ensures is { result ≡ paid self.now.state self.now.amount }
         ensures low { pos 0 ≤ℤ result }
-        ensures high { result ≤ℤ pos 99_999_999_999 }
+        ensures high { result ≤ℤ pos MAX_AMOUNT }
     {
         let amount = self.amount.get() as i64;
         match &self.state {

@@ -1,7 +1,10 @@
 //! What each entry adds to each balance.
 
 ghost use Rattle.std.specs.Prelude.{◌≡◌, ℕ, ◌+◌, ◌-◌, ◌<◌, ◌≤◌, ◌≤ℤ◌, ◌-ℤ◌, ◌+ℤ◌, pos, IfSome, IfNone};
-ghost use Rattle.matter_rows.specs.Shares.{no_shares, AreSmallShares, IsSmallShare, most};
+ghost use Rattle.matter_rows.specs.Shares.{no_shares, AreSmallShares, IsSmallShare};
+ghost use Rattle.matter_rows.specs.declared.limits.TheConstants.{MAX_TOTAL};
+
+use crate::as_total;
 
 /// What an entry adds to each total, in cents, and `pending`, 1 for a payment proposed or issued.
 #[derive(Clone, Copy)]
@@ -29,21 +32,14 @@ pub fn no_shares() -> Shares
     }
 }
 
-/// The total with one share exchanged for another, in cents; none where that is below zero or above
-/// 999,899,999,990,001 (9,999 entries of the greatest amount).
+/// The total with one share exchanged for another, in cents; none where that is below zero or above the
+/// greatest one.
 pub fn moved(total: u64, out: i64, share: i64) -> Option<u64>
-    requires total { total ≤ most }
+    requires total { total ≤ MAX_TOTAL }
     requires out { IsSmallShare out }
     requires share { IsSmallShare share }
-    ensures some { IfSome result (λ t. (t ≤ most) × (pos t ≡ (pos total -ℤ out) +ℤ share)) }
-    ensures none { IfNone result ((t : ℕ) → t ≤ most → pos t ≡ (pos total -ℤ out) +ℤ share → ⊥) }
+    ensures some { IfSome result (λ t. (t ≤ MAX_TOTAL) × (pos t ≡ (pos total -ℤ out) +ℤ share)) }
+    ensures none { IfNone result ((t : ℕ) → t ≤ MAX_TOTAL → pos t ≡ (pos total -ℤ out) +ℤ share → ⊥) }
 {
-    let sum = total as i64 - out + share;
-    if sum < 0 {
-        None
-    } else if 999_899_999_990_001 < sum {
-        None
-    } else {
-        Some(sum as u64)
-    }
+    as_total(total as i64 - out + share)
 }

@@ -1,16 +1,18 @@
 //! The shares of many entries, added up.
 
 ghost use Rattle.std.specs.Prelude.{◌≡◌, ◌≢◌, ℕ, ◌+◌, ◌<◌, ◌≤◌, ◌↔◌, pos, length, IfSome, IfNone};
-ghost use Rattle.matter_rows.specs.Shares.{draw_on, held_share, available_share, disputed_share, fee_share, claim_share, pending_share, most, IsSmallSum, AreSmallSums};
+ghost use Rattle.matter_rows.specs.Shares.{draw_on, held_share, available_share, disputed_share, fee_share, claim_share, pending_share, IsSmallSum, AreSmallSums};
 ghost use Rattle.matter_rows.specs.Balances.{available, total_of};
+ghost use Rattle.trust_values.specs.declared.limits.TheConstants.{MAX_ENTRY};
 
+use crate::MAX_TOTAL;
 use crate::entry::Entry;
 use crate::shares::{Shares, no_shares};
 use trust_base::EntryNo;
 
 /// The shares of all entries, added up.
 pub fn sums_of(entries: &[Entry]) -> Shares
-    requires { length entries.now ≤ 9_999 }
+    requires { length entries.now ≤ MAX_ENTRY }
     ensures held { result.held ≡ total_of held_share entries.now }
     ensures available { result.available ≡ total_of available_share entries.now }
     ensures disputed { result.disputed ≡ total_of disputed_share entries.now }
@@ -34,10 +36,10 @@ pub fn sums_of(entries: &[Entry]) -> Shares
 
 /// A sum as a total, where it is one.
 pub fn as_total(sum: i64) -> Option<u64>
-    ensures some { IfSome result (λ t. (t ≤ most) × (pos t ≡ sum)) }
-    ensures none { IfNone result ((t : ℕ) → t ≤ most → pos t ≢ sum) }
+    ensures some { IfSome result (λ t. (t ≤ MAX_TOTAL) × (pos t ≡ sum)) }
+    ensures none { IfNone result ((t : ℕ) → t ≤ MAX_TOTAL → pos t ≢ sum) }
 {
-    if sum < 0 || 999_899_999_990_001 < sum {
+    if sum < 0 || sum > MAX_TOTAL as i64 {
         None
     } else {
         Some(sum as u64)
@@ -46,7 +48,7 @@ pub fn as_total(sum: i64) -> Option<u64>
 
 /// What all entries draw on the one of a number.
 pub fn drawn_on(entries: &[Entry], number: EntryNo) -> i64
-    requires { length entries.now ≤ 9_999 }
+    requires { length entries.now ≤ MAX_ENTRY }
     ensures is { result ≡ total_of (draw_on number) entries.now }
     ensures small { IsSmallSum result }
 {

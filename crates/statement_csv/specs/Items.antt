@@ -19,7 +19,8 @@ abbrev pub item_by : ℕ → Line → LineOwner → Item
 item_by number line owner.Opening = item.Opening line
 item_by number line owner.Closing = item.Closing line
 item_by number line owner.Firm = with_bank_ref number line (item.OfFirm line)
-item_by number line (owner.Entry named) = with_bank_ref number line (item.OfMatter (record { matter = named.matter; entry = named.entry; line = line }))
+item_by number line (owner.Entry named) =
+    with_bank_ref number line (item.OfMatter (record { matter = named.matter; entry = named.entry; line = line }))
 item_by number line owner.Nobody = with_bank_ref number line (item.Stray line)
 
 -- the item of a line, which stands in the record with this number

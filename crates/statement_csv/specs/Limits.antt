@@ -38,7 +38,8 @@ source_in now rest = record { left = prepend_known (beyond now) rest; course = n
 
 -- what is left is what comes after so many bytes of the statement, where its bytes are told
 abbrev pub IsAfter : Option (List ℕ) → Option (List ℕ) → ℕ → Type 0
-IsAfter whole left given = (bytes : List ℕ) → whole ≡ Some bytes → (left ≡ Some (drop given bytes)) × (given ≤ length bytes)
+IsAfter whole left given =
+    (bytes : List ℕ) → whole ≡ Some bytes → (left ≡ Some (drop given bytes)) × (given ≤ length bytes)
 
 -- what each course of the reading tells
 abbrev pub Tells : Option (List ℕ) → Option (List ℕ) → Course → Type 0
@@ -55,7 +56,8 @@ pub record IsReading (whole rest : Option (List ℕ)) (given : ℕ) (now : Cours
 
 -- what was given is a front of the statement, of no more bytes than it may have, where its bytes are told
 abbrev pub IsHeldBack : Option (List ℕ) → Option (List ℕ) → Type 0
-IsHeldBack whole left = (bytes : List ℕ) → whole ≡ Some bytes → (given : ℕ) × (given ≤ MAX_FILE_BYTES) × (left ≡ Some (drop given bytes))
+IsHeldBack whole left =
+    (bytes : List ℕ) → whole ≡ Some bytes → (given : ℕ) × (given ≤ MAX_FILE_BYTES) × (left ≡ Some (drop given bytes))
 
 -- what a reading that cannot go on is told as
 abbrev pub cause_of : Course → ReadFault

@@ -6,12 +6,15 @@ use Rattle.trust_base.specs.declared.line.Line.{Line}
 
 -- the line of five values
 abbrev pub line_with : ℕ → ℤ → List ℕ → List ℕ → List ℕ → Line
-line_with date amount reference bank_ref text = record { date = date; reference = reference; bank_ref = bank_ref; amount = amount; text = text }
+line_with date amount reference bank_ref text =
+    record { date = date; reference = reference; bank_ref = bank_ref; amount = amount; text = text }
 
--- the line of the texts of its fields: a day, two references of at most 64 printed bytes, an amount of a bank and at most 1,000 bytes of UTF-8
+-- the line of the texts of its fields: a day, two references of at most 64 printed bytes, an amount of a bank and at most
+-- 1,000 bytes of UTF-8
 unfoldable pub line_of_texts : List ℕ → List ℕ → List ℕ → List ℕ → List ℕ → Option Line
 line_of_texts date reference bank_ref amount text =
-    option_and_then (λ d. option_and_then (λ a. option_and_then (λ r. option_and_then (λ b. option_and_then (λ t. Some (line_with d a r b t))
+    option_and_then (λ d. option_and_then (λ a. option_and_then (λ r. option_and_then (λ b. option_and_then (λ t.
+    Some (line_with d a r b t))
     (line_text_of text)) (bank_text_of bank_ref)) (bank_text_of reference)) (bank_amount_of amount)) (day_of date)
 
 -- the line of a record: of five fields, each a text of its kind

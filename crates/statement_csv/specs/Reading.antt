@@ -21,7 +21,8 @@ pub record Reading : Type 0 where
   pub fault : Option ReadFault
   -- whether its end was reached
   pub is_ended : Bool
-  -- where its reader tells the bytes: the items that are still to come, or none where its header is not that of a statement
+  -- where its reader tells the bytes: the items that are still to come, or none where its header is not that of a
+  -- statement
   pub left : Option (Option (List Item))
 
 -- the CSV reader of a statement, as contracts see it
@@ -36,7 +37,8 @@ unread rdr = source_of left_of rdr
 abbrev pub records_left : Records → Option (List (List (List ℕ)))
 records_left rdr = option_map (rest_records (reader_state rdr)) (unread rdr)
 
--- the items of the records that are left, by whether the header is still among them and by the number of the first item's record
+-- the items of the records that are left, by whether the header is still among them and by the number of the first
+-- item's record
 abbrev pub items_left : Bool → ℕ → List (List (List ℕ)) → Option (List Item)
 items_left true number rest = items_after_header number rest
 items_left false number rest = Some (items_from number rest)
@@ -71,7 +73,8 @@ cause_at rdr = cause_of (reader_source rdr).course
 
 -- a reading as its stage and its records tell it
 abbrev pub reading_of : Stage → ℕ → Records → Reading
-reading_of now number rdr = record { fault = fault_in now; is_ended = ended_in now; left = left_in now number (records_left rdr) }
+reading_of now number rdr =
+    record { fault = fault_in now; is_ended = ended_in now; left = left_in now number (records_left rdr) }
 
 -- a reader that reads on with the settings of a statement
 pub record IsLive (rdr : Records) : Type 0 where
@@ -79,19 +82,23 @@ pub record IsLive (rdr : Records) : Type 0 where
   pub config : reader_config rdr ≡ default_config
   pub ready : Ready rdr
 
--- these are the first records of the statement, and they were read of no more bytes than it may have, where its bytes are told
+-- these are the first records of the statement, and they were read of no more bytes than it may have, where its bytes are
+-- told
 abbrev pub HasRead : Option (List ℕ) → List (List (List ℕ)) → Records → Type 0
 HasRead whole rows rdr = (bytes : List ℕ) → whole ≡ Some bytes
     → (rest : List ℕ) × (unread rdr ≡ Some rest) × (length bytes ≤ MAX_FILE_BYTES + length rest)
     × Reached default_config st.StartRecord (strip_bom bytes) rows (reader_state rdr) rest
 
--- where the reading stands: before the header, or behind it and the records of the items before the one with this number
+-- where the reading stands: before the header, or behind it and the records of the items before the one with this
+-- number
 abbrev pub Stands : Option (List ℕ) → Bool → ℕ → Records → Type 0
 Stands whole true number rdr = (number ≡ 1) × HasRead whole [] rdr
-Stands whole false number rdr = (header : List (List ℕ)) × (rows : List (List (List ℕ))) × (is_header header ≡ true) × (number ≡ 1 + length rows)
+Stands whole false number rdr =
+    (header : List (List ℕ)) × (rows : List (List (List ℕ))) × (is_header header ≡ true) × (number ≡ 1 + length rows)
     × HasRead whole (header ∷ rows) rdr
 
--- what was given are the items of a front of the statement, of at most 4,194,304 bytes, and what is left are the items behind them
+-- what was given are the items of a front of the statement, of at most 4,194,304 bytes, and what is left are the items
+-- behind them
 pub record IsGivenWithin (bytes : List ℕ) (left : List Item) : Type 0 where
   pub given : List Item
   pub size : ℕ
@@ -101,7 +108,8 @@ pub record IsGivenWithin (bytes : List ℕ) (left : List Item) : Type 0 where
 
 -- the same of what is left of a statement, where its bytes are told
 abbrev pub GivesWithin : Option (List ℕ) → Option (Option (List Item)) → Type 0
-GivesWithin whole left = (bytes : List ℕ) → whole ≡ Some bytes → (rest : List Item) × (left ≡ Some (Some rest)) × IsGivenWithin bytes rest
+GivesWithin whole left =
+    (bytes : List ℕ) → whole ≡ Some bytes → (rest : List Item) × (left ≡ Some (Some rest)) × IsGivenWithin bytes rest
 
 -- what is known of the whole statement after a fault
 abbrev pub ToldBy : Option (List ℕ) → ReadFault → Type 0

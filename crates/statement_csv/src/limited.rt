@@ -59,7 +59,8 @@ impl<R: Read, K: Whole> Model for Limited<R, K> {
 
 // The next byte of a reader, where it has not ended.
 fn next_byte<R: Read>(inner: &mut R) -> io::Result<Option<u8>>
-    ensures byte { IfOk result (λ next. Consumes (R.remaining inner.old) (R.remaining inner.new) (option_to_list next)) }
+    ensures byte { IfOk result
+        (λ next. Consumes (R.remaining inner.old) (R.remaining inner.new) (option_to_list next)) }
     ensures end { IfOk result (λ next. next ≡ None → IsAtEnd (R.remaining inner.new)) }
     ensures err { OnErr result (Keeps (R.remaining inner.old) (R.remaining inner.new)) }
 {

@@ -72,9 +72,11 @@ fn read_row<R: Read, K: Whole>(
 ) -> Result<bool, ReadFault>
     requires { IsLive records.old }
     ensures live { IfOk result (λ found. IsTrue found → IsLive records.new) }
-    ensures gives { IfOk result (λ found. GivesRecord (records_left records.old) (records_left records.new) found (fields_of row.new)) }
+    ensures gives { IfOk result
+        (λ found. GivesRecord (records_left records.old) (records_left records.new) found (fields_of row.new)) }
     ensures end { (result ≡ Ok false) → IsWithin K.bytes }
-    ensures read { IfOk result (λ found. IsTrue found → (rows : List (List (List ℕ))) → HasRead K.bytes rows records.old → HasRead K.bytes (rows ++ fields_of row.new ∷ []) records.new) }
+    ensures read { IfOk result (λ found. IsTrue found → (rows : List (List (List ℕ)))
+        → HasRead K.bytes rows records.old → HasRead K.bytes (rows ++ fields_of row.new ∷ []) records.new) }
     ensures told { IfErr result (λ fault. ToldBy K.bytes fault) }
     ensures cause { IfErr result (λ fault. fault ≡ cause_at records.new) }
 {
@@ -96,7 +98,8 @@ fn pass_header<R: Read, K: Whole>(
     requires { IsLive records.old }
     ensures live { OnOk result (IsLive records.new) }
     ensures left { OnOk result (PassesHeader (records_left records.old) (records_left records.new)) }
-    ensures stands { OnOk result ((number : ℕ) → Stands K.bytes true number records.old → Stands K.bytes false number records.new) }
+    ensures stands { OnOk result
+        ((number : ℕ) → Stands K.bytes true number records.old → Stands K.bytes false number records.new) }
     ensures told { IfErr result (λ fault. ToldBy K.bytes fault) }
     ensures cause { IfErr result (λ fault. fault ≢ BadHeader → fault ≡ cause_at records.new) }
     ensures header { (result ≡ Err BadHeader) → HasNoHeader (records_left records.old) }
@@ -120,12 +123,14 @@ fn read_next<R: Read, K: Whole>(
     requires stands { Stands K.bytes awaits_header number records.old }
     ensures live { IfOk result (λ found. IsSome found → IsLive records.new) }
     ensures stands { IfOk result (λ found. IsSome found → Stands K.bytes false (number + 1) records.new) }
-    ensures gives { IfOk result (λ found. Gives (option_map (items_left awaits_header number) (records_left records.old))
+    ensures gives { IfOk result
+        (λ found. Gives (option_map (items_left awaits_header number) (records_left records.old))
         (option_map (items_left false (number + 1)) (records_left records.new)) found) }
     ensures end { (result ≡ Ok None) → IsWithin K.bytes }
     ensures told { IfErr result (λ fault. ToldBy K.bytes fault) }
     ensures cause { IfErr result (λ fault. fault ≢ BadHeader → fault ≡ cause_at records.new) }
-    ensures header { (result ≡ Err BadHeader) → LacksHeader (option_map (items_left awaits_header number) (records_left records.old)) }
+    ensures header { (result ≡ Err BadHeader)
+        → LacksHeader (option_map (items_left awaits_header number) (records_left records.old)) }
 {
     if awaits_header {
         pass_header(records, row)?;

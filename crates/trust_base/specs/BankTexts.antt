@@ -3,18 +3,11 @@ use Rattle.std.specs.Prelude.{ℕ, Bool, ◌&&◌, nat_le, List, length, Option,
 use Rattle.std.specs.List.{list_all}
 use Rattle.std.specs.Str.{is_utf8}
 use Rattle.trust_base.specs.Names.{text_if}
+use Rattle.trust_base.specs.declared.limits.TheConstants.{MAX_BANK_TEXT, MAX_LINE_TEXT}
 
 -- a printed ASCII character or a space
 abbrev pub is_printed_byte : ℕ → Bool
 is_printed_byte b = nat_le 0x20 b && nat_le b 0x7E
-
--- the greatest length of a reference, in bytes
-abbrev pub MAX_BANK_TEXT : ℕ
-MAX_BANK_TEXT = 64
-
--- the greatest length of a line's text, in bytes
-abbrev pub MAX_LINE_TEXT : ℕ
-MAX_LINE_TEXT = 1000
 
 -- at most 64 bytes, each a printed ASCII character or a space
 unfoldable pub is_bank_text : List ℕ → Bool

@@ -3,6 +3,7 @@ use Rattle.std.specs.Prelude.{ℕ, ◌-◌, Bool, not, ◌&&◌, ◌||◌, ◌==
 use Rattle.std.specs.List.{list_all, list_any, prefix_len, suffix_len}
 use Rattle.std.specs.Char.{is_control}
 use Rattle.std.specs.Str.{bytes_eq, chars, is_utf8, str_to_ascii_lowercase}
+use Rattle.trust_base.specs.declared.limits.TheConstants.{MAX_PERSON, MAX_LABEL}
 
 -- a small letter, a digit, a point or a dash
 abbrev pub is_person_byte : ℕ → Bool
@@ -12,21 +13,16 @@ is_person_byte b = (nat_le 97 b && nat_le b 122) || (nat_le 48 b && nat_le b 57)
 abbrev pub cashier_text : List ℕ
 cashier_text = codes "cashier"
 
--- the greatest length of a person's name, in bytes
-abbrev pub MAX_PERSON : ℕ
-MAX_PERSON = 32
-
--- the greatest length of a label, in bytes
-abbrev pub MAX_LABEL : ℕ
-MAX_LABEL = 80
-
 -- 1 to 32 small letters, digits, points and dashes, and not the cashier's word
 unfoldable pub is_person_text : List ℕ → Bool
-is_person_text bs = nat_le 1 (length bs) && nat_le (length bs) MAX_PERSON && list_all is_person_byte bs && not (bytes_eq bs cashier_text)
+is_person_text bs =
+    nat_le 1 (length bs) && nat_le (length bs) MAX_PERSON && list_all is_person_byte bs
+    && not (bytes_eq bs cashier_text)
 
 -- 1 to 80 bytes of UTF-8 without a control character (U+0000 to U+001F, U+007F to U+009F)
 unfoldable pub is_label_text : List ℕ → Bool
-is_label_text bs = nat_le 1 (length bs) && nat_le (length bs) MAX_LABEL && is_utf8 bs && not (list_any is_control (chars bs))
+is_label_text bs =
+    nat_le 1 (length bs) && nat_le (length bs) MAX_LABEL && is_utf8 bs && not (list_any is_control (chars bs))
 
 -- a text, where it is of a form
 abbrev pub text_if : Bool → List ℕ → Option (List ℕ)
@@ -54,7 +50,8 @@ without_trailing_spaces bs = take (length bs - suffix_len is_space bs) bs
 
 -- a label that names cash: the word, in any ASCII case, between any spaces
 unfoldable pub is_cash_label : List ℕ → Bool
-is_cash_label bs = bytes_eq (str_to_ascii_lowercase (without_trailing_spaces (without_leading_spaces bs))) (codes "cash")
+is_cash_label bs =
+    bytes_eq (str_to_ascii_lowercase (without_trailing_spaces (without_leading_spaces bs))) (codes "cash")
 
 -- the label by which the firm is paid
 abbrev pub is_firm_label : List ℕ → Bool

@@ -11,7 +11,8 @@ use Rattle.trust_base.specs.declared.refusal.Rule.TheVariants as rules
 use Rattle.trust_base.specs.declared.refusal.Refusal.{Refusal}
 use Rattle.trust_base.specs.declared.refusal.Refusal.TheVariants.{BadMessage, LengthRequired, TooLarge, NoRoute, BadMethod, NoCaller, BadField, NoMatter, Purged, NotAllowed, AlreadyOpen, Closed, DateBackwards, WrongNumber, NoEntry, WrongKind, WrongState, PayeeIsCash, WrongPayee, BadSplit, Short, SeatTaken, NoSeat, LastLawyer, NotEmpty, TooEarly, NoStatement, PeriodPurged, Store, Memory}
 
--- from 4 to 28 refusals are tried in the order of their numbers; 1 to 3 as the message is read; 29 and 30 may come at any point
+-- from 4 to 28 refusals are tried in the order of their numbers; 1 to 3 as the message is read; 29 and 30 may come at
+-- any point
 abbrev pub number_of : Refusal → ℕ
 number_of BadMessage = 1
 number_of LengthRequired = 2
@@ -192,4 +193,5 @@ number_member r = 44 ∷ member (codes "refusal") (decimal (number_of r))
 
 -- the compact JSON object of a refusal
 unfoldable pub refusal_text : Refusal → List ℕ
-refusal_text r = 123 ∷ (leading_member r ++ name_member r ++ middle_member r ++ number_member r ++ trailing_member r ++ 125 ∷ [])
+refusal_text r =
+    123 ∷ (leading_member r ++ name_member r ++ middle_member r ++ number_member r ++ trailing_member r ++ 125 ∷ [])

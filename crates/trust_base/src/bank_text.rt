@@ -5,6 +5,7 @@ ghost use Rattle.std.specs.List.{list_all};
 ghost use Rattle.std.specs.Str.{bytes_eq};
 ghost use Rattle.trust_base.specs.BankTexts.{IsBankText, bank_text_of, is_bank_text as bank_text_form, is_printed_byte};
 
+use crate::MAX_BANK_TEXT;
 use std::alloc::{AllocError, Global};
 use std::marker::Model;
 
@@ -36,13 +37,10 @@ fn is_printed(text: &[u8]) -> bool
 pub fn is_bank_text(text: &[u8]) -> bool
     ensures { result ≡ bank_text_form text.now }
 {
-    text.len() <= BankText::MAX_LEN && is_printed(text)
+    text.len() <= MAX_BANK_TEXT && is_printed(text)
 }
 
 impl BankText {
-    /// The greatest length, in bytes.
-    pub const MAX_LEN: usize = 64;
-
     /// The reference of a text, exactly where it is of the form; memory is asked for, and may be refused, only then.
     pub fn read(alloc: Global, text: &[u8]) -> Result<Option<BankText>, AllocError>
         ensures value { IfOk result (λ found. found ≡ bank_text_of text.now) }

@@ -6,6 +6,7 @@ ghost use Rattle.std.specs.List.{list_any, prefix_len, suffix_len};
 ghost use Rattle.std.specs.Str.{bytes_eq, chars};
 ghost use Rattle.trust_base.specs.Names.{IsLabel, is_cash_label, is_firm_label, is_label_text, is_space, label_of, without_leading_spaces, without_trailing_spaces};
 
+use crate::MAX_LABEL;
 use std::alloc::{AllocError, Global};
 use std::marker::Model;
 
@@ -37,7 +38,7 @@ fn has_control(text: &str) -> bool
 pub fn is_label(text: &[u8]) -> bool
     ensures { result ≡ is_label_text text.now }
 {
-    if text.is_empty() || text.len() > Label::MAX_LEN {
+    if text.is_empty() || text.len() > MAX_LABEL {
         return false;
     }
     let Ok(text) = str::from_utf8(text) else {
@@ -71,9 +72,6 @@ fn trimmed(text: &[u8]) -> &[u8]
 }
 
 impl Label {
-    /// The greatest length, in bytes.
-    pub const MAX_LEN: usize = 80;
-
     /// The label of a text, exactly where it is of the form; memory is asked for, and may be refused, only then.
     pub fn read(alloc: Global, text: &[u8]) -> Result<Option<Label>, AllocError>
         ensures value { IfOk result (λ found. found ≡ label_of text.now) }

@@ -11,14 +11,17 @@ mod refusal;
 mod refusal_text;
 
 pub use bank_text::{BankText, is_bank_text};
-pub use byte_streams::{InputFault, TrialReader, TrialWriter, WriteFault, read_whole, send};
+pub use byte_streams::{
+    InputFault, OwnedBytes, TrialReader, TrialWriter, WriteFault, read_whole, send,
+};
 pub use label::{Label, is_label};
-pub use limits::MAX_FILE_BYTES;
+pub use limits::{MAX_BANK_TEXT, MAX_FILE_BYTES, MAX_LABEL, MAX_LINE_TEXT, MAX_PERSON};
 pub use line::Line;
 pub use line_text::{LineText, is_line_text};
 pub use person_id::{PersonId, is_person};
 pub use refusal::{Field, Refusal, Rule, StoreFault};
 pub use refusal_text::RefusalText;
 pub use trust_values::{
-    BankAmount, Cents, CentsOrZero, CivilDay, Day, Dollars, EntryNo, MatterNo, write_amount,
+    BankAmount, Cents, CentsOrZero, CivilDay, Day, Dollars, EntryNo, MAX_AMOUNT, MAX_ENTRY,
+    MatterNo, write_amount,
 };

@@ -4,6 +4,7 @@ ghost use Rattle.std.specs.Prelude.{◌≡◌, ◌↔◌, List, ℕ, IfOk, IfErr
 ghost use Rattle.std.specs.Str.{bytes_eq, is_utf8};
 ghost use Rattle.trust_base.specs.BankTexts.{IsLineText, is_line_text as line_text_form, line_text_of};
 
+use crate::MAX_LINE_TEXT;
 use std::alloc::{AllocError, Global};
 use std::marker::Model;
 
@@ -38,13 +39,10 @@ fn is_text(bytes: &[u8]) -> bool
 pub fn is_line_text(text: &[u8]) -> bool
     ensures { result ≡ line_text_form text.now }
 {
-    text.len() <= LineText::MAX_LEN && is_text(text)
+    text.len() <= MAX_LINE_TEXT && is_text(text)
 }
 
 impl LineText {
-    /// The greatest length, in bytes.
-    pub const MAX_LEN: usize = 1_000;
-
     /// The text of a text, exactly where it is of the form; memory is asked for, and may be refused, only then.
     pub fn read(alloc: Global, text: &[u8]) -> Result<Option<LineText>, AllocError>
         ensures value { IfOk result (λ found. found ≡ line_text_of text.now) }

@@ -8,6 +8,7 @@ ghost use Rattle.std.specs.Str.{bytes_eq};
 ghost use Rattle.std.specs.declared.cmp.Ordering.TheVariants.{Less};
 ghost use Rattle.trust_base.specs.Names.{IsPerson, is_person_byte, is_person_text, person_of};
 
+use crate::MAX_PERSON;
 use std::alloc::{AllocError, Global};
 use std::marker::Model;
 
@@ -47,15 +48,12 @@ pub fn is_person(text: &[u8]) -> bool
     ensures { result ≡ is_person_text text.now }
 {
     !text.is_empty()
-        && text.len() <= PersonId::MAX_LEN
+        && text.len() <= MAX_PERSON
         && has_name_bytes(text)
         && text != b"cashier".as_slice()
 }
 
 impl PersonId {
-    /// The greatest length, in bytes.
-    pub const MAX_LEN: usize = 32;
-
     /// The person of a text, exactly where it is of the form; memory is asked for, and may be refused, only then.
     pub fn read(alloc: Global, text: &[u8]) -> Result<Option<PersonId>, AllocError>
         ensures value { IfOk result (λ found. found ≡ person_of text.now) }

@@ -22,13 +22,11 @@ use Rattle.firm_rows.proofs.OwnLines.{balance-fits, firm_line-fits}
 use Rattle.firm_rows.proofs.Lines.{match-sound, stray-stays-sound}
 use Rattle.statement_csv.specs.declared.item.Item.{Item}
 use Rattle.statement_csv.specs.declared.item.Item.TheVariants as item
-use Rattle.trust_desk.specs.declared.requests.Request.TheVariants.{Matter, Import}
 use Rattle.trust_desk.specs.ItemStep.{after_told, after_item, after_items, balance_on, firm_line_on}
-use Rattle.trust_desk.specs.ImportStep.{imported}
-use Rattle.trust_desk.specs.Heard.{Heard, Asks, Unread, asked_on}
-use Rattle.trust_desk.specs.FirmStep.{after_asked, after_ask, firm_step}
+use Rattle.trust_desk.specs.Heard.{Heard, Kind, OfMatter, OfItems, OnlyTold, NotRead, kind_of, asked_on}
+use Rattle.trust_desk.specs.FirmStep.{after_asked, after_ask, firm_step, kind_step}
 use Rattle.trust_desk.specs.Imports.{AlwaysSound}
-use Rattle.trust_desk.specs.NeverBelowZero.{HasAmounts, IsCovered, AlwaysCoveredBy, IsCoveredIn, NeverBelowZero, RunsNeverBelowZero}
+use Rattle.trust_desk.specs.NeverBelowZero.{HasAmounts, KindHasAmounts, IsCovered, AlwaysCoveredBy, KindIsCovered, NeverBelowZero, RunsNeverBelowZero}
 use Rattle.trust_desk.proofs.LineFacts.{kept-by_step, line-fits}
 
 pub sound-after_ask : (m : ℕ) (a : Asked) (firm : Firm) → HasAmount a.ask → FirmSound firm → FirmSound (after_ask m a firm)
@@ -74,10 +72,14 @@ always-sound day firm (it ∷ items) sound = (sound, always-sound day (after_ite
 
 -- Steps.
 
+sound-kind_step : (day : ℕ) (firm : Firm) (k : Kind) → KindHasAmounts k → FirmSound firm → FirmSound (kind_step day firm k).firm
+sound-kind_step day firm (OfMatter m caller ask) amount sound = sound-after_ask m (asked_on day caller ask) firm amount sound
+sound-kind_step day firm (OfItems refused items) amount sound = sound-after_items day firm items sound
+sound-kind_step day firm (OnlyTold text) amount sound = sound
+sound-kind_step day firm (NotRead n r) amount sound = sound
+
 pub sound-firm_step : (day : ℕ) (firm : Firm) (h : Heard) → HasAmounts h → FirmSound firm → FirmSound (firm_step day firm h).firm
-sound-firm_step day firm (Asks (Matter m caller ask)) amount sound = sound-after_ask m (asked_on day caller ask) firm amount sound
-sound-firm_step day firm (Asks (Import caller statement)) amount sound = sound-after_items day firm (imported caller statement) sound
-sound-firm_step day firm (Unread n r) amount sound = sound
+sound-firm_step day firm h amounts sound = sound-kind_step day firm (kind_of h) amounts sound
 
 covered : (firm : Firm) → FirmSound firm → IsCovered firm
 covered firm sound = record { sound = sound; ledgers = λ m. ledger-least sound-covered (of m firm) (sound.matters m) }
@@ -86,18 +88,19 @@ covered-by : (day : ℕ) (firm : Firm) (items : List Item) → FirmSound firm �
 covered-by day firm [] sound = covered firm sound
 covered-by day firm (it ∷ items) sound = (covered firm sound, covered-by day (after_item day firm it) items (sound-after_item day firm it sound))
 
-covered-in : (day : ℕ) (firm : Firm) (h : Heard) → FirmSound firm → IsCoveredIn day firm h
-covered-in day firm (Asks (Matter m caller ask)) sound = covered firm sound
-covered-in day firm (Asks (Import caller statement)) sound = covered-by day firm (imported caller statement) sound
-covered-in day firm (Unread n r) sound = covered firm sound
+covered-in : (day : ℕ) (firm : Firm) (k : Kind) → FirmSound firm → KindIsCovered day firm k
+covered-in day firm (OfMatter m caller ask) sound = covered firm sound
+covered-in day firm (OfItems refused items) sound = covered-by day firm items sound
+covered-in day firm (OnlyTold text) sound = covered firm sound
+covered-in day firm (NotRead n r) sound = covered firm sound
 
 pub always-covered : NeverBelowZero
 always-covered day firm [] sound amounts = covered firm sound
-always-covered day firm (h ∷ hs) sound amounts = (covered-in day firm h sound, always-covered day (firm_step day firm h).firm hs (sound-firm_step day firm h amounts.0 sound) amounts.1)
+always-covered day firm (h ∷ hs) sound amounts = (covered-in day firm (kind_of h) sound, always-covered day (firm_step day firm h).firm hs (sound-firm_step day firm h amounts.0 sound) amounts.1)
 
 pub runs-covered : RunsNeverBelowZero
 runs-covered day firm new [] [] sound run = (run, covered firm sound)
 runs-covered day firm new [] (reply ∷ replies) sound run = absurd run
 runs-covered day firm new (h ∷ hs) [] sound run = absurd run
 runs-covered day firm new (h ∷ hs) (reply ∷ replies) sound run =
-    (run.0, run.1, covered-in day firm h sound, runs-covered day run.0 new hs replies run.2 run.3)
+    (run.0, run.1, covered-in day firm (kind_of h) sound, runs-covered day run.0 new hs replies run.2 run.3)

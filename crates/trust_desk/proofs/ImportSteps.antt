@@ -24,7 +24,8 @@ use Rattle.trust_desk.specs.Counts.{is_store, counted_refusal}
 use Rattle.trust_desk.specs.Replies.{refused}
 use Rattle.trust_desk.specs.ItemStep.{after_items, counts_after, none_counted}
 use Rattle.trust_desk.specs.Imports.{Imports, IsStop}
-use Rattle.trust_desk.specs.ImportStep.{EndsItems, import_refusal, items_in, items_unless, imported, counts_text, import_reply, is_not_of_firm}
+use Rattle.trust_desk.specs.Crashes.{IsMade}
+use Rattle.trust_desk.specs.ImportStep.{EndsItems, IsAfterFront, import_refusal, items_in, items_unless, imported, counts_text, import_reply, is_not_of_firm}
 use Rattle.trust_desk.specs.Heard.{Asks}
 use Rattle.trust_desk.specs.FirmStep.{Steps}
 use Rattle.trust_desk.proofs.Refused.{not-counted}
@@ -72,6 +73,10 @@ unfit-uncounted caller bytes r n checked = not-counted (is_store r) _ n (cases c
 
 brings : (caller : Caller) (bytes : List ℕ) → import_refusal caller bytes ≡ None → imported caller bytes ≡ items_in bytes
 brings caller bytes fit = ap (λ o. items_unless o bytes) fit
+
+-- and these make its rows
+pub import-makes : (day : ℕ) (firm found : Firm) (caller : Caller) (bytes : List ℕ) → import_refusal caller bytes ≡ None → (rest : List Item) × IsAfterFront day firm (items_in bytes) rest found → IsMade day firm (Asks (Import caller bytes)) found
+import-makes day firm found caller bytes fit made = subst (λ (its : List Item). (rest : List Item) × IsAfterFront day firm its rest found) (sym (brings caller bytes fit)) made
 
 -- the items were stopped
 pub import-stopped : (day : ℕ) (firm new : Firm) (caller : Caller) (bytes : List ℕ) (r : Refusal) → import_refusal caller bytes ≡ None → EndsItems day firm (items_in bytes) new (Err r) → Steps day firm (Asks (Import caller bytes)) (refused r) new

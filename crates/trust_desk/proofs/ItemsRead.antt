@@ -45,7 +45,7 @@ read-more (Some (Some items)) left more front it read gives =
 
 -- What was applied.
 
-after_items-push : (day : ℕ) (firm : Firm) (front : List Item) (it : Item) → after_items day firm (front ++ it ∷ []) ≡ after_item day (after_items day firm front) it
+pub after_items-push : (day : ℕ) (firm : Firm) (front : List Item) (it : Item) → after_items day firm (front ++ it ∷ []) ≡ after_item day (after_items day firm front) it
 after_items-push day firm [] it = refl
 after_items-push day firm (x ∷ front) it = after_items-push day (after_item day firm x) front it
 

@@ -1,6 +1,8 @@
 pub mod Refused
 pub mod Items
 pub mod Calls
+pub mod Crashes
+pub mod MadeRows
 pub mod Counting
 pub mod ItemsRead
 pub mod OwnItems
@@ -11,5 +13,7 @@ pub mod Runs
 pub mod LineFacts
 pub mod AlwaysCovered
 pub mod Once
+pub mod OnceBank
+pub mod OnceRuns
 pub mod OfRows
 pub mod Statuses

@@ -1,6 +1,6 @@
 -- What was asked and accepted, and a line that was applied, are repeats after every run.
-use Rattle.std.proofs.Common.{◌≡◌, ℕ, Bool, true, false, cond, List, [], ◌∷◌, ◌++◌, Option, Some, None, refl, sym, ap, ◌∙◌, subst}
-use Rattle.std.specs.Prelude.{MatchBool, is_some}
+use Rattle.std.proofs.Common.{◌≡◌, ℕ, Bool, true, false, cond, List, [], ◌++◌, Option, Some, None, refl, sym, ap, ◌∙◌, subst}
+use Rattle.std.specs.Prelude.{is_some}
 use Rattle.std.proofs.lemmas.Bool.{false≢true}
 use Rattle.trust_base.specs.declared.refusal.Refusal.{Refusal}
 use Rattle.matter_parts.specs.declared.edit.Edit.{Edit}
@@ -16,19 +16,18 @@ use Rattle.trust_matter.specs.Step.{refusal, edit_on, rows_after}
 use Rattle.trust_matter.specs.LineStep.{line_on, rows_after_line, IsApplied}
 use Rattle.trust_matter.proofs.Purging.{refused, purged-unapplied}
 use Rattle.firm_rows.specs.Firm.{Firm, of, after_edit}
+use Rattle.statement_csv.specs.declared.item.Item.{Item}
 use Rattle.statement_csv.specs.declared.item.Item.TheVariants as item
-use Rattle.trust_desk.specs.declared.requests.Request.TheVariants.{Matter, Import}
-use Rattle.trust_desk.specs.declared.requests.Reply.{Reply}
 use Rattle.trust_desk.specs.declared.importing.Counted.TheVariants as counted
 use Rattle.trust_desk.specs.ItemStep.{after_told, after_item, after_items, counted_as}
-use Rattle.trust_desk.specs.Heard.{Heard, Asks, Unread, Own, own_of, own_of_items}
-use Rattle.trust_desk.specs.Replies.{is_fault_reply}
-use Rattle.trust_desk.specs.FirmStep.{after_asked, after_ask, firm_step, IsStopped, Stopped, Steps, Runs}
+use Rattle.trust_desk.specs.Heard.{Heard, Own, own_of, own_of_item}
+use Rattle.trust_desk.specs.FirmStep.{after_asked, after_ask, firm_step}
 use Rattle.trust_desk.specs.Solo.{solo_rows}
 use Rattle.trust_desk.specs.OnceOnly.{DayRun, RunsOn, OnceOnly, LineOnceOnly}
 use Rattle.trust_desk.proofs.LineFacts.{asked-later, repeat-later}
-use Rattle.trust_desk.proofs.OwnItems.{solo_rows-append, of-after_items, of-after_line}
+use Rattle.trust_desk.proofs.OwnItems.{solo_rows-append, of-after_item, of-after_line}
 use Rattle.trust_desk.proofs.Own.{of-after_ask, own-rows}
+use Rattle.trust_desk.proofs.OnceRuns.{all-keep, runs-keep}
 
 -- later rows are those after some of what comes to a matter
 abbrev IsLater : Rows → Rows → Type 0
@@ -37,31 +36,14 @@ IsLater rows later = (owns : List Own) × (later ≡ solo_rows rows owns)
 later-more : (a b c : Rows) → IsLater a b → IsLater b c → IsLater a c
 later-more a b c ab bc = (ab.0 ++ bc.0, bc.1 ∙ (ap (λ rows. solo_rows rows bc.0) ab.1 ∙ sym (solo_rows-append a ab.0 bc.0)))
 
-stopped-later : (m day : ℕ) (firm new : Firm) (h : Heard) → Stopped day firm h new → IsLater (of m firm) (of m new)
-stopped-later m day firm new (Asks (Matter n caller ask)) is = ([], ap (of m) is)
-stopped-later m day firm new (Asks (Import caller statement)) is = (own_of_items m day is.1.front, ap (of m) is.1.leaves ∙ of-after_items m day firm is.1.front)
-stopped-later m day firm new (Unread n r) is = ([], ap (of m) is)
+later-item : (m : ℕ) (old : Rows) (day : ℕ) (firm : Firm) (it : Item) → IsLater old (of m firm) → IsLater old (of m (after_item day firm it))
+later-item m old day firm it is = later-more old (of m firm) (of m (after_item day firm it)) is (own_of_item m day it, of-after_item m day firm it)
 
-step-later : (m day : ℕ) (firm new : Firm) (h : Heard) (reply : Reply) → Steps day firm h reply new → IsLater (of m firm) (of m new)
-step-later m day firm new h reply step = cases (is_fault_reply reply) step
-  where
-    cases : (b : Bool)
-        → MatchBool b (IsStopped day firm h reply new) ((reply ≡ (firm_step day firm h).reply) × (new ≡ (firm_step day firm h).firm))
-        → IsLater (of m firm) (of m new)
-    cases true is = stopped-later m day firm new h is.leaves
-    cases false is = (own_of m day h, ap (of m) is.1 ∙ own-rows m day firm h)
-
-run-later : (m day : ℕ) (firm new : Firm) (hs : List Heard) (replies : List Reply) → Runs day firm hs replies new → IsLater (of m firm) (of m new)
-run-later m day firm new [] [] run = ([], ap (of m) run)
-run-later m day firm new [] (reply ∷ replies) run = absurd run
-run-later m day firm new (h ∷ hs) [] run = absurd run
-run-later m day firm new (h ∷ hs) (reply ∷ replies) run =
-    later-more (of m firm) (of m run.0) (of m new) (step-later m day firm run.0 h reply run.1) (run-later m day run.0 new hs replies run.2)
+later-step : (m : ℕ) (old : Rows) (day : ℕ) (firm : Firm) (h : Heard) → IsLater old (of m firm) → IsLater old (of m (firm_step day firm h).firm)
+later-step m old day firm h is = later-more old (of m firm) (of m (firm_step day firm h).firm) is (own_of m day h, own-rows m day firm h)
 
 runs-later : (m : ℕ) (firm new : Firm) (runs : List DayRun) → RunsOn firm runs new → IsLater (of m firm) (of m new)
-runs-later m firm new [] run = ([], ap (of m) run)
-runs-later m firm new (r ∷ runs) run =
-    later-more (of m firm) (of m run.0) (of m new) (run-later m r.day firm run.0 r.heard r.replies run.1) (runs-later m run.0 new runs run.2)
+runs-later m firm new runs run = runs-keep (λ f. IsLater (of m firm) (of m f)) (later-item m (of m firm)) (later-step m (of m firm)) firm new runs run ([], refl)
 
 -- An ask.
 
@@ -118,10 +100,8 @@ line-once-only l again day later firm mid rest front between applied same runs =
     let m = l.matter in
     let one = after_item day firm (item.OfMatter l) in
     let now = after_items later mid front in
-    let behind : IsLater (of m one) (of m (after_items day one rest)) = (own_of_items m day rest, of-after_items m day one rest) in
-    let before : IsLater (of m mid) (of m now) = (own_of_items m later front, of-after_items m later mid front) in
-    let between = runs-later m (after_items day one rest) mid between runs in
-    let all = later-more (of m one) (of m mid) (of m now) (later-more (of m one) (of m (after_items day one rest)) (of m mid) behind between) before in
+    let all : IsLater (of m one) (of m now) =
+    all-keep (λ f. IsLater (of m one) (of m f)) (later-item m (of m one)) (later-step m (of m one)) day later firm mid (item.OfMatter l) rest front between runs ([], refl) in
     let rows : of m now ≡ solo_rows (rows_after_line (of m firm) l day) all.0 = all.1 ∙ ap (λ r. solo_rows r all.0) (of-after_line l day firm) in
     let repeat : is_purged (of again.matter now).head ≡ false → line_on (of again.matter now) again later ≡ told.Repeat = λ kept.
     let own : is_purged (of m now).head ≡ false = subst (λ (k : ℕ). is_purged (of k now).head ≡ false) same.matter kept in

@@ -10,13 +10,11 @@ use Rattle.trust_matter.specs.Step.{refusal, edit_on, after, rows_after}
 use Rattle.firm_rows.specs.Firm.{Firm, of}
 use Rattle.firm_rows.proofs.Changed.{of-after_edit, of_other-after_edit}
 use Rattle.trust_desk.specs.declared.requests.Request.{Request}
-use Rattle.trust_desk.specs.declared.requests.Request.TheVariants.{Matter, Import}
 use Rattle.trust_desk.specs.declared.requests.Reply.{Reply}
 use Rattle.trust_desk.specs.ItemStep.{names_item}
-use Rattle.trust_desk.specs.ImportStep.{imported}
-use Rattle.trust_desk.specs.Heard.{Heard, Asks, Unread, OwnAsk, OwnRefusal, heard, names, concerns, own_if, own_of, project, told, asked_on, is_the}
+use Rattle.trust_desk.specs.Heard.{Heard, Kind, OfMatter, OfItems, OnlyTold, NotRead, kind_of, OwnAsk, OwnRefusal, heard, names, kind_names, concerns, kind_concerns, own_if, own_of, kind_own, project, told, asked_on, is_the}
 use Rattle.trust_desk.specs.Replies.{is_fault_reply, reply_of, refused}
-use Rattle.trust_desk.specs.FirmStep.{after_asked, after_ask, firm_step, Stopped, IsStopped, Steps, Runs, IsUnstopped}
+use Rattle.trust_desk.specs.FirmStep.{after_asked, after_ask, firm_step, kind_step, KindStopped, IsStopped, Steps, Runs, IsUnstopped}
 use Rattle.trust_desk.specs.Solo.{solo_rows, solo_replies}
 use Rattle.trust_desk.specs.Isolation.{IsOwn, KeepsOthers, EachMatterOwn, SameForTheMatter}
 use Rattle.trust_desk.proofs.OwnItems.{solo_rows-append, solo_replies-append, of-after_items, silent-items, none-front, unnamed-items}
@@ -48,8 +46,8 @@ pub record IsOwnStep (m day : ℕ) (firm : Firm) (h : Heard) (reply : Reply) (ne
   pub answers : reply_if (names m h) reply ≡ solo_replies m (of m firm) (own_of m day h)
   pub rows : of m new ≡ solo_rows (of m firm) (own_of m day h)
 
-pub own-rows : (m day : ℕ) (firm : Firm) (h : Heard) → of m (firm_step day firm h).firm ≡ solo_rows (of m firm) (own_of m day h)
-own-rows m day firm (Asks (Matter n caller ask)) = cases (n == m) refl
+kind-rows : (m day : ℕ) (firm : Firm) (k : Kind) → of m (kind_step day firm k).firm ≡ solo_rows (of m firm) (kind_own m day k)
+kind-rows m day firm (OfMatter n caller ask) = cases (n == m) refl
   where
     a : Asked
     a = asked_on day caller ask
@@ -57,15 +55,19 @@ own-rows m day firm (Asks (Matter n caller ask)) = cases (n == m) refl
     cases : (b : Bool) → (n == m) ≡ b → of m (after_ask n a firm) ≡ solo_rows (of m firm) (own_if b (OwnAsk a))
     cases true same_test = let same : n ≡ m = grind (arith, nat_tests) in subst (λ (k : ℕ). of k (after_ask n a firm) ≡ rows_after (of k firm) a) same (of-after_ask n a firm)
     cases false other_test = of_other-after_ask m n a firm (λ same. absurd (grind (arith, nat_tests)))
-own-rows m day firm (Asks (Import caller statement)) = of-after_items m day firm (imported caller statement)
-own-rows m day firm (Unread n r) = cases (is_the m n)
+kind-rows m day firm (OfItems refused items) = of-after_items m day firm items
+kind-rows m day firm (OnlyTold text) = refl
+kind-rows m day firm (NotRead n r) = cases (is_the m n)
   where
     cases : (b : Bool) → of m firm ≡ solo_rows (of m firm) (own_if b (OwnRefusal r))
     cases true = refl
     cases false = refl
 
-pub own-reply : (m day : ℕ) (firm : Firm) (h : Heard) → reply_if (names m h) (firm_step day firm h).reply ≡ solo_replies m (of m firm) (own_of m day h)
-own-reply m day firm (Asks (Matter n caller ask)) = cases (n == m) refl
+pub own-rows : (m day : ℕ) (firm : Firm) (h : Heard) → of m (firm_step day firm h).firm ≡ solo_rows (of m firm) (own_of m day h)
+own-rows m day firm h = kind-rows m day firm (kind_of h)
+
+kind-reply : (m day : ℕ) (firm : Firm) (k : Kind) → reply_if (kind_names m k) (kind_step day firm k).reply ≡ solo_replies m (of m firm) (kind_own m day k)
+kind-reply m day firm (OfMatter n caller ask) = cases (n == m) refl
   where
     a : Asked
     a = asked_on day caller ask
@@ -73,12 +75,16 @@ own-reply m day firm (Asks (Matter n caller ask)) = cases (n == m) refl
     cases : (b : Bool) → (n == m) ≡ b → reply_if b (reply_of n (of n firm) a) ≡ solo_replies m (of m firm) (own_if b (OwnAsk a))
     cases true same_test = let same : n ≡ m = grind (arith, nat_tests) in ap (λ k. reply_of k (of k firm) a ∷ []) same
     cases false other_test = refl
-own-reply m day firm (Asks (Import caller statement)) = sym (silent-items m day (of m firm) (imported caller statement))
-own-reply m day firm (Unread n r) = cases (is_the m n)
+kind-reply m day firm (OfItems refused items) = sym (silent-items m day (of m firm) items)
+kind-reply m day firm (OnlyTold text) = refl
+kind-reply m day firm (NotRead n r) = cases (is_the m n)
   where
     cases : (b : Bool) → reply_if b (refused r) ≡ solo_replies m (of m firm) (own_if b (OwnRefusal r))
     cases true = refl
     cases false = refl
+
+pub own-reply : (m day : ℕ) (firm : Firm) (h : Heard) → reply_if (names m h) (firm_step day firm h).reply ≡ solo_replies m (of m firm) (own_of m day h)
+own-reply m day firm h = kind-reply m day firm (kind_of h)
 
 -- So two firms with the same rows of a matter tell it the same, and leave it the same.
 
@@ -94,29 +100,35 @@ same-reply m day f g h named same = cases (names m h) named (own-reply m day f h
 
 -- What does not concern a matter.
 
+kind-other : (m day : ℕ) (firm : Firm) (k : Kind) → kind_concerns m k ≡ false → of m (kind_step day firm k).firm ≡ of m firm
+kind-other m day firm (OfMatter n caller ask) other = of_other-after_ask m n (asked_on day caller ask) firm (λ same. absurd (grind (arith, nat_tests)))
+kind-other m day firm (OfItems refused items) other = unnamed-items m day firm items other
+kind-other m day firm (OnlyTold text) other = refl
+kind-other m day firm (NotRead n r) other = refl
+
 pub other-rows : (m day : ℕ) (firm : Firm) (h : Heard) → concerns m h ≡ false → of m (firm_step day firm h).firm ≡ of m firm
-other-rows m day firm (Asks (Matter n caller ask)) other = of_other-after_ask m n (asked_on day caller ask) firm (λ same. absurd (grind (arith, nat_tests)))
-other-rows m day firm (Asks (Import caller statement)) other = unnamed-items m day firm (imported caller statement) other
-other-rows m day firm (Unread n r) other = refl
+other-rows m day firm h other = kind-other m day firm (kind_of h) other
 
-unnamed : (m : ℕ) (h : Heard) → concerns m h ≡ false → names m h ≡ false
-unnamed m (Asks (Matter n caller ask)) other = other
-unnamed m (Asks (Import caller statement)) other = refl
-unnamed m (Unread n r) other = other
+unnamed : (m : ℕ) (k : Kind) → kind_concerns m k ≡ false → kind_names m k ≡ false
+unnamed m (OfMatter n caller ask) other = other
+unnamed m (OfItems refused items) other = refl
+unnamed m (OnlyTold text) other = refl
+unnamed m (NotRead n r) other = other
 
-stopped-rows : (m day : ℕ) (firm new : Firm) (h : Heard) → Stopped day firm h new → concerns m h ≡ false → of m new ≡ of m firm
-stopped-rows m day firm new (Asks (Matter n caller ask)) is other = ap (of m) is
-stopped-rows m day firm new (Asks (Import caller statement)) is other =
+stopped-rows : (m day : ℕ) (firm new : Firm) (k : Kind) → KindStopped day firm k new → kind_concerns m k ≡ false → of m new ≡ of m firm
+stopped-rows m day firm new (OfMatter n caller ask) is other = ap (of m) is
+stopped-rows m day firm new (OfItems refused items) is other =
     let left = is.1 in
     let whole : list_any (names_item m) (left.front ++ is.0) ≡ false = ap (list_any (names_item m)) left.parts ∙ other in
     ap (of m) left.leaves ∙ unnamed-items m day firm left.front (none-front m left.front is.0 whole)
-stopped-rows m day firm new (Unread n r) is other = ap (of m) is
+stopped-rows m day firm new (OnlyTold text) is other = ap (of m) is
+stopped-rows m day firm new (NotRead n r) is other = ap (of m) is
 
 pub keeps-others : (day : ℕ) (firm new : Firm) (h : Heard) (reply : Reply) → Steps day firm h reply new → KeepsOthers firm h new
 keeps-others day firm new h reply step m other = cases (is_fault_reply reply) step
   where
     cases : (b : Bool) → MatchBool b (IsStopped day firm h reply new) ((reply ≡ (firm_step day firm h).reply) × (new ≡ (firm_step day firm h).firm)) → of m new ≡ of m firm
-    cases true is = stopped-rows m day firm new h is.leaves other
+    cases true is = stopped-rows m day firm new (kind_of h) is.leaves other
     cases false is = ap (of m) is.1 ∙ other-rows m day firm h other
 
 -- A step in a run.
@@ -133,7 +145,7 @@ other-step m day firm new h reply other same = record {
 }
   where
     named : names m h ≡ false
-    named = unnamed m h other
+    named = unnamed m (kind_of h) other
 
 pub steps-own : (m day : ℕ) (firm new : Firm) (h : Heard) (reply : Reply) → (concerns m h ≡ true → is_fault_reply reply ≡ false) → Steps day firm h reply new → IsOwnStep m day firm h reply new
 steps-own m day firm new h reply fine step = cases (concerns m h) refl (is_fault_reply reply) refl step
@@ -141,7 +153,7 @@ steps-own m day firm new h reply fine step = cases (concerns m h) refl (is_fault
     cases : (c : Bool) → concerns m h ≡ c → (b : Bool) → is_fault_reply reply ≡ b → MatchBool b (IsStopped day firm h reply new) ((reply ≡ (firm_step day firm h).reply) × (new ≡ (firm_step day firm h).firm)) → IsOwnStep m day firm h reply new
     cases c is false faultless to = own-step m day firm new h reply to.0 to.1
     cases true is true fault stopped = let good = fine is in absurd (cc)
-    cases false is true fault stopped = other-step m day firm new h reply is (stopped-rows m day firm new h stopped.leaves is)
+    cases false is true fault stopped = other-step m day firm new h reply is (stopped-rows m day firm new (kind_of h) stopped.leaves is)
 
 -- A run.
 

@@ -19,7 +19,7 @@ use Rattle.trust_store.specs.Books.{counted_fault}
 use Rattle.trust_store.specs.Named.{IsPartFor}
 use Rattle.trust_store.proofs.Named.{named-held}
 use Rattle.trust_desk.specs.declared.planning.Planned.{Planned}
-use Rattle.trust_desk.specs.FirmStep.{after_asked}
+use Rattle.trust_desk.specs.FirmStep.{after_ask, after_asked}
 use Rattle.trust_desk.specs.Counts.{is_store, counted_refusal}
 use Rattle.trust_desk.specs.Plan.{IsAccepted, IsPlanned, IsRefused}
 
@@ -38,6 +38,10 @@ pub plan-refused : (firm new : Firm) (m : ℕ) (a : Asked) (rows : Rows) (r : Re
 plan-refused firm new m a rows r same is h =
     record { why = subst (λ (x : Rows). (is_fault r ≡ true) ⊎ (refusal x a ≡ Some r)) is (plan-refuses (refusal rows a) r h).why; leaves = same }
 
+-- what is refused for no fault has no step
+pub refused-still : (firm : Firm) (m : ℕ) (a : Asked) (r : Refusal) → is_fault r ≡ false → MayRefuse (refusal (of m firm) a) r → after_ask m a firm ≡ firm
+refused-still firm m a r plain h = elim (plan-refuses (refusal (of m firm) a) r h).why [ inl fault ↦ absurd (cc) | inr is ↦ ap (λ o. after_asked o m a firm) is ]
+
 pub not-counted : (b : Bool) (x n : ℕ) → b ≡ false → cond b x n ≡ n
 not-counted true x n h = absurd (cc)
 not-counted false x n h = refl
@@ -45,6 +49,10 @@ not-counted false x n h = refl
 -- nor is it counted by the store
 pub plan-uncounted : (o : Option Refusal) (r : Refusal) (n : ℕ) → MayRefuse o r → counted_refusal r n ≡ n
 plan-uncounted o r n h = not-counted (is_store r) _ n (plan-refuses o r h).told
+
+pub fault-told : (fault : StoreFault) → is_fault (refused_by fault) ≡ true
+fault-told faults.Store = refl
+fault-told faults.Memory = refl
 
 -- a fault of the book changes nothing
 pub fault-refused : (firm new : Firm) (m : ℕ) (a : Asked) (fault : StoreFault) (r : Refusal) → r ≡ refused_by fault → new ≡ firm → IsRefused firm m a r new

@@ -36,13 +36,18 @@ heard-push : (qs : List Request) (q : Request) → heard (qs ++ q ∷ []) ≡ he
 heard-push [] q = refl
 heard-push (p ∷ qs) q = ap (λ hs. Asks p ∷ hs) (heard-push qs q)
 
--- one more request of a run
+-- one more request
+pub heard-more : (requests : List Request) (i : ℕ) (request : Request) → i < length requests → request ≡ get_or requests i request → heard (take (i + 1) requests) ≡ heard (take i requests) ++ Asks request ∷ []
+heard-more requests i request lt at =
+    let front : take (i + 1) requests ≡ take i requests ++ request ∷ [] = take_more requests i request lt ∙ ap (λ q. take i requests ++ q ∷ []) (sym at) in
+    ap heard front ∙ heard-push (take i requests) request
+
+-- of a run
 pub run-more : (day : ℕ) (first now next : Firm) (requests : List Request) (i : ℕ) (request : Request) (replies after : List Reply) (reply : Reply) → i < length requests → request ≡ get_or requests i request
     → RunsSoundly day first (heard (take i requests)) replies now → Steps day now (Asks request) reply next → FirmSound next
     → after ≡ replies ++ reply ∷ [] → RunsSoundly day first (heard (take (i + 1) requests)) after next
 run-more day first now next requests i request replies after reply lt at run step sound is =
-    let front : take (i + 1) requests ≡ take i requests ++ request ∷ [] = take_more requests i request lt ∙ ap (λ q. take i requests ++ q ∷ []) (sym at) in
-    let hs : heard (take (i + 1) requests) ≡ heard (take i requests) ++ Asks request ∷ [] = ap heard front ∙ heard-push (take i requests) request in
+    let hs = heard-more requests i request lt at in
     subst (λ (x : List Heard × List Reply). RunsSoundly day first x.0 x.1 next) (λ j. (sym hs j, sym is j))
     (RunsSoundly-push day first now next (heard (take i requests)) (Asks request) replies reply run step sound)
 

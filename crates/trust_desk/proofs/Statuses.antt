@@ -1,5 +1,5 @@
 -- The status of a reply whose body is a refusal.
-use Rattle.std.proofs.Common.{◌≡◌, inl, inr, ℕ, Bool, true, false, Option, Some, None, sym, ap, subst}
+use Rattle.std.proofs.Common.{◌≡◌, inl, inr, ℕ, Bool, true, false, List, Option, Some, None, Result, Ok, Err, sym, ap, subst}
 use Rattle.std.specs.Prelude.{MatchBool}
 use Rattle.trust_base.specs.Refusals.{status_of}
 use Rattle.trust_base.specs.declared.refusal.Refusal.{Refusal}
@@ -8,12 +8,11 @@ use Rattle.matter_rows.specs.Rows.{Rows}
 use Rattle.trust_matter.specs.Step.{refusal}
 use Rattle.firm_rows.specs.Firm.{Firm, of}
 use Rattle.matter_bodies.specs.declared.bodies.ImportReply.{ImportReply}
-use Rattle.trust_desk.specs.declared.requests.Request.TheVariants.{Matter, Import}
-use Rattle.trust_desk.specs.Heard.{Heard, Asks, Unread, asked_on}
-use Rattle.trust_desk.specs.ImportStep.{import_refusal, import_reply, imported}
+use Rattle.trust_desk.specs.Heard.{Kind, OfMatter, OfItems, OnlyTold, NotRead, kind_of, asked_on}
+use Rattle.trust_desk.specs.ImportStep.{import_reply}
 use Rattle.trust_desk.specs.ItemStep.{counts_after, none_counted}
-use Rattle.trust_desk.specs.Replies.{is_fault_reply, refused, replied}
-use Rattle.trust_desk.specs.FirmStep.{HasItsStatus, IsStopped, RefusalsHaveTheirStatus, firm_step}
+use Rattle.trust_desk.specs.Replies.{is_fault_reply, refused, replied, text_reply}
+use Rattle.trust_desk.specs.FirmStep.{HasItsStatus, IsStopped, RefusalsHaveTheirStatus, firm_step, kind_step}
 
 refused-status : (r : Refusal) → HasItsStatus (refused r)
 refused-status r s is = let same : r ≡ s = cc in ap status_of same
@@ -26,12 +25,16 @@ import-status : (o : Option Refusal) (counts : ImportReply) → HasItsStatus (im
 import-status None counts = λ s is. absurd (cc)
 import-status (Some r) counts = refused-status r
 
-step-status : (day : ℕ) (firm : Firm) (h : Heard) → HasItsStatus (firm_step day firm h).reply
-step-status day firm (Asks (Matter m caller ask)) =
+text-status : (told : Result (List ℕ) Refusal) → HasItsStatus (text_reply told)
+text-status (Ok text) = λ s is. absurd (cc)
+text-status (Err r) = refused-status r
+
+step-status : (day : ℕ) (firm : Firm) (k : Kind) → HasItsStatus (kind_step day firm k).reply
+step-status day firm (OfMatter m caller ask) =
     let a = asked_on day caller ask in replied-status (refusal (of m firm) a) m (of m firm) a
-step-status day firm (Asks (Import caller statement)) =
-    import-status (import_refusal caller statement) (counts_after day firm (imported caller statement) none_counted)
-step-status day firm (Unread named r) = refused-status r
+step-status day firm (OfItems refused items) = import-status refused (counts_after day firm items none_counted)
+step-status day firm (OnlyTold text) = text-status (text day firm)
+step-status day firm (NotRead named r) = refused-status r
 
 pub own-status : RefusalsHaveTheirStatus
 own-status day firm new h reply step = cases (is_fault_reply reply) step
@@ -43,4 +46,4 @@ own-status day firm new h reply step = cases (is_fault_reply reply) step
       | inl is ↦ subst HasItsStatus (sym is) (refused-status _)
       | inr is ↦ subst HasItsStatus (sym is) (refused-status _)
     ]
-    cases false is = subst HasItsStatus (sym is.0) (step-status day firm h)
+    cases false is = subst HasItsStatus (sym is.0) (step-status day firm (kind_of h))

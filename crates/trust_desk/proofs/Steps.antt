@@ -6,18 +6,19 @@ use Rattle.trust_base.specs.declared.refusal.Refusal.{Refusal}
 use Rattle.trust_base.specs.declared.refusal.Refusal.TheVariants as refusals
 use Rattle.firm_rows.specs.Firm.{Firm}
 use Rattle.trust_desk.specs.declared.requests.Reply.{Reply}
-use Rattle.trust_desk.specs.declared.requests.Request.TheVariants.{Matter, Import}
-use Rattle.trust_desk.specs.Heard.{Heard, Asks, Unread}
-use Rattle.trust_desk.specs.ImportStep.{imported}
+use Rattle.trust_desk.specs.Heard.{Heard, Kind, OfMatter, OfItems, OnlyTold, NotRead, kind_of}
 use Rattle.trust_desk.specs.Replies.{is_fault_reply, refused}
-use Rattle.trust_desk.specs.FirmStep.{IsFaultReply, IsStopped, Stopped, Steps, firm_step}
+use Rattle.trust_desk.specs.FirmStep.{IsFaultReply, IsStopped, KindStopped, Stopped, Steps, firm_step}
+
+kind-not_done : (day : ℕ) (firm : Firm) (k : Kind) → KindStopped day firm k firm
+kind-not_done day firm (OfMatter m caller ask) = refl
+kind-not_done day firm (OfItems refused items) = (items, record { front = []; parts = refl; leaves = refl })
+kind-not_done day firm (OnlyTold text) = refl
+kind-not_done day firm (NotRead named r) = refl
 
 -- nothing was done of what is heard
 pub nothing-done : (day : ℕ) (firm : Firm) (h : Heard) → Stopped day firm h firm
-nothing-done day firm (Asks (Matter m caller ask)) = refl
-nothing-done day firm (Asks (Import caller statement)) =
-    (imported caller statement, record { front = []; parts = refl; leaves = refl })
-nothing-done day firm (Unread named r) = refl
+nothing-done day firm h = kind-not_done day firm (kind_of h)
 
 -- the reply to a fault
 fault-reply : (r : Refusal) → is_fault r ≡ true → IsFaultReply (refused r)

@@ -6,7 +6,7 @@ use Rattle.trust_base.specs.declared.refusal.StoreFault.TheVariants as faults
 use Rattle.trust_store.specs.Books.{counted_fault}
 use Rattle.trust_desk.specs.declared.requests.Reply.{Reply}
 use Rattle.trust_desk.specs.declared.requests.Body.{Body}
-use Rattle.trust_desk.specs.declared.requests.Body.TheVariants.{Json, Refused}
+use Rattle.trust_desk.specs.declared.requests.Body.TheVariants.{Json, Refused, Text}
 
 abbrev pub is_store : Refusal → Bool
 is_store Store = true
@@ -17,6 +17,7 @@ counted_refusal r n = if is_store r then counted_fault faults.Store n else n
 
 abbrev pub counted_body : Body → ℕ → ℕ
 counted_body (Json text) n = n
+counted_body (Text text) n = n
 counted_body (Refused r) n = counted_refusal r n
 
 -- the book's count of calls that answered Store, after a reply: one more where the reply is Store

@@ -9,13 +9,12 @@ use Rattle.trust_matter.specs.Step.{refusal, edit_on}
 use Rattle.firm_rows.specs.Firm.{Firm, of, after_edit}
 use Rattle.firm_rows.specs.FirmSound.{FirmSound}
 use Rattle.statement_csv.specs.declared.item.Item.{Item}
-use Rattle.trust_desk.specs.declared.requests.Request.TheVariants.{Matter, Import}
 use Rattle.trust_desk.specs.declared.requests.Body.TheVariants.{Refused}
 use Rattle.trust_desk.specs.declared.requests.Reply.{Reply}
-use Rattle.trust_desk.specs.Heard.{Heard, Asks, Unread, asked_on, concerns}
-use Rattle.trust_desk.specs.Replies.{refused, reply_of, is_fault_reply}
+use Rattle.trust_desk.specs.Heard.{Heard, Kind, OfMatter, OfItems, OnlyTold, NotRead, kind_of, asked_on, concerns}
+use Rattle.trust_desk.specs.Replies.{refused, reply_of, text_reply, is_fault_reply}
 use Rattle.trust_desk.specs.ItemStep.{after_items, counts_after, none_counted}
-use Rattle.trust_desk.specs.ImportStep.{IsAfterFront, import_refusal, imported, import_reply}
+use Rattle.trust_desk.specs.ImportStep.{IsAfterFront, import_reply}
 
 abbrev pub after_asked : Option Refusal → ℕ → Asked → Firm → Firm
 after_asked None m a firm =
@@ -30,29 +29,35 @@ pub record Stepped : Type 0 where
   pub firm : Firm
   pub reply : Reply
 
--- the firm's step on a day
-abbrev pub firm_step : ℕ → Firm → Heard → Stepped
-firm_step day firm (Asks (Matter m caller ask)) = record {
+abbrev pub kind_step : ℕ → Firm → Kind → Stepped
+kind_step day firm (OfMatter m caller ask) = record {
   firm = after_ask m (asked_on day caller ask) firm;
   reply = reply_of m (of m firm) (asked_on day caller ask);
 }
-firm_step day firm (Asks (Import caller statement)) = record {
-  firm = after_items day firm (imported caller statement);
-  reply =
-      import_reply (import_refusal caller statement) (counts_after day firm (imported caller statement) none_counted);
+kind_step day firm (OfItems refused items) = record {
+  firm = after_items day firm items;
+  reply = import_reply refused (counts_after day firm items none_counted);
 }
-firm_step day firm (Unread named r) = record { firm = firm; reply = refused r }
+kind_step day firm (OnlyTold text) = record { firm = firm; reply = text_reply (text day firm) }
+kind_step day firm (NotRead named r) = record { firm = firm; reply = refused r }
+
+-- the firm's step on a day
+abbrev pub firm_step : ℕ → Firm → Heard → Stepped
+firm_step day firm h = kind_step day firm (kind_of h)
 
 -- the reply to a request that the store or memory stopped
 abbrev pub IsFaultReply : Reply → Type 0
 IsFaultReply reply = (reply ≡ refused Store) ⊎ (reply ≡ refused Memory)
 
+abbrev pub KindStopped : ℕ → Firm → Kind → Firm → Type 0
+KindStopped day firm (OfMatter m caller ask) new = new ≡ firm
+KindStopped day firm (OfItems refused items) new = (rest : List Item) × IsAfterFront day firm items rest new
+KindStopped day firm (OnlyTold text) new = new ≡ firm
+KindStopped day firm (NotRead named r) new = new ≡ firm
+
 -- what is left by a request that the store or memory stopped: all as it was, but after the first items of an import
 abbrev pub Stopped : ℕ → Firm → Heard → Firm → Type 0
-Stopped day firm (Asks (Matter m caller ask)) new = new ≡ firm
-Stopped day firm (Asks (Import caller statement)) new =
-    (rest : List Item) × IsAfterFront day firm (imported caller statement) rest new
-Stopped day firm (Unread named r) new = new ≡ firm
+Stopped day firm h new = KindStopped day firm (kind_of h) new
 
 -- the store or memory stopped a request, and the reply says which
 pub record IsStopped (day : ℕ) (firm : Firm) (h : Heard) (reply : Reply) (new : Firm) : Type 0 where

@@ -1,18 +1,19 @@
--- What the desk hears, and what of it comes to a matter.
-use Rattle.std.specs.Prelude.{ℕ, Bool, false, ◌==◌, List, [], ◌∷◌, ◌++◌, map, Option, Some, None, if◌then◌else◌}
+-- What the desk hears, of which kind it is, and what of it comes to a matter.
+use Rattle.std.specs.Prelude.{ℕ, Bool, false, ◌==◌, List, [], ◌∷◌, ◌++◌, map, Option, Some, None, if◌then◌else◌, Result}
 use Rattle.std.specs.List.{list_any}
 use Rattle.trust_base.specs.declared.refusal.Refusal.{Refusal}
 use Rattle.trust_matter.specs.declared.ask.Caller.{Caller}
 use Rattle.trust_matter.specs.declared.ask.Ask.{Ask}
 use Rattle.trust_matter.specs.declared.bank_line.BankLine.{BankLine}
 use Rattle.trust_matter.specs.Facts.{Asked}
+use Rattle.firm_rows.specs.Firm.{Firm}
 use Rattle.statement_csv.specs.declared.item.Item.{Item}
 use Rattle.statement_csv.specs.declared.item.Item.TheVariants as item
 use Rattle.trust_desk.specs.declared.requests.Request.{Request}
 use Rattle.trust_desk.specs.declared.requests.Request.TheVariants.{Matter, Import}
 use Rattle.trust_desk.specs.declared.requests.Reply.{Reply}
 use Rattle.trust_desk.specs.ItemStep.{names_item}
-use Rattle.trust_desk.specs.ImportStep.{imported}
+use Rattle.trust_desk.specs.ImportStep.{import_refusal, imported}
 
 -- a request; or a message that was refused before it became one, and that names a matter or none
 pub data Heard : Type 0 where
@@ -27,17 +28,39 @@ heard requests = map Asks requests
 abbrev pub asked_on : ℕ → Caller → Ask → Asked
 asked_on day caller ask = record { caller = caller; ask = ask; day = day }
 
+-- Its kind.
+
+-- all that the machine asks of what is heard: here alone one request is told from another
+pub data Kind : Type 0 where
+  -- an ask of a caller of a matter
+  OfMatter : (m : ℕ) (caller : Caller) (ask : Ask) → Kind
+  -- the items that a statement brings, and what it is refused for
+  OfItems : (refused : Option Refusal) (items : List Item) → Kind
+  -- nothing changes: a text is told by the day and the firm's rows, or why it is refused
+  OnlyTold : (text : ℕ → Firm → Result (List ℕ) Refusal) → Kind
+  -- a message that was refused before it became a request
+  NotRead : (named : Option ℕ) (refusal : Refusal) → Kind
+
+abbrev pub kind_of : Heard → Kind
+kind_of (Asks (Matter m caller ask)) = OfMatter m caller ask
+kind_of (Asks (Import caller statement)) = OfItems (import_refusal caller statement) (imported caller statement)
+kind_of (Unread named refusal) = NotRead named refusal
+
 -- What names a matter, and is replied to.
 
 abbrev pub is_the : ℕ → Option ℕ → Bool
 is_the m None = false
 is_the m (Some n) = n == m
 
--- what is heard names the matter; an import names none
+abbrev pub kind_names : ℕ → Kind → Bool
+kind_names m (OfMatter n caller ask) = n == m
+kind_names m (OfItems refused items) = false
+kind_names m (OnlyTold text) = false
+kind_names m (NotRead named refusal) = is_the m named
+
+-- what is heard names the matter; an import names none, nor does what is only told
 abbrev pub names : ℕ → Heard → Bool
-names m (Asks (Matter n caller ask)) = n == m
-names m (Asks (Import caller statement)) = false
-names m (Unread named refusal) = is_the m named
+names m h = kind_names m (kind_of h)
 
 -- the replies to what names the matter, in order
 abbrev pub told : ℕ → List Heard → List Reply → List Reply
@@ -70,19 +93,27 @@ abbrev pub own_of_items : ℕ → ℕ → List Item → List Own
 own_of_items m day [] = []
 own_of_items m day (it ∷ items) = own_of_item m day it ++ own_of_items m day items
 
+abbrev pub kind_own : ℕ → ℕ → Kind → List Own
+kind_own m day (OfMatter n caller ask) = own_if (n == m) (OwnAsk (asked_on day caller ask))
+kind_own m day (OfItems refused items) = own_of_items m day items
+kind_own m day (OnlyTold text) = []
+kind_own m day (NotRead named refusal) = own_if (is_the m named) (OwnRefusal refusal)
+
 -- what comes to a matter of what is heard on a day: what names it, and of an import the lines that name it
 abbrev pub own_of : ℕ → ℕ → Heard → List Own
-own_of m day (Asks (Matter n caller ask)) = own_if (n == m) (OwnAsk (asked_on day caller ask))
-own_of m day (Asks (Import caller statement)) = own_of_items m day (imported caller statement)
-own_of m day (Unread named refusal) = own_if (is_the m named) (OwnRefusal refusal)
+own_of m day h = kind_own m day (kind_of h)
 
 -- what comes to a matter of all that is heard on a day, in order
 abbrev pub project : ℕ → ℕ → List Heard → List Own
 project m day [] = []
 project m day (h ∷ hs) = own_of m day h ++ project m day hs
 
+abbrev pub kind_concerns : ℕ → Kind → Bool
+kind_concerns m (OfMatter n caller ask) = n == m
+kind_concerns m (OfItems refused items) = list_any (names_item m) items
+kind_concerns m (OnlyTold text) = false
+kind_concerns m (NotRead named refusal) = is_the m named
+
 -- what is heard concerns the matter: it names it, or it is an import with a line that does
 abbrev pub concerns : ℕ → Heard → Bool
-concerns m (Asks (Matter n caller ask)) = n == m
-concerns m (Asks (Import caller statement)) = list_any (names_item m) (imported caller statement)
-concerns m (Unread named refusal) = is_the m named
+concerns m h = kind_concerns m (kind_of h)

@@ -11,3 +11,4 @@ pub mod OnceOnly
 pub mod Counts
 pub mod Plan
 pub mod Calls
+pub mod Crashes

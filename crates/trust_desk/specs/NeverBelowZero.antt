@@ -5,18 +5,20 @@ use Rattle.trust_matter.specs.Step.{HasAmount}
 use Rattle.firm_rows.specs.Firm.{Firm, of}
 use Rattle.firm_rows.specs.FirmSound.{FirmSound}
 use Rattle.statement_csv.specs.declared.item.Item.{Item}
-use Rattle.trust_desk.specs.declared.requests.Request.TheVariants.{Matter, Import}
-use Rattle.trust_desk.specs.Heard.{Heard, Asks, Unread}
+use Rattle.trust_desk.specs.Heard.{Heard, Kind, OfMatter, OfItems, OnlyTold, NotRead, kind_of}
 use Rattle.trust_desk.specs.ItemStep.{after_item}
-use Rattle.trust_desk.specs.ImportStep.{imported}
 use Rattle.trust_desk.specs.FirmStep.{RunsSoundly, Steps, firm_step}
 use Rattle.trust_desk.specs.declared.requests.Reply.{Reply}
 
+abbrev pub KindHasAmounts : Kind → Type 0
+KindHasAmounts (OfMatter m caller ask) = HasAmount ask
+KindHasAmounts (OfItems refused items) = Unit {0}
+KindHasAmounts (OnlyTold text) = Unit {0}
+KindHasAmounts (NotRead named refusal) = Unit {0}
+
 -- the amounts in what is heard are amounts; a line of the bank may have any
 abbrev pub HasAmounts : Heard → Type 0
-HasAmounts (Asks (Matter m caller ask)) = HasAmount ask
-HasAmounts (Asks (Import caller statement)) = Unit {0}
-HasAmounts (Unread named refusal) = Unit {0}
+HasAmounts h = KindHasAmounts (kind_of h)
 
 abbrev pub AllHaveAmounts : List Heard → Type 0
 AllHaveAmounts [] = Unit {0}
@@ -32,11 +34,15 @@ abbrev pub AlwaysCoveredBy : ℕ → Firm → List Item → Type 0
 AlwaysCoveredBy day firm [] = IsCovered firm
 AlwaysCoveredBy day firm (it ∷ items) = IsCovered firm × AlwaysCoveredBy day (after_item day firm it) items
 
+abbrev pub KindIsCovered : ℕ → Firm → Kind → Type 0
+KindIsCovered day firm (OfMatter m caller ask) = IsCovered firm
+KindIsCovered day firm (OfItems refused items) = AlwaysCoveredBy day firm items
+KindIsCovered day firm (OnlyTold text) = IsCovered firm
+KindIsCovered day firm (NotRead named refusal) = IsCovered firm
+
 -- and in what is heard
 abbrev pub IsCoveredIn : ℕ → Firm → Heard → Type 0
-IsCoveredIn day firm (Asks (Matter m caller ask)) = IsCovered firm
-IsCoveredIn day firm (Asks (Import caller statement)) = AlwaysCoveredBy day firm (imported caller statement)
-IsCoveredIn day firm (Unread named refusal) = IsCovered firm
+IsCoveredIn day firm h = KindIsCovered day firm (kind_of h)
 
 -- before and after each step, and after each item of an import
 abbrev pub AlwaysCovered : ℕ → Firm → List Heard → Type 0

@@ -1,12 +1,17 @@
--- What was asked and accepted adds at most one entry, and a line is applied at most once, however often they are sent.
-use Rattle.std.specs.Prelude.{true, ℕ, ◌≡◌, false, List, [], ◌∷◌, IsSome, None}
+-- What was asked and accepted adds at most one entry, and a line is applied at most once, however often they are sent:
+-- one that names an entry, one of the firm's own, and a balance.
+use Rattle.std.specs.Prelude.{true, ℕ, ◌≡◌, ◌≢◌, false, List, [], ◌∷◌, IsSome, Some, None}
+use Rattle.trust_base.specs.declared.line.Line.{Line}
 use Rattle.trust_matter.specs.declared.bank_line.BankLine.{BankLine}
 use Rattle.matter_rows.specs.Rows.{is_purged}
 use Rattle.trust_matter.specs.Facts.{Asked, facts_of}
 use Rattle.trust_matter.specs.Conditions.{is_repeat, number_made}
 use Rattle.trust_matter.specs.Step.{refusal}
 use Rattle.trust_matter.specs.Laws.{IsSameLine}
-use Rattle.firm_rows.specs.Firm.{Firm, of, after_match}
+use Rattle.firm_rows.specs.declared.ledger.BalanceKind.{BalanceKind}
+use Rattle.firm_rows.specs.declared.ledger.BalanceKind.TheVariants as kind
+use Rattle.firm_rows.specs.Firm.{Firm, of, after_match, after_stray}
+use Rattle.firm_rows.specs.FirmLines.{kept_balance}
 use Rattle.statement_csv.specs.declared.item.Item.{Item}
 use Rattle.statement_csv.specs.declared.item.Item.TheVariants as item
 use Rattle.trust_desk.specs.declared.importing.Counted.TheVariants as counted
@@ -41,28 +46,77 @@ OnceOnly =
     → RunsOn (after_ask m a firm) between new → again.ask ≡ a.ask
     → IsAskSpent m again new
 
+-- What becomes of an item that tells of a line.
+
+-- it is a repeat: the line is no exception from then on, and nothing else changes
+pub record IsRepeated (day : ℕ) (firm : Firm) (it : Item) (line : Line) : Type 0 where
+  pub repeat : counted_of day firm it ≡ counted.Repeated
+  pub leaves : after_item day firm it ≡ after_match line firm
+
+-- it matches nothing: the line is an exception from then on, and nothing else changes
+pub record IsUnmatched (day : ℕ) (firm : Firm) (it : Item) (line : Line) : Type 0 where
+  pub exception : counted_of day firm it ≡ counted.Exception
+  pub leaves : after_item day firm it ≡ after_stray line firm
+
+-- A line that names an entry.
+
 -- the same line of the same matter, in whatever words
 pub record ComesAgain (l again : BankLine) : Type 0 where
   pub matter : again.matter ≡ l.matter
   pub line : IsSameLine l again
 
--- the line is a repeat: it is no exception from then on, and nothing else changes
-pub record IsRepeated (day : ℕ) (firm : Firm) (l : BankLine) : Type 0 where
-  pub repeat : counted_of day firm (item.OfMatter l) ≡ counted.Repeated
-  pub leaves : after_item day firm (item.OfMatter l) ≡ after_match l.line firm
-
 -- the line changes no matter and moves nothing, and it is a repeat as long as its matter is not purged
 pub record IsLineOver (day : ℕ) (firm : Firm) (l : BankLine) : Type 0 where
   pub rows : (after_item day firm (item.OfMatter l)).rows ≡ firm.rows
   pub movements : (after_item day firm (item.OfMatter l)).movements ≡ firm.movements
-  pub repeat : is_purged (of l.matter firm).head ≡ false → IsRepeated day firm l
+  pub repeat : is_purged (of l.matter firm).head ≡ false → IsRepeated day firm (item.OfMatter l) l.line
 
--- a line that was applied changes nothing when it comes again, and is a repeat as long as its matter is not purged: in any
--- file, behind the rest of its own and the front of that in which it comes again, on whatever day, and whatever was run in
--- between, with or without faults
+-- a line that was applied changes nothing when it comes again, and is a repeat as long as its matter is not purged: in
+-- any file, behind the rest of its own and the front of that in which it comes again, on whatever day, and whatever was
+-- run in between, with or without faults
 abbrev pub LineOnceOnly : Type 0
 LineOnceOnly =
     (l again : BankLine) (day later : ℕ) (firm mid : Firm) (rest front : List Item) (between : List DayRun)
     → counted_of day firm (item.OfMatter l) ≡ counted.Applied → ComesAgain l again
     → RunsOn (after_items day firm (item.OfMatter l ∷ rest)) between mid
     → IsLineOver later (after_items later mid front) again
+
+-- A line of the firm's own.
+
+-- a line of the same date, reference of the bank and amount, in whatever words
+pub record IsSameFirmLine (line again : Line) : Type 0 where
+  pub date : again.date ≡ line.date
+  pub bank_ref : again.bank_ref ≡ line.bank_ref
+  pub amount : again.amount ≡ line.amount
+
+-- a line of the firm's own that was applied, or was a repeat, is a repeat when it comes again: in any file, on whatever
+-- day, and whatever was run in between, with or without faults, purging too
+abbrev pub FirmLineOnce : Type 0
+FirmLineOnce =
+    (line again : Line) (day later : ℕ) (firm mid : Firm) (rest front : List Item) (between : List DayRun)
+    → counted_of day firm (item.OfFirm line) ≢ counted.Exception → IsSameFirmLine line again
+    → RunsOn (after_items day firm (item.OfFirm line ∷ rest)) between mid
+    → IsRepeated later (after_items later mid front) (item.OfFirm again) again
+
+-- A balance.
+
+-- the item that tells of a balance of a kind
+abbrev pub balance_item : BalanceKind → Line → Item
+balance_item kind.Opening line = item.Opening line
+balance_item kind.Closing line = item.Closing line
+
+-- the balance is kept of its kind and day with its amount; one of the same amount is a repeat, and one of another
+-- amount matches nothing
+pub record IsBalanceOver (day : ℕ) (firm : Firm) (k : BalanceKind) (line again : Line) : Type 0 where
+  pub kept : kept_balance k line.date firm.balances ≡ Some line.amount
+  pub same : again.amount ≡ line.amount → IsRepeated day firm (balance_item k again) again
+  pub other : again.amount ≢ line.amount → IsUnmatched day firm (balance_item k again) again
+
+-- a balance that was applied, or was a repeat, stays kept, and no other of its kind and day is ever applied: in any
+-- file, on whatever day, and whatever was run in between, with or without faults, purging too
+abbrev pub BalanceOnce : Type 0
+BalanceOnce =
+    (k : BalanceKind) (line again : Line) (day later : ℕ) (firm mid : Firm) (rest front : List Item)
+    (between : List DayRun) → counted_of day firm (balance_item k line) ≢ counted.Exception → again.date ≡ line.date
+    → RunsOn (after_items day firm (balance_item k line ∷ rest)) between mid
+    → IsBalanceOver later (after_items later mid front) k line again

@@ -12,7 +12,7 @@ use Rattle.trust_matter.specs.Conditions.{is_repeat}
 use Rattle.trust_matter.specs.Step.{refusal, rows_after}
 use Rattle.trust_desk.specs.declared.requests.Reply.{Reply}
 use Rattle.trust_desk.specs.declared.requests.Body.{Body}
-use Rattle.trust_desk.specs.declared.requests.Body.TheVariants.{Json, Refused}
+use Rattle.trust_desk.specs.declared.requests.Body.TheVariants.{Json, Refused, Text}
 use Rattle.matter_bodies.specs.Bodies.{matter_body, purge_body, receipt_body, entry_body}
 
 -- the reply to what is refused
@@ -24,10 +24,16 @@ abbrev pub reply_for : Result Reply Refusal → Reply
 reply_for (Ok reply) = reply
 reply_for (Err r) = refused r
 
+-- the reply to a request for a text: the text, or the refusal
+abbrev pub text_reply : Result (List ℕ) Refusal → Reply
+text_reply (Ok text) = record { status = 200; body = Text text }
+text_reply (Err r) = refused r
+
 -- Faults.
 
 abbrev pub is_fault_body : Body → Bool
 is_fault_body (Json text) = false
+is_fault_body (Text text) = false
 is_fault_body (Refused r) = is_fault r
 
 -- only a call of the store, or a growth, can bring this reply

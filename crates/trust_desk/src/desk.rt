@@ -1,24 +1,27 @@
 //! The desk: requests in, replies out, over any book.
 
-ghost use Rattle.std.specs.Prelude.{◌≡◌, ℕ, IfOk, length, take, ◌<◌, ◌∷◌, [], false, is_none};
+ghost use Rattle.std.specs.Prelude.{◌≡◌, ℕ, List, IfOk, length, take, ◌<◌, ◌∷◌, [], false, is_none};
 ghost use Rattle.statement_csv.specs.Items.{items};
+ghost use Rattle.statement_csv.specs.declared.item.Item.{Item};
 ghost use Rattle.trust_desk.specs.Heard.{Asks, asked_on, heard};
 ghost use Rattle.trust_desk.specs.Replies.{is_fault_reply, reply_for};
-ghost use Rattle.trust_desk.specs.ImportStep.{EndsItems, items_in};
-ghost use Rattle.trust_desk.specs.FirmStep.{Steps, RunsSoundly, IsUnstopped};
+ghost use Rattle.firm_rows.specs.Firm.{Firm};
+ghost use Rattle.trust_desk.specs.ImportStep.{EndsItems, IsAfterFront, items_in};
+ghost use Rattle.trust_desk.specs.FirmStep.{Steps, RunsSoundly, IsUnstopped, after_ask, firm_step};
 ghost use Rattle.trust_desk.specs.Isolation.{IsOwn, KeepsOthers};
 ghost use Rattle.trust_desk.specs.Calls.{KeepsBook};
 ghost use Rattle.trust_desk.specs.Counts.{counted_reply, counted_replies, counted_end};
+ghost use Rattle.trust_desk.specs.Crashes.{AreNoFaults, AreNoFaultsButLast, IsImport, IsMade, IsMadeInRun, MayLeave, MayLeaveChange, before_fault, is_fault_end};
 ghost use Rattle.trust_desk.specs.Plan.{Ends};
 
 use crate::import_checks::check_import;
 use crate::importing::{ImportEnd, ImportStop};
 use crate::planning::plan;
-use crate::requests::{Body, End, JsonText, Reply, Request, RunEnd, StatementText};
+use crate::requests::{Body, End, Reply, Request, RunEnd};
 use matter_bodies::{ImportReply, import_body};
 use std::alloc::Global;
 use std::marker::Model;
-use trust_base::{Day, MatterNo, Refusal};
+use trust_base::{Day, MatterNo, OwnedBytes, Refusal};
 use trust_matter::{Ask, Caller};
 use trust_store::Book;
 
@@ -62,6 +65,14 @@ impl<B: Book> Desk<B> {
 
         // It is Store only where a call of the book was.
         ensures kept { KeepsBook B.clean B.sure B.stands B.refusals (counted_reply result) self.old self.new }
+
+        // A crash may leave what it might have left before, or the rows with the request's change; of an import the
+        // rows after some front of its items, where the store served as it began, as that of a book does that has met
+        // no fault. After each answer but Store and Memory a settled book is settled.
+        ensures crash { B.sure self.new → B.stands self.old → (IsImport request.now → B.clean self.old)
+            → MayLeave B.clean B.leaves (is_fault_reply result ≡ false)
+            (IsMade day (B.firm self.old) (Asks request.now)) (B.firm self.old)
+            (firm_step day (B.firm self.old) (Asks request.now)).firm self.old self.new }
     {
         match request {
             Request::Matter { no, caller, ask } => self.answer_ask(alloc, *no, caller, ask, day),
@@ -75,12 +86,16 @@ impl<B: Book> Desk<B> {
         &mut self,
         alloc: Global,
         caller: &Caller,
-        statement: &StatementText,
+        statement: &OwnedBytes,
         day: Day,
     ) -> Reply
         ensures step { B.clean self.new → B.stands self.old
             → Steps day (B.firm self.old) (Asks (Request.Import caller.now statement.now)) result (B.firm self.new) }
         ensures kept { KeepsBook B.clean B.sure B.stands B.refusals (counted_reply result) self.old self.new }
+        ensures crash { B.sure self.new → B.clean self.old → B.stands self.old → MayLeave B.clean B.leaves
+            (is_fault_reply result ≡ false)
+            (IsMade day (B.firm self.old) (Asks (Request.Import caller.now statement.now)))
+            (B.firm self.old) (B.firm self.new) self.old self.new }
     {
         match self.try_import(alloc, caller, statement.as_slice(), day) {
             Ok(counted) => counted,
@@ -100,13 +115,17 @@ impl<B: Book> Desk<B> {
             (B.firm self.new) }
         ensures ok { IfOk result (λ reply. is_fault_reply reply ≡ false) }
         ensures kept { KeepsBook B.clean B.sure B.stands B.refusals (counted_end result) self.old self.new }
+        ensures crash { B.sure self.new → B.clean self.old → B.stands self.old → MayLeave B.clean B.leaves
+            (is_fault_end result ≡ false)
+            (IsMade day (B.firm self.old) (Asks (Request.Import caller.now bytes.now)))
+            (B.firm self.old) (B.firm self.new) self.old self.new }
     {
         check_import(alloc, caller, bytes)?;
         let counts = self.import_bytes(alloc, bytes, day)?;
         let text = import_body(alloc, &counts)?;
         Ok(Reply {
             status: 200,
-            body: Body::Json(JsonText::new(text)),
+            body: Body::Json(OwnedBytes::new(text)),
         })
     }
 
@@ -121,6 +140,10 @@ impl<B: Book> Desk<B> {
         ensures end { B.clean self.new → B.stands self.old
             → EndsItems day (B.firm self.old) (items_in bytes.now) (B.firm self.new) result }
         ensures kept { KeepsBook B.clean B.sure B.stands B.refusals (counted_end result) self.old self.new }
+        ensures crash { B.sure self.new → B.clean self.old → B.stands self.old → MayLeave B.clean B.leaves
+            (is_fault_end result ≡ false)
+            (λ found. (rest : List Item) × IsAfterFront day (B.firm self.old) (items_in bytes.now) rest found)
+            (B.firm self.old) (B.firm self.new) self.old self.new }
     {
         let ImportEnd { reply, end } = self.import(alloc, bytes, day);
         match end {
@@ -142,6 +165,9 @@ impl<B: Book> Desk<B> {
         ensures step { B.clean self.new → B.stands self.old
             → Steps day (B.firm self.old) (Asks (Request.Matter no caller.now ask.now)) result (B.firm self.new) }
         ensures kept { KeepsBook B.clean B.sure B.stands B.refusals (counted_reply result) self.old self.new }
+        ensures crash { B.sure self.new → B.stands self.old → MayLeaveChange B.clean B.leaves
+            (is_fault_reply result ≡ false) (B.firm self.old)
+            (after_ask no (asked_on day caller.now ask.now) (B.firm self.old)) self.old self.new }
     {
         match self.try_ask(alloc, no, caller, ask, day) {
             Ok(reply) => reply,
@@ -160,6 +186,9 @@ impl<B: Book> Desk<B> {
         ensures end { B.clean self.new → B.stands self.old
             → Ends (B.firm self.old) no (asked_on day caller.now ask.now) (B.firm self.new) result }
         ensures kept { KeepsBook B.clean B.sure B.stands B.refusals (counted_end result) self.old self.new }
+        ensures crash { B.sure self.new → B.stands self.old → MayLeaveChange B.clean B.leaves
+            (is_fault_end result ≡ false) (B.firm self.old)
+            (after_ask no (asked_on day caller.now ask.now) (B.firm self.old)) self.old self.new }
     {
         let matter = self
             .book
@@ -187,6 +216,20 @@ impl<B: Book> Desk<B> {
         // They are Store only where calls of the book were.
         ensures kept { KeepsBook B.clean B.sure B.stands B.refusals (counted_replies result.replies.items)
             self.old self.new }
+
+        // Where the store served as the run began, and no reply but the last is Store or Memory, a crash may leave what
+        // it might have left before, or the rows after some front of the requests, with a part of the next; and where
+        // no reply is, a settled book is settled.
+        ensures crash { B.sure self.new → B.clean self.old → B.stands self.old
+            → AreNoFaultsButLast result.replies.items → MayLeave B.clean B.leaves (AreNoFaults result.replies.items)
+            (IsMadeInRun day (B.firm self.old) (heard (take (length result.replies.items) requests.now)))
+            (B.firm self.old) (B.firm self.new) self.old self.new }
+
+        // The replies before the first that is are those of a run, also where a fault has shut the store since.
+        ensures shut { B.sure self.new → B.clean self.old → B.stands self.old → (mid : Firm)
+            × RunsSoundly day (B.firm self.old)
+            (heard (take (length (before_fault result.replies.items)) requests.now))
+            (before_fault result.replies.items) mid }
     {
         let mut replies = Vec::new(alloc);
         for request in requests {

@@ -1,6 +1,6 @@
 //! Statements of the bank, item by item.
 
-ghost use Rattle.std.specs.Prelude.{◌≡◌, ◌-◌, ◌^◌, IfNone, IfOk, IfSome, None, OnErr, OnOk, Some, option_map};
+ghost use Rattle.std.specs.Prelude.{◌≡◌, ◌-◌, ◌^◌, IfNone, IfOk, IfSome, IsOk, None, OnErr, OnOk, Some, false, option_map};
 ghost use Rattle.std.specs.Io.KnownBytes.{Keeps};
 ghost use Rattle.trust_base.specs.Refusals.{refused_by};
 ghost use Rattle.trust_base.specs.declared.refusal.Field.TheVariants as field;
@@ -12,11 +12,12 @@ ghost use Rattle.statement_csv.specs.declared.item.Item.TheVariants.{OfFirm, OfM
 ghost use Rattle.matter_rows.specs.Rows.{Rows};
 ghost use Rattle.matter_rows.specs.Sound.{Sound};
 ghost use Rattle.trust_matter.specs.LineStep.{LineDecides};
-ghost use Rattle.firm_rows.specs.Firm.{after_stray};
+ghost use Rattle.firm_rows.specs.Firm.{Firm, after_stray};
 ghost use Rattle.trust_store.specs.Books.{counted};
 ghost use Rattle.trust_store.specs.Named.{IsPartFor};
 ghost use Rattle.trust_desk.specs.Calls.{KeepsBook};
 ghost use Rattle.trust_desk.specs.Counts.{counted_refusal};
+ghost use Rattle.trust_desk.specs.Crashes.{IsAfterFirst, IsAfterNext, IsNotStopped, MayLeave, MayLeaveChange, is_stopped};
 ghost use Rattle.trust_desk.specs.Imports.{AreBelow, CountsOne, Imports, IsStop, KeepsAllUnnamed, LeavesOwnItem, TakesOne, counted_if, counted_stop, stop_of};
 ghost use Rattle.trust_desk.specs.ItemStep.{KeepsAll, KeepsUnnamed, after_balance, after_item, balance_on, count_item, count_one, counted_by, counted_of, counted_verdict, none_counted};
 
@@ -179,6 +180,11 @@ impl<B: Book> Desk<B> {
 
         // It is Store only where a call of the book was.
         ensures kept { KeepsBook B.clean B.sure B.stands B.refusals (counted result) self.old self.new }
+
+        // A crash may leave what it might have left before, or the rows with the item's change; and where it answers
+        // Ok, of a settled book these alone.
+        ensures crash { B.sure self.new → B.stands self.old → MayLeaveChange B.clean B.leaves (IsOk result)
+            (B.firm self.old) (after_item day (B.firm self.old) item.now) self.old self.new }
     {
         match item {
             Item::Opening(line) => self.apply_balance(alloc, BalanceKind::Opening, line, day),
@@ -204,6 +210,8 @@ impl<B: Book> Desk<B> {
         ensures others { B.clean self.new → B.stands self.old
             → KeepsUnnamed (B.firm self.old) (OfMatter line.now) (B.firm self.new) }
         ensures kept { KeepsBook B.clean B.sure B.stands B.refusals (counted result) self.old self.new }
+        ensures crash { B.sure self.new → B.stands self.old → MayLeaveChange B.clean B.leaves (IsOk result)
+            (B.firm self.old) (after_item day (B.firm self.old) (OfMatter line.now)) self.old self.new }
     {
         let matter = self
             .book
@@ -227,6 +235,8 @@ impl<B: Book> Desk<B> {
         ensures others { B.clean self.new → B.stands self.old
             → KeepsUnnamed (B.firm self.old) (OfFirm line.now) (B.firm self.new) }
         ensures kept { KeepsBook B.clean B.sure B.stands B.refusals (counted result) self.old self.new }
+        ensures crash { B.sure self.new → B.stands self.old → MayLeaveChange B.clean B.leaves (IsOk result)
+            (B.firm self.old) (after_item day (B.firm self.old) (OfFirm line.now)) self.old self.new }
     {
         let ledger = self.book.firm(alloc)?;
         let verdict = decide_firm_line(&ledger, line, day);
@@ -248,6 +258,8 @@ impl<B: Book> Desk<B> {
         ensures err { B.clean self.new → B.stands self.old → OnErr result (B.firm self.new ≡ B.firm self.old) }
         ensures others { B.clean self.new → B.stands self.old → KeepsAll (B.firm self.old) (B.firm self.new) }
         ensures kept { KeepsBook B.clean B.sure B.stands B.refusals (counted result) self.old self.new }
+        ensures crash { B.sure self.new → B.stands self.old → MayLeaveChange B.clean B.leaves (IsOk result)
+            (B.firm self.old) (after_balance kind line.now day (B.firm self.old)) self.old self.new }
     {
         let kept = self.book.balance(kind, line.date)?;
         let verdict = decide_balance(kept, line, day);
@@ -261,6 +273,8 @@ impl<B: Book> Desk<B> {
             → IfOk result (λ c. (c ≡ Counted.Exception) × (B.firm self.new ≡ after_stray line.now (B.firm self.old))) }
         ensures err { B.clean self.new → B.stands self.old → OnErr result (B.firm self.new ≡ B.firm self.old) }
         ensures kept { KeepsBook B.clean B.sure B.stands B.refusals (counted result) self.old self.new }
+        ensures crash { B.sure self.new → B.stands self.old → MayLeaveChange B.clean B.leaves (IsOk result)
+            (B.firm self.old) (after_stray line.now (B.firm self.old)) self.old self.new }
     {
         self.book.write_stray(alloc, line)?;
         Ok(Counted::Exception)
@@ -287,6 +301,17 @@ impl<B: Book> Desk<B> {
 
         // It ends by Store only where a call of the book did.
         ensures kept { KeepsBook B.clean B.sure B.stands B.refusals (counted_stop result.end) self.old self.new }
+
+        // Where the store served as the import began, a crash may leave what it might have left before, or the rows
+        // after some front of the items; and a settled book is settled, where neither the store nor memory ended it.
+        ensures crash { B.sure self.new → B.clean self.old → B.stands self.old → MayLeave B.clean B.leaves
+            (is_stopped result.end ≡ false)
+            (IsAfterFirst day (B.firm self.old) (option_map items (R.remaining reader)))
+            (B.firm self.old) (B.firm self.new) self.old self.new }
+
+        // What it counts are the first of the items, also where a fault has shut the store since.
+        ensures shut { B.sure self.new → B.clean self.old → B.stands self.old → (mid : Firm)
+            × Imports day (B.firm self.old) (option_map items (R.remaining reader)) result mid }
     {
         self.import_whole::<R, Brand>(alloc, reader, day)
     }
@@ -307,6 +332,12 @@ impl<B: Book> Desk<B> {
         ensures limit { result.end ≡ ImportStop.Limit → IsTooLong K.bytes }
         ensures within { result.end ≡ ImportStop.Done → IsWithin K.bytes }
         ensures kept { KeepsBook B.clean B.sure B.stands B.refusals (counted_stop result.end) self.old self.new }
+        ensures crash { B.sure self.new → B.clean self.old → B.stands self.old → MayLeave B.clean B.leaves
+            (is_stopped result.end ≡ false)
+            (IsAfterFirst day (B.firm self.old) (option_map items (R.remaining reader)))
+            (B.firm self.old) (B.firm self.new) self.old self.new }
+        ensures shut { B.sure self.new → B.clean self.old → B.stands self.old → (mid : Firm)
+            × Imports day (B.firm self.old) (option_map items (R.remaining reader)) result mid }
     {
         let mut lines = Lines::<R, K>::of_whole(alloc, reader);
         let mut reply = none_counted();
@@ -343,6 +374,9 @@ impl<B: Book> Desk<B> {
         ensures limit { result ≡ Some ImportStop.Limit → IsTooLong K.bytes }
         ensures within { result ≡ Some ImportStop.Done → IsWithin K.bytes }
         ensures kept { KeepsBook B.clean B.sure B.stands B.refusals (counted_if result) self.old self.new }
+        ensures crash { B.sure self.new → B.clean self.old → B.stands self.old → MayLeave B.clean B.leaves
+            (IsNotStopped result) (IsAfterNext day (B.firm self.old) lines.old.left) (B.firm self.old) (B.firm self.new)
+            self.old self.new }
     {
         match lines.next() {
             Ok(Some(item)) => match self.import_item(alloc, item, day, reply) {
@@ -369,6 +403,9 @@ impl<B: Book> Desk<B> {
         ensures keeps { OnErr result ((reply.new ≡ reply.old)
             × (B.clean self.new → B.stands self.old → B.firm self.new ≡ B.firm self.old)) }
         ensures kept { KeepsBook B.clean B.sure B.stands B.refusals (counted result) self.old self.new }
+        ensures crash { B.sure self.new → B.clean self.old → B.stands self.old → MayLeave B.clean B.leaves (IsOk result)
+            (λ found. found ≡ after_item day (B.firm self.old) item) (B.firm self.old) (B.firm self.new)
+            self.old self.new }
     {
         let counted = self.apply_line(alloc, &item, day)?;
         count_item(reply, &item, counted);

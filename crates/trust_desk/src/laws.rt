@@ -4,7 +4,7 @@ ghost use Rattle.trust_desk.specs.Isolation.{EachMatterOwn, SameForTheMatter};
 ghost use Rattle.trust_desk.specs.ItemStep.{EveryItemIsCounted};
 ghost use Rattle.trust_desk.specs.FirmStep.{RefusalsHaveTheirStatus, SoundRunsAreRuns};
 ghost use Rattle.trust_desk.specs.NeverBelowZero.{NeverBelowZero, RunsNeverBelowZero};
-ghost use Rattle.trust_desk.specs.OnceOnly.{LineOnceOnly, OnceOnly};
+ghost use Rattle.trust_desk.specs.OnceOnly.{BalanceOnce, FirmLineOnce, LineOnceOnly, OnceOnly};
 
 /// In every run each matter's replies, and its rows afterwards, are those of its own machine.
 pub fn own_machine()
@@ -34,11 +34,22 @@ pub fn refusals_have_their_status()
     ensures { RefusalsHaveTheirStatus }
 {}
 
-/// An ask that makes an entry adds at most one, and a line of the bank is applied at most once, however often they
-/// are sent.
+/// An ask that makes an entry adds at most one, and a line of the bank that names an entry is applied at most once,
+/// however often they are sent.
 pub fn once_only()
     ensures asks { OnceOnly }
     ensures lines { LineOnceOnly }
+{}
+
+/// A line of the firm's own is applied at most once, however often it is sent: from then on it is a repeat.
+pub fn firm_line_once()
+    ensures { FirmLineOnce }
+{}
+
+/// An opening or closing balance is applied at most once for its day, however often it is sent, and is kept from then
+/// on: one of the same amount is a repeat, and one of another amount is an exception.
+pub fn balance_once()
+    ensures { BalanceOnce }
 {}
 
 /// Each item of an import is counted, once, as applied, repeated, an exception or unreadable.

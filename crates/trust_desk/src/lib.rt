@@ -11,4 +11,5 @@ mod requests;
 pub use desk::Desk;
 pub use importing::{Counted, ImportEnd, ImportStop};
 pub use matter_bodies::{ImportReply, entry_body, import_body, matter_body, receipt_body};
-pub use requests::{Body, End, JsonText, Reply, Request, RunEnd, StatementText};
+pub use requests::{Body, End, Reply, Request, RunEnd};
+pub use trust_base::OwnedBytes;

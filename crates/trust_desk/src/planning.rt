@@ -10,10 +10,10 @@ ghost use Rattle.trust_desk.specs.Heard.{asked_on};
 ghost use Rattle.trust_desk.specs.Replies.{body_of, made_text, shown_text};
 ghost use Rattle.trust_desk.specs.Plan.{IsTextOf, Plans, is_nothing, success_by};
 
-use crate::requests::{Body, JsonText, Reply};
+use crate::requests::{Body, Reply};
 use matter_bodies::{entry_body, matter_body, purge_body, receipt_body};
 use std::alloc::{AllocError, Global};
-use trust_base::{Day, EntryNo, MatterNo, Refusal};
+use trust_base::{Day, EntryNo, MatterNo, OwnedBytes, Refusal};
 use trust_matter::{Ask, Caller, Change, Edit, Matter, decide, holds_for};
 
 /// What an ask changes, and the answer to it, made before anything is written.
@@ -126,7 +126,7 @@ pub(crate) fn plan(
     let text = body_after(alloc, no, &matter, ask)?;
     let reply = Reply {
         status: success_of(ask, change.edit()),
-        body: Body::Json(JsonText::new(text)),
+        body: Body::Json(OwnedBytes::new(text)),
     };
     Ok(Planned { change, reply })
 }

@@ -1,9 +1,8 @@
 //! What is asked of the desk, and what it answers.
 
-ghost use Rattle.std.specs.Prelude.{◌≡◌, List, ℕ};
+ghost use Rattle.std.specs.Prelude.{◌≡◌};
 
-use std::marker::Model;
-use trust_base::{MatterNo, Refusal};
+use trust_base::{MatterNo, OwnedBytes, Refusal};
 use trust_matter::{Ask, Caller};
 
 /// What is asked of the desk.
@@ -14,10 +13,10 @@ pub enum Request {
         caller: Caller,
         ask: Ask,
     },
-    /// A caller hands in a statement of the bank.
+    /// A caller hands in a statement of the bank, bytes of whatever form.
     Import {
         caller: Caller,
-        statement: StatementText,
+        statement: OwnedBytes,
     },
 }
 
@@ -37,67 +36,13 @@ impl Drop for Request {
     }
 }
 
-/// The bytes of a statement of the bank, of whatever form. Contracts see it as the list of these bytes.
-#[derive(Debug, Drop)]
-pub struct StatementText {
-    bytes: Vec<u8>,
-}
-
-impl Model for StatementText {
-    ghost Value = { List ℕ };
-
-    ghost view = { λ t. t.bytes.items };
-}
-
-impl StatementText {
-    /// The text of these bytes. Takes no memory.
-    pub fn new(bytes: Vec<u8>) -> StatementText
-        ensures { result ≡ bytes.items }
-    {
-        StatementText { bytes }
-    }
-
-    /// The bytes.
-    pub fn as_slice(&self) -> &[u8]
-        ensures { result.now ≡ self.now }
-    {
-        self.bytes.as_slice()
-    }
-}
-
-/// The compact JSON text of an answer. Contracts see it as the list of its bytes.
-#[derive(Debug, Drop)]
-pub struct JsonText {
-    bytes: Vec<u8>,
-}
-
-impl Model for JsonText {
-    ghost Value = { List ℕ };
-
-    ghost view = { λ t. t.bytes.items };
-}
-
-impl JsonText {
-    /// The text of these bytes. Takes no memory.
-    pub fn new(bytes: Vec<u8>) -> JsonText
-        ensures { result ≡ bytes.items }
-    {
-        JsonText { bytes }
-    }
-
-    /// The bytes.
-    pub fn as_slice(&self) -> &[u8]
-        ensures { result.now ≡ self.now }
-    {
-        self.bytes.as_slice()
-    }
-}
-
 /// What an answer says.
 #[derive(Debug, Drop)]
 pub enum Body {
-    /// An accepted request: a JSON object.
-    Json(JsonText),
+    /// An accepted request: the compact text of a JSON object.
+    Json(OwnedBytes),
+    /// An accepted request for a report: lines of plain text, in UTF-8.
+    Text(OwnedBytes),
     /// A request that was refused.
     Refused(Refusal),
 }

@@ -1,13 +1,11 @@
 pub mod DifferenceTold
-pub mod Lasts
+pub mod DoubleRows
+pub mod Handed
 pub mod Listing
-pub mod Lists
 pub mod OpeningRows
-pub mod Places
 pub mod PurgedFigures
 pub mod PurgedLists
 pub mod Reconciling
-pub mod Retained
+pub mod ReconciliationRows
 pub mod Sizes
-pub mod Tidy
-pub mod Trial
+pub mod Sorted

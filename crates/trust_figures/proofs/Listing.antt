@@ -1,5 +1,5 @@
 -- What a lister keeps are the lists.
-use Rattle.std.proofs.Common.{◌≡◌, ℕ, Bool, true, false, cond, List, [], ◌∷◌, ◌++◌, refl, sym, ap, ◌∙◌, append_assoc, append-nil}
+use Rattle.std.proofs.Common.{◌≡◌, ℕ, Bool, true, false, cond, List, [], ◌∷◌, ◌++◌, sym, ap, ◌∙◌, append_assoc, append-nil}
 use Rattle.std.specs.Prelude.{nat_le, fold, if◌then◌else◌}
 use Rattle.std.specs.List.{filter, flat_map}
 use Rattle.trust_base.specs.declared.line.Line.{Line}

@@ -29,40 +29,40 @@ pub record IsWithin (n : ℕ) (z : ℤ) : Type 0 where
   pub high : z ≤ℤ pos n
 
 -- the greatest amount of a bank, rounded up
-abbrev MOST : ℕ
+abbrev pub MOST : ℕ
 MOST = 1_000_000_000_000_000_000
 
-sum-within : {A : Type 0} (f : A → ℤ) (xs : List A) → AllByRecursion (λ x. IsWithin MOST (f x)) xs → IsWithin (length xs * MOST) (sum_of f xs)
+pub sum-within : {A : Type 0} (f : A → ℤ) (xs : List A) → AllByRecursion (λ x. IsWithin MOST (f x)) xs → IsWithin (length xs * MOST) (sum_of f xs)
 sum-within f [] all = record { low = omega (arith, ints); high = omega (arith, ints) }
 sum-within f (x ∷ xs) all =
     let more = sum-within f xs all.1 in
     record { low = omega (arith, ints, more.low, all.0.low); high = omega (arith, ints, more.high, all.0.high) }
 
-wider : (n m : ℕ) (z : ℤ) → n ≤ m → IsWithin n z → IsWithin m z
+pub wider : (n m : ℕ) (z : ℤ) → n ≤ m → IsWithin n z → IsWithin m z
 wider n m z le is = record { low = omega (arith, ints, is.low); high = omega (arith, ints, is.high) }
 
-all-from : {A : Type 0} (P Q : A → Type 0) (xs : List A) → ((x : A) → P x → Q x) → AllByRecursion P xs → AllByRecursion Q xs
+pub all-from : {A : Type 0} (P Q : A → Type 0) (xs : List A) → ((x : A) → P x → Q x) → AllByRecursion P xs → AllByRecursion Q xs
 all-from P Q [] f all = tt
 all-from P Q (x ∷ xs) f all = (f x all.0, all-from P Q xs f all.1)
 
-tested : (n : ℕ) (b : Bool) (z : ℤ) → IsWithin n z → IsWithin n (cond b z (pos 0))
+pub tested : (n : ℕ) (b : Bool) (z : ℤ) → IsWithin n z → IsWithin n (cond b z (pos 0))
 tested n true z is = is
 tested n false z is = record { low = omega (arith, ints); high = omega (arith, ints) }
 
-bank-within : (z : ℤ) → IsBankAmount z → IsWithin MOST z
+pub bank-within : (z : ℤ) → IsBankAmount z → IsWithin MOST z
 bank-within (pos n) is = record { low = omega (arith, ints); high = omega (arith, ints) }
 bank-within (negsuc n) is = record { low = omega (arith, ints); high = omega (arith, ints) }
 
-abbrev CENTS : ℕ
+abbrev pub CENTS : ℕ
 CENTS = 99_999_999_999
 
-amount-within : (n : ℕ) → IsAmount n → IsWithin CENTS (pos n)
+pub amount-within : (n : ℕ) → IsAmount n → IsWithin CENTS (pos n)
 amount-within n is = record { low = omega (arith, ints); high = omega (arith, ints, is.1) }
 
-out-within : (n : ℕ) → IsAmount n → IsWithin CENTS (pos 0 -ℤ pos n)
+pub out-within : (n : ℕ) → IsAmount n → IsWithin CENTS (pos 0 -ℤ pos n)
 out-within n is = record { low = omega (arith, ints, is.1); high = omega (arith, ints) }
 
-none-within : IsWithin CENTS (pos 0)
+pub none-within : IsWithin CENTS (pos 0)
 none-within = record { low = omega (arith, ints); high = omega (arith, ints) }
 
 cleared-within : (e : Entry) → IsAmount (entry_amount e) → IsWithin CENTS (cleared_amount e)
@@ -86,7 +86,7 @@ amounts ((m, HeadRow h) ∷ xs) all = amounts xs all.1
 amounts ((m, SeatRow s) ∷ xs) all = amounts xs all.1
 amounts ((m, EntryRow n e) ∷ xs) all = (all.0, amounts xs all.1)
 
-abbrev WHOLE : ℕ
+abbrev pub WHOLE : ℕ
 WHOLE = 18_446_744_073_709_551_615_000_000_000_000_000_000
 
 -- a sum over the entries
@@ -96,11 +96,11 @@ entries-within firm is f each =
     let most = is.rows.few in
     wider (length (entries_in firm.rows) * MOST) WHOLE _ (omega arith) (sum-within f (entries_in firm.rows) (all-from (λ e. IsAmount (entry_amount e)) (λ e. IsWithin MOST (f e)) (entries_in firm.rows) each (amounts firm.rows is.rows.ranged)))
 
-fits : (z : ℤ) → IsWithin 170_141_183_460_469_231_731_687_303_715_884_105_727 z → FitsSigned w128 z
+pub fits : (z : ℤ) → IsWithin 170_141_183_460_469_231_731_687_303_715_884_105_727 z → FitsSigned w128 z
 fits (pos n) is = fits_signed_from_abs w128 (pos n) (omega (arith, ints, is.high))
 fits (negsuc n) is = fits_signed_from_abs w128 (negsuc n) (omega (arith, ints, is.low))
 
-narrow : (z : ℤ) → IsWithin WHOLE z → FitsSigned w128 z
+pub narrow : (z : ℤ) → IsWithin WHOLE z → FitsSigned w128 z
 narrow z is = fits z (wider WHOLE _ z (omega arith) is)
 
 pub figures-fit : FiguresFit

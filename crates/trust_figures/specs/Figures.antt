@@ -60,7 +60,8 @@ voided_on (payment.Issued day) = None
 voided_on (payment.Cleared c) = None
 voided_on (payment.Voided v) = Some v.undone
 
--- the day on which that was undone: a deposit was cancelled, a payment voided; a return undoes none, since the bank told of both
+-- the day on which that was undone: a deposit was cancelled, a payment voided; a return undoes none, since the bank told
+-- of both
 abbrev pub undone_on : Entry → Option ℕ
 undone_on (entry.Deposit d) = cancelled_on d.state
 undone_on (entry.Payment p) = voided_on p.state
@@ -153,13 +154,16 @@ abbrev pub deposit_lines : DepositState → ℕ → ℕ → List MatchedLine
 deposit_lines deposit.Held book amount = []
 deposit_lines (deposit.Cleared c) book amount = record { bank = c.bank_day; book = book; amount = pos amount } ∷ []
 deposit_lines (deposit.Cancelled day) book amount = []
-deposit_lines (deposit.Returned r) book amount = record { bank = r.clearing.bank_day; book = book; amount = pos amount } ∷ record { bank = r.returning.bank_day; book = r.undone; amount = pos 0 -ℤ pos amount } ∷ []
+deposit_lines (deposit.Returned r) book amount =
+    record { bank = r.clearing.bank_day; book = book; amount = pos amount }
+    ∷ record { bank = r.returning.bank_day; book = r.undone; amount = pos 0 -ℤ pos amount } ∷ []
 
 abbrev pub payment_lines : PaymentState → ℕ → List MatchedLine
 payment_lines payment.Proposed amount = []
 payment_lines payment.Declined amount = []
 payment_lines (payment.Issued day) amount = []
-payment_lines (payment.Cleared c) amount = record { bank = c.clearing.bank_day; book = c.issued; amount = pos 0 -ℤ pos amount } ∷ []
+payment_lines (payment.Cleared c) amount =
+    record { bank = c.clearing.bank_day; book = c.issued; amount = pos 0 -ℤ pos amount } ∷ []
 payment_lines (payment.Voided v) amount = []
 
 -- the lines that an entry was cleared by, and taken back by
@@ -215,7 +219,8 @@ own_by p firm = sum_of (λ l. l.amount) (filter (is_dated_by p) firm.firm_lines)
 
 -- the ledgers of the matters and of the firm by p, taken from the entries and the firm's lines
 abbrev pub ledgers : ℕ → Firm → ℤ
-ledgers p firm = sum_of (λ e. e.amount) (filter (is_event_by p) (flat_map events_of (entries_in firm.rows))) +ℤ own_by p firm
+ledgers p firm =
+    sum_of (λ e. e.amount) (filter (is_event_by p) (flat_map events_of (entries_in firm.rows))) +ℤ own_by p firm
 
 -- the lines by p that match nothing
 abbrev pub exceptions : ℕ → Firm → ℤ

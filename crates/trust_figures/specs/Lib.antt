@@ -2,8 +2,7 @@ pub mod Copied
 pub mod Doubles
 pub mod Figures
 pub mod Listing
-pub mod Lists
 pub mod Openings
 pub mod Purged
 pub mod Reconciling
-pub mod Retained
+pub mod Reconciliations

@@ -27,11 +27,19 @@ transit_list p firm = flat_map (line_where (is_in_transit p) booked_on) firm.row
 abbrev pub out_list : ℕ → Firm → List EntryLine
 out_list p firm = flat_map (line_where (is_outstanding p) booked_on) firm.rows
 
+-- the line that cleared an entry, where the bank had it before the books
+abbrev pub banked_line : ℕ → ℕ → ℕ → Entry → List EntryLine
+banked_line p m n e = cond (is_banked_early p e) (entry_line m n (banked_on e) (cleared_amount e)) []
+
+-- the line that took it back, where the bank had it before the books
+abbrev pub back_line : ℕ → ℕ → ℕ → Entry → List EntryLine
+back_line p m n e = cond (is_back_early p e) (entry_line m n (back_on e) (pos 0 -ℤ cleared_amount e)) []
+
 -- the lines of the bank of an entry that it had before the books, the one that took it back behind the other
 abbrev pub early_lines : ℕ → ℕ × Row → List EntryLine
 early_lines p (m, HeadRow head) = []
 early_lines p (m, SeatRow seat) = []
-early_lines p (m, EntryRow n e) = cond (is_banked_early p e) (entry_line m n (banked_on e) (cleared_amount e)) [] ++ cond (is_back_early p e) (entry_line m n (back_on e) (pos 0 -ℤ cleared_amount e)) []
+early_lines p (m, EntryRow n e) = banked_line p m n e ++ back_line p m n e
 
 -- EARLY: what the bank had before the books, at the bank's day
 abbrev pub early_list : ℕ → Firm → List EntryLine
@@ -52,6 +60,13 @@ pub record Listed : Type 0 where
 abbrev pub none_listed : ℕ → Listed
 none_listed p = record { day = p; transit = []; out = []; early = []; exceptions = [] }
 
+-- with one row more among the deposits in transit and the payments outstanding
+abbrev pub with_waiting : Listed → ℕ × Row → Listed
+with_waiting s row = record s {
+  transit = s.transit ++ line_where (is_in_transit s.day) booked_on row;
+  out = s.out ++ line_where (is_outstanding s.day) booked_on row;
+}
+
 -- with the lines of one row more at the end of each list
 abbrev pub with_row_listed : Listed → ℕ × Row → Listed
 with_row_listed s row = record s {
@@ -65,4 +80,12 @@ with_exception_listed s line = if nat_le line.date s.day then record s { excepti
 
 -- what the sink keeps of a firm's rows and exceptions are the lists
 abbrev pub ListsKept : Type 0
-ListsKept = (p : ℕ) (firm : Firm) → fold with_exception_listed (fold with_row_listed (none_listed p) firm.rows) firm.exceptions ≡ record { day = p; transit = transit_list p firm; out = out_list p firm; early = early_list p firm; exceptions = exception_list p firm }
+ListsKept =
+    (p : ℕ) (firm : Firm)
+    → fold with_exception_listed (fold with_row_listed (none_listed p) firm.rows) firm.exceptions ≡ record {
+      day = p;
+      transit = transit_list p firm;
+      out = out_list p firm;
+      early = early_list p firm;
+      exceptions = exception_list p firm;
+    }

@@ -1,12 +1,12 @@
 -- What purging a matter leaves of the figures and lists as of a day.
-use Rattle.std.specs.Prelude.{◌≡◌, ◌≢◌, ℕ, ◌≤◌, ℤ, Option, Some}
+use Rattle.std.specs.Prelude.{◌≡◌, ℕ, ◌≤◌, Option, Some}
 use Rattle.matter_rows.specs.declared.head.Head.{Head}
 use Rattle.matter_parts.specs.declared.edit.Edit.TheVariants as edit
 use Rattle.matter_rows.specs.Rows.{closed_on}
 use Rattle.matter_parts.specs.Changes.{MatterChange, IsChange}
 use Rattle.firm_rows.specs.Firm.{Firm, of, after_change}
 use Rattle.firm_rows.specs.FirmSound.{FirmSound}
-use Rattle.trust_figures.specs.Figures.{figures, figures_on}
+use Rattle.trust_figures.specs.Figures.{figures_on}
 use Rattle.trust_figures.specs.Listing.{transit_list, out_list, early_list, exception_list}
 
 -- the matter was closed on the day or earlier
@@ -26,11 +26,17 @@ pub record AreListsLeft (p : ℕ) (before after : Firm) : Type 0 where
   pub early : early_list p after ≡ early_list p before
   pub exceptions : exception_list p after ≡ exception_list p before
 
--- purging a matter of a sound firm changes no figure of a day that is not before the matter's close, whatever the closing
--- balance, nor whether there is one
+-- purging a matter of a sound firm changes no figure of a day that is not before the matter's close, whatever the
+-- closing balance, nor whether there is one
 abbrev pub PurgeChangesNoFigure : Type 0
-PurgeChangesNoFigure = (p m : ℕ) (change : MatterChange) (firm : Firm) → FirmSound firm → IsClosedBy p (of m firm).head → IsPurge m firm change → figures_on p (after_change m change firm) ≡ figures_on p firm
+PurgeChangesNoFigure =
+    (p m : ℕ) (change : MatterChange) (firm : Firm)
+    → FirmSound firm → IsClosedBy p (of m firm).head → IsPurge m firm change
+    → figures_on p (after_change m change firm) ≡ figures_on p firm
 
 -- nor any of the lists
 abbrev pub PurgeChangesNoList : Type 0
-PurgeChangesNoList = (p m : ℕ) (change : MatterChange) (firm : Firm) → FirmSound firm → IsClosedBy p (of m firm).head → IsPurge m firm change → AreListsLeft p firm (after_change m change firm)
+PurgeChangesNoList =
+    (p m : ℕ) (change : MatterChange) (firm : Firm)
+    → FirmSound firm → IsClosedBy p (of m firm).head → IsPurge m firm change
+    → AreListsLeft p firm (after_change m change firm)

@@ -13,7 +13,7 @@ use Rattle.firm_rows.specs.declared.ledger.FirmLine.{FirmLine}
 use Rattle.firm_rows.specs.declared.ledger.StatementRow.{StatementRow}
 use Rattle.firm_rows.specs.Firm.{Row, HeadRow, SeatRow, EntryRow, Firm}
 use Rattle.firm_rows.specs.FirmSound.{FirmSound}
-use Rattle.trust_figures.specs.Figures.{entries_in, is_by, booked_on, undone_on, returned_on, banked_on, back_on, is_banked_early, is_back_early, is_in_transit, is_outstanding, is_moved_by, is_dated_by, is_counted, is_closing_of, closing_on, figures, figures_on}
+use Rattle.trust_figures.specs.Figures.{is_by, booked_on, undone_on, returned_on, banked_on, back_on, is_banked_early, is_back_early, is_in_transit, is_outstanding, is_moved_by, is_dated_by, is_counted, is_closing_of, closing_on, figures, figures_on}
 use Rattle.firm_rows.specs.Countable.{IsCountable}
 use Rattle.trust_figures.specs.declared.reconciler.Figures.{Figures}
 
@@ -27,13 +27,19 @@ outstanding_share p e = cond (is_outstanding p e) (pos (entry_amount e)) (pos 0)
 
 -- its signed amount where it was booked, less that where this was undone or the deposit returned
 abbrev pub ledger_share_by : ℕ → Entry → ℤ
-ledger_share_by p e = cond (is_by p (booked_on e)) (cleared_amount e) (pos 0) -ℤ cond (is_by p (undone_on e) || is_by p (returned_on e)) (cleared_amount e) (pos 0)
+ledger_share_by p e =
+    cond (is_by p (booked_on e)) (cleared_amount e) (pos 0)
+    -ℤ cond (is_by p (undone_on e) || is_by p (returned_on e)) (cleared_amount e) (pos 0)
 
 abbrev pub matched_share : ℕ → Entry → ℤ
-matched_share p e = cond (is_by p (banked_on e)) (cleared_amount e) (pos 0) -ℤ cond (is_by p (back_on e)) (cleared_amount e) (pos 0)
+matched_share p e =
+    cond (is_by p (banked_on e)) (cleared_amount e) (pos 0)
+    -ℤ cond (is_by p (back_on e)) (cleared_amount e) (pos 0)
 
 abbrev pub early_share : ℕ → Entry → ℤ
-early_share p e = cond (is_banked_early p e) (cleared_amount e) (pos 0) -ℤ cond (is_back_early p e) (cleared_amount e) (pos 0)
+early_share p e =
+    cond (is_banked_early p e) (cleared_amount e) (pos 0)
+    -ℤ cond (is_back_early p e) (cleared_amount e) (pos 0)
 
 -- The sums.
 
@@ -56,7 +62,18 @@ pub record Tallies : Type 0 where
 
 -- before any row
 abbrev pub no_tallies : ℕ → Tallies
-no_tallies p = record { day = p; closing = None; transit = pos 0; outstanding = pos 0; journal = pos 0; entries = pos 0; own = pos 0; exceptions = pos 0; matched = pos 0; early = pos 0 }
+no_tallies p = record {
+  day = p;
+  closing = None;
+  transit = pos 0;
+  outstanding = pos 0;
+  journal = pos 0;
+  entries = pos 0;
+  own = pos 0;
+  exceptions = pos 0;
+  matched = pos 0;
+  early = pos 0;
+}
 
 abbrev pub with_entry_told : Tallies → Entry → Tallies
 with_entry_told s e = record s {
@@ -116,7 +133,12 @@ finished s = option_map (figures_kept s) s.closing
 
 -- the rows, movements, lines and balances of a firm, in their order
 abbrev pub all_taken : ℕ → Firm → Tallies
-all_taken p firm = fold with_balance_told (fold with_exception (fold with_own (fold with_movement (fold with_row (no_tallies p) firm.rows) firm.movements) firm.firm_lines) firm.exceptions) firm.balances
+all_taken p firm =
+    fold with_balance_told
+    (fold with_exception
+    (fold with_own
+    (fold with_movement
+    (fold with_row (no_tallies p) firm.rows) firm.movements) firm.firm_lines) firm.exceptions) firm.balances
 
 -- each figure fits 128 bits
 pub record AreInRange (f : Figures) : Type 0 where
@@ -132,12 +154,18 @@ pub record AreInRange (f : Figures) : Type 0 where
 
 -- where each figure fits, the figures kept are those of the firm
 abbrev pub FiguresKept : Type 0
-FiguresKept = (p : ℕ) (firm : Firm) → ((closing : ℤ) → closing_on p firm.balances ≡ Some closing → AreInRange (figures p closing firm)) → finished (all_taken p firm) ≡ figures_on p firm
+FiguresKept =
+    (p : ℕ) (firm : Firm)
+    → ((closing : ℤ) → closing_on p firm.balances ≡ Some closing → AreInRange (figures p closing firm))
+    → finished (all_taken p firm) ≡ figures_on p firm
 
 -- the figures of a sound firm whose rows can be counted fit 128 bits
 abbrev pub FiguresFit : Type 0
-FiguresFit = (p : ℕ) (closing : ℤ) (firm : Firm) → FirmSound firm → IsCountable firm → IsBankAmount closing → AreInRange (figures p closing firm)
+FiguresFit =
+    (p : ℕ) (closing : ℤ) (firm : Firm) → FirmSound firm → IsCountable firm → IsBankAmount closing
+    → AreInRange (figures p closing firm)
 
 -- and so the figures kept of the rows of a sound firm are its figures
 abbrev pub FiguresTold : Type 0
-FiguresTold = (p : ℕ) (firm : Firm) → FirmSound firm → IsCountable firm → finished (all_taken p firm) ≡ figures_on p firm
+FiguresTold =
+    (p : ℕ) (firm : Firm) → FirmSound firm → IsCountable firm → finished (all_taken p firm) ≡ figures_on p firm

@@ -1,18 +1,19 @@
 // Payments whose instrument another payment has.
 
-ghost use Rattle.std.specs.Prelude.{◌≡◌, ◌∷◌, [], ◌++◌, not, IfOk, OnOk, OnErr, length, ◌≤◌};
-ghost use Rattle.std.specs.List.{list_any, position_or_len};
+ghost use Rattle.std.specs.Prelude.{◌≡◌, ℕ, ◌<◌, ◌++◌, take, length, slice_index_or, IfOk, OnOk, OnErr};
+ghost use Rattle.std.specs.List.{filter};
+ghost use Rattle.std.specs.List.Sorted.{IsSortedBy};
 ghost use Rattle.firm_rows.specs.Firm.{EntryRow};
 ghost use Rattle.trust_figures.specs.Figures.{booked_on};
 ghost use Rattle.trust_figures.specs.declared.doubles.Issued.{Issued};
-ghost use Rattle.trust_figures.specs.Doubles.{is_before_issued, is_twin, has_twin as twin_in, put_in_order, with_double, doubles_in, issued_line, issued_in, IssuedKept, with_row_issued};
+ghost use Rattle.trust_figures.specs.Doubles.{issued_cmp, is_before_issued, has_same_instrument, is_double_in, in_order, doubles_in, issued_line, issued_in, IssuedKept, no_issued, with_row_issued};
 
 use crate::shares;
 use std::alloc::{AllocError, Global};
+use std::cmp::Ordering;
 use std::marker::Model;
-use trust_base::{Day, EntryNo, Label, Line, MatterNo};
-use trust_firm::{FirmLine, Movement, RowSink, StatementRow};
-use trust_matter::{Entry, Head, Payment, Seat};
+use trust_base::{Day, EntryNo, Label, MatterNo};
+use trust_matter::{Entry, Payment};
 
 /// A payment issued, with the day of issue, the negative amount in cents and the instrument.
 #[derive(Drop, Debug)]
@@ -38,76 +39,69 @@ impl Issued {
         })
     }
 
-    fn is_before(&self, other: &Issued) -> bool
-        ensures { result ≡ is_before_issued self.now other.now }
+    fn compare(&self, other: &Issued) -> Ordering
+        ensures { result ≡ issued_cmp self.now other.now }
     {
         let by_instrument = self.instrument.as_slice().cmp(other.instrument.as_slice());
         let by_matter = self.matter.get().cmp(&other.matter.get());
         let by_entry = self.entry.get().cmp(&other.entry.get());
-        by_instrument.then(by_matter.then(by_entry)).is_lt()
+        by_instrument.then(by_matter.then(by_entry))
     }
 
-    fn is_twin(&self, other: &Issued) -> bool
-        ensures { result ≡ is_twin self.now other.now }
+    fn has_same_instrument(&self, other: &Issued) -> bool
+        ensures { result ≡ has_same_instrument self.now other.now }
     {
         self.instrument.as_slice() == other.instrument.as_slice()
-            && !(self.matter.get() == other.matter.get() && self.entry.get() == other.entry.get())
     }
 }
 
-fn has_twin(all: &[Issued], x: &Issued) -> bool
-    ensures { result ≡ twin_in all.now x.now }
+// Puts them in order by instrument, matter and entry.
+fn sort(all: &mut Vec<Issued>) -> Result<(), AllocError>
+    ensures sorted { OnOk result (IsSortedBy is_before_issued all.new.items) }
+    ensures same { OnOk result (all.new.items ≡ in_order is_before_issued all.old.items) }
 {
-    all.iter().any(|y| x.is_twin(y))
-}
-
-// The place of the first that x is not behind, or the end.
-fn place_of(xs: &[Issued], x: &Issued) -> usize
-    ensures place { result ≡ position_or_len (λ y. not (is_before_issued y x.now)) xs.now }
-    ensures within { result ≤ length xs.now }
-{
-    let mut place = 0;
-    for y in xs {
-        if !y.is_before(x) {
-            return place;
-        }
-        place += 1;
-    }
-    place
-}
-
-fn put(xs: &mut Vec<Issued>, x: &Issued) -> Result<(), AllocError>
-    ensures ok { OnOk result (xs.new.items ≡ put_in_order xs.old.items x.now) }
-{
-    let place = place_of(xs, x);
-    let same = x.copied()?;
-    xs.insert(place, same)?;
+    all.sort_by(|one, other| one.compare(other))?;
     Ok(())
 }
 
-/// Those that have a twin, by instrument, matter and entry.
-pub fn double_list(alloc: Global, all: &[Issued]) -> Result<Vec<Issued>, AllocError>
-    ensures { IfOk result (λ xs. xs.items ≡ doubles_in all.now) }
+// In a list in order, those of one instrument stand side by side.
+fn is_double(sorted: &[Issued], place: usize) -> bool
+    requires within { place < length sorted.now }
+    requires order { IsSortedBy is_before_issued sorted.now }
+    ensures { (d : Issued) → result ≡ is_double_in sorted.now (slice_index_or sorted.now place d) }
 {
-    let mut xs = Vec::new(alloc);
-    for x in all {
-        if has_twin(all, x) {
-            put(&mut xs, x)?;
-        }
+    let issued = &sorted[place];
+    if place > 0 && sorted[place - 1].has_same_instrument(issued) {
+        return true;
     }
-    Ok(xs)
+    place + 1 < sorted.len() && issued.has_same_instrument(&sorted[place + 1])
 }
 
-/// Collects the payments issued by a day and not voided by it.
+fn doubles_of(alloc: Global, sorted: &[Issued]) -> Result<Vec<Issued>, AllocError>
+    requires { IsSortedBy is_before_issued sorted.now }
+    ensures { IfOk result (λ xs. xs.items ≡ filter (is_double_in sorted.now) sorted.now) }
+{
+    let mut doubles = Vec::new(alloc);
+    for place in 0..sorted.len() {
+        let issued = &sorted[place];
+        if is_double(sorted, place) {
+            let same = issued.copied()?;
+            doubles.push(same)?;
+        }
+    }
+    Ok(doubles)
+}
+
+/// Keeps the payments issued by a day and not voided by it.
 ///
 /// Contracts see it as the day and their list.
 #[derive(Drop)]
-pub struct IssuedSink {
+pub struct IssuedList {
     day: Day,
     issued: Vec<Issued>,
 }
 
-impl Model for IssuedSink {
+impl Model for IssuedList {
     ghost Value = { IssuedKept };
 
     ghost view = { λ s. record { day = s.day; issued = s.issued.items } };
@@ -122,7 +116,8 @@ fn push_issued(
     payment: &Payment,
 ) -> Result<(), AllocError>
     requires { entry.now ≡ Entry.Payment payment.now }
-    ensures ok { OnOk result (xs.new.items ≡ xs.old.items ++ issued_line matter number (booked_on entry.now) entry.now) }
+    ensures ok { let lines = issued_line matter number (booked_on entry.now) entry.now in
+        OnOk result (xs.new.items ≡ xs.old.items ++ lines) }
     ensures err { OnErr result (xs.new.items ≡ xs.old.items) }
 {
     if let Some(day) = shares::booked_on(entry) {
@@ -156,66 +151,50 @@ fn push_entry(
     }
 }
 
-impl IssuedSink {
+impl IssuedList {
     /// Begins as of a day.
-    pub fn new(alloc: Global, day: Day) -> IssuedSink
-        ensures { result ≡ record { day = day; issued = [] } }
+    pub fn new(alloc: Global, day: Day) -> IssuedList
+        ensures { result ≡ no_issued day }
     {
-        IssuedSink {
+        IssuedList {
             day,
             issued: Vec::new(alloc),
         }
     }
 
-    /// The payments.
-    pub fn finish(self) -> Vec<Issued>
-        ensures { result.items ≡ self.issued }
+    /// How many they are.
+    pub fn len(&self) -> usize
+        ensures { result ≡ length self.now.issued }
     {
-        self.issued
-    }
-}
-
-impl RowSink for IssuedSink {
-    ghost stepped = { with_row_issued };
-
-    ghost noted = { λ s line. s };
-
-    ghost moved = { λ s movement. s };
-
-    ghost lined = { λ s line. s };
-
-    ghost balanced = { λ s row. s };
-
-    fn head(&mut self, _matter: MatterNo, _head: &Head) -> Result<(), AllocError> {
-        Ok(())
+        self.issued.len()
     }
 
-    fn seat(&mut self, _matter: MatterNo, _seat: &Seat) -> Result<(), AllocError> {
-        Ok(())
+    /// Leaves the first so many of them.
+    pub fn truncate(&mut self, kept: usize)
+        ensures { self.new ≡ record self.old { issued = take kept self.old.issued } }
+    {
+        self.issued.truncate(kept);
     }
 
-    fn entry(
+    /// Adds an entry, where it is such a payment. It stays as it was where memory is refused.
+    pub fn add(
         &mut self,
         matter: MatterNo,
         number: EntryNo,
         entry: &Entry,
-    ) -> Result<(), AllocError> {
+    ) -> Result<(), AllocError>
+        ensures ok { OnOk result (self.new ≡ with_row_issued self.old (matter, EntryRow number entry.now)) }
+        ensures err { OnErr result (self.new ≡ self.old) }
+    {
         push_entry(&mut self.issued, self.day, matter, number, entry)
     }
 
-    fn exception(&mut self, _line: &Line) -> Result<(), AllocError> {
-        Ok(())
-    }
-
-    fn movement(&mut self, _movement: &Movement) -> Result<(), AllocError> {
-        Ok(())
-    }
-
-    fn firm_line(&mut self, _line: &FirmLine) -> Result<(), AllocError> {
-        Ok(())
-    }
-
-    fn balance(&mut self, _row: &StatementRow) -> Result<(), AllocError> {
-        Ok(())
+    /// Those whose instrument another of them has, by instrument in the order of bytes, matter and entry.
+    pub fn finish(self, alloc: Global) -> Result<Vec<Issued>, AllocError>
+        ensures { IfOk result (λ xs. xs.items ≡ doubles_in self.issued) }
+    {
+        let mut all = self.issued;
+        sort(&mut all)?;
+        doubles_of(alloc, all.as_slice())
     }
 }

@@ -1,20 +1,20 @@
-//! The figures of a firm as of a day, and the lists beside them, from its rows one at a time.
+//! The figures of a firm as of a day and the lists beside them, from its rows one at a time or from lists of them.
 #![tactic(auto)]
 
 mod doubles;
-mod journal_sink;
+mod firm_row;
 pub mod laws;
 mod lister;
 mod openings;
 mod reconciler;
-mod retention_sink;
+mod reconciliation;
 mod shares;
-mod trial_sink;
 
-pub use doubles::{Issued, IssuedSink, double_list};
-pub use journal_sink::{JournalLine, JournalSink};
-pub use lister::{EntryLine, Lister, ReconciliationLists};
-pub use openings::{OpeningLine, opening_list};
-pub use reconciler::{Figures, FirmRow, Reconciler, reconcile_at};
-pub use retention_sink::{RetentionLine, RetentionSink, retention_list};
-pub use trial_sink::{TrialLine, TrialSink};
+pub use doubles::Issued;
+pub use firm_row::{
+    FirmRow, hand_balances, hand_exceptions, hand_firm_lines, hand_movements, hand_rows,
+};
+pub use lister::{EntryLine, ReconciliationLists};
+pub use openings::OpeningLine;
+pub use reconciler::{Figures, added, together};
+pub use reconciliation::{Reconciliation, ReconciliationSink, reconcile_at};

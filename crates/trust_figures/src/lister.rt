@@ -1,19 +1,18 @@
 // The lists beside the figures as of a day, from rows one at a time.
 
-ghost use Rattle.std.specs.Prelude.{◌≡◌, ◌++◌, [], cond, pos, ◌-ℤ◌, option_to_list, OnOk, OnErr};
+ghost use Rattle.std.specs.Prelude.{◌≡◌, ◌++◌, option_to_list, OnOk, OnErr};
 ghost use Rattle.matter_rows.specs.Clearings.{cleared_amount};
 ghost use Rattle.firm_rows.specs.Firm.{EntryRow};
-ghost use Rattle.trust_figures.specs.Figures.{booked_on, banked_on, back_on, is_in_transit, is_outstanding, is_banked_early, is_back_early};
+ghost use Rattle.trust_figures.specs.Figures.{booked_on};
 ghost use Rattle.trust_base.specs.declared.line.Line.{Line};
 ghost use Rattle.trust_figures.specs.declared.lister.EntryLine.{EntryLine};
-ghost use Rattle.trust_figures.specs.Listing.{entry_line, line_where, Listed, none_listed, with_row_listed, with_exception_listed};
+ghost use Rattle.trust_figures.specs.Listing.{entry_line, banked_line, back_line, Listed, none_listed, with_waiting, with_row_listed, with_exception_listed};
 
 use crate::shares;
 use std::alloc::{AllocError, Global};
 use std::marker::Model;
 use trust_base::{Day, EntryNo, Line, MatterNo};
-use trust_firm::{FirmLine, Movement, RowSink, StatementRow};
-use trust_matter::{Entry, Head, Seat};
+use trust_matter::Entry;
 
 /// An entry at a day, with its signed amount in cents.
 #[derive(Clone, Copy, Debug)]
@@ -36,7 +35,6 @@ pub struct ReconciliationLists {
 /// Lists deposits in transit, payments outstanding, what came early, and exceptions, as of a day.
 ///
 /// Contracts see it as these lists.
-#[derive(Drop)]
 pub struct Lister {
     day: Day,
     transit: Vec<EntryLine>,
@@ -45,10 +43,28 @@ pub struct Lister {
     exceptions: Vec<Line>,
 }
 
+impl Drop for Lister {
+    fn drop(self) {
+        let Lister {
+            day: _day,
+            transit: _transit,
+            out: _out,
+            early: _early,
+            exceptions: _exceptions,
+        } = self;
+    }
+}
+
 impl Model for Lister {
     ghost Value = { Listed };
 
-    ghost view = { λ r. record { day = r.day; transit = r.transit.items; out = r.out.items; early = r.early.items; exceptions = r.exceptions.items } };
+    ghost view = { λ r. record {
+      day = r.day;
+      transit = r.transit.items;
+      out = r.out.items;
+      early = r.early.items;
+      exceptions = r.exceptions.items;
+    } };
 }
 
 // An entry at a day, where there is one.
@@ -68,7 +84,7 @@ fn line_at(matter: MatterNo, entry: EntryNo, day: Option<Day>, amount: i64) -> O
 
 // The line of an entry that the bank had before the books.
 fn banked_line(matter: MatterNo, number: EntryNo, entry: &Entry, p: Day) -> Option<EntryLine>
-    ensures { option_to_list result ≡ cond (is_banked_early p entry.now) (entry_line matter number (banked_on entry.now) (cleared_amount entry.now)) [] }
+    ensures { option_to_list result ≡ banked_line p matter number entry.now }
 {
     if !shares::is_banked_early(entry, p) {
         return None;
@@ -79,7 +95,7 @@ fn banked_line(matter: MatterNo, number: EntryNo, entry: &Entry, p: Day) -> Opti
 
 // The line that took an entry back before the books had it.
 fn back_line(matter: MatterNo, number: EntryNo, entry: &Entry, p: Day) -> Option<EntryLine>
-    ensures { option_to_list result ≡ cond (is_back_early p entry.now) (entry_line matter number (back_on entry.now) (pos 0 -ℤ cleared_amount entry.now)) [] }
+    ensures { option_to_list result ≡ back_line p matter number entry.now }
 {
     if !shares::is_back_early(entry, p) {
         return None;
@@ -146,10 +162,7 @@ impl Lister {
         number: EntryNo,
         entry: &Entry,
     ) -> Result<(), AllocError>
-        ensures ok { OnOk result (self.new ≡ record self.old {
-          transit = self.old.transit ++ line_where (is_in_transit self.old.day) booked_on (matter, EntryRow number entry.now);
-          out = self.old.out ++ line_where (is_outstanding self.old.day) booked_on (matter, EntryRow number entry.now);
-        }) }
+        ensures ok { OnOk result (self.new ≡ with_waiting self.old (matter, EntryRow number entry.now)) }
         ensures err { OnErr result (self.new ≡ self.old) }
     {
         if shares::is_in_transit(entry, self.day) {
@@ -161,7 +174,8 @@ impl Lister {
         }
     }
 
-    fn add_entry(
+    /// Adds an entry to each list that it stands in. They stay as they were where memory is refused.
+    pub fn add_entry(
         &mut self,
         matter: MatterNo,
         number: EntryNo,
@@ -181,51 +195,11 @@ impl Lister {
         Ok(())
     }
 
-    /// The lists: deposits in transit, payments outstanding, what came early, and exceptions.
-    pub fn finish(self) -> ReconciliationLists
-        ensures transit { result.transit.items ≡ self.transit }
-        ensures out { result.out.items ≡ self.out }
-        ensures early { result.early.items ≡ self.early }
-        ensures exceptions { result.exceptions.items ≡ self.exceptions }
+    /// Adds an exception that is dated by the day. They stay as they were where memory is refused.
+    pub fn add_exception(&mut self, line: &Line) -> Result<(), AllocError>
+        ensures ok { OnOk result (self.new ≡ with_exception_listed self.old line.now) }
+        ensures err { OnErr result (self.new ≡ self.old) }
     {
-        ReconciliationLists {
-            transit: self.transit,
-            out: self.out,
-            early: self.early,
-            exceptions: self.exceptions,
-        }
-    }
-}
-
-impl RowSink for Lister {
-    ghost stepped = { with_row_listed };
-
-    ghost noted = { with_exception_listed };
-
-    ghost moved = { λ s movement. s };
-
-    ghost lined = { λ s line. s };
-
-    ghost balanced = { λ s row. s };
-
-    fn head(&mut self, _matter: MatterNo, _head: &Head) -> Result<(), AllocError> {
-        Ok(())
-    }
-
-    fn seat(&mut self, _matter: MatterNo, _seat: &Seat) -> Result<(), AllocError> {
-        Ok(())
-    }
-
-    fn entry(
-        &mut self,
-        matter: MatterNo,
-        number: EntryNo,
-        entry: &Entry,
-    ) -> Result<(), AllocError> {
-        self.add_entry(matter, number, entry)
-    }
-
-    fn exception(&mut self, line: &Line) -> Result<(), AllocError> {
         if line.date.get() <= self.day.get() {
             let same = line.copied()?;
             self.exceptions.push(same)?;
@@ -233,15 +207,25 @@ impl RowSink for Lister {
         Ok(())
     }
 
-    fn movement(&mut self, _movement: &Movement) -> Result<(), AllocError> {
-        Ok(())
-    }
-
-    fn firm_line(&mut self, _line: &FirmLine) -> Result<(), AllocError> {
-        Ok(())
-    }
-
-    fn balance(&mut self, _row: &StatementRow) -> Result<(), AllocError> {
-        Ok(())
+    /// The lists: deposits in transit, payments outstanding, what came early, and exceptions.
+    pub fn finish(self) -> ReconciliationLists
+        ensures transit { result.transit.items ≡ self.transit }
+        ensures out { result.out.items ≡ self.out }
+        ensures early { result.early.items ≡ self.early }
+        ensures exceptions { result.exceptions.items ≡ self.exceptions }
+    {
+        let Lister {
+            day: _day,
+            transit,
+            out,
+            early,
+            exceptions,
+        } = self;
+        ReconciliationLists {
+            transit,
+            out,
+            early,
+            exceptions,
+        }
     }
 }

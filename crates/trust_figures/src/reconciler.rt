@@ -1,19 +1,14 @@
 // The figures of the firm as of a day, from its rows one at a time.
 
-ghost use Rattle.std.specs.Prelude.{◌≡◌, fold};
-ghost use Rattle.trust_figures.specs.Copied.{row_pair, in_memory};
+ghost use Rattle.std.specs.Prelude.{◌≡◌};
 ghost use Rattle.trust_figures.specs.declared.reconciler.Figures.{Figures};
-ghost use Rattle.trust_figures.specs.Reconciling.{added, less, Tallies, no_tallies, with_row, with_entry_told, with_movement, with_own, with_exception, with_balance_told, first_of, figures_kept, finished, all_taken};
-ghost use Rattle.firm_rows.specs.Countable.{IsCountable};
-ghost use Rattle.trust_figures.specs.Figures.{figures_on};
-ghost use Rattle.firm_rows.specs.FirmSound.{FirmSound};
+ghost use Rattle.trust_figures.specs.Reconciling.{added, less, Tallies, no_tallies, with_entry_told, with_movement, with_own, with_exception, with_balance_told, figures_kept, finished};
 
 use crate::shares;
-use std::alloc::AllocError;
 use std::marker::Model;
-use trust_base::{Day, EntryNo, Line, MatterNo};
-use trust_firm::{BalanceKind, FirmLine, Movement, RowSink, StatementRow};
-use trust_matter::{Entry, Head, Seat};
+use trust_base::{Day, Line};
+use trust_firm::{BalanceKind, FirmLine, Movement, StatementRow};
+use trust_matter::Entry;
 
 /// The ten figures of the firm as of a day, in cents.
 #[derive(Clone, Copy, Debug)]
@@ -50,7 +45,18 @@ pub struct Reconciler {
 impl Model for Reconciler {
     ghost Value = { Tallies };
 
-    ghost view = { λ r. record { day = r.day; closing = r.closing; transit = r.transit; outstanding = r.outstanding; journal = r.journal; entries = r.entries; own = r.own; exceptions = r.exceptions; matched = r.matched; early = r.early } };
+    ghost view = { λ r. record {
+      day = r.day;
+      closing = r.closing;
+      transit = r.transit;
+      outstanding = r.outstanding;
+      journal = r.journal;
+      entries = r.entries;
+      own = r.own;
+      exceptions = r.exceptions;
+      matched = r.matched;
+      early = r.early;
+    } };
 }
 
 /// A sum in cents with one amount more, in 128 bits.
@@ -61,9 +67,9 @@ pub fn added(sum: i128, amount: i64) -> i128
     sum.wrapping_add(amount as i128)
 }
 
-// Two sums together, in 128 bits.
+/// Two sums in cents together, in 128 bits.
 #[tactic(auto, unfolding(crate::specs::Reconciling::added))]
-fn together(a: i128, b: i128) -> i128
+pub fn together(a: i128, b: i128) -> i128
     ensures { result ≡ added a b }
 {
     a.wrapping_add(b)
@@ -110,7 +116,8 @@ impl Reconciler {
         }
     }
 
-    fn add_entry(&mut self, entry: &Entry)
+    /// Adds what an entry adds to each figure.
+    pub fn add_entry(&mut self, entry: &Entry)
         ensures { self.new ≡ with_entry_told self.old entry.now }
     {
         let transit = shares::transit_share(entry, self.day);
@@ -125,7 +132,8 @@ impl Reconciler {
         self.early = added(self.early, early);
     }
 
-    fn add_exception(&mut self, line: &Line)
+    /// Adds an exception.
+    pub fn add_exception(&mut self, line: &Line)
         ensures { self.new ≡ with_exception self.old line.now }
     {
         let amount = if shares::is_counted(line, self.day) {
@@ -136,7 +144,8 @@ impl Reconciler {
         self.exceptions = added(self.exceptions, amount);
     }
 
-    fn add_movement(&mut self, movement: &Movement)
+    /// Adds a movement.
+    pub fn add_movement(&mut self, movement: &Movement)
         ensures { self.new ≡ with_movement self.old movement.now }
     {
         let amount = if movement.day.get() <= self.day.get() {
@@ -147,7 +156,8 @@ impl Reconciler {
         self.journal = added(self.journal, amount);
     }
 
-    fn add_own(&mut self, line: &FirmLine)
+    /// Adds a line of the firm's own.
+    pub fn add_own(&mut self, line: &FirmLine)
         ensures { self.new ≡ with_own self.old line.now }
     {
         let amount = if line.date.get() <= self.day.get() {
@@ -158,20 +168,12 @@ impl Reconciler {
         self.own = added(self.own, amount);
     }
 
-    fn add_balance(&mut self, row: &StatementRow)
+    /// Notes the closing balance of the day.
+    pub fn add_balance(&mut self, row: &StatementRow)
         ensures { self.new ≡ with_balance_told self.old row.now }
     {
         if self.closing.is_none() && row.kind == BalanceKind::Closing && row.day == self.day {
             self.closing = Some(row.amount.get());
-        }
-    }
-
-    fn add_row(&mut self, row: &FirmRow)
-        ensures { self.new ≡ with_row self.old (row_pair row.now) }
-    {
-        match row {
-            FirmRow::Head(_, _) | FirmRow::Seat(_, _) => {}
-            FirmRow::Entry(_, _, entry) => self.add_entry(entry),
         }
     }
 
@@ -202,124 +204,4 @@ impl Reconciler {
             None => None,
         }
     }
-}
-
-impl RowSink for Reconciler {
-    ghost stepped = { with_row };
-
-    ghost noted = { with_exception };
-
-    ghost moved = { with_movement };
-
-    ghost lined = { with_own };
-
-    ghost balanced = { with_balance_told };
-
-    fn head(&mut self, _matter: MatterNo, _head: &Head) -> Result<(), AllocError> {
-        Ok(())
-    }
-
-    fn seat(&mut self, _matter: MatterNo, _seat: &Seat) -> Result<(), AllocError> {
-        Ok(())
-    }
-
-    fn entry(
-        &mut self,
-        _matter: MatterNo,
-        _number: EntryNo,
-        entry: &Entry,
-    ) -> Result<(), AllocError> {
-        self.add_entry(entry);
-        Ok(())
-    }
-
-    fn exception(&mut self, line: &Line) -> Result<(), AllocError> {
-        self.add_exception(line);
-        Ok(())
-    }
-
-    fn movement(&mut self, movement: &Movement) -> Result<(), AllocError> {
-        self.add_movement(movement);
-        Ok(())
-    }
-
-    fn firm_line(&mut self, line: &FirmLine) -> Result<(), AllocError> {
-        self.add_own(line);
-        Ok(())
-    }
-
-    fn balance(&mut self, row: &StatementRow) -> Result<(), AllocError> {
-        self.add_balance(row);
-        Ok(())
-    }
-}
-
-/// A row of some matter, in memory.
-#[derive(Drop)]
-pub enum FirmRow {
-    Head(MatterNo, Head),
-    Seat(MatterNo, Seat),
-    Entry(MatterNo, EntryNo, Entry),
-}
-
-fn take_rows(sums: &mut Reconciler, rows: &[FirmRow])
-    ensures { sums.new ≡ fold (λ s r. with_row s (row_pair r)) sums.old rows.now }
-{
-    for row in rows {
-        sums.add_row(row);
-    }
-}
-
-fn take_movements(sums: &mut Reconciler, movements: &[Movement])
-    ensures { sums.new ≡ fold with_movement sums.old movements.now }
-{
-    for movement in movements {
-        sums.add_movement(movement);
-    }
-}
-
-fn take_own(sums: &mut Reconciler, lines: &[FirmLine])
-    ensures { sums.new ≡ fold with_own sums.old lines.now }
-{
-    for line in lines {
-        sums.add_own(line);
-    }
-}
-
-fn take_exceptions(sums: &mut Reconciler, lines: &[Line])
-    ensures { sums.new ≡ fold with_exception sums.old lines.now }
-{
-    for line in lines {
-        sums.add_exception(line);
-    }
-}
-
-fn take_balances(sums: &mut Reconciler, rows: &[StatementRow])
-    ensures { sums.new ≡ fold with_balance_told sums.old rows.now }
-{
-    for row in rows {
-        sums.add_balance(row);
-    }
-}
-
-/// The figures of rows in memory as of a day, where a closing balance of the day is among them. Takes no memory.
-pub fn reconcile_at(
-    day: Day,
-    rows: &[FirmRow],
-    movements: &[Movement],
-    firm_lines: &[FirmLine],
-    exceptions: &[Line],
-    balances: &[StatementRow],
-) -> Option<Figures>
-    ensures taken { result ≡ finished (all_taken day (in_memory rows.now movements.now firm_lines.now exceptions.now balances.now)) }
-    ensures figures { let firm = in_memory rows.now movements.now firm_lines.now exceptions.now balances.now in
-        FirmSound firm → IsCountable firm → result ≡ figures_on day firm }
-{
-    let mut sums = Reconciler::new(day);
-    take_rows(&mut sums, rows);
-    take_movements(&mut sums, movements);
-    take_own(&mut sums, firm_lines);
-    take_exceptions(&mut sums, exceptions);
-    take_balances(&mut sums, balances);
-    sums.finish()
 }

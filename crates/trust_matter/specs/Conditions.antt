@@ -50,7 +50,7 @@ number_made (ask.EarnFee a) = Some a.number
 number_made (ask.RaiseClaim a) = Some a.number
 number_made _ = None
 
--- What is tried of every ask, in order.
+-- Who may ask, and when.
 
 -- to the caller there is no such matter: a person without a seat, or the cashier where it was never opened
 -- and is not to be
@@ -65,7 +65,7 @@ has_no_seat f a = is_unknown_to a.caller f.head f.seats a.ask
 abbrev pub was_purged : Facts → Asked → Bool
 was_purged f a = is_purged f.head
 
--- the policy says no
+-- the policy does not let the caller ask under the rule of the ask
 abbrev pub is_not_allowed : Facts → Asked → Bool
 is_not_allowed f a = not (allows f.seats a.caller (rule_of a.ask))
 

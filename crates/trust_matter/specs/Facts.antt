@@ -1,4 +1,4 @@
--- What an ask is decided on.
+-- What is known of a matter and an ask: all that the answer depends on.
 use Rattle.std.specs.Prelude.{ℕ, List, length, ℤ, Option}
 use Rattle.matter_rows.specs.declared.head.Head.{Head}
 use Rattle.matter_rows.specs.declared.seat.Seat.{Seat}

@@ -1,4 +1,4 @@
--- What an ask and a line are decided on, by what is kept of a matter.
+-- What is known of a matter with an ask or a line, by its totals and the entries that are kept.
 use Rattle.std.specs.Prelude.{◌≡◌, ℕ, Bool, ◌&&◌, ◌||◌, ◌==◌, [], ◌∷◌, pos, ◌-ℤ◌, if◌then◌else◌, ◌+◌, ◌≤◌, ◌+ℤ◌, ◌≤ℤ◌}
 use Rattle.matter_rows.specs.Shares.{target_in}
 use Rattle.matter_parts.specs.Parts.{Part, kept_at, entry_in, is_held, is_held_or_none, left_kept, total_kept}
@@ -7,15 +7,22 @@ use Rattle.trust_matter.specs.declared.ask.Ask.{Ask}
 use Rattle.trust_matter.specs.Facts.{Facts, number_named, other_of}
 use Rattle.trust_matter.specs.LineStep.{LineFacts}
 
--- the facts by what is kept
+-- what is known of a line and its entry, by the totals and the kept entries
 abbrev pub kept_line_facts : Part → BankLine → ℕ → LineFacts
-kept_line_facts m l today = record { head = m.head; number = l.entry; entry = entry_in (kept_at m l.entry); available = pos m.figures.available; line = l.line; today = today }
+kept_line_facts m l today = record {
+  head = m.head;
+  number = l.entry;
+  entry = entry_in (kept_at m l.entry);
+  available = pos m.figures.available;
+  line = l.line;
+  today = today;
+}
 
 -- the entry that a line names, and the fee or claim that this draws on, are held
 abbrev pub holds_for_line : Part → ℕ → Bool
 holds_for_line m n = is_held m n && is_held_or_none m (target_in (entry_in (kept_at m n)))
 
--- what an ask is decided on, by what is kept
+-- what is known of an ask and its matter, by the totals and the kept entries
 abbrev pub kept_facts : Part → Ask → Facts
 kept_facts m ask =
     let entry = entry_in (kept_at m (number_named ask)) in

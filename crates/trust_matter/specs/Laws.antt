@@ -15,6 +15,7 @@ use Rattle.trust_matter.specs.Facts.{Facts, Asked, facts_of}
 use Rattle.trust_matter.specs.Conditions.{is_purging, is_repeat, number_made}
 use Rattle.trust_matter.specs.Step.{conditions, refusal_of, refusal, rows_after, HasAmount}
 use Rattle.trust_matter.specs.LineStep.{line_facts, reasons, line_on, rows_after_line, IsApplied}
+use Rattle.trust_values.specs.declared.limits.TheConstants.{MAX_ENTRY}
 
 -- no ask whose amount is one leaves a matter unsound
 abbrev pub SoundForEver : Type 0
@@ -24,7 +25,7 @@ SoundForEver = (rows : Rows) (a : Asked) → HasAmount a.ask → Sound rows → 
 abbrev pub LinesKeepSound : Type 0
 LinesKeepSound = (rows : Rows) (l : BankLine) (today : ℕ) → Sound rows → Sound (rows_after_line rows l today)
 
--- the refusal stands in a table with a condition that holds
+-- the refusal is one of these, and its condition holds
 abbrev pub Stands : List (Bool × Refusal) → Refusal → Type 0
 Stands [] r = ⊥
 Stands (c ∷ cs) r = ((c.0 ≡ true) × (c.1 ≡ r)) ⊎ Stands cs r
@@ -45,7 +46,9 @@ LeastRefusal = (f : Facts) (a : Asked) (r : Refusal) → refusal_of f a ≡ Some
 
 -- where nothing is refused no condition holds, or for a repeat none up to 10
 abbrev pub NoneHolds : Type 0
-NoneHolds = (f : Facts) (a : Asked) (r : Refusal) → refusal_of f a ≡ None → Holds f a r → (is_repeat f a ≡ true) × (10 < number_of r)
+NoneHolds =
+    (f : Facts) (a : Asked) (r : Refusal) → refusal_of f a ≡ None → Holds f a r
+    → (is_repeat f a ≡ true) × (10 < number_of r)
 
 -- no reason of these holds
 abbrev pub NoReasonHolds : List (Bool × Reason) → Type 0
@@ -64,11 +67,15 @@ reasons_on rows l today = reasons (line_facts rows l today)
 
 -- a line that matches no entry is told the first reason that holds
 abbrev pub FirstReason : Type 0
-FirstReason = (rows : Rows) (l : BankLine) (today : ℕ) (r : Reason) → line_on rows l today ≡ told.Unmatched r → IsFirstReason (reasons_on rows l today) r
+FirstReason =
+    (rows : Rows) (l : BankLine) (today : ℕ) (r : Reason) → line_on rows l today ≡ told.Unmatched r
+    → IsFirstReason (reasons_on rows l today) r
 
 -- against a line that is applied none holds
 abbrev pub NoReason : Type 0
-NoReason = (rows : Rows) (l : BankLine) (today : ℕ) → IsApplied (line_on rows l today) → NoReasonHolds (reasons_on rows l today)
+NoReason =
+    (rows : Rows) (l : BankLine) (today : ℕ) → IsApplied (line_on rows l today)
+    → NoReasonHolds (reasons_on rows l today)
 
 -- the entries as they were made, in the order of their numbers
 abbrev pub made_in : Rows → List Entry
@@ -84,9 +91,10 @@ MadeStays = (rows : Rows) (a : Asked) → is_purging a.ask ≡ false → Grows r
 
 -- after every ask what was made is there, or the matter is purged
 abbrev pub MadeStaysOrGoes : Type 0
-MadeStaysOrGoes = (rows : Rows) (a : Asked) → Grows rows (rows_after rows a) ⊎ (is_purged (rows_after rows a).head ≡ true)
+MadeStaysOrGoes =
+    (rows : Rows) (a : Asked) → Grows rows (rows_after rows a) ⊎ (is_purged (rows_after rows a).head ≡ true)
 
--- no line does
+-- no line of the bank takes away an entry, or changes its kind, its day or what was asked
 abbrev pub LinesLeaveMade : Type 0
 LinesLeaveMade = (rows : Rows) (l : BankLine) (today : ℕ) → Grows rows (rows_after_line rows l today)
 
@@ -111,12 +119,16 @@ PurgedStays = (rows : Rows) (d : Doing) → is_purged rows.head ≡ true → aft
 -- an ask that makes an entry and was accepted changes nothing when it comes again, whoever asks it on whatever day, and
 -- whatever was asked or came from the bank in between, purging too
 abbrev pub AskUnchanged : Type 0
-AskUnchanged = (rows : Rows) (a again : Asked) (between : List Doing) → IsSome (number_made a.ask) → refusal rows a ≡ None → again.ask ≡ a.ask
+AskUnchanged =
+    (rows : Rows) (a again : Asked) (between : List Doing) → IsSome (number_made a.ask) → refusal rows a ≡ None
+    → again.ask ≡ a.ask
     → rows_after (all_after (rows_after rows a) between) again ≡ all_after (rows_after rows a) between
 
 -- and it is a repeat as long as the matter is not purged
 abbrev pub AskRepeat : Type 0
-AskRepeat = (rows : Rows) (a again : Asked) (between : List Doing) → IsSome (number_made a.ask) → refusal rows a ≡ None → again.ask ≡ a.ask
+AskRepeat =
+    (rows : Rows) (a again : Asked) (between : List Doing) → IsSome (number_made a.ask) → refusal rows a ≡ None
+    → again.ask ≡ a.ask
     → is_purged (all_after (rows_after rows a) between).head ≡ false
     → is_repeat (facts_of (all_after (rows_after rows a) between) again.ask) again ≡ true
 
@@ -130,18 +142,25 @@ pub record IsSameLine (l again : BankLine) : Type 0 where
 -- a line that was applied changes nothing when it comes again, on whatever day, and whatever was asked or came from the
 -- bank in between, purging too
 abbrev pub LineUnchanged : Type 0
-LineUnchanged = (rows : Rows) (l again : BankLine) (today later : ℕ) (between : List Doing) → IsApplied (line_on rows l today) → IsSameLine l again
-    → rows_after_line (all_after (rows_after_line rows l today) between) again later ≡ all_after (rows_after_line rows l today) between
+LineUnchanged =
+    (rows : Rows) (l again : BankLine) (today later : ℕ) (between : List Doing) → IsApplied (line_on rows l today)
+    → IsSameLine l again
+    → rows_after_line (all_after (rows_after_line rows l today) between) again later
+    ≡ all_after (rows_after_line rows l today) between
 
 -- and it is a repeat as long as the matter is not purged
 abbrev pub LineRepeat : Type 0
-LineRepeat = (rows : Rows) (l again : BankLine) (today later : ℕ) (between : List Doing) → IsApplied (line_on rows l today) → IsSameLine l again
+LineRepeat =
+    (rows : Rows) (l again : BankLine) (today later : ℕ) (between : List Doing) → IsApplied (line_on rows l today)
+    → IsSameLine l again
     → is_purged (all_after (rows_after_line rows l today) between).head ≡ false
     → line_on (all_after (rows_after_line rows l today) between) again later ≡ told.Repeat
 
 -- the stub of a sound closed matter is sound
 abbrev pub StubIsSound : Type 0
-StubIsSound = (day : ℕ) (rows : Rows) → Sound rows → IsSome (closed_on rows.head) → last_of rows.head ≤ day → Sound (stub_rows day rows)
+StubIsSound =
+    (day : ℕ) (rows : Rows) → Sound rows → IsSome (closed_on rows.head) → last_of rows.head ≤ day
+    → Sound (stub_rows day rows)
 
 -- the ask is refused, and no number is told to be the next
 abbrev pub TellsNoNumber : Option Refusal → Type 0
@@ -151,4 +170,6 @@ TellsNoNumber (Some r) = Unit {0}
 
 -- a matter of 9,999 entries takes no other
 abbrev pub FullTakesNone : Type 0
-FullTakesNone = (rows : Rows) (a : Asked) → length rows.entries ≡ 9_999 → IsSome (number_made a.ask) → is_repeat (facts_of rows a.ask) a ≡ false → TellsNoNumber (refusal rows a)
+FullTakesNone =
+    (rows : Rows) (a : Asked) → length rows.entries ≡ MAX_ENTRY → IsSome (number_made a.ask)
+    → is_repeat (facts_of rows a.ask) a ≡ false → TellsNoNumber (refusal rows a)

@@ -21,7 +21,7 @@ use Rattle.trust_matter.specs.declared.line_verdict.DatedEdit.{DatedEdit}
 use Rattle.trust_matter.specs.declared.line_verdict.LineVerdict.{LineVerdict}
 use Rattle.trust_matter.specs.declared.line_verdict.LineVerdict.TheVariants as verdict
 
--- What a line is decided on.
+-- What is known of a line and of the entry that it names.
 
 -- the head; the entry that the line names, under its number; what is available; the line, and the business day
 pub record LineFacts : Type 0 where
@@ -34,7 +34,14 @@ pub record LineFacts : Type 0 where
 
 -- the facts by the rows, with the sum added up anew
 abbrev pub line_facts : Rows → BankLine → ℕ → LineFacts
-line_facts rows l today = record { head = rows.head; number = l.entry; entry = entry_at rows.entries l.entry; available = available rows.entries; line = l.line; today = today }
+line_facts rows l today = record {
+  head = rows.head;
+  number = l.entry;
+  entry = entry_at rows.entries l.entry;
+  available = available rows.entries;
+  line = l.line;
+  today = today;
+}
 
 -- Why it matches no entry.
 
@@ -49,7 +56,8 @@ has_no_line (Some (entry.Claim c)) = true
 -- the deposit is not held, nor cleared where the line takes it back, or the payment is not issued
 abbrev pub awaits_no_line : Option Entry → Line → Bool
 awaits_no_line None line = false
-awaits_no_line (Some (entry.Deposit d)) line = not (is_held_state d.state) && not (is_return (Some (entry.Deposit d)) line)
+awaits_no_line (Some (entry.Deposit d)) line =
+    not (is_held_state d.state) && not (is_return (Some (entry.Deposit d)) line)
 awaits_no_line (Some (entry.Payment p)) line = not (is_issued_state p.state)
 awaits_no_line (Some (entry.Fee f)) line = false
 awaits_no_line (Some (entry.Claim c)) line = false
@@ -64,9 +72,10 @@ amount_in (Some e) = entry_amount e
 
 -- a return is booked on no day before the last, and out of what is available
 abbrev pub is_uncovered : LineFacts → Bool
-is_uncovered f = is_return f.entry f.line && (nat_lt f.today (last_of f.head) || exceeds (amount_in f.entry) f.available)
+is_uncovered f =
+    is_return f.entry f.line && (nat_lt f.today (last_of f.head) || exceeds (amount_in f.entry) f.available)
 
--- each reason with its condition, in the order in which they are tried
+-- each reason with its condition, in the order in which one is told before another
 abbrev pub reasons : LineFacts → List (Bool × Reason)
 reasons f =
     (nat_lt f.today f.line.date, reason.Future)
@@ -78,22 +87,24 @@ reasons f =
     ∷ (is_uncovered f, reason.Uncovered)
     ∷ []
 
--- the first whose condition holds
+-- of the reasons that hold the one that is told before the others
 abbrev pub first_reason : List (Bool × Reason) → Option Reason
 first_reason [] = None
 first_reason (c ∷ cs) = if c.0 then Some c.1 else first_reason cs
 
 -- the entry after the line
 abbrev pub told_by : ℕ → Option Entry → Line → ℕ → Edit
-told_by n (Some (entry.Deposit d)) line today = edit.Exchange (record { number = n; entry = entry.Deposit (record d { state = deposit_by line today d.state }) })
-told_by n (Some (entry.Payment p)) line today = edit.Exchange (record { number = n; entry = entry.Payment (record p { state = cleared_payment line p.state }) })
+told_by n (Some (entry.Deposit d)) line today =
+    edit.Exchange (record { number = n; entry = entry.Deposit (record d { state = deposit_by line today d.state }) })
+told_by n (Some (entry.Payment p)) line today =
+    edit.Exchange (record { number = n; entry = entry.Payment (record p { state = cleared_payment line p.state }) })
 told_by n _ line today = edit.Nothing
 
 -- the last day after a line: that of the booking of a return, else never before the line's date
 abbrev pub last_by : LineFacts → ℕ
 last_by f = if is_return f.entry f.line then f.today else max (last_of f.head) f.line.date
 
--- the edit with the last day that it leaves
+-- what an applied line changes, and the last day of the matter after it
 abbrev pub dated_by : LineFacts → DatedEdit
 dated_by f = record { edit = told_by f.number f.entry f.line f.today; last = last_by f }
 
@@ -137,9 +148,3 @@ LineDecides rows l today (Ok verdict.Repeat) = line_on rows l today ≡ told.Rep
 LineDecides rows l today (Ok (verdict.Unmatched r)) = line_on rows l today ≡ told.Unmatched r
 LineDecides rows l today (Err faults.Memory) = IsApplied (line_on rows l today)
 LineDecides rows l today (Err faults.Store) = ⊥
-
--- a verdict that may be written: what it changes is a change of these rows
-abbrev pub IsLineChange : Rows → LineVerdict → Type 0
-IsLineChange rows (verdict.Applied c) = IsChange rows c
-IsLineChange rows verdict.Repeat = Unit {0}
-IsLineChange rows (verdict.Unmatched r) = Unit {0}

@@ -35,7 +35,8 @@ abbrev pub natural : ℤ → ℕ
 natural (pos n) = n
 natural (negsuc n) = 0
 
--- each refusal with its condition, in the order of their numbers: those that are tried of a repeat too
+-- that there is no such matter to the caller, that it was purged, and that the policy does not let him ask: each
+-- refusal with its condition, in the order of their numbers. A repeat may be refused for these alone
 abbrev pub early_conditions : Facts → Asked → List (Bool × Refusal)
 early_conditions f a =
     (has_no_seat f a, refusals.NoMatter)
@@ -43,7 +44,7 @@ early_conditions f a =
     ∷ (is_not_allowed f a, refusals.NotAllowed (rule_of a.ask))
     ∷ []
 
--- and those behind
+-- that the matter, its days, its entries, the payee, the amount or the seats do not let the ask be done
 abbrev pub later_conditions : Facts → Asked → List (Bool × Refusal)
 later_conditions f a =
     (is_opened_already f a, refusals.AlreadyOpen)
@@ -64,30 +65,37 @@ later_conditions f a =
     ∷ (is_too_early f a, refusals.TooEarly (purge_day (closed_on f.head)))
     ∷ []
 
+-- each refusal with its condition, in the order of their numbers
 abbrev pub conditions : Facts → Asked → List (Bool × Refusal)
 conditions f a = early_conditions f a ++ later_conditions f a
 
--- the conditions that are tried
+-- what an ask may be refused for: a repeat changes nothing, and is refused only by who asks and for a purged matter
 abbrev pub tried : Facts → Asked → List (Bool × Refusal)
 tried f a = if is_repeat f a then early_conditions f a else conditions f a
 
--- the first whose condition holds
+-- the refusal of the least number whose condition holds
 abbrev pub first : List (Bool × Refusal) → Option Refusal
 first [] = None
 first (c ∷ cs) = if c.0 then Some c.1 else first cs
 
+-- the refusal of an ask: of all that are due the one with the least number
 abbrev pub refusal_of : Facts → Asked → Option Refusal
 refusal_of f a = first (tried f a)
 
--- the refusal of an ask that comes through the early conditions
+-- the refusal of an ask by a caller who may ask it of a matter that was not purged: of a repeat none
 abbrev pub late_refusal : Facts → Asked → Option Refusal
 late_refusal f a = if is_repeat f a then None else first (later_conditions f a)
 
 -- What changes.
 
+-- an opened matter: its head, for the client and of the day, and the lawyer's seat
 abbrev pub opening : OpenAsk → ℕ → Opening
-opening a day = record { head = record { holder = holder.Client a.client; opened = day; closed = None; last = day }; seat = record { person = a.lawyer; role = role.Lawyer } }
+opening a day = record {
+  head = record { holder = holder.Client a.client; opened = day; closed = None; last = day };
+  seat = record { person = a.lawyer; role = role.Lawyer };
+}
 
+-- a booked deposit is held
 abbrev pub deposit_of : DepositAsk → ℕ → Entry
 deposit_of a day = entry.Deposit (record {
   book = day;
@@ -97,11 +105,13 @@ deposit_of a day = entry.Deposit (record {
   state = deposit.Held;
 })
 
+-- a deposit, cancelled on a day
 abbrev pub cancelled : ℕ → Option Entry → ℕ → Edit
 cancelled n (Some (entry.Deposit d)) day =
     edit.Exchange (record { number = n; entry = entry.Deposit (record d { state = deposit.Cancelled day }) })
 cancelled n _ day = edit.Nothing
 
+-- a booked payment is proposed
 abbrev pub payment_of : PaymentAsk → ℕ → Entry
 payment_of a day = entry.Payment (record {
   book = day;
@@ -116,6 +126,7 @@ payment_of a day = entry.Payment (record {
 abbrev pub fee_of : FeeAsk → ℕ → Entry
 fee_of a day = entry.Fee (record { book = day; amount = a.amount; description = a.description })
 
+-- a raised claim is open
 abbrev pub claim_of : ClaimAsk → ℕ → Entry
 claim_of a day = entry.Claim (record {
   book = day;
@@ -142,6 +153,7 @@ with_claim n (Some (entry.Claim c)) next =
     edit.Exchange (record { number = n; entry = entry.Claim (record c { state = next }) })
 with_claim n _ next = edit.Nothing
 
+-- a claim that is settled on a day, with the client's part
 abbrev pub settled : ℕ → ℕ → ClaimState
 settled day part = claim.Settled (record { day = day; part = part })
 
@@ -219,10 +231,10 @@ abbrev pub Answers : Option Refusal → Edit → Result Edit Refusal → Type 0
 Answers refused made (Ok e) = (refused ≡ None) × (e ≡ made)
 Answers refused made (Err r) = MayRefuse refused r
 
--- what is answered of the edit, decided on facts
+-- what is answered of an ask by the facts: its refusal, else what it changes or want of memory
 abbrev pub Gives : Facts → Asked → Result Edit Refusal → Type 0
 Gives f a result = Answers (refusal_of f a) (decided f a) result
 
--- the same of an ask that comes through the early conditions
+-- the same where the caller may ask it, and the matter was not purged
 abbrev pub GivesLate : Facts → Asked → Result Edit Refusal → Type 0
 GivesLate f a result = Answers (late_refusal f a) (decided f a) result

@@ -81,9 +81,12 @@ fn is_claim_asked(kept: Option<&Kept>, asked: &ClaimAsk) -> bool
 // What is left of the fee, or is available to a claimant who is named and not cash.
 fn left_against(matter: &Matter, against: &Against) -> Result<u64, Refusal>
     ensures { MatchResult result
-        (λ left. (first (against_conditions against.now (entry_in (kept_at matter.now (against_no against.now)))) ≡ None)
-        × (pos left ≡ against_left against.now (pos matter.now.figures.available) (left_kept (kept_at matter.now (against_no against.now)))))
-        (λ r. first (against_conditions against.now (entry_in (kept_at matter.now (against_no against.now)))) ≡ Some r) }
+        (λ left.
+        (first (against_conditions against.now (entry_in (kept_at matter.now (against_no against.now)))) ≡ None)
+        × (pos left ≡ against_left against.now (pos matter.now.figures.available)
+        (left_kept (kept_at matter.now (against_no against.now)))))
+        (λ r.
+        first (against_conditions against.now (entry_in (kept_at matter.now (against_no against.now)))) ≡ Some r) }
 {
     match against {
         Against::General(claimant) => {
@@ -106,7 +109,8 @@ fn left_against(matter: &Matter, against: &Against) -> Result<u64, Refusal>
 
 // A claim is set apart from its fee, or from what is available.
 pub(crate) fn decide_claim(matter: &Matter, asked: &ClaimAsk, day: Day) -> Result<Edit, Refusal>
-    ensures { (c : AnyCaller) → GivesLate (kept_facts matter.now (Ask.RaiseClaim asked.now)) (record { caller = c; ask = Ask.RaiseClaim asked.now; day = day }) result }
+    ensures { (c : AnyCaller) → GivesLate (kept_facts matter.now (Ask.RaiseClaim asked.now))
+        (record { caller = c; ask = Ask.RaiseClaim asked.now; day = day }) result }
 {
     if is_claim_asked(matter.find(asked.number), asked) {
         return Ok(Edit::Nothing);
@@ -166,7 +170,8 @@ fn claim_restated(number: EntryNo, claim: &Claim, state: ClaimState) -> Result<E
 
 // A part of an open claim is offered to the client, in the place of any offer before.
 pub(crate) fn decide_offer(matter: &Matter, asked: &SplitAsk, day: Day) -> Result<Edit, Refusal>
-    ensures { (c : AnyCaller) → GivesLate (kept_facts matter.now (Ask.Offer asked.now)) (record { caller = c; ask = Ask.Offer asked.now; day = day }) result }
+    ensures { (c : AnyCaller) → GivesLate (kept_facts matter.now (Ask.Offer asked.now))
+        (record { caller = c; ask = Ask.Offer asked.now; day = day }) result }
 {
     if matter.is_closed() {
         return Err(Refusal::Closed);
@@ -181,7 +186,8 @@ pub(crate) fn decide_offer(matter: &Matter, asked: &SplitAsk, day: Day) -> Resul
 
 // The part that was offered is accepted, and the claim is settled.
 pub(crate) fn decide_accept(matter: &Matter, asked: &SplitAsk, day: Day) -> Result<Edit, Refusal>
-    ensures { (c : AnyCaller) → GivesLate (kept_facts matter.now (Ask.Accept asked.now)) (record { caller = c; ask = Ask.Accept asked.now; day = day }) result }
+    ensures { (c : AnyCaller) → GivesLate (kept_facts matter.now (Ask.Accept asked.now))
+        (record { caller = c; ask = Ask.Accept asked.now; day = day }) result }
 {
     if matter.is_closed() {
         return Err(Refusal::Closed);
@@ -207,7 +213,8 @@ pub(crate) fn decide_accept(matter: &Matter, asked: &SplitAsk, day: Day) -> Resu
 
 // An open claim is settled with a part to the client, offered or not.
 pub(crate) fn decide_award(matter: &Matter, asked: &SplitAsk, day: Day) -> Result<Edit, Refusal>
-    ensures { (c : AnyCaller) → GivesLate (kept_facts matter.now (Ask.Award asked.now)) (record { caller = c; ask = Ask.Award asked.now; day = day }) result }
+    ensures { (c : AnyCaller) → GivesLate (kept_facts matter.now (Ask.Award asked.now))
+        (record { caller = c; ask = Ask.Award asked.now; day = day }) result }
 {
     if matter.is_closed() {
         return Err(Refusal::Closed);

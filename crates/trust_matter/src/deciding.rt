@@ -52,7 +52,8 @@ pub fn holds_for(matter: &Matter, ask: &Ask) -> bool
 }
 
 fn decide_show_entry(matter: &Matter, number: EntryNo, day: Day) -> Result<Edit, Refusal>
-    ensures { (c : AnyCaller) → GivesLate (kept_facts matter.now (Ask.ShowEntry number)) (record { caller = c; ask = Ask.ShowEntry number; day = day }) result }
+    ensures { (c : AnyCaller) → GivesLate (kept_facts matter.now (Ask.ShowEntry number))
+        (record { caller = c; ask = Ask.ShowEntry number; day = day }) result }
 {
     let _day = day;
     if matter.find(number).is_none() {

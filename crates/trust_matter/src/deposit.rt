@@ -58,7 +58,8 @@ fn is_as_asked(kept: Option<&Kept>, asked: &DepositAsk) -> bool
 }
 
 pub(crate) fn decide_deposit(matter: &Matter, asked: &DepositAsk, day: Day) -> Result<Edit, Refusal>
-    ensures { (c : AnyCaller) → GivesLate (kept_facts matter.now (Ask.Deposit asked.now)) (record { caller = c; ask = Ask.Deposit asked.now; day = day }) result }
+    ensures { (c : AnyCaller) → GivesLate (kept_facts matter.now (Ask.Deposit asked.now))
+        (record { caller = c; ask = Ask.Deposit asked.now; day = day }) result }
 {
     if is_as_asked(matter.find(asked.number), asked) {
         return Ok(Edit::Nothing);
@@ -80,7 +81,8 @@ pub(crate) fn decide_deposit(matter: &Matter, asked: &DepositAsk, day: Day) -> R
 }
 
 pub(crate) fn decide_cancel(matter: &Matter, number: EntryNo, day: Day) -> Result<Edit, Refusal>
-    ensures { (c : AnyCaller) → GivesLate (kept_facts matter.now (Ask.CancelDeposit number)) (record { caller = c; ask = Ask.CancelDeposit number; day = day }) result }
+    ensures { (c : AnyCaller) → GivesLate (kept_facts matter.now (Ask.CancelDeposit number))
+        (record { caller = c; ask = Ask.CancelDeposit number; day = day }) result }
 {
     if matter.is_closed() {
         return Err(Refusal::Closed);

@@ -53,7 +53,8 @@ fn is_fee_asked(kept: Option<&Kept>, asked: &FeeAsk) -> bool
 
 // A fee is set apart from what is available.
 pub(crate) fn decide_fee(matter: &Matter, asked: &FeeAsk, day: Day) -> Result<Edit, Refusal>
-    ensures { (c : AnyCaller) → GivesLate (kept_facts matter.now (Ask.EarnFee asked.now)) (record { caller = c; ask = Ask.EarnFee asked.now; day = day }) result }
+    ensures { (c : AnyCaller) → GivesLate (kept_facts matter.now (Ask.EarnFee asked.now))
+        (record { caller = c; ask = Ask.EarnFee asked.now; day = day }) result }
 {
     if is_fee_asked(matter.find(asked.number), asked) {
         return Ok(Edit::Nothing);

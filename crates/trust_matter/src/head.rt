@@ -11,7 +11,8 @@ use matter_rows::{Head, Holder, Role, Seat};
 use trust_base::{Day, Refusal};
 
 pub(crate) fn decide_open(matter: &Matter, asked: &OpenAsk, day: Day) -> Result<Edit, Refusal>
-    ensures { (c : AnyCaller) → GivesLate (kept_facts matter.now (Ask.OpenMatter asked.now)) (record { caller = c; ask = Ask.OpenMatter asked.now; day = day }) result }
+    ensures { (c : AnyCaller) → GivesLate (kept_facts matter.now (Ask.OpenMatter asked.now))
+        (record { caller = c; ask = Ask.OpenMatter asked.now; day = day }) result }
 {
     if matter.head().is_some() {
         return Err(Refusal::AlreadyOpen);
@@ -33,7 +34,8 @@ pub(crate) fn decide_open(matter: &Matter, asked: &OpenAsk, day: Day) -> Result<
 }
 
 pub(crate) fn decide_close(matter: &Matter, day: Day) -> Result<Edit, Refusal>
-    ensures { (c : AnyCaller) → GivesLate (kept_facts matter.now Ask.CloseMatter) (record { caller = c; ask = Ask.CloseMatter; day = day }) result }
+    ensures { (c : AnyCaller) → GivesLate (kept_facts matter.now Ask.CloseMatter)
+        (record { caller = c; ask = Ask.CloseMatter; day = day }) result }
 {
     if matter.is_closed() {
         return Err(Refusal::Closed);
@@ -51,7 +53,8 @@ pub(crate) fn decide_close(matter: &Matter, day: Day) -> Result<Edit, Refusal>
 
 // A closed matter is purged from the day on after the last for which its records are kept.
 pub(crate) fn decide_purge(matter: &Matter, day: Day) -> Result<Edit, Refusal>
-    ensures { (c : AnyCaller) → GivesLate (kept_facts matter.now Ask.Purge) (record { caller = c; ask = Ask.Purge; day = day }) result }
+    ensures { (c : AnyCaller) → GivesLate (kept_facts matter.now Ask.Purge)
+        (record { caller = c; ask = Ask.Purge; day = day }) result }
 {
     if let Some(last) = matter.last_behind(day) {
         return Err(Refusal::DateBackwards(last));

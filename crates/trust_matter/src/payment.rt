@@ -135,7 +135,8 @@ fn is_payment_asked(kept: Option<&Kept>, asked: &PaymentAsk) -> bool
 }
 
 pub(crate) fn decide_propose(matter: &Matter, asked: &PaymentAsk, day: Day) -> Result<Edit, Refusal>
-    ensures { (c : AnyCaller) → GivesLate (kept_facts matter.now (Ask.Propose asked.now)) (record { caller = c; ask = Ask.Propose asked.now; day = day }) result }
+    ensures { (c : AnyCaller) → GivesLate (kept_facts matter.now (Ask.Propose asked.now))
+        (record { caller = c; ask = Ask.Propose asked.now; day = day }) result }
 {
     if is_payment_asked(matter.find(asked.number), asked) {
         return Ok(Edit::Nothing);
@@ -173,7 +174,8 @@ pub(crate) fn decide_propose(matter: &Matter, asked: &PaymentAsk, day: Day) -> R
 }
 
 pub(crate) fn decide_approve(matter: &Matter, number: EntryNo, day: Day) -> Result<Edit, Refusal>
-    ensures { (c : AnyCaller) → GivesLate (kept_facts matter.now (Ask.Approve number)) (record { caller = c; ask = Ask.Approve number; day = day }) result }
+    ensures { (c : AnyCaller) → GivesLate (kept_facts matter.now (Ask.Approve number))
+        (record { caller = c; ask = Ask.Approve number; day = day }) result }
 {
     if matter.is_closed() {
         return Err(Refusal::Closed);
@@ -202,7 +204,8 @@ pub(crate) fn decide_approve(matter: &Matter, number: EntryNo, day: Day) -> Resu
 }
 
 pub(crate) fn decide_decline(matter: &Matter, number: EntryNo, day: Day) -> Result<Edit, Refusal>
-    ensures { (c : AnyCaller) → GivesLate (kept_facts matter.now (Ask.Decline number)) (record { caller = c; ask = Ask.Decline number; day = day }) result }
+    ensures { (c : AnyCaller) → GivesLate (kept_facts matter.now (Ask.Decline number))
+        (record { caller = c; ask = Ask.Decline number; day = day }) result }
 {
     if matter.is_closed() {
         return Err(Refusal::Closed);
@@ -227,7 +230,8 @@ pub(crate) fn decide_decline(matter: &Matter, number: EntryNo, day: Day) -> Resu
 }
 
 pub(crate) fn decide_void(matter: &Matter, number: EntryNo, day: Day) -> Result<Edit, Refusal>
-    ensures { (c : AnyCaller) → GivesLate (kept_facts matter.now (Ask.VoidPayment number)) (record { caller = c; ask = Ask.VoidPayment number; day = day }) result }
+    ensures { (c : AnyCaller) → GivesLate (kept_facts matter.now (Ask.VoidPayment number))
+        (record { caller = c; ask = Ask.VoidPayment number; day = day }) result }
 {
     if matter.is_closed() {
         return Err(Refusal::Closed);

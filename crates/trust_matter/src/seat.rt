@@ -11,7 +11,8 @@ use matter_rows::{Role, Seat};
 use trust_base::{Day, PersonId, Refusal};
 
 pub(crate) fn decide_add_seat(matter: &Matter, asked: &Seat, day: Day) -> Result<Edit, Refusal>
-    ensures { (c : AnyCaller) → GivesLate (kept_facts matter.now (Ask.AddSeat asked.now)) (record { caller = c; ask = Ask.AddSeat asked.now; day = day }) result }
+    ensures { (c : AnyCaller) → GivesLate (kept_facts matter.now (Ask.AddSeat asked.now))
+        (record { caller = c; ask = Ask.AddSeat asked.now; day = day }) result }
 {
     if matter.is_closed() {
         return Err(Refusal::Closed);
@@ -27,7 +28,8 @@ pub(crate) fn decide_add_seat(matter: &Matter, asked: &Seat, day: Day) -> Result
 }
 
 pub(crate) fn decide_drop_seat(matter: &Matter, asked: &PersonId, day: Day) -> Result<Edit, Refusal>
-    ensures { (c : AnyCaller) → GivesLate (kept_facts matter.now (Ask.DropSeat asked.now)) (record { caller = c; ask = Ask.DropSeat asked.now; day = day }) result }
+    ensures { (c : AnyCaller) → GivesLate (kept_facts matter.now (Ask.DropSeat asked.now))
+        (record { caller = c; ask = Ask.DropSeat asked.now; day = day }) result }
 {
     if matter.is_closed() {
         return Err(Refusal::Closed);

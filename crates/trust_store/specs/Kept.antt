@@ -1,4 +1,5 @@
--- Whole matters that are kept one by one, by number, and the joined rows that they stand for; and exceptions in their order.
+-- Whole matters that are kept one by one, by number, and the joined rows that they stand for; and exceptions in their
+-- order.
 use Rattle.std.specs.Prelude.{ℕ, suc, ◌≡◌, ◌<◌, ◌≤◌, ◌==◌, nat_lt, List, [], ◌∷◌, ◌++◌, length, Option, Some, None, Result, Ok, Err, if◌then◌else◌, slice_get}
 use Rattle.std.specs.List.{AllByRecursion, insert, remove}
 use Rattle.trust_base.specs.declared.line.Line.{Line}
@@ -51,10 +52,12 @@ pub record AreKeptWhole (ks : List KeptMatter) : Type 0 where
 
 -- the rows of a firm that keeps these matters, movements, lines of its own, exceptions and balances
 abbrev pub firm_of : List KeptMatter → List Movement → List FirmLine → List Line → List StatementRow → Firm
-firm_of ks movements own lines balances = record { rows = joined ks; movements = movements; firm_lines = own; exceptions = lines; balances = balances }
+firm_of ks movements own lines balances =
+    record { rows = joined ks; movements = movements; firm_lines = own; exceptions = lines; balances = balances }
 
 -- sound matters with all their entries, and the firm that they make with the other rows is sound
-pub record AreKept (ks : List KeptMatter) (movements : List Movement) (own : List FirmLine) (lines : List Line) (balances : List StatementRow) : Type 0 where
+pub record AreKept (ks : List KeptMatter) (movements : List Movement) (own : List FirmLine) (lines : List Line)
+    (balances : List StatementRow) : Type 0 where
   pub matters : AreKeptWhole ks
   pub firm : FirmSound (firm_of ks movements own lines balances)
 
@@ -76,7 +79,8 @@ seek m ks = told m (place m ks) (slice_get ks (place m ks))
 -- the rows of the matter of the number
 abbrev pub rows_in : ℕ → List KeptMatter → Rows
 rows_in m [] = unopened
-rows_in m (k ∷ ks) = if nat_lt k.number m then rows_in m ks else (if k.number == m then rows_kept k.matter else unopened)
+rows_in m (k ∷ ks) =
+    if nat_lt k.number m then rows_in m ks else (if k.number == m then rows_kept k.matter else unopened)
 
 -- with this for the matter of the number, in its place among the others
 abbrev pub matters_with : ℕ → Part → List KeptMatter → List KeptMatter
@@ -84,7 +88,9 @@ matters_with m part [] = record { number = m; matter = part } ∷ []
 matters_with m part (k ∷ ks) =
     if nat_lt k.number m
     then k ∷ matters_with m part ks
-    else (if k.number == m then record { number = m; matter = part } ∷ ks else record { number = m; matter = part } ∷ k ∷ ks)
+    else (if k.number == m
+    then record { number = m; matter = part } ∷ ks
+    else record { number = m; matter = part } ∷ k ∷ ks)
 
 -- the matter of the number is kept whole with these rows, and the others as they were
 pub record IsKeptAs (m : ℕ) (rows : Rows) (old new : List KeptMatter) : Type 0 where

@@ -18,8 +18,8 @@ fn place_of(rows: &[StatementRow], row: &StatementRow) -> Result<usize, usize>
     rows.binary_search_by(|other| other.compare(row))
 }
 
-/// Adds a balance in its place, where none of its kind and day is kept. At an error, want of memory, the balances are as
-/// before.
+/// Adds a balance in its place, where none of its kind and day is kept. At an error, want of memory, the balances are
+/// as before.
 pub fn add_balance(rows: &mut Vec<StatementRow>, row: StatementRow) -> Result<(), AllocError>
     requires order { IsStrictlySortedBy balance_cmp rows.old.items }
     requires absent { kept_balance row.kind row.day rows.old.items ≡ None }

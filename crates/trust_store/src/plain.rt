@@ -33,8 +33,8 @@ pub struct KeptMatter {
     pub matter: Matter,
 }
 
-/// Keeps each matter whole in a list, by number, what was moved in another, the firm's own ledger, and the exceptions and
-/// the balances in two lists, in their order.
+/// Keeps each matter whole in a list, by number, what was moved in another, the firm's own ledger, and the exceptions
+/// and the balances in two lists, in their order.
 ///
 /// It never answers Store, and promises nothing of what a crash leaves.
 #[derive(Drop)]
@@ -318,9 +318,12 @@ fn write_kept(
 ) -> Result<(), AllocError>
     requires whole { AreKeptWhole kept.old.items }
     requires change { IsChange (rows_in matter kept.old.items) change.now }
-    ensures kept { OnOk result (IsKeptAs matter (changed change.now (rows_in matter kept.old.items)) kept.old.items kept.new.items) }
+    ensures kept { OnOk result
+        (IsKeptAs matter (changed change.now (rows_in matter kept.old.items)) kept.old.items kept.new.items) }
     // Those of a matter that is purged go, and what the change moves comes behind the others.
-    ensures moved { OnOk result (movements.new.items ≡ kept_movements matter change.now.edit (movements.old.items ++ joined_movement matter change.now.movement)) }
+    ensures moved { OnOk result
+        (movements.new.items ≡ kept_movements matter change.now.edit
+        (movements.old.items ++ joined_movement matter change.now.movement)) }
     ensures err { OnErr result ((kept.new.items ≡ kept.old.items) × (movements.new.items ≡ movements.old.items)) }
 {
     let before = movements.len();
@@ -344,7 +347,8 @@ fn book_line(
     line: &Line,
 ) -> Result<(), AllocError>
     requires { IsOwnBalance (balance_of own.old +ℤ line.now.amount) }
-    ensures moved { OnOk result (movements.new.items ≡ movements.old.items ++ own_movement (as_firm_line line.now) ∷ []) }
+    ensures moved { OnOk result
+        (movements.new.items ≡ movements.old.items ++ own_movement (as_firm_line line.now) ∷ []) }
     ensures booked { OnOk result (own.new ≡ own.old ++ as_firm_line line.now ∷ []) }
     ensures err { OnErr result ((movements.new.items ≡ movements.old.items) × (own.new ≡ own.old)) }
 {
@@ -428,7 +432,8 @@ fn change_kept(
 ) -> Result<(), AllocError>
     requires whole { AreKeptWhole kept.old.items }
     requires change { IsChange (rows_in matter kept.old.items) change.now }
-    ensures ok { OnOk result (IsKeptAs matter (changed change.now (rows_in matter kept.old.items)) kept.old.items kept.new.items) }
+    ensures ok { OnOk result
+        (IsKeptAs matter (changed change.now (rows_in matter kept.old.items)) kept.old.items kept.new.items) }
     ensures err { OnErr result (kept.new.items ≡ kept.old.items) }
 {
     match search(kept, matter) {

@@ -29,18 +29,6 @@ impl<B: Book> RefusingBook<B> {
             refusals: 0,
         }
     }
-
-    /// The book that it hands its calls on to.
-    pub fn into_inner(self) -> B
-        ensures { result ≡ self.inner }
-    {
-        let RefusingBook {
-            inner,
-            writes_left: _,
-            refusals: _,
-        } = self;
-        inner
-    }
 }
 
 impl<B: Book> Book for RefusingBook<B> {

@@ -4,7 +4,8 @@ use Rattle.std.specs.Fmt.{decimal}
 use Rattle.std.proofs.Math.ListN.{get_or-append}
 use Rattle.std.proofs.lemmas.Fmt.{decimal_is_IsNumeral}
 use Rattle.std.proofs.lemmas.Str.Parse.{digit_at}
-use Rattle.trust_values.specs.Limits.{IsBankAmount, MAX_BANK_AMOUNT}
+use Rattle.trust_values.specs.Limits.{IsBankAmount}
+use Rattle.trust_values.specs.declared.limits.TheConstants.{MAX_BANK_AMOUNT}
 use Rattle.trust_values.specs.Texts.{amount_text, bank_amount_of, end_text, negative_text, signed_text}
 use Rattle.trust_values.proofs.AmountFacts.{sum-injective}
 use Rattle.trust_values.proofs.ReadFacts.{number-found, number-none}

@@ -1,14 +1,11 @@
 -- The ranges of amounts, bank amounts, matters, entries and days.
 use Rattle.std.specs.Prelude.{◌≤◌, ◌/◌, ◌%◌, ℕ, ℤ, pos, unsigned_abs, Bool, ◌&&◌, nat_le}
 use Rattle.jiff.specs.Words.{days_in_month}
+use Rattle.trust_values.specs.declared.limits.TheConstants.{MAX_AMOUNT, MAX_BANK_AMOUNT, MAX_MATTER, MAX_ENTRY, MIN_YEAR, MAX_YEAR, MAX_CIVIL_YEAR}
 
 -- the least amount, in cents
 abbrev pub MIN_AMOUNT : ℕ
 MIN_AMOUNT = 1
-
--- the greatest amount, in cents
-abbrev pub MAX_AMOUNT : ℕ
-MAX_AMOUNT = 99999999999
 
 -- an amount, in cents
 abbrev pub IsAmount : ℕ → Type 0
@@ -18,21 +15,9 @@ IsAmount n = (MIN_AMOUNT ≤ n) × (n ≤ MAX_AMOUNT)
 abbrev pub MIN_MATTER : ℕ
 MIN_MATTER = 1
 
--- the last number of a matter
-abbrev pub MAX_MATTER : ℕ
-MAX_MATTER = 999999
-
 -- the number of a matter
 abbrev pub IsMatterNo : ℕ → Type 0
 IsMatterNo n = (MIN_MATTER ≤ n) × (n ≤ MAX_MATTER)
-
--- the first year of a day
-abbrev pub MIN_YEAR : ℕ
-MIN_YEAR = 2000
-
--- the last year of a day
-abbrev pub MAX_YEAR : ℕ
-MAX_YEAR = 2199
 
 -- the year of a day
 abbrev pub IsDayYear : ℕ → Type 0
@@ -78,10 +63,6 @@ is_day n =
 abbrev pub MIN_ENTRY : ℕ
 MIN_ENTRY = 1
 
--- the last number of an entry
-abbrev pub MAX_ENTRY : ℕ
-MAX_ENTRY = 9999
-
 -- the number of an entry of a matter
 abbrev pub IsEntryNo : ℕ → Type 0
 IsEntryNo n = (MIN_ENTRY ≤ n) × (n ≤ MAX_ENTRY)
@@ -90,17 +71,9 @@ IsEntryNo n = (MIN_ENTRY ≤ n) × (n ≤ MAX_ENTRY)
 abbrev pub IsAmountOrZero : ℕ → Type 0
 IsAmountOrZero n = n ≤ MAX_AMOUNT
 
--- the greatest size of an amount that a bank writes, in cents: sixteen digits before the point
-abbrev pub MAX_BANK_AMOUNT : ℕ
-MAX_BANK_AMOUNT = 999999999999999999
-
 -- an amount of a bank's line, in cents, below zero for money that went out
 abbrev pub IsBankAmount : ℤ → Type 0
 IsBankAmount z = unsigned_abs z ≤ MAX_BANK_AMOUNT
-
--- the last year of a civil day that is counted on from a day
-abbrev pub MAX_CIVIL_YEAR : ℕ
-MAX_CIVIL_YEAR = 9999
 
 -- a day of the Gregorian calendar that may lie past the years that are kept
 unfoldable pub IsCivilDay : ℕ → Type 0

@@ -3,7 +3,8 @@ use Rattle.std.specs.Prelude.{◌+◌, ◌/◌, ◌%◌, ℕ, zero, suc, ℤ, if
 use Rattle.std.specs.Str.{bytes_eq}
 use Rattle.std.specs.Fmt.{decimal}
 use Rattle.byte_streams.specs.Digits.{fixed_digits}
-use Rattle.trust_values.specs.Limits.{MIN_AMOUNT, MAX_AMOUNT, MIN_MATTER, MAX_MATTER, MIN_ENTRY, MAX_ENTRY, MAX_BANK_AMOUNT, MIN_DAY, MAX_DAY, is_day, year_of, month_of, month_day_of}
+use Rattle.trust_values.specs.declared.limits.TheConstants.{MAX_AMOUNT, MAX_BANK_AMOUNT, MAX_MATTER, MAX_ENTRY}
+use Rattle.trust_values.specs.Limits.{MIN_AMOUNT, MIN_MATTER, MIN_ENTRY, MIN_DAY, MAX_DAY, is_day, year_of, month_of, month_day_of}
 
 -- the two digits of a number below a hundred
 abbrev pub two_digits : ℕ → List ℕ
@@ -36,7 +37,8 @@ day_text n = date_text (year_of n) (month_of n) (month_day_of n)
 
 -- neither empty nor with a plus sign, and a zero only alone
 abbrev pub starts_plainly : List ℕ → Bool
-starts_plainly bs = not (length bs == 0) && not (slice_index bs 0 == 43) && (not (slice_index bs 0 == 48) || (length bs == 1))
+starts_plainly bs =
+    not (length bs == 0) && not (slice_index bs 0 == 43) && (not (slice_index bs 0 == 48) || (length bs == 1))
 
 -- what was found before, else k where the test holds of it
 abbrev pub or_here : Option ℕ → Bool → ℕ → Option ℕ
@@ -89,4 +91,5 @@ or_negative None below = option_map (λ n. neg_ℤ (pos n)) below
 
 -- the amount of a bank whose text it is: at least zero, or else below zero
 abbrev pub bank_amount_of : List ℕ → Option ℤ
-bank_amount_of bs = or_negative (number_in 0 (MAX_BANK_AMOUNT + 1) amount_text bs) (number_in 1 (MAX_BANK_AMOUNT + 1) negative_text bs)
+bank_amount_of bs =
+    or_negative (number_in 0 (MAX_BANK_AMOUNT + 1) amount_text bs) (number_in 1 (MAX_BANK_AMOUNT + 1) negative_text bs)

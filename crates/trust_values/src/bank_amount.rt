@@ -1,11 +1,11 @@
 // Amounts on a bank's lines.
 
 ghost use Rattle.std.specs.Prelude.{Some, ◌++◌, OnOk, OnErr, ◌≡◌, ◌≢◌, ◌≤◌, ℕ, ℤ, ◌∷◌, IfSome, IfNone};
-ghost use Rattle.trust_values.specs.Limits.{IsBankAmount, MAX_BANK_AMOUNT};
+ghost use Rattle.trust_values.specs.Limits.{IsBankAmount};
 ghost use Rattle.trust_values.specs.Texts.{amount_text, bank_amount_of, negative_text, signed_text};
 
 use crate::cents::read_sum;
-use crate::{Dollars, write_amount};
+use crate::{Dollars, MAX_BANK_AMOUNT, write_amount};
 use std::alloc::AllocError;
 use std::fmt;
 use std::marker::Model;
@@ -34,9 +34,7 @@ fn read_unsigned(text: &[u8]) -> Option<BankAmount>
     ensures some { IfSome result (λ a. signed_text a ≡ text.now) }
     ensures none { IfNone result ((n : ℕ) → n ≤ MAX_BANK_AMOUNT → amount_text n ≢ text.now) }
 {
-    let Some(size) = read_sum(text, 9_999_999_999_999_999) else {
-        return None;
-    };
+    let size = read_sum(text, MAX_BANK_AMOUNT / 100)?;
     Some(BankAmount { value: size as i64 })
 }
 
@@ -61,7 +59,7 @@ fn read_negative(size: &[u8]) -> Option<BankAmount>
     ensures some { IfSome result (λ a. signed_text a ≡ 45 ∷ size.now) }
     ensures none { IfNone result ((n : ℕ) → 1 ≤ n → n ≤ MAX_BANK_AMOUNT → amount_text n ≢ size.now) }
 {
-    let Some(size) = read_sum(size, 9_999_999_999_999_999) else {
+    let Some(size) = read_sum(size, MAX_BANK_AMOUNT / 100) else {
         return None;
     };
     withdrawal(size)
@@ -94,7 +92,7 @@ impl BankAmount {
         ensures some { IfSome result (λ a. (a ≡ cents) × IsBankAmount a) }
         ensures none { IfNone result (¬ IsBankAmount cents) }
     {
-        if cents.unsigned_abs() > 999_999_999_999_999_999 {
+        if cents.unsigned_abs() > MAX_BANK_AMOUNT {
             return None;
         }
         Some(BankAmount { value: cents })

@@ -5,7 +5,7 @@ ghost use Rattle.std.specs.Fmt.{decimal};
 ghost use Rattle.trust_values.specs.Limits.{IsAmount};
 ghost use Rattle.trust_values.specs.Texts.{amount_of, amount_text, end_text, starts_plainly};
 
-use crate::write_amount;
+use crate::{MAX_AMOUNT, write_amount};
 use std::alloc::AllocError;
 use std::marker::Model;
 
@@ -99,7 +99,7 @@ fn read_amount(text: &[u8]) -> Option<Cents>
     ensures some { IfSome result (λ c. amount_text c ≡ text.now) }
     ensures none { IfNone result ((n : ℕ) → IsAmount n → amount_text n ≢ text.now) }
 {
-    let Some(value) = read_sum(text, 999_999_999) else {
+    let Some(value) = read_sum(text, MAX_AMOUNT / 100) else {
         return None;
     };
     Cents::from_number(value)
@@ -121,7 +121,7 @@ impl Cents {
         ensures some { IfSome result (λ n. (n ≡ value) × IsAmount n) }
         ensures none { IfNone result (¬ IsAmount value) }
     {
-        if value < 1 || value > 99_999_999_999 {
+        if value < 1 || value > MAX_AMOUNT {
             return None;
         }
         Some(Cents { value })

@@ -5,7 +5,7 @@ ghost use Rattle.trust_values.specs.Limits.{IsAmountOrZero};
 ghost use Rattle.trust_values.specs.Texts.{amount_or_zero_of, amount_text};
 
 use crate::cents::read_sum;
-use crate::{Cents, Dollars, write_amount};
+use crate::{Cents, Dollars, MAX_AMOUNT, write_amount};
 use std::alloc::AllocError;
 use std::fmt;
 use std::marker::Model;
@@ -34,9 +34,7 @@ fn read_zero_or(text: &[u8]) -> Option<CentsOrZero>
     ensures some { IfSome result (λ c. amount_text c ≡ text.now) }
     ensures none { IfNone result ((n : ℕ) → IsAmountOrZero n → amount_text n ≢ text.now) }
 {
-    let Some(value) = read_sum(text, 999_999_999) else {
-        return None;
-    };
+    let value = read_sum(text, MAX_AMOUNT / 100)?;
     Some(CentsOrZero { value })
 }
 
@@ -55,7 +53,7 @@ impl CentsOrZero {
         ensures some { IfSome result (λ c. (c ≡ cents) × IsAmountOrZero c) }
         ensures none { IfNone result (¬ IsAmountOrZero cents) }
     {
-        if cents > 99_999_999_999 {
+        if cents > MAX_AMOUNT {
             return None;
         }
         Some(CentsOrZero { value: cents })

@@ -4,8 +4,8 @@ ghost use Rattle.std.specs.Prelude.{◌≡◌, ◌++◌, ◌↔◌, ℕ, IsTrue,
 ghost use Rattle.trust_values.specs.Limits.{IsCivilDay};
 ghost use Rattle.trust_values.specs.Texts.{day_text};
 
-use crate::Day;
 use crate::day::day_bytes;
+use crate::{Day, MAX_CIVIL_YEAR, MIN_YEAR};
 use jiff::civil::Date;
 use std::alloc::AllocError;
 use std::marker::Model;
@@ -34,7 +34,7 @@ fn is_on_calendar(number: u32) -> bool
     ensures { IsTrue result ↔ IsCivilDay number }
 {
     let year = number / 10_000;
-    if year < 2000 || year > 9999 {
+    if year < MIN_YEAR || year > MAX_CIVIL_YEAR {
         return false;
     }
     let month = number / 100 % 100;

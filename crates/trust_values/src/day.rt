@@ -5,6 +5,7 @@ ghost use Rattle.jiff.specs.Words.{IsYmd};
 ghost use Rattle.trust_values.specs.Limits.{IsDay, year_of, month_of, month_day_of};
 ghost use Rattle.trust_values.specs.Texts.{day_of, day_text};
 
+use crate::{MAX_YEAR, MIN_YEAR};
 use byte_streams::read_fixed;
 use jiff::civil::Date;
 use std::alloc::AllocError;
@@ -37,7 +38,7 @@ fn date_of(number: u32) -> Option<Date>
     ensures none { IfNone result (¬ IsDay number) }
 {
     let year = number / 10_000;
-    if year < 2000 || year > 2199 {
+    if year < MIN_YEAR || year > MAX_YEAR {
         return None;
     }
     let month = number / 100 % 100;
@@ -123,9 +124,7 @@ impl Day {
         ensures some { IfSome result (λ d. (d ≡ number) × IsDay d) }
         ensures none { IfNone result (¬ IsDay number) }
     {
-        let Some(_) = date_of(number) else {
-            return None;
-        };
+        let _ = date_of(number)?;
         Some(Day { number })
     }
 

@@ -4,6 +4,7 @@ ghost use Rattle.std.specs.Prelude.{Some, ◌≡◌, ◌≢◌, ℕ, ◌++◌, I
 ghost use Rattle.trust_values.specs.Limits.{IsEntryNo};
 ghost use Rattle.trust_values.specs.Texts.{entry_of, entry_text};
 
+use crate::MAX_ENTRY;
 use byte_streams::read_fixed;
 use std::alloc::AllocError;
 use std::fmt;
@@ -57,7 +58,7 @@ impl EntryNo {
         ensures some { IfSome result (λ e. (e ≡ number) × IsEntryNo e) }
         ensures none { IfNone result (¬ IsEntryNo number) }
     {
-        if number < 1 || number > 9_999 {
+        if number < 1 || number > MAX_ENTRY {
             return None;
         }
         Some(EntryNo { number })

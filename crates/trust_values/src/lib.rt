@@ -8,6 +8,7 @@ mod civil_day;
 mod day;
 mod dollars;
 mod entry_no;
+mod limits;
 mod matter_no;
 mod retention;
 
@@ -18,4 +19,7 @@ pub use civil_day::CivilDay;
 pub use day::{Day, day_bytes};
 pub use dollars::{Dollars, write_amount};
 pub use entry_no::EntryNo;
+pub use limits::{
+    MAX_AMOUNT, MAX_BANK_AMOUNT, MAX_CIVIL_YEAR, MAX_ENTRY, MAX_MATTER, MAX_YEAR, MIN_YEAR,
+};
 pub use matter_no::MatterNo;

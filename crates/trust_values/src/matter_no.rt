@@ -4,6 +4,7 @@ ghost use Rattle.std.specs.Prelude.{◌≡◌, ◌≢◌, ℕ, ◌++◌, IfSome,
 ghost use Rattle.trust_values.specs.Limits.{IsMatterNo};
 ghost use Rattle.trust_values.specs.Texts.{matter_of, matter_text};
 
+use crate::MAX_MATTER;
 use byte_streams::read_fixed;
 use std::alloc::AllocError;
 use std::fmt;
@@ -57,7 +58,7 @@ impl MatterNo {
         ensures some { IfSome result (λ n. (n ≡ number) × IsMatterNo n) }
         ensures none { IfNone result (¬ IsMatterNo number) }
     {
-        if number < 1 || number > 999_999 {
+        if number < 1 || number > MAX_MATTER {
             return None;
         }
         Some(MatterNo { number })

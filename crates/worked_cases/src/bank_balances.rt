@@ -6,14 +6,18 @@ use crate::values::Wrong;
 
 const DEPOSIT: &str = "deposit,000001,0001,300.00,Ada Chen,retainer";
 
-const RECEIPT: &str =
-    r#"{"amount":"300.00","day":"2024-01-10","description":"retainer","entry":"0001","kind":"deposit","matter":"000001","source":"Ada Chen"}"#;
+const RECEIPT: &str = concat!(
+    r#"{"amount":"300.00","day":"2024-01-10","description":"retainer","entry":"0001","kind":"deposit","#,
+    r#""matter":"000001","source":"Ada Chen"}"#
+);
 
 const BANKED: &str =
     "import,date,reference,bank_ref,amount,text\n2024-01-12,M000001-0001,B1,300.00,\n";
 
-const JANUARY: &str =
-    "import,date,reference,bank_ref,amount,text\n2024-01-01,OPEN,,0.00,\n2024-01-12,M000001-0001,B1,300.00,\n2024-01-31,CLOSE,,300.00,\n";
+const JANUARY: &str = "import,date,reference,bank_ref,amount,text\n\
+        2024-01-01,OPEN,,0.00,\n\
+        2024-01-12,M000001-0001,B1,300.00,\n\
+        2024-01-31,CLOSE,,300.00,\n";
 
 const OTHER_CLOSING: &str =
     "import,date,reference,bank_ref,amount,text\n2024-01-31,CLOSE,,301.00,\n";
@@ -52,8 +56,12 @@ fn a_balance_of_a_later_day(rt: HostRuntime) -> Result<(), Wrong> {
     play(rt.alloc(), &steps, "closing 2024-01-31 300.00\n")
 }
 
-const TWO_MONTHS: &str =
-    "import,date,reference,bank_ref,amount,text\n2024-02-29,CLOSE,,-1.00,\n2024-01-31,CLOSE,,300.00,\n2024-01-31,OPEN,,300.00,\n2024-02-29,CLOSE,,2.00,\n2024-03-01,OPEN,,2.00,\n";
+const TWO_MONTHS: &str = "import,date,reference,bank_ref,amount,text\n\
+        2024-02-29,CLOSE,,-1.00,\n\
+        2024-01-31,CLOSE,,300.00,\n\
+        2024-01-31,OPEN,,300.00,\n\
+        2024-02-29,CLOSE,,2.00,\n\
+        2024-03-01,OPEN,,2.00,\n";
 
 // Closings are told of by the last line that was taken, whatever its day; an opening tells of none. A balance may be
 // below zero.
@@ -62,8 +70,11 @@ fn the_last_closing_is_told(rt: HostRuntime) -> Result<(), Wrong> {
     let told =
         r#"{"applied":4,"exceptions":1,"repeated":0,"statement":"2024-01-31","unreadable":0}"#;
     let steps: [Step; 1] = [("2024-03-01", "", TWO_MONTHS, 200, told)];
-    let left =
-        "2024-02-29,CLOSE,,2.00,\nopening 2024-01-31 300.00\nopening 2024-03-01 2.00\nclosing 2024-01-31 300.00\nclosing 2024-02-29 -1.00\n";
+    let left = "2024-02-29,CLOSE,,2.00,\n\
+            opening 2024-01-31 300.00\n\
+            opening 2024-03-01 2.00\n\
+            closing 2024-01-31 300.00\n\
+            closing 2024-02-29 -1.00\n";
     play(rt.alloc(), &steps, left)
 }
 

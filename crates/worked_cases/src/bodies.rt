@@ -24,27 +24,43 @@ fn imports(rt: HostRuntime) -> Result<(), Wrong> {
 const FEE: &str =
     r#"{"amount":"200.00","day":"2024-01-10","description":"advice","entry":"0002","kind":"fee","matter":"000001"}"#;
 
-const ON_FEE: &str =
-    r#"{"amount":"50.00","claimant":null,"day":"2024-01-10","entry":"0003","kind":"claim","matter":"000001","of":"0002","on":"fee","reason":"too \"dear\" \\"}"#;
+const ON_FEE: &str = concat!(
+    r#"{"amount":"50.00","claimant":null,"day":"2024-01-10","entry":"0003","kind":"claim","matter":"000001","#,
+    r#""of":"0002","on":"fee","reason":"too \"dear\" \\"}"#
+);
 
-const BY_WU: &str =
-    r#"{"amount":"50.00","claimant":"Dr. Wu","day":"2024-01-10","entry":"0004","kind":"claim","matter":"000001","of":null,"on":"general","reason":"too \"dear\" \\"}"#;
+const BY_WU: &str = concat!(
+    r#"{"amount":"50.00","claimant":"Dr. Wu","day":"2024-01-10","entry":"0004","kind":"claim","matter":"000001","#,
+    r#""of":null,"on":"general","reason":"too \"dear\" \\"}"#
+);
 
-const OFFERED: &str =
-    r#"{"amount":"50.00","claimant":null,"day":"2024-01-10","entry":"0003","kind":"claim","left":null,"matter":"000001","of":"0002","on":"fee","reason":"too \"dear\" \\","settled":null,"state":"open","to_client":"20.00"}"#;
+const OFFERED: &str = concat!(
+    r#"{"amount":"50.00","claimant":null,"day":"2024-01-10","entry":"0003","kind":"claim","left":null,"#,
+    r#""matter":"000001","of":"0002","on":"fee","reason":"too \"dear\" \\","settled":null,"state":"open","#,
+    r#""to_client":"20.00"}"#
+);
 
-const OFFERED_TO_WU: &str =
-    r#"{"amount":"50.00","claimant":"Dr. Wu","day":"2024-01-10","entry":"0004","kind":"claim","left":"50.00","matter":"000001","of":null,"on":"general","reason":"too \"dear\" \\","settled":null,"state":"open","to_client":"20.00"}"#;
+const OFFERED_TO_WU: &str = concat!(
+    r#"{"amount":"50.00","claimant":"Dr. Wu","day":"2024-01-10","entry":"0004","kind":"claim","left":"50.00","#,
+    r#""matter":"000001","of":null,"on":"general","reason":"too \"dear\" \\","settled":null,"state":"open","#,
+    r#""to_client":"20.00"}"#
+);
 
-const SETTLED: &str =
-    r#"{"amount":"50.00","claimant":"Dr. Wu","day":"2024-01-10","entry":"0004","kind":"claim","left":"50.00","matter":"000001","of":null,"on":"general","reason":"too \"dear\" \\","settled":"2024-01-10","state":"settled","to_client":"0.00"}"#;
+const SETTLED: &str = concat!(
+    r#"{"amount":"50.00","claimant":"Dr. Wu","day":"2024-01-10","entry":"0004","kind":"claim","left":"50.00","#,
+    r#""matter":"000001","of":null,"on":"general","reason":"too \"dear\" \\","settled":"2024-01-10","#,
+    r#""state":"settled","to_client":"0.00"}"#
+);
 
 #[test]
 fn texts_are_escaped(rt: HostRuntime) -> Result<(), Wrong> {
     let on_fee = r#"dispute,000001,0003,50.00,0002,too "dear" \"#;
     let by_wu = r#"claim,000001,0004,50.00,Dr. Wu,too "dear" \"#;
-    let seated =
-        r#"{"available":"0.00","claims":"0.00","client":"Ada Chen","closed":null,"disputed":"0.00","entries":1,"fees":"0.00","held":"500.00","matter":"000001","opened":"2024-01-10","seats":[{"person":"ada","role":"client"},{"person":"lee","role":"lawyer"}],"total":"0.00"}"#;
+    let seated = concat!(
+        r#"{"available":"0.00","claims":"0.00","client":"Ada Chen","closed":null,"disputed":"0.00","entries":1,"#,
+        r#""fees":"0.00","held":"500.00","matter":"000001","opened":"2024-01-10","seats":[{"person":"ada","#,
+        r#""role":"client"},{"person":"lee","role":"lawyer"}],"total":"0.00"}"#
+    );
     let steps: [Step; 10] = [
         ("2024-01-10", "", OPEN, 201, OPENED),
         ("2024-01-10", "", DEPOSIT, 201, RECEIPT),

@@ -8,11 +8,16 @@ use std::alloc::Global;
 use trust_desk::Desk;
 use trust_store::{Book, PlainBook, RefusingBook};
 
-const OTHER_OPENED: &str =
-    r#"{"available":"0.00","claims":"0.00","client":"Ada Chen","closed":null,"disputed":"0.00","entries":0,"fees":"0.00","held":"0.00","matter":"000002","opened":"2024-01-10","seats":[{"person":"lee","role":"lawyer"}],"total":"0.00"}"#;
+const OTHER_OPENED: &str = concat!(
+    r#"{"available":"0.00","claims":"0.00","client":"Ada Chen","closed":null,"disputed":"0.00","entries":0,"#,
+    r#""fees":"0.00","held":"0.00","matter":"000002","opened":"2024-01-10","seats":[{"person":"lee","#,
+    r#""role":"lawyer"}],"total":"0.00"}"#
+);
 
-const OTHER_RECEIPT: &str =
-    r#"{"amount":"70.00","day":"2024-01-10","description":"retainer","entry":"0001","kind":"deposit","matter":"000002","source":"Ada Chen"}"#;
+const OTHER_RECEIPT: &str = concat!(
+    r#"{"amount":"70.00","day":"2024-01-10","description":"retainer","entry":"0001","kind":"deposit","#,
+    r#""matter":"000002","source":"Ada Chen"}"#
+);
 
 // Matter 000002 is entered, and then matter 000001.
 const BOOKED: [Step; 4] = [
@@ -61,8 +66,14 @@ fn holds_both<B: Book + Drop>(book: B, alloc: Global) -> Result<(), Wrong> {
 }
 
 // Rows by matter, and movements as they came.
-const ROWS: &str =
-    "head 000001 Ada Chen\nseat 000001 lee\nentry 000001 0001\nhead 000002 Ada Chen\nseat 000002 lee\nentry 000002 0001\n000002 0001 2024-01-10 70.00\n000001 0001 2024-01-10 500.00\n";
+const ROWS: &str = "head 000001 Ada Chen\n\
+        seat 000001 lee\n\
+        entry 000001 0001\n\
+        head 000002 Ada Chen\n\
+        seat 000002 lee\n\
+        entry 000002 0001\n\
+        000002 0001 2024-01-10 70.00\n\
+        000001 0001 2024-01-10 500.00\n";
 
 #[test]
 fn rows_come_by_matter(rt: HostRuntime) -> Result<(), Wrong> {

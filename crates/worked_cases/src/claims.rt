@@ -9,48 +9,80 @@ use crate::values::Wrong;
 
 const SEAT: &str = "seat,000001,,ada,client";
 
-const SEATED: &str =
-    r#"{"available":"0.00","claims":"0.00","client":"Ada Chen","closed":null,"disputed":"0.00","entries":1,"fees":"0.00","held":"500.00","matter":"000001","opened":"2024-01-10","seats":[{"person":"ada","role":"client"},{"person":"lee","role":"lawyer"}],"total":"0.00"}"#;
+const SEATED: &str = concat!(
+    r#"{"available":"0.00","claims":"0.00","client":"Ada Chen","closed":null,"disputed":"0.00","entries":1,"#,
+    r#""fees":"0.00","held":"500.00","matter":"000001","opened":"2024-01-10","seats":[{"person":"ada","#,
+    r#""role":"client"},{"person":"lee","role":"lawyer"}],"total":"0.00"}"#
+);
 
 const FEE: &str =
     r#"{"amount":"200.00","day":"2024-01-10","description":"advice","entry":"0002","kind":"fee","matter":"000001"}"#;
 
-const FEE_EARNED: &str =
-    r#"{"available":"300.00","claims":"0.00","client":"Ada Chen","closed":null,"disputed":"0.00","entries":2,"fees":"200.00","held":"0.00","matter":"000001","opened":"2024-01-10","seats":[{"person":"ada","role":"client"},{"person":"lee","role":"lawyer"}],"total":"500.00"}"#;
+const FEE_EARNED: &str = concat!(
+    r#"{"available":"300.00","claims":"0.00","client":"Ada Chen","closed":null,"disputed":"0.00","entries":2,"#,
+    r#""fees":"200.00","held":"0.00","matter":"000001","opened":"2024-01-10","seats":[{"person":"ada","#,
+    r#""role":"client"},{"person":"lee","role":"lawyer"}],"total":"500.00"}"#
+);
 
-const ON_FEE: &str =
-    r#"{"amount":"50.00","claimant":null,"day":"2024-01-10","entry":"0003","kind":"claim","matter":"000001","of":"0002","on":"fee","reason":"hours"}"#;
+const ON_FEE: &str = concat!(
+    r#"{"amount":"50.00","claimant":null,"day":"2024-01-10","entry":"0003","kind":"claim","matter":"000001","#,
+    r#""of":"0002","on":"fee","reason":"hours"}"#
+);
 
-const FROM_FEE: &str =
-    r#"{"amount":"160.00","day":"2024-01-10","entry":"0004","from":"fee","instrument":"1001","kind":"payment","matter":"000001","of":"0002","payee":"FIRM","purpose":"filing fee"}"#;
+const FROM_FEE: &str = concat!(
+    r#"{"amount":"160.00","day":"2024-01-10","entry":"0004","from":"fee","instrument":"1001","kind":"payment","#,
+    r#""matter":"000001","of":"0002","payee":"FIRM","purpose":"filing fee"}"#
+);
 
-const OFFERED: &str =
-    r#"{"amount":"50.00","claimant":null,"day":"2024-01-10","entry":"0003","kind":"claim","left":null,"matter":"000001","of":"0002","on":"fee","reason":"hours","settled":null,"state":"open","to_client":"20.00"}"#;
+const OFFERED: &str = concat!(
+    r#"{"amount":"50.00","claimant":null,"day":"2024-01-10","entry":"0003","kind":"claim","left":null,"#,
+    r#""matter":"000001","of":"0002","on":"fee","reason":"hours","settled":null,"state":"open","#,
+    r#""to_client":"20.00"}"#
+);
 
-const SETTLED: &str =
-    r#"{"amount":"50.00","claimant":null,"day":"2024-01-10","entry":"0003","kind":"claim","left":null,"matter":"000001","of":"0002","on":"fee","reason":"hours","settled":"2024-01-10","state":"settled","to_client":"20.00"}"#;
+const SETTLED: &str = concat!(
+    r#"{"amount":"50.00","claimant":null,"day":"2024-01-10","entry":"0003","kind":"claim","left":null,"#,
+    r#""matter":"000001","of":"0002","on":"fee","reason":"hours","settled":"2024-01-10","state":"settled","#,
+    r#""to_client":"20.00"}"#
+);
 
-const AFTER_SETTLING: &str =
-    r#"{"available":"320.00","claims":"0.00","client":"Ada Chen","closed":null,"disputed":"0.00","entries":4,"fees":"180.00","held":"0.00","matter":"000001","opened":"2024-01-10","seats":[{"person":"ada","role":"client"},{"person":"lee","role":"lawyer"}],"total":"500.00"}"#;
+const AFTER_SETTLING: &str = concat!(
+    r#"{"available":"320.00","claims":"0.00","client":"Ada Chen","closed":null,"disputed":"0.00","entries":4,"#,
+    r#""fees":"180.00","held":"0.00","matter":"000001","opened":"2024-01-10","seats":[{"person":"ada","#,
+    r#""role":"client"},{"person":"lee","role":"lawyer"}],"total":"500.00"}"#
+);
 
-const FIRM_PAID: &str =
-    r#"{"amount":"160.00","bank_day":null,"bank_ref":null,"day":"2024-01-10","entry":"0004","from":"fee","instrument":"1001","issued":"2024-01-10","kind":"payment","matter":"000001","of":"0002","payee":"FIRM","purpose":"filing fee","state":"issued","undone":null}"#;
+const FIRM_PAID: &str = concat!(
+    r#"{"amount":"160.00","bank_day":null,"bank_ref":null,"day":"2024-01-10","entry":"0004","from":"fee","#,
+    r#""instrument":"1001","issued":"2024-01-10","kind":"payment","matter":"000001","of":"0002","payee":"FIRM","#,
+    r#""purpose":"filing fee","state":"issued","undone":null}"#
+);
 
-const AFTER_PAYING: &str =
-    r#"{"available":"320.00","claims":"0.00","client":"Ada Chen","closed":null,"disputed":"0.00","entries":4,"fees":"20.00","held":"0.00","matter":"000001","opened":"2024-01-10","seats":[{"person":"ada","role":"client"},{"person":"lee","role":"lawyer"}],"total":"340.00"}"#;
+const AFTER_PAYING: &str = concat!(
+    r#"{"available":"320.00","claims":"0.00","client":"Ada Chen","closed":null,"disputed":"0.00","entries":4,"#,
+    r#""fees":"20.00","held":"0.00","matter":"000001","opened":"2024-01-10","seats":[{"person":"ada","#,
+    r#""role":"client"},{"person":"lee","role":"lawyer"}],"total":"340.00"}"#
+);
 
-const FIRM_UNPAID: &str =
-    r#"{"amount":"160.00","bank_day":null,"bank_ref":null,"day":"2024-01-10","entry":"0004","from":"fee","instrument":"1001","issued":"2024-01-10","kind":"payment","matter":"000001","of":"0002","payee":"FIRM","purpose":"filing fee","state":"voided","undone":"2024-01-10"}"#;
+const FIRM_UNPAID: &str = concat!(
+    r#"{"amount":"160.00","bank_day":null,"bank_ref":null,"day":"2024-01-10","entry":"0004","from":"fee","#,
+    r#""instrument":"1001","issued":"2024-01-10","kind":"payment","matter":"000001","of":"0002","payee":"FIRM","#,
+    r#""purpose":"filing fee","state":"voided","undone":"2024-01-10"}"#
+);
 
 const SHORT: &str = r#"{"left":"150.00","name":"Short","refusal":21}"#;
 
 const BAD_SPLIT: &str = r#"{"name":"BadSplit","refusal":20}"#;
 
-const FEE_LEFT: &str =
-    r#"{"amount":"200.00","day":"2024-01-10","description":"advice","entry":"0002","kind":"fee","left":"150.00","matter":"000001"}"#;
+const FEE_LEFT: &str = concat!(
+    r#"{"amount":"200.00","day":"2024-01-10","description":"advice","entry":"0002","kind":"fee","left":"150.00","#,
+    r#""matter":"000001"}"#
+);
 
-const CLAIM_OPEN: &str =
-    r#"{"amount":"50.00","claimant":null,"day":"2024-01-10","entry":"0003","kind":"claim","left":null,"matter":"000001","of":"0002","on":"fee","reason":"hours","settled":null,"state":"open","to_client":null}"#;
+const CLAIM_OPEN: &str = concat!(
+    r#"{"amount":"50.00","claimant":null,"day":"2024-01-10","entry":"0003","kind":"claim","left":null,"#,
+    r#""matter":"000001","of":"0002","on":"fee","reason":"hours","settled":null,"state":"open","to_client":null}"#
+);
 
 #[test]
 fn a_claim_on_a_fee_is_settled(rt: HostRuntime) -> Result<(), Wrong> {
@@ -102,26 +134,45 @@ const PAY_CLAIMANT: &str = "propose,000001,0003,100.00,claim,0002,Roof Builders,
 
 const PAY_ANOTHER: &str = "propose,000001,0003,100.00,claim,0002,Ada Chen,filing fee,1001";
 
-const CLAIMED: &str =
-    r#"{"amount":"120.00","claimant":"Roof Builders","day":"2024-01-10","entry":"0002","kind":"claim","matter":"000001","of":null,"on":"general","reason":"hours"}"#;
+const CLAIMED: &str = concat!(
+    r#"{"amount":"120.00","claimant":"Roof Builders","day":"2024-01-10","entry":"0002","kind":"claim","#,
+    r#""matter":"000001","of":null,"on":"general","reason":"hours"}"#
+);
 
-const KEPT_APART: &str =
-    r#"{"available":"380.00","claims":"120.00","client":"Ada Chen","closed":null,"disputed":"0.00","entries":2,"fees":"0.00","held":"0.00","matter":"000001","opened":"2024-01-10","seats":[{"person":"ada","role":"client"},{"person":"lee","role":"lawyer"}],"total":"500.00"}"#;
+const KEPT_APART: &str = concat!(
+    r#"{"available":"380.00","claims":"120.00","client":"Ada Chen","closed":null,"disputed":"0.00","entries":2,"#,
+    r#""fees":"0.00","held":"0.00","matter":"000001","opened":"2024-01-10","seats":[{"person":"ada","#,
+    r#""role":"client"},{"person":"lee","role":"lawyer"}],"total":"500.00"}"#
+);
 
-const AWARDED: &str =
-    r#"{"amount":"120.00","claimant":"Roof Builders","day":"2024-01-10","entry":"0002","kind":"claim","left":"100.00","matter":"000001","of":null,"on":"general","reason":"hours","settled":"2024-01-10","state":"settled","to_client":"20.00"}"#;
+const AWARDED: &str = concat!(
+    r#"{"amount":"120.00","claimant":"Roof Builders","day":"2024-01-10","entry":"0002","kind":"claim","#,
+    r#""left":"100.00","matter":"000001","of":null,"on":"general","reason":"hours","settled":"2024-01-10","#,
+    r#""state":"settled","to_client":"20.00"}"#
+);
 
-const LEFT_TO_CLAIMANT: &str =
-    r#"{"available":"400.00","claims":"100.00","client":"Ada Chen","closed":null,"disputed":"0.00","entries":2,"fees":"0.00","held":"0.00","matter":"000001","opened":"2024-01-10","seats":[{"person":"ada","role":"client"},{"person":"lee","role":"lawyer"}],"total":"500.00"}"#;
+const LEFT_TO_CLAIMANT: &str = concat!(
+    r#"{"available":"400.00","claims":"100.00","client":"Ada Chen","closed":null,"disputed":"0.00","entries":2,"#,
+    r#""fees":"0.00","held":"0.00","matter":"000001","opened":"2024-01-10","seats":[{"person":"ada","#,
+    r#""role":"client"},{"person":"lee","role":"lawyer"}],"total":"500.00"}"#
+);
 
-const FROM_CLAIM: &str =
-    r#"{"amount":"100.00","day":"2024-01-10","entry":"0003","from":"claim","instrument":"1001","kind":"payment","matter":"000001","of":"0002","payee":"Roof Builders","purpose":"filing fee"}"#;
+const FROM_CLAIM: &str = concat!(
+    r#"{"amount":"100.00","day":"2024-01-10","entry":"0003","from":"claim","instrument":"1001","kind":"payment","#,
+    r#""matter":"000001","of":"0002","payee":"Roof Builders","purpose":"filing fee"}"#
+);
 
-const CLAIMANT_PAID: &str =
-    r#"{"amount":"100.00","bank_day":null,"bank_ref":null,"day":"2024-01-10","entry":"0003","from":"claim","instrument":"1001","issued":"2024-01-10","kind":"payment","matter":"000001","of":"0002","payee":"Roof Builders","purpose":"filing fee","state":"issued","undone":null}"#;
+const CLAIMANT_PAID: &str = concat!(
+    r#"{"amount":"100.00","bank_day":null,"bank_ref":null,"day":"2024-01-10","entry":"0003","from":"claim","#,
+    r#""instrument":"1001","issued":"2024-01-10","kind":"payment","matter":"000001","of":"0002","#,
+    r#""payee":"Roof Builders","purpose":"filing fee","state":"issued","undone":null}"#
+);
 
-const CLAIM_EMPTY: &str =
-    r#"{"available":"400.00","claims":"0.00","client":"Ada Chen","closed":null,"disputed":"0.00","entries":3,"fees":"0.00","held":"0.00","matter":"000001","opened":"2024-01-10","seats":[{"person":"ada","role":"client"},{"person":"lee","role":"lawyer"}],"total":"400.00"}"#;
+const CLAIM_EMPTY: &str = concat!(
+    r#"{"available":"400.00","claims":"0.00","client":"Ada Chen","closed":null,"disputed":"0.00","entries":3,"#,
+    r#""fees":"0.00","held":"0.00","matter":"000001","opened":"2024-01-10","seats":[{"person":"ada","#,
+    r#""role":"client"},{"person":"lee","role":"lawyer"}],"total":"400.00"}"#
+);
 
 #[test]
 fn a_claimant_is_paid(rt: HostRuntime) -> Result<(), Wrong> {
@@ -177,14 +228,21 @@ fn claims_that_are_refused(rt: HostRuntime) -> Result<(), Wrong> {
     play(rt.alloc(), &steps, "")
 }
 
-const FIRM_CLAIMS: &str =
-    r#"{"amount":"120.00","claimant":"FIRM","day":"2024-01-10","entry":"0002","kind":"claim","matter":"000001","of":null,"on":"general","reason":"hours"}"#;
+const FIRM_CLAIMS: &str = concat!(
+    r#"{"amount":"120.00","claimant":"FIRM","day":"2024-01-10","entry":"0002","kind":"claim","matter":"000001","#,
+    r#""of":null,"on":"general","reason":"hours"}"#
+);
 
-const FIRM_AWARDED: &str =
-    r#"{"amount":"120.00","claimant":"FIRM","day":"2024-01-10","entry":"0002","kind":"claim","left":"100.00","matter":"000001","of":null,"on":"general","reason":"hours","settled":"2024-01-10","state":"settled","to_client":"20.00"}"#;
+const FIRM_AWARDED: &str = concat!(
+    r#"{"amount":"120.00","claimant":"FIRM","day":"2024-01-10","entry":"0002","kind":"claim","left":"100.00","#,
+    r#""matter":"000001","of":null,"on":"general","reason":"hours","settled":"2024-01-10","state":"settled","#,
+    r#""to_client":"20.00"}"#
+);
 
-const TO_FIRM: &str =
-    r#"{"amount":"100.00","day":"2024-01-10","entry":"0003","from":"claim","instrument":"1001","kind":"payment","matter":"000001","of":"0002","payee":"FIRM","purpose":"filing fee"}"#;
+const TO_FIRM: &str = concat!(
+    r#"{"amount":"100.00","day":"2024-01-10","entry":"0003","from":"claim","instrument":"1001","kind":"payment","#,
+    r#""matter":"000001","of":"0002","payee":"FIRM","purpose":"filing fee"}"#
+);
 
 // The firm may claim money of the general fund like anybody else, and is paid from its claim alone.
 #[test]

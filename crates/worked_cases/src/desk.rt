@@ -33,8 +33,10 @@ fn a_deposit_is_booked_once(rt: HostRuntime) -> Result<(), Wrong> {
 #[test]
 fn amounts_at_their_limit(rt: HostRuntime) -> Result<(), Wrong> {
     let most = "deposit,000001,0001,999999999.99,Ada Chen,retainer";
-    let receipt =
-        r#"{"amount":"999999999.99","day":"2024-01-10","description":"retainer","entry":"0001","kind":"deposit","matter":"000001","source":"Ada Chen"}"#;
+    let receipt = concat!(
+        r#"{"amount":"999999999.99","day":"2024-01-10","description":"retainer","entry":"0001","kind":"deposit","#,
+        r#""matter":"000001","source":"Ada Chen"}"#
+    );
     let steps: [Step; 2] = [
         ("2024-01-10", "", OPEN, 201, OPENED),
         ("2024-01-10", "", most, 201, receipt),
@@ -70,8 +72,11 @@ fn seats_that_are_refused(rt: HostRuntime) -> Result<(), Wrong> {
 
 #[test]
 fn a_client_is_seated(rt: HostRuntime) -> Result<(), Wrong> {
-    let seated =
-        r#"{"available":"0.00","claims":"0.00","client":"Ada Chen","closed":null,"disputed":"0.00","entries":0,"fees":"0.00","held":"0.00","matter":"000001","opened":"2024-01-10","seats":[{"person":"ada","role":"client"},{"person":"lee","role":"lawyer"}],"total":"0.00"}"#;
+    let seated = concat!(
+        r#"{"available":"0.00","claims":"0.00","client":"Ada Chen","closed":null,"disputed":"0.00","entries":0,"#,
+        r#""fees":"0.00","held":"0.00","matter":"000001","opened":"2024-01-10","seats":[{"person":"ada","#,
+        r#""role":"client"},{"person":"lee","role":"lawyer"}],"total":"0.00"}"#
+    );
     let steps: [Step; 5] = [
         ("2024-01-10", "", OPEN, 201, OPENED),
         ("2024-01-10", "", "seat,000001,,ada,client", 200, seated),
@@ -84,8 +89,11 @@ fn a_client_is_seated(rt: HostRuntime) -> Result<(), Wrong> {
 
 #[test]
 fn a_deposit_is_cancelled_once(rt: HostRuntime) -> Result<(), Wrong> {
-    let cancelled =
-        r#"{"amount":"500.00","bank_day":null,"bank_ref":null,"day":"2024-01-10","description":"retainer","entry":"0001","kind":"deposit","matter":"000001","return_day":null,"return_ref":null,"source":"Ada Chen","state":"cancelled","undone":"2024-01-10"}"#;
+    let cancelled = concat!(
+        r#"{"amount":"500.00","bank_day":null,"bank_ref":null,"day":"2024-01-10","description":"retainer","#,
+        r#""entry":"0001","kind":"deposit","matter":"000001","return_day":null,"return_ref":null,"#,
+        r#""source":"Ada Chen","state":"cancelled","undone":"2024-01-10"}"#
+    );
     let steps: [Step; 6] = [
         ("2024-01-10", "", OPEN, 201, OPENED),
         ("2024-01-10", "", DEPOSIT, 201, RECEIPT),

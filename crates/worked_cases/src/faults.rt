@@ -9,14 +9,22 @@ use trust_base::{Day, TrialReader};
 use trust_desk::{Desk, ImportReply, ImportStop};
 use trust_store::PlainBook;
 
-const OTHER_OPENED: &str =
-    r#"{"available":"0.00","claims":"0.00","client":"Ada Chen","closed":null,"disputed":"0.00","entries":0,"fees":"0.00","held":"0.00","matter":"000002","opened":"2024-01-10","seats":[{"person":"lee","role":"lawyer"}],"total":"0.00"}"#;
+const OTHER_OPENED: &str = concat!(
+    r#"{"available":"0.00","claims":"0.00","client":"Ada Chen","closed":null,"disputed":"0.00","entries":0,"#,
+    r#""fees":"0.00","held":"0.00","matter":"000002","opened":"2024-01-10","seats":[{"person":"lee","#,
+    r#""role":"lawyer"}],"total":"0.00"}"#
+);
 
-const OTHER_RECEIPT: &str =
-    r#"{"amount":"70.00","day":"2024-01-10","description":"retainer","entry":"0001","kind":"deposit","matter":"000002","source":"Ada Chen"}"#;
+const OTHER_RECEIPT: &str = concat!(
+    r#"{"amount":"70.00","day":"2024-01-10","description":"retainer","entry":"0001","kind":"deposit","#,
+    r#""matter":"000002","source":"Ada Chen"}"#
+);
 
-const OTHER_HELD: &str =
-    r#"{"amount":"70.00","bank_day":null,"bank_ref":null,"day":"2024-01-10","description":"retainer","entry":"0001","kind":"deposit","matter":"000002","return_day":null,"return_ref":null,"source":"Ada Chen","state":"held","undone":null}"#;
+const OTHER_HELD: &str = concat!(
+    r#"{"amount":"70.00","bank_day":null,"bank_ref":null,"day":"2024-01-10","description":"retainer","#,
+    r#""entry":"0001","kind":"deposit","matter":"000002","return_day":null,"return_ref":null,"source":"Ada Chen","#,
+    r#""state":"held","undone":null}"#
+);
 
 // Deposits of two matters.
 const BOOKED: [Step; 4] = [
@@ -38,8 +46,10 @@ const BOOKED: [Step; 4] = [
     ),
 ];
 
-const STATEMENT: &str =
-    "date,reference,bank_ref,amount,text\n2024-01-12,M000001-0001,B1,500.00,\ngarbage\n2024-01-12,M000002-0001,B2,70.00,\n";
+const STATEMENT: &str = "date,reference,bank_ref,amount,text\n\
+        2024-01-12,M000001-0001,B1,500.00,\n\
+        garbage\n\
+        2024-01-12,M000002-0001,B2,70.00,\n";
 
 // What came of the statement when its reads, a byte each, failed after the first good ones, and when it was sent again.
 fn resent(alloc: Global, good: u64, today: Day) -> Result<[ImportReply; 2], Wrong> {

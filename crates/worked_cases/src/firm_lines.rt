@@ -46,6 +46,28 @@ fn a_charge_that_is_covered_later(rt: HostRuntime) -> Result<(), Wrong> {
     play(rt.alloc(), &steps, left)
 }
 
+const TEN_IN_OTHER_WORDS: &str =
+    "import,date,reference,bank_ref,amount,text\n2024-01-10,FIRM,B2,10.00,paid in\n";
+
+const TEN_A_DAY_LATER: &str =
+    "import,date,reference,bank_ref,amount,text\n2024-01-11,FIRM,B2,10.00,\n";
+
+const ELEVEN: &str = "import,date,reference,bank_ref,amount,text\n2024-01-10,FIRM,B2,11.00,\n";
+
+// A line is the same line by its date, the bank's reference and its amount together, whatever its text.
+#[test]
+fn a_line_of_the_firm_comes_again(rt: HostRuntime) -> Result<(), Wrong> {
+    let steps: [Step; 5] = [
+        ("2024-01-11", "", TEN, 200, ONE_APPLIED),
+        ("2024-01-11", "", TEN_IN_OTHER_WORDS, 200, ONE_REPEATED),
+        ("2024-01-11", "", TEN_A_DAY_LATER, 200, ONE_APPLIED),
+        ("2024-01-11", "", ELEVEN, 200, ONE_APPLIED),
+        ("2024-01-11", "", TEN, 200, ONE_REPEATED),
+    ];
+    let left = "firm 2024-01-10 B2 10.00\nfirm 2024-01-11 B2 10.00\nfirm 2024-01-10 B2 11.00\n";
+    play(rt.alloc(), &steps, left)
+}
+
 const MOST: &str = "import,date,reference,bank_ref,amount,text\n2024-01-10,FIRM,B5,500.00,\n";
 
 const A_CENT: &str = "import,date,reference,bank_ref,amount,text\n2024-01-10,FIRM,B6,0.01,\n";
@@ -64,8 +86,10 @@ fn the_ledger_has_its_bounds(rt: HostRuntime) -> Result<(), Wrong> {
         ("2024-01-10", "", ALL, 200, ONE_APPLIED),
         ("2024-01-10", "", MOST, 200, ONE_REPEATED),
     ];
-    let left =
-        "2024-01-10,FIRM,B6,0.01,\n2024-01-10,FIRM,B7,-500.01,\nfirm 2024-01-10 B5 500.00\nfirm 2024-01-10 B8 -500.00\n";
+    let left = "2024-01-10,FIRM,B6,0.01,\n\
+            2024-01-10,FIRM,B7,-500.01,\n\
+            firm 2024-01-10 B5 500.00\n\
+            firm 2024-01-10 B8 -500.00\n";
     play(rt.alloc(), &steps, left)
 }
 

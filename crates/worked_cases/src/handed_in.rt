@@ -6,17 +6,31 @@ use crate::values::Wrong;
 
 const OTHER_HEADER: &str = "import,date,reference,amount,text\n2024-01-12,M000001-0001,500.00,\n";
 
-const OPENED: &str =
-    r#"{"available":"0.00","claims":"0.00","client":"Ada Chen","closed":null,"disputed":"0.00","entries":0,"fees":"0.00","held":"0.00","matter":"000001","opened":"2024-01-12","seats":[{"person":"lee","role":"lawyer"}],"total":"0.00"}"#;
+/// The matter as it is opened on 2024-01-12.
+pub const OPENED: &str = concat!(
+    r#"{"available":"0.00","claims":"0.00","client":"Ada Chen","closed":null,"disputed":"0.00","entries":0,"#,
+    r#""fees":"0.00","held":"0.00","matter":"000001","opened":"2024-01-12","seats":[{"person":"lee","#,
+    r#""role":"lawyer"}],"total":"0.00"}"#
+);
 
-const RECEIPT: &str =
-    r#"{"amount":"500.00","day":"2024-01-12","description":"retainer","entry":"0001","kind":"deposit","matter":"000001","source":"Ada Chen"}"#;
+/// The receipt of its retainer of that day.
+pub const RECEIPT: &str = concat!(
+    r#"{"amount":"500.00","day":"2024-01-12","description":"retainer","entry":"0001","kind":"deposit","#,
+    r#""matter":"000001","source":"Ada Chen"}"#
+);
 
-const HELD: &str =
-    r#"{"available":"0.00","claims":"0.00","client":"Ada Chen","closed":null,"disputed":"0.00","entries":1,"fees":"0.00","held":"500.00","matter":"000001","opened":"2024-01-12","seats":[{"person":"lee","role":"lawyer"}],"total":"0.00"}"#;
+const HELD: &str = concat!(
+    r#"{"available":"0.00","claims":"0.00","client":"Ada Chen","closed":null,"disputed":"0.00","entries":1,"#,
+    r#""fees":"0.00","held":"500.00","matter":"000001","opened":"2024-01-12","seats":[{"person":"lee","#,
+    r#""role":"lawyer"}],"total":"0.00"}"#
+);
 
-const CLEARED: &str =
-    r#"{"available":"500.00","claims":"0.00","client":"Ada Chen","closed":null,"disputed":"0.00","entries":1,"fees":"0.00","held":"0.00","matter":"000001","opened":"2024-01-12","seats":[{"person":"lee","role":"lawyer"}],"total":"500.00"}"#;
+/// The matter once that retainer is cleared.
+pub const CLEARED: &str = concat!(
+    r#"{"available":"500.00","claims":"0.00","client":"Ada Chen","closed":null,"disputed":"0.00","entries":1,"#,
+    r#""fees":"0.00","held":"0.00","matter":"000001","opened":"2024-01-12","seats":[{"person":"lee","#,
+    r#""role":"lawyer"}],"total":"500.00"}"#
+);
 
 #[test]
 fn the_cashier_hands_in_a_statement(rt: HostRuntime) -> Result<(), Wrong> {

@@ -1,15 +1,22 @@
-// A matter by itself: what an ask makes of it, and what a refusal leaves as it was.
+// A matter by itself: what an ask or a line of the bank makes of it, and what a refusal leaves as it was.
 
-use crate::values::{Wrong, day};
+use crate::values::{Wrong, day, entry_no, matter_no};
 use crate::words::asked;
 use std::alloc::Global;
-use trust_base::{Day, EntryNo, Refusal, Rule};
-use trust_matter::{Ask, Caller, Change, Edit, Matter, decide, holds_for};
+use trust_base::{
+    BankAmount, BankText, CivilDay, Day, EntryNo, Line, LineText, Refusal, Rule, StoreFault,
+};
+use trust_matter::{
+    Ask, BankLine, Caller, Change, Edit, LineVerdict, Matter, Reason, decide, decide_line,
+    holds_for, holds_for_line,
+};
 
-// What becomes of an ask.
+// What becomes of an ask or a line.
 #[derive(Clone, Copy)]
 enum Wanted {
     Refused(Refusal),
+    // The line matches no entry.
+    Unmatched(Reason),
     // Nothing changes.
     Nothing,
     // It changes, and moves nothing in the journal.
@@ -19,6 +26,7 @@ enum Wanted {
 }
 
 // An ask: its day, its caller (the cashier where none is named), the record of what is asked, and what becomes of it.
+// Behind `bank,` the record is a line of the bank of that day: its reference, the bank's own, and its amount.
 type Asked = (&'static str, &'static str, &'static str, Wanted);
 
 // What of a matter a refusal leaves as it was: its entries, its money held and available, its seats and its last day.
@@ -84,12 +92,65 @@ fn ask_one(
     }
 }
 
+// The line of the bank of a record.
+fn line_of(alloc: Global, record: &str, date: Day) -> Result<BankLine, Wrong> {
+    let (reference, words) = record.split_once(',').ok_or(Wrong::Value)?;
+    let (bank_ref, amount) = words.split_once(',').ok_or(Wrong::Value)?;
+    let numbers = reference.strip_prefix("M").ok_or(Wrong::Value)?;
+    let (matter, entry) = numbers.split_once('-').ok_or(Wrong::Value)?;
+    let reference = BankText::read(alloc, reference.as_bytes())?.ok_or(Wrong::Value)?;
+    let bank_ref = BankText::read(alloc, bank_ref.as_bytes())?.ok_or(Wrong::Value)?;
+    let text = LineText::read(alloc, b"")?.ok_or(Wrong::Value)?;
+    let amount = BankAmount::read(amount.as_bytes()).ok_or(Wrong::Value)?;
+    Ok(BankLine {
+        matter: matter_no(matter)?,
+        entry: entry_no(entry)?,
+        line: Line {
+            date,
+            reference,
+            bank_ref,
+            amount,
+            text,
+        },
+    })
+}
+
+// Fails where something else becomes of a line of the bank.
+fn bank_one(matter: &mut Matter, line: &BankLine, today: Day, wanted: Wanted) -> Result<(), Wrong> {
+    if !holds_for_line(matter, line) {
+        return Err(Wrong::Value);
+    }
+    let verdict = match decide_line(matter, line, today) {
+        Ok(verdict) => verdict,
+        Err(StoreFault::Memory) => return Err(Wrong::Memory),
+        Err(_) => return Err(Wrong::Value),
+    };
+    match &verdict {
+        LineVerdict::Applied(change) if is_wanted(change, today, wanted) => apply(matter, change),
+        LineVerdict::Applied(_) => Err(Wrong::Value),
+        LineVerdict::Repeat => match wanted {
+            Wanted::Nothing => Ok(()),
+            _ => Err(Wrong::Value),
+        },
+        LineVerdict::Unmatched(reason) => match wanted {
+            Wanted::Unmatched(other) if *reason == other => Ok(()),
+            _ => Err(Wrong::Value),
+        },
+    }
+}
+
 // The matter after asks.
 fn after(alloc: Global, asks: &[Asked]) -> Result<Matter, Wrong> {
     let mut matter = Matter::unopened(alloc);
     for (today, name, record, wanted) in asks {
-        let (caller, ask) = asked(alloc, name, record)?;
-        ask_one(&mut matter, &caller, &ask, day(today)?, *wanted)?;
+        let today = day(today)?;
+        if let Some(record) = record.strip_prefix("bank,") {
+            let line = line_of(alloc, record, today)?;
+            bank_one(&mut matter, &line, today, *wanted)?;
+        } else {
+            let (caller, ask) = asked(alloc, name, record)?;
+            ask_one(&mut matter, &caller, &ask, today, *wanted)?;
+        }
     }
     Ok(matter)
 }
@@ -211,4 +272,75 @@ fn cancelling(rt: HostRuntime) -> Result<(), Wrong> {
         ("2024-01-12", "", DEPOSIT, Wanted::Nothing),
     ];
     leads(rt.alloc(), &asks, [1, 0, 0, 1, 20_240_112])
+}
+
+// A matter is not empty while its last payment is issued. It is closed once the bank has paid that, and its records
+// are kept for five years from a 29 February, to the last day of February.
+#[test]
+fn closing_and_purging(rt: HostRuntime) -> Result<(), Wrong> {
+    let hundred = "deposit,000001,0001,100.00,Ada Chen,retainer";
+    let propose = "propose,000001,0002,100.00,general,,Court Clerk,filing fee,1001";
+    let more = "deposit,000001,0003,1.00,Ada Chen,retainer";
+    let close = "close,000001,";
+    let purge = "purge,000001,";
+    let early = Refusal::TooEarly(CivilDay::from_number(20_290_301).ok_or(Wrong::Value)?);
+    let asks: [Asked; 11] = [
+        ("2024-01-10", "", OPEN, Wanted::Edited),
+        ("2024-01-10", "", hundred, Wanted::Moved(1, 10_000)),
+        (
+            "2024-01-10",
+            "",
+            "bank,M000001-0001,B1,100.00",
+            Wanted::Edited,
+        ),
+        ("2024-01-10", "", propose, Wanted::Edited),
+        (
+            "2024-01-10",
+            "lee",
+            "approve,000001,0002",
+            Wanted::Moved(2, -10_000),
+        ),
+        ("2024-01-10", "", close, Wanted::Refused(Refusal::NotEmpty)),
+        (
+            "2024-01-10",
+            "",
+            "bank,M000001-0002,B2,-100.00",
+            Wanted::Edited,
+        ),
+        ("2024-02-29", "", close, Wanted::Edited),
+        ("2024-02-29", "", more, Wanted::Refused(Refusal::Closed)),
+        ("2029-02-28", "", purge, Wanted::Refused(early)),
+        ("2029-03-01", "", purge, Wanted::Edited),
+    ];
+    leads(rt.alloc(), &asks, [0, 0, 0, 0, 20_290_301])
+}
+
+// The bank takes a deposit back only when all of it is available: a cent of it was paid, and is back once it is voided.
+#[test]
+fn returns(rt: HostRuntime) -> Result<(), Wrong> {
+    let propose = "propose,000001,0002,0.01,general,,Court Clerk,filing fee,1001";
+    let back = "bank,M000001-0001,B2,-500.00";
+    let uncovered = Wanted::Unmatched(Reason::Uncovered);
+    let asks: [Asked; 9] = [
+        ("2024-01-10", "", OPEN, Wanted::Edited),
+        ("2024-01-10", "", DEPOSIT, Wanted::Moved(1, 50_000)),
+        (
+            "2024-01-10",
+            "",
+            "bank,M000001-0001,B1,500.00",
+            Wanted::Edited,
+        ),
+        ("2024-01-10", "", propose, Wanted::Edited),
+        (
+            "2024-01-10",
+            "lee",
+            "approve,000001,0002",
+            Wanted::Moved(2, -1),
+        ),
+        ("2024-01-15", "", back, uncovered),
+        ("2024-01-15", "lee", "void,000001,0002", Wanted::Moved(2, 1)),
+        ("2024-01-15", "", back, Wanted::Moved(1, -50_000)),
+        ("2024-01-15", "", back, Wanted::Nothing),
+    ];
+    leads(rt.alloc(), &asks, [2, 0, 0, 1, 20_240_115])
 }

@@ -7,8 +7,11 @@ use crate::texts::{
 };
 use crate::values::Wrong;
 
-const NOTHING_CLEARED: &str =
-    r#"{"available":"0.00","claims":"0.00","client":"Ada Chen","closed":null,"disputed":"0.00","entries":2,"fees":"0.00","held":"500.00","matter":"000001","opened":"2024-01-10","seats":[{"person":"lee","role":"lawyer"}],"total":"0.00"}"#;
+const NOTHING_CLEARED: &str = concat!(
+    r#"{"available":"0.00","claims":"0.00","client":"Ada Chen","closed":null,"disputed":"0.00","entries":2,"#,
+    r#""fees":"0.00","held":"500.00","matter":"000001","opened":"2024-01-10","seats":[{"person":"lee","#,
+    r#""role":"lawyer"}],"total":"0.00"}"#
+);
 
 #[test]
 fn nothing_is_paid_from_what_is_held(rt: HostRuntime) -> Result<(), Wrong> {
@@ -32,11 +35,16 @@ const OPEN_OTHER: &str = "open,000002,,Ada Chen,lee";
 
 const PROPOSE_OF_OTHER: &str = "propose,000002,0001,200.00,general,,Court Clerk,filing fee,1001";
 
-const OF_THE_OTHER: &str =
-    r#"{"amount":"200.00","day":"2024-01-10","entry":"0001","from":"general","instrument":"1001","kind":"payment","matter":"000002","of":null,"payee":"Court Clerk","purpose":"filing fee"}"#;
+const OF_THE_OTHER: &str = concat!(
+    r#"{"amount":"200.00","day":"2024-01-10","entry":"0001","from":"general","instrument":"1001","#,
+    r#""kind":"payment","matter":"000002","of":null,"payee":"Court Clerk","purpose":"filing fee"}"#
+);
 
-const OTHER_OPENED: &str =
-    r#"{"available":"0.00","claims":"0.00","client":"Ada Chen","closed":null,"disputed":"0.00","entries":0,"fees":"0.00","held":"0.00","matter":"000002","opened":"2024-01-10","seats":[{"person":"lee","role":"lawyer"}],"total":"0.00"}"#;
+const OTHER_OPENED: &str = concat!(
+    r#"{"available":"0.00","claims":"0.00","client":"Ada Chen","closed":null,"disputed":"0.00","entries":0,"#,
+    r#""fees":"0.00","held":"0.00","matter":"000002","opened":"2024-01-10","seats":[{"person":"lee","#,
+    r#""role":"lawyer"}],"total":"0.00"}"#
+);
 
 #[test]
 fn no_matter_pays_for_another(rt: HostRuntime) -> Result<(), Wrong> {
@@ -52,17 +60,29 @@ fn no_matter_pays_for_another(rt: HostRuntime) -> Result<(), Wrong> {
     play(rt.alloc(), &steps, "")
 }
 
-const ISSUED: &str =
-    r#"{"amount":"100.00","bank_day":null,"bank_ref":null,"day":"2024-01-10","entry":"0002","from":"general","instrument":"1001","issued":"2024-01-12","kind":"payment","matter":"000001","of":null,"payee":"Court Clerk","purpose":"filing fee","state":"issued","undone":null}"#;
+const ISSUED: &str = concat!(
+    r#"{"amount":"100.00","bank_day":null,"bank_ref":null,"day":"2024-01-10","entry":"0002","from":"general","#,
+    r#""instrument":"1001","issued":"2024-01-12","kind":"payment","matter":"000001","of":null,"#,
+    r#""payee":"Court Clerk","purpose":"filing fee","state":"issued","undone":null}"#
+);
 
-const VOIDED: &str =
-    r#"{"amount":"100.00","bank_day":null,"bank_ref":null,"day":"2024-01-10","entry":"0002","from":"general","instrument":"1001","issued":"2024-01-12","kind":"payment","matter":"000001","of":null,"payee":"Court Clerk","purpose":"filing fee","state":"voided","undone":"2024-01-12"}"#;
+const VOIDED: &str = concat!(
+    r#"{"amount":"100.00","bank_day":null,"bank_ref":null,"day":"2024-01-10","entry":"0002","from":"general","#,
+    r#""instrument":"1001","issued":"2024-01-12","kind":"payment","matter":"000001","of":null,"#,
+    r#""payee":"Court Clerk","purpose":"filing fee","state":"voided","undone":"2024-01-12"}"#
+);
 
-const PAID: &str =
-    r#"{"available":"400.00","claims":"0.00","client":"Ada Chen","closed":null,"disputed":"0.00","entries":2,"fees":"0.00","held":"0.00","matter":"000001","opened":"2024-01-10","seats":[{"person":"lee","role":"lawyer"}],"total":"400.00"}"#;
+const PAID: &str = concat!(
+    r#"{"available":"400.00","claims":"0.00","client":"Ada Chen","closed":null,"disputed":"0.00","entries":2,"#,
+    r#""fees":"0.00","held":"0.00","matter":"000001","opened":"2024-01-10","seats":[{"person":"lee","#,
+    r#""role":"lawyer"}],"total":"400.00"}"#
+);
 
-const UNPAID: &str =
-    r#"{"available":"500.00","claims":"0.00","client":"Ada Chen","closed":null,"disputed":"0.00","entries":2,"fees":"0.00","held":"0.00","matter":"000001","opened":"2024-01-10","seats":[{"person":"lee","role":"lawyer"}],"total":"500.00"}"#;
+const UNPAID: &str = concat!(
+    r#"{"available":"500.00","claims":"0.00","client":"Ada Chen","closed":null,"disputed":"0.00","entries":2,"#,
+    r#""fees":"0.00","held":"0.00","matter":"000001","opened":"2024-01-10","seats":[{"person":"lee","#,
+    r#""role":"lawyer"}],"total":"500.00"}"#
+);
 
 // A payment is proposed before its money has come, signed for afterwards, and voided.
 #[test]
@@ -83,8 +103,11 @@ fn a_payment_is_issued_and_voided(rt: HostRuntime) -> Result<(), Wrong> {
     play(rt.alloc(), &steps, "2024-01-12,M000001-0002,B2,-100.00,\n")
 }
 
-const DECLINED: &str =
-    r#"{"amount":"100.00","bank_day":null,"bank_ref":null,"day":"2024-01-10","entry":"0002","from":"general","instrument":"1001","issued":null,"kind":"payment","matter":"000001","of":null,"payee":"Court Clerk","purpose":"filing fee","state":"declined","undone":null}"#;
+const DECLINED: &str = concat!(
+    r#"{"amount":"100.00","bank_day":null,"bank_ref":null,"day":"2024-01-10","entry":"0002","from":"general","#,
+    r#""instrument":"1001","issued":null,"kind":"payment","matter":"000001","of":null,"payee":"Court Clerk","#,
+    r#""purpose":"filing fee","state":"declined","undone":null}"#
+);
 
 // A payment that a lawyer declines is paid no more, and its proposal is still answered by its receipt.
 #[test]
@@ -103,11 +126,17 @@ fn a_payment_is_declined(rt: HostRuntime) -> Result<(), Wrong> {
     play(rt.alloc(), &steps, "")
 }
 
-const PROPOSED_ENTRY: &str =
-    r#"{"amount":"100.00","bank_day":null,"bank_ref":null,"day":"2024-01-10","entry":"0002","from":"general","instrument":"1001","issued":null,"kind":"payment","matter":"000001","of":null,"payee":"Court Clerk","purpose":"filing fee","state":"proposed","undone":null}"#;
+const PROPOSED_ENTRY: &str = concat!(
+    r#"{"amount":"100.00","bank_day":null,"bank_ref":null,"day":"2024-01-10","entry":"0002","from":"general","#,
+    r#""instrument":"1001","issued":null,"kind":"payment","matter":"000001","of":null,"payee":"Court Clerk","#,
+    r#""purpose":"filing fee","state":"proposed","undone":null}"#
+);
 
-const CLEARED_ENTRY: &str =
-    r#"{"amount":"100.00","bank_day":"2024-01-12","bank_ref":"B2","day":"2024-01-10","entry":"0002","from":"general","instrument":"1001","issued":"2024-01-12","kind":"payment","matter":"000001","of":null,"payee":"Court Clerk","purpose":"filing fee","state":"cleared","undone":null}"#;
+const CLEARED_ENTRY: &str = concat!(
+    r#"{"amount":"100.00","bank_day":"2024-01-12","bank_ref":"B2","day":"2024-01-10","entry":"0002","#,
+    r#""from":"general","instrument":"1001","issued":"2024-01-12","kind":"payment","matter":"000001","of":null,"#,
+    r#""payee":"Court Clerk","purpose":"filing fee","state":"cleared","undone":null}"#
+);
 
 // Days do not go backwards after a line of the bank, and a payment that was issued is cleared by its line.
 #[test]
@@ -129,8 +158,10 @@ fn a_payment_is_cleared(rt: HostRuntime) -> Result<(), Wrong> {
     play(rt.alloc(), &steps, "")
 }
 
-const TO_CASH_LIMITED: &str =
-    r#"{"amount":"100.00","day":"2024-01-10","entry":"0002","from":"general","instrument":"1001","kind":"payment","matter":"000001","of":null,"payee":"Cash Ltd","purpose":"filing fee"}"#;
+const TO_CASH_LIMITED: &str = concat!(
+    r#"{"amount":"100.00","day":"2024-01-10","entry":"0002","from":"general","instrument":"1001","#,
+    r#""kind":"payment","matter":"000001","of":null,"payee":"Cash Ltd","purpose":"filing fee"}"#
+);
 
 #[test]
 fn payees_that_are_refused(rt: HostRuntime) -> Result<(), Wrong> {
@@ -151,8 +182,11 @@ fn payees_that_are_refused(rt: HostRuntime) -> Result<(), Wrong> {
 
 const SEAT: &str = "seat,000001,,ada,client";
 
-const SEATED: &str =
-    r#"{"available":"0.00","claims":"0.00","client":"Ada Chen","closed":null,"disputed":"0.00","entries":0,"fees":"0.00","held":"0.00","matter":"000001","opened":"2024-01-10","seats":[{"person":"ada","role":"client"},{"person":"lee","role":"lawyer"}],"total":"0.00"}"#;
+const SEATED: &str = concat!(
+    r#"{"available":"0.00","claims":"0.00","client":"Ada Chen","closed":null,"disputed":"0.00","entries":0,"#,
+    r#""fees":"0.00","held":"0.00","matter":"000001","opened":"2024-01-10","seats":[{"person":"ada","#,
+    r#""role":"client"},{"person":"lee","role":"lawyer"}],"total":"0.00"}"#
+);
 
 #[test]
 fn a_client_proposes_no_payment(rt: HostRuntime) -> Result<(), Wrong> {

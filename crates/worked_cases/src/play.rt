@@ -5,7 +5,7 @@ use crate::values::{Wrong, day};
 use crate::words::{request_of, statement_of};
 use std::alloc::{AllocError, Global};
 use trust_base::{Day, Refusal, TrialReader};
-use trust_desk::{Body, Desk, End, ImportStop, JsonText, Reply, Request, import_body};
+use trust_desk::{Body, Desk, End, ImportStop, OwnedBytes, Reply, Request, import_body};
 use trust_store::{Book, PlainBook, RefusingBook};
 
 /// A step: its day, its caller (the cashier where none is named), the record of what is asked, and the status and the
@@ -117,7 +117,7 @@ fn import<B: Book>(
     match ended.end {
         ImportStop::Done => Ok(Reply {
             status: 200,
-            body: Body::Json(JsonText::new(import_body(alloc, &ended.reply)?)),
+            body: Body::Json(OwnedBytes::new(import_body(alloc, &ended.reply)?)),
         }),
         ImportStop::Refused(refusal) => Ok(Reply::refused(refusal)),
         ImportStop::Limit => Ok(Reply::refused(Refusal::TooLarge)),
@@ -191,7 +191,7 @@ pub fn is_said(reply: &Reply, status: u16, text: &str) -> bool {
         return false;
     }
     match &reply.body {
-        Body::Json(found) => found.as_slice() == text.as_bytes(),
+        Body::Json(found) | Body::Text(found) => found.as_slice() == text.as_bytes(),
         Body::Refused(refusal) => refusal.json().as_slice() == text.as_bytes(),
     }
 }

@@ -6,14 +6,22 @@ use crate::values::Wrong;
 
 const TOP_UP: &str = "deposit,000001,0002,20.00,Ada Chen,retainer";
 
-const TOPPED_UP: &str =
-    r#"{"amount":"20.00","day":"2024-01-10","description":"retainer","entry":"0002","kind":"deposit","matter":"000001","source":"Ada Chen"}"#;
+const TOPPED_UP: &str = concat!(
+    r#"{"amount":"20.00","day":"2024-01-10","description":"retainer","entry":"0002","kind":"deposit","#,
+    r#""matter":"000001","source":"Ada Chen"}"#
+);
 
-const CANCELLED: &str =
-    r#"{"amount":"500.00","bank_day":null,"bank_ref":null,"day":"2024-01-10","description":"retainer","entry":"0001","kind":"deposit","matter":"000001","return_day":null,"return_ref":null,"source":"Ada Chen","state":"cancelled","undone":"2024-01-10"}"#;
+const CANCELLED: &str = concat!(
+    r#"{"amount":"500.00","bank_day":null,"bank_ref":null,"day":"2024-01-10","description":"retainer","#,
+    r#""entry":"0001","kind":"deposit","matter":"000001","return_day":null,"return_ref":null,"source":"Ada Chen","#,
+    r#""state":"cancelled","undone":"2024-01-10"}"#
+);
 
-const SHOWN: &str =
-    r#"{"available":"0.00","claims":"0.00","client":"Ada Chen","closed":null,"disputed":"0.00","entries":2,"fees":"0.00","held":"20.00","matter":"000001","opened":"2024-01-10","seats":[{"person":"lee","role":"lawyer"}],"total":"0.00"}"#;
+const SHOWN: &str = concat!(
+    r#"{"available":"0.00","claims":"0.00","client":"Ada Chen","closed":null,"disputed":"0.00","entries":2,"#,
+    r#""fees":"0.00","held":"20.00","matter":"000001","opened":"2024-01-10","seats":[{"person":"lee","#,
+    r#""role":"lawyer"}],"total":"0.00"}"#
+);
 
 #[test]
 fn a_matter_alone(rt: HostRuntime) -> Result<(), Wrong> {
@@ -29,13 +37,18 @@ fn a_matter_alone(rt: HostRuntime) -> Result<(), Wrong> {
 
 const OPEN_OTHER: &str = "open,000002,,Ada Chen,lee";
 
-const OTHER_OPENED: &str =
-    r#"{"available":"0.00","claims":"0.00","client":"Ada Chen","closed":null,"disputed":"0.00","entries":0,"fees":"0.00","held":"0.00","matter":"000002","opened":"2024-01-10","seats":[{"person":"lee","role":"lawyer"}],"total":"0.00"}"#;
+const OTHER_OPENED: &str = concat!(
+    r#"{"available":"0.00","claims":"0.00","client":"Ada Chen","closed":null,"disputed":"0.00","entries":0,"#,
+    r#""fees":"0.00","held":"0.00","matter":"000002","opened":"2024-01-10","seats":[{"person":"lee","#,
+    r#""role":"lawyer"}],"total":"0.00"}"#
+);
 
 const DEPOSIT_TO_OTHER: &str = "deposit,000002,0001,70.00,Ada Chen,retainer";
 
-const OTHER_RECEIPT: &str =
-    r#"{"amount":"70.00","day":"2024-01-10","description":"retainer","entry":"0001","kind":"deposit","matter":"000002","source":"Ada Chen"}"#;
+const OTHER_RECEIPT: &str = concat!(
+    r#"{"amount":"70.00","day":"2024-01-10","description":"retainer","entry":"0001","kind":"deposit","#,
+    r#""matter":"000002","source":"Ada Chen"}"#
+);
 
 // The bank's line of the deposit of matter 000002.
 const OF_OTHER: &str =

@@ -6,7 +6,7 @@ use crate::values::{Wrong, cents, day, label, matter_no};
 use crate::words::{asked, request_of};
 use std::alloc::{AllocError, Global};
 use trust_base::{Day, EntryNo, MatterNo, PersonId};
-use trust_desk::{Desk, End, ImportStop, Reply, Request, StatementText};
+use trust_desk::{Desk, End, ImportStop, OwnedBytes, Reply, Request};
 use trust_matter::{Ask, Caller, DepositAsk, Matter, Role, Seat, decide, holds_for};
 use trust_store::{Book, PlainBook};
 
@@ -194,7 +194,7 @@ fn too_long(alloc: Global) -> Result<Request, Wrong> {
     bytes.resize(4_194_305, b'\n')?;
     Ok(Request::Import {
         caller: Caller::Cashier,
-        statement: StatementText::new(bytes),
+        statement: OwnedBytes::new(bytes),
     })
 }
 

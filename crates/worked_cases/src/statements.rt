@@ -1,5 +1,6 @@
 // Statements of the bank, item by item: what is applied, what comes again, and what matches nothing.
 
+use crate::handed_in;
 use crate::play::{Step, play};
 use crate::texts::{
     BANKED, CLEARED, DEPOSIT, ENTRY, HELD_ENTRY, ONE_APPLIED, ONE_EXCEPTION, ONE_REPEATED, OPEN,
@@ -7,8 +8,11 @@ use crate::texts::{
 };
 use crate::values::Wrong;
 
-const CLEARED_ENTRY: &str =
-    r#"{"amount":"500.00","bank_day":"2024-01-12","bank_ref":"B1","day":"2024-01-10","description":"retainer","entry":"0001","kind":"deposit","matter":"000001","return_day":null,"return_ref":null,"source":"Ada Chen","state":"cleared","undone":null}"#;
+const CLEARED_ENTRY: &str = concat!(
+    r#"{"amount":"500.00","bank_day":"2024-01-12","bank_ref":"B1","day":"2024-01-10","description":"retainer","#,
+    r#""entry":"0001","kind":"deposit","matter":"000001","return_day":null,"return_ref":null,"source":"Ada Chen","#,
+    r#""state":"cleared","undone":null}"#
+);
 
 // A deposit is cleared by its line, and the line comes again.
 #[test]
@@ -41,22 +45,33 @@ fn a_line_of_another_amount_matches_nothing(rt: HostRuntime) -> Result<(), Wrong
 
 const OPEN_OTHER: &str = "open,000002,,Ada Chen,lee";
 
-const OTHER_OPENED: &str =
-    r#"{"available":"0.00","claims":"0.00","client":"Ada Chen","closed":null,"disputed":"0.00","entries":0,"fees":"0.00","held":"0.00","matter":"000002","opened":"2024-01-10","seats":[{"person":"lee","role":"lawyer"}],"total":"0.00"}"#;
+const OTHER_OPENED: &str = concat!(
+    r#"{"available":"0.00","claims":"0.00","client":"Ada Chen","closed":null,"disputed":"0.00","entries":0,"#,
+    r#""fees":"0.00","held":"0.00","matter":"000002","opened":"2024-01-10","seats":[{"person":"lee","#,
+    r#""role":"lawyer"}],"total":"0.00"}"#
+);
 
 const DEPOSIT_TO_OTHER: &str = "deposit,000002,0001,70.00,Ada Chen,retainer";
 
-const OTHER_RECEIPT: &str =
-    r#"{"amount":"70.00","day":"2024-01-10","description":"retainer","entry":"0001","kind":"deposit","matter":"000002","source":"Ada Chen"}"#;
+const OTHER_RECEIPT: &str = concat!(
+    r#"{"amount":"70.00","day":"2024-01-10","description":"retainer","entry":"0001","kind":"deposit","#,
+    r#""matter":"000002","source":"Ada Chen"}"#
+);
 
-const WITH_GARBAGE: &str =
-    "import,date,reference,bank_ref,amount,text\n2024-01-12,M000001-0001,B1,500.00,\ngarbage\n2024-01-12,M000002-0001,B2,70.00,\n";
+const WITH_GARBAGE: &str = "import,date,reference,bank_ref,amount,text\n\
+        2024-01-12,M000001-0001,B1,500.00,\n\
+        garbage\n\
+        2024-01-12,M000002-0001,B2,70.00,\n";
 
-const WITH_SAME_REF: &str =
-    "import,date,reference,bank_ref,amount,text\n2024-01-12,M000001-0001,B7,500.00,\n2024-01-12,M000002-0001,B7,70.00,\n";
+const WITH_SAME_REF: &str = "import,date,reference,bank_ref,amount,text\n\
+        2024-01-12,M000001-0001,B7,500.00,\n\
+        2024-01-12,M000002-0001,B7,70.00,\n";
 
-const SECOND_CLEARED: &str =
-    r#"{"available":"70.00","claims":"0.00","client":"Ada Chen","closed":null,"disputed":"0.00","entries":1,"fees":"0.00","held":"0.00","matter":"000002","opened":"2024-01-10","seats":[{"person":"lee","role":"lawyer"}],"total":"70.00"}"#;
+const SECOND_CLEARED: &str = concat!(
+    r#"{"available":"70.00","claims":"0.00","client":"Ada Chen","closed":null,"disputed":"0.00","entries":1,"#,
+    r#""fees":"0.00","held":"0.00","matter":"000002","opened":"2024-01-10","seats":[{"person":"lee","#,
+    r#""role":"lawyer"}],"total":"70.00"}"#
+);
 
 #[test]
 fn a_record_that_is_no_line_stops_nothing(rt: HostRuntime) -> Result<(), Wrong> {
@@ -91,11 +106,12 @@ fn matters_share_a_reference_of_the_bank(rt: HostRuntime) -> Result<(), Wrong> {
 // A line that comes before its matter is an exception until it comes again.
 #[test]
 fn an_exception_leaves_when_it_is_applied(rt: HostRuntime) -> Result<(), Wrong> {
-    let steps: [Step; 4] = [
-        ("2024-01-09", "", BANKED, 200, ONE_EXCEPTION),
-        ("2024-01-10", "", OPEN, 201, OPENED),
-        ("2024-01-10", "", DEPOSIT, 201, RECEIPT),
+    let steps: [Step; 5] = [
+        ("2024-01-12", "", BANKED, 200, ONE_EXCEPTION),
+        ("2024-01-12", "", OPEN, 201, handed_in::OPENED),
+        ("2024-01-12", "", DEPOSIT, 201, handed_in::RECEIPT),
         ("2024-01-12", "", BANKED, 200, ONE_APPLIED),
+        ("2024-01-12", "", SHOW, 200, handed_in::CLEARED),
     ];
     play(rt.alloc(), &steps, "")
 }
@@ -112,8 +128,9 @@ fn a_line_that_names_nothing(rt: HostRuntime) -> Result<(), Wrong> {
     play(rt.alloc(), &steps, "2024-01-12,INTEREST,B9,1.00,\n")
 }
 
-const TWO_TEXTS: &str =
-    "import,date,reference,bank_ref,amount,text\n2024-01-12,M000001-0001,B1,500.00,from Ada\n2024-01-12,M000001-0001,B1,500.00,from A. Chen\n";
+const TWO_TEXTS: &str = "import,date,reference,bank_ref,amount,text\n\
+        2024-01-12,M000001-0001,B1,500.00,from Ada\n\
+        2024-01-12,M000001-0001,B1,500.00,from A. Chen\n";
 
 const ONE_TEXT: &str =
     "import,date,reference,bank_ref,amount,text\n2024-01-12,M000001-0001,B1,500.00,from Ada\n";
@@ -135,8 +152,9 @@ fn an_exception_with_another_text_stays(rt: HostRuntime) -> Result<(), Wrong> {
     )
 }
 
-const NEVER_CLOSED: &str =
-    "import,date,reference,bank_ref,amount,text\n2024-01-12,M000001-0001,B1,500.00,\"from Ada\n2024-01-12,M000001-0001,B1,500.00,\n";
+const NEVER_CLOSED: &str = "import,date,reference,bank_ref,amount,text\n\
+        2024-01-12,M000001-0001,B1,500.00,\"from Ada\n\
+        2024-01-12,M000001-0001,B1,500.00,\n";
 
 // A quote that is never closed takes in all that follows: the line stands with that as its text.
 #[test]
@@ -146,8 +164,10 @@ fn a_quote_is_never_closed(rt: HostRuntime) -> Result<(), Wrong> {
     play(rt.alloc(), &steps, left)
 }
 
-const OF_THE_FIRM: &str =
-    "import,date,reference,bank_ref,amount,text\n2024-01-01,OPEN,,0.00,\n2024-01-12,FIRM,B2,-15.00,\n2024-01-31,CLOSE,,0.00,\n";
+const OF_THE_FIRM: &str = "import,date,reference,bank_ref,amount,text\n\
+        2024-01-01,OPEN,,0.00,\n\
+        2024-01-12,FIRM,B2,-15.00,\n\
+        2024-01-31,CLOSE,,0.00,\n";
 
 // Balances are kept, and a charge is none of theirs: the firm has nothing to pay it from.
 #[test]

@@ -40,28 +40,44 @@ pub const ONE_EXCEPTION: &str =
     r#"{"applied":0,"exceptions":1,"repeated":0,"statement":null,"unreadable":0}"#;
 
 /// The matter as it was opened.
-pub const OPENED: &str =
-    r#"{"available":"0.00","claims":"0.00","client":"Ada Chen","closed":null,"disputed":"0.00","entries":0,"fees":"0.00","held":"0.00","matter":"000001","opened":"2024-01-10","seats":[{"person":"lee","role":"lawyer"}],"total":"0.00"}"#;
+pub const OPENED: &str = concat!(
+    r#"{"available":"0.00","claims":"0.00","client":"Ada Chen","closed":null,"disputed":"0.00","entries":0,"#,
+    r#""fees":"0.00","held":"0.00","matter":"000001","opened":"2024-01-10","seats":[{"person":"lee","#,
+    r#""role":"lawyer"}],"total":"0.00"}"#
+);
 
 /// The receipt of the retainer.
-pub const RECEIPT: &str =
-    r#"{"amount":"500.00","day":"2024-01-10","description":"retainer","entry":"0001","kind":"deposit","matter":"000001","source":"Ada Chen"}"#;
+pub const RECEIPT: &str = concat!(
+    r#"{"amount":"500.00","day":"2024-01-10","description":"retainer","entry":"0001","kind":"deposit","#,
+    r#""matter":"000001","source":"Ada Chen"}"#
+);
 
 /// The matter while the retainer is held.
-pub const HELD: &str =
-    r#"{"available":"0.00","claims":"0.00","client":"Ada Chen","closed":null,"disputed":"0.00","entries":1,"fees":"0.00","held":"500.00","matter":"000001","opened":"2024-01-10","seats":[{"person":"lee","role":"lawyer"}],"total":"0.00"}"#;
+pub const HELD: &str = concat!(
+    r#"{"available":"0.00","claims":"0.00","client":"Ada Chen","closed":null,"disputed":"0.00","entries":1,"#,
+    r#""fees":"0.00","held":"500.00","matter":"000001","opened":"2024-01-10","seats":[{"person":"lee","#,
+    r#""role":"lawyer"}],"total":"0.00"}"#
+);
 
 /// The matter once the retainer is cleared.
-pub const CLEARED: &str =
-    r#"{"available":"500.00","claims":"0.00","client":"Ada Chen","closed":null,"disputed":"0.00","entries":1,"fees":"0.00","held":"0.00","matter":"000001","opened":"2024-01-10","seats":[{"person":"lee","role":"lawyer"}],"total":"500.00"}"#;
+pub const CLEARED: &str = concat!(
+    r#"{"available":"500.00","claims":"0.00","client":"Ada Chen","closed":null,"disputed":"0.00","entries":1,"#,
+    r#""fees":"0.00","held":"0.00","matter":"000001","opened":"2024-01-10","seats":[{"person":"lee","#,
+    r#""role":"lawyer"}],"total":"500.00"}"#
+);
 
 /// The retainer while it is held.
-pub const HELD_ENTRY: &str =
-    r#"{"amount":"500.00","bank_day":null,"bank_ref":null,"day":"2024-01-10","description":"retainer","entry":"0001","kind":"deposit","matter":"000001","return_day":null,"return_ref":null,"source":"Ada Chen","state":"held","undone":null}"#;
+pub const HELD_ENTRY: &str = concat!(
+    r#"{"amount":"500.00","bank_day":null,"bank_ref":null,"day":"2024-01-10","description":"retainer","#,
+    r#""entry":"0001","kind":"deposit","matter":"000001","return_day":null,"return_ref":null,"source":"Ada Chen","#,
+    r#""state":"held","undone":null}"#
+);
 
 /// The receipt of the payment.
-pub const PROPOSED: &str =
-    r#"{"amount":"100.00","day":"2024-01-10","entry":"0002","from":"general","instrument":"1001","kind":"payment","matter":"000001","of":null,"payee":"Court Clerk","purpose":"filing fee"}"#;
+pub const PROPOSED: &str = concat!(
+    r#"{"amount":"100.00","day":"2024-01-10","entry":"0002","from":"general","instrument":"1001","#,
+    r#""kind":"payment","matter":"000001","of":null,"payee":"Court Clerk","purpose":"filing fee"}"#
+);
 
 pub const NO_MATTER: &str = r#"{"name":"NoMatter","refusal":8}"#;
 

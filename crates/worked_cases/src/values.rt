@@ -1,7 +1,7 @@
 // Values of their texts, of which a test fails where the text is none.
 
 use std::alloc::{AllocError, AllocFailed, Global};
-use trust_base::{Cents, CentsOrZero, Day, EntryNo, Label, MatterNo, PersonId};
+use trust_base::{Cents, CentsOrZero, Day, EntryNo, Label, MatterNo, PersonId, Refusal};
 
 /// Why a test fails.
 #[derive(Clone, Copy, Debug)]
@@ -27,6 +27,15 @@ impl From<AllocError> for Wrong {
 impl<T: Drop> From<AllocFailed<T>> for Wrong {
     fn from(_: AllocFailed<T>) -> Wrong {
         Wrong::Memory
+    }
+}
+
+impl From<Refusal> for Wrong {
+    fn from(refusal: Refusal) -> Wrong {
+        match refusal {
+            Refusal::Memory => Wrong::Memory,
+            _ => Wrong::Value,
+        }
     }
 }
 

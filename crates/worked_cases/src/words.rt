@@ -1,13 +1,15 @@
 // What is asked at a desk, in the words of the records of a day sheet.
 
-use crate::values::{Wrong, cents, entry_no, label, matter_no, part, person};
-use std::alloc::Global;
-use trust_base::MatterNo;
-use trust_desk::{Request, StatementText};
-use trust_matter::{
-    Against, Ask, Caller, ClaimAsk, DepositAsk, FeeAsk, Fund, OpenAsk, PaymentAsk, Role, Seat,
-    SplitAsk,
+use crate::values::{Wrong, matter_no, person};
+use ask_fields::{
+    ClaimTexts, PaymentTexts, read_accepting, read_approving, read_awarding, read_cancelling,
+    read_claiming, read_declining, read_depositing, read_dropping, read_earning, read_entry,
+    read_offering, read_opening, read_proposing, read_seating, read_showing, read_voiding,
 };
+use std::alloc::Global;
+use trust_base::{EntryNo, Field, MatterNo, Refusal};
+use trust_desk::{OwnedBytes, Request};
+use trust_matter::{Ask, Caller};
 
 // The words of a record that are left.
 #[derive(Clone, Copy)]
@@ -30,6 +32,16 @@ impl<'a> Words<'a> {
             }
         }
     }
+
+    // The next word, if it is not empty.
+    fn next_if_any(&mut self) -> Option<&'a [u8]> {
+        let word = self.next();
+        if word.is_empty() {
+            None
+        } else {
+            Some(word.as_bytes())
+        }
+    }
 }
 
 fn caller_of(alloc: Global, name: &str) -> Result<Caller, Wrong> {
@@ -39,108 +51,88 @@ fn caller_of(alloc: Global, name: &str) -> Result<Caller, Wrong> {
     Ok(Caller::Person(person(alloc, name)?))
 }
 
-fn opening(alloc: Global, words: &mut Words<'_>) -> Result<Ask, Wrong> {
-    let client = label(alloc, words.next())?;
-    let lawyer = person(alloc, words.next())?;
-    Ok(Ask::OpenMatter(OpenAsk { client, lawyer }))
-}
-
-fn seating(alloc: Global, words: &mut Words<'_>) -> Result<Ask, Wrong> {
-    let person = person(alloc, words.next())?;
-    let role = if words.next() == "lawyer" {
-        Role::Lawyer
-    } else {
-        Role::Client
+fn proposing(alloc: Global, number: EntryNo, words: &mut Words<'_>) -> Result<Ask, Refusal> {
+    let texts = PaymentTexts {
+        amount: words.next().as_bytes(),
+        from: words.next().as_bytes(),
+        of: words.next_if_any(),
+        payee: words.next().as_bytes(),
+        purpose: words.next().as_bytes(),
+        instrument: words.next().as_bytes(),
     };
-    Ok(Ask::AddSeat(Seat { person, role }))
-}
-
-fn depositing(alloc: Global, number: &str, words: &mut Words<'_>) -> Result<Ask, Wrong> {
-    Ok(Ask::Deposit(DepositAsk {
-        number: entry_no(number)?,
-        amount: cents(words.next())?,
-        source: label(alloc, words.next())?,
-        description: label(alloc, words.next())?,
-    }))
-}
-
-fn fund(from: &str, of: &str) -> Result<Fund, Wrong> {
-    match from {
-        "fee" => Ok(Fund::Fee(entry_no(of)?)),
-        "claim" => Ok(Fund::Claim(entry_no(of)?)),
-        _ => Ok(Fund::General),
-    }
-}
-
-fn proposing(alloc: Global, number: &str, words: &mut Words<'_>) -> Result<Ask, Wrong> {
-    Ok(Ask::Propose(PaymentAsk {
-        number: entry_no(number)?,
-        amount: cents(words.next())?,
-        fund: fund(words.next(), words.next())?,
-        payee: label(alloc, words.next())?,
-        purpose: label(alloc, words.next())?,
-        instrument: label(alloc, words.next())?,
-    }))
-}
-
-fn earning(alloc: Global, number: &str, words: &mut Words<'_>) -> Result<Ask, Wrong> {
-    Ok(Ask::EarnFee(FeeAsk {
-        number: entry_no(number)?,
-        amount: cents(words.next())?,
-        description: label(alloc, words.next())?,
-    }))
+    read_proposing(alloc, number, &texts)
 }
 
 // A claim on what is available, by a claimant.
-fn claiming(alloc: Global, number: &str, words: &mut Words<'_>) -> Result<Ask, Wrong> {
-    Ok(Ask::RaiseClaim(ClaimAsk {
-        number: entry_no(number)?,
-        amount: cents(words.next())?,
-        against: Against::General(label(alloc, words.next())?),
-        reason: label(alloc, words.next())?,
-    }))
+fn claiming(alloc: Global, number: EntryNo, words: &mut Words<'_>) -> Result<Ask, Refusal> {
+    let texts = ClaimTexts {
+        amount: words.next().as_bytes(),
+        on: b"general",
+        of: None,
+        claimant: Some(words.next().as_bytes()),
+        reason: words.next().as_bytes(),
+    };
+    read_claiming(alloc, number, &texts)
 }
 
 // A claim on a fee.
-fn disputing(alloc: Global, number: &str, words: &mut Words<'_>) -> Result<Ask, Wrong> {
-    Ok(Ask::RaiseClaim(ClaimAsk {
-        number: entry_no(number)?,
-        amount: cents(words.next())?,
-        against: Against::Fee(entry_no(words.next())?),
-        reason: label(alloc, words.next())?,
-    }))
+fn disputing(alloc: Global, number: EntryNo, words: &mut Words<'_>) -> Result<Ask, Refusal> {
+    let texts = ClaimTexts {
+        amount: words.next().as_bytes(),
+        on: b"fee",
+        of: Some(words.next().as_bytes()),
+        claimant: None,
+        reason: words.next().as_bytes(),
+    };
+    read_claiming(alloc, number, &texts)
 }
 
-fn split(number: &str, words: &mut Words<'_>) -> Result<SplitAsk, Wrong> {
-    Ok(SplitAsk {
-        number: entry_no(number)?,
-        to_client: part(words.next())?,
-    })
-}
-
-// What is asked of a matter's entry of this number, if it is of one.
-fn ask_of(alloc: Global, verb: &str, number: &str, words: &mut Words<'_>) -> Result<Ask, Wrong> {
+// What is asked of the entry of this number with further words.
+fn ask_of_entry(
+    alloc: Global,
+    verb: &str,
+    number: EntryNo,
+    words: &mut Words<'_>,
+) -> Result<Ask, Refusal> {
     match verb {
-        "open" => opening(alloc, words),
-        "seat" => seating(alloc, words),
-        "drop" => Ok(Ask::DropSeat(person(alloc, words.next())?)),
-        "deposit" => depositing(alloc, number, words),
-        "cancel" => Ok(Ask::CancelDeposit(entry_no(number)?)),
+        "deposit" => read_depositing(
+            alloc,
+            number,
+            words.next().as_bytes(),
+            words.next().as_bytes(),
+            words.next().as_bytes(),
+        ),
         "propose" => proposing(alloc, number, words),
-        "approve" => Ok(Ask::Approve(entry_no(number)?)),
-        "decline" => Ok(Ask::Decline(entry_no(number)?)),
-        "void" => Ok(Ask::VoidPayment(entry_no(number)?)),
-        "fee" => earning(alloc, number, words),
+        "fee" => read_earning(
+            alloc,
+            number,
+            words.next().as_bytes(),
+            words.next().as_bytes(),
+        ),
         "claim" => claiming(alloc, number, words),
         "dispute" => disputing(alloc, number, words),
-        "offer" => Ok(Ask::Offer(split(number, words)?)),
-        "accept" => Ok(Ask::Accept(split(number, words)?)),
-        "award" => Ok(Ask::Award(split(number, words)?)),
+        "offer" => read_offering(number, words.next().as_bytes()),
+        "accept" => read_accepting(number, words.next().as_bytes()),
+        "award" => read_awarding(number, words.next().as_bytes()),
+        _ => Err(Refusal::BadField(Field::Record)),
+    }
+}
+
+// What is asked of a matter, or of its entry of this number.
+fn ask_of(alloc: Global, verb: &str, number: &[u8], words: &mut Words<'_>) -> Result<Ask, Refusal> {
+    match verb {
+        "open" => read_opening(alloc, words.next().as_bytes(), words.next().as_bytes()),
+        "seat" => read_seating(alloc, words.next().as_bytes(), words.next().as_bytes()),
+        "drop" => read_dropping(alloc, words.next().as_bytes()),
+        "cancel" => read_cancelling(number),
+        "approve" => read_approving(number),
+        "decline" => read_declining(number),
+        "void" => read_voiding(number),
+        "entry" => read_showing(number),
         "close" => Ok(Ask::CloseMatter),
         "purge" => Ok(Ask::Purge),
         "show" => Ok(Ask::Show),
-        "entry" => Ok(Ask::ShowEntry(entry_no(number)?)),
-        _ => Err(Wrong::Value),
+        _ => ask_of_entry(alloc, verb, read_entry(number)?, words),
     }
 }
 
@@ -153,7 +145,7 @@ fn handing_in(alloc: Global, caller: Caller, text: &str) -> Result<Request, Wron
     let bytes = Vec::from_slice(alloc, text.as_bytes())?;
     Ok(Request::Import {
         caller,
-        statement: StatementText::new(bytes),
+        statement: OwnedBytes::new(bytes),
     })
 }
 
@@ -162,7 +154,7 @@ pub fn asked(alloc: Global, name: &str, record: &str) -> Result<(Caller, Ask), W
     let mut words = Words { left: record };
     let verb = words.next();
     words.next();
-    let number = words.next();
+    let number = words.next().as_bytes();
     let ask = ask_of(alloc, verb, number, &mut words)?;
     Ok((caller_of(alloc, name)?, ask))
 }

@@ -29,7 +29,9 @@ fn assert_line(rt: &(impl Abort + AllocGlobal), words: &'static [&'static str]) 
 #[test]
 fn takes_the_day_after_an_equals_sign(rt: HostRuntime) {
     let opened =
-        b"201 {\"available\":\"0.00\",\"claims\":\"0.00\",\"client\":\"Ada Chen\",\"closed\":null,\"disputed\":\"0.00\",\"entries\":0,\"fees\":\"0.00\",\"held\":\"0.00\",\"matter\":\"000001\",\"opened\":\"2024-02-29\",\"seats\":[{\"person\":\"lee\",\"role\":\"lawyer\"}],\"total\":\"0.00\"}\n";
+        b"201 {\"available\":\"0.00\",\"claims\":\"0.00\",\"client\":\"Ada Chen\",\"closed\":null,\
+            \"disputed\":\"0.00\",\"entries\":0,\"fees\":\"0.00\",\"held\":\"0.00\",\"matter\":\"000001\",\
+            \"opened\":\"2024-02-29\",\"seats\":[{\"person\":\"lee\",\"role\":\"lawyer\"}],\"total\":\"0.00\"}\n";
     let words = &["cashier_cli", "--today=2024-02-29", "sheet"];
     check_words(&rt, words, &NO_FILE, Outcome::Done, opened);
 }

@@ -1,4 +1,5 @@
-//! Worked cases of day sheets, statements and command lines, as tests of the cashier's program from bytes to bytes.
+//! Worked cases of day sheets, statements, streams and command lines, as tests of the cashier's program from bytes to
+//! bytes.
 #![tactic(auto)]
 
 #[cfg(test)]
@@ -11,3 +12,5 @@ mod runs;
 mod sheets;
 #[cfg(test)]
 mod statements;
+#[cfg(test)]
+mod streams;

@@ -14,11 +14,15 @@ fn push_opening(number: u32, sheet: &mut Vec<u8>, told: &mut Vec<u8>) -> Result<
     matter.write_to(sheet)?;
     sheet.extend_from_slice(b",,Ada Chen,lee\n".as_slice())?;
     told.extend_from_slice(
-        b"201 {\"available\":\"0.00\",\"claims\":\"0.00\",\"client\":\"Ada Chen\",\"closed\":null,\"disputed\":\"0.00\",\"entries\":0,\"fees\":\"0.00\",\"held\":\"0.00\",\"matter\":\"".as_slice(),
+        b"201 {\"available\":\"0.00\",\"claims\":\"0.00\",\"client\":\"Ada Chen\",\"closed\":null,\
+            \"disputed\":\"0.00\",\"entries\":0,\"fees\":\"0.00\",\"held\":\"0.00\",\"matter\":\""
+            .as_slice(),
     )?;
     matter.write_to(told)?;
     told.extend_from_slice(
-        b"\",\"opened\":\"2024-01-10\",\"seats\":[{\"person\":\"lee\",\"role\":\"lawyer\"}],\"total\":\"0.00\"}\n".as_slice(),
+        b"\",\"opened\":\"2024-01-10\",\"seats\":[{\"person\":\"lee\",\"role\":\"lawyer\"}],\
+            \"total\":\"0.00\"}\n"
+            .as_slice(),
     )?;
     Ok(())
 }

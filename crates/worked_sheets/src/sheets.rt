@@ -48,14 +48,18 @@ fn check_open(
 const OPENING: &[u8] = b"open,000001,,Ada Chen,lee\n";
 
 const OPENED: &[u8] =
-    b"201 {\"available\":\"0.00\",\"claims\":\"0.00\",\"client\":\"Ada Chen\",\"closed\":null,\"disputed\":\"0.00\",\"entries\":0,\"fees\":\"0.00\",\"held\":\"0.00\",\"matter\":\"000001\",\"opened\":\"2024-01-10\",\"seats\":[{\"person\":\"lee\",\"role\":\"lawyer\"}],\"total\":\"0.00\"}\n";
+    b"201 {\"available\":\"0.00\",\"claims\":\"0.00\",\"client\":\"Ada Chen\",\"closed\":null,\"disputed\":\"0.00\",\
+        \"entries\":0,\"fees\":\"0.00\",\"held\":\"0.00\",\"matter\":\"000001\",\"opened\":\"2024-01-10\",\
+        \"seats\":[{\"person\":\"lee\",\"role\":\"lawyer\"}],\"total\":\"0.00\"}\n";
 
 const RECORD: &[u8] = b"422 {\"field\":\"record\",\"name\":\"BadField\",\"refusal\":7}\n";
 
 #[test]
 fn opens_a_matter_once(rt: HostRuntime) -> Result<(), Fail> {
     let shown =
-        b"200 {\"available\":\"0.00\",\"claims\":\"0.00\",\"client\":\"Ada Chen\",\"closed\":null,\"disputed\":\"0.00\",\"entries\":0,\"fees\":\"0.00\",\"held\":\"0.00\",\"matter\":\"000001\",\"opened\":\"2024-01-10\",\"seats\":[{\"person\":\"lee\",\"role\":\"lawyer\"}],\"total\":\"0.00\"}\n";
+        b"200 {\"available\":\"0.00\",\"claims\":\"0.00\",\"client\":\"Ada Chen\",\"closed\":null,\
+            \"disputed\":\"0.00\",\"entries\":0,\"fees\":\"0.00\",\"held\":\"0.00\",\"matter\":\"000001\",\
+            \"opened\":\"2024-01-10\",\"seats\":[{\"person\":\"lee\",\"role\":\"lawyer\"}],\"total\":\"0.00\"}\n";
     check_open(&rt, b"show,000001,\n", shown, SheetEnd::Done)?;
     let again = b"409 {\"name\":\"AlreadyOpen\",\"refusal\":11}\n";
     check_open(&rt, OPENING, again, SheetEnd::Refused)
@@ -63,10 +67,15 @@ fn opens_a_matter_once(rt: HostRuntime) -> Result<(), Fail> {
 
 #[test]
 fn books_a_deposit_once(rt: HostRuntime) -> Result<(), Fail> {
-    let records =
-        b"deposit,000001,0001,500.00,Ada Chen,retainer\ndeposit,000001,0001,500.00,Ada Chen,retainer\ndeposit,000001,0001,500.01,Ada Chen,retainer\n";
+    let records = b"deposit,000001,0001,500.00,Ada Chen,retainer\n\
+            deposit,000001,0001,500.00,Ada Chen,retainer\n\
+            deposit,000001,0001,500.01,Ada Chen,retainer\n";
     let lines =
-        b"201 {\"amount\":\"500.00\",\"day\":\"2024-01-10\",\"description\":\"retainer\",\"entry\":\"0001\",\"kind\":\"deposit\",\"matter\":\"000001\",\"source\":\"Ada Chen\"}\n200 {\"amount\":\"500.00\",\"day\":\"2024-01-10\",\"description\":\"retainer\",\"entry\":\"0001\",\"kind\":\"deposit\",\"matter\":\"000001\",\"source\":\"Ada Chen\"}\n409 {\"name\":\"WrongNumber\",\"next\":\"0002\",\"refusal\":14}\n";
+        b"201 {\"amount\":\"500.00\",\"day\":\"2024-01-10\",\"description\":\"retainer\",\"entry\":\"0001\",\
+            \"kind\":\"deposit\",\"matter\":\"000001\",\"source\":\"Ada Chen\"}\n\
+            200 {\"amount\":\"500.00\",\"day\":\"2024-01-10\",\"description\":\"retainer\",\"entry\":\"0001\",\
+            \"kind\":\"deposit\",\"matter\":\"000001\",\"source\":\"Ada Chen\"}\n\
+            409 {\"name\":\"WrongNumber\",\"next\":\"0002\",\"refusal\":14}\n";
     check_open(&rt, records, lines, SheetEnd::Refused)
 }
 
@@ -74,7 +83,8 @@ fn books_a_deposit_once(rt: HostRuntime) -> Result<(), Fail> {
 fn takes_amounts_of_nine_digits(rt: HostRuntime) -> Result<(), Fail> {
     let most = b"deposit,000001,0001,999999999.99,Ada Chen,retainer\n";
     let line =
-        b"201 {\"amount\":\"999999999.99\",\"day\":\"2024-01-10\",\"description\":\"retainer\",\"entry\":\"0001\",\"kind\":\"deposit\",\"matter\":\"000001\",\"source\":\"Ada Chen\"}\n";
+        b"201 {\"amount\":\"999999999.99\",\"day\":\"2024-01-10\",\"description\":\"retainer\",\"entry\":\"0001\",\
+            \"kind\":\"deposit\",\"matter\":\"000001\",\"source\":\"Ada Chen\"}\n";
     check_open(&rt, most, line, SheetEnd::Done)?;
     let more = b"deposit,000001,0001,1000000000.00,Ada Chen,retainer\n";
     let line = b"422 {\"field\":\"amount\",\"name\":\"BadField\",\"refusal\":7}\n";
@@ -86,7 +96,16 @@ fn cancels_a_deposit(rt: HostRuntime) -> Result<(), Fail> {
     let records =
         b"deposit,000001,0001,500.00,Ada Chen,retainer\ncancel,000001,0001\nentry,000001,0001\n";
     let lines =
-        b"201 {\"amount\":\"500.00\",\"day\":\"2024-01-10\",\"description\":\"retainer\",\"entry\":\"0001\",\"kind\":\"deposit\",\"matter\":\"000001\",\"source\":\"Ada Chen\"}\n200 {\"amount\":\"500.00\",\"bank_day\":null,\"bank_ref\":null,\"day\":\"2024-01-10\",\"description\":\"retainer\",\"entry\":\"0001\",\"kind\":\"deposit\",\"matter\":\"000001\",\"return_day\":null,\"return_ref\":null,\"source\":\"Ada Chen\",\"state\":\"cancelled\",\"undone\":\"2024-01-10\"}\n200 {\"amount\":\"500.00\",\"bank_day\":null,\"bank_ref\":null,\"day\":\"2024-01-10\",\"description\":\"retainer\",\"entry\":\"0001\",\"kind\":\"deposit\",\"matter\":\"000001\",\"return_day\":null,\"return_ref\":null,\"source\":\"Ada Chen\",\"state\":\"cancelled\",\"undone\":\"2024-01-10\"}\n";
+        b"201 {\"amount\":\"500.00\",\"day\":\"2024-01-10\",\"description\":\"retainer\",\"entry\":\"0001\",\
+            \"kind\":\"deposit\",\"matter\":\"000001\",\"source\":\"Ada Chen\"}\n\
+            200 {\"amount\":\"500.00\",\"bank_day\":null,\"bank_ref\":null,\"day\":\"2024-01-10\",\
+            \"description\":\"retainer\",\"entry\":\"0001\",\"kind\":\"deposit\",\"matter\":\"000001\",\
+            \"return_day\":null,\"return_ref\":null,\"source\":\"Ada Chen\",\"state\":\"cancelled\",\
+            \"undone\":\"2024-01-10\"}\n\
+            200 {\"amount\":\"500.00\",\"bank_day\":null,\"bank_ref\":null,\"day\":\"2024-01-10\",\
+            \"description\":\"retainer\",\"entry\":\"0001\",\"kind\":\"deposit\",\"matter\":\"000001\",\
+            \"return_day\":null,\"return_ref\":null,\"source\":\"Ada Chen\",\"state\":\"cancelled\",\
+            \"undone\":\"2024-01-10\"}\n";
     check_open(&rt, records, lines, SheetEnd::Done)
 }
 
@@ -99,14 +118,20 @@ fn seats_and_drops_persons(rt: HostRuntime) -> Result<(), Fail> {
     let last = b"409 {\"name\":\"LastLawyer\",\"refusal\":24}\n";
     check_open(&rt, b"drop,000001,,lee\n", last, SheetEnd::Refused)?;
     let seated =
-        b"200 {\"available\":\"0.00\",\"claims\":\"0.00\",\"client\":\"Ada Chen\",\"closed\":null,\"disputed\":\"0.00\",\"entries\":0,\"fees\":\"0.00\",\"held\":\"0.00\",\"matter\":\"000001\",\"opened\":\"2024-01-10\",\"seats\":[{\"person\":\"ada\",\"role\":\"client\"},{\"person\":\"lee\",\"role\":\"lawyer\"}],\"total\":\"0.00\"}\n";
+        b"200 {\"available\":\"0.00\",\"claims\":\"0.00\",\"client\":\"Ada Chen\",\"closed\":null,\
+            \"disputed\":\"0.00\",\"entries\":0,\"fees\":\"0.00\",\"held\":\"0.00\",\"matter\":\"000001\",\
+            \"opened\":\"2024-01-10\",\"seats\":[{\"person\":\"ada\",\"role\":\"client\"},{\"person\":\"lee\",\
+            \"role\":\"lawyer\"}],\"total\":\"0.00\"}\n";
     check_open(&rt, b"seat,000001,,ada,client\n", seated, SheetEnd::Done)
 }
 
 #[test]
 fn closes_a_matter_once(rt: HostRuntime) -> Result<(), Fail> {
     let lines =
-        b"200 {\"available\":\"0.00\",\"claims\":\"0.00\",\"client\":\"Ada Chen\",\"closed\":\"2024-01-10\",\"disputed\":\"0.00\",\"entries\":0,\"fees\":\"0.00\",\"held\":\"0.00\",\"matter\":\"000001\",\"opened\":\"2024-01-10\",\"seats\":[{\"person\":\"lee\",\"role\":\"lawyer\"}],\"total\":\"0.00\"}\n409 {\"name\":\"Closed\",\"refusal\":12}\n";
+        b"200 {\"available\":\"0.00\",\"claims\":\"0.00\",\"client\":\"Ada Chen\",\"closed\":\"2024-01-10\",\
+            \"disputed\":\"0.00\",\"entries\":0,\"fees\":\"0.00\",\"held\":\"0.00\",\"matter\":\"000001\",\
+            \"opened\":\"2024-01-10\",\"seats\":[{\"person\":\"lee\",\"role\":\"lawyer\"}],\"total\":\"0.00\"}\n\
+            409 {\"name\":\"Closed\",\"refusal\":12}\n";
     check_open(
         &rt,
         b"close,000001,\nclose,000001,\n",
@@ -120,7 +145,10 @@ fn purges_a_matter_after_five_years(rt: HostRuntime) -> Result<(), Fail> {
     let open = b"409 {\"name\":\"WrongState\",\"refusal\":17}\n";
     check_open(&rt, b"purge,000001,\n", open, SheetEnd::Refused)?;
     let lines =
-        b"200 {\"available\":\"0.00\",\"claims\":\"0.00\",\"client\":\"Ada Chen\",\"closed\":\"2024-01-10\",\"disputed\":\"0.00\",\"entries\":0,\"fees\":\"0.00\",\"held\":\"0.00\",\"matter\":\"000001\",\"opened\":\"2024-01-10\",\"seats\":[{\"person\":\"lee\",\"role\":\"lawyer\"}],\"total\":\"0.00\"}\n409 {\"day\":\"2029-01-11\",\"name\":\"TooEarly\",\"refusal\":26}\n";
+        b"200 {\"available\":\"0.00\",\"claims\":\"0.00\",\"client\":\"Ada Chen\",\"closed\":\"2024-01-10\",\
+            \"disputed\":\"0.00\",\"entries\":0,\"fees\":\"0.00\",\"held\":\"0.00\",\"matter\":\"000001\",\
+            \"opened\":\"2024-01-10\",\"seats\":[{\"person\":\"lee\",\"role\":\"lawyer\"}],\"total\":\"0.00\"}\n\
+            409 {\"day\":\"2029-01-11\",\"name\":\"TooEarly\",\"refusal\":26}\n";
     check_open(
         &rt,
         b"close,000001,\npurge,000001,\n",
@@ -129,15 +157,64 @@ fn purges_a_matter_after_five_years(rt: HostRuntime) -> Result<(), Fail> {
     )
 }
 
+#[test]
+fn closes_no_matter_with_money(rt: HostRuntime) -> Result<(), Fail> {
+    let lines =
+        b"201 {\"amount\":\"500.00\",\"day\":\"2024-01-10\",\"description\":\"retainer\",\"entry\":\"0001\",\
+            \"kind\":\"deposit\",\"matter\":\"000001\",\"source\":\"Ada Chen\"}\n\
+            409 {\"name\":\"NotEmpty\",\"refusal\":25}\n";
+    let records = b"deposit,000001,0001,500.00,Ada Chen,retainer\nclose,000001,\n";
+    check_open(&rt, records, lines, SheetEnd::Refused)
+}
+
+// The lines of a sheet of a day at a desk; none of them is refused.
+fn check_day(
+    rt: &(impl Abort + AllocGlobal),
+    desk: &mut Desk<PlainBook>,
+    today: &[u8],
+    sheet: &[u8],
+    lines: &[u8],
+) {
+    let today = Day::read(today).expect(rt, "a day");
+    let mut reader = TrialReader::new(sheet, 7, u64::MAX);
+    let mut writer = TrialWriter::new(rt.alloc(), usize::MAX, u64::MAX);
+    let end = run_sheet(rt.alloc(), &mut reader, &mut writer, desk, today);
+    assert_eq!(rt; writer.as_slice(), lines);
+    assert_eq!(rt; end, SheetEnd::Done);
+}
+
+#[test]
+fn purges_a_matter_of_an_earlier_sheet(rt: HostRuntime) -> Result<(), Fail> {
+    let mut desk = new_desk(rt.alloc());
+    let mut told = Vec::new(rt.alloc());
+    told.extend_from_slice(OPENED)?;
+    let closed =
+        b"200 {\"available\":\"0.00\",\"claims\":\"0.00\",\"client\":\"Ada Chen\",\"closed\":\"2024-01-10\",\
+            \"disputed\":\"0.00\",\"entries\":0,\"fees\":\"0.00\",\"held\":\"0.00\",\"matter\":\"000001\",\
+            \"opened\":\"2024-01-10\",\"seats\":[{\"person\":\"lee\",\"role\":\"lawyer\"}],\"total\":\"0.00\"}\n";
+    told.extend_from_slice(closed.as_slice())?;
+    let sheet = b"open,000001,,Ada Chen,lee\nclose,000001,\n";
+    check_day(&rt, &mut desk, b"2024-01-10", sheet, told.as_slice());
+    let purged = b"200 {\"matter\":\"000001\",\"purged\":\"2029-01-11\"}\n";
+    check_day(&rt, &mut desk, b"2029-01-11", b"purge,000001,\n", purged);
+    Ok(())
+}
+
 const PROPOSED: &[u8] =
-    b"201 {\"amount\":\"100.00\",\"day\":\"2024-01-10\",\"entry\":\"0001\",\"from\":\"general\",\"instrument\":\"1001\",\"kind\":\"payment\",\"matter\":\"000001\",\"of\":null,\"payee\":\"Cash Ltd\",\"purpose\":\"filing fee\"}\n";
+    b"201 {\"amount\":\"100.00\",\"day\":\"2024-01-10\",\"entry\":\"0001\",\"from\":\"general\",\
+        \"instrument\":\"1001\",\"kind\":\"payment\",\"matter\":\"000001\",\"of\":null,\"payee\":\"Cash Ltd\",\
+        \"purpose\":\"filing fee\"}\n";
 
 #[test]
 fn proposes_a_payment(rt: HostRuntime) -> Result<(), Fail> {
-    let records =
-        b"deposit,000001,0001,500.00,Ada Chen,retainer\npropose,000001,0002,100.00,general,,Court Clerk,filing fee,1001\n";
+    let records = b"deposit,000001,0001,500.00,Ada Chen,retainer\n\
+            propose,000001,0002,100.00,general,,Court Clerk,filing fee,1001\n";
     let lines =
-        b"201 {\"amount\":\"500.00\",\"day\":\"2024-01-10\",\"description\":\"retainer\",\"entry\":\"0001\",\"kind\":\"deposit\",\"matter\":\"000001\",\"source\":\"Ada Chen\"}\n201 {\"amount\":\"100.00\",\"day\":\"2024-01-10\",\"entry\":\"0002\",\"from\":\"general\",\"instrument\":\"1001\",\"kind\":\"payment\",\"matter\":\"000001\",\"of\":null,\"payee\":\"Court Clerk\",\"purpose\":\"filing fee\"}\n";
+        b"201 {\"amount\":\"500.00\",\"day\":\"2024-01-10\",\"description\":\"retainer\",\"entry\":\"0001\",\
+            \"kind\":\"deposit\",\"matter\":\"000001\",\"source\":\"Ada Chen\"}\n\
+            201 {\"amount\":\"100.00\",\"day\":\"2024-01-10\",\"entry\":\"0002\",\"from\":\"general\",\
+            \"instrument\":\"1001\",\"kind\":\"payment\",\"matter\":\"000001\",\"of\":null,\"payee\":\"Court Clerk\",\
+            \"purpose\":\"filing fee\"}\n";
     check_open(&rt, records, lines, SheetEnd::Done)?;
     let firm = b"propose,000001,0001,100.00,general,,Cash Ltd,filing fee,1001\n";
     check_open(&rt, firm, PROPOSED, SheetEnd::Done)
@@ -164,8 +241,8 @@ fn draws_on_funds_that_are_there(rt: HostRuntime) -> Result<(), Fail> {
     let mut lines = Vec::new(rt.alloc());
     lines.extend_from_slice(PROPOSED)?;
     lines.extend_from_slice(kind)?;
-    let records =
-        b"propose,000001,0001,100.00,general,,Cash Ltd,filing fee,1001\npropose,000001,0002,100.00,claim,0001,FIRM,fee,1001\n";
+    let records = b"propose,000001,0001,100.00,general,,Cash Ltd,filing fee,1001\n\
+            propose,000001,0002,100.00,claim,0001,FIRM,fee,1001\n";
     check_open(&rt, records, lines.as_slice(), SheetEnd::Refused)
 }
 

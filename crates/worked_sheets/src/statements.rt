@@ -50,6 +50,28 @@ fn counts_lines_that_match_nothing(rt: HostRuntime) {
     check(&rt, STRAYS, Some(109), COUNTS, StatementEnd::Done);
 }
 
+const KEPT: &[u8] =
+    b"200 {\"applied\":1,\"exceptions\":0,\"repeated\":0,\"statement\":\"2024-01-31\",\"unreadable\":0}\n";
+
+// The bank's closing balance is kept, and the answer tells its day.
+#[test]
+fn tells_the_day_of_the_statement(rt: HostRuntime) {
+    let statement = b"date,reference,bank_ref,amount,text\n2024-01-31,CLOSE,,300.00,\n";
+    let mut writer = TrialWriter::new(rt.alloc(), usize::MAX, u64::MAX);
+    let mut desk = new_desk(rt.alloc());
+    let today = Day::read(b"2024-01-31").expect(&rt, "a day");
+    let end = run_import(
+        rt.alloc(),
+        statement.as_slice(),
+        None,
+        &mut writer,
+        &mut desk,
+        today,
+    );
+    assert_eq!(rt; end, StatementEnd::Done);
+    assert_eq!(rt; writer.as_slice(), KEPT);
+}
+
 // Imports the same statement, which is told by this line.
 fn check_again(rt: &(impl Abort + AllocGlobal), desk: &mut Desk<PlainBook>, line: &[u8]) {
     let mut writer = TrialWriter::new(rt.alloc(), usize::MAX, u64::MAX);

@@ -1,4 +1,4 @@
-use Rattle.trust_figures.proofs.Places.{issued-kept}
+use Rattle.trust_figures.proofs.DoubleRows.{issued-kept}
 use Rattle.trust_figures.proofs.laws.issued_is_kept.Goals as goal
 
 pub returns : goal.returns

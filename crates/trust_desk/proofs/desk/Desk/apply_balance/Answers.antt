@@ -1,12 +1,14 @@
-use Rattle.std.proofs.Common.{◌≡◌, ◌∙◌, ap, sym, subst}
+use Rattle.std.proofs.Common.{◌≡◌, ◌∙◌, ap, sym, subst, true}
 use Rattle.firm_rows.specs.declared.ledger.Verdict.{Verdict}
 use Rattle.firm_rows.specs.Firm.{Firm, of}
 use Rattle.firm_rows.specs.FirmChange.{after, by_balance}
 use Rattle.firm_rows.specs.FirmLines.{balance_verdict, kept_balance}
 use Rattle.trust_desk.specs.Calls.{KeepsBook}
-use Rattle.trust_desk.specs.ItemStep.{counted_by, balance_on}
+use Rattle.trust_desk.specs.ItemStep.{counted_by, balance_on, after_balance}
 use Rattle.trust_desk.proofs.Calls.{read-kept, write-kept, kept-then}
 use Rattle.trust_desk.proofs.OwnItems.{of-balance}
+use Rattle.trust_desk.specs.Crashes.{MayLeaveChange}
+use Rattle.trust_desk.proofs.Crashes.{written-leaves}
 use Rattle.trust_desk.proofs.desk.Desk.apply_balance.Goals as goal
 
 pub write_balance-requires : goal.write_balance-requires
@@ -49,3 +51,15 @@ returns-clause-kept g c =
     let B = g.B.Book in
     subst (λ b. KeepsBook (B.clean) (B.sure) (B.stands) (B.refusals) (λ n. n) b c.write_balance.new.self) c.self.view_is
     (kept-then (read-kept c.in_ok-kept.ensures.read) (write-kept c.in_ok-write_balance.ensures.written))
+
+pub returns-clause-crash : goal.returns-clause-crash
+returns-clause-crash g c =
+    λ sure stands.
+    let B = g.B.Book in
+    let firm = g.B.Book.firm in
+    let line = c.args.line.now in
+    let found = c.in_ok-kept.ensures in
+    let stood = subst (B.stands) (sym c.self.view_is) stands in
+    let is = λ (served : B.clean c.balance.new.self). ap (λ (x : Verdict). after (by_balance c.args.kind line x) (firm c.self.inside.book)) (c.decide_balance-verdict.ensures ∙ ap (λ k. balance_verdict k line c.args.day) (found.found served stood)) in
+    subst (λ b. MayLeaveChange (B.clean) (B.leaves) (true ≡ true) (firm b) (after_balance c.args.kind line c.args.day (firm b)) b c.write_balance.new.self) c.self.view_is
+    (written-leaves found.read c.in_ok-write_balance.ensures.written is sure stood)

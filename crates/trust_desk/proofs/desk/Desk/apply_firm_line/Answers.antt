@@ -1,4 +1,4 @@
-use Rattle.std.proofs.Common.{◌≡◌, ◌∙◌, ap, sym, subst}
+use Rattle.std.proofs.Common.{◌≡◌, ◌∙◌, true, ap, sym, subst}
 use Rattle.firm_rows.specs.declared.ledger.Verdict.{Verdict}
 use Rattle.firm_rows.specs.Firm.{Firm, of}
 use Rattle.firm_rows.specs.FirmChange.{after, by_firm_line}
@@ -7,6 +7,8 @@ use Rattle.trust_desk.specs.Calls.{KeepsBook}
 use Rattle.trust_desk.specs.ItemStep.{counted_by, firm_line_on}
 use Rattle.trust_desk.proofs.Calls.{read-kept, write-kept, kept-then}
 use Rattle.trust_desk.proofs.OwnItems.{of-firm_line}
+use Rattle.trust_desk.specs.Crashes.{MayLeaveChange}
+use Rattle.trust_desk.proofs.Crashes.{written-leaves}
 use Rattle.trust_desk.proofs.desk.Desk.apply_firm_line.Goals as goal
 
 pub write_firm-requires : goal.write_firm-requires
@@ -49,3 +51,15 @@ returns-clause-kept g c =
     let B = g.B.Book in
     subst (λ b. KeepsBook (B.clean) (B.sure) (B.stands) (B.refusals) (λ n. n) b c.write_firm.new.self) c.self.view_is
     (kept-then (read-kept c.in_ok-ledger.ensures.read) (write-kept c.in_ok-write_firm.ensures.written))
+
+pub returns-clause-crash : goal.returns-clause-crash
+returns-clause-crash g c =
+    λ sure stands.
+    let B = g.B.Book in
+    let firm = g.B.Book.firm in
+    let line = c.args.line.now in
+    let found = c.in_ok-ledger.ensures in
+    let stood = subst (B.stands) (sym c.self.view_is) stands in
+    let is = λ (served : B.clean c.firm.new.self). ap (λ (x : Verdict). after (by_firm_line line x) (firm c.self.inside.book)) (c.decide_firm_line-verdict.ensures ∙ ap (λ ls. firm_verdict ls line c.args.day) (found.found served stood)) in
+    subst (λ b. MayLeaveChange (B.clean) (B.leaves) (true ≡ true) (firm b) (after (by_firm_line line (firm_line_on (firm b) line c.args.day)) (firm b)) b c.write_firm.new.self) c.self.view_is
+    (written-leaves found.read c.in_ok-write_firm.ensures.written is sure stood)

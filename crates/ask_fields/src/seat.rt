@@ -1,0 +1,59 @@
+// A matter's opening, and its seats.
+
+ghost use Rattle.std.specs.Prelude.{◌≡◌};
+ghost use Rattle.trust_base.specs.Names.{label_of, person_of};
+ghost use Rattle.ask_fields.specs.Asks.{dropping, opening, seating};
+ghost use Rattle.ask_fields.specs.Fields.{Reads, role_of};
+
+use crate::entry::bad;
+use std::alloc::Global;
+use trust_base::{Field, Label, PersonId, Refusal};
+use trust_matter::{Ask, OpenAsk, Role, Seat};
+
+fn read_role(text: &[u8]) -> Option<Role>
+    ensures { result ≡ role_of text.now }
+{
+    if text == b"client".as_slice() {
+        Some(Role::Client)
+    } else if text == b"lawyer".as_slice() {
+        Some(Role::Lawyer)
+    } else {
+        None
+    }
+}
+
+/// To open a matter for a client with a lawyer.
+pub fn read_opening(alloc: Global, client: &[u8], lawyer: &[u8]) -> Result<Ask, Refusal>
+    ensures { Reads (opening (label_of client.now) (person_of lawyer.now)) result }
+{
+    let Some(client) = Label::read(alloc, client)? else {
+        return Err(bad(Field::Client));
+    };
+    let Some(lawyer) = PersonId::read(alloc, lawyer)? else {
+        return Err(bad(Field::Lawyer));
+    };
+    Ok(Ask::OpenMatter(OpenAsk { client, lawyer }))
+}
+
+/// To seat a person in a role, `client` or `lawyer`.
+pub fn read_seating(alloc: Global, person: &[u8], role: &[u8]) -> Result<Ask, Refusal>
+    ensures { Reads (seating (person_of person.now) (role_of role.now)) result }
+{
+    let Some(person) = PersonId::read(alloc, person)? else {
+        return Err(bad(Field::Person));
+    };
+    let Some(role) = read_role(role) else {
+        return Err(bad(Field::Role));
+    };
+    Ok(Ask::AddSeat(Seat { person, role }))
+}
+
+/// To drop a person's seat.
+pub fn read_dropping(alloc: Global, person: &[u8]) -> Result<Ask, Refusal>
+    ensures { Reads (dropping (person_of person.now)) result }
+{
+    match PersonId::read(alloc, person)? {
+        Some(person) => Ok(Ask::DropSeat(person)),
+        None => Err(bad(Field::Person)),
+    }
+}

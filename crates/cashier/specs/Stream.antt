@@ -1,0 +1,28 @@
+-- What a stream of messages is answered, and the firm that it leaves.
+use Rattle.std.specs.Prelude.{◌≡◌, ℕ, List, Option, IfSome, length, map}
+use Rattle.trust_base.specs.declared.refusal.Refusal.{Refusal}
+use Rattle.firm_rows.specs.Firm.{Firm}
+use Rattle.trust_desk.specs.declared.requests.Reply.{Reply}
+use Rattle.trust_desk.specs.FirmStep.{IsUnstopped, RunsSoundly}
+use Rattle.trust_desk.specs.Isolation.{IsOwn}
+use Rattle.portal_messages.specs.declared.message.Message.{Message}
+use Rattle.portal_requests.specs.Requests.{heard_of}
+use Rattle.portal_http.specs.Served.{IsRead, IsTail, IsWritten}
+use Rattle.portal_http.specs.declared.stream.StreamEnd.{StreamEnd}
+
+-- how a stream of these bytes, where they are known, ends on a day: its messages and their replies, in order, the
+-- refusal behind them, where there is one, the firm before and after, and what a writer was given by then
+pub record StreamEnds (day : ℕ) (before : Firm) (stream : Option (List ℕ)) (after : Firm) (old new : Option (List ℕ))
+    (end : StreamEnd) : Type 0 where
+  pub messages : List Message
+  pub replies : List Reply
+  pub tail : Option Refusal
+  pub read : IfSome stream (λ bytes. IsRead end bytes messages tail)
+  pub paired : length replies ≡ length messages
+  pub behind : IsTail end tail
+  pub written : IsWritten end replies tail old new
+  -- each reply is that of the firm's step, and the firm is sound after it
+  pub run : RunsSoundly day before (map heard_of messages) replies after
+  -- each matter is answered by its own machine, which leaves it its rows
+  pub own : (m : ℕ) → IsUnstopped m (map heard_of messages) replies
+      → IsOwn m day before (map heard_of messages) replies after

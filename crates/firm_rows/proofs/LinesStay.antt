@@ -1,0 +1,169 @@
+-- What is kept of the firm's own lines and of the balances stays kept.
+use Rattle.std.proofs.Common.{◌≡◌, ℕ, Bool, true, false, cond, List, [], ◌∷◌, filter, Option, Some, None, refl, sym, ap, ◌∙◌}
+use Rattle.std.specs.Prelude.{ℤ, find, ◌||◌, ◌&&◌, ◌==◌}
+use Rattle.std.specs.List.{list_any}
+use Rattle.std.specs.Option.{option_map, option_or}
+use Rattle.std.specs.declared.cmp.Ordering.{Ordering}
+use Rattle.std.specs.declared.cmp.Ordering.TheVariants.{Less, Equal, Greater}
+use Rattle.std.specs.Ordering.{is_lt, nat_cmp, ordering_reverse, ordering_then}
+use Rattle.std.proofs.Math.Bool.{or-true}
+use Rattle.std.proofs.lemmas.Bool.{false≢true}
+use Rattle.std.proofs.lemmas.Bool.Decides.{Decides-eqb, Decides-int_eq}
+use Rattle.std.proofs.lemmas.Cmp.{tied_back, tied_itself}
+use Rattle.std.proofs.lemmas.List.Folds.{find-append, list_any-append}
+use Rattle.std.proofs.lemmas.Slice.Eq.{bytes_eq-Decides}
+use Rattle.trust_base.specs.declared.line.Line.{Line}
+use Rattle.matter_parts.specs.declared.edit.Edit.{Edit}
+use Rattle.matter_parts.specs.declared.edit.Edit.TheVariants as edit
+use Rattle.firm_rows.specs.declared.ledger.BalanceKind.{BalanceKind}
+use Rattle.firm_rows.specs.declared.ledger.StatementRow.{StatementRow}
+use Rattle.firm_rows.specs.FirmLines.{is_kept_as, as_firm_line, place_of, balance_cmp, balance_row, is_balance_on, kept_balance, with_balance}
+use Rattle.firm_rows.specs.Firm.{Firm, after_edit, after_change}
+use Rattle.firm_rows.specs.FirmChange.{OfMatter, Repeated, Unmatched, OfFirm, OfBalance, matched_by}
+use Rattle.firm_rows.specs.LinesStay.{FirmLineIsKept, FirmLinesStay, BalanceIsKept, BalancesStay}
+use Rattle.firm_rows.proofs.Balances.{balance_total, tied-on}
+
+-- an edit of a matter, purging too, leaves the firm's own lines and the balances
+pub edit-leaves : (m : ℕ) (e : Edit) (last : ℕ) (firm : Firm) → ((after_edit m e last firm).firm_lines ≡ firm.firm_lines) × ((after_edit m e last firm).balances ≡ firm.balances)
+edit-leaves m edit.Nothing last firm = (refl, refl)
+edit-leaves m (edit.Open opening) last firm = (refl, refl)
+edit-leaves m (edit.Seat seat) last firm = (refl, refl)
+edit-leaves m (edit.Unseat person) last firm = (refl, refl)
+edit-leaves m (edit.Close day) last firm = (refl, refl)
+edit-leaves m (edit.Clear day) last firm = (refl, refl)
+edit-leaves m (edit.Append entry) last firm = (refl, refl)
+edit-leaves m (edit.Exchange entry) last firm = (refl, refl)
+
+matched-leaves : (line : Option Line) (firm : Firm) → ((matched_by line firm).firm_lines ≡ firm.firm_lines) × ((matched_by line firm).balances ≡ firm.balances)
+matched-leaves None firm = (refl, refl)
+matched-leaves (Some line) firm = (refl, refl)
+
+-- A line of the firm's own.
+
+kept-itself : (line : Line) → is_kept_as line (as_firm_line line) ≡ true
+kept-itself line = rw ((Decides-eqb line.date line.date).1 refl, (bytes_eq-Decides line.bank_ref line.bank_ref).1 refl, (Decides-int_eq line.amount line.amount).1 refl) refl
+
+pub line-kept : FirmLineIsKept
+line-kept line firm = list_any-append (is_kept_as line) firm.firm_lines (as_firm_line line ∷ []) ∙ rw (kept-itself line) (or-true (list_any (is_kept_as line) firm.firm_lines))
+
+pub lines-stay : FirmLinesStay
+lines-stay line (OfMatter m l change) firm kept =
+    ap (list_any (is_kept_as line)) ((matched-leaves l (after_change m change firm)).0 ∙ (edit-leaves m change.edit change.last firm).0) ∙ kept
+lines-stay line (Repeated l) firm kept = kept
+lines-stay line (Unmatched l) firm kept = kept
+lines-stay line (OfFirm l) firm kept = list_any-append (is_kept_as line) firm.firm_lines (as_firm_line l ∷ []) ∙ ap (λ b. b || list_any (is_kept_as line) (as_firm_line l ∷ [])) kept
+lines-stay line (OfBalance k l) firm kept = kept
+
+-- What a search finds of a filtered list, where the filter answers the same at all that is looked for.
+
+find-filter : {X : Type 0} (p q : X → Bool) (b : Bool) → ((x : X) → p x ≡ true → q x ≡ b) → (xs : List X) → find p (filter q xs) ≡ cond b (find p xs) None
+find-filter p q true tells [] = refl
+find-filter p q false tells [] = refl
+find-filter {X = X} p q b tells (x ∷ xs) = cases b (p x) (q x) refl refl (tells x) (find-filter p q b tells xs)
+  where
+    cases : (b c d : Bool) → p x ≡ c → q x ≡ d → (p x ≡ true → q x ≡ b) → find p (filter q xs) ≡ cond b (find p xs) None
+        → find p (cond d (x ∷ filter q xs) (filter q xs)) ≡ cond b (cond c (Some x) (find p xs)) None
+    cases true true true on passes tell again = rw on refl
+    cases true true false on fails tell again = absurd (false≢true (sym fails ∙ tell on))
+    cases false true true on passes tell again = absurd (false≢true (sym (tell on) ∙ passes))
+    cases false true false on fails tell again = again
+    cases true false true off passes tell again = rw off again
+    cases true false false off fails tell again = again
+    cases false false true off passes tell again = rw off again
+    cases false false false off fails tell again = again
+
+-- A balance.
+
+both-tests : (a b : Bool) → (a && b) ≡ true → (a ≡ true) × (b ≡ true)
+both-tests true true is = (refl, refl)
+both-tests true false is = absurd (false≢true is)
+both-tests false b is = absurd (false≢true is)
+
+-- of the kind and day
+on-parts : (kind : BalanceKind) (day : ℕ) (row : StatementRow) → is_balance_on kind day row ≡ true → (place_of row.kind ≡ place_of kind) × (row.day ≡ day)
+on-parts kind day row is =
+    let tests = both-tests (place_of row.kind == place_of kind) (row.day == day) is in
+    ((Decides-eqb (place_of row.kind) (place_of kind)).0 tests.0, (Decides-eqb row.day day).0 tests.1)
+
+-- all of one kind and day stand alike beside another
+alike : (kind : BalanceKind) (day : ℕ) (one other row : StatementRow) → is_balance_on kind day one ≡ true → is_balance_on kind day other ≡ true → balance_cmp one row ≡ balance_cmp other row
+alike kind day one other row is also =
+    let a = on-parts kind day one is in
+    let b = on-parts kind day other also in
+    λ i. ordering_then (nat_cmp ((a.0 ∙ sym b.0) i) (place_of row.kind)) (nat_cmp ((a.1 ∙ sym b.1) i) row.day)
+
+turned : (one other : StatementRow) (r : Ordering) → balance_cmp one other ≡ r → balance_cmp other one ≡ ordering_reverse r
+turned one other r is = balance_total.antisymm other one ∙ ap ordering_reverse is
+
+on-itself : (row : StatementRow) → is_balance_on row.kind row.day row ≡ true
+on-itself row = tied-on row row (tied_itself balance_total row)
+
+-- what is put in is found
+put-found : (row : StatementRow) (rows : List StatementRow) → kept_balance row.kind row.day (with_balance row rows) ≡ Some row.amount
+put-found row rows =
+    let p = is_balance_on row.kind row.day in
+    let before = filter (λ r. is_lt (balance_cmp r row)) rows in
+    let behind = filter (λ r. is_lt (balance_cmp row r)) rows in
+    let none : find p before ≡ None =
+    find-filter p (λ r. is_lt (balance_cmp r row)) false (λ x on. ap is_lt (alike row.kind row.day x row row on (on-itself row) ∙ tied_itself balance_total row)) rows in
+    let here : find p (row ∷ behind) ≡ Some row = rw (on-itself row) refl in
+    ap (option_map (λ (r : StatementRow). r.amount)) (find-append p before (row ∷ behind) ∙ (ap (λ o. option_or o (find p (row ∷ behind))) none ∙ here))
+
+-- what is kept is found where another is put in
+module _ (kind : BalanceKind) (day : ℕ) (amount : ℤ) (row : StatementRow) (rows : List StatementRow) (off : is_balance_on kind day row ≡ false) where
+  abbrev p : StatementRow → Bool
+  p = is_balance_on kind day
+
+  abbrev before : List StatementRow
+  before = filter (λ r. is_lt (balance_cmp r row)) rows
+
+  abbrev behind : List StatementRow
+  behind = filter (λ r. is_lt (balance_cmp row r)) rows
+
+  abbrev own : StatementRow
+  own = record { kind = kind; day = day; amount = amount }
+
+  low : balance_cmp own row ≡ Less → find p before ≡ find p rows
+  low is = find-filter p (λ r. is_lt (balance_cmp r row)) true (λ x on. ap is_lt (alike kind day x own row on (on-itself own) ∙ is)) rows
+
+  high : balance_cmp own row ≡ Greater → (find p before ≡ None) × (find p behind ≡ find p rows)
+  high is = (
+    find-filter p (λ r. is_lt (balance_cmp r row)) false (λ x on. ap is_lt (alike kind day x own row on (on-itself own) ∙ is)) rows,
+    find-filter p (λ r. is_lt (balance_cmp row r)) true (λ x on. ap is_lt (turned x row Greater (alike kind day x own row on (on-itself own) ∙ is))) rows,
+  )
+
+  first : (o : Option StatementRow) (more : Option StatementRow) → option_map (λ (r : StatementRow). r.amount) o ≡ Some amount → option_map (λ (r : StatementRow). r.amount) (option_or o more) ≡ Some amount
+  first None more is = absurd (cc)
+  first (Some x) more is = is
+
+  found : (r : Ordering) → balance_cmp own row ≡ r → kept_balance kind day rows ≡ Some amount → option_map (λ (x : StatementRow). x.amount) (option_or (find p before) (find p (row ∷ behind))) ≡ Some amount
+  found Less is kept = first (find p before) (find p (row ∷ behind)) (ap (option_map (λ (x : StatementRow). x.amount)) (low is) ∙ kept)
+  found Equal is kept = absurd (false≢true (sym off ∙ tied-on own row (tied_back balance_total own row is)))
+  found Greater is kept = rw (off, (high is).0, (high is).1) kept
+
+  pub stays-found : kept_balance kind day rows ≡ Some amount → kept_balance kind day (with_balance row rows) ≡ Some amount
+  stays-found kept = ap (option_map (λ (x : StatementRow). x.amount)) (find-append p before (row ∷ behind)) ∙ found (balance_cmp own row) refl kept
+
+pub balance-kept : BalanceIsKept
+balance-kept kind line firm = put-found (balance_row kind line) firm.balances
+
+-- another of a kind and day of which none is kept
+is-other : (kind : BalanceKind) (day : ℕ) (amount : ℤ) (row : StatementRow) (rows : List StatementRow) → kept_balance row.kind row.day rows ≡ None → kept_balance kind day rows ≡ Some amount → is_balance_on kind day row ≡ false
+is-other kind day amount row rows none kept = cases (is_balance_on kind day row) refl
+  where
+    cases : (b : Bool) → is_balance_on kind day row ≡ b → b ≡ false
+    cases false off = refl
+    cases true on =
+        let parts = on-parts kind day row on in
+        let same : kept_balance row.kind row.day rows ≡ kept_balance kind day rows = λ i. option_map (λ (r : StatementRow). r.amount) (find (λ r. place_of r.kind == parts.0 i && r.day == parts.1 i) rows) in
+        let both : None ≡ Some amount = sym none ∙ (same ∙ kept) in
+        absurd (cc)
+
+pub balances-stay : BalancesStay
+balances-stay kind day amount (OfMatter m l change) firm fits kept =
+    ap (kept_balance kind day) ((matched-leaves l (after_change m change firm)).1 ∙ (edit-leaves m change.edit change.last firm).1) ∙ kept
+balances-stay kind day amount (Repeated l) firm fits kept = kept
+balances-stay kind day amount (Unmatched l) firm fits kept = kept
+balances-stay kind day amount (OfFirm l) firm fits kept = kept
+balances-stay kind day amount (OfBalance k l) firm fits kept =
+    stays-found kind day amount (balance_row k l) firm.balances (is-other kind day amount (balance_row k l) firm.balances fits kept) kept

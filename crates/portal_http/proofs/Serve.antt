@@ -1,0 +1,221 @@
+-- A stream that is served.
+use Rattle.std.proofs.Common.{◌≡◌, ◌<◌, ◌≤◌, ◌+◌, ℕ, List, [], ◌∷◌, ◌++◌, Option, Some, None, length, map, take, refl, sym, ap, ◌∙◌, subst, arith, length-append, append_assoc, IfSome}
+use Rattle.std.proofs.lemmas.List.{append-nil}
+use Rattle.std.specs.Io.KnownBytes.{Appends, Keeps}
+use Rattle.std.proofs.KnownBytes.{Appends-nil, Appends-trans}
+use Rattle.trust_base.specs.declared.refusal.Refusal.{Refusal}
+use Rattle.trust_base.specs.declared.refusal.Refusal.TheVariants.{Memory}
+use Rattle.firm_rows.specs.Firm.{Firm}
+use Rattle.firm_rows.specs.FirmSound.{FirmSound}
+use Rattle.trust_desk.specs.declared.requests.Reply.{Reply}
+use Rattle.trust_desk.specs.Calls.{KeepsBook}
+use Rattle.trust_desk.specs.Counts.{counted_reply, counted_replies}
+use Rattle.trust_desk.specs.FirmStep.{IsUnstopped, RunsSoundly, Steps}
+use Rattle.trust_desk.specs.Heard.{Heard}
+use Rattle.trust_desk.specs.Isolation.{IsOwn}
+use Rattle.trust_desk.specs.Replies.{refused}
+use Rattle.trust_desk.proofs.Calls.{kept-as, kept-still, kept-then}
+use Rattle.trust_desk.proofs.Own.{each-own}
+use Rattle.trust_desk.proofs.Runs.{RunsSoundly-push, counted-push, sound-runs-are-runs}
+use Rattle.portal_messages.specs.declared.message.Message.{Message}
+use Rattle.portal_messages.specs.declared.input.Next.TheVariants as nexts
+use Rattle.portal_messages.specs.Messages.{AreMessages, BeginsWithAll, MESSAGE_LIMIT}
+use Rattle.portal_messages.specs.Messages as messages
+use Rattle.portal_messages.specs.Inputs.{Began, IsNext}
+use Rattle.portal_messages.proofs.Readings.{begins-push}
+use Rattle.portal_requests.specs.Requests.{heard_of}
+use Rattle.portal_http.specs.Answers.{replies_bytes, reply_bytes}
+use Rattle.portal_http.specs.Served.{AreFirst, IsCut, IsRead, Served, Serving, last_text, whole_text}
+use Rattle.portal_http.specs.declared.stream.StreamEnd.TheVariants as ends
+use Rattle.portal_http.proofs.Fronts.{WroteFront, cut-behind, last-push}
+
+-- What was read.
+
+began-nil : (a b : Option (List ℕ)) → Keeps a b → Began a [] b
+began-nil None b k = tt
+began-nil (Some xs) None k = absurd k
+began-nil (Some xs) (Some ys) k = k
+
+began-push : (a b c : Option (List ℕ)) (ms : List Message) (m : Message) → Began a ms b → IsNext b c (nexts.Message m) → Began a (ms ++ m ∷ []) c
+began-push None b c ms m x y = tt
+began-push (Some xs) None c ms m x y = absurd x
+began-push (Some xs) (Some ys) None ms m x y = absurd y
+began-push (Some xs) (Some ys) (Some zs) ms m x y = begins-push xs ms ys m zs x y
+
+began-some : (a b : Option (List ℕ)) (ms : List Message) → Began a ms b → IfSome a (λ bytes. AreFirst bytes ms)
+began-some None b ms x = tt
+began-some (Some xs) None ms x = absurd x
+began-some (Some xs) (Some ys) ms x = (ys, x)
+
+read-ended : (a b c : Option (List ℕ)) (ms : List Message) → length ms < MESSAGE_LIMIT → Began a ms b → IsNext b c nexts.Ended → IfSome a (λ bytes. AreMessages bytes ms messages.Ended)
+read-ended None b c ms lt x y = tt
+read-ended (Some xs) None c ms lt x y = absurd x
+read-ended (Some xs) (Some ys) c ms lt x y = record { rest = ys; begins = x; ends = (lt, y) }
+
+read-fault : (a b c : Option (List ℕ)) (ms : List Message) (r : Refusal) → length ms < MESSAGE_LIMIT → Began a ms b → IsNext b c (nexts.Framing r) → IfSome a (λ bytes. IsRead ends.BadFraming bytes ms (Some r))
+read-fault None b c ms r lt x y = tt
+read-fault (Some xs) None c ms r lt x y = absurd x
+read-fault (Some xs) (Some ys) c ms r lt x y = (r, record { rest = ys; begins = x; ends = (lt, y) }, refl)
+
+read-limit : (a b : Option (List ℕ)) (ms : List Message) → length ms ≡ MESSAGE_LIMIT → Began a ms b → IfSome a (λ bytes. AreMessages bytes ms messages.Limit)
+read-limit None b ms e x = tt
+read-limit (Some xs) None ms e x = absurd x
+read-limit (Some xs) (Some ys) ms e x = record { rest = ys; begins = x; ends = e }
+
+-- What was written.
+
+flat-push : (rs : List Reply) (r : Reply) → replies_bytes (rs ++ r ∷ []) ≡ replies_bytes rs ++ reply_bytes r
+flat-push [] r = append-nil (reply_bytes r)
+flat-push (s ∷ rs) r = ap (λ (t : List ℕ). reply_bytes s ++ t) (flat-push rs r) ∙ sym (append_assoc (reply_bytes s) (replies_bytes rs) (reply_bytes r))
+
+map-push : (ms : List Message) (m : Message) → map heard_of (ms ++ m ∷ []) ≡ map heard_of ms ++ heard_of m ∷ []
+map-push [] m = refl
+map-push (n ∷ ms) m = ap (λ hs. heard_of n ∷ hs) (map-push ms m)
+
+keeps-self : (a : Option (List ℕ)) → Keeps a a
+keeps-self None = tt
+keeps-self (Some xs) = refl
+
+module _ {B : Type 0} (clean sure stands : B → Type 0) (firm : B → Firm) (refusals : B → ℕ) (day : ℕ) (stream before : Option (List ℕ)) (old : B) where
+  -- what is served, and what is being served
+  abbrev Serves : ℕ → Option (List ℕ) → Option (List ℕ) → B → Type 0
+  Serves n unread after new = Serving clean sure stands firm refusals day stream before old n unread after new
+
+  pub serving-none : (unread : Option (List ℕ)) → Keeps stream unread → Serves 0 unread before old
+  serving-none unread k = record {
+    messages = [];
+    replies = [];
+    many = refl;
+    paired = refl;
+    read = began-nil stream unread k;
+    written = Appends-nil before;
+    run = λ clean stands. refl;
+    kept = kept-still old;
+  }
+
+  pub serving-nothing : Serves 0 stream before old
+  serving-nothing = serving-none stream (keeps-self stream)
+
+  -- one more message, and its reply
+  module _ (n : ℕ) (unread after : Option (List ℕ)) (mid : B) (s : Serves n unread after mid) (left later : Option (List ℕ)) (next : B) (m : Message) (reply : Reply)
+      (comes : IsNext unread left (nexts.Message m)) (sound : (b : B) → stands b → FirmSound (firm b))
+      (step : clean next → stands mid → Steps day (firm mid) (heard_of m) reply (firm next)) (kept : KeepsBook clean sure stands refusals (counted_reply reply) mid next) where
+    abbrev messages-more : List Message
+    messages-more = s.messages ++ m ∷ []
+
+    abbrev replies-more : List Reply
+    replies-more = s.replies ++ reply ∷ []
+
+    paired-more : length replies-more ≡ length messages-more
+    paired-more = length-append s.replies (reply ∷ []) ∙ (ap (λ k. k + 1) s.paired ∙ sym (length-append s.messages (m ∷ [])))
+
+    run-more : clean next → stands old → RunsSoundly day (firm old) (map heard_of messages-more) replies-more (firm next)
+    run-more clean stands =
+        let was = kept.was_clean clean in
+        let now = s.kept.still_stands was stands in
+        subst (λ (hs : List Heard). RunsSoundly day (firm old) hs replies-more (firm next)) (sym (map-push s.messages m))
+        (RunsSoundly-push day (firm old) (firm mid) (firm next) (map heard_of s.messages) (heard_of m) s.replies reply (s.run was stands) (step clean now) (sound next (kept.still_stands clean now)))
+
+    own-more : clean next → stands old → (k : ℕ) → IsUnstopped k (map heard_of messages-more) replies-more → IsOwn k day (firm old) (map heard_of messages-more) replies-more (firm next)
+    own-more clean stands k fine = each-own k day (firm old) (map heard_of messages-more) replies-more (firm next) fine (sound-runs-are-runs day (firm old) (firm next) (map heard_of messages-more) replies-more (run-more clean stands))
+
+    kept-more : KeepsBook clean sure stands refusals (counted_replies replies-more) old next
+    kept-more = kept-as (λ clean stands. sym (counted-push s.replies reply (refusals old))) (kept-then s.kept kept)
+
+    read-more : Began stream messages-more left
+    read-more = began-push stream unread left s.messages m s.read comes
+
+    pub serving-more : Appends after later (reply_bytes reply) → Serves (n + 1) left later next
+    serving-more wrote = record {
+      messages = messages-more;
+      replies = replies-more;
+      many = length-append s.messages (m ∷ []) ∙ ap (λ k. k + 1) s.many;
+      paired = paired-more;
+      read = read-more;
+      written = subst (λ (t : List ℕ). Appends before later t) (sym (flat-push s.replies reply)) (Appends-trans before after later (replies_bytes s.replies) (reply_bytes reply) s.written wrote);
+      run = run-more;
+      kept = kept-more;
+    }
+
+    -- a write failed in the reply
+    pub served-write_fault : WroteFront after later (reply_bytes reply) → Served clean sure stands firm refusals day stream before old ends.WriteFault later next
+    served-write_fault wrote =
+        let all : replies_bytes s.replies ++ reply_bytes reply ≡ whole_text replies-more None = sym (append-nil (replies_bytes replies-more) ∙ flat-push s.replies reply) in
+        record {
+          messages = messages-more;
+          replies = replies-more;
+          tail = None;
+          read = began-some stream left messages-more read-more;
+          paired = paired-more;
+          behind = tt;
+          written = subst (λ (t : List ℕ × List ℕ). IsCut t.0 t.1 before later) (λ i. (all i, sym (last-push s.replies reply) i)) (cut-behind before after later (replies_bytes s.replies) (reply_bytes reply) s.written wrote);
+          run = run-more;
+          own = own-more;
+          kept = kept-more;
+        }
+
+  module _ (n : ℕ) (unread after : Option (List ℕ)) (new : B) (s : Serves n unread after new) where
+    own : clean new → stands old → (m : ℕ) → IsUnstopped m (map heard_of s.messages) s.replies → IsOwn m day (firm old) (map heard_of s.messages) s.replies (firm new)
+    own clean stands m fine = each-own m day (firm old) (map heard_of s.messages) s.replies (firm new) fine (sound-runs-are-runs day (firm old) (firm new) (map heard_of s.messages) s.replies (s.run clean stands))
+
+    no-tail : Appends before after (whole_text s.replies None)
+    no-tail = subst (λ (t : List ℕ). Appends before after t) (sym (append-nil (replies_bytes s.replies))) s.written
+
+    below : n < MESSAGE_LIMIT → length s.messages < MESSAGE_LIMIT
+    below lt = let e = s.many in omega arith
+
+    with-tail : (later : Option (List ℕ)) (r : Refusal) (reply : Reply) → reply ≡ refused r → Appends after later (reply_bytes reply) → Appends before later (whole_text s.replies (Some r))
+    with-tail later r reply is wrote = Appends-trans before after later (replies_bytes s.replies) (reply_bytes (refused r)) s.written (subst (λ (x : Reply). Appends after later (reply_bytes x)) is wrote)
+
+    pub served-ended : (left : Option (List ℕ)) → n < MESSAGE_LIMIT → IsNext unread left nexts.Ended → Served clean sure stands firm refusals day stream before old ends.Ended after new
+    served-ended left lt y = record { messages = s.messages; replies = s.replies; tail = None; read = read-ended stream unread left s.messages (below lt) s.read y; paired = s.paired; behind = refl; written = no-tail; run = s.run; own = own; kept = s.kept }
+
+    pub served-limit : n ≡ MESSAGE_LIMIT → Served clean sure stands firm refusals day stream before old ends.Limit after new
+    served-limit e = record { messages = s.messages; replies = s.replies; tail = None; read = read-limit stream unread s.messages (s.many ∙ e) s.read; paired = s.paired; behind = refl; written = no-tail; run = s.run; own = own; kept = s.kept }
+
+    pub served-read_fault : Served clean sure stands firm refusals day stream before old ends.ReadFault after new
+    served-read_fault = record { messages = s.messages; replies = s.replies; tail = None; read = began-some stream unread s.messages s.read; paired = s.paired; behind = refl; written = no-tail; run = s.run; own = own; kept = s.kept }
+
+    pub served-framing : (left later : Option (List ℕ)) (r : Refusal) (reply : Reply) → n < MESSAGE_LIMIT → IsNext unread left (nexts.Framing r) → reply ≡ refused r → Appends after later (reply_bytes reply)
+        → Served clean sure stands firm refusals day stream before old ends.BadFraming later new
+    served-framing left later r reply lt y is wrote = record {
+      messages = s.messages;
+      replies = s.replies;
+      tail = Some r;
+      read = read-fault stream unread left s.messages r (below lt) s.read y;
+      paired = s.paired;
+      behind = (r, refl);
+      written = with-tail later r reply is wrote;
+      run = s.run;
+      own = own;
+      kept = s.kept;
+    }
+
+    pub served-no_memory : (later : Option (List ℕ)) (reply : Reply) → reply ≡ refused Memory → Appends after later (reply_bytes reply) → Served clean sure stands firm refusals day stream before old ends.NoMemory later new
+    served-no_memory later reply is wrote = record {
+      messages = s.messages;
+      replies = s.replies;
+      tail = Some Memory;
+      read = began-some stream unread s.messages s.read;
+      paired = s.paired;
+      behind = refl;
+      written = with-tail later Memory reply is wrote;
+      run = s.run;
+      own = own;
+      kept = s.kept;
+    }
+
+    -- a write failed in the refusal behind the replies
+    pub served-tail_fault : (later : Option (List ℕ)) (r : Refusal) (reply : Reply) → reply ≡ refused r → WroteFront after later (reply_bytes reply) → Served clean sure stands firm refusals day stream before old ends.WriteFault later new
+    served-tail_fault later r reply is wrote = record {
+      messages = s.messages;
+      replies = s.replies;
+      tail = Some r;
+      read = began-some stream unread s.messages s.read;
+      paired = s.paired;
+      behind = tt;
+      written = cut-behind before after later (replies_bytes s.replies) (reply_bytes (refused r)) s.written (subst (λ (x : Reply). WroteFront after later (reply_bytes x)) is wrote);
+      run = s.run;
+      own = own;
+      kept = s.kept;
+    }

@@ -1,0 +1,13 @@
+use Rattle.std.proofs.Common.{◌≡◌, ◌≤◌, None}
+use Rattle.portal_http.specs.Served.{Serving}
+use Rattle.portal_http.proofs.stream.serve_routes.Given as goal
+
+-- the messages so far were answered
+abbrev pub invariant-loop : goal.invariant-loop
+invariant-loop g l =
+    let B = g.B.Book in
+    record {
+      turns : l.counter ≤ 1000;
+      serving : Serving B.clean B.sure B.stands B.firm B.refusals l.fn.day (g.R.Read.remaining l.fn.reader) (g.W.Write.contents l.fn.writer) l.fn.desk l.counter l.input.unread (g.W.Write.contents l.writer) l.desk;
+      fresh : l.input.last ≡ None;
+    }

@@ -1,0 +1,106 @@
+-- What is served of a stream.
+use Rattle.std.specs.Prelude.{◌≡◌, ◌≤◌, ◌<◌, ◌+◌, ℕ, List, [], ◌∷◌, ◌++◌, Option, Some, None, length, map, take, IfSome, ⊤}
+use Rattle.std.specs.Io.KnownBytes.{Appends}
+use Rattle.trust_base.specs.declared.refusal.Refusal.{Refusal}
+use Rattle.trust_base.specs.declared.refusal.Refusal.TheVariants.{Memory}
+use Rattle.firm_rows.specs.Firm.{Firm}
+use Rattle.trust_desk.specs.declared.requests.Reply.{Reply}
+use Rattle.trust_desk.specs.Calls.{KeepsBook}
+use Rattle.trust_desk.specs.Counts.{counted_replies}
+use Rattle.trust_desk.specs.FirmStep.{IsUnstopped, RunsSoundly}
+use Rattle.trust_desk.specs.Isolation.{IsOwn}
+use Rattle.trust_desk.specs.Replies.{refused}
+use Rattle.portal_messages.specs.declared.message.Message.{Message}
+use Rattle.portal_messages.specs.Inputs.{Began}
+use Rattle.portal_messages.specs.Messages.{AreMessages, BeginsWithAll}
+use Rattle.portal_messages.specs.Messages as messages
+use Rattle.portal_requests.specs.Requests.{heard_of}
+use Rattle.portal_http.specs.Answers.{replies_bytes, reply_bytes}
+use Rattle.portal_http.specs.declared.stream.StreamEnd.{StreamEnd}
+use Rattle.portal_http.specs.declared.stream.StreamEnd.TheVariants as ends
+
+-- the bytes of a refusal that is answered to no message
+abbrev pub tail_bytes : Option Refusal → List ℕ
+tail_bytes None = []
+tail_bytes (Some r) = reply_bytes (refused r)
+
+abbrev pub whole_text : List Reply → Option Refusal → List ℕ
+whole_text replies tail = replies_bytes replies ++ tail_bytes tail
+
+-- the bytes of the last answer of all
+abbrev pub last_text : List Reply → Option Refusal → List ℕ
+last_text replies (Some r) = reply_bytes (refused r)
+last_text [] None = []
+last_text (reply ∷ []) None = reply_bytes reply
+last_text (reply ∷ next ∷ replies) None = last_text (next ∷ replies) None
+
+-- the refusal that is answered behind the replies, by the end
+abbrev pub IsTail : StreamEnd → Option Refusal → Type 0
+IsTail ends.Ended tail = tail ≡ None
+IsTail ends.BadFraming tail = (r : Refusal) × (tail ≡ Some r)
+IsTail ends.Limit tail = tail ≡ None
+IsTail ends.ReadFault tail = tail ≡ None
+IsTail ends.WriteFault tail = ⊤
+IsTail ends.NoMemory tail = tail ≡ Some Memory
+
+-- the bytes begin with these messages
+abbrev pub AreFirst : List ℕ → List Message → Type 0
+AreFirst bytes ms = (rest : List ℕ) × BeginsWithAll bytes ms rest
+
+-- these are all the messages, where the stream was served to its end, and else the first ones
+abbrev pub IsRead : StreamEnd → List ℕ → List Message → Option Refusal → Type 0
+IsRead ends.Ended bytes ms tail = AreMessages bytes ms messages.Ended
+IsRead ends.BadFraming bytes ms tail = (r : Refusal) × AreMessages bytes ms (messages.BadFraming r) × (tail ≡ Some r)
+IsRead ends.Limit bytes ms tail = AreMessages bytes ms messages.Limit
+IsRead ends.ReadFault bytes ms tail = AreFirst bytes ms
+IsRead ends.WriteFault bytes ms tail = AreFirst bytes ms
+IsRead ends.NoMemory bytes ms tail = AreFirst bytes ms
+
+-- a front of a text was written, with all of it but a part of the last answer
+pub record IsCut (text last : List ℕ) (before after : Option (List ℕ)) : Type 0 where
+  pub size : ℕ
+  pub less : size < length text
+  pub whole : length text ≤ size + length last
+  pub written : Appends before after (take size text)
+
+-- all answers were written; where a write failed, all before the last one, and a front of that
+abbrev pub IsWritten : StreamEnd → List Reply → Option Refusal → Option (List ℕ) → Option (List ℕ) → Type 0
+IsWritten ends.Ended replies tail before after = Appends before after (whole_text replies tail)
+IsWritten ends.BadFraming replies tail before after = Appends before after (whole_text replies tail)
+IsWritten ends.Limit replies tail before after = Appends before after (whole_text replies tail)
+IsWritten ends.ReadFault replies tail before after = Appends before after (whole_text replies tail)
+IsWritten ends.WriteFault replies tail before after =
+    IsCut (whole_text replies tail) (last_text replies tail) before after
+IsWritten ends.NoMemory replies tail before after = Appends before after (whole_text replies tail)
+
+-- Of a book only these are looked at: when its store is clean, is sure, and stands for a sound firm, the firm, and how
+-- often it failed.
+module _ {B : Type 0} (clean sure stands : B → Type 0) (firm : B → Firm) (refusals : B → ℕ) where
+  -- a stream was served: its messages and their replies, in order, what was written, and what became of the book
+  pub record Served (day : ℕ) (stream before : Option (List ℕ)) (old : B) (end : StreamEnd) (after : Option (List ℕ))
+      (new : B) : Type 0 where
+    pub messages : List Message
+    pub replies : List Reply
+    pub tail : Option Refusal
+    pub read : IfSome stream (λ bytes. IsRead end bytes messages tail)
+    pub paired : length replies ≡ length messages
+    pub behind : IsTail end tail
+    pub written : IsWritten end replies tail before after
+    -- each reply is that of the firm's step, and the firm is sound after it
+    pub run : clean new → stands old → RunsSoundly day (firm old) (map heard_of messages) replies (firm new)
+    -- each matter is answered by its own machine, which leaves it its rows
+    pub own : clean new → stands old → (m : ℕ) → IsUnstopped m (map heard_of messages) replies
+        → IsOwn m day (firm old) (map heard_of messages) replies (firm new)
+    pub kept : KeepsBook clean sure stands refusals (counted_replies replies) old new
+
+  -- a stream is being served: so many messages were read and answered
+  pub record Serving (day : ℕ) (stream before : Option (List ℕ)) (old : B) (n : ℕ) (unread after : Option (List ℕ))
+      (new : B) : Type 0 where
+    pub messages : List Message
+    pub replies : List Reply
+    pub many : length messages ≡ n
+    pub paired : length replies ≡ length messages
+    pub read : Began stream messages unread
+    pub written : Appends before after (replies_bytes replies)
+    pub run : clean new → stands old → RunsSoundly day (firm old) (map heard_of messages) replies (firm new)
+    pub kept : KeepsBook clean sure stands refusals (counted_replies replies) old new

@@ -1,0 +1,16 @@
+//! The messages of a stream of bytes: HTTP/1.1 requests (RFC 9112) with heads as `httparse` reads them, one at a time,
+//! however the reads are cut.
+#![tactic(auto)]
+
+mod fields;
+mod head;
+mod input;
+pub mod laws;
+mod message;
+mod source;
+mod text;
+
+pub use fields::path;
+pub use input::{Input, Next, Stop, read_message};
+pub use message::Message;
+pub use text::Texts;

@@ -1,0 +1,29 @@
+-- The object that a body is.
+use Rattle.std.proofs.Common.{◌≡◌, ℕ, Bool, true, false, cond, List, Option, Some, None, refl, sym, ap, ◌∙◌}
+use Rattle.std.specs.Prelude.{option_and_then}
+use Rattle.std.specs.Str.{IsUtf8, is_utf8}
+use Rattle.std.proofs.lemmas.Str.{IsUtf8-from_is_utf8, is_utf8-from_IsUtf8}
+use Rattle.serde_json.specs.Data.{Data}
+use Rattle.serde_json.specs.Read.{read as read_text}
+use Rattle.portal_requests.specs.Bodies.{body_in, is_object, object_with, text_in}
+
+-- the object of a text that was read
+abbrev pub body_by : List (List ℕ) → Bool → Option Data → Option Data
+body_by keys utf8 read = cond utf8 (option_and_then (object_with keys) read) None
+
+pub body-none : (keys : List (List ℕ)) (body text : List ℕ) → text ≡ text_in body → (IsUtf8 text → read_text text ≡ None) → None ≡ body_in keys body
+body-none keys body text same unread = cases (is_utf8 text) refl ∙ ap (λ (t : List ℕ). body_by keys (is_utf8 t) (read_text t)) same
+  where
+    cases : (b : Bool) → is_utf8 text ≡ b → None ≡ body_by keys b (read_text text)
+    cases true is = sym (ap (λ (r : Option Data). body_by keys true r) (unread (IsUtf8-from_is_utf8 text is)))
+    cases false is = refl
+
+pub body-some : (keys : List (List ℕ)) (body text : List ℕ) (d : Data) → text ≡ text_in body → IsUtf8 text → read_text text ≡ Some d → object_with keys d ≡ body_in keys body
+body-some keys body text d same utf8 is =
+    sym (ap (λ (t : List ℕ). body_by keys (is_utf8 t) (read_text t)) (sym same) ∙ ((λ i. body_by keys (is_utf8-from_IsUtf8 text utf8 i) (is i))))
+
+pub object-yes : (keys : List (List ℕ)) (d : Data) → is_object keys d ≡ true → Some d ≡ object_with keys d
+object-yes keys d is = sym (ap (λ (b : Bool). cond b (Some d) None) is)
+
+pub object-other : (keys : List (List ℕ)) (d : Data) → is_object keys d ≡ false → None ≡ object_with keys d
+object-other keys d is = sym (ap (λ (b : Bool). cond b (Some d) None) is)

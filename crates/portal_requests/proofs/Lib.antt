@@ -1,0 +1,4 @@
+pub mod HeardFacts
+pub mod RouteFacts
+pub mod BodyFacts
+pub mod AskFacts

@@ -1,0 +1,9 @@
+pub mod Paths
+pub mod Places
+pub mod Table
+pub mod Routing
+pub mod Callers
+pub mod Bodies
+pub mod Asked
+pub mod Requests
+pub mod Answers

@@ -1,0 +1,35 @@
+-- The parts of a path, and the matter that it names.
+use Rattle.std.specs.Prelude.{◌==◌, ◌&&◌, ℕ, Bool, true, nat_le, length, List, [], ◌∷◌, take, drop, codes, Option, None, if◌then◌else◌}
+use Rattle.std.specs.Str.{bytes_eq}
+use Rattle.trust_values.specs.Texts.{matter_of}
+
+-- the bytes before the first slash
+abbrev pub up_to_slash : List ℕ → List ℕ
+up_to_slash [] = []
+up_to_slash (b ∷ bs) = if b == 47 then [] else b ∷ up_to_slash bs
+
+-- the bytes behind the first slash
+abbrev pub behind_slash : List ℕ → List ℕ
+behind_slash [] = []
+behind_slash (b ∷ bs) = if b == 47 then bs else behind_slash bs
+
+-- the part that stands for a matter, behind /matters/
+abbrev pub matter_part : List ℕ → List ℕ
+matter_part path = up_to_slash (drop 9 path)
+
+-- the part that stands for an entry, behind /matters/, the matter and /entries/
+abbrev pub entry_part : List ℕ → List ℕ
+entry_part path = up_to_slash (behind_slash (behind_slash (drop 9 path)))
+
+abbrev pub ends_or_goes_on : List ℕ → Bool
+ends_or_goes_on [] = true
+ends_or_goes_on (b ∷ bs) = b == 47
+
+abbrev pub has_matter : List ℕ → Bool
+has_matter path = bytes_eq (take 9 path) (codes "/matters/") && ends_or_goes_on (drop 15 path)
+
+-- the matter that a path names, with a route or without one: /matters/ and its six digits, and then the end or a slash
+abbrev pub named_in : List ℕ → Option ℕ
+named_in path = if nat_le 15 (length path)
+    then (if has_matter path then matter_of (take 6 (drop 9 path)) else None)
+    else None

@@ -1,0 +1,36 @@
+-- Where routes lead, and by which method.
+use Rattle.std.specs.Prelude.{ℕ, List, codes}
+use Rattle.portal_requests.specs.declared.place.MatterPlace.TheVariants as matter
+use Rattle.portal_requests.specs.declared.place.MatterPlace.{MatterPlace}
+use Rattle.portal_requests.specs.declared.place.EntryPlace.TheVariants as entry
+use Rattle.portal_requests.specs.declared.place.EntryPlace.{EntryPlace}
+use Rattle.portal_requests.specs.declared.place.Place.TheVariants as place
+use Rattle.portal_requests.specs.declared.place.Place.{Place}
+
+-- the method of a place: what only reads is got, and all else is posted
+abbrev pub matter_method : MatterPlace → List ℕ
+matter_method matter.Show = codes "GET"
+matter_method matter.Open = codes "POST"
+matter_method matter.AddSeat = codes "POST"
+matter_method matter.DropSeat = codes "POST"
+matter_method matter.Close = codes "POST"
+matter_method matter.Purge = codes "POST"
+
+abbrev pub entry_method : EntryPlace → List ℕ
+entry_method entry.Show = codes "GET"
+entry_method entry.Deposit = codes "POST"
+entry_method entry.Cancel = codes "POST"
+entry_method entry.Propose = codes "POST"
+entry_method entry.Approve = codes "POST"
+entry_method entry.Decline = codes "POST"
+entry_method entry.Void = codes "POST"
+entry_method entry.Fee = codes "POST"
+entry_method entry.Claim = codes "POST"
+entry_method entry.Offer = codes "POST"
+entry_method entry.Accept = codes "POST"
+entry_method entry.Award = codes "POST"
+
+abbrev pub method_of : Place → List ℕ
+method_of (place.Matter p) = matter_method p
+method_of (place.Entry p) = entry_method p
+method_of place.Statements = codes "POST"

@@ -1,0 +1,59 @@
+-- What a message asks. Its refusals come in this order: no route, another method, no caller, a field.
+use Rattle.std.specs.Prelude.{ℕ, List, Option, Some, None, Result, Ok, Err, if◌then◌else◌}
+use Rattle.std.specs.Str.{bytes_eq}
+use Rattle.trust_values.specs.Texts.{matter_of}
+use Rattle.trust_base.specs.declared.refusal.Refusal.{Refusal}
+use Rattle.trust_base.specs.declared.refusal.Refusal.TheVariants.{BadField, BadMethod, NoCaller, NoRoute}
+use Rattle.trust_base.specs.declared.refusal.Field.{Field}
+use Rattle.trust_base.specs.declared.refusal.Field.TheVariants as field
+use Rattle.trust_matter.specs.declared.ask.Caller.{Caller}
+use Rattle.trust_matter.specs.declared.ask.Ask.{Ask}
+use Rattle.trust_desk.specs.declared.requests.Request.{Request}
+use Rattle.trust_desk.specs.declared.requests.Request.TheVariants as requests
+use Rattle.trust_desk.specs.Heard.{Heard, Asks, Unread}
+use Rattle.portal_messages.specs.declared.message.Message.{Message}
+use Rattle.portal_messages.specs.Fields.{path_of}
+use Rattle.portal_requests.specs.declared.place.Place.{Place}
+use Rattle.portal_requests.specs.declared.place.Place.TheVariants as place
+use Rattle.portal_requests.specs.Asked.{entry_ask, matter_ask}
+use Rattle.portal_requests.specs.Callers.{caller_of}
+use Rattle.portal_requests.specs.Paths.{entry_part, matter_part, named_in}
+use Rattle.portal_requests.specs.Places.{method_of}
+use Rattle.portal_requests.specs.Routing.{place_of}
+
+-- an ask of the matter of a path: the matter comes before all other fields
+abbrev pub of_matter : Caller → Option ℕ → Result Ask Field → Result Request Refusal
+of_matter caller None asked = Err (BadField field.Matter)
+of_matter caller (Some m) (Err f) = Err (BadField f)
+of_matter caller (Some m) (Ok a) = Ok (requests.Matter m caller a)
+
+abbrev pub asked_at : Place → Caller → List ℕ → List ℕ → Result Request Refusal
+asked_at (place.Matter p) caller path body = of_matter caller (matter_of (matter_part path)) (matter_ask p body)
+asked_at (place.Entry p) caller path body =
+    of_matter caller (matter_of (matter_part path)) (entry_ask p (entry_part path) body)
+asked_at place.Statements caller path body = Ok (requests.Import caller body)
+
+abbrev pub called : Place → Option Caller → List ℕ → List ℕ → Result Request Refusal
+called p None path body = Err NoCaller
+called p (Some caller) path body = asked_at p caller path body
+
+abbrev pub placed : Place → Message → Result Request Refusal
+placed p m = if bytes_eq m.method (method_of p)
+    then called p (caller_of m.callers) (path_of m.target) m.body
+    else Err BadMethod
+
+abbrev pub routed : Option Place → Message → Result Request Refusal
+routed None m = Err NoRoute
+routed (Some p) m = placed p m
+
+-- the request of a message, or the first refusal
+unfoldable pub request : Message → Result Request Refusal
+request m = routed (place_of (path_of m.target)) m
+
+abbrev pub heard_as : Option ℕ → Result Request Refusal → Heard
+heard_as named (Ok r) = Asks r
+heard_as named (Err why) = Unread named why
+
+-- what the desk hears of a message
+unfoldable pub heard_of : Message → Heard
+heard_of m = heard_as (named_in (path_of m.target)) (request m)

@@ -1,0 +1,51 @@
+-- The routes, and a router that takes routes in order.
+use Rattle.std.specs.Prelude.{ℕ, List, [], ◌∷◌, Result, Ok, Err, codes, map}
+use Rattle.std.specs.Borrow.{Bor}
+use Rattle.matchit.specs.Rows.{RowsOf}
+use Rattle.matchit.specs.Order.{placed}
+use Rattle.matchit.specs.Router.{RouteOf, route_from}
+use Rattle.matchit.specs.Route.{Scan, parse_route}
+use Rattle.matchit.specs.declared.error.InsertError.{InsertError}
+use Rattle.portal_requests.specs.declared.place.MatterPlace.TheVariants as matter
+use Rattle.portal_requests.specs.declared.place.EntryPlace.TheVariants as entry
+use Rattle.portal_requests.specs.declared.place.Place.{Place}
+use Rattle.portal_requests.specs.declared.place.Place.TheVariants.{Matter, Entry, Statements}
+
+-- the rows with one more route
+abbrev pub row_in : Result Scan InsertError → Place → RowsOf (RouteOf Place) → RowsOf (RouteOf Place)
+row_in (Ok s) place rows = placed (s.pattern, route_from s place) rows
+row_in (Err e) place rows = rows
+
+-- the rows with these routes, which go in one after another
+unfoldable pub route_rows : List (List ℕ × Place) → RowsOf (RouteOf Place) → RowsOf (RouteOf Place)
+route_rows [] rows = rows
+route_rows (p ∷ rest) rows = route_rows rest (row_in (parse_route p.0) p.1 rows)
+
+-- the texts and places of a table
+abbrev pub rows_of : List (Bor (List ℕ) × Place) → List (List ℕ × Place)
+rows_of = map (λ p. (p.0.now, p.1))
+
+-- the paths that have a route, and where each leads; a report has none, since the desk has no request for one
+unfoldable pub TABLE : List (List ℕ × Place)
+TABLE = (codes "/matters/{m}", Matter matter.Show)
+    ∷ (codes "/matters/{m}/open", Matter matter.Open)
+    ∷ (codes "/matters/{m}/seats", Matter matter.AddSeat)
+    ∷ (codes "/matters/{m}/seats/drop", Matter matter.DropSeat)
+    ∷ (codes "/matters/{m}/close", Matter matter.Close)
+    ∷ (codes "/matters/{m}/purge", Matter matter.Purge)
+    ∷ (codes "/matters/{m}/entries/{e}", Entry entry.Show)
+    ∷ (codes "/matters/{m}/entries/{e}/deposit", Entry entry.Deposit)
+    ∷ (codes "/matters/{m}/entries/{e}/cancel", Entry entry.Cancel)
+    ∷ (codes "/matters/{m}/entries/{e}/propose", Entry entry.Propose)
+    ∷ (codes "/matters/{m}/entries/{e}/approve", Entry entry.Approve)
+    ∷ (codes "/matters/{m}/entries/{e}/decline", Entry entry.Decline)
+    ∷ (codes "/matters/{m}/entries/{e}/void", Entry entry.Void)
+    ∷ (codes "/matters/{m}/entries/{e}/fee", Entry entry.Fee)
+    ∷ (codes "/matters/{m}/entries/{e}/claim", Entry entry.Claim)
+    ∷ (codes "/matters/{m}/entries/{e}/offer", Entry entry.Offer)
+    ∷ (codes "/matters/{m}/entries/{e}/accept", Entry entry.Accept)
+    ∷ (codes "/matters/{m}/entries/{e}/award", Entry entry.Award)
+    ∷ (codes "/firm/statements", Statements) ∷ []
+
+unfoldable pub the_routes : RowsOf (RouteOf Place)
+the_routes = route_rows TABLE []

@@ -1,0 +1,16 @@
+//! What a message asks: the request of its route, its method, its caller, its path and its body, or why it is none.
+#![tactic(auto)]
+
+mod body;
+mod caller;
+mod entry_asks;
+mod matter_asks;
+mod named;
+mod parts;
+mod place;
+mod request;
+mod routes;
+
+pub use named::named_matter;
+pub use request::request_of;
+pub use routes::Routes;

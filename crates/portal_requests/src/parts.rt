@@ -1,0 +1,52 @@
+// The parts of a path.
+
+ghost use Rattle.std.specs.Prelude.{◌≡◌, drop, length, ◌≤◌};
+ghost use Rattle.portal_requests.specs.Paths.{behind_slash, entry_part, matter_part, up_to_slash};
+
+// The bytes before the first slash.
+fn up_to_slash(bytes: &[u8]) -> &[u8]
+    ensures { result.now ≡ up_to_slash bytes.now }
+{
+    for i in 0..bytes.len() {
+        if bytes[i] == b'/' {
+            return &bytes[..i];
+        }
+    }
+    bytes
+}
+
+// The bytes behind the first slash.
+fn behind_slash(bytes: &[u8]) -> &[u8]
+    ensures { result.now ≡ behind_slash bytes.now }
+{
+    for i in 0..bytes.len() {
+        if bytes[i] == b'/' {
+            return bytes.split_at(i + 1).1;
+        }
+    }
+    &[]
+}
+
+// The bytes behind the first n, or none.
+fn behind(bytes: &[u8], n: usize) -> &[u8]
+    ensures { result.now ≡ drop n bytes.now }
+{
+    if bytes.len() < n {
+        return &[];
+    }
+    bytes.split_at(n).1
+}
+
+/// The part of a path that stands for a matter, behind `/matters/`.
+pub(crate) fn matter_part(path: &[u8]) -> &[u8]
+    ensures { result.now ≡ matter_part path.now }
+{
+    up_to_slash(behind(path, 9))
+}
+
+/// The part of a path that stands for an entry, behind `/matters/`, the matter and `/entries/`.
+pub(crate) fn entry_part(path: &[u8]) -> &[u8]
+    ensures { result.now ≡ entry_part path.now }
+{
+    up_to_slash(behind_slash(behind_slash(behind(path, 9))))
+}

@@ -1,0 +1,96 @@
+// The request of a message.
+
+ghost use Rattle.trust_values.specs.Texts.{matter_of};
+ghost use Rattle.portal_requests.specs.Answers.{Answers};
+ghost use Rattle.portal_requests.specs.Asked.{entry_ask, matter_ask};
+ghost use Rattle.portal_requests.specs.Paths.{entry_part, matter_part};
+ghost use Rattle.portal_requests.specs.Requests.{asked_at, of_matter, request};
+
+use crate::caller::caller;
+use crate::entry_asks::read_entry_ask;
+use crate::matter_asks::read_matter_ask;
+use crate::parts::{entry_part, matter_part};
+use crate::place::{EntryPlace, MatterPlace, Place, method};
+use crate::routes::Routes;
+use portal_messages::{Message, path};
+use std::alloc::Global;
+use trust_base::{Field, MatterNo, OwnedBytes, Refusal};
+use trust_desk::Request;
+use trust_matter::Caller;
+
+// What is asked of the matter of a path.
+fn read_matter_at(
+    alloc: Global,
+    place: MatterPlace,
+    caller: Caller,
+    path: &[u8],
+    body: &[u8],
+) -> Result<Request, Refusal>
+    ensures { Answers (of_matter caller (matter_of (matter_part path.now)) (matter_ask place body.now)) result }
+{
+    let Some(no) = MatterNo::read(matter_part(path)) else {
+        return Err(Refusal::BadField(Field::Matter));
+    };
+    match read_matter_ask(alloc, place, body) {
+        Ok(ask) => Ok(Request::Matter { no, caller, ask }),
+        Err(why) => Err(why),
+    }
+}
+
+// What is asked of the entry of a path.
+fn read_entry_at(
+    alloc: Global,
+    place: EntryPlace,
+    caller: Caller,
+    path: &[u8],
+    body: &[u8],
+) -> Result<Request, Refusal>
+    ensures { Answers (of_matter caller (matter_of (matter_part path.now))
+        (entry_ask place (entry_part path.now) body.now)) result }
+{
+    let Some(no) = MatterNo::read(matter_part(path)) else {
+        return Err(Refusal::BadField(Field::Matter));
+    };
+    match read_entry_ask(alloc, place, entry_part(path), body) {
+        Ok(ask) => Ok(Request::Matter { no, caller, ask }),
+        Err(why) => Err(why),
+    }
+}
+
+fn read_at(
+    alloc: Global,
+    place: Place,
+    caller: Caller,
+    path: &[u8],
+    body: &[u8],
+) -> Result<Request, Refusal>
+    ensures { Answers (asked_at place caller path.now body.now) result }
+{
+    match place {
+        Place::Matter(place) => read_matter_at(alloc, place, caller, path, body),
+        Place::Entry(place) => read_entry_at(alloc, place, caller, path, body),
+        Place::Statements => Ok(Request::Import {
+            caller,
+            statement: OwnedBytes::new(Vec::from_slice(alloc, body)?),
+        }),
+    }
+}
+
+/// The request of a message, or the first of these refusals: `NoRoute`, `BadMethod`, `NoCaller`, and `BadField` of the
+/// matter, the entry, the body or the first field that is not of its form; or want of memory.
+#[tactic(auto, unfolding(crate::specs::Requests::request))]
+pub fn request_of(alloc: Global, routes: &Routes, message: &Message) -> Result<Request, Refusal>
+    ensures { Answers (request message.now) result }
+{
+    let path = path(message.target.as_slice());
+    let Some(place) = routes.place(path) else {
+        return Err(Refusal::NoRoute);
+    };
+    if message.method.as_slice() != method(place) {
+        return Err(Refusal::BadMethod);
+    }
+    let Some(caller) = caller(alloc, message.callers.as_slice())? else {
+        return Err(Refusal::NoCaller);
+    };
+    read_at(alloc, place, caller, path, message.body.as_slice())
+}

@@ -1,0 +1,134 @@
+// The routes.
+
+ghost use Rattle.std.specs.Prelude.{◌≡◌, [], IfOk, OnOk, option_map};
+ghost use Rattle.matchit.specs.Route.{parse_route};
+ghost use Rattle.matchit.specs.Seek.{first};
+ghost use Rattle.portal_requests.specs.Routing.{place_of};
+ghost use Rattle.portal_requests.specs.Table.{row_in, route_rows, rows_of, the_routes};
+
+use crate::place::{EntryPlace, MatterPlace, Place};
+use matchit::{InsertError, Router};
+use std::alloc::Global;
+use std::marker::Model;
+
+/// The routes of the portal, each a path with the place to which it leads.
+#[derive(Drop)]
+pub struct Routes {
+    router: Router<Place>,
+}
+
+impl Model for Routes {
+    ghost use Rattle.std.specs.Prelude.{◌≡◌};
+    ghost use Rattle.matchit.specs.Rows.{RowsOf};
+    ghost use Rattle.matchit.specs.Router.{RouteOf};
+    ghost use Rattle.portal_requests.specs.declared.place.Place.{Place};
+    ghost use Rattle.portal_requests.specs.Table.{the_routes};
+
+    ghost Value = { RowsOf (RouteOf Place) };
+
+    ghost view = { λ r. r.router };
+
+    ghost invariant = { λ r. r.router ≡ the_routes };
+}
+
+fn insert_route(router: &mut Router<Place>, text: &str, place: Place) -> Result<(), InsertError>
+    ensures { OnOk result (router.new ≡ row_in (parse_route text.now) place router.old) }
+{
+    router.insert(text, place)
+}
+
+// A router of a table's routes.
+fn router_of(alloc: Global, table: &[(&'static str, Place)]) -> Result<Router<Place>, InsertError>
+    ensures { IfOk result (λ r. r ≡ route_rows (rows_of table.now) []) }
+{
+    let mut router = Router::new(alloc);
+    for row in table {
+        insert_route(&mut router, row.0, row.1)?;
+    }
+    Ok(router)
+}
+
+impl Routes {
+    /// The routes. The error is want of memory: that the paths are good, and no two of them the same, is tested.
+    #[tactic(auto, unfolding(crate::specs::Table::the_routes, crate::specs::Table::TABLE))]
+    pub fn new(alloc: Global) -> Result<Routes, InsertError> {
+        let table = [
+            ("/matters/{m}", Place::Matter(MatterPlace::Show)),
+            ("/matters/{m}/open", Place::Matter(MatterPlace::Open)),
+            ("/matters/{m}/seats", Place::Matter(MatterPlace::AddSeat)),
+            (
+                "/matters/{m}/seats/drop",
+                Place::Matter(MatterPlace::DropSeat),
+            ),
+            ("/matters/{m}/close", Place::Matter(MatterPlace::Close)),
+            ("/matters/{m}/purge", Place::Matter(MatterPlace::Purge)),
+            ("/matters/{m}/entries/{e}", Place::Entry(EntryPlace::Show)),
+            (
+                "/matters/{m}/entries/{e}/deposit",
+                Place::Entry(EntryPlace::Deposit),
+            ),
+            (
+                "/matters/{m}/entries/{e}/cancel",
+                Place::Entry(EntryPlace::Cancel),
+            ),
+            (
+                "/matters/{m}/entries/{e}/propose",
+                Place::Entry(EntryPlace::Propose),
+            ),
+            (
+                "/matters/{m}/entries/{e}/approve",
+                Place::Entry(EntryPlace::Approve),
+            ),
+            (
+                "/matters/{m}/entries/{e}/decline",
+                Place::Entry(EntryPlace::Decline),
+            ),
+            (
+                "/matters/{m}/entries/{e}/void",
+                Place::Entry(EntryPlace::Void),
+            ),
+            (
+                "/matters/{m}/entries/{e}/fee",
+                Place::Entry(EntryPlace::Fee),
+            ),
+            (
+                "/matters/{m}/entries/{e}/claim",
+                Place::Entry(EntryPlace::Claim),
+            ),
+            (
+                "/matters/{m}/entries/{e}/offer",
+                Place::Entry(EntryPlace::Offer),
+            ),
+            (
+                "/matters/{m}/entries/{e}/accept",
+                Place::Entry(EntryPlace::Accept),
+            ),
+            (
+                "/matters/{m}/entries/{e}/award",
+                Place::Entry(EntryPlace::Award),
+            ),
+            ("/firm/statements", Place::Statements),
+        ];
+        let router = router_of(alloc, &table)?;
+        Ok(Routes { router })
+    }
+
+    fn place_at(&self, path: &str) -> Option<Place>
+        ensures { result ≡ option_map (λ e. e.value) (first the_routes path.now) }
+    {
+        match self.router.at(path) {
+            Ok(found) => Some(*found.value),
+            Err(_) => None,
+        }
+    }
+
+    /// Where the route of a path leads. A path that is not UTF-8 has none.
+    pub(crate) fn place(&self, path: &[u8]) -> Option<Place>
+        ensures { result ≡ place_of path.now }
+    {
+        let Ok(path) = str::from_utf8(path) else {
+            return None;
+        };
+        self.place_at(path)
+    }
+}

@@ -1,0 +1,103 @@
+-- What every item and every step of a firm keeps, every run keeps.
+use Rattle.std.proofs.Common.{◌≡◌, ℕ, Bool, true, false, List, [], ◌∷◌, Option, Some, None, refl, sym, subst}
+use Rattle.std.specs.Prelude.{MatchBool}
+use Rattle.trust_base.specs.declared.refusal.Refusal.{Refusal}
+use Rattle.trust_base.specs.declared.line.Line.{Line}
+use Rattle.matter_parts.specs.declared.edit.Edit.{Edit}
+use Rattle.matter_parts.specs.Changes.{last_after}
+use Rattle.trust_matter.specs.declared.bank_line.BankLine.{BankLine}
+use Rattle.trust_matter.specs.declared.line_verdict.LineEffect.{LineEffect}
+use Rattle.trust_matter.specs.declared.line_verdict.LineEffect.TheVariants as told
+use Rattle.trust_matter.specs.Facts.{Asked}
+use Rattle.trust_matter.specs.LineStep.{line_on}
+use Rattle.trust_matter.specs.Step.{refusal, edit_on}
+use Rattle.firm_rows.specs.declared.ledger.BalanceKind.{BalanceKind}
+use Rattle.firm_rows.specs.declared.ledger.BalanceKind.TheVariants as kind
+use Rattle.firm_rows.specs.Firm.{Firm, of, after_edit}
+use Rattle.firm_rows.specs.FirmChange.{FirmChange, Repeated, Unmatched, after, FitsFirm, by_balance, by_firm_line}
+use Rattle.firm_rows.proofs.OwnLines.{balance-fits, firm_line-fits}
+use Rattle.statement_csv.specs.declared.item.Item.{Item}
+use Rattle.statement_csv.specs.declared.item.Item.TheVariants as item
+use Rattle.trust_desk.specs.declared.requests.Reply.{Reply}
+use Rattle.trust_desk.specs.ItemStep.{after_told, after_item, after_items, after_balance, balance_on, firm_line_on}
+use Rattle.trust_desk.specs.Heard.{Heard, Kind, OfMatter, OfItems, OnlyTold, NotRead, kind_of, asked_on}
+use Rattle.trust_desk.specs.Replies.{is_fault_reply}
+use Rattle.trust_desk.specs.FirmStep.{after_asked, firm_step, kind_step, IsStopped, KindStopped, Steps, Runs}
+use Rattle.trust_desk.specs.OnceOnly.{DayRun, RunsOn}
+
+-- By items.
+
+module _ (P : Firm → Type 0) (item-keeps : (day : ℕ) (firm : Firm) (it : Item) → P firm → P (after_item day firm it)) where
+  pub items-keep : (day : ℕ) (firm : Firm) (items : List Item) → P firm → P (after_items day firm items)
+  items-keep day firm [] is = is
+  items-keep day firm (it ∷ items) is = items-keep day (after_item day firm it) items (item-keeps day firm it is)
+
+-- By runs.
+
+module _ (P : Firm → Type 0) (item-keeps : (day : ℕ) (firm : Firm) (it : Item) → P firm → P (after_item day firm it)) (step-keeps : (day : ℕ) (firm : Firm) (h : Heard) → P firm → P (firm_step day firm h).firm) where
+  stopped-keeps : (day : ℕ) (firm new : Firm) (k : Kind) → KindStopped day firm k new → P firm → P new
+  stopped-keeps day firm new (OfMatter n caller ask) stop is = subst P (sym stop) is
+  stopped-keeps day firm new (OfItems refused items) stop is = subst P (sym stop.1.leaves) (items-keep P item-keeps day firm stop.1.front is)
+  stopped-keeps day firm new (OnlyTold text) stop is = subst P (sym stop) is
+  stopped-keeps day firm new (NotRead n r) stop is = subst P (sym stop) is
+
+  one-keeps : (day : ℕ) (firm new : Firm) (h : Heard) (reply : Reply) → Steps day firm h reply new → P firm → P new
+  one-keeps day firm new h reply step is = cases (is_fault_reply reply) step
+    where
+      cases : (b : Bool)
+          → MatchBool b (IsStopped day firm h reply new) ((reply ≡ (firm_step day firm h).reply) × (new ≡ (firm_step day firm h).firm))
+          → P new
+      cases true stop = stopped-keeps day firm new (kind_of h) stop.leaves is
+      cases false step = subst P (sym step.1) (step-keeps day firm h is)
+
+  run-keeps : (day : ℕ) (firm new : Firm) (hs : List Heard) (replies : List Reply) → Runs day firm hs replies new → P firm → P new
+  run-keeps day firm new [] [] run is = subst P (sym run) is
+  run-keeps day firm new [] (reply ∷ replies) run is = absurd run
+  run-keeps day firm new (h ∷ hs) [] run is = absurd run
+  run-keeps day firm new (h ∷ hs) (reply ∷ replies) run is = run-keeps day run.0 new hs replies run.2 (one-keeps day firm run.0 h reply run.1 is)
+
+  pub runs-keep : (firm new : Firm) (runs : List DayRun) → RunsOn firm runs new → P firm → P new
+  runs-keep firm new [] run is = subst P (sym run) is
+  runs-keep firm new (r ∷ runs) run is = runs-keep run.0 new runs run.2 (run-keeps r.day firm run.0 r.heard r.replies run.1 is)
+
+  -- by the rest of a file, by runs and by the front of another file
+  pub all-keep : (day later : ℕ) (firm mid : Firm) (it : Item) (rest front : List Item) (between : List DayRun)
+      → RunsOn (after_items day firm (it ∷ rest)) between mid → P (after_item day firm it) → P (after_items later mid front)
+  all-keep day later firm mid it rest front between runs is =
+      items-keep P item-keeps later mid front (runs-keep (after_items day (after_item day firm it) rest) mid between runs (items-keep P item-keeps day (after_item day firm it) rest is))
+
+-- What the changes of a firm that fit keep, and the edits of its matters.
+
+module _ (P : Firm → Type 0) (change-keeps : (change : FirmChange) (firm : Firm) → FitsFirm firm change → P firm → P (after change firm)) (edit-keeps : (m : ℕ) (e : Edit) (last : ℕ) (firm : Firm) → P firm → P (after_edit m e last firm)) where
+  told-keeps : (l : BankLine) (e : LineEffect) (firm : Firm) → P firm → P (after_told l e firm)
+  told-keeps l (told.Applied e) firm is = change-keeps (Repeated l.line) (after_edit l.matter e.edit e.last firm) tt (edit-keeps l.matter e.edit e.last firm is)
+  told-keeps l told.Repeat firm is = change-keeps (Repeated l.line) firm tt is
+  told-keeps l (told.Unmatched r) firm is = change-keeps (Unmatched l.line) firm tt is
+
+  balance-keeps : (day : ℕ) (firm : Firm) (k : BalanceKind) (line : Line) → P firm → P (after_balance k line day firm)
+  balance-keeps day firm k line is =
+      let v = balance_on firm k line day in
+      change-keeps (by_balance k line v) firm (balance-fits firm k line v (day, refl)) is
+
+  pub each-item : (day : ℕ) (firm : Firm) (it : Item) → P firm → P (after_item day firm it)
+  each-item day firm (item.Opening line) is = balance-keeps day firm kind.Opening line is
+  each-item day firm (item.Closing line) is = balance-keeps day firm kind.Closing line is
+  each-item day firm (item.OfMatter l) is = told-keeps l (line_on (of l.matter firm) l day) firm is
+  each-item day firm (item.OfFirm line) is =
+      let v = firm_line_on firm line day in
+      change-keeps (by_firm_line line v) firm (firm_line-fits firm line v (day, refl)) is
+  each-item day firm (item.Stray line) is = change-keeps (Unmatched line) firm tt is
+  each-item day firm (item.Unreadable number) is = is
+
+  asked-keeps : (o : Option Refusal) (m : ℕ) (a : Asked) (firm : Firm) → P firm → P (after_asked o m a firm)
+  asked-keeps None m a firm is = edit-keeps m (edit_on (of m firm) a) (last_after (of m firm).head (edit_on (of m firm) a) a.day) firm is
+  asked-keeps (Some r) m a firm is = is
+
+  each-kind : (day : ℕ) (firm : Firm) (k : Kind) → P firm → P (kind_step day firm k).firm
+  each-kind day firm (OfMatter m caller ask) is = asked-keeps (refusal (of m firm) (asked_on day caller ask)) m (asked_on day caller ask) firm is
+  each-kind day firm (OfItems refused items) is = items-keep P each-item day firm items is
+  each-kind day firm (OnlyTold text) is = is
+  each-kind day firm (NotRead n r) is = is
+
+  pub each-step : (day : ℕ) (firm : Firm) (h : Heard) → P firm → P (firm_step day firm h).firm
+  each-step day firm h is = each-kind day firm (kind_of h) is

@@ -1,7 +1,0 @@
-use Rattle.std.proofs.Common.{◌≡◌, take, fold}
-use Rattle.trust_figures.specs.Reconciling.{with_exception}
-use Rattle.trust_figures.proofs.reconciler.take_exceptions.Given as goal
-
--- what was taken so far
-abbrev pub invariant-loop-line : goal.invariant-loop-line
-invariant-loop-line l = l.sums ≡ fold with_exception l.fn.sums (take l.line-index l.lines)

@@ -1,0 +1,6 @@
+pub mod Lasts
+pub mod Lists
+pub mod Open
+pub mod Retained
+pub mod Tidy
+pub mod Trial

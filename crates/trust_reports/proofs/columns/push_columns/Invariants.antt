@@ -1,0 +1,10 @@
+use Rattle.std.proofs.Common.{◌≡◌, ◌++◌, take, flat_map}
+use Rattle.trust_reports.specs.Pieces.{row_text}
+use Rattle.trust_reports.proofs.columns.push_columns.Given as goal
+
+-- the text so far
+abbrev pub invariant-loop-label : goal.invariant-loop-label
+invariant-loop-label l = record {
+  before : l.page.before ≡ l.fn.page.before;
+  text : l.page.text ≡ l.fn.page.text ++ flat_map (row_text l.label_places l.figure_places) (take l.label-index l.rows);
+}

@@ -1,0 +1,10 @@
+use Rattle.std.proofs.Common.{◌≡◌, ◌++◌, take, flat_map}
+use Rattle.trust_reports.specs.Pieces.{further_piece}
+use Rattle.trust_reports.proofs.piece.push_fields.Given as goal
+
+-- the text so far
+abbrev pub invariant-loop-piece : goal.invariant-loop-piece
+invariant-loop-piece l = record {
+  before : l.page.before ≡ l.fn.page.before;
+  text : l.page.text ≡ l.fn.page.text ++ flat_map further_piece (take l.piece-index l.pieces);
+}

@@ -1,0 +1,10 @@
+use Rattle.std.proofs.Common.{◌≡◌, ◌++◌, take, flat_map}
+use Rattle.trust_reports.specs.TextsOfReconciliation.{listed_exception}
+use Rattle.trust_reports.proofs.reconciliation.push_exceptions.Given as goal
+
+-- the text so far
+abbrev pub invariant-loop-line : goal.invariant-loop-line
+invariant-loop-line l = record {
+  before : l.page.before ≡ l.fn.page.before;
+  text : l.page.text ≡ l.fn.page.text ++ flat_map listed_exception (take l.line-index l.lines);
+}

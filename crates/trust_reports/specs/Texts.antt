@@ -1,0 +1,67 @@
+-- How a line of a report stands: its fields, its places, and the texts of what it names.
+use Rattle.std.specs.Prelude.{ℕ, ◌-◌, List, [], ◌∷◌, ◌++◌, length, codes, map, replicate, flat_map, if◌then◌else◌, encode_utf8_all}
+use Rattle.std.specs.Char.{is_control}
+use Rattle.std.specs.Str.{chars}
+use Rattle.trust_values.specs.Texts.{day_text, entry_text, matter_text}
+use Rattle.firm_rows.specs.declared.movement.Owner.{Owner}
+use Rattle.firm_rows.specs.declared.movement.Owner.TheVariants as owner
+
+-- Places.
+
+-- a text at the left of so many places; a longer one is printed whole
+unfoldable pub left_in : ℕ → List ℕ → List ℕ
+left_in places text = text ++ replicate (places - length text) 32
+
+-- a text at the right of so many places; a longer one is printed whole
+unfoldable pub right_in : ℕ → List ℕ → List ℕ
+right_in places text = replicate (places - length text) 32 ++ text
+
+-- Lines, each with its end.
+
+-- a field behind another
+abbrev pub further : List ℕ → List ℕ
+further field = 32 ∷ field
+
+-- fields parted by one space
+abbrev pub line : List ℕ → List (List ℕ) → List ℕ
+line field fields = field ++ (flat_map further fields ++ 10 ∷ [])
+
+-- the line above a report: its name and its day
+unfoldable pub heading : List ℕ → ℕ → List ℕ
+heading name day = line name (day_text day ∷ [])
+
+-- a label at the left of its places, and directly behind it a figure at the right of its own
+abbrev pub column : ℕ → ℕ → List ℕ → List ℕ → List ℕ
+column label_places figure_places label figure =
+    left_in label_places label ++ (right_in figure_places figure ++ 10 ∷ [])
+
+-- Names.
+
+-- an entry of a matter: `M`, the matter's six digits, `-` and the entry's four
+abbrev pub reference_text : ℕ → ℕ → List ℕ
+reference_text matter entry = 77 ∷ (matter_text matter ++ 45 ∷ entry_text entry)
+
+-- whose money was moved
+abbrev pub owner_text : Owner → List ℕ
+owner_text (owner.Matter matter entry) = reference_text matter entry
+owner_text owner.Firm = codes "FIRM"
+
+-- The bank's words.
+
+-- a dash for nothing
+abbrev pub or_dash : List ℕ → List ℕ
+or_dash [] = codes "-"
+or_dash (b ∷ bs) = b ∷ bs
+
+-- a space for a control character, U+0000 to U+001F and U+007F to U+009F
+abbrev pub shown : ℕ → ℕ
+shown c = if is_control c then 32 else c
+
+-- a text as it is shown, each character by itself
+abbrev pub shown_text : List ℕ → List ℕ
+shown_text text = encode_utf8_all (map shown (chars text))
+
+-- a dash for no words
+abbrev pub words_shown : List ℕ → List ℕ
+words_shown [] = codes "-"
+words_shown (b ∷ bs) = shown_text (b ∷ bs)

@@ -1,0 +1,61 @@
+-- A reconciliation as it is printed: ten figures as of a day, and the lists beside them.
+use Rattle.std.specs.Prelude.{ℕ, neg_ℤ, List, [], ◌∷◌, ◌++◌, codes, flat_map}
+use Rattle.trust_values.specs.Texts.{day_text, signed_text}
+use Rattle.trust_base.specs.declared.line.Line.{Line}
+use Rattle.trust_figures.specs.declared.doubles.Issued.{Issued}
+use Rattle.trust_figures.specs.declared.lister.EntryLine.{EntryLine}
+use Rattle.trust_figures.specs.declared.lister.ReconciliationLists.{ReconciliationLists}
+use Rattle.trust_figures.specs.declared.openings.OpeningLine.{OpeningLine}
+use Rattle.trust_figures.specs.declared.reconciler.Figures.{Figures}
+use Rattle.trust_reports.specs.Texts.{heading, line, reference_text}
+use Rattle.trust_reports.specs.TextsOfLists.{exception_line, figure_line}
+
+-- what the bank has, with what is on its way
+unfoldable pub bank_figures : Figures → List ℕ
+bank_figures f =
+    figure_line (codes "CLOSING") f.closing
+    ++ (figure_line (codes "IN TRANSIT") f.transit
+    ++ (figure_line (codes "OUTSTANDING") (neg_ℤ f.outstanding)
+    ++ figure_line (codes "ADJUSTED BANK") f.adjusted))
+
+-- what the books have, and what explains the difference
+unfoldable pub book_figures : Figures → List ℕ
+book_figures f =
+    figure_line (codes "JOURNAL") f.journal
+    ++ (figure_line (codes "LEDGERS") f.ledgers
+    ++ (figure_line (codes "DIFFERENCE") f.difference
+    ++ (figure_line (codes "EXCEPTIONS") f.exceptions
+    ++ (figure_line (codes "EARLY") f.early
+    ++ figure_line (codes "GAP") f.gap))))
+
+-- an entry at a day, with its signed amount
+abbrev pub entry_line : List ℕ → EntryLine → List ℕ
+entry_line word l = line word (reference_text l.matter l.entry ∷ day_text l.day ∷ signed_text l.amount ∷ [])
+
+abbrev pub listed_exception : Line → List ℕ
+listed_exception l = codes "EXCEPTION " ++ exception_line l
+
+-- a payment whose instrument another has
+abbrev pub double_line : Issued → List ℕ
+double_line l =
+    line (codes "DOUBLE")
+    (reference_text l.matter l.entry ∷ day_text l.day ∷ signed_text l.amount ∷ l.instrument ∷ [])
+
+-- an opening that differs from the closing before it
+abbrev pub opening_line : OpeningLine → List ℕ
+opening_line l =
+    line (codes "OPENING")
+    (day_text l.day ∷ signed_text l.amount ∷ codes "AFTER" ∷ day_text l.after ∷ signed_text l.closing ∷ [])
+
+-- by matter and entry, then exceptions in their order, doubles by instrument, openings by day
+abbrev pub reconciliation_text : ℕ → Figures → ReconciliationLists → List Issued → List OpeningLine → List ℕ
+reconciliation_text p f lists doubles openings =
+    heading (codes "RECONCILIATION") p
+    ++ (bank_figures f
+    ++ (book_figures f
+    ++ (flat_map (entry_line (codes "TRANSIT")) lists.transit.items
+    ++ (flat_map (entry_line (codes "OUT")) lists.out.items
+    ++ (flat_map listed_exception lists.exceptions.items
+    ++ (flat_map (entry_line (codes "EARLY")) lists.early.items
+    ++ (flat_map double_line doubles
+    ++ flat_map opening_line openings)))))))

@@ -1,0 +1,157 @@
+// The ledger card.
+
+ghost use Rattle.std.specs.Prelude.{◌≡◌, [], ◌∷◌, ◌++◌, OnOk, OnErr, codes, flat_map};
+ghost use Rattle.std.specs.Option.{option_copied};
+ghost use Rattle.matter_rows.specs.Rows.{closed_on as closed_in};
+ghost use Rattle.matter_parts.specs.Parts.{AreSmall};
+ghost use Rattle.trust_reports.specs.Texts.{line};
+ghost use Rattle.trust_values.specs.Texts.{matter_text};
+ghost use Rattle.trust_reports.specs.Pieces.{text_of};
+ghost use Rattle.trust_reports.specs.TextsOfLedgers.{client_text, day_or_dash, kept_balances, kept_line, ledger_card, ledger_heading, opened_on as opened_in};
+
+use crate::card_entries::push_kept;
+use crate::columns::push_columns;
+use crate::page::Page;
+use crate::piece::{Piece, push_line};
+use crate::sum::Sum;
+use std::alloc::AllocError;
+use trust_base::{Day, MatterNo};
+use trust_matter::{Figures, Head, Holder, Kept, Matter};
+
+fn client(head: Option<&Head>) -> Piece<'_>
+    ensures { text_of result ≡ client_text (option_copied head.entry) }
+{
+    match head {
+        Some(head) => match &head.holder {
+            Holder::Client(client) => Piece::Label(client),
+            Holder::Purged(_) => Piece::Word("-"),
+        },
+        None => Piece::Word("-"),
+    }
+}
+
+fn day_or_dash(day: Option<Day>) -> Piece<'static>
+    ensures { text_of result ≡ day_or_dash day }
+{
+    match day {
+        Some(day) => Piece::Day(day),
+        None => Piece::Word("-"),
+    }
+}
+
+fn opened_on(head: Option<&Head>) -> Option<Day>
+    ensures { result ≡ opened_in (option_copied head.entry) }
+{
+    match head {
+        Some(head) => Some(head.opened),
+        None => None,
+    }
+}
+
+fn closed_on(head: Option<&Head>) -> Option<Day>
+    ensures { result ≡ closed_in (option_copied head.entry) }
+{
+    match head {
+        Some(head) => head.closed,
+        None => None,
+    }
+}
+
+fn push_client(page: &mut Page, number: MatterNo, head: Option<&Head>) -> Result<(), AllocError>
+    ensures before { page.new.before ≡ page.old.before }
+    ensures text { OnOk result (page.new.text ≡ page.old.text
+        ++ line (codes "LEDGER") (matter_text number ∷ client_text (option_copied head.entry) ∷ [])) }
+{
+    let client = client(head);
+    push_line(
+        page,
+        &Piece::Word("LEDGER"),
+        &[Piece::Matter(number), client],
+    )
+}
+
+fn push_days(page: &mut Page, head: Option<&Head>) -> Result<(), AllocError>
+    ensures before { page.new.before ≡ page.old.before }
+    ensures text { OnOk result (page.new.text ≡ page.old.text
+        ++ line (codes "OPENED")
+        (day_or_dash (opened_in (option_copied head.entry)) ∷ codes "CLOSED"
+        ∷ day_or_dash (closed_in (option_copied head.entry)) ∷ [])) }
+{
+    let opened = day_or_dash(opened_on(head));
+    let closed = day_or_dash(closed_on(head));
+    push_line(
+        page,
+        &Piece::Word("OPENED"),
+        &[opened, Piece::Word("CLOSED"), closed],
+    )
+}
+
+fn push_heading(page: &mut Page, number: MatterNo, head: Option<&Head>) -> Result<(), AllocError>
+    ensures before { page.new.before ≡ page.old.before }
+    ensures text { OnOk result (page.new.text ≡ page.old.text ++ ledger_heading number (option_copied head.entry)) }
+{
+    push_client(page, number, head)?;
+    push_days(page, head)
+}
+
+fn push_all_kept(page: &mut Page, kept: &[Kept]) -> Result<(), AllocError>
+    ensures before { page.new.before ≡ page.old.before }
+    ensures text { OnOk result (page.new.text ≡ page.old.text ++ flat_map kept_line kept.now) }
+{
+    for one in kept {
+        push_kept(page, one)?;
+    }
+    Ok(())
+}
+
+fn push_balances(page: &mut Page, figures: &Figures) -> Result<(), AllocError>
+    requires { AreSmall figures.now }
+    ensures before { page.new.before ≡ page.old.before }
+    ensures text { OnOk result (page.new.text ≡ page.old.text ++ kept_balances figures.now) }
+{
+    let available = figures.available as i128;
+    let held = figures.held as i128;
+    let fees = figures.fees as i128;
+    let claims = figures.claims as i128;
+    let disputed = figures.disputed as i128;
+    push_columns(
+        page,
+        10,
+        18,
+        &[
+            ("AVAILABLE", Sum::Of(available)),
+            ("HELD", Sum::Of(held)),
+            ("FEES", Sum::Of(fees)),
+            ("CLAIMS", Sum::Of(claims)),
+            ("DISPUTED", Sum::Of(disputed)),
+            ("TOTAL", Sum::Of(available + disputed + fees + claims)),
+        ],
+    )
+}
+
+fn push_card(page: &mut Page, number: MatterNo, matter: &Matter) -> Result<(), AllocError>
+    ensures before { page.new.before ≡ page.old.before }
+    ensures text { OnOk result (page.new.text ≡ page.old.text ++ ledger_card number matter.now) }
+{
+    let figures = matter.figures();
+    push_heading(page, number, matter.head())?;
+    push_all_kept(page, matter.kept())?;
+    push_balances(page, &figures)
+}
+
+/// Appends the ledger card of a matter, the full accounting that a client may ask for (ABA Model Rule 1.15(d)): its
+/// number and client, the days of its opening and its close, each entry that is kept as it stands, and the six balances
+/// in cents, labels in 10 places and amounts at the right of 18. Of a matter that was never opened, or was purged, a
+/// dash stands for the client, and one for a day that there is not. The card is whole where the matter keeps all its
+/// entries.
+///
+/// The only error is want of memory; the vector is then as before.
+pub fn ledger_card(number: MatterNo, matter: &Matter, out: &mut Vec<u8>) -> Result<(), AllocError>
+    ensures ok { OnOk result (out.new.items ≡ out.old.items ++ ledger_card number matter.now) }
+    ensures err { OnErr result (out.new.items ≡ out.old.items) }
+{
+    let mut page = Page::behind(out);
+    let written = push_card(&mut page, number, matter);
+    *out = page.ended(written.is_ok());
+    written
+}

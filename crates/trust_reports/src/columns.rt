@@ -1,0 +1,61 @@
+// Lines of a label and a figure, each in its places.
+
+ghost use Rattle.std.specs.Prelude.{◌≡◌, ◌++◌, OnOk, flat_map};
+ghost use Rattle.trust_reports.specs.Texts.{column, left_in, right_in};
+ghost use Rattle.trust_reports.specs.Pieces.{row_text, sum_text};
+
+use crate::page::Page;
+use crate::sum::Sum;
+use std::alloc::AllocError;
+
+#[tactic(auto, unfolding(crate::specs::Texts::left_in))]
+fn push_left(page: &mut Page, places: usize, text: &[u8]) -> Result<(), AllocError>
+    ensures before { page.new.before ≡ page.old.before }
+    ensures text { OnOk result (page.new.text ≡ page.old.text ++ left_in places text.now) }
+{
+    page.push(text)?;
+    page.push_spaces(places.saturating_sub(text.len()))
+}
+
+#[tactic(auto, unfolding(crate::specs::Texts::right_in))]
+fn push_right(page: &mut Page, places: usize, text: &[u8]) -> Result<(), AllocError>
+    ensures before { page.new.before ≡ page.old.before }
+    ensures text { OnOk result (page.new.text ≡ page.old.text ++ right_in places text.now) }
+{
+    page.push_spaces(places.saturating_sub(text.len()))?;
+    page.push(text)
+}
+
+/// Appends a line: a label at the left of its places, a figure at the right of its own.
+pub(crate) fn push_column(
+    page: &mut Page,
+    label_places: usize,
+    figure_places: usize,
+    label: &[u8],
+    figure: Sum,
+) -> Result<(), AllocError>
+    ensures before { page.new.before ≡ page.old.before }
+    ensures text { OnOk result (page.new.text ≡ page.old.text
+        ++ column label_places figure_places label.now (sum_text figure)) }
+{
+    push_left(page, label_places, label)?;
+    push_right(page, figure_places, figure.text().as_slice())?;
+    page.end_line()
+}
+
+/// Appends a line for each label and its figure.
+pub(crate) fn push_columns(
+    page: &mut Page,
+    label_places: usize,
+    figure_places: usize,
+    rows: &[(&str, Sum)],
+) -> Result<(), AllocError>
+    ensures before { page.new.before ≡ page.old.before }
+    ensures text { OnOk result (page.new.text ≡ page.old.text
+        ++ flat_map (row_text label_places figure_places) rows.now) }
+{
+    for (label, figure) in rows {
+        push_column(page, label_places, figure_places, label.as_bytes(), *figure)?;
+    }
+    Ok(())
+}

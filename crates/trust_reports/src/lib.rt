@@ -1,0 +1,22 @@
+//! The texts of a firm's reports and of a client's ledger card, byte for byte.
+#![tactic(auto)]
+
+mod card;
+mod card_entries;
+mod columns;
+mod exceptions;
+mod journal;
+pub mod laws;
+mod page;
+mod piece;
+mod reconciliation;
+mod retention;
+mod sum;
+mod trial;
+
+pub use card::ledger_card;
+pub use exceptions::exceptions_text;
+pub use journal::journal_text;
+pub use reconciliation::reconciliation_text;
+pub use retention::retention_text;
+pub use trial::trial_text;

@@ -1,0 +1,259 @@
+// The pieces of a line.
+
+ghost use Rattle.std.specs.Prelude.{◌≡◌, [], ◌∷◌, ◌++◌, OnOk, flat_map, encode_utf8};
+ghost use Rattle.trust_values.specs.Texts.{amount_text, day_text, matter_text, signed_text};
+ghost use Rattle.trust_reports.specs.Texts.{further, heading, or_dash, owner_text, reference_text, shown, shown_text, words_shown};
+ghost use Rattle.trust_reports.specs.Pieces.{further_piece, text_of};
+
+use crate::page::Page;
+use crate::sum::Sum;
+use std::alloc::AllocError;
+use trust_base::{
+    BankAmount, BankText, Cents, CentsOrZero, CivilDay, Day, EntryNo, Label, LineText, MatterNo,
+};
+use trust_firm::Owner;
+use trust_values::day_bytes;
+
+/// A piece of a line.
+#[derive(Clone, Copy)]
+pub(crate) enum Piece<'a> {
+    /// Words of the report's own.
+    Word(&'a str),
+    Label(&'a Label),
+    /// The bank's reference as it is.
+    BankRef(&'a BankText),
+    /// A reference, or `-` for an empty one.
+    OrDash(&'a BankText),
+    /// The bank's words, each control character as a space, or `-` for none.
+    Words(&'a LineText),
+    Day(Day),
+    /// A day that may lie past 2199.
+    LastDay(CivilDay),
+    Amount(Cents),
+    Part(CentsOrZero),
+    /// What is left of an entry, in cents.
+    Left(u64),
+    /// A sum in cents.
+    Sum(i128),
+    /// What a bank's line moved, or a balance.
+    Bank(BankAmount),
+    Matter(MatterNo),
+    Entry(EntryNo),
+    /// An entry of a matter.
+    Reference(MatterNo, EntryNo),
+    Owner(Owner),
+}
+
+/// The six digits of a matter's number.
+pub(crate) fn matter_digits(matter: MatterNo) -> [u8; 6]
+    ensures { result ≡ matter_text matter }
+{
+    let n = matter.get();
+    [
+        b'0' + (n / 100_000 % 10) as u8,
+        b'0' + (n / 10_000 % 10) as u8,
+        b'0' + (n / 1_000 % 10) as u8,
+        b'0' + (n / 100 % 10) as u8,
+        b'0' + (n / 10 % 10) as u8,
+        b'0' + (n % 10) as u8,
+    ]
+}
+
+fn push_matter(page: &mut Page, matter: MatterNo) -> Result<(), AllocError>
+    ensures before { page.new.before ≡ page.old.before }
+    ensures text { OnOk result (page.new.text ≡ page.old.text ++ matter_text matter) }
+{
+    page.push(&matter_digits(matter))
+}
+
+fn push_reference(page: &mut Page, matter: MatterNo, entry: EntryNo) -> Result<(), AllocError>
+    ensures before { page.new.before ≡ page.old.before }
+    ensures text { OnOk result (page.new.text ≡ page.old.text ++ reference_text matter entry) }
+{
+    page.push(b"M")?;
+    push_matter(page, matter)?;
+    page.push(b"-")?;
+    page.push(&entry.digits())
+}
+
+fn push_owner(page: &mut Page, owner: Owner) -> Result<(), AllocError>
+    ensures before { page.new.before ≡ page.old.before }
+    ensures text { OnOk result (page.new.text ≡ page.old.text ++ owner_text owner) }
+{
+    match owner {
+        Owner::Matter { matter, entry } => push_reference(page, matter, entry),
+        Owner::Firm => page.push(b"FIRM"),
+    }
+}
+
+fn push_or_dash(page: &mut Page, text: &[u8]) -> Result<(), AllocError>
+    ensures before { page.new.before ≡ page.old.before }
+    ensures text { OnOk result (page.new.text ≡ page.old.text ++ or_dash text.now) }
+{
+    if text.is_empty() {
+        return page.push(b"-");
+    }
+    page.push(text)
+}
+
+// Appends a character, or a space for a control character.
+fn push_shown(page: &mut Page, character: char) -> Result<(), AllocError>
+    ensures before { page.new.before ≡ page.old.before }
+    ensures text { OnOk result (page.new.text ≡ page.old.text ++ encode_utf8 (shown character)) }
+{
+    if character.is_control() {
+        return page.push(b" ");
+    }
+    let mut buffer = [0; 4];
+    page.push(character.encode_utf8(&mut buffer).as_bytes())
+}
+
+fn push_shown_text(page: &mut Page, text: &str) -> Result<(), AllocError>
+    ensures before { page.new.before ≡ page.old.before }
+    ensures text { OnOk result (page.new.text ≡ page.old.text ++ shown_text text.now) }
+{
+    for character in text.chars() {
+        push_shown(page, character)?;
+    }
+    Ok(())
+}
+
+fn push_words(page: &mut Page, words: &LineText) -> Result<(), AllocError>
+    ensures before { page.new.before ≡ page.old.before }
+    ensures text { OnOk result (page.new.text ≡ page.old.text ++ words_shown words.now) }
+{
+    let words = words.as_slice();
+    if words.is_empty() {
+        return page.push(b"-");
+    }
+    let Ok(text) = str::from_utf8(words) else {
+        unreachable!()
+    };
+    push_shown_text(page, text)
+}
+
+fn push_day(page: &mut Page, day: Day) -> Result<(), AllocError>
+    ensures before { page.new.before ≡ page.old.before }
+    ensures text { OnOk result (page.new.text ≡ page.old.text ++ day_text day) }
+{
+    page.push(&day_bytes(day.get()))
+}
+
+fn push_last_day(page: &mut Page, day: CivilDay) -> Result<(), AllocError>
+    ensures before { page.new.before ≡ page.old.before }
+    ensures text { OnOk result (page.new.text ≡ page.old.text ++ day_text day) }
+{
+    page.push(&day_bytes(day.get()))
+}
+
+fn push_cents(page: &mut Page, cents: u64) -> Result<(), AllocError>
+    ensures before { page.new.before ≡ page.old.before }
+    ensures text { OnOk result (page.new.text ≡ page.old.text ++ amount_text cents) }
+{
+    let text = Sum::Of(cents as i128).text();
+    page.push(text.as_slice())
+}
+
+fn push_sum(page: &mut Page, cents: i128) -> Result<(), AllocError>
+    ensures before { page.new.before ≡ page.old.before }
+    ensures text { OnOk result (page.new.text ≡ page.old.text ++ signed_text cents) }
+{
+    let text = Sum::Of(cents).text();
+    page.push(text.as_slice())
+}
+
+fn push_bank(page: &mut Page, amount: BankAmount) -> Result<(), AllocError>
+    ensures before { page.new.before ≡ page.old.before }
+    ensures text { OnOk result (page.new.text ≡ page.old.text ++ signed_text amount) }
+{
+    push_sum(page, amount.get() as i128)
+}
+
+fn push(page: &mut Page, piece: &Piece<'_>) -> Result<(), AllocError>
+    ensures before { page.new.before ≡ page.old.before }
+    ensures text { OnOk result (page.new.text ≡ page.old.text ++ text_of piece.now) }
+{
+    match piece {
+        Piece::Word(word) => page.push(word.as_bytes()),
+        Piece::Label(label) => page.push(label.as_slice()),
+        Piece::BankRef(reference) => page.push(reference.as_slice()),
+        Piece::OrDash(reference) => push_or_dash(page, reference.as_slice()),
+        Piece::Words(words) => push_words(page, words),
+        Piece::Day(day) => push_day(page, *day),
+        Piece::LastDay(day) => push_last_day(page, *day),
+        Piece::Amount(amount) => push_cents(page, amount.get()),
+        Piece::Part(part) => push_cents(page, part.get()),
+        Piece::Left(cents) => push_cents(page, *cents),
+        Piece::Sum(cents) => push_sum(page, *cents),
+        Piece::Bank(amount) => push_bank(page, *amount),
+        Piece::Matter(matter) => push_matter(page, *matter),
+        Piece::Entry(entry) => page.push(&entry.digits()),
+        Piece::Reference(matter, entry) => push_reference(page, *matter, *entry),
+        Piece::Owner(owner) => push_owner(page, *owner),
+    }
+}
+
+fn push_further(page: &mut Page, piece: &Piece<'_>) -> Result<(), AllocError>
+    ensures before { page.new.before ≡ page.old.before }
+    ensures text { OnOk result (page.new.text ≡ page.old.text ++ further_piece piece.now) }
+{
+    page.push(b" ")?;
+    push(page, piece)
+}
+
+/// Appends a word behind another field.
+pub(crate) fn push_word(page: &mut Page, word: &str) -> Result<(), AllocError>
+    ensures before { page.new.before ≡ page.old.before }
+    ensures text { OnOk result (page.new.text ≡ page.old.text ++ further word.now) }
+{
+    page.push(b" ")?;
+    page.push(word.as_bytes())
+}
+
+/// Appends fields behind others.
+pub(crate) fn push_fields(page: &mut Page, pieces: &[Piece<'_>]) -> Result<(), AllocError>
+    ensures before { page.new.before ≡ page.old.before }
+    ensures text { OnOk result (page.new.text ≡ page.old.text ++ flat_map further_piece pieces.now) }
+{
+    for piece in pieces {
+        push_further(page, piece)?;
+    }
+    Ok(())
+}
+
+/// Appends a field and others behind it, and leaves the line open.
+pub(crate) fn push_open_line(
+    page: &mut Page,
+    first: &Piece<'_>,
+    others: &[Piece<'_>],
+) -> Result<(), AllocError>
+    ensures before { page.new.before ≡ page.old.before }
+    ensures text { OnOk result (page.new.text ≡ page.old.text
+        ++ (text_of first.now ++ flat_map further_piece others.now)) }
+{
+    push(page, first)?;
+    push_fields(page, others)
+}
+
+/// Appends a line of fields parted by one space.
+pub(crate) fn push_line(
+    page: &mut Page,
+    first: &Piece<'_>,
+    others: &[Piece<'_>],
+) -> Result<(), AllocError>
+    ensures before { page.new.before ≡ page.old.before }
+    ensures text { OnOk result (page.new.text ≡ page.old.text
+        ++ (text_of first.now ++ (flat_map further_piece others.now ++ 10 ∷ []))) }
+{
+    push_open_line(page, first, others)?;
+    page.end_line()
+}
+
+/// Appends the line above a report: its name and its day.
+#[tactic(auto, unfolding(crate::specs::Texts::heading))]
+pub(crate) fn push_heading(page: &mut Page, name: &str, day: Day) -> Result<(), AllocError>
+    ensures before { page.new.before ≡ page.old.before }
+    ensures text { OnOk result (page.new.text ≡ page.old.text ++ heading name.now day) }
+{
+    push_line(page, &Piece::Word(name), &[Piece::Day(day)])
+}

@@ -1,0 +1,218 @@
+// The reconciliation.
+
+ghost use Rattle.std.specs.Prelude.{◌≡◌, ◌++◌, OnOk, OnErr, codes, flat_map};
+ghost use Rattle.trust_reports.specs.Texts.{heading};
+ghost use Rattle.trust_reports.specs.TextsOfReconciliation.{bank_figures, book_figures, double_line, entry_line, listed_exception, opening_line, reconciliation_text};
+
+use crate::columns::push_columns;
+use crate::exceptions::push_exception;
+use crate::page::Page;
+use crate::piece::{Piece, push_heading, push_line};
+use crate::sum::Sum;
+use std::alloc::AllocError;
+use trust_base::{Day, Line};
+use trust_figures::{EntryLine, Figures, Issued, OpeningLine, ReconciliationLists};
+
+#[tactic(auto, unfolding(crate::specs::TextsOfReconciliation::bank_figures))]
+fn push_bank_figures(page: &mut Page, figures: &Figures) -> Result<(), AllocError>
+    ensures before { page.new.before ≡ page.old.before }
+    ensures text { OnOk result (page.new.text ≡ page.old.text ++ bank_figures figures.now) }
+{
+    let closing = figures.closing as i128;
+    push_columns(
+        page,
+        14,
+        24,
+        &[
+            ("CLOSING", Sum::Of(closing)),
+            ("IN TRANSIT", Sum::Of(figures.transit)),
+            ("OUTSTANDING", Sum::NegativeOf(figures.outstanding)),
+            ("ADJUSTED BANK", Sum::Of(figures.adjusted)),
+        ],
+    )
+}
+
+#[tactic(auto, unfolding(crate::specs::TextsOfReconciliation::book_figures))]
+fn push_book_figures(page: &mut Page, figures: &Figures) -> Result<(), AllocError>
+    ensures before { page.new.before ≡ page.old.before }
+    ensures text { OnOk result (page.new.text ≡ page.old.text ++ book_figures figures.now) }
+{
+    push_columns(
+        page,
+        14,
+        24,
+        &[
+            ("JOURNAL", Sum::Of(figures.journal)),
+            ("LEDGERS", Sum::Of(figures.ledgers)),
+            ("DIFFERENCE", Sum::Of(figures.difference)),
+            ("EXCEPTIONS", Sum::Of(figures.exceptions)),
+            ("EARLY", Sum::Of(figures.early)),
+            ("GAP", Sum::Of(figures.gap)),
+        ],
+    )
+}
+
+fn push_entry(page: &mut Page, word: &str, line: &EntryLine) -> Result<(), AllocError>
+    ensures before { page.new.before ≡ page.old.before }
+    ensures text { OnOk result (page.new.text ≡ page.old.text ++ entry_line word.now line.now) }
+{
+    let amount = line.amount as i128;
+    push_line(
+        page,
+        &Piece::Word(word),
+        &[
+            Piece::Reference(line.matter, line.entry),
+            Piece::Day(line.day),
+            Piece::Sum(amount),
+        ],
+    )
+}
+
+fn push_entries(page: &mut Page, word: &str, lines: &[EntryLine]) -> Result<(), AllocError>
+    ensures before { page.new.before ≡ page.old.before }
+    ensures text { OnOk result (page.new.text ≡ page.old.text ++ flat_map (entry_line word.now) lines.now) }
+{
+    for line in lines {
+        push_entry(page, word, line)?;
+    }
+    Ok(())
+}
+
+fn push_listed(page: &mut Page, line: &Line) -> Result<(), AllocError>
+    ensures before { page.new.before ≡ page.old.before }
+    ensures text { OnOk result (page.new.text ≡ page.old.text ++ listed_exception line.now) }
+{
+    page.push(b"EXCEPTION ")?;
+    push_exception(page, line)
+}
+
+fn push_exceptions(page: &mut Page, lines: &[Line]) -> Result<(), AllocError>
+    ensures before { page.new.before ≡ page.old.before }
+    ensures text { OnOk result (page.new.text ≡ page.old.text ++ flat_map listed_exception lines.now) }
+{
+    for line in lines {
+        push_listed(page, line)?;
+    }
+    Ok(())
+}
+
+fn push_double(page: &mut Page, line: &Issued) -> Result<(), AllocError>
+    ensures before { page.new.before ≡ page.old.before }
+    ensures text { OnOk result (page.new.text ≡ page.old.text ++ double_line line.now) }
+{
+    let amount = line.amount as i128;
+    push_line(
+        page,
+        &Piece::Word("DOUBLE"),
+        &[
+            Piece::Reference(line.matter, line.entry),
+            Piece::Day(line.day),
+            Piece::Sum(amount),
+            Piece::Label(&line.instrument),
+        ],
+    )
+}
+
+fn push_doubles(page: &mut Page, lines: &[Issued]) -> Result<(), AllocError>
+    ensures before { page.new.before ≡ page.old.before }
+    ensures text { OnOk result (page.new.text ≡ page.old.text ++ flat_map double_line lines.now) }
+{
+    for line in lines {
+        push_double(page, line)?;
+    }
+    Ok(())
+}
+
+fn push_opening(page: &mut Page, line: &OpeningLine) -> Result<(), AllocError>
+    ensures before { page.new.before ≡ page.old.before }
+    ensures text { OnOk result (page.new.text ≡ page.old.text ++ opening_line line.now) }
+{
+    push_line(
+        page,
+        &Piece::Word("OPENING"),
+        &[
+            Piece::Day(line.day),
+            Piece::Bank(line.amount),
+            Piece::Word("AFTER"),
+            Piece::Day(line.after),
+            Piece::Bank(line.closing),
+        ],
+    )
+}
+
+fn push_openings(page: &mut Page, lines: &[OpeningLine]) -> Result<(), AllocError>
+    ensures before { page.new.before ≡ page.old.before }
+    ensures text { OnOk result (page.new.text ≡ page.old.text ++ flat_map opening_line lines.now) }
+{
+    for line in lines {
+        push_opening(page, line)?;
+    }
+    Ok(())
+}
+
+fn push_figures(page: &mut Page, p: Day, figures: &Figures) -> Result<(), AllocError>
+    ensures before { page.new.before ≡ page.old.before }
+    ensures text { OnOk result (page.new.text ≡ page.old.text ++ (heading (codes "RECONCILIATION") p
+        ++ (bank_figures figures.now ++ book_figures figures.now))) }
+{
+    push_heading(page, "RECONCILIATION", p)?;
+    push_bank_figures(page, figures)?;
+    push_book_figures(page, figures)?;
+    Ok(())
+}
+
+fn push_lists(page: &mut Page, lists: &ReconciliationLists) -> Result<(), AllocError>
+    ensures before { page.new.before ≡ page.old.before }
+    ensures text { OnOk result (page.new.text ≡ page.old.text
+        ++ (flat_map (entry_line (codes "TRANSIT")) lists.now.transit.items
+        ++ (flat_map (entry_line (codes "OUT")) lists.now.out.items
+        ++ (flat_map listed_exception lists.now.exceptions.items
+        ++ flat_map (entry_line (codes "EARLY")) lists.now.early.items)))) }
+{
+    push_entries(page, "TRANSIT", &lists.transit)?;
+    push_entries(page, "OUT", &lists.out)?;
+    push_exceptions(page, &lists.exceptions)?;
+    push_entries(page, "EARLY", &lists.early)
+}
+
+fn push_reconciliation(
+    page: &mut Page,
+    p: Day,
+    figures: &Figures,
+    lists: &ReconciliationLists,
+    doubles: &[Issued],
+    openings: &[OpeningLine],
+) -> Result<(), AllocError>
+    ensures before { page.new.before ≡ page.old.before }
+    ensures text { OnOk result (page.new.text ≡ page.old.text
+        ++ reconciliation_text p figures.now lists.now doubles.now openings.now) }
+{
+    push_figures(page, p, figures)?;
+    push_lists(page, lists)?;
+    push_doubles(page, doubles)?;
+    push_openings(page, openings)
+}
+
+/// Appends the three-way reconciliation as of a day that the ABA Model Rules for Client Trust Account Records ask for:
+/// the ten figures in cents, labels in 14 places and amounts at the right of 24, OUTSTANDING as a negative; then the
+/// deposits in transit, the payments outstanding, the exceptions, what came early, the payments whose instrument
+/// another has, and the openings that differ from the closing before them.
+///
+/// The only error is want of memory; the vector is then as before.
+pub fn reconciliation_text(
+    p: Day,
+    figures: &Figures,
+    lists: &ReconciliationLists,
+    doubles: &[Issued],
+    openings: &[OpeningLine],
+    out: &mut Vec<u8>,
+) -> Result<(), AllocError>
+    ensures ok { OnOk result (out.new.items ≡ out.old.items
+        ++ reconciliation_text p figures.now lists.now doubles.now openings.now) }
+    ensures err { OnErr result (out.new.items ≡ out.old.items) }
+{
+    let mut page = Page::behind(out);
+    let written = push_reconciliation(&mut page, p, figures, lists, doubles, openings);
+    *out = page.ended(written.is_ok());
+    written
+}

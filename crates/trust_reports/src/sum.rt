@@ -1,0 +1,59 @@
+// Sums of cents on the stack.
+
+ghost use Rattle.std.specs.Prelude.{◌≡◌, ◌≤◌, ◌+◌, ◌++◌, ◌∷◌, [], if◌then◌else◌};
+ghost use Rattle.arrayvec.specs.ArrayVec.{array_vec_len};
+ghost use Rattle.trust_values.specs.Texts.{amount_text};
+ghost use Rattle.trust_reports.specs.Pieces.{sum_text};
+
+use arrayvec::ArrayVec;
+use byte_streams::push_piece;
+use itoa::Buffer;
+
+/// A sum in cents, or the negative of one.
+#[derive(Clone, Copy)]
+pub(crate) enum Sum {
+    Of(i128),
+    NegativeOf(i128),
+}
+
+/// The text of a sum, at most 44 bytes, on the stack.
+pub(crate) type SumText = ArrayVec<u8, 44>;
+
+// Appends cents as dollars, a point and two digits.
+fn push_size(text: &mut SumText, cents: u128)
+    requires { array_vec_len text.old ≤ 1 }
+    ensures { text.new.items ≡ text.old.items ++ amount_text cents }
+{
+    let mut buffer = Buffer::new();
+    push_piece(text, buffer.format(cents / 100).as_bytes());
+    let end = [
+        b'.',
+        b'0' + (cents % 100 / 10) as u8,
+        b'0' + (cents % 100 % 10) as u8,
+    ];
+    push_piece(text, &end);
+}
+
+// The text of a size, behind a minus sign where it is that of a sum below zero.
+fn signed(below: bool, cents: u128) -> SumText
+    ensures { result.items ≡ (if below then 45 ∷ amount_text cents else amount_text cents) }
+{
+    let mut text = SumText::new();
+    if below {
+        push_piece(&mut text, b"-");
+    }
+    push_size(&mut text, cents);
+    text
+}
+
+impl Sum {
+    /// The text, `-` in front below zero. Takes no memory.
+    pub(crate) fn text(self) -> SumText
+        ensures { result.items ≡ sum_text self }
+    {
+        match self {
+            Sum::Of(cents) => signed(cents < 0, cents.unsigned_abs()),
+            Sum::NegativeOf(cents) => signed(cents > 0, cents.unsigned_abs()),
+        }
+    }
+}

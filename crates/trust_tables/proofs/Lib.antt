@@ -1,0 +1,12 @@
+pub mod Casts
+pub mod Together
+pub mod Calls
+pub mod Means
+pub mod Kept
+pub mod Writes
+pub mod CountedUp
+pub mod KindLemmas
+pub mod Tables
+pub mod Others
+pub mod ReadLemmas
+pub mod ScriptLemmas

@@ -1,0 +1,9 @@
+pub mod Texts
+pub mod Picking
+pub mod Rows
+pub mod Standing
+pub mod Given
+pub mod Performing
+pub mod Lists
+pub mod Script
+pub mod Reading
