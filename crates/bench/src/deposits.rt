@@ -27,13 +27,15 @@ fn asked_of(number: u32, ask: Ask) -> Result<Request> {
     })
 }
 
-fn opening(alloc: Global, number: u32) -> Result<Request> {
+/// The request that opens a matter.
+pub fn opening(alloc: Global, number: u32) -> Result<Request> {
     let client = label(alloc, "Ada Chen")?;
     let lawyer = PersonId::read(alloc, b"lee")?.context("a person")?;
     asked_of(number, Ask::OpenMatter(OpenAsk { client, lawyer }))
 }
 
-fn booking(alloc: Global, number: u32, entry: u16) -> Result<Request> {
+/// The request that books a deposit to a matter, as the entry of this number.
+pub fn booking(alloc: Global, number: u32, entry: u16) -> Result<Request> {
     asked_of(
         number,
         Ask::Deposit(DepositAsk {

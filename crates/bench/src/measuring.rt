@@ -26,7 +26,8 @@ impl Measured {
     }
 }
 
-fn is_made(reply: &Reply) -> bool {
+/// The request was answered, and something was made.
+pub fn is_made(reply: &Reply) -> bool {
     reply.status == 201
 }
 

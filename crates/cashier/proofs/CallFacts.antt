@@ -20,7 +20,7 @@ book-as tells h = record {
   was_clean = h.was_clean;
   was_sure = h.was_sure;
   still_stands = h.still_stands;
-  cause = λ clean stands. tells _ _ (h.cause clean stands);
+  cause = λ sure stands. tells _ _ (h.cause sure stands);
 }
 
 -- what a call of the desk leaves, by what its answer counts
@@ -31,7 +31,7 @@ book-kept tells h = record {
   was_clean = h.was_clean;
   was_sure = h.was_sure;
   still_stands = h.still_stands;
-  cause = λ clean stands. tells _ _ (h.cause clean stands);
+  cause = λ sure stands. tells _ _ (h.cause sure stands);
 }
 
 -- one after another, where the first met no fault
@@ -42,5 +42,5 @@ book-then a b = record {
   was_clean = λ clean. a.was_clean (b.was_clean clean);
   was_sure = λ sure. a.was_sure (b.was_sure sure);
   still_stands = λ clean stands. b.still_stands clean (a.still_stands (b.was_clean clean) stands);
-  cause = λ clean stands. rw (a.cause (b.was_clean clean) stands) at (b.cause clean (a.still_stands (b.was_clean clean) stands));
+  cause = λ sure stands. rw (a.cause (b.was_sure sure) stands) at (b.cause sure (λ clean. a.still_stands clean (stands (a.was_clean clean))));
 }

@@ -1,6 +1,6 @@
 pub mod CallFacts
 pub mod IsolationFacts
-pub mod LineFacts
+pub mod ReportFacts
 pub mod SheetFacts
 pub mod StatementFacts
 pub mod StreamFacts

@@ -14,14 +14,13 @@ use Rattle.trust_base.specs.declared.refusal.Refusal.{Refusal}
 use Rattle.trust_base.specs.declared.refusal.Refusal.TheVariants.{BadField, Store, Memory}
 use Rattle.firm_rows.specs.Firm.{Firm}
 use Rattle.trust_desk.specs.Counts.{counted_body, counted_refusal}
-use Rattle.trust_desk.specs.FirmStep.{Steps, Stopped, firm_step}
-use Rattle.trust_desk.specs.Heard.{Asks, Heard, Unread}
+use Rattle.trust_desk.specs.FirmStep.{KindStopped, Steps, firm_step}
+use Rattle.trust_desk.specs.Heard.{Asks, Heard, Kind, NotRead, OfItems, OfMatter, OnlyTold, Unread, kind_of}
 use Rattle.trust_desk.specs.Replies.{is_fault_body, is_fault_reply, refused}
 use Rattle.trust_desk.specs.declared.requests.Body.{Body}
 use Rattle.trust_desk.specs.declared.requests.Body.TheVariants.{Json, Refused, Text}
 use Rattle.trust_desk.specs.declared.requests.Reply.{Reply}
 use Rattle.trust_desk.specs.declared.requests.Request.{Request}
-use Rattle.trust_desk.specs.declared.requests.Request.TheVariants.{Import, Matter}
 use Rattle.trust_desk.proofs.Steps.{nothing-done, steps-fault as steps-stopped}
 use Rattle.trust_matter.specs.declared.ask.Ask.{Ask}
 use Rattle.ask_fields.specs.Fields.{Reads}
@@ -101,26 +100,27 @@ heard-bad : (fields : List (List ℕ)) (f : Field) → asked_of fields ≡ Err f
 unfolding heard_of
 heard-bad fields f e = ap (λ (o : Result Request Field). heard_as o (matter_of (text_at fields 1))) e
 
--- what is heard is of one matter, or names one or none: no import
-abbrev IsNoImport : Heard → Type 0
-IsNoImport (Asks (Matter m caller a)) = ⊤
-IsNoImport (Asks (Import caller statement)) = ⊥
-IsNoImport (Unread named r) = ⊤
+-- it brings no items of a statement
+abbrev IsNoImport : Kind → Type 0
+IsNoImport (OfMatter m caller a) = ⊤
+IsNoImport (OfItems refused items) = ⊥
+IsNoImport (OnlyTold text) = ⊤
+IsNoImport (NotRead named r) = ⊤
 
 -- no record asks for an import
-by_cashier-none : (n : ℕ) (asked : Result Ask Field) (named : Option ℕ) → IsNoImport (heard_as (by_cashier n asked) named)
+by_cashier-none : (n : ℕ) (asked : Result Ask Field) (named : Option ℕ) → IsNoImport (kind_of (heard_as (by_cashier n asked) named))
 by_cashier-none n (Err f) named = tt
 by_cashier-none n (Ok a) named = tt
 
-of_matter-none : (read : Option ℕ) (asked : Result Ask Field) (named : Option ℕ) → IsNoImport (heard_as (of_matter read asked) named)
+of_matter-none : (read : Option ℕ) (asked : Result Ask Field) (named : Option ℕ) → IsNoImport (kind_of (heard_as (of_matter read asked) named))
 of_matter-none None asked named = tt
 of_matter-none (Some n) asked named = by_cashier-none n asked named
 
-of_verb-none : (verb : Option Verb) (fields : List (List ℕ)) (named : Option ℕ) → IsNoImport (heard_as (of_verb verb fields) named)
+of_verb-none : (verb : Option Verb) (fields : List (List ℕ)) (named : Option ℕ) → IsNoImport (kind_of (heard_as (of_verb verb fields) named))
 of_verb-none None fields named = tt
 of_verb-none (Some v) fields named = of_matter-none (matter_of (text_at fields 1)) (ask_of v fields) named
 
-record-none : (fields : List (List ℕ)) → IsNoImport (heard_of fields)
+record-none : (fields : List (List ℕ)) → IsNoImport (kind_of (heard_of fields))
 unfolding heard_of asked_of
 record-none fields = of_verb-none (verb_in fields) fields (matter_of (text_at fields 1))
 
@@ -132,14 +132,15 @@ refused-step day firm fields _ h = absurd h
 
 -- ---- what replies say
 
-stopped-is : (day : ℕ) (firm after : Firm) (h : Heard) → IsNoImport h → Stopped day firm h after → after ≡ firm
-stopped-is day firm after (Asks (Matter m caller a)) none s = s
-stopped-is day firm after (Asks (Import caller statement)) none s = absurd none
-stopped-is day firm after (Unread named r) none s = s
+stopped-is : (day : ℕ) (firm after : Firm) (k : Kind) → IsNoImport k → KindStopped day firm k after → after ≡ firm
+stopped-is day firm after (OfMatter m caller a) none s = s
+stopped-is day firm after (OfItems refused items) none s = absurd none
+stopped-is day firm after (OnlyTold text) none s = s
+stopped-is day firm after (NotRead named r) none s = s
 
 steps-fault : (day : ℕ) (firm after : Firm) (fields : List (List ℕ)) (reply : Reply) → is_fault_reply reply ≡ true → Steps day firm (heard_of fields) reply after
     → after ≡ firm
-steps-fault day firm after fields reply e steps = let stopped = rw e at steps in stopped-is day firm after (heard_of fields) (record-none fields) stopped.leaves
+steps-fault day firm after fields reply e steps = let stopped = rw e at steps in stopped-is day firm after (kind_of (heard_of fields)) (record-none fields) stopped.leaves
 
 steps-plain : (day : ℕ) (firm after : Firm) (h : Heard) (reply : Reply) → is_fault_reply reply ≡ false → Steps day firm h reply after
     → (reply ≡ (firm_step day firm h).reply) × (after ≡ (firm_step day firm h).firm)

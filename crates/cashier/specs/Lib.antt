@@ -1,7 +1,7 @@
 pub mod Calls
 pub mod Outcome
-pub mod Program
 pub mod Records
+pub mod Report
 pub mod Sheet
 pub mod Statement
 pub mod Stream

@@ -1,16 +1,18 @@
 -- How a run of the program ends for its caller: the exit status and the notice on standard error.
-use Rattle.std.specs.Prelude.{◌≡◌, ◌≢◌, ◌⊎◌, ℕ, List, [], Option, Some, None, IfSome, codes, ⊤}
+use Rattle.std.specs.Prelude.{◌≡◌, ◌≢◌, ◌⊎◌, ◌++◌, ℕ, List, [], Option, Some, None, IfSome, codes, ⊤}
 use Rattle.std.specs.Borrow.{Bor}
 use Rattle.std.specs.Io.KnownBytes.{Appends}
 use Rattle.clap.specs.Words.{Text}
 use Rattle.firm_rows.specs.Firm.{Firm, empty_firm}
 use Rattle.firm_rows.specs.FirmSound.{FirmSound}
-use Rattle.cashier.specs.Program.{Means, MeansNothing}
+use Rattle.command_line.specs.Program.{Means, MeansNothing}
+use Rattle.cashier.specs.Report.{PrintsReport}
 use Rattle.cashier.specs.Sheet.{Ends}
 use Rattle.cashier.specs.Statement.{StatementEnds}
 use Rattle.cashier.specs.Stream.{StreamEnds}
-use Rattle.cashier.specs.declared.command.Task.{Task}
-use Rattle.cashier.specs.declared.command.Task.TheVariants as task
+use Rattle.command_line.specs.declared.report_command.ReportCommand.{ReportCommand}
+use Rattle.command_line.specs.declared.command.Task.{Task}
+use Rattle.command_line.specs.declared.command.Task.TheVariants as task
 use Rattle.cashier.specs.declared.outcome.Outcome.{Outcome}
 use Rattle.cashier.specs.declared.outcome.Outcome.TheVariants as outcome
 use Rattle.std.specs.declared.io.ErrorKind.{ErrorKind}
@@ -35,7 +37,9 @@ exit_status outcome.MemoryFault = 3
 abbrev pub notice : Outcome → Option (List ℕ)
 notice outcome.Done = None
 notice outcome.Refused = None
-notice outcome.CommandLine = Some (codes "usage: cashier_cli --today DAY (sheet | import FILE | stream)")
+notice outcome.CommandLine =
+    Some (codes "usage: cashier_cli --today DAY (sheet | import FILE | stream | "
+    ++ codes "reconcile DAY | trial | journal | retention | ledger MATTER)")
 notice outcome.FileFault = Some (codes "file fault")
 notice outcome.StoreFault = Some (codes "store fault")
 notice outcome.MemoryFault = Some (codes "memory fault")
@@ -137,23 +141,32 @@ pub record RanStream (words : List Text) (input : Option (List ℕ)) (before aft
   pub means : Means words today task.Stream
   pub ends : IsServed today before input after old new told
 
+-- the words mean that a report is printed on a day, and that ended with that outcome
+pub record RanReport (words : List Text) (before after : Firm) (old new : Option (List ℕ)) (told : Outcome)
+    : Type 0 where
+  pub today : ℕ
+  pub command : ReportCommand
+  pub means : Means words today (task.Report command)
+  pub prints : PrintsReport today before command after old new told
+
 -- memory was refused before anything was run
 pub record RanNothing (before after : Firm) (old new : Option (List ℕ)) (told : Outcome) : Type 0 where
   pub outcome : told ≡ outcome.MemoryFault
   pub written : Appends old new []
   pub firm : after ≡ before
 
--- what became of the words, the sheet or the stream on standard input, the files of paths and the firm
+-- what became of the words, the sheet or the stream on standard input, the files of paths, a report and the firm
 abbrev pub Ran : List Text → Option (List ℕ) → (Text → Option (List ℕ)) → (Text → Option (Option ℕ) → Type 0)
     → Firm → Firm → Option (List ℕ) → Option (List ℕ) → Outcome → Type 0
 Ran words input known opens before after old new told =
     RanSheet words input before after old new told
     ⊎ (RanImport words known opens before after old new told
-    ⊎ (RanStream words input before after old new told ⊎ RanNothing before after old new told))
+    ⊎ (RanStream words input before after old new told
+    ⊎ (RanReport words before after old new told ⊎ RanNothing before after old new told)))
 
 -- the run of words over a book that begins without rows: it ended at the command line only where they mean nothing;
--- they mean what was begun; and, of any other end, what became of the sheet, the file or the stream, and the firm that
--- is left is sound
+-- they mean what was begun; and, of any other end, what became of the sheet, the file, the stream or the report, and
+-- the firm that is left is sound
 pub record HasRun (words : List Text) (input : Option (List ℕ)) (known : Text → Option (List ℕ))
     (opens : Text → Option (Option ℕ) → Type 0) (old new : Option (List ℕ)) (told : Outcome) : Type 0 where
   pub line : told ≡ outcome.CommandLine → MeansNothing words

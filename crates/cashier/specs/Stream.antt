@@ -5,6 +5,7 @@ use Rattle.firm_rows.specs.Firm.{Firm}
 use Rattle.trust_desk.specs.declared.requests.Reply.{Reply}
 use Rattle.trust_desk.specs.FirmStep.{IsUnstopped, RunsSoundly}
 use Rattle.trust_desk.specs.Isolation.{IsOwn}
+use Rattle.trust_desk.specs.NeverBelowZero.{CoveredRun}
 use Rattle.portal_messages.specs.declared.message.Message.{Message}
 use Rattle.portal_requests.specs.Requests.{heard_of}
 use Rattle.portal_http.specs.Served.{IsRead, IsTail, IsWritten}
@@ -26,3 +27,5 @@ pub record StreamEnds (day : ℕ) (before : Firm) (stream : Option (List ℕ)) (
   -- each matter is answered by its own machine, which leaves it its rows
   pub own : (m : ℕ) → IsUnstopped m (map heard_of messages) replies
       → IsOwn m day before (map heard_of messages) replies after
+  -- no ledger is below zero, before, in and after each message and each item of an import
+  pub covered : CoveredRun day before (map heard_of messages) replies after

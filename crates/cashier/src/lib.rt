@@ -1,8 +1,7 @@
-//! The cashier's program: a day sheet or a stream of messages from standard input, or a bank's statement from a file,
-//! to standard output.
+//! The cashier's program: a day sheet or a stream of messages from standard input, a bank's statement from a file, or
+//! a report, to standard output.
 #![tactic(auto)]
 
-mod command;
 mod fields;
 mod folder;
 pub mod laws;
@@ -12,6 +11,7 @@ mod record;
 mod record_asks;
 mod reply_kind;
 mod reply_line;
+mod report;
 mod sheet;
 mod statement;
 mod system;
@@ -19,6 +19,7 @@ mod system;
 pub use folder::{Folder, Opened};
 pub use outcome::{Outcome, exit_of};
 pub use program::{run_in_memory, run_words};
+pub use report::run_report;
 pub use sheet::{SheetEnd, run_sheet};
 pub use statement::{StatementEnd, run_import};
 pub use system::run_on_system;

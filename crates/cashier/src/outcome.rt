@@ -2,9 +2,11 @@
 
 ghost use Rattle.std.specs.Prelude.{◌≡◌, option_map};
 ghost use Rattle.std.specs.Process.{exit_status as process_status};
+ghost use Rattle.cashier.specs.Report.{reply_outcome};
 ghost use Rattle.cashier.specs.Outcome.{exit_status, notice};
 ghost use Rattle.cashier.specs.Outcome.{sheet_outcome, statement_outcome, stream_outcome, words_outcome};
 
+use crate::reply_kind::ReplyKind;
 use crate::sheet::SheetEnd;
 use crate::statement::StatementEnd;
 use portal_http::StreamEnd;
@@ -55,7 +57,8 @@ pub fn notice_of(outcome: Outcome) -> Option<&'static str>
     match outcome {
         Outcome::Done | Outcome::Refused => None,
         Outcome::CommandLine => Some(
-            "usage: cashier_cli --today DAY (sheet | import FILE | stream)",
+            "usage: cashier_cli --today DAY (sheet | import FILE | stream | \
+            reconcile DAY | trial | journal | retention | ledger MATTER)",
         ),
         Outcome::FileFault => Some("file fault"),
         Outcome::StoreFault => Some("store fault"),
@@ -70,6 +73,18 @@ pub fn outcome_of_words(kind: ErrorKind) -> Outcome
     match kind {
         ErrorKind::OutOfMemory => Outcome::MemoryFault,
         _ => Outcome::CommandLine,
+    }
+}
+
+/// The outcome of a report whose reply was written.
+pub fn outcome_of_reply(kind: ReplyKind) -> Outcome
+    ensures { result ≡ reply_outcome kind }
+{
+    match kind {
+        ReplyKind::Accepted => Outcome::Done,
+        ReplyKind::Refused => Outcome::Refused,
+        ReplyKind::Store => Outcome::StoreFault,
+        ReplyKind::Memory => Outcome::MemoryFault,
     }
 }
 

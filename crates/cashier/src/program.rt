@@ -4,16 +4,17 @@ ghost use Rattle.std.specs.Prelude.{◌≡◌, ◌≢◌, ◌⊎◌, ℕ, IfErr,
 ghost use Rattle.std.specs.String.{string_bytes};
 ghost use Rattle.cashier.specs.Calls.{CountsStore, LeavesBook};
 ghost use Rattle.cashier.specs.Outcome.{FileEnds, HasBegun, HasRun, IsServed, Ran, words_outcome};
-ghost use Rattle.cashier.specs.Program.{Means, MeansNothing, MeansSheet, MeansStream, words_of};
-ghost use Rattle.cashier.specs.declared.command.Task.{Task};
+ghost use Rattle.command_line.specs.Program.{Means, MeansNothing, MeansSheet, MeansStream, words_of};
+ghost use Rattle.command_line.specs.declared.command.Task.{Task};
 
-use crate::command::{CliFault, Task, command_of};
 use crate::folder::Folder;
 use crate::outcome::{
     Outcome, outcome_of_sheet, outcome_of_statement, outcome_of_stream, outcome_of_words,
 };
+use crate::report::run_report;
 use crate::sheet::run_sheet;
 use crate::statement::run_import;
+use command_line::{CliFault, Plan, Task, command_of};
 use portal_http::serve_stream;
 use std::alloc::{AllocError, Global};
 use std::io::{ErrorKind, Read, Write};
@@ -77,9 +78,9 @@ fn serve_input<R: Read, W: Write, B: Book>(
 /// Runs what the program's words ask for, its name first among them, over a desk, with `reader` and `writer` for
 /// standard input and output. Where the command line is at fault nothing is read, run or written; nor where a
 /// growth was refused before its plan was known, and the outcome is `MemoryFault` then. Else the outcome is that of
-/// the sheet's, the statement's or the stream's end, or `FileFault` where the statement can't be opened. Standard
-/// input is read only for a sheet or a stream. A stream goes by its end alone: it is never `StoreFault`, since what the
-/// store refused was answered to its message.
+/// the sheet's, the statement's or the stream's end, or the report's own, or `FileFault` where the statement can't be
+/// opened. Standard input is read only for a sheet or a stream. A stream goes by its end alone: it is never
+/// `StoreFault`, since what the store refused was answered to its message.
 pub fn run_words<'a, R: Read, F: Folder, W: Write, B: Book>(
     alloc: Global,
     words: &'a [&'a str],
@@ -93,7 +94,7 @@ pub fn run_words<'a, R: Read, F: Folder, W: Write, B: Book>(
     ensures unwritten { result ≡ Outcome.CommandLine → writer.new ≡ writer.old }
     ensures unasked { result ≡ Outcome.CommandLine → desk.new ≡ desk.old }
 
-    // An import, and whatever else is no sheet and no stream, leaves standard input as it was.
+    // An import, a report, and whatever else is no sheet and no stream, leaves standard input as it was.
     ensures input { MeansSheet (words_of words.entry.now)
         ⊎ (MeansStream (words_of words.entry.now) ⊎ (reader.new ≡ reader.old)) }
 
@@ -104,15 +105,16 @@ pub fn run_words<'a, R: Read, F: Folder, W: Write, B: Book>(
     ensures kept { LeavesBook B.clean B.sure B.stands B.refusals (CountsStore Outcome.StoreFault result)
         desk.old desk.new }
 {
-    let plan = match command_of(alloc, words) {
+    let Plan { today, task } = match command_of(alloc, words) {
         Ok(plan) => plan,
         Err(CliFault::Line) => return Outcome::CommandLine,
         Err(CliFault::Memory) => return Outcome::MemoryFault,
     };
-    match plan.task {
-        Task::Sheet => outcome_of_sheet(run_sheet(alloc, reader, writer, desk, plan.today)),
-        Task::Import(path) => import_file(alloc, folder, path, writer, desk, plan.today),
-        Task::Stream => serve_input(alloc, reader, writer, desk, plan.today),
+    match task {
+        Task::Sheet => outcome_of_sheet(run_sheet(alloc, reader, writer, desk, today)),
+        Task::Import(path) => import_file(alloc, folder, path, writer, desk, today),
+        Task::Stream => serve_input(alloc, reader, writer, desk, today),
+        Task::Report(command) => run_report(alloc, command, writer, desk, today),
     }
 }
 

@@ -43,7 +43,7 @@ firm-append xs ys = ap (map event_of) (filter-append (λ v. is_of_firm v.owner) 
 -- what it says of entry n of its matter
 abbrev by_entry : ℕ → Option change.EntryMovement → List Event
 by_entry n None = []
-by_entry n (Some v) = cond (v.entry == n) (changes.event_of v ∷ []) []
+by_entry n (Some v) = cond (v.entry == n) (changes.entry_event v ∷ []) []
 
 pub joined-other : (m k n : ℕ) (o : Option change.EntryMovement) → k ≢ m → events_moved k n (joined_movement m o) ≡ []
 joined-other m k n None apart = refl
@@ -53,7 +53,7 @@ joined-own : (m n : ℕ) (o : Option change.EntryMovement) → events_moved m n 
 joined-own m n None = refl
 joined-own m n (Some v) =
     let t : (m == m) ≡ true = grind (arith, nat_tests) in
-    rw t (elim (v.entry == n) as (λ b. map event_of (cond b (record { owner = owner.Matter m v.entry; day = v.day; amount = v.amount } ∷ []) []) ≡ cond b (changes.event_of v ∷ []) []) [ true ↦ refl | false ↦ refl ])
+    rw t (elim (v.entry == n) as (λ b. map event_of (cond b (record { owner = owner.Matter m v.entry; day = v.day; amount = v.amount } ∷ []) []) ≡ cond b (changes.entry_event v ∷ []) []) [ true ↦ refl | false ↦ refl ])
 
 pub joined-firm : (m : ℕ) (o : Option change.EntryMovement) → firm_events (joined_movement m o) ≡ []
 joined-firm m None = refl

@@ -8,17 +8,17 @@ use Rattle.matter_rows.proofs.Entries.{within}
 use Rattle.matter_parts.specs.declared.kept.Kept.{Kept}
 use Rattle.matter_parts.specs.declared.change.Left.{Left}
 use Rattle.matter_parts.specs.Parts.{Part, kept_in, entries_kept, AreNumbered, IsWhole, HoldsAll}
-use Rattle.matter_parts.specs.Applied.{kept_with, left_written, other_written}
+use Rattle.matter_parts.specs.Applied.{entry_put, left_written, other_written}
 
 -- An entry behind the others.
 
-pub entries-end : (a : ℕ) (ks : List Kept) (new : Kept) → AreNumbered a ks → new.number ≡ a + length ks → entries_kept (kept_with ks new) ≡ entries_kept ks ++ new.entry ∷ []
+pub entries-end : (a : ℕ) (ks : List Kept) (new : Kept) → AreNumbered a ks → new.number ≡ a + length ks → entries_kept (entry_put ks new) ≡ entries_kept ks ++ new.entry ∷ []
 entries-end a [] new numbered next = refl
 entries-end a (k ∷ ks) new numbered next =
     let other : eqb k.number new.number ≡ false = let own = numbered.0 in grind (arith, nat_tests) in
     rw other (ap (λ l. k.entry ∷ l) (entries-end (a + 1) ks new numbered.1 (omega arith)))
 
-pub numbered-end : (a : ℕ) (ks : List Kept) (new : Kept) → AreNumbered a ks → new.number ≡ a + length ks → AreNumbered a (kept_with ks new)
+pub numbered-end : (a : ℕ) (ks : List Kept) (new : Kept) → AreNumbered a ks → new.number ≡ a + length ks → AreNumbered a (entry_put ks new)
 numbered-end a [] new numbered next = (omega arith, tt)
 numbered-end a (k ∷ ks) new numbered next =
     let other : eqb k.number new.number ≡ false = let own = numbered.0 in grind (arith, nat_tests) in
@@ -26,12 +26,12 @@ numbered-end a (k ∷ ks) new numbered next =
 
 -- An entry in the place of another.
 
-pub entries-at : (a n : ℕ) (ks : List Kept) (old : Entry) (new : Kept) → AreNumbered a ks → entry_at (entries_kept ks) n ≡ Some old → new.number + 1 ≡ a + n → entries_kept (kept_with ks new) ≡ with_entry (entries_kept ks) n new.entry
+pub entries-at : (a n : ℕ) (ks : List Kept) (old : Entry) (new : Kept) → AreNumbered a ks → entry_at (entries_kept ks) n ≡ Some old → new.number + 1 ≡ a + n → entries_kept (entry_put ks new) ≡ with_entry (entries_kept ks) n new.entry
 entries-at a n [] old new numbered there place = cc
 entries-at a n (k ∷ ks) old new numbered there place =
     let own : k.number ≡ a = numbered.0 in
     let inside = within (entries_kept (k ∷ ks)) n old there in
-    elim (eqb n 1) as (λ b. eqb n 1 ≡ b → cond b (Some k.entry) (entry_at (entries_kept ks) (n - 1)) ≡ Some old → entries_kept (kept_with (k ∷ ks) new) ≡ cond b (new.entry ∷ entries_kept ks) (k.entry ∷ with_entry (entries_kept ks) (n - 1) new.entry)) [
+    elim (eqb n 1) as (λ b. eqb n 1 ≡ b → cond b (Some k.entry) (entry_at (entries_kept ks) (n - 1)) ≡ Some old → entries_kept (entry_put (k ∷ ks) new) ≡ cond b (new.entry ∷ entries_kept ks) (k.entry ∷ with_entry (entries_kept ks) (n - 1) new.entry)) [
       | true ↦ λ s g. let same : eqb k.number new.number ≡ true = grind (arith, nat_tests) in rw same refl
       | false ↦ λ s g.
           let apart : n ≢ 1 = grind (arith, nat_tests) in
@@ -40,12 +40,12 @@ entries-at a n (k ∷ ks) old new numbered there place =
           rw other (ap (λ l. k.entry ∷ l) (entries-at (a + 1) (n - 1) ks old new numbered.1 g (omega arith)))
     ] refl there
 
-pub numbered-at : (a n : ℕ) (ks : List Kept) (old : Entry) (new : Kept) → AreNumbered a ks → entry_at (entries_kept ks) n ≡ Some old → new.number + 1 ≡ a + n → AreNumbered a (kept_with ks new)
+pub numbered-at : (a n : ℕ) (ks : List Kept) (old : Entry) (new : Kept) → AreNumbered a ks → entry_at (entries_kept ks) n ≡ Some old → new.number + 1 ≡ a + n → AreNumbered a (entry_put ks new)
 numbered-at a n [] old new numbered there place = cc
 numbered-at a n (k ∷ ks) old new numbered there place =
     let own : k.number ≡ a = numbered.0 in
     let inside = within (entries_kept (k ∷ ks)) n old there in
-    elim (eqb n 1) as (λ b. eqb n 1 ≡ b → cond b (Some k.entry) (entry_at (entries_kept ks) (n - 1)) ≡ Some old → AreNumbered a (kept_with (k ∷ ks) new)) [
+    elim (eqb n 1) as (λ b. eqb n 1 ≡ b → cond b (Some k.entry) (entry_at (entries_kept ks) (n - 1)) ≡ Some old → AreNumbered a (entry_put (k ∷ ks) new)) [
       | true ↦ λ s g.
           let one : n ≡ 1 = grind (arith, nat_tests) in
           let same : eqb k.number new.number ≡ true = grind (arith, nat_tests) in

@@ -21,7 +21,7 @@ use Rattle.matter_parts.specs.declared.figures.Figures.{Figures}
 use Rattle.matter_parts.specs.declared.kept.Kept.{Kept}
 use Rattle.matter_parts.specs.declared.change.Left.{Left}
 use Rattle.matter_parts.specs.declared.change.TotalsAfter.{TotalsAfter}
-use Rattle.matter_parts.specs.Applied.{IsWritten, kept_as, kept_with, other_written}
+use Rattle.matter_parts.specs.Applied.{IsWritten, kept_as, entry_put, other_written}
 use Rattle.matter_parts.specs.Changes.{changed, changed_by, MatterChange, edited, head_after, seats_after, IsOther, AreLeft, AreLefts, IsPlace, IsExchange, IsChange}
 use Rattle.matter_parts.specs.Parts.{Part, no_figures, is_held, kept_in, AreFigures, IsPart, IsEntryOf, AreKept, HoldsOn, IsWhole, entries_kept, AreNumbered}
 use Rattle.matter_parts.proofs.AllKept.{entries-end, numbered-end, entries-at, numbered-at, entries-other, numbered-other, length-kept}
@@ -108,7 +108,7 @@ written fs t (Some o) n (Some j) near other k h =
 
 applied-kept : (m m' : Part) (x : Numbered) (v : TotalsAfter) (day : ℕ) → IsWritten m x v day m' → (n : ℕ) → kept_in m'.kept n ≡ other_relieved v.other n (put_in m.kept (kept_as x v) n)
 applied-kept m m' x v day a n =
-    ap (λ ks. kept_in ks n) a.kept ∙ kept-other (kept_with m.kept (kept_as x v)) v.other n ∙ ap (other_relieved v.other n) (kept-with m.kept (kept_as x v) n)
+    ap (λ ks. kept_in ks n) a.kept ∙ kept-other (entry_put m.kept (kept_as x v)) v.other n ∙ ap (other_relieved v.other n) (kept-with m.kept (kept_as x v) n)
 
 pub applied-append : (m m' : Part) (rows : Rows) (x : Numbered) (v : TotalsAfter) (day : ℕ) → IsPart m rows → x.number ≡ length rows.entries + 1 → AreFigures v.figures (rows.entries ++ x.entry ∷ []) → AreLeft (rows.entries ++ x.entry ∷ []) x v → IsWritten m x v day m' → IsPart m' (changed_by (edit.Append x) day rows)
 applied-append m m' rows x v day p place figures lefts a = record {
@@ -173,7 +173,7 @@ whole-append : (m m' : Part) (rows : Rows) (x : Numbered) (v : TotalsAfter) (day
 whole-append m m' rows x v day whole place a =
     let len = length-kept m.kept rows.entries whole.entries in
     let next : x.number ≡ 1 + length m.kept = omega (arith, len, place) in
-    let ks = kept_with m.kept (kept_as x v) in
+    let ks = entry_put m.kept (kept_as x v) in
     let numbered : AreNumbered 1 (other_written ks v.other) = numbered-other 1 ks v.other (numbered-end 1 m.kept (kept_as x v) whole.numbered next) in
     let P : List Kept → Type 0 = λ l. AreNumbered 1 l in
     (ap entries_kept a.kept ∙ entries-other ks v.other ∙ entries-end 1 m.kept (kept_as x v) whole.numbered next ∙ ap (λ es. es ++ x.entry ∷ []) whole.entries, subst P (sym a.kept) numbered)
@@ -181,7 +181,7 @@ whole-append m m' rows x v day whole place a =
 whole-exchange : (m m' : Part) (rows : Rows) (x : Numbered) (old : Entry) (v : TotalsAfter) (day : ℕ) → IsWhole m rows → entry_at rows.entries x.number ≡ Some old → IsWritten m x v day m' → (entries_kept m'.kept ≡ with_entry rows.entries x.number x.entry) × AreNumbered 1 m'.kept
 whole-exchange m m' rows x old v day whole there a =
     let here : entry_at (entries_kept m.kept) x.number ≡ Some old = ap (λ es. entry_at es x.number) whole.entries ∙ there in
-    let ks = kept_with m.kept (kept_as x v) in
+    let ks = entry_put m.kept (kept_as x v) in
     let numbered : AreNumbered 1 (other_written ks v.other) = numbered-other 1 ks v.other (numbered-at 1 x.number m.kept old (kept_as x v) whole.numbered here (omega arith)) in
     let P : List Kept → Type 0 = λ l. AreNumbered 1 l in
     (ap entries_kept a.kept ∙ entries-other ks v.other ∙ entries-at 1 x.number m.kept old (kept_as x v) whole.numbered here (omega arith) ∙ ap (λ es. with_entry es x.number x.entry) whole.entries, subst P (sym a.kept) numbered)

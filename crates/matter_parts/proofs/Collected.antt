@@ -12,12 +12,12 @@ use Rattle.matter_rows.proofs.Store.{IsBalance, natural}
 use Rattle.matter_rows.proofs.Collected.{entry-at}
 use Rattle.matter_parts.specs.declared.kept.Kept.{Kept}
 use Rattle.matter_parts.specs.declared.figures.Figures.{Figures}
-use Rattle.matter_parts.specs.Applied.{kept_with}
+use Rattle.matter_parts.specs.Applied.{entry_put}
 use Rattle.matter_parts.specs.Parts.{Part, IsWhole, AreFigures, kept_in, entries_kept, AreNumbered, AreKept, IsEntryOf, AreAllKept}
 use Rattle.matter_parts.proofs.AllKept.{entries-end, numbered-end}
 use Rattle.matter_parts.proofs.Keepers.{AreSmallLefts, put_in, kept-with, small-with}
 
-with-next : (a : ℕ) (ks : List Kept) (new : Kept) → AreNumbered a ks → new.number ≡ a + length ks → kept_with ks new ≡ ks ++ new ∷ []
+with-next : (a : ℕ) (ks : List Kept) (new : Kept) → AreNumbered a ks → new.number ≡ a + length ks → entry_put ks new ≡ ks ++ new ∷ []
 with-next a [] new numbered next = refl
 with-next a (k ∷ ks) new numbered next =
     let other : eqb k.number new.number ≡ false = let own = numbered.0 in grind (arith, nat_tests) in
@@ -50,7 +50,7 @@ pub collected-more : (es : List Entry) (i : ℕ) (ks : List Kept) (new : Kept) (
 collected-more es i ks new ls so inside number small is made =
     let count : length ks ≡ i = so.count in
     let next : new.number ≡ 1 + length ks = omega (arith, number, count) in
-    let put : ls ≡ kept_with ks new = made ∙ sym (with-next 1 ks new so.numbered next) in
+    let put : ls ≡ entry_put ks new = made ∙ sym (with-next 1 ks new so.numbered next) in
     let I : ℕ → Type 0 = λ n. IsEntryOf es n new in
     let N : List Kept → Type 0 = λ l. AreNumbered 1 l in
     record {

@@ -7,7 +7,7 @@ use Rattle.matter_rows.specs.declared.limits.TheConstants.{MAX_TOTAL}
 use Rattle.matter_rows.proofs.Places.{place-some, place-none}
 use Rattle.matter_parts.specs.declared.kept.Kept.{Kept}
 use Rattle.matter_parts.specs.declared.change.Left.{Left}
-use Rattle.matter_parts.specs.Applied.{kept_with, left_written, other_written}
+use Rattle.matter_parts.specs.Applied.{entry_put, left_written, other_written}
 use Rattle.matter_parts.specs.Parts.{kept_in}
 use Rattle.matter_parts.specs.Changes.{IsSmallOther}
 
@@ -19,29 +19,29 @@ place n ks = position_or_len (is_number n) ks
 
 -- The list after a write.
 
-with-at : (ks : List Kept) (new : Kept) → place new.number ks < length ks → kept_with ks new ≡ set ks (place new.number ks) new
+with-at : (ks : List Kept) (new : Kept) → place new.number ks < length ks → entry_put ks new ≡ set ks (place new.number ks) new
 with-at [] new h = absurd (omega arith)
 with-at (k ∷ ks) new h =
-    elim (eqb k.number new.number) as (λ b. cond (not b) (1 + place new.number ks) 0 < suc (length ks) → cond b (new ∷ ks) (k ∷ kept_with ks new) ≡ set (k ∷ ks) (cond (not b) (1 + place new.number ks) 0) new) [
+    elim (eqb k.number new.number) as (λ b. cond (not b) (1 + place new.number ks) 0 < suc (length ks) → cond b (new ∷ ks) (k ∷ entry_put ks new) ≡ set (k ∷ ks) (cond (not b) (1 + place new.number ks) 0) new) [
       | true ↦ λ g. refl
       | false ↦ λ g. let next : 1 + place new.number ks ≡ suc (place new.number ks) = omega arith in rw next (ap (λ l. k ∷ l) (with-at ks new (omega arith)))
     ] h
 
-pub with-set : (ks : List Kept) (new : Kept) (i : ℕ) → Some i ≡ position (is_number new.number) ks → set ks i new ≡ kept_with ks new
+pub with-set : (ks : List Kept) (new : Kept) (i : ℕ) → Some i ≡ position (is_number new.number) ks → set ks i new ≡ entry_put ks new
 with-set ks new i h =
     let at = place-some (is_number new.number) ks i h in
     let P : ℕ → Type 0 = λ j. j < length ks in
     ap (λ j. set ks j new) at.1 ∙ sym (with-at ks new (subst P at.1 at.0))
 
-with-end : (ks : List Kept) (new : Kept) → length ks ≤ place new.number ks → kept_with ks new ≡ ks ++ new ∷ []
+with-end : (ks : List Kept) (new : Kept) → length ks ≤ place new.number ks → entry_put ks new ≡ ks ++ new ∷ []
 with-end [] new h = refl
 with-end (k ∷ ks) new h =
-    elim (eqb k.number new.number) as (λ b. suc (length ks) ≤ cond (not b) (1 + place new.number ks) 0 → cond b (new ∷ ks) (k ∷ kept_with ks new) ≡ k ∷ (ks ++ new ∷ [])) [
+    elim (eqb k.number new.number) as (λ b. suc (length ks) ≤ cond (not b) (1 + place new.number ks) 0 → cond b (new ∷ ks) (k ∷ entry_put ks new) ≡ k ∷ (ks ++ new ∷ [])) [
       | true ↦ λ g. absurd (omega arith)
       | false ↦ λ g. ap (λ l. k ∷ l) (with-end ks new (omega arith))
     ] h
 
-pub with-push : (ks : List Kept) (new : Kept) → None ≡ position (is_number new.number) ks → ks ++ new ∷ [] ≡ kept_with ks new
+pub with-push : (ks : List Kept) (new : Kept) → None ≡ position (is_number new.number) ks → ks ++ new ∷ [] ≡ entry_put ks new
 with-push ks new h = sym (with-end ks new (place-none (is_number new.number) ks h))
 
 left-at : (ks : List Kept) (n left : ℕ) (k : Kept) → place n ks < length ks → k ≡ get_or ks (place n ks) k → left_written ks n left ≡ set ks (place n ks) (record k { left = left })
@@ -92,15 +92,15 @@ abbrev pub other_relieved : Option Left → ℕ → Option Kept → Option Kept
 other_relieved None n k = k
 other_relieved (Some o) n k = relieved o.number o.left n k
 
-pub kept-with : (ks : List Kept) (new : Kept) (n : ℕ) → kept_in (kept_with ks new) n ≡ put_in ks new n
+pub kept-with : (ks : List Kept) (new : Kept) (n : ℕ) → kept_in (entry_put ks new) n ≡ put_in ks new n
 kept-with [] new n = refl
 kept-with (k ∷ ks) new n =
-    elim (eqb k.number new.number) as (λ b. eqb k.number new.number ≡ b → kept_in (cond b (new ∷ ks) (k ∷ kept_with ks new)) n ≡ cond (eqb new.number n) (Some new) (cond (eqb k.number n) (Some k) (kept_in ks n))) [
+    elim (eqb k.number new.number) as (λ b. eqb k.number new.number ≡ b → kept_in (cond b (new ∷ ks) (k ∷ entry_put ks new)) n ≡ cond (eqb new.number n) (Some new) (cond (eqb k.number n) (Some k) (kept_in ks n))) [
       | true ↦ λ s. elim (eqb new.number n) as (λ b. eqb new.number n ≡ b → cond b (Some new) (kept_in ks n) ≡ cond b (Some new) (cond (eqb k.number n) (Some k) (kept_in ks n))) [
         | true ↦ λ q. refl
         | false ↦ λ q. let no : eqb k.number n ≡ false = grind (arith, nat_tests) in rw no refl
       ] refl
-      | false ↦ λ s. elim (eqb k.number n) as (λ b. eqb k.number n ≡ b → cond b (Some k) (kept_in (kept_with ks new) n) ≡ cond (eqb new.number n) (Some new) (cond b (Some k) (kept_in ks n))) [
+      | false ↦ λ s. elim (eqb k.number n) as (λ b. eqb k.number n ≡ b → cond b (Some k) (kept_in (entry_put ks new) n) ≡ cond (eqb new.number n) (Some new) (cond b (Some k) (kept_in ks n))) [
         | true ↦ λ q. let no : eqb new.number n ≡ false = grind (arith, nat_tests) in rw no refl
         | false ↦ λ q. kept-with ks new n
       ] refl
@@ -144,7 +144,7 @@ small-relieved number left n (Some j) old small k h =
       | false ↦ λ g. old k g
     ] h
 
-pub small-after : (ks : List Kept) (new : Kept) (o : Option Left) → AreSmallLefts ks → new.left ≤ MAX_TOTAL → IsSmallOther o → AreSmallLefts (other_written (kept_with ks new) o)
+pub small-after : (ks : List Kept) (new : Kept) (o : Option Left) → AreSmallLefts ks → new.left ≤ MAX_TOTAL → IsSmallOther o → AreSmallLefts (other_written (entry_put ks new) o)
 small-after ks new None old small other n k h = small-with ks new old small n k (sym (kept-with ks new n) ∙ h)
 small-after ks new (Some o) old small other n k h =
-    small-relieved o.number o.left n (kept_in (kept_with ks new) n) (λ j g. small-with ks new old small n j (sym (kept-with ks new n) ∙ g)) (other o refl) k (sym (kept-left (kept_with ks new) o.number o.left n) ∙ h)
+    small-relieved o.number o.left n (kept_in (entry_put ks new) n) (λ j g. small-with ks new old small n j (sym (kept-with ks new n) ∙ g)) (other o refl) k (sym (kept-left (entry_put ks new) o.number o.left n) ∙ h)

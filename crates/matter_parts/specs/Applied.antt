@@ -8,9 +8,9 @@ use Rattle.matter_parts.specs.declared.change.TotalsAfter.{TotalsAfter}
 use Rattle.matter_parts.specs.Parts.{Part}
 
 -- what is kept, with one entry in the place of that with its number, or else behind the others
-abbrev pub kept_with : List Kept → Kept → List Kept
-kept_with [] new = new ∷ []
-kept_with (k ∷ ks) new = cond (k.number == new.number) (new ∷ ks) (k ∷ kept_with ks new)
+abbrev pub entry_put : List Kept → Kept → List Kept
+entry_put [] new = new ∷ []
+entry_put (k ∷ ks) new = cond (k.number == new.number) (new ∷ ks) (k ∷ entry_put ks new)
 
 -- what is kept, with what is left of one entry written
 abbrev pub left_written : List Kept → ℕ → ℕ → List Kept
@@ -30,4 +30,4 @@ pub record IsWritten (m : Part) (x : Numbered) (v : TotalsAfter) (day : ℕ) (m'
   pub head : m'.head ≡ seen_on m.head day
   pub seats : m'.seats ≡ m.seats
   pub figures : m'.figures ≡ v.figures
-  pub kept : m'.kept ≡ other_written (kept_with m.kept (kept_as x v)) v.other
+  pub kept : m'.kept ≡ other_written (entry_put m.kept (kept_as x v)) v.other

@@ -85,12 +85,12 @@ movement_of es (edit.Unseat p) = None
 movement_of es (edit.Close d) = None
 movement_of es (edit.Clear d) = None
 
-abbrev pub event_of : EntryMovement → Event
-event_of m = record { day = m.day; amount = m.amount }
+abbrev pub entry_event : EntryMovement → Event
+entry_event m = record { day = m.day; amount = m.amount }
 
 abbrev pub events_by : Option EntryMovement → List Event
 events_by None = []
-events_by (Some m) = event_of m ∷ []
+events_by (Some m) = entry_event m ∷ []
 
 -- what a written entry has moved is what it had moved before, and then what the edit moves
 abbrev pub AreMoved : List Entry → Edit → Option EntryMovement → Type 0

@@ -131,15 +131,9 @@ fn append_moves(matter: &Matter, added: &Numbered) -> Option<TotalsAfter>
     }
     let none = no_shares();
     let shares = added.entry.shares();
-    let Some(after) = figures_after(&figures, figures.entries + 1, &none, &shares) else {
-        return None;
-    };
-    let Some(left) = moved(0, 0, added.entry.worth()) else {
-        return None;
-    };
-    let Some(other) = other_after(matter, added.entry.target(), 0, added.entry.draw()) else {
-        return None;
-    };
+    let after = figures_after(&figures, figures.entries + 1, &none, &shares)?;
+    let left = moved(0, 0, added.entry.worth())?;
+    let other = other_after(matter, added.entry.target(), 0, added.entry.draw())?;
     Some(TotalsAfter {
         figures: after,
         left,
@@ -158,17 +152,10 @@ fn exchange_moves(matter: &Matter, kept: &Kept, changed: &Numbered) -> Option<To
     let figures = matter.figures();
     let out = kept.entry.shares();
     let shares = changed.entry.shares();
-    let Some(after) = figures_after(&figures, figures.entries, &out, &shares) else {
-        return None;
-    };
-    let Some(left) = moved(kept.left, kept.entry.worth(), changed.entry.worth()) else {
-        return None;
-    };
+    let after = figures_after(&figures, figures.entries, &out, &shares)?;
+    let left = moved(kept.left, kept.entry.worth(), changed.entry.worth())?;
     let draws = kept.entry.draw();
-    let Some(other) = other_after(matter, changed.entry.target(), draws, changed.entry.draw())
-    else {
-        return None;
-    };
+    let other = other_after(matter, changed.entry.target(), draws, changed.entry.draw())?;
     Some(TotalsAfter {
         figures: after,
         left,
@@ -185,9 +172,7 @@ fn edit_moves(matter: &Matter, edit: &Edit) -> Option<TotalsAfter>
     match edit {
         Edit::Append(added) => append_moves(matter, added),
         Edit::Exchange(changed) => {
-            let Some(kept) = matter.find(changed.number) else {
-                return None;
-            };
+            let kept = matter.find(changed.number)?;
             exchange_moves(matter, kept, changed)
         }
         Edit::Clear(_) => Some(TotalsAfter {

@@ -72,24 +72,12 @@ pub(crate) fn figures_after(
     ensures none { IfNone result
         ((f : TheFigures) → AreSmall f → FiguresMoved figures.now entries out.now shares.now f → ⊥) }
 {
-    let Some(held) = moved(figures.held, out.held, shares.held) else {
-        return None;
-    };
-    let Some(available) = moved(figures.available, out.available, shares.available) else {
-        return None;
-    };
-    let Some(disputed) = moved(figures.disputed, out.disputed, shares.disputed) else {
-        return None;
-    };
-    let Some(fees) = moved(figures.fees, out.fees, shares.fees) else {
-        return None;
-    };
-    let Some(claims) = moved(figures.claims, out.claims, shares.claims) else {
-        return None;
-    };
-    let Some(pending) = moved(figures.pending, out.pending, shares.pending) else {
-        return None;
-    };
+    let held = moved(figures.held, out.held, shares.held)?;
+    let available = moved(figures.available, out.available, shares.available)?;
+    let disputed = moved(figures.disputed, out.disputed, shares.disputed)?;
+    let fees = moved(figures.fees, out.fees, shares.fees)?;
+    let claims = moved(figures.claims, out.claims, shares.claims)?;
+    let pending = moved(figures.pending, out.pending, shares.pending)?;
     Some(Figures {
         entries,
         pending,
@@ -110,24 +98,12 @@ pub(crate) fn figures_of(entries: &[Entry]) -> Option<Figures>
     ensures none { IfNone result (AreBacked entries.now → ⊥) }
 {
     let sums = sums_of(entries);
-    let Some(pending) = as_total(sums.pending) else {
-        return None;
-    };
-    let Some(held) = as_total(sums.held) else {
-        return None;
-    };
-    let Some(available) = as_total(sums.available) else {
-        return None;
-    };
-    let Some(disputed) = as_total(sums.disputed) else {
-        return None;
-    };
-    let Some(fees) = as_total(sums.fees) else {
-        return None;
-    };
-    let Some(claims) = as_total(sums.claims) else {
-        return None;
-    };
+    let pending = as_total(sums.pending)?;
+    let held = as_total(sums.held)?;
+    let available = as_total(sums.available)?;
+    let disputed = as_total(sums.disputed)?;
+    let fees = as_total(sums.fees)?;
+    let claims = as_total(sums.claims)?;
     Some(Figures {
         entries: entries.len() as u64,
         pending,

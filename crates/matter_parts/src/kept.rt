@@ -6,7 +6,7 @@ ghost use Rattle.std.specs.List.{filter, position};
 ghost use Rattle.matter_rows.specs.Sound.{AreBacked};
 ghost use Rattle.matter_parts.specs.NamedEntries.{has_number};
 ghost use Rattle.matter_parts.specs.Parts.{kept_at, kept_in, IsEntryOf, AreAllKept};
-ghost use Rattle.matter_parts.specs.Applied.{kept_with, left_written, other_written};
+ghost use Rattle.matter_parts.specs.Applied.{entry_put, left_written, other_written};
 
 use crate::change::Left;
 use crate::named_entries::NamedEntries;
@@ -79,7 +79,7 @@ fn place_of(kept: &Vec<Kept>, number: EntryNo) -> Option<usize>
 
 /// Keeps an entry, in the place of the one with its number.
 pub fn put(kept: &mut Vec<Kept>, new: Kept) -> Result<(), AllocError>
-    ensures ok { OnOk result (kept.new.items ≡ kept_with kept.old.items new) }
+    ensures ok { OnOk result (kept.new.items ≡ entry_put kept.old.items new) }
     ensures err { OnErr result (kept.new.items ≡ kept.old.items) }
 {
     match place_of(kept, new.number) {

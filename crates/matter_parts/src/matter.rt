@@ -135,10 +135,8 @@ impl Matter {
     fn target_by(&self, named: &Option<EntryNo>) -> Option<EntryNo>
         ensures { number_or_none result ≡ target_by self.now named.now }
     {
-        let Some(number) = named else {
-            return None;
-        };
-        let kept = self.find(*number)?;
+        let number = (*named)?;
+        let kept = self.find(number)?;
         kept.entry.target()
     }
 

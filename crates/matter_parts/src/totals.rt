@@ -55,9 +55,7 @@ pub fn fee_left(matter: &Matter, number: EntryNo) -> Option<u64>
     requires { is_held matter.now number ≡ true }
     ensures { (rows : Rows) → IsPart matter.now rows → option_map pos result ≡ fee_left rows.entries number }
 {
-    let Some(kept) = matter.find(number) else {
-        return None;
-    };
+    let kept = matter.find(number)?;
     left_if_fee(kept)
 }
 
@@ -66,8 +64,6 @@ pub fn claim_left(matter: &Matter, number: EntryNo) -> Option<u64>
     requires { is_held matter.now number ≡ true }
     ensures { (rows : Rows) → IsPart matter.now rows → option_map pos result ≡ claim_left rows.entries number }
 {
-    let Some(kept) = matter.find(number) else {
-        return None;
-    };
+    let kept = matter.find(number)?;
     left_if_claim(kept)
 }

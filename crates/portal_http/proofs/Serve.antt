@@ -1,5 +1,5 @@
 -- A stream that is served.
-use Rattle.std.proofs.Common.{◌≡◌, ◌<◌, ◌≤◌, ◌+◌, ℕ, List, [], ◌∷◌, ◌++◌, Option, Some, None, length, map, take, refl, sym, ap, ◌∙◌, subst, arith, length-append, append_assoc, IfSome}
+use Rattle.std.proofs.Common.{◌≡◌, inl, inr, false, ◌<◌, ◌+◌, ℕ, List, [], ◌∷◌, ◌++◌, Option, Some, None, length, map, refl, sym, ap, ◌∙◌, subst, arith, length-append, append_assoc, IfSome}
 use Rattle.std.proofs.lemmas.List.{append-nil}
 use Rattle.std.specs.Io.KnownBytes.{Appends, Keeps}
 use Rattle.std.proofs.KnownBytes.{Appends-nil, Appends-trans}
@@ -10,11 +10,16 @@ use Rattle.firm_rows.specs.FirmSound.{FirmSound}
 use Rattle.trust_desk.specs.declared.requests.Reply.{Reply}
 use Rattle.trust_desk.specs.Calls.{KeepsBook}
 use Rattle.trust_desk.specs.Counts.{counted_reply, counted_replies}
-use Rattle.trust_desk.specs.FirmStep.{IsUnstopped, RunsSoundly, Steps}
+use Rattle.trust_desk.specs.Crashes.{AreNoFaults, AreNoFaultsButLast, IsMade, IsMadeInRun, MayLeave, before_fault}
+use Rattle.trust_desk.specs.FirmStep.{IsUnstopped, RunsSoundly, Steps, firm_step}
 use Rattle.trust_desk.specs.Heard.{Heard}
 use Rattle.trust_desk.specs.Isolation.{IsOwn}
-use Rattle.trust_desk.specs.Replies.{refused}
+use Rattle.trust_desk.specs.NeverBelowZero.{CoveredRun}
+use Rattle.trust_desk.specs.Replies.{is_fault_reply, refused}
+use Rattle.trust_desk.proofs.AlwaysCovered.{runs-covered}
 use Rattle.trust_desk.proofs.Calls.{kept-as, kept-still, kept-then}
+use Rattle.trust_desk.proofs.Crashes.{leave-as, leave-still, leave-then}
+use Rattle.trust_desk.proofs.MadeRows.{fault-front, made-before, made-last, none-at_all, none-before, none-last, plain-step}
 use Rattle.trust_desk.proofs.Own.{each-own}
 use Rattle.trust_desk.proofs.Runs.{RunsSoundly-push, counted-push, sound-runs-are-runs}
 use Rattle.portal_messages.specs.declared.message.Message.{Message}
@@ -25,7 +30,8 @@ use Rattle.portal_messages.specs.Inputs.{Began, IsNext}
 use Rattle.portal_messages.proofs.Readings.{begins-push}
 use Rattle.portal_requests.specs.Requests.{heard_of}
 use Rattle.portal_http.specs.Answers.{replies_bytes, reply_bytes}
-use Rattle.portal_http.specs.Served.{AreFirst, IsCut, IsRead, Served, Serving, last_text, whole_text}
+use Rattle.portal_http.specs.Served.{AreBehind, AreFirst, IsCut, IsFrontRun, IsRead, MayLeaveServed, Served, Serving, whole_text}
+use Rattle.portal_http.specs.declared.stream.StreamEnd.{StreamEnd}
 use Rattle.portal_http.specs.declared.stream.StreamEnd.TheVariants as ends
 use Rattle.portal_http.proofs.Fronts.{WroteFront, cut-behind, last-push}
 
@@ -62,6 +68,16 @@ read-limit None b ms e x = tt
 read-limit (Some xs) None ms e x = absurd x
 read-limit (Some xs) (Some ys) ms e x = record { rest = ys; begins = x; ends = e }
 
+fault-behind : (a b c : Option (List ℕ)) (ms : List Message) (r : Refusal) → length ms < MESSAGE_LIMIT → Began a ms b → IsNext b c (nexts.Framing r) → IfSome a (λ bytes. AreBehind bytes ms (Some r))
+fault-behind None b c ms r lt x y = tt
+fault-behind (Some xs) None c ms r lt x y = absurd x
+fault-behind (Some xs) (Some ys) c ms r lt x y = inl (record { rest = ys; begins = x; ends = (lt, y) })
+
+memory-behind : (a b : Option (List ℕ)) (ms : List Message) → Began a ms b → IfSome a (λ bytes. AreBehind bytes ms (Some Memory))
+memory-behind None b ms x = tt
+memory-behind (Some xs) None ms x = absurd x
+memory-behind (Some xs) (Some ys) ms x = inr (refl, (ys, x))
+
 -- What was written.
 
 flat-push : (rs : List Reply) (r : Reply) → replies_bytes (rs ++ r ∷ []) ≡ replies_bytes rs ++ reply_bytes r
@@ -72,14 +88,26 @@ map-push : (ms : List Message) (m : Message) → map heard_of (ms ++ m ∷ []) �
 map-push [] m = refl
 map-push (n ∷ ms) m = ap (λ hs. heard_of n ∷ hs) (map-push ms m)
 
+-- The replies before a fault.
+
+-- they are those of a run of the first messages, also of more messages
+front-more : (day : ℕ) (firm : Firm) (ms : List Message) (m : Message) (rs : List Reply) → IsFrontRun day firm ms rs → IsFrontRun day firm (ms ++ m ∷ []) rs
+front-more day firm ms m rs is = record { front = is.front; rest = is.rest ++ m ∷ []; parts = sym (append_assoc is.front is.rest (m ∷ [])) ∙ ap (λ (l : List Message). l ++ m ∷ []) is.parts; mid = is.mid; run = is.run }
+
+front-whole : (day : ℕ) (firm mid : Firm) (ms rest : List Message) (rs : List Reply) → RunsSoundly day firm (map heard_of ms) rs mid → IsFrontRun day firm (ms ++ rest) rs
+front-whole day firm mid ms rest rs run = record { front = ms; rest = rest; parts = refl; mid = mid; run = run }
+
 keeps-self : (a : Option (List ℕ)) → Keeps a a
 keeps-self None = tt
 keeps-self (Some xs) = refl
 
-module _ {B : Type 0} (clean sure stands : B → Type 0) (firm : B → Firm) (refusals : B → ℕ) (day : ℕ) (stream before : Option (List ℕ)) (old : B) where
-  -- what is served, and what is being served
+module _ {B : Type 0} (clean sure stands : B → Type 0) (leaves : B → Firm → Type 0) (firm : B → Firm) (refusals : B → ℕ) (sound : (b : B) → stands b → FirmSound (firm b)) (day : ℕ) (stream before : Option (List ℕ)) (old : B) where
+  -- what is being served, and what was served
   abbrev Serves : ℕ → Option (List ℕ) → Option (List ℕ) → B → Type 0
-  Serves n unread after new = Serving clean sure stands firm refusals day stream before old n unread after new
+  Serves n unread after new = Serving clean sure stands leaves firm refusals day stream before old n unread after new
+
+  abbrev WasServed : StreamEnd → Option (List ℕ) → B → Type 0
+  WasServed end after new = Served clean sure stands leaves firm refusals day stream before old end after new
 
   pub serving-none : (unread : Option (List ℕ)) → Keeps stream unread → Serves 0 unread before old
   serving-none unread k = record {
@@ -91,6 +119,8 @@ module _ {B : Type 0} (clean sure stands : B → Type 0) (firm : B → Firm) (re
     written = Appends-nil before;
     run = λ clean stands. refl;
     kept = kept-still old;
+    crash = λ sure clean stands but_last. leave-still (firm old) old;
+    shut = λ sure clean stands. front-whole day (firm old) (firm old) [] [] [] refl;
   }
 
   pub serving-nothing : Serves 0 stream before old
@@ -98,8 +128,8 @@ module _ {B : Type 0} (clean sure stands : B → Type 0) (firm : B → Firm) (re
 
   -- one more message, and its reply
   module _ (n : ℕ) (unread after : Option (List ℕ)) (mid : B) (s : Serves n unread after mid) (left later : Option (List ℕ)) (next : B) (m : Message) (reply : Reply)
-      (comes : IsNext unread left (nexts.Message m)) (sound : (b : B) → stands b → FirmSound (firm b))
-      (step : clean next → stands mid → Steps day (firm mid) (heard_of m) reply (firm next)) (kept : KeepsBook clean sure stands refusals (counted_reply reply) mid next) where
+      (comes : IsNext unread left (nexts.Message m)) (step : clean next → stands mid → Steps day (firm mid) (heard_of m) reply (firm next)) (kept : KeepsBook clean sure stands refusals (counted_reply reply) mid next)
+      (may : sure next → clean mid → stands mid → MayLeave clean leaves (is_fault_reply reply ≡ false) (IsMade day (firm mid) (heard_of m)) (firm mid) (firm_step day (firm mid) (heard_of m)).firm mid next) where
     abbrev messages-more : List Message
     messages-more = s.messages ++ m ∷ []
 
@@ -119,8 +149,40 @@ module _ {B : Type 0} (clean sure stands : B → Type 0) (firm : B → Firm) (re
     own-more : clean next → stands old → (k : ℕ) → IsUnstopped k (map heard_of messages-more) replies-more → IsOwn k day (firm old) (map heard_of messages-more) replies-more (firm next)
     own-more clean stands k fine = each-own k day (firm old) (map heard_of messages-more) replies-more (firm next) fine (sound-runs-are-runs day (firm old) (firm next) (map heard_of messages-more) replies-more (run-more clean stands))
 
+    -- the store served before this message, where no reply before it is Store or Memory
+    served-before : sure next → clean old → stands old → AreNoFaults s.replies → clean mid
+    served-before sure clean stands plain = (s.crash (kept.was_sure sure) clean stands (none-at_all s.replies plain)).serves clean plain
+
+    -- and after it, where this one is neither
+    served-after : sure next → clean old → stands old → AreNoFaults s.replies → is_fault_reply reply ≡ false → clean next
+    served-after sure clean stands plain fine =
+        let was = served-before sure clean stands plain in
+        (may sure was (s.kept.still_stands was stands)).serves was fine
+
+    crash-more : sure next → clean old → stands old → AreNoFaultsButLast replies-more → MayLeaveServed clean sure stands leaves firm refusals day old messages-more replies-more next
+    crash-more known served standing but_last =
+        let plain = none-before s.replies reply but_last in
+        let so_far = s.crash (kept.was_sure known) served standing (none-at_all s.replies plain) in
+        let was = so_far.serves served plain in
+        let stood = s.kept.still_stands was standing in
+        let one = may known was stood in
+        let h = heard_of m in
+        let hs = map heard_of s.messages in
+        let last = λ (fine : AreNoFaults replies-more). none-last s.replies reply fine in
+        let made = leave-as last (λ found is. is) (λ fine. plain-step day (firm mid) (firm next) h reply (last fine) (step (one.serves was (last fine)) stood)) one in
+        subst (λ (l : List Heard). MayLeave clean leaves (AreNoFaults replies-more) (IsMadeInRun day (firm old) l) (firm old) (firm next) old next) (sym (map-push s.messages m))
+        (leave-then (λ found is. made-before day (firm old) found hs h is) (λ found is. made-last day (firm old) (firm mid) found hs h s.replies (s.run was standing) plain is) plain so_far made)
+
+    shut-more : sure next → clean old → stands old → IsFrontRun day (firm old) messages-more (before_fault replies-more)
+    shut-more sure clean stands =
+        let was = λ (plain : AreNoFaults s.replies). served-before sure clean stands plain in
+        fault-front (IsFrontRun day (firm old) messages-more) s.replies reply (front-more day (firm old) s.messages m (before_fault s.replies) (s.shut (kept.was_sure sure) clean stands))
+        (λ plain. front-whole day (firm old) (firm mid) s.messages (m ∷ []) s.replies (s.run (was plain) stands))
+        (λ plain fine. subst (λ (l : List Message). IsFrontRun day (firm old) l replies-more) (append-nil messages-more)
+        (front-whole day (firm old) (firm next) messages-more [] replies-more (run-more (served-after sure clean stands plain fine) stands)))
+
     kept-more : KeepsBook clean sure stands refusals (counted_replies replies-more) old next
-    kept-more = kept-as (λ clean stands. sym (counted-push s.replies reply (refusals old))) (kept-then s.kept kept)
+    kept-more = kept-as (λ sure stands. sym (counted-push s.replies reply (refusals old))) (kept-then s.kept kept)
 
     read-more : Began stream messages-more left
     read-more = began-push stream unread left s.messages m s.read comes
@@ -135,10 +197,12 @@ module _ {B : Type 0} (clean sure stands : B → Type 0) (firm : B → Firm) (re
       written = subst (λ (t : List ℕ). Appends before later t) (sym (flat-push s.replies reply)) (Appends-trans before after later (replies_bytes s.replies) (reply_bytes reply) s.written wrote);
       run = run-more;
       kept = kept-more;
+      crash = crash-more;
+      shut = shut-more;
     }
 
     -- a write failed in the reply
-    pub served-write_fault : WroteFront after later (reply_bytes reply) → Served clean sure stands firm refusals day stream before old ends.WriteFault later next
+    pub served-write_fault : WroteFront after later (reply_bytes reply) → WasServed ends.WriteFault later next
     served-write_fault wrote =
         let all : replies_bytes s.replies ++ reply_bytes reply ≡ whole_text replies-more None = sym (append-nil (replies_bytes replies-more) ∙ flat-push s.replies reply) in
         record {
@@ -151,12 +215,22 @@ module _ {B : Type 0} (clean sure stands : B → Type 0) (firm : B → Firm) (re
           written = subst (λ (t : List ℕ × List ℕ). IsCut t.0 t.1 before later) (λ i. (all i, sym (last-push s.replies reply) i)) (cut-behind before after later (replies_bytes s.replies) (reply_bytes reply) s.written wrote);
           run = run-more;
           own = own-more;
+          covered = λ clean stands. runs-covered day (firm old) (firm next) (map heard_of messages-more) replies-more (sound old stands) (run-more clean stands);
           kept = kept-more;
+          crash = crash-more;
+          shut = shut-more;
+          serves = λ sure clean stands plain. (crash-more sure clean stands (none-at_all replies-more plain)).serves clean plain;
         }
 
   module _ (n : ℕ) (unread after : Option (List ℕ)) (new : B) (s : Serves n unread after new) where
     own : clean new → stands old → (m : ℕ) → IsUnstopped m (map heard_of s.messages) s.replies → IsOwn m day (firm old) (map heard_of s.messages) s.replies (firm new)
     own clean stands m fine = each-own m day (firm old) (map heard_of s.messages) s.replies (firm new) fine (sound-runs-are-runs day (firm old) (firm new) (map heard_of s.messages) s.replies (s.run clean stands))
+
+    covered : clean new → stands old → CoveredRun day (firm old) (map heard_of s.messages) s.replies (firm new)
+    covered clean stands = runs-covered day (firm old) (firm new) (map heard_of s.messages) s.replies (sound old stands) (s.run clean stands)
+
+    serves : sure new → clean old → stands old → AreNoFaults s.replies → clean new
+    serves sure clean stands plain = (s.crash sure clean stands (none-at_all s.replies plain)).serves clean plain
 
     no-tail : Appends before after (whole_text s.replies None)
     no-tail = subst (λ (t : List ℕ). Appends before after t) (sym (append-nil (replies_bytes s.replies))) s.written
@@ -167,17 +241,17 @@ module _ {B : Type 0} (clean sure stands : B → Type 0) (firm : B → Firm) (re
     with-tail : (later : Option (List ℕ)) (r : Refusal) (reply : Reply) → reply ≡ refused r → Appends after later (reply_bytes reply) → Appends before later (whole_text s.replies (Some r))
     with-tail later r reply is wrote = Appends-trans before after later (replies_bytes s.replies) (reply_bytes (refused r)) s.written (subst (λ (x : Reply). Appends after later (reply_bytes x)) is wrote)
 
-    pub served-ended : (left : Option (List ℕ)) → n < MESSAGE_LIMIT → IsNext unread left nexts.Ended → Served clean sure stands firm refusals day stream before old ends.Ended after new
-    served-ended left lt y = record { messages = s.messages; replies = s.replies; tail = None; read = read-ended stream unread left s.messages (below lt) s.read y; paired = s.paired; behind = refl; written = no-tail; run = s.run; own = own; kept = s.kept }
+    pub served-ended : (left : Option (List ℕ)) → n < MESSAGE_LIMIT → IsNext unread left nexts.Ended → WasServed ends.Ended after new
+    served-ended left lt y = record { messages = s.messages; replies = s.replies; tail = None; read = read-ended stream unread left s.messages (below lt) s.read y; paired = s.paired; behind = refl; written = no-tail; run = s.run; own = own; covered = covered; kept = s.kept; crash = s.crash; shut = s.shut; serves = serves }
 
-    pub served-limit : n ≡ MESSAGE_LIMIT → Served clean sure stands firm refusals day stream before old ends.Limit after new
-    served-limit e = record { messages = s.messages; replies = s.replies; tail = None; read = read-limit stream unread s.messages (s.many ∙ e) s.read; paired = s.paired; behind = refl; written = no-tail; run = s.run; own = own; kept = s.kept }
+    pub served-limit : n ≡ MESSAGE_LIMIT → WasServed ends.Limit after new
+    served-limit e = record { messages = s.messages; replies = s.replies; tail = None; read = read-limit stream unread s.messages (s.many ∙ e) s.read; paired = s.paired; behind = refl; written = no-tail; run = s.run; own = own; covered = covered; kept = s.kept; crash = s.crash; shut = s.shut; serves = serves }
 
-    pub served-read_fault : Served clean sure stands firm refusals day stream before old ends.ReadFault after new
-    served-read_fault = record { messages = s.messages; replies = s.replies; tail = None; read = began-some stream unread s.messages s.read; paired = s.paired; behind = refl; written = no-tail; run = s.run; own = own; kept = s.kept }
+    pub served-read_fault : WasServed ends.ReadFault after new
+    served-read_fault = record { messages = s.messages; replies = s.replies; tail = None; read = began-some stream unread s.messages s.read; paired = s.paired; behind = refl; written = no-tail; run = s.run; own = own; covered = covered; kept = s.kept; crash = s.crash; shut = s.shut; serves = serves }
 
     pub served-framing : (left later : Option (List ℕ)) (r : Refusal) (reply : Reply) → n < MESSAGE_LIMIT → IsNext unread left (nexts.Framing r) → reply ≡ refused r → Appends after later (reply_bytes reply)
-        → Served clean sure stands firm refusals day stream before old ends.BadFraming later new
+        → WasServed ends.BadFraming later new
     served-framing left later r reply lt y is wrote = record {
       messages = s.messages;
       replies = s.replies;
@@ -188,10 +262,14 @@ module _ {B : Type 0} (clean sure stands : B → Type 0) (firm : B → Firm) (re
       written = with-tail later r reply is wrote;
       run = s.run;
       own = own;
+      covered = covered;
       kept = s.kept;
+      crash = s.crash;
+      shut = s.shut;
+      serves = serves;
     }
 
-    pub served-no_memory : (later : Option (List ℕ)) (reply : Reply) → reply ≡ refused Memory → Appends after later (reply_bytes reply) → Served clean sure stands firm refusals day stream before old ends.NoMemory later new
+    pub served-no_memory : (later : Option (List ℕ)) (reply : Reply) → reply ≡ refused Memory → Appends after later (reply_bytes reply) → WasServed ends.NoMemory later new
     served-no_memory later reply is wrote = record {
       messages = s.messages;
       replies = s.replies;
@@ -202,20 +280,34 @@ module _ {B : Type 0} (clean sure stands : B → Type 0) (firm : B → Firm) (re
       written = with-tail later Memory reply is wrote;
       run = s.run;
       own = own;
+      covered = covered;
       kept = s.kept;
+      crash = s.crash;
+      shut = s.shut;
+      serves = serves;
     }
 
     -- a write failed in the refusal behind the replies
-    pub served-tail_fault : (later : Option (List ℕ)) (r : Refusal) (reply : Reply) → reply ≡ refused r → WroteFront after later (reply_bytes reply) → Served clean sure stands firm refusals day stream before old ends.WriteFault later new
-    served-tail_fault later r reply is wrote = record {
+    tail-fault : (later : Option (List ℕ)) (r : Refusal) (reply : Reply) → IfSome stream (λ bytes. AreBehind bytes s.messages (Some r)) → reply ≡ refused r → WroteFront after later (reply_bytes reply) → WasServed ends.WriteFault later new
+    tail-fault later r reply why is wrote = record {
       messages = s.messages;
       replies = s.replies;
       tail = Some r;
-      read = began-some stream unread s.messages s.read;
+      read = why;
       paired = s.paired;
       behind = tt;
       written = cut-behind before after later (replies_bytes s.replies) (reply_bytes (refused r)) s.written (subst (λ (x : Reply). WroteFront after later (reply_bytes x)) is wrote);
       run = s.run;
       own = own;
+      covered = covered;
       kept = s.kept;
+      crash = s.crash;
+      shut = s.shut;
+      serves = serves;
     }
+
+    pub served-framing_fault : (left later : Option (List ℕ)) (r : Refusal) (reply : Reply) → n < MESSAGE_LIMIT → IsNext unread left (nexts.Framing r) → reply ≡ refused r → WroteFront after later (reply_bytes reply) → WasServed ends.WriteFault later new
+    served-framing_fault left later r reply lt y is wrote = tail-fault later r reply (fault-behind stream unread left s.messages r (below lt) s.read y) is wrote
+
+    pub served-memory_fault : (later : Option (List ℕ)) (reply : Reply) → reply ≡ refused Memory → WroteFront after later (reply_bytes reply) → WasServed ends.WriteFault later new
+    served-memory_fault later reply is wrote = tail-fault later Memory reply (memory-behind stream unread s.messages s.read) is wrote

@@ -1,29 +1,23 @@
 -- A message is answered by one step of the firm.
-use Rattle.std.proofs.Common.{◌≡◌, ◌⊎◌, inl, inr, ℕ, Bool, true, false, List, [], ◌∷◌, ◌++◌, map, Result, Ok, Err, refl, sym, ap, ◌∙◌, subst}
-use Rattle.std.specs.Prelude.{MatchBool}
+use Rattle.std.proofs.Common.{◌≡◌, ◌⊎◌, inl, inr, ℕ, Bool, true, false, Ok, Err, refl, sym, ap, ◌∙◌, subst}
+use Rattle.std.specs.Prelude.{MatchBool, ⊤}
 use Rattle.trust_base.specs.Refusals.{is_fault}
 use Rattle.trust_base.specs.declared.refusal.Refusal.{Refusal}
 use Rattle.trust_base.specs.declared.refusal.Refusal.TheVariants.{Memory, Store}
 use Rattle.firm_rows.specs.Firm.{Firm}
 use Rattle.trust_desk.specs.declared.requests.Request.{Request}
-use Rattle.trust_desk.specs.declared.requests.Request.TheVariants as requests
 use Rattle.trust_desk.specs.declared.requests.Reply.{Reply}
-use Rattle.trust_desk.specs.Heard.{Heard, Asks, Unread}
+use Rattle.trust_desk.specs.Heard.{Heard, Asks}
 use Rattle.trust_desk.specs.Counts.{counted_refusal, counted_reply}
-use Rattle.trust_desk.specs.Replies.{refused}
-use Rattle.trust_desk.specs.ImportStep.{imported}
-use Rattle.trust_desk.specs.FirmStep.{Steps, Stopped}
+use Rattle.trust_desk.specs.Replies.{is_fault_reply, refused}
+use Rattle.trust_desk.specs.Crashes.{IsMade, MayLeave}
+use Rattle.trust_desk.specs.FirmStep.{Steps, firm_step}
+use Rattle.trust_desk.proofs.Crashes.{leave-as, leave-still}
+use Rattle.trust_desk.proofs.MadeRows.{plain-step}
+use Rattle.trust_desk.proofs.Steps.{nothing-done}
 use Rattle.portal_messages.specs.declared.message.Message.{Message}
-use Rattle.portal_messages.specs.Fields.{path_of}
-use Rattle.portal_requests.specs.Paths.{named_in}
 use Rattle.portal_requests.specs.Requests.{heard_of, request}
 use Rattle.portal_requests.proofs.HeardFacts.{heard-asks, heard-unread}
-
--- nothing was done
-nothing-done : (day : ℕ) (firm : Firm) (h : Heard) → Stopped day firm h firm
-nothing-done day firm (Asks (requests.Matter m caller ask)) = refl
-nothing-done day firm (Asks (requests.Import caller statement)) = (imported caller statement, record { front = []; parts = refl; leaves = refl })
-nothing-done day firm (Unread named r) = refl
 
 pub asked-step : (day : ℕ) (firm new : Firm) (m : Message) (r : Request) (reply : Reply) → request m ≡ Ok r → Steps day firm (Asks r) reply new → Steps day firm (heard_of m) reply new
 asked-step day firm new m r reply e step = subst (λ (h : Heard). Steps day firm h reply new) (sym (heard-asks m r e)) step
@@ -39,6 +33,19 @@ refused-step day firm m why reply (inr other) is =
     cases : (T : Type 0) (b : Bool) → b ≡ false → MatchBool b T ((refused why ≡ refused why) × (firm ≡ firm))
     cases T true e = absurd (cc)
     cases T false e = (refl, refl)
+
+-- What a crash may leave.
+
+pub asked-leaves : {B : Type 0} {clean : B → Type 0} {leaves : B → Firm → Type 0} (day : ℕ) (firm : Firm) (old new : B) (m : Message) (r : Request) (reply : Reply) → request m ≡ Ok r
+    → MayLeave clean leaves (is_fault_reply reply ≡ false) (IsMade day firm (Asks r)) firm (firm_step day firm (Asks r)).firm old new
+    → MayLeave clean leaves (is_fault_reply reply ≡ false) (IsMade day firm (heard_of m)) firm (firm_step day firm (heard_of m)).firm old new
+asked-leaves {clean} {leaves} day firm old new m r reply e may =
+    subst (λ (h : Heard). MayLeave clean leaves (is_fault_reply reply ≡ false) (IsMade day firm h) firm (firm_step day firm h).firm old new) (sym (heard-asks m r e)) may
+
+pub refused-leaves : {B : Type 0} {clean : B → Type 0} {leaves : B → Firm → Type 0} (day : ℕ) (firm : Firm) (b : B) (m : Message) (why : Refusal) (reply : Reply) → (why ≡ Memory) ⊎ ((is_fault why ≡ false) × (request m ≡ Err why)) → reply ≡ refused why
+    → MayLeave clean leaves (is_fault_reply reply ≡ false) (IsMade day firm (heard_of m)) firm (firm_step day firm (heard_of m)).firm b b
+refused-leaves day firm b m why reply unread is =
+    leave-as {done = ⊤} (λ fine. tt) (λ found made. made) (λ fine. sym (plain-step day firm firm (heard_of m) reply fine (refused-step day firm m why reply unread is))) (leave-still firm b)
 
 -- such a message counts no fault of the store
 pub refused-counted : (m : Message) (why : Refusal) (reply : Reply) (n : ℕ) → (why ≡ Memory) ⊎ ((is_fault why ≡ false) × (request m ≡ Err why)) → reply ≡ refused why → n ≡ counted_reply reply n

@@ -1,5 +1,5 @@
 -- What is served of a stream.
-use Rattle.std.specs.Prelude.{◌≡◌, ◌≤◌, ◌<◌, ◌+◌, ℕ, List, [], ◌∷◌, ◌++◌, Option, Some, None, length, map, take, IfSome, ⊤}
+use Rattle.std.specs.Prelude.{◌≡◌, ◌⊎◌, ◌≤◌, ◌<◌, ◌+◌, ℕ, List, [], ◌∷◌, ◌++◌, Option, Some, None, length, map, take, IfSome, ⊤}
 use Rattle.std.specs.Io.KnownBytes.{Appends}
 use Rattle.trust_base.specs.declared.refusal.Refusal.{Refusal}
 use Rattle.trust_base.specs.declared.refusal.Refusal.TheVariants.{Memory}
@@ -7,8 +7,10 @@ use Rattle.firm_rows.specs.Firm.{Firm}
 use Rattle.trust_desk.specs.declared.requests.Reply.{Reply}
 use Rattle.trust_desk.specs.Calls.{KeepsBook}
 use Rattle.trust_desk.specs.Counts.{counted_replies}
+use Rattle.trust_desk.specs.Crashes.{AreNoFaults, AreNoFaultsButLast, IsMadeInRun, MayLeave, before_fault}
 use Rattle.trust_desk.specs.FirmStep.{IsUnstopped, RunsSoundly}
 use Rattle.trust_desk.specs.Isolation.{IsOwn}
+use Rattle.trust_desk.specs.NeverBelowZero.{CoveredRun}
 use Rattle.trust_desk.specs.Replies.{refused}
 use Rattle.portal_messages.specs.declared.message.Message.{Message}
 use Rattle.portal_messages.specs.Inputs.{Began}
@@ -47,13 +49,18 @@ IsTail ends.NoMemory tail = tail ≡ Some Memory
 abbrev pub AreFirst : List ℕ → List Message → Type 0
 AreFirst bytes ms = (rest : List ℕ) × BeginsWithAll bytes ms rest
 
+-- the bytes begin with these messages, and a refusal behind them is that of what stands there, or of want of memory
+abbrev pub AreBehind : List ℕ → List Message → Option Refusal → Type 0
+AreBehind bytes ms None = AreFirst bytes ms
+AreBehind bytes ms (Some r) = AreMessages bytes ms (messages.BadFraming r) ⊎ ((r ≡ Memory) × AreFirst bytes ms)
+
 -- these are all the messages, where the stream was served to its end, and else the first ones
 abbrev pub IsRead : StreamEnd → List ℕ → List Message → Option Refusal → Type 0
 IsRead ends.Ended bytes ms tail = AreMessages bytes ms messages.Ended
 IsRead ends.BadFraming bytes ms tail = (r : Refusal) × AreMessages bytes ms (messages.BadFraming r) × (tail ≡ Some r)
 IsRead ends.Limit bytes ms tail = AreMessages bytes ms messages.Limit
 IsRead ends.ReadFault bytes ms tail = AreFirst bytes ms
-IsRead ends.WriteFault bytes ms tail = AreFirst bytes ms
+IsRead ends.WriteFault bytes ms tail = AreBehind bytes ms tail
 IsRead ends.NoMemory bytes ms tail = AreFirst bytes ms
 
 -- a front of a text was written, with all of it but a part of the last answer
@@ -73,9 +80,26 @@ IsWritten ends.WriteFault replies tail before after =
     IsCut (whole_text replies tail) (last_text replies tail) before after
 IsWritten ends.NoMemory replies tail before after = Appends before after (whole_text replies tail)
 
--- Of a book only these are looked at: when its store is clean, is sure, and stands for a sound firm, the firm, and how
--- often it failed.
-module _ {B : Type 0} (clean sure stands : B → Type 0) (firm : B → Firm) (refusals : B → ℕ) where
+-- these replies are those of a run of the first messages, in which the firm is sound after each
+pub record IsFrontRun (day : ℕ) (firm : Firm) (messages : List Message) (replies : List Reply) : Type 0 where
+  pub front : List Message
+  pub rest : List Message
+  pub parts : front ++ rest ≡ messages
+  pub mid : Firm
+  pub run : RunsSoundly day firm (map heard_of front) replies mid
+
+-- Of a book only these are looked at: when its store is clean, is sure, and stands for a sound firm, what a crash may
+-- leave of it, the firm, and how often it failed.
+module _ {B : Type 0} (clean sure stands : B → Type 0) (leaves : B → Firm → Type 0) (firm : B → Firm)
+    (refusals : B → ℕ) where
+  -- what a crash may leave after these messages: what it might have left before, or the rows after some front of them,
+  -- with a part of the next; where no reply is Store or Memory, a settled book is settled, and a store that served
+  -- serves still
+  abbrev pub MayLeaveServed : ℕ → B → List Message → List Reply → B → Type 0
+  MayLeaveServed day old messages replies new =
+      MayLeave clean leaves (AreNoFaults replies) (IsMadeInRun day (firm old) (map heard_of messages)) (firm old)
+      (firm new) old new
+
   -- a stream was served: its messages and their replies, in order, what was written, and what became of the book
   pub record Served (day : ℕ) (stream before : Option (List ℕ)) (old : B) (end : StreamEnd) (after : Option (List ℕ))
       (new : B) : Type 0 where
@@ -91,7 +115,17 @@ module _ {B : Type 0} (clean sure stands : B → Type 0) (firm : B → Firm) (re
     -- each matter is answered by its own machine, which leaves it its rows
     pub own : clean new → stands old → (m : ℕ) → IsUnstopped m (map heard_of messages) replies
         → IsOwn m day (firm old) (map heard_of messages) replies (firm new)
+    -- no ledger is below zero, before, in and after each message and each item of an import
+    pub covered : clean new → stands old
+        → CoveredRun day (firm old) (map heard_of messages) replies (firm new)
     pub kept : KeepsBook clean sure stands refusals (counted_replies replies) old new
+    -- where the store served as the stream began, and no reply but the last is Store or Memory
+    pub crash : sure new → clean old → stands old → AreNoFaultsButLast replies
+        → MayLeaveServed day old messages replies new
+    -- the replies before the first that is are those of a run, also where a fault has shut the store since
+    pub shut : sure new → clean old → stands old → IsFrontRun day (firm old) messages (before_fault replies)
+    -- where none is, the store serves still, so that all of this holds of it
+    pub serves : sure new → clean old → stands old → AreNoFaults replies → clean new
 
   -- a stream is being served: so many messages were read and answered
   pub record Serving (day : ℕ) (stream before : Option (List ℕ)) (old : B) (n : ℕ) (unread after : Option (List ℕ))
@@ -104,3 +138,6 @@ module _ {B : Type 0} (clean sure stands : B → Type 0) (firm : B → Firm) (re
     pub written : Appends before after (replies_bytes replies)
     pub run : clean new → stands old → RunsSoundly day (firm old) (map heard_of messages) replies (firm new)
     pub kept : KeepsBook clean sure stands refusals (counted_replies replies) old new
+    pub crash : sure new → clean old → stands old → AreNoFaultsButLast replies
+        → MayLeaveServed day old messages replies new
+    pub shut : sure new → clean old → stands old → IsFrontRun day (firm old) messages (before_fault replies)

@@ -8,8 +8,10 @@ pub fn canonical_phrases()
     ensures { PhrasesAreCanonical }
 {}
 
-/// Two streams of messages over two firms with the same rows of a matter: where the same comes to the matter, it is
-/// answered by the same bytes, and its rows end the same, whatever else the streams and the firms have.
+/// In two sound firms that hold the same rows of a matter, whatever else their streams carry: if the requests and
+/// statement lines that name the matter are the same, each such request is answered by the same bytes, those of the
+/// matter's own machine, the matter's rows end the same, and no ledger ever falls below zero. Of streams in which the
+/// store or want of memory stopped a message that concerns the matter, nothing is said.
 pub fn two_streams()
     ensures { SameBytesForTheMatter }
 {}

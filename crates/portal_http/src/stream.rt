@@ -1,9 +1,11 @@
 // Serving a stream.
 
-ghost use Rattle.std.specs.Prelude.{◌≡◌, ℕ};
+ghost use Rattle.std.specs.Prelude.{◌≡◌, false, ℕ};
 ghost use Rattle.trust_desk.specs.Calls.{KeepsBook};
 ghost use Rattle.trust_desk.specs.Counts.{counted_reply};
-ghost use Rattle.trust_desk.specs.FirmStep.{Steps};
+ghost use Rattle.trust_desk.specs.Crashes.{IsMade, MayLeave};
+ghost use Rattle.trust_desk.specs.FirmStep.{Steps, firm_step};
+ghost use Rattle.trust_desk.specs.Replies.{is_fault_reply};
 ghost use Rattle.portal_requests.specs.Requests.{heard_of};
 ghost use Rattle.portal_http.specs.Served.{Served};
 
@@ -47,6 +49,12 @@ fn answer_message<B: Book>(
     ensures step { B.clean desk.new → B.stands desk.old
         → Steps day (B.firm desk.old) (heard_of message.now) result (B.firm desk.new) }
     ensures kept { KeepsBook B.clean B.sure B.stands B.refusals (counted_reply result) desk.old desk.new }
+
+    // A crash may leave what it might have left before, or the rows with the message's change; of an import the rows
+    // after some front of its items.
+    ensures crash { B.sure desk.new → B.clean desk.old → B.stands desk.old → MayLeave B.clean B.leaves
+        (is_fault_reply result ≡ false) (IsMade day (B.firm desk.old) (heard_of message.now)) (B.firm desk.old)
+        (firm_step day (B.firm desk.old) (heard_of message.now)).firm desk.old desk.new }
 {
     match request_of(alloc, routes, message) {
         Ok(request) => desk.answer(alloc, &request, day),
@@ -63,8 +71,8 @@ fn serve_routes<R: Read + Drop, W: Write, B: Book>(
     routes: &Routes,
     day: Day,
 ) -> StreamEnd
-    ensures { Served B.clean B.sure B.stands B.firm B.refusals day (R.remaining reader) (W.contents writer.old) desk.old
-        result (W.contents writer.new) desk.new }
+    ensures { Served B.clean B.sure B.stands B.leaves B.firm B.refusals day (R.remaining reader)
+        (W.contents writer.old) desk.old result (W.contents writer.new) desk.new }
 {
     let mut input = Input::new(alloc, reader);
     for _ in 0..MAX_MESSAGES {
@@ -100,7 +108,11 @@ fn serve_routes<R: Read + Drop, W: Write, B: Book>(
 /// What is written is the bytes of the replies to the messages that the stream's bytes have, and then of the refusal
 /// where something stands there that is no message, however the reads are cut. Where the book's store is clean as the
 /// call ends and stood for a sound firm as it began, replies and rows are those of the firm's steps, one message after
-/// another, the firm is sound after each, and each matter is answered by its own machine.
+/// another, the firm is sound after each, no ledger is ever below zero, and each matter is answered by its own machine.
+///
+/// A crash behind the call may leave what it might have left before, or the rows after some front of the messages, with
+/// a part of the next, where the store served as the call began and no reply but the last is Store or Memory. Where
+/// none is, a store that served serves still, and a settled book is settled.
 pub fn serve_stream<R: Read + Drop, W: Write, B: Book>(
     alloc: Global,
     reader: R,
@@ -108,8 +120,8 @@ pub fn serve_stream<R: Read + Drop, W: Write, B: Book>(
     desk: &mut Desk<B>,
     day: Day,
 ) -> StreamEnd
-    ensures { Served B.clean B.sure B.stands B.firm B.refusals day (R.remaining reader) (W.contents writer.old) desk.old
-        result (W.contents writer.new) desk.new }
+    ensures { Served B.clean B.sure B.stands B.leaves B.firm B.refusals day (R.remaining reader)
+        (W.contents writer.old) desk.old result (W.contents writer.new) desk.new }
 {
     match Routes::new(alloc) {
         Ok(routes) => serve_routes(alloc, reader, writer, desk, &routes, day),

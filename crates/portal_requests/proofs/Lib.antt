@@ -2,3 +2,6 @@ pub mod HeardFacts
 pub mod RouteFacts
 pub mod BodyFacts
 pub mod AskFacts
+pub mod Literals
+pub mod PathFacts
+pub mod Least

@@ -34,6 +34,7 @@ matter_ask matter.AddSeat body = seating_in body
 matter_ask matter.DropSeat body = dropping_in body
 matter_ask matter.Close body = with_body [] body (λ d. Ok ask.CloseMatter)
 matter_ask matter.Purge body = with_body [] body (λ d. Ok ask.Purge)
+matter_ask matter.Accounting body = Ok ask.Accounting
 
 -- ---- of an entry
 

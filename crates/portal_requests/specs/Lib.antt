@@ -7,3 +7,5 @@ pub mod Bodies
 pub mod Asked
 pub mod Requests
 pub mod Answers
+pub mod NamedByPath
+pub mod LeastRefusal

@@ -13,13 +13,13 @@ abbrev pub behind_slash : List ℕ → List ℕ
 behind_slash [] = []
 behind_slash (b ∷ bs) = if b == 47 then bs else behind_slash bs
 
--- the part that stands for a matter, behind /matters/
-abbrev pub matter_part : List ℕ → List ℕ
-matter_part path = up_to_slash (drop 9 path)
-
 -- the part that stands for an entry, behind /matters/, the matter and /entries/
 abbrev pub entry_part : List ℕ → List ℕ
 entry_part path = up_to_slash (behind_slash (behind_slash (drop 9 path)))
+
+-- the part that stands for a day, behind /firm/reconciliation/
+abbrev pub day_part : List ℕ → List ℕ
+day_part path = drop 21 path
 
 abbrev pub ends_or_goes_on : List ℕ → Bool
 ends_or_goes_on [] = true

@@ -15,6 +15,7 @@ matter_method matter.AddSeat = codes "POST"
 matter_method matter.DropSeat = codes "POST"
 matter_method matter.Close = codes "POST"
 matter_method matter.Purge = codes "POST"
+matter_method matter.Accounting = codes "GET"
 
 abbrev pub entry_method : EntryPlace → List ℕ
 entry_method entry.Show = codes "GET"
@@ -33,4 +34,5 @@ entry_method entry.Award = codes "POST"
 abbrev pub method_of : Place → List ℕ
 method_of (place.Matter p) = matter_method p
 method_of (place.Entry p) = entry_method p
+method_of (place.Report p) = codes "GET"
 method_of place.Statements = codes "POST"

@@ -1,7 +1,7 @@
 -- What a message asks. Its refusals come in this order: no route, another method, no caller, a field.
 use Rattle.std.specs.Prelude.{ℕ, List, Option, Some, None, Result, Ok, Err, if◌then◌else◌}
 use Rattle.std.specs.Str.{bytes_eq}
-use Rattle.trust_values.specs.Texts.{matter_of}
+use Rattle.trust_values.specs.Texts.{day_of}
 use Rattle.trust_base.specs.declared.refusal.Refusal.{Refusal}
 use Rattle.trust_base.specs.declared.refusal.Refusal.TheVariants.{BadField, BadMethod, NoCaller, NoRoute}
 use Rattle.trust_base.specs.declared.refusal.Field.{Field}
@@ -13,11 +13,13 @@ use Rattle.trust_desk.specs.declared.requests.Request.TheVariants as requests
 use Rattle.trust_desk.specs.Heard.{Heard, Asks, Unread}
 use Rattle.portal_messages.specs.declared.message.Message.{Message}
 use Rattle.portal_messages.specs.Fields.{path_of}
+use Rattle.portal_requests.specs.declared.place.ReportPlace.{ReportPlace}
+use Rattle.portal_requests.specs.declared.place.ReportPlace.TheVariants as report
 use Rattle.portal_requests.specs.declared.place.Place.{Place}
 use Rattle.portal_requests.specs.declared.place.Place.TheVariants as place
 use Rattle.portal_requests.specs.Asked.{entry_ask, matter_ask}
 use Rattle.portal_requests.specs.Callers.{caller_of}
-use Rattle.portal_requests.specs.Paths.{entry_part, matter_part, named_in}
+use Rattle.portal_requests.specs.Paths.{day_part, entry_part, named_in}
 use Rattle.portal_requests.specs.Places.{method_of}
 use Rattle.portal_requests.specs.Routing.{place_of}
 
@@ -27,10 +29,23 @@ of_matter caller None asked = Err (BadField field.Matter)
 of_matter caller (Some m) (Err f) = Err (BadField f)
 of_matter caller (Some m) (Ok a) = Ok (requests.Matter m caller a)
 
+-- the reconciliation as of the day of a path
+abbrev pub as_of : Caller → Option ℕ → Result Request Refusal
+as_of caller None = Err (BadField field.Day)
+as_of caller (Some day) = Ok (requests.Reconcile caller day)
+
+abbrev pub reported : ReportPlace → Caller → List ℕ → Result Request Refusal
+reported report.Exceptions caller path = Ok (requests.Exceptions caller)
+reported report.TrialBalance caller path = Ok (requests.Trial caller)
+reported report.Journal caller path = Ok (requests.Journal caller)
+reported report.Reconciliation caller path = as_of caller (day_of (day_part path))
+reported report.Retention caller path = Ok (requests.Retention caller)
+
 abbrev pub asked_at : Place → Caller → List ℕ → List ℕ → Result Request Refusal
-asked_at (place.Matter p) caller path body = of_matter caller (matter_of (matter_part path)) (matter_ask p body)
+asked_at (place.Matter p) caller path body = of_matter caller (named_in path) (matter_ask p body)
 asked_at (place.Entry p) caller path body =
-    of_matter caller (matter_of (matter_part path)) (entry_ask p (entry_part path) body)
+    of_matter caller (named_in path) (entry_ask p (entry_part path) body)
+asked_at (place.Report p) caller path body = reported p caller path
 asked_at place.Statements caller path body = Ok (requests.Import caller body)
 
 abbrev pub called : Place → Option Caller → List ℕ → List ℕ → Result Request Refusal

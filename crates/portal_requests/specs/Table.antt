@@ -8,8 +8,9 @@ use Rattle.matchit.specs.Route.{Scan, parse_route}
 use Rattle.matchit.specs.declared.error.InsertError.{InsertError}
 use Rattle.portal_requests.specs.declared.place.MatterPlace.TheVariants as matter
 use Rattle.portal_requests.specs.declared.place.EntryPlace.TheVariants as entry
+use Rattle.portal_requests.specs.declared.place.ReportPlace.TheVariants as report
 use Rattle.portal_requests.specs.declared.place.Place.{Place}
-use Rattle.portal_requests.specs.declared.place.Place.TheVariants.{Matter, Entry, Statements}
+use Rattle.portal_requests.specs.declared.place.Place.TheVariants.{Matter, Entry, Report, Statements}
 
 -- the rows with one more route
 abbrev pub row_in : Result Scan InsertError → Place → RowsOf (RouteOf Place) → RowsOf (RouteOf Place)
@@ -25,7 +26,7 @@ route_rows (p ∷ rest) rows = route_rows rest (row_in (parse_route p.0) p.1 row
 abbrev pub rows_of : List (Bor (List ℕ) × Place) → List (List ℕ × Place)
 rows_of = map (λ p. (p.0.now, p.1))
 
--- the paths that have a route, and where each leads; a report has none, since the desk has no request for one
+-- the paths that have a route, and where each leads
 unfoldable pub TABLE : List (List ℕ × Place)
 TABLE = (codes "/matters/{m}", Matter matter.Show)
     ∷ (codes "/matters/{m}/open", Matter matter.Open)
@@ -33,6 +34,7 @@ TABLE = (codes "/matters/{m}", Matter matter.Show)
     ∷ (codes "/matters/{m}/seats/drop", Matter matter.DropSeat)
     ∷ (codes "/matters/{m}/close", Matter matter.Close)
     ∷ (codes "/matters/{m}/purge", Matter matter.Purge)
+    ∷ (codes "/matters/{m}/accounting", Matter matter.Accounting)
     ∷ (codes "/matters/{m}/entries/{e}", Entry entry.Show)
     ∷ (codes "/matters/{m}/entries/{e}/deposit", Entry entry.Deposit)
     ∷ (codes "/matters/{m}/entries/{e}/cancel", Entry entry.Cancel)
@@ -45,7 +47,12 @@ TABLE = (codes "/matters/{m}", Matter matter.Show)
     ∷ (codes "/matters/{m}/entries/{e}/offer", Entry entry.Offer)
     ∷ (codes "/matters/{m}/entries/{e}/accept", Entry entry.Accept)
     ∷ (codes "/matters/{m}/entries/{e}/award", Entry entry.Award)
-    ∷ (codes "/firm/statements", Statements) ∷ []
+    ∷ (codes "/firm/statements", Statements)
+    ∷ (codes "/firm/exceptions", Report report.Exceptions)
+    ∷ (codes "/firm/trial-balance", Report report.TrialBalance)
+    ∷ (codes "/firm/journal", Report report.Journal)
+    ∷ (codes "/firm/reconciliation/{day}", Report report.Reconciliation)
+    ∷ (codes "/firm/retention", Report report.Retention) ∷ []
 
 unfoldable pub the_routes : RowsOf (RouteOf Place)
 the_routes = route_rows TABLE []

@@ -4,6 +4,7 @@
 mod body;
 mod caller;
 mod entry_asks;
+pub mod laws;
 mod matter_asks;
 mod named;
 mod parts;

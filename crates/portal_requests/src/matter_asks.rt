@@ -64,5 +64,6 @@ pub(crate) fn read_matter_ask(
         MatterPlace::DropSeat => read_dropping_in(alloc, body),
         MatterPlace::Close => read_bare(alloc, Ask::CloseMatter, body),
         MatterPlace::Purge => read_bare(alloc, Ask::Purge, body),
+        MatterPlace::Accounting => Ok(Ask::Accounting),
     }
 }

@@ -1,7 +1,7 @@
 // The parts of a path.
 
 ghost use Rattle.std.specs.Prelude.{◌≡◌, drop, length, ◌≤◌};
-ghost use Rattle.portal_requests.specs.Paths.{behind_slash, entry_part, matter_part, up_to_slash};
+ghost use Rattle.portal_requests.specs.Paths.{behind_slash, day_part, entry_part, up_to_slash};
 
 // The bytes before the first slash.
 fn up_to_slash(bytes: &[u8]) -> &[u8]
@@ -37,16 +37,16 @@ fn behind(bytes: &[u8], n: usize) -> &[u8]
     bytes.split_at(n).1
 }
 
-/// The part of a path that stands for a matter, behind `/matters/`.
-pub(crate) fn matter_part(path: &[u8]) -> &[u8]
-    ensures { result.now ≡ matter_part path.now }
-{
-    up_to_slash(behind(path, 9))
-}
-
 /// The part of a path that stands for an entry, behind `/matters/`, the matter and `/entries/`.
 pub(crate) fn entry_part(path: &[u8]) -> &[u8]
     ensures { result.now ≡ entry_part path.now }
 {
     up_to_slash(behind_slash(behind_slash(behind(path, 9))))
+}
+
+/// The part of a path that stands for a day, behind `/firm/reconciliation/`.
+pub(crate) fn day_part(path: &[u8]) -> &[u8]
+    ensures { result.now ≡ day_part path.now }
+{
+    behind(path, 21)
 }

@@ -12,6 +12,7 @@ pub(crate) enum MatterPlace {
     DropSeat,
     Close,
     Purge,
+    Accounting,
 }
 
 /// What a route asks of an entry.
@@ -31,13 +32,25 @@ pub(crate) enum EntryPlace {
     Award,
 }
 
-/// Where a route leads. A report has no place here, since the desk has no request for one: its path has no route.
+/// What a route asks of the firm, to be told in a text.
+#[derive(Clone, Copy, PartialEq, Eq, Debug)]
+pub(crate) enum ReportPlace {
+    Exceptions,
+    TrialBalance,
+    Journal,
+    Reconciliation,
+    Retention,
+}
+
+/// Where a route leads.
 #[derive(Clone, Copy, PartialEq, Eq, Debug)]
 pub(crate) enum Place {
     /// To a matter.
     Matter(MatterPlace),
     /// To an entry of a matter.
     Entry(EntryPlace),
+    /// To a report on the firm.
+    Report(ReportPlace),
     /// To a statement of the bank.
     Statements,
 }
@@ -47,7 +60,9 @@ pub(crate) fn method(place: Place) -> &'static [u8]
     ensures { result.now ≡ method_of place }
 {
     match place {
-        Place::Matter(MatterPlace::Show) | Place::Entry(EntryPlace::Show) => b"GET",
+        Place::Matter(MatterPlace::Show | MatterPlace::Accounting)
+        | Place::Entry(EntryPlace::Show)
+        | Place::Report(_) => b"GET",
         Place::Matter(_) | Place::Entry(_) | Place::Statements => b"POST",
     }
 }

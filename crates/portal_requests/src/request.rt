@@ -1,20 +1,20 @@
 // The request of a message.
 
-ghost use Rattle.trust_values.specs.Texts.{matter_of};
 ghost use Rattle.portal_requests.specs.Answers.{Answers};
 ghost use Rattle.portal_requests.specs.Asked.{entry_ask, matter_ask};
-ghost use Rattle.portal_requests.specs.Paths.{entry_part, matter_part};
-ghost use Rattle.portal_requests.specs.Requests.{asked_at, of_matter, request};
+ghost use Rattle.portal_requests.specs.Paths.{entry_part, named_in};
+ghost use Rattle.portal_requests.specs.Requests.{asked_at, of_matter, reported, request};
 
 use crate::caller::caller;
 use crate::entry_asks::read_entry_ask;
 use crate::matter_asks::read_matter_ask;
-use crate::parts::{entry_part, matter_part};
-use crate::place::{EntryPlace, MatterPlace, Place, method};
+use crate::named::named_matter;
+use crate::parts::{day_part, entry_part};
+use crate::place::{EntryPlace, MatterPlace, Place, ReportPlace, method};
 use crate::routes::Routes;
 use portal_messages::{Message, path};
 use std::alloc::Global;
-use trust_base::{Field, MatterNo, OwnedBytes, Refusal};
+use trust_base::{Day, Field, OwnedBytes, Refusal};
 use trust_desk::Request;
 use trust_matter::Caller;
 
@@ -26,9 +26,9 @@ fn read_matter_at(
     path: &[u8],
     body: &[u8],
 ) -> Result<Request, Refusal>
-    ensures { Answers (of_matter caller (matter_of (matter_part path.now)) (matter_ask place body.now)) result }
+    ensures { Answers (of_matter caller (named_in path.now) (matter_ask place body.now)) result }
 {
-    let Some(no) = MatterNo::read(matter_part(path)) else {
+    let Some(no) = named_matter(path) else {
         return Err(Refusal::BadField(Field::Matter));
     };
     match read_matter_ask(alloc, place, body) {
@@ -45,15 +45,31 @@ fn read_entry_at(
     path: &[u8],
     body: &[u8],
 ) -> Result<Request, Refusal>
-    ensures { Answers (of_matter caller (matter_of (matter_part path.now))
+    ensures { Answers (of_matter caller (named_in path.now)
         (entry_ask place (entry_part path.now) body.now)) result }
 {
-    let Some(no) = MatterNo::read(matter_part(path)) else {
+    let Some(no) = named_matter(path) else {
         return Err(Refusal::BadField(Field::Matter));
     };
     match read_entry_ask(alloc, place, entry_part(path), body) {
         Ok(ask) => Ok(Request::Matter { no, caller, ask }),
         Err(why) => Err(why),
+    }
+}
+
+// The report that a path asks for.
+fn read_report_at(place: ReportPlace, caller: Caller, path: &[u8]) -> Result<Request, Refusal>
+    ensures { Answers (reported place caller path.now) result }
+{
+    match place {
+        ReportPlace::Exceptions => Ok(Request::Exceptions(caller)),
+        ReportPlace::TrialBalance => Ok(Request::Trial(caller)),
+        ReportPlace::Journal => Ok(Request::Journal(caller)),
+        ReportPlace::Reconciliation => match Day::read(day_part(path)) {
+            Some(day) => Ok(Request::Reconcile(caller, day)),
+            None => Err(Refusal::BadField(Field::Day)),
+        },
+        ReportPlace::Retention => Ok(Request::Retention(caller)),
     }
 }
 
@@ -69,6 +85,7 @@ fn read_at(
     match place {
         Place::Matter(place) => read_matter_at(alloc, place, caller, path, body),
         Place::Entry(place) => read_entry_at(alloc, place, caller, path, body),
+        Place::Report(place) => read_report_at(place, caller, path),
         Place::Statements => Ok(Request::Import {
             caller,
             statement: OwnedBytes::new(Vec::from_slice(alloc, body)?),
@@ -77,7 +94,7 @@ fn read_at(
 }
 
 /// The request of a message, or the first of these refusals: `NoRoute`, `BadMethod`, `NoCaller`, and `BadField` of the
-/// matter, the entry, the body or the first field that is not of its form; or want of memory.
+/// matter, the entry, the day, the body or the first field that is not of its form; or want of memory.
 #[tactic(auto, unfolding(crate::specs::Requests::request))]
 pub fn request_of(alloc: Global, routes: &Routes, message: &Message) -> Result<Request, Refusal>
     ensures { Answers (request message.now) result }

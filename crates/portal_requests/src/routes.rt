@@ -6,7 +6,7 @@ ghost use Rattle.matchit.specs.Seek.{first};
 ghost use Rattle.portal_requests.specs.Routing.{place_of};
 ghost use Rattle.portal_requests.specs.Table.{row_in, route_rows, rows_of, the_routes};
 
-use crate::place::{EntryPlace, MatterPlace, Place};
+use crate::place::{EntryPlace, MatterPlace, Place, ReportPlace};
 use matchit::{InsertError, Router};
 use std::alloc::Global;
 use std::marker::Model;
@@ -62,6 +62,10 @@ impl Routes {
             ),
             ("/matters/{m}/close", Place::Matter(MatterPlace::Close)),
             ("/matters/{m}/purge", Place::Matter(MatterPlace::Purge)),
+            (
+                "/matters/{m}/accounting",
+                Place::Matter(MatterPlace::Accounting),
+            ),
             ("/matters/{m}/entries/{e}", Place::Entry(EntryPlace::Show)),
             (
                 "/matters/{m}/entries/{e}/deposit",
@@ -108,6 +112,17 @@ impl Routes {
                 Place::Entry(EntryPlace::Award),
             ),
             ("/firm/statements", Place::Statements),
+            ("/firm/exceptions", Place::Report(ReportPlace::Exceptions)),
+            (
+                "/firm/trial-balance",
+                Place::Report(ReportPlace::TrialBalance),
+            ),
+            ("/firm/journal", Place::Report(ReportPlace::Journal)),
+            (
+                "/firm/reconciliation/{day}",
+                Place::Report(ReportPlace::Reconciliation),
+            ),
+            ("/firm/retention", Place::Report(ReportPlace::Retention)),
         ];
         let router = router_of(alloc, &table)?;
         Ok(Routes { router })

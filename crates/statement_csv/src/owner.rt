@@ -38,12 +38,8 @@ fn read_named(reference: &[u8]) -> Option<NamedEntry>
     if reference.len() != 12 || reference[0] != b'M' || reference[7] != b'-' {
         return None;
     }
-    let Some(matter) = MatterNo::read(&reference[1..7]) else {
-        return None;
-    };
-    let Some(entry) = EntryNo::read(&reference[8..12]) else {
-        return None;
-    };
+    let matter = MatterNo::read(&reference[1..7])?;
+    let entry = EntryNo::read(&reference[8..12])?;
     Some(NamedEntry { matter, entry })
 }
 

@@ -32,9 +32,9 @@ fn is_printed(text: &[u8]) -> bool
     text.iter().all(|byte| 0x20 <= *byte && *byte <= 0x7E)
 }
 
-/// Whether a text may be a reference of a bank: at most 64 bytes, each of 0x20 to 0x7E.
+// Whether a text may be a reference of a bank: at most 64 bytes, each of 0x20 to 0x7E.
 #[tactic(auto, unfolding(crate::specs::BankTexts::is_bank_text))]
-pub fn is_bank_text(text: &[u8]) -> bool
+fn is_bank_text(text: &[u8]) -> bool
     ensures { result ≡ bank_text_form text.now }
 {
     text.len() <= MAX_BANK_TEXT && is_printed(text)

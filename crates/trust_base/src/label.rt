@@ -33,9 +33,9 @@ fn has_control(text: &str) -> bool
     text.chars().any(|character| character.is_control())
 }
 
-/// Whether a text is a label: 1 to 80 bytes of UTF-8 without a character U+0000 to U+001F or U+007F to U+009F.
+// Whether a text is a label: 1 to 80 bytes of UTF-8 without a character U+0000 to U+001F or U+007F to U+009F.
 #[tactic(auto, unfolding(crate::specs::Names::is_label_text))]
-pub fn is_label(text: &[u8]) -> bool
+fn is_label(text: &[u8]) -> bool
     ensures { result ≡ is_label_text text.now }
 {
     if text.is_empty() || text.len() > MAX_LABEL {

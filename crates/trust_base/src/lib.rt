@@ -10,15 +10,15 @@ mod person_id;
 mod refusal;
 mod refusal_text;
 
-pub use bank_text::{BankText, is_bank_text};
+pub use bank_text::BankText;
 pub use byte_streams::{
     InputFault, OwnedBytes, TrialReader, TrialWriter, WriteFault, read_whole, send,
 };
-pub use label::{Label, is_label};
+pub use label::Label;
 pub use limits::{MAX_BANK_TEXT, MAX_FILE_BYTES, MAX_LABEL, MAX_LINE_TEXT, MAX_PERSON};
 pub use line::Line;
-pub use line_text::{LineText, is_line_text};
-pub use person_id::{PersonId, is_person};
+pub use line_text::LineText;
+pub use person_id::PersonId;
 pub use refusal::{Field, Refusal, Rule, StoreFault};
 pub use refusal_text::RefusalText;
 pub use trust_values::{

@@ -34,9 +34,9 @@ fn is_text(bytes: &[u8]) -> bool
     }
 }
 
-/// Whether a text may be the text of a bank's line: at most 1000 bytes of UTF-8.
+// Whether a text may be the text of a bank's line: at most 1000 bytes of UTF-8.
 #[tactic(auto, unfolding(crate::specs::BankTexts::is_line_text))]
-pub fn is_line_text(text: &[u8]) -> bool
+fn is_line_text(text: &[u8]) -> bool
     ensures { result ≡ line_text_form text.now }
 {
     text.len() <= MAX_LINE_TEXT && is_text(text)

@@ -42,9 +42,9 @@ fn has_name_bytes(text: &[u8]) -> bool
     text.iter().all(|byte| is_name_byte(*byte))
 }
 
-/// Whether a text is a person's name: 1 to 32 of `a` to `z`, `0` to `9`, `.` and `-`, and not `cashier`.
+// Whether a text is a person's name: 1 to 32 of `a` to `z`, `0` to `9`, `.` and `-`, and not `cashier`.
 #[tactic(auto, unfolding(crate::specs::Names::is_person_text))]
-pub fn is_person(text: &[u8]) -> bool
+fn is_person(text: &[u8]) -> bool
     ensures { result ≡ is_person_text text.now }
 {
     !text.is_empty()

@@ -96,6 +96,16 @@ none-or-before (s ∷ rs) r = cases (is_fault_reply s) refl (none-or-before rs r
     cases false fine (inl plain) = inl (fine, plain)
     cases false fine (inr same) = inr (ap (λ (l : List Reply). cond (is_fault_reply s) [] (s ∷ l)) same)
 
+-- what holds of the replies before a fault holds of those before a fault with one reply more
+pub fault-front : (Holds : List Reply → Type 0) (rs : List Reply) (r : Reply) → Holds (before_fault rs) → (AreNoFaults rs → Holds rs) → (AreNoFaults rs → is_fault_reply r ≡ false → Holds (rs ++ r ∷ []))
+    → Holds (before_fault (rs ++ r ∷ []))
+fault-front Holds rs r before now next = cases (none-or-before rs r) (is_fault_reply r) refl
+  where
+    cases : AreNoFaults rs ⊎ (before_fault (rs ++ r ∷ []) ≡ before_fault rs) → (b : Bool) → is_fault_reply r ≡ b → Holds (before_fault (rs ++ r ∷ []))
+    cases (inr same) b fault = subst Holds (sym same) before
+    cases (inl plain) true fault = subst Holds (sym (before-last rs r plain fault)) (now plain)
+    cases (inl plain) false fine = subst Holds (sym (before-none (rs ++ r ∷ []) (none-more rs r plain fine))) (next plain fine)
+
 -- these replies are those of a run of the first requests
 abbrev pub AreRun : ℕ → Firm → List Request → List Reply → Type 0
 AreRun day firm requests rs = (mid : Firm) × RunsSoundly day firm (heard (take (length rs) requests)) rs mid
@@ -104,9 +114,6 @@ AreRun day firm requests rs = (mid : Firm) × RunsSoundly day firm (heard (take 
 pub run-before : (day : ℕ) (firm : Firm) (requests : List Request) (rs all : List Reply) (r : Reply) → all ≡ rs ++ r ∷ []
     → AreRun day firm requests (before_fault rs) → (AreNoFaults rs → AreRun day firm requests rs) → (AreNoFaults rs → is_fault_reply r ≡ false → AreRun day firm requests all)
     → AreRun day firm requests (before_fault all)
-run-before day firm requests rs all r is before now next = cases (none-or-before rs r) (is_fault_reply r) refl
-  where
-    cases : AreNoFaults rs ⊎ (before_fault (rs ++ r ∷ []) ≡ before_fault rs) → (b : Bool) → is_fault_reply r ≡ b → AreRun day firm requests (before_fault all)
-    cases (inr same) b fault = subst (AreRun day firm requests) (sym (ap before_fault is ∙ same)) before
-    cases (inl plain) true fault = subst (AreRun day firm requests) (sym (ap before_fault is ∙ before-last rs r plain fault)) (now plain)
-    cases (inl plain) false fine = subst (AreRun day firm requests) (is ∙ (sym (before-none (rs ++ r ∷ []) (none-more rs r plain fine)) ∙ sym (ap before_fault is))) (next plain fine)
+run-before day firm requests rs all r is before now next =
+    subst (λ (l : List Reply). AreRun day firm requests (before_fault l)) (sym is)
+    (fault-front (AreRun day firm requests) rs r before now (λ plain fine. subst (AreRun day firm requests) is (next plain fine)))

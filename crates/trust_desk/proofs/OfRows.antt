@@ -10,16 +10,16 @@ use Rattle.matter_rows.specs.Sound.{Sound}
 use Rattle.matter_rows.specs.Balances.{left_in}
 use Rattle.trust_matter.specs.Facts.{Asked, number_named, other_of, facts_of}
 use Rattle.trust_matter.specs.Conditions.{is_repeat}
-use Rattle.matter_parts.specs.Parts.{Part, IsPart, HoldsOn, kept_at, entry_in, left_kept, is_held, is_held_or_none}
+use Rattle.matter_parts.specs.Parts.{Part, IsPart, IsWhole, HoldsOn, kept_at, entry_in, left_kept, is_held, is_held_or_none}
 use Rattle.trust_matter.specs.KeptFacts.{holds_for}
 use Rattle.matter_parts.specs.Changes.{MatterChange, IsChange, changed, changed_by}
 use Rattle.trust_matter.specs.Step.{IsDecided, edit_of, edit_on, after, rows_after}
 use Rattle.matter_parts.proofs.Parts.{held-entry}
 use Rattle.trust_matter.proofs.Parts.{both}
-use Rattle.trust_desk.specs.declared.requests.Body.TheVariants.{Json}
 use Rattle.matter_bodies.specs.Bodies.{receipt_body, entry_body}
-use Rattle.trust_desk.specs.Replies.{made_text, shown_text, body_of, success_of, replied}
-use Rattle.trust_desk.specs.Plan.{is_nothing, success_by, IsTextOf, IsPlanned}
+use Rattle.trust_desk.specs.declared.requests.Body.{Body}
+use Rattle.trust_desk.specs.Replies.{made_text, shown_text, body_of, said, success_of, replied}
+use Rattle.trust_desk.specs.Plan.{is_nothing, success_by, IsBodyOf, IsTextOf, IsPlanned, IsWholeForCard}
 
 -- A body of what is kept.
 
@@ -83,19 +83,21 @@ status-same (ask.Award a) again e day = refl
 status-same ask.CloseMatter again e day = refl
 status-same ask.Purge again e day = refl
 status-same ask.Show again e day = refl
+status-same ask.Accounting again e day = refl
 status-same (ask.ShowEntry n) again e day = refl
 
-pub planned : (number : ℕ) (rows : Rows) (a : Asked) (c : MatterChange) (m m' : Part) (text : List ℕ) (status : ℕ) → Sound rows → IsPart m rows → holds_for m a.ask ≡ true → IsDecided rows a c
+pub planned : (number : ℕ) (rows : Rows) (a : Asked) (c : MatterChange) (m m' : Part) (text : List ℕ) (body : Body) (status : ℕ) → Sound rows → IsPart m rows → holds_for m a.ask ≡ true → IsWholeForCard a.ask m rows → IsDecided rows a c
     → ((rs : Rows) → Sound rs → IsPart m rs → IsChange rs c → IsPart m' (changed c rs))
     → ((rs : Rows) → Sound rs → IsPart m rs → IsChange rs c → HoldsOn m m')
-    → IsTextOf m' (number_named a.ask) (λ rs. body_of number rs a.ask) text → status ≡ success_by a.ask c.edit
-    → IsPlanned number rows a (record { change = c; reply = record { status = status; body = Json text } })
-planned number rows a c m m' text status sound p holds d part on is said =
+    → (IsWhole m rows → IsChange rows c → IsWhole m' (changed c rows))
+    → IsBodyOf number a.ask m' text → body ≡ said a.ask text → status ≡ success_by a.ask c.edit
+    → IsPlanned number rows a (record { change = c; reply = record { status = status; body = body } })
+planned number rows a c m m' text body status sound p holds whole d part on keeps is says told =
     let held = both (is_held_or_none m (number_named a.ask)) (is_held_or_none m (other_of a.ask (entry_in (kept_at m (number_named a.ask))))) holds in
-    let texts : text ≡ body_of number (changed c rows) a.ask = is (changed c rows) d.change.sound (part rows sound p d.change) (held-on m m' (number_named a.ask) (on rows sound p d.change) held.0) in
+    let texts : text ≡ body_of number (changed c rows) a.ask = is (changed c rows) d.change.sound (part rows sound p d.change) (held-on m m' (number_named a.ask) (on rows sound p d.change) held.0) (λ card. keeps (whole card) d.change) in
     let left : changed c rows ≡ rows_after rows a = (λ i. changed_by (d.edit i) (d.last i) rows) ∙ sym (ap (λ o. after o (edit_on rows a) a.day rows) d.accepted) in
-    let statuses : status ≡ success_of a.ask (is_repeat (facts_of rows a.ask) a) = said ∙ (ap (success_by a.ask) d.edit ∙ status-same a.ask (is_repeat (facts_of rows a.ask) a) (facts_of rows a.ask).entry a.day) in
+    let statuses : status ≡ success_of a.ask (is_repeat (facts_of rows a.ask) a) = told ∙ (ap (success_by a.ask) d.edit ∙ status-same a.ask (is_repeat (facts_of rows a.ask) a) (facts_of rows a.ask).entry a.day) in
     record {
       decided = d;
-      reply = (λ i. record { status = statuses i; body = Json ((texts ∙ ap (λ rs. body_of number rs a.ask) left) i) }) ∙ sym (ap (λ o. replied o number rows a) d.accepted);
+      reply = (λ i. record { status = statuses i; body = (says ∙ ap (said a.ask) (texts ∙ ap (λ rs. body_of number rs a.ask) left)) i }) ∙ sym (ap (λ o. replied o number rows a) d.accepted);
     }

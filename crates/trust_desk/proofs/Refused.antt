@@ -1,15 +1,20 @@
 -- What a refusal of the plan is.
-use Rattle.std.proofs.Common.{◌≡◌, ◌⊎◌, inl, inr, ℕ, Bool, true, false, cond, Option, Some, refl, sym, ap, ◌∙◌, subst}
+use Rattle.std.proofs.Common.{◌≡◌, ◌⊎◌, inl, inr, ℕ, Bool, true, false, cond, Option, Some, refl, sym, ap, ◌∙◌, subst, arith}
+use Rattle.std.specs.Prelude.{◌==◌, ◌||◌, ◌&&◌}
+use Rattle.std.proofs.lemmas.Bool.{false≢true}
+use Rattle.std.proofs.lemmas.Bool.Decides.{nat_tests}
 use Rattle.trust_base.specs.declared.refusal.Refusal.{Refusal}
 use Rattle.trust_base.specs.declared.refusal.Refusal.TheVariants as refusals
 use Rattle.trust_base.specs.declared.refusal.StoreFault.{StoreFault}
 use Rattle.trust_base.specs.declared.refusal.StoreFault.TheVariants as faults
 use Rattle.trust_base.specs.Refusals.{is_fault, refused_by}
 use Rattle.trust_matter.specs.declared.ask.Ask.{Ask}
-use Rattle.trust_matter.specs.Facts.{Asked, fund_named, number_named}
+use Rattle.trust_matter.specs.Facts.{Asked, fund_named, number_named, other_of}
 use Rattle.matter_rows.specs.Shares.{number_or_none}
 use Rattle.matter_rows.specs.Sound.{Sound}
-use Rattle.matter_parts.specs.Parts.{Part, IsPart}
+use Rattle.matter_parts.specs.Parts.{Part, IsPart, IsWhole, entry_in, is_held, is_held_or_none, kept_at}
+use Rattle.matter_parts.proofs.AllKept.{whole-all}
+use Rattle.trust_matter.specs.Conditions.{is_accounting}
 use Rattle.trust_matter.specs.KeptFacts.{holds_for}
 use Rattle.matter_rows.specs.Rows.{Rows}
 use Rattle.trust_matter.specs.Step.{MayRefuse, refusal}
@@ -21,7 +26,7 @@ use Rattle.trust_store.proofs.Named.{named-held}
 use Rattle.trust_desk.specs.declared.planning.Planned.{Planned}
 use Rattle.trust_desk.specs.FirmStep.{after_ask, after_asked}
 use Rattle.trust_desk.specs.Counts.{is_store, counted_refusal}
-use Rattle.trust_desk.specs.Plan.{IsAccepted, IsPlanned, IsRefused}
+use Rattle.trust_desk.specs.Plan.{IsAccepted, IsPlanned, IsReadFor, IsRefused, IsWholeForCard}
 
 -- the refusal is the ask's or a fault, and none of the store
 pub record IsTold (o : Option Refusal) (r : Refusal) : Type 0 where
@@ -67,8 +72,32 @@ fault-counted faults.Memory r n is = ap (λ x. counted_refusal x n) is
 -- What is read of a matter.
 
 -- what holds of all sound rows of which the part is one holds of those that it was read from
-pub at-part : (P : Rows → Type 0) (firm : Firm) (m : ℕ) (ask : Ask) (entry other : Option ℕ) (part : Part) → number_or_none entry ≡ number_named ask → number_or_none other ≡ fund_named ask → FirmSound firm → IsPartFor (of m firm) entry other part → ((rows : Rows) → Sound rows → IsPart part rows → holds_for part ask ≡ true → P rows) → P (of m firm)
-at-part P firm m ask entry other part same fund sound is all = all (of m firm) (sound.matters m) is.is_part (named-held (of m firm) ask entry other part same fund is)
+pub at-part : (P : Rows → Type 0) (firm : Firm) (m : ℕ) (ask : Ask) (part : Part) → FirmSound firm → IsReadFor (of m firm) ask part → ((rows : Rows) → Sound rows → IsPart part rows → holds_for part ask ≡ true → IsWholeForCard ask part rows → P rows) → P (of m firm)
+at-part P firm m ask part sound is all = all (of m firm) (sound.matters m) is.is_part is.held is.whole
+
+both-held : (a b : Bool) → a ≡ true → b ≡ true → (a && b) ≡ true
+both-held true true h g = refl
+both-held true false h g = g
+both-held false b h g = h
+
+-- a matter that is read whole holds what any ask names
+pub whole-for : (rows : Rows) (ask : Ask) (part : Part) → IsWhole part rows → IsReadFor rows ask part
+whole-for rows ask part whole = record { is_part = whole.part; held = both-held (is_held_or_none part (number_named ask)) (is_held_or_none part (other_of ask (entry_in (kept_at part (number_named ask))))) (held (number_named ask)) (held (other_of ask (entry_in (kept_at part (number_named ask))))); whole = λ card. whole }
+  where
+    held : (n : ℕ) → is_held_or_none part n ≡ true
+    held n = cases (n == 0) refl
+      where
+        cases : (b : Bool) → (n == 0) ≡ b → (b || is_held part n) ≡ true
+        cases true zero_test = refl
+        cases false some_test = whole-all part rows whole n (grind (arith, nat_tests))
+
+-- and so does what is read for the entries that it names
+pub named-for : (rows : Rows) (ask : Ask) (entry other : Option ℕ) (part : Part) → number_or_none entry ≡ number_named ask → number_or_none other ≡ fund_named ask → is_accounting ask ≡ false → IsPartFor rows entry other part → IsReadFor rows ask part
+named-for rows ask entry other part same fund plain is = record {
+  is_part = is.is_part;
+  held = named-held rows ask entry other part same fund is;
+  whole = λ card. absurd (false≢true (sym plain ∙ card));
+}
 
 -- what is planned and written is the step
 pub plan-accepted : (firm new : Firm) (m : ℕ) (a : Asked) (p : Planned) → IsPlanned m (of m firm) a p → new ≡ after_change m p.change firm → IsAccepted firm m a p.reply new

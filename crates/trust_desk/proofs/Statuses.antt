@@ -1,9 +1,11 @@
 -- The status of a reply whose body is a refusal.
-use Rattle.std.proofs.Common.{◌≡◌, inl, inr, ℕ, Bool, true, false, List, Option, Some, None, Result, Ok, Err, sym, ap, subst}
+use Rattle.std.proofs.Common.{◌≡◌, inl, inr, ℕ, Bool, true, false, cond, List, Option, Some, None, Result, Ok, Err, sym, ap, subst}
 use Rattle.std.specs.Prelude.{MatchBool}
 use Rattle.trust_base.specs.Refusals.{status_of}
 use Rattle.trust_base.specs.declared.refusal.Refusal.{Refusal}
 use Rattle.trust_matter.specs.Facts.{Asked}
+use Rattle.trust_matter.specs.Conditions.{is_accounting}
+use Rattle.trust_desk.specs.declared.requests.Body.TheVariants.{Json, Refused, Text}
 use Rattle.matter_rows.specs.Rows.{Rows}
 use Rattle.trust_matter.specs.Step.{refusal}
 use Rattle.firm_rows.specs.Firm.{Firm, of}
@@ -17,8 +19,12 @@ use Rattle.trust_desk.specs.FirmStep.{HasItsStatus, IsStopped, RefusalsHaveTheir
 refused-status : (r : Refusal) → HasItsStatus (refused r)
 refused-status r s is = let same : r ≡ s = cc in ap status_of same
 
+said-status : (b : Bool) (text : List ℕ) (s : Refusal) (P : Type 0) → cond b (Text text) (Json text) ≡ Refused s → P
+said-status true text s P is = absurd (cc)
+said-status false text s P is = absurd (cc)
+
 replied-status : (o : Option Refusal) (m : ℕ) (rows : Rows) (a : Asked) → HasItsStatus (replied o m rows a)
-replied-status None m rows a = λ s is. absurd (cc)
+replied-status None m rows a = λ s is. said-status (is_accounting a.ask) _ s _ is
 replied-status (Some r) m rows a = refused-status r
 
 import-status : (o : Option Refusal) (counts : ImportReply) → HasItsStatus (import_reply o counts)

@@ -10,10 +10,12 @@ use Rattle.firm_rows.specs.Firm.{Firm}
 use Rattle.statement_csv.specs.declared.item.Item.{Item}
 use Rattle.statement_csv.specs.declared.item.Item.TheVariants as item
 use Rattle.trust_desk.specs.declared.requests.Request.{Request}
-use Rattle.trust_desk.specs.declared.requests.Request.TheVariants.{Matter, Import}
+use Rattle.trust_desk.specs.declared.requests.Request.TheVariants.{Matter, Import, Exceptions, Trial, Journal, Reconcile, Retention}
+use Rattle.trust_desk.specs.declared.requests.Report.TheVariants as report
 use Rattle.trust_desk.specs.declared.requests.Reply.{Reply}
 use Rattle.trust_desk.specs.ItemStep.{names_item}
 use Rattle.trust_desk.specs.ImportStep.{import_refusal, imported}
+use Rattle.trust_desk.specs.ReportStep.{report_for}
 
 -- a request; or a message that was refused before it became one, and that names a matter or none
 pub data Heard : Type 0 where
@@ -44,6 +46,11 @@ pub data Kind : Type 0 where
 abbrev pub kind_of : Heard → Kind
 kind_of (Asks (Matter m caller ask)) = OfMatter m caller ask
 kind_of (Asks (Import caller statement)) = OfItems (import_refusal caller statement) (imported caller statement)
+kind_of (Asks (Exceptions caller)) = OnlyTold (report_for caller report.Exceptions)
+kind_of (Asks (Trial caller)) = OnlyTold (report_for caller report.Trial)
+kind_of (Asks (Journal caller)) = OnlyTold (report_for caller report.Journal)
+kind_of (Asks (Reconcile caller day)) = OnlyTold (report_for caller (report.Reconciliation day))
+kind_of (Asks (Retention caller)) = OnlyTold (report_for caller report.Retention)
 kind_of (Unread named refusal) = NotRead named refusal
 
 -- What names a matter, and is replied to.

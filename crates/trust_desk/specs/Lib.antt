@@ -2,6 +2,7 @@ pub mod Replies
 pub mod ItemStep
 pub mod Imports
 pub mod ImportStep
+pub mod ReportStep
 pub mod Heard
 pub mod FirmStep
 pub mod Solo

@@ -6,14 +6,16 @@ use Rattle.trust_matter.specs.declared.ask.Ask.{Ask}
 use Rattle.matter_parts.specs.declared.edit.Edit.{Edit}
 use Rattle.matter_parts.specs.declared.edit.Edit.TheVariants as edit
 use Rattle.matter_rows.specs.Rows.{Rows}
-use Rattle.trust_matter.specs.Facts.{Asked}
+use Rattle.trust_matter.specs.Facts.{Asked, number_named}
 use Rattle.matter_rows.specs.Sound.{Sound}
-use Rattle.matter_parts.specs.Parts.{Part, IsPart, is_held_or_none}
+use Rattle.matter_parts.specs.Parts.{Part, IsPart, IsWhole, is_held_or_none}
+use Rattle.trust_matter.specs.Conditions.{is_accounting}
+use Rattle.trust_matter.specs.KeptFacts.{holds_for}
 use Rattle.trust_matter.specs.Step.{refusal, IsDecided, MayRefuse}
 use Rattle.firm_rows.specs.Firm.{Firm, of}
 use Rattle.trust_desk.specs.declared.requests.Reply.{Reply}
 use Rattle.trust_desk.specs.declared.planning.Planned.{Planned}
-use Rattle.trust_desk.specs.Replies.{reply_of, success_of}
+use Rattle.trust_desk.specs.Replies.{body_of, reply_of, success_of}
 use Rattle.trust_desk.specs.FirmStep.{after_ask}
 
 abbrev pub is_nothing : Edit → Bool
@@ -27,6 +29,25 @@ success_by a e = success_of a (is_nothing e)
 -- the bytes are this text of all sound rows of which the matter is a part, where it holds entry n
 abbrev pub IsTextOf : Part → ℕ → (Rows → List ℕ) → List ℕ → Type 0
 IsTextOf m n text bytes = (rows : Rows) → Sound rows → IsPart m rows → is_held_or_none m n ≡ true → bytes ≡ text rows
+
+-- for a ledger card the part keeps all entries
+abbrev pub IsWholeForCard : Ask → Part → Rows → Type 0
+IsWholeForCard ask part rows = is_accounting ask ≡ true → IsWhole part rows
+
+-- the bytes are what is told after the ask, of all sound rows of matter m of which the part is one, where it holds the
+-- entry that is named, and for a ledger card keeps all
+abbrev pub IsBodyOf : ℕ → Ask → Part → List ℕ → Type 0
+IsBodyOf m ask part bytes =
+    (rows : Rows) → Sound rows → IsPart part rows → is_held_or_none part (number_named ask) ≡ true
+    → IsWholeForCard ask part rows
+    → bytes ≡ body_of m rows ask
+
+-- what is read of a matter for an ask: a part of its rows that holds what the ask names, and for a ledger card keeps
+-- all entries
+pub record IsReadFor (rows : Rows) (ask : Ask) (part : Part) : Type 0 where
+  pub is_part : IsPart part rows
+  pub held : holds_for part ask ≡ true
+  pub whole : IsWholeForCard ask part rows
 
 -- the change that the rows decide on, and the reply that they give
 pub record IsPlanned (m : ℕ) (rows : Rows) (a : Asked) (p : Planned) : Type 0 where

@@ -8,12 +8,13 @@ use Rattle.trust_matter.specs.declared.ask.Ask.TheVariants as ask
 use Rattle.matter_rows.specs.Rows.{Rows, entry_at}
 use Rattle.matter_rows.specs.Balances.{left_of}
 use Rattle.trust_matter.specs.Facts.{Asked, facts_of}
-use Rattle.trust_matter.specs.Conditions.{is_repeat}
+use Rattle.trust_matter.specs.Conditions.{is_accounting, is_repeat}
 use Rattle.trust_matter.specs.Step.{refusal, rows_after}
 use Rattle.trust_desk.specs.declared.requests.Reply.{Reply}
 use Rattle.trust_desk.specs.declared.requests.Body.{Body}
 use Rattle.trust_desk.specs.declared.requests.Body.TheVariants.{Json, Refused, Text}
 use Rattle.matter_bodies.specs.Bodies.{matter_body, purge_body, receipt_body, entry_body}
+use Rattle.trust_reports.specs.TextsOfLedgers.{ledger_card_of}
 
 -- the reply to what is refused
 abbrev pub refused : Refusal → Reply
@@ -52,8 +53,8 @@ abbrev pub shown_text : ℕ → ℕ → List Entry → Option Entry → List ℕ
 shown_text m n es None = []
 shown_text m n es (Some e) = entry_body m n e (left_of es n e)
 
--- what is told of the rows of matter m after an ask: of the matter, of the entry as it was made, or of the
--- entry as it is
+-- what is told of the rows of matter m after an ask: of the matter, of the entry as it was made, of the entry as it
+-- is, or the ledger card
 abbrev pub body_of : ℕ → Rows → Ask → List ℕ
 body_of m rows (ask.OpenMatter a) = matter_body m rows
 body_of m rows (ask.AddSeat s) = matter_body m rows
@@ -73,6 +74,11 @@ body_of m rows ask.CloseMatter = matter_body m rows
 body_of m rows ask.Purge = purge_body m rows
 body_of m rows ask.Show = matter_body m rows
 body_of m rows (ask.ShowEntry n) = shown_text m n rows.entries (entry_at rows.entries n)
+body_of m rows ask.Accounting = ledger_card_of m rows
+
+-- the ledger card is told as lines of text, and all else in JSON
+abbrev pub said : Ask → List ℕ → Body
+said a text = if is_accounting a then Text text else Json text
 
 -- 201 where something is made, which a repeat does not
 abbrev pub success_of : Ask → Bool → ℕ
@@ -87,7 +93,7 @@ success_of _ again = 200
 abbrev pub accepted : ℕ → Rows → Asked → Reply
 accepted m rows a = record {
   status = success_of a.ask (is_repeat (facts_of rows a.ask) a);
-  body = Json (body_of m (rows_after rows a) a.ask);
+  body = said a.ask (body_of m (rows_after rows a) a.ask);
 }
 
 abbrev pub replied : Option Refusal → ℕ → Rows → Asked → Reply

@@ -3,7 +3,7 @@
 ghost use Rattle.std.specs.Prelude.{◌≡◌, ℕ, List, IfOk, length, take, ◌<◌, ◌∷◌, [], false, is_none};
 ghost use Rattle.statement_csv.specs.Items.{items};
 ghost use Rattle.statement_csv.specs.declared.item.Item.{Item};
-ghost use Rattle.trust_desk.specs.Heard.{Asks, asked_on, heard};
+ghost use Rattle.trust_desk.specs.Heard.{Asks, OnlyTold, asked_on, heard, kind_of};
 ghost use Rattle.trust_desk.specs.Replies.{is_fault_reply, reply_for};
 ghost use Rattle.firm_rows.specs.Firm.{Firm};
 ghost use Rattle.trust_desk.specs.ImportStep.{EndsItems, IsAfterFront, items_in};
@@ -13,15 +13,18 @@ ghost use Rattle.trust_desk.specs.Calls.{KeepsBook};
 ghost use Rattle.trust_desk.specs.Counts.{counted_reply, counted_replies, counted_end};
 ghost use Rattle.trust_desk.specs.Crashes.{AreNoFaults, AreNoFaultsButLast, IsImport, IsMade, IsMadeInRun, MayLeave, MayLeaveChange, before_fault, is_fault_end};
 ghost use Rattle.trust_desk.specs.Plan.{Ends};
+ghost use Rattle.trust_desk.specs.ReportStep.{report_for};
 
+use crate::callers::is_not_of_firm;
 use crate::import_checks::check_import;
 use crate::importing::{ImportEnd, ImportStop};
-use crate::planning::plan;
-use crate::requests::{Body, End, Reply, Request, RunEnd};
+use crate::planning::{plan, read_for};
+use crate::reporting::{find_report, found_reply};
+use crate::requests::{Body, End, Reply, Report, Request, RunEnd};
 use matter_bodies::{ImportReply, import_body};
 use std::alloc::Global;
 use std::marker::Model;
-use trust_base::{Day, MatterNo, OwnedBytes, Refusal};
+use trust_base::{Day, MatterNo, OwnedBytes, Refusal, Rule};
 use trust_matter::{Ask, Caller};
 use trust_store::Book;
 
@@ -79,7 +82,48 @@ impl<B: Book> Desk<B> {
             Request::Import { caller, statement } => {
                 self.answer_import(alloc, caller, statement, day)
             }
+            Request::Exceptions(caller) => {
+                self.answer_told(alloc, request, caller, Report::Exceptions, day)
+            }
+            Request::Trial(caller) => self.answer_told(alloc, request, caller, Report::Trial, day),
+            Request::Journal(caller) => {
+                self.answer_told(alloc, request, caller, Report::Journal, day)
+            }
+            Request::Reconcile(caller, as_of) => {
+                self.answer_told(alloc, request, caller, Report::Reconciliation(*as_of), day)
+            }
+            Request::Retention(caller) => {
+                self.answer_told(alloc, request, caller, Report::Retention, day)
+            }
         }
+    }
+
+    // Tells a report of the firm, or why it is refused: nothing changes. The request is named for the contract alone.
+    fn answer_told(
+        &mut self,
+        alloc: Global,
+        _request: &Request,
+        caller: &Caller,
+        report: Report,
+        day: Day,
+    ) -> Reply
+        requires only_told { kind_of (Asks _request.now) ≡ OnlyTold (report_for caller.now report) }
+        ensures step { B.clean self.new → B.stands self.old
+            → Steps day (B.firm self.old) (Asks _request.now) result (B.firm self.new) }
+        ensures others { B.clean self.new → B.stands self.old
+            → KeepsOthers (B.firm self.old) (Asks _request.now) (B.firm self.new) }
+        ensures own { B.clean self.new → B.stands self.old → is_fault_reply result ≡ false
+            → (m : ℕ) → IsOwn m day (B.firm self.old) (Asks _request.now ∷ []) (result ∷ []) (B.firm self.new) }
+        ensures kept { KeepsBook B.clean B.sure B.stands B.refusals (counted_reply result) self.old self.new }
+        ensures crash { B.sure self.new → B.stands self.old → MayLeave B.clean B.leaves
+            (is_fault_reply result ≡ false)
+            (IsMade day (B.firm self.old) (Asks _request.now)) (B.firm self.old)
+            (firm_step day (B.firm self.old) (Asks _request.now)).firm self.old self.new }
+    {
+        if is_not_of_firm(caller) {
+            return Reply::refused(Refusal::NotAllowed(Rule::Firm));
+        }
+        found_reply(find_report(alloc, &mut self.book, report, day))
     }
 
     fn answer_import(
@@ -185,14 +229,13 @@ impl<B: Book> Desk<B> {
     ) -> Result<Reply, Refusal>
         ensures end { B.clean self.new → B.stands self.old
             → Ends (B.firm self.old) no (asked_on day caller.now ask.now) (B.firm self.new) result }
+        ensures ok { IfOk result (λ reply. is_fault_reply reply ≡ false) }
         ensures kept { KeepsBook B.clean B.sure B.stands B.refusals (counted_end result) self.old self.new }
         ensures crash { B.sure self.new → B.stands self.old → MayLeaveChange B.clean B.leaves
             (is_fault_end result ≡ false) (B.firm self.old)
             (after_ask no (asked_on day caller.now ask.now) (B.firm self.old)) self.old self.new }
     {
-        let matter = self
-            .book
-            .matter_for(alloc, no, ask.number(), ask.fund_number())?;
+        let matter = read_for(alloc, &mut self.book, no, ask)?;
         let planned = plan(alloc, no, matter, caller, ask, day)?;
         self.book.write_change(alloc, no, &planned.change)?;
         Ok(planned.reply)

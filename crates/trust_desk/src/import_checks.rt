@@ -4,6 +4,7 @@ ghost use Rattle.std.specs.Prelude.{◌≡◌, IfOk, is_some};
 ghost use Rattle.statement_csv.specs.Items.{items};
 ghost use Rattle.trust_desk.specs.ImportStep.{IsChecked, import_refusal};
 
+use crate::callers::is_not_of_firm;
 use statement_csv::{Lines, ReadFault};
 use std::alloc::{AllocError, Global};
 use trust_base::{Field, MAX_FILE_BYTES, Refusal, Rule};
@@ -33,8 +34,8 @@ pub(crate) fn check_import(alloc: Global, caller: &Caller, bytes: &[u8]) -> Resu
     if !has_header(alloc, bytes)? {
         return Err(Refusal::BadField(Field::Header));
     }
-    match caller {
-        Caller::Cashier => Ok(()),
-        Caller::Person(_) => Err(Refusal::NotAllowed(Rule::Firm)),
+    if is_not_of_firm(caller) {
+        return Err(Refusal::NotAllowed(Rule::Firm));
     }
+    Ok(())
 }

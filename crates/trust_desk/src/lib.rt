@@ -1,11 +1,13 @@
 //! The desk of the firm: who asks what of which matter, and what is answered.
 #![tactic(auto)]
 
+mod callers;
 mod desk;
 mod import_checks;
 mod importing;
 pub mod laws;
 mod planning;
+mod reporting;
 mod requests;
 
 pub use desk::Desk;

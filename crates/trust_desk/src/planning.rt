@@ -1,26 +1,49 @@
 //! An ask is decided, and its answer made whole, before anything is written.
 
-ghost use Rattle.std.specs.Prelude.{◌≡◌, IfOk, true};
+ghost use Rattle.std.specs.Prelude.{◌≡◌, IfOk, false, true};
+ghost use Rattle.firm_rows.specs.Firm.{of};
 ghost use Rattle.matter_rows.specs.Rows.{Rows, entry_at};
 ghost use Rattle.matter_rows.specs.Sound.{Sound};
-ghost use Rattle.trust_matter.specs.Facts.{number_named};
-ghost use Rattle.matter_parts.specs.Parts.{IsPart};
+ghost use Rattle.matter_parts.specs.Parts.{IsPart, IsWhole};
 ghost use Rattle.trust_matter.specs.KeptFacts.{holds_for};
 ghost use Rattle.trust_desk.specs.Heard.{asked_on};
-ghost use Rattle.trust_desk.specs.Replies.{body_of, made_text, shown_text};
-ghost use Rattle.trust_desk.specs.Plan.{IsTextOf, Plans, is_nothing, success_by};
+ghost use Rattle.trust_desk.specs.Replies.{is_fault_body, is_fault_reply, made_text, said, shown_text};
+ghost use Rattle.trust_desk.specs.Plan.{IsBodyOf, IsReadFor, IsTextOf, IsWholeForCard, Plans, is_nothing, success_by};
+ghost use Rattle.trust_reports.specs.TextsOfLedgers.{ledger_card_of};
+ghost use Rattle.trust_store.specs.Calls.{IsRead};
 
 use crate::requests::{Body, Reply};
 use matter_bodies::{entry_body, matter_body, purge_body, receipt_body};
 use std::alloc::{AllocError, Global};
-use trust_base::{Day, EntryNo, MatterNo, OwnedBytes, Refusal};
+use trust_base::{Day, EntryNo, MatterNo, OwnedBytes, Refusal, StoreFault};
 use trust_matter::{Ask, Caller, Change, Edit, Matter, decide, holds_for};
+use trust_reports::ledger_card;
+use trust_store::Book;
 
 /// What an ask changes, and the answer to it, made before anything is written.
 #[derive(Drop)]
 pub(crate) struct Planned {
     pub change: Change,
     pub reply: Reply,
+}
+
+/// Reads of a matter what an ask is answered by: for its ledger card the matter whole, and for any other ask the
+/// entries that are named.
+pub(crate) fn read_for<B: Book>(
+    alloc: Global,
+    book: &mut B,
+    no: MatterNo,
+    ask: &Ask,
+) -> Result<Matter, StoreFault>
+    ensures found { B.clean book.new → B.stands book.old
+        → IfOk result (λ part. IsReadFor (of no (B.firm book.old)) ask.now part) }
+    ensures read { IsRead B.firm B.clean B.sure B.stands B.leaves B.refusals result book.old book.new }
+{
+    if ask.is_accounting() {
+        book.matter(alloc, no)
+    } else {
+        book.matter_for(alloc, no, ask.number(), ask.fund_number())
+    }
 }
 
 // The body of the entry as it was made, and nothing where there is none.
@@ -56,6 +79,16 @@ fn shown_body(
     }
 }
 
+// The ledger card of a matter that keeps all its entries.
+fn card_body(alloc: Global, no: MatterNo, matter: &Matter) -> Result<Vec<u8>, AllocError>
+    ensures { IfOk result (λ bytes. (rows : Rows) → Sound rows → IsWhole matter.now rows
+        → bytes.items ≡ ledger_card_of no rows) }
+{
+    let mut card = Vec::new(alloc);
+    ledger_card(no, matter, &mut card)?;
+    Ok(card)
+}
+
 // What is told of a matter after an ask.
 fn body_after(
     alloc: Global,
@@ -63,8 +96,7 @@ fn body_after(
     matter: &Matter,
     ask: &Ask,
 ) -> Result<Vec<u8>, AllocError>
-    ensures { IfOk result (λ bytes.
-        IsTextOf matter.now (number_named ask.now) (λ rows. body_of no rows ask.now) bytes.items) }
+    ensures { IfOk result (λ bytes. IsBodyOf no ask.now matter.now bytes.items) }
 {
     match ask {
         Ask::Deposit(asked) => made_body(alloc, no, matter, asked.number),
@@ -82,6 +114,19 @@ fn body_after(
         Ask::OpenMatter(_) | Ask::AddSeat(_) | Ask::DropSeat(_) | Ask::CloseMatter | Ask::Show =>
             matter_body(alloc, no, matter),
         Ask::Purge => purge_body(alloc, no, matter),
+        Ask::Accounting => card_body(alloc, no, matter),
+    }
+}
+
+// What is told, as lines of text where it is a ledger card, and else as JSON.
+fn said(ask: &Ask, text: Vec<u8>) -> Body
+    ensures text { result ≡ said ask.now text.items }
+    ensures plain { is_fault_body result ≡ false }
+{
+    if ask.is_accounting() {
+        Body::Text(OwnedBytes::new(text))
+    } else {
+        Body::Json(OwnedBytes::new(text))
     }
 }
 
@@ -114,9 +159,11 @@ pub(crate) fn plan(
     ask: &Ask,
     day: Day,
 ) -> Result<Planned, Refusal>
-    // It is the step of all sound rows of which the matter is a part that holds what is named.
-    ensures { (rows : Rows) → Sound rows → IsPart matter rows → holds_for matter ask.now ≡ true
-        → Plans no rows (asked_on day caller.now ask.now) result }
+    // It is the step of all sound rows of which the matter is a part that holds what is named, and for a ledger card
+    // keeps all entries.
+    ensures step { (rows : Rows) → Sound rows → IsPart matter rows → holds_for matter ask.now ≡ true
+        → IsWholeForCard ask.now matter rows → Plans no rows (asked_on day caller.now ask.now) result }
+    ensures plain { IfOk result (λ planned. is_fault_reply planned.reply ≡ false) }
 {
     if !holds_for(&matter, ask) {
         return Err(Refusal::Store);
@@ -126,7 +173,7 @@ pub(crate) fn plan(
     let text = body_after(alloc, no, &matter, ask)?;
     let reply = Reply {
         status: success_of(ask, change.edit()),
-        body: Body::Json(OwnedBytes::new(text)),
+        body: said(ask, text),
     };
     Ok(Planned { change, reply })
 }

@@ -2,7 +2,7 @@
 
 ghost use Rattle.std.specs.Prelude.{◌≡◌};
 
-use trust_base::{MatterNo, OwnedBytes, Refusal};
+use trust_base::{Day, MatterNo, OwnedBytes, Refusal};
 use trust_matter::{Ask, Caller};
 
 /// What is asked of the desk.
@@ -18,6 +18,16 @@ pub enum Request {
         caller: Caller,
         statement: OwnedBytes,
     },
+    /// A caller asks for the bank's lines that stand unmatched.
+    Exceptions(Caller),
+    /// A caller asks for the trial balance: the ledger of each open matter, the firm's own, and their sum.
+    Trial(Caller),
+    /// A caller asks for the journal: all movements in the order of their acceptance.
+    Journal(Caller),
+    /// A caller asks for the three-way reconciliation as of a day.
+    Reconcile(Caller, Day),
+    /// A caller asks until when the records of each closed matter are kept.
+    Retention(Caller),
 }
 
 impl Drop for Request {
@@ -32,8 +42,28 @@ impl Drop for Request {
                 caller: _caller,
                 statement: _statement,
             } => (),
+            Request::Exceptions(_caller)
+            | Request::Trial(_caller)
+            | Request::Journal(_caller)
+            | Request::Reconcile(_caller, _)
+            | Request::Retention(_caller) => (),
         }
     }
+}
+
+/// A report on the whole firm.
+#[derive(Clone, Copy)]
+pub(crate) enum Report {
+    /// The bank's lines that stand unmatched.
+    Exceptions,
+    /// The trial balance.
+    Trial,
+    /// The journal.
+    Journal,
+    /// The three-way reconciliation as of a day.
+    Reconciliation(Day),
+    /// The retention list.
+    Retention,
 }
 
 /// What an answer says.

@@ -5,6 +5,7 @@ pub mod Listing
 pub mod OpeningRows
 pub mod PurgedFigures
 pub mod PurgedLists
+pub mod PurgedPeriods
 pub mod Reconciling
 pub mod ReconciliationRows
 pub mod Sizes

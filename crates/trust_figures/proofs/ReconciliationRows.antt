@@ -1,5 +1,7 @@
 -- What a reconciliation's sink keeps of the rows of a firm.
-use Rattle.std.proofs.Common.{◌≡◌, ℕ, List, [], ◌∷◌, fold, Option, Some, None, refl, sym, ap, ◌∙◌, subst}
+use Rattle.std.proofs.Common.{◌≡◌, ℕ, Bool, true, false, List, [], ◌∷◌, fold, Option, Some, None, refl, sym, ap, ◌∙◌, subst}
+use Rattle.std.specs.Prelude.{◌||◌}
+use Rattle.std.specs.List.{list_any}
 use Rattle.std.specs.Option.{option_map}
 use Rattle.trust_base.specs.declared.line.Line.{Line}
 use Rattle.firm_rows.specs.declared.movement.Movement.{Movement}
@@ -10,6 +12,7 @@ use Rattle.trust_figures.specs.declared.reconciler.Figures.{Figures}
 use Rattle.trust_figures.specs.Listing.{Listed, none_listed, with_row_listed, with_exception_listed}
 use Rattle.trust_figures.specs.Doubles.{no_issued, with_row_issued, doubles_in}
 use Rattle.trust_figures.specs.Openings.{AreClosings, no_balances, with_balance_kept}
+use Rattle.trust_figures.specs.Purged.{PeriodKept, is_period_purged, is_purged_after, whole_period, with_row_purged}
 use Rattle.trust_figures.specs.Reconciling.{with_row, with_movement, with_own, with_exception, with_balance_told, all_taken, finished}
 use Rattle.trust_figures.specs.Reconciliations.{ReconciliationKept, nothing_kept, with_row_kept, with_movement_kept, with_own_kept, with_exception_kept, with_balance_noted, all_kept, kept_with, kept_told, reconciled, ReconciliationIsKept}
 use Rattle.trust_figures.proofs.Sizes.{figures-told}
@@ -17,7 +20,7 @@ use Rattle.trust_figures.proofs.Listing.{lists-kept}
 use Rattle.trust_figures.proofs.DoubleRows.{issued-kept}
 use Rattle.trust_figures.proofs.OpeningRows.{openings-kept}
 
-rows-kept : (s : ReconciliationKept) (xs : List (ℕ × Row)) → fold with_row_kept s xs ≡ record s { figures = fold with_row s.figures xs; lists = fold with_row_listed s.lists xs; issued = fold with_row_issued s.issued xs }
+rows-kept : (s : ReconciliationKept) (xs : List (ℕ × Row)) → fold with_row_kept s xs ≡ record s { figures = fold with_row s.figures xs; lists = fold with_row_listed s.lists xs; issued = fold with_row_issued s.issued xs; period = fold with_row_purged s.period xs }
 rows-kept s [] = refl
 rows-kept s (x ∷ xs) = rows-kept (with_row_kept s x) xs
 
@@ -44,6 +47,7 @@ parts p firm = record {
   lists = fold with_exception_listed (fold with_row_listed (none_listed p) firm.rows) firm.exceptions;
   issued = fold with_row_issued (no_issued p) firm.rows;
   balances = fold with_balance_kept (no_balances p) firm.balances;
+  period = fold with_row_purged (whole_period p) firm.rows;
 }
 
 in-parts : (p : ℕ) (firm : Firm) → all_kept p firm ≡ parts p firm
@@ -70,10 +74,30 @@ beside : (p : ℕ) (firm : Firm) (found : Option Figures) → option_map (kept_w
 beside p firm None = refl
 beside p firm (Some figures) = ap (λ r. Some r) (with-lists p firm figures)
 
+-- a matter is found purged where one of the rows is
+purged-kept : (s : PeriodKept) (xs : List (ℕ × Row)) → (fold with_row_purged s xs).purged ≡ (list_any (is_purged_after s.day) xs || s.purged)
+purged-kept s [] = refl
+purged-kept s (x ∷ xs) = purged-kept (with_row_purged s x) xs ∙ turned (list_any (is_purged_after s.day) xs) (is_purged_after s.day x) s.purged
+  where
+    turned : (a b c : Bool) → (a || (b || c)) ≡ ((b || a) || c)
+    turned true true c = refl
+    turned true false c = refl
+    turned false true c = refl
+    turned false false c = refl
+
+period-kept : (p : ℕ) (firm : Firm) → (fold with_row_purged (whole_period p) firm.rows).purged ≡ is_period_purged p firm
+unfolding is_period_purged
+period-kept p firm = purged-kept (whole_period p) firm.rows ∙ plain (list_any (is_purged_after p) firm.rows)
+  where
+    plain : (a : Bool) → (a || false) ≡ a
+    plain true = refl
+    plain false = refl
+
 pub reconciliation-kept : ReconciliationIsKept
 reconciliation-kept p firm sound is = record {
   told =
       ap kept_told (in-parts p firm)
       ∙ (beside p firm (finished (all_taken p firm)) ∙ ap (option_map (reconciled p firm)) (figures-told p firm sound is));
   rising = subst (λ (s : ReconciliationKept). AreClosings s.balances.closings) (sym (in-parts p firm)) ((openings-kept p firm.balances).rising sound.in_order.balances);
+  purged = ap (λ (s : ReconciliationKept). s.period.purged) (in-parts p firm) ∙ period-kept p firm;
 }

@@ -17,10 +17,11 @@ use Rattle.trust_figures.specs.Figures.{figures_on}
 use Rattle.trust_figures.specs.Listing.{transit_list, out_list, early_list, exception_list, Listed, none_listed, with_row_listed, with_exception_listed}
 use Rattle.trust_figures.specs.Doubles.{double_list, doubles_in, IssuedKept, no_issued, with_row_issued}
 use Rattle.trust_figures.specs.Openings.{opening_list, openings_kept, AreClosings, BalancesKept, no_balances, with_balance_kept}
+use Rattle.trust_figures.specs.Purged.{PeriodKept, is_period_purged, whole_period, with_row_purged}
 use Rattle.trust_figures.specs.Reconciling.{Tallies, no_tallies, with_row, with_movement, with_own, with_exception, with_balance_told, finished}
 
 -- the figures and the lists
-pub record Reconciled : Type 0 where
+pub record ReconciliationTold : Type 0 where
   pub figures : Figures
   pub transit : List EntryLine
   pub out : List EntryLine
@@ -30,7 +31,7 @@ pub record Reconciled : Type 0 where
   pub openings : List OpeningLine
 
 -- what a reconciliation in memory tells
-abbrev pub told : Reconciliation → Reconciled
+abbrev pub told : Reconciliation → ReconciliationTold
 told r = record {
   figures = r.figures;
   transit = r.lists.transit.items;
@@ -42,7 +43,7 @@ told r = record {
 }
 
 -- the reconciliation of a firm as of p, where these are its figures
-abbrev pub reconciled : ℕ → Firm → Figures → Reconciled
+abbrev pub reconciled : ℕ → Firm → Figures → ReconciliationTold
 reconciled p firm figures = record {
   figures = figures;
   transit = transit_list p firm;
@@ -54,7 +55,7 @@ reconciled p firm figures = record {
 }
 
 -- where there is a closing balance of p
-abbrev pub reconciliation_on : ℕ → Firm → Option Reconciled
+abbrev pub reconciliation_on : ℕ → Firm → Option ReconciliationTold
 reconciliation_on p firm = option_map (reconciled p firm) (figures_on p firm)
 
 -- What is kept of the rows handed over one at a time.
@@ -64,6 +65,7 @@ pub record ReconciliationKept : Type 0 where
   pub lists : Listed
   pub issued : IssuedKept
   pub balances : BalancesKept
+  pub period : PeriodKept
 
 abbrev pub nothing_kept : ℕ → ReconciliationKept
 nothing_kept p = record {
@@ -71,6 +73,7 @@ nothing_kept p = record {
   lists = none_listed p;
   issued = no_issued p;
   balances = no_balances p;
+  period = whole_period p;
 }
 
 abbrev pub with_row_kept : ReconciliationKept → ℕ × Row → ReconciliationKept
@@ -78,6 +81,7 @@ with_row_kept s row = record s {
   figures = with_row s.figures row;
   lists = with_row_listed s.lists row;
   issued = with_row_issued s.issued row;
+  period = with_row_purged s.period row;
 }
 
 abbrev pub with_movement_kept : ReconciliationKept → Movement → ReconciliationKept
@@ -102,7 +106,7 @@ all_kept p firm =
     (fold with_row_kept (nothing_kept p) firm.rows) firm.movements) firm.firm_lines) firm.exceptions) firm.balances
 
 -- with the figures of what was kept
-abbrev pub kept_with : ReconciliationKept → Figures → Reconciled
+abbrev pub kept_with : ReconciliationKept → Figures → ReconciliationTold
 kept_with s figures = record {
   figures = figures;
   transit = s.lists.transit;
@@ -113,13 +117,14 @@ kept_with s figures = record {
   openings = openings_kept s.balances;
 }
 
-abbrev pub kept_told : ReconciliationKept → Option Reconciled
+abbrev pub kept_told : ReconciliationKept → Option ReconciliationTold
 kept_told s = option_map (kept_with s) (finished s.figures)
 
--- what is kept of a sound firm that can be counted is its reconciliation
+-- what is kept of a sound firm that can be counted is its reconciliation, and whether the records of the day are whole
 pub record IsReconciliationKept (p : ℕ) (firm : Firm) : Type 0 where
   pub told : kept_told (all_kept p firm) ≡ reconciliation_on p firm
   pub rising : AreClosings (all_kept p firm).balances.closings
+  pub purged : (all_kept p firm).period.purged ≡ is_period_purged p firm
 
 abbrev pub ReconciliationIsKept : Type 0
 ReconciliationIsKept = (p : ℕ) (firm : Firm) → FirmSound firm → IsCountable firm → IsReconciliationKept p firm

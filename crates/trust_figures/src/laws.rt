@@ -5,7 +5,7 @@ ghost use Rattle.trust_figures.specs.Reconciling.{FiguresKept, FiguresFit, Figur
 ghost use Rattle.trust_figures.specs.Doubles.{IssuedIsKept};
 ghost use Rattle.trust_figures.specs.Openings.{OpeningsKept};
 ghost use Rattle.trust_figures.specs.Listing.{ListsKept};
-ghost use Rattle.trust_figures.specs.Purged.{PurgeChangesNoFigure, PurgeChangesNoList};
+ghost use Rattle.trust_figures.specs.Purged.{PurgeChangesNoFigure, PurgeChangesNoList, PurgeChangesNoFigureLeft, PurgeChangesNoListLeft};
 ghost use Rattle.trust_figures.specs.Reconciliations.{ReconciliationIsKept};
 
 use trust_matter::laws::sound_is_covered;
@@ -33,7 +33,8 @@ pub fn openings_are_kept()
     ensures { OpeningsKept }
 {}
 
-/// What a reconciliation's sink keeps of the rows of a sound firm that can be counted is the firm's reconciliation.
+/// What a reconciliation's sink keeps of the rows of a sound firm that can be counted is the firm's reconciliation, and
+/// whether a matter that was closed after the day has been purged.
 pub fn reconciliation_is_kept()
     ensures { ReconciliationIsKept }
 {}
@@ -44,10 +45,13 @@ pub fn issued_is_kept()
 {}
 
 /// Purging a matter of a sound firm changes no figure of a day that is not before its close, and none of the lists of
-/// deposits in transit, payments outstanding, what came early, and exceptions.
+/// deposits in transit, payments outstanding, what came early, and exceptions; and so of each day whose records are
+/// whole afterwards, no purged matter having been closed after it.
 pub fn purging_changes_no_figure()
     ensures figures { PurgeChangesNoFigure }
     ensures lists { PurgeChangesNoList }
+    ensures figures_left { PurgeChangesNoFigureLeft }
+    ensures lists_left { PurgeChangesNoListLeft }
 {
     sound_is_covered();
 }

@@ -6,6 +6,7 @@ mod firm_row;
 pub mod laws;
 mod lister;
 mod openings;
+mod period;
 mod reconciler;
 mod reconciliation;
 mod shares;

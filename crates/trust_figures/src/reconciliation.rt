@@ -14,6 +14,7 @@ use crate::firm_row::{
 };
 use crate::lister::{Lister, ReconciliationLists};
 use crate::openings::{BalanceList, OpeningLine};
+use crate::period::Period;
 use crate::reconciler::{Figures, Reconciler};
 use std::alloc::{AllocError, Global};
 use std::marker::Model;
@@ -33,8 +34,8 @@ pub struct Reconciliation {
 }
 
 /// Makes the reconciliation as of a day from the rows, movements, lines, exceptions and balances of a firm, one at a
-/// time. It keeps sums, the lists that it tells, each payment issued by the day and not voided by it, and the balances
-/// dated by the day.
+/// time. It keeps sums, the lists that it tells, each payment issued by the day and not voided by it, the balances
+/// dated by the day, and whether the records of the day are whole.
 ///
 /// Contracts see it as these.
 pub struct ReconciliationSink {
@@ -42,6 +43,7 @@ pub struct ReconciliationSink {
     lists: Lister,
     issued: IssuedList,
     balances: BalanceList,
+    period: Period,
 }
 
 impl Drop for ReconciliationSink {
@@ -51,6 +53,7 @@ impl Drop for ReconciliationSink {
             lists: _lists,
             issued: _issued,
             balances: _balances,
+            period: _period,
         } = self;
     }
 }
@@ -58,7 +61,13 @@ impl Drop for ReconciliationSink {
 impl Model for ReconciliationSink {
     ghost Value = { ReconciliationKept };
 
-    ghost view = { λ s. record { figures = s.figures; lists = s.lists; issued = s.issued; balances = s.balances } };
+    ghost view = { λ s. record {
+      figures = s.figures;
+      lists = s.lists;
+      issued = s.issued;
+      balances = s.balances;
+      period = s.period;
+    } };
 }
 
 impl ReconciliationSink {
@@ -71,6 +80,7 @@ impl ReconciliationSink {
             lists: Lister::new(alloc, day),
             issued: IssuedList::new(alloc, day),
             balances: BalanceList::new(alloc, day),
+            period: Period::new(day),
         }
     }
 
@@ -94,6 +104,13 @@ impl ReconciliationSink {
         Ok(())
     }
 
+    /// A matter that was closed after the day has been purged, so that the records of the day are no longer whole.
+    pub fn is_period_purged(&self) -> bool
+        ensures { result ≡ self.now.period.purged }
+    {
+        self.period.is_purged()
+    }
+
     /// The reconciliation, or None where no closing balance of the day came. The closings have to have come by day, as
     /// those of a firm do. Fails only for want of memory.
     pub fn finish(self, alloc: Global) -> Result<Option<Reconciliation>, AllocError>
@@ -104,6 +121,7 @@ impl ReconciliationSink {
             lists,
             issued,
             balances,
+            period: _period,
         } = self;
         let Some(figures) = figures.finish() else {
             return Ok(None);
@@ -130,7 +148,8 @@ impl RowSink for ReconciliationSink {
 
     ghost balanced = { with_balance_noted };
 
-    fn head(&mut self, _matter: MatterNo, _head: &Head) -> Result<(), AllocError> {
+    fn head(&mut self, matter: MatterNo, head: &Head) -> Result<(), AllocError> {
+        self.period.add_head(matter, head);
         Ok(())
     }
 

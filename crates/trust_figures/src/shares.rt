@@ -3,6 +3,7 @@
 ghost use Rattle.std.specs.Prelude.{◌≡◌, ◌≤◌, ◌&&◌, not, ℕ, pos, ◌+ℤ◌, ◌≤ℤ◌};
 ghost use Rattle.std.specs.Option.{option_copied};
 ghost use Rattle.trust_values.specs.Limits.{IsAmount};
+ghost use Rattle.trust_values.specs.declared.limits.TheConstants.{MAX_AMOUNT};
 ghost use Rattle.matter_rows.specs.Clearings.{cleared_amount};
 ghost use Rattle.trust_figures.specs.Figures.{is_by, issued_on, voided_on, payment_banked_on, booked_on, undone_on, banked_on, is_waiting, is_in_transit, is_outstanding, is_counted, names_balance};
 ghost use Rattle.trust_figures.specs.Figures.{returned_on, back_on, is_banked_early, is_back_early};
@@ -176,8 +177,8 @@ pub fn outstanding_share(entry: &Entry, p: Day) -> i64
 /// The amount of its line of the bank, in cents: a deposit comes in, a payment goes out.
 pub fn signed_amount(entry: &Entry) -> i64
     ensures value { result ≡ cleared_amount entry.now }
-    ensures low { pos 0 ≤ℤ (result +ℤ pos 99_999_999_999) }
-    ensures high { result ≤ℤ pos 99_999_999_999 }
+    ensures low { pos 0 ≤ℤ (result +ℤ pos MAX_AMOUNT) }
+    ensures high { result ≤ℤ pos MAX_AMOUNT }
 {
     match entry {
         Entry::Deposit(deposit) => deposit.amount.get() as i64,

@@ -20,6 +20,7 @@ use Rattle.sqlite.proofs.Callers.{IsPlain, command_of, reads_as, one_permutation
 use Rattle.trust_schema.specs.declared.layout.Layout.{Layout}
 use Rattle.trust_schema.specs.declared.layout.Layout.TheVariants.{Made, Moved}
 use Rattle.trust_schema.specs.Schema.{book_schema, book_tree}
+use Rattle.trust_tables.specs.Reading.{IsSelect}
 use Rattle.trust_making.specs.Books.{versions_in, version_text}
 
 abbrev pub query : Layout → Query
@@ -52,6 +53,10 @@ pub version_unlisted : (l : Layout) → reads_listing (book_schema l) version_te
 unfolding everything
 version_unlisted Made = refl
 version_unlisted Moved = refl
+
+pub version_selects : IsSelect version_text
+unfolding everything
+version_selects = refl
 
 shown : Row → Row
 shown r = column r 1 ∷ []

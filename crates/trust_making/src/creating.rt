@@ -39,13 +39,13 @@ pub(crate) fn create<S: Alter>(tx: &mut Transaction<'_, S>) -> Result<(), Error>
          NULL, fund INTEGER NOT NULL, of_no INTEGER NOT NULL, text_a TEXT NOT NULL, text_b TEXT NOT NULL, \
          text_c TEXT NOT NULL, day_done INTEGER NOT NULL, day_undone INTEGER NOT NULL, day_bank INTEGER \
          NOT NULL, bank_ref TEXT NOT NULL, part INTEGER NOT NULL, left_now INTEGER NOT NULL, PRIMARY KEY \
-         (matter, no)) STRICT; CREATE TABLE journal (seq INTEGER PRIMARY KEY AUTOINCREMENT, matter \
-         INTEGER NOT NULL, entry INTEGER NOT NULL, day INTEGER NOT NULL, amount INTEGER NOT NULL) STRICT; \
-         CREATE TABLE firm_line (seq INTEGER PRIMARY KEY AUTOINCREMENT, day INTEGER NOT NULL, bank_ref \
-         TEXT NOT NULL, amount INTEGER NOT NULL, text TEXT NOT NULL) STRICT; CREATE TABLE exception (day \
-         INTEGER NOT NULL, reference TEXT NOT NULL, bank_ref TEXT NOT NULL, amount INTEGER NOT NULL, text \
-         TEXT NOT NULL, PRIMARY KEY (day, reference, bank_ref, amount, text)) STRICT; CREATE TABLE \
-         balance (kind INTEGER NOT NULL, day INTEGER NOT NULL, amount INTEGER NOT NULL, PRIMARY KEY \
-         (kind, day)) STRICT; INSERT INTO book (version) VALUES (2)",
+         (matter, no)) STRICT; CREATE TABLE journal (seq INTEGER NOT NULL PRIMARY KEY AUTOINCREMENT, \
+         matter INTEGER NOT NULL, entry INTEGER NOT NULL, day INTEGER NOT NULL, amount INTEGER NOT NULL) \
+         STRICT; CREATE TABLE firm_line (seq INTEGER NOT NULL PRIMARY KEY AUTOINCREMENT, day INTEGER NOT \
+         NULL, bank_ref TEXT NOT NULL, amount INTEGER NOT NULL, text TEXT NOT NULL) STRICT; CREATE TABLE \
+         exception (day INTEGER NOT NULL, reference TEXT NOT NULL, bank_ref TEXT NOT NULL, amount INTEGER \
+         NOT NULL, text TEXT NOT NULL, PRIMARY KEY (day, reference, bank_ref, amount, text)) STRICT; \
+         CREATE TABLE balance (kind INTEGER NOT NULL, day INTEGER NOT NULL, amount INTEGER NOT NULL, \
+         PRIMARY KEY (kind, day)) STRICT; INSERT INTO book (version) VALUES (2)",
     )
 }

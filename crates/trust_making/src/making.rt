@@ -1,6 +1,6 @@
 //! Making a book's tables.
 
-ghost use Rattle.std.specs.Prelude.{◌≡◌, ◌≢◌, false, IfErr, OnOk, OnErr, IsTrue};
+ghost use Rattle.std.specs.Prelude.{◌≡◌, ◌≢◌, false, Err, IfErr, OnOk, OnErr, IsTrue};
 ghost use Rattle.sqlite.specs.Held.{state};
 ghost use Rattle.sqlite.specs.State.{HasCleanDisk, Survives};
 ghost use Rattle.trust_making.specs.Books.{no_schema, IsBook, IsNewBook, AreNewBook};
@@ -41,8 +41,9 @@ fn build<S: Alter>(conn: &mut Connection<S>) -> Result<(), Error>
 }
 
 /// Writes the tables of this version into an empty database, in one transaction: all or none, also over a crash. Beside
-/// another table, an index or a view they would lie elsewhere, so a database that is not empty is NotABook and stays as it
-/// is. Asks that no transaction is open. After another fault a connection that stays open sees what it saw.
+/// another table, an index or a view they would lie elsewhere, so a database that is not empty, and no other, is
+/// NotABook: it stays as it is. Asks that no transaction is open. After another fault a connection that stays open sees
+/// what it saw.
 pub fn make<S: Alter>(conn: &mut Connection<S>) -> Result<(), OpenFault>
     requires { conn.old.in_transaction ≡ false }
     ensures mode { conn.new.in_transaction ≡ false }
@@ -51,6 +52,7 @@ pub fn make<S: Alter>(conn: &mut Connection<S>) -> Result<(), OpenFault>
     ensures stands { HasCleanDisk (state S.Store conn.new) → OnOk result (Stands Made (state S.Store conn.new).now) }
     ensures settled { HasCleanDisk (state S.Store conn.new) → OnOk result (IsSettled (state S.Store conn.new)) }
     ensures empty { OnOk result ((state S.Store conn.old).now.schema ≡ no_schema) }
+    ensures not_empty { (state S.Store conn.old).now.schema ≢ no_schema → result ≡ Err OpenFault.NotABook }
     ensures refused { IfErr result (λ e. e ≡ OpenFault.NotABook
         → ((state S.Store conn.old).now.schema ≢ no_schema) × (conn.new ≡ conn.old)) }
     ensures kept { HasCleanDisk (state S.Store conn.new) → IsTrue (state S.Store conn.new).is_open

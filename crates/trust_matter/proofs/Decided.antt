@@ -14,7 +14,7 @@ use Rattle.matter_parts.proofs.MadeChange.{change-is}
 use Rattle.matter_parts.proofs.NeverStore.{never-store}
 use Rattle.trust_matter.specs.Facts.{Facts, Asked, number_named, other_of}
 use Rattle.trust_matter.specs.KeptFacts.{kept_facts, holds_for}
-use Rattle.trust_matter.specs.Step.{HasAmount, IsDecided, Decides, MayRefuse, Gives, refusal, refusal_of, decided, edit_on}
+use Rattle.trust_matter.specs.Step.{HasAmount, IsDecided, Decides, MayRefuse, AnswersBy, refusal, refusal_of, decided, edit_on}
 use Rattle.trust_matter.proofs.Parts.{facts-same, both}
 use Rattle.trust_matter.proofs.StepForms.{IsStep}
 use Rattle.trust_matter.proofs.Steps.{step}
@@ -42,7 +42,7 @@ decided-ok m rows a e c h amount accepted is made s p =
     }
 
 -- an accepted edit is the change of the rows, or the want of one that is there
-pub decided-made : (m : Part) (a : Asked) (e : Edit) (r : Result MatterChange Refusal) → holds_for m a.ask ≡ true → HasAmount a.ask → Gives (kept_facts m a.ask) a (Ok e) → IfOk r (λ c. IsMade m e (last_after m.head e a.day) c) → OnErr r ((v : TotalsAfter) → AreSmallTotals v → EditMoved m e v → ⊥) → (rows : Rows) → Sound rows → IsPart m rows → Decides rows a r
+pub decided-made : (m : Part) (a : Asked) (e : Edit) (r : Result MatterChange Refusal) → holds_for m a.ask ≡ true → HasAmount a.ask → AnswersBy (kept_facts m a.ask) a (Ok e) → IfOk r (λ c. IsMade m e (last_after m.head e a.day) c) → OnErr r ((v : TotalsAfter) → AreSmallTotals v → EditMoved m e v → ⊥) → (rows : Rows) → Sound rows → IsPart m rows → Decides rows a r
 decided-made m a e (Ok c) h amount g made none rows s p = decided-ok m rows a e c h amount g.0 g.1 made s p
 decided-made m a e (Err r) h amount g made none rows s p =
     let same = facts-same m rows a.ask s.backed.named p h in
@@ -55,7 +55,7 @@ decided-made m a e (Err r) h amount g made none rows s p =
     absurd (never-store m rows (other_of a.ask (entry_at rows.entries (number_named a.ask))) (number_named a.ask) (edit_on rows a) s.backed p (step rows a s amount on-rows).may (subst P entry parts.1) parts.0 (subst M of-rows none))
 
 -- a refusal by what is kept is that of the rows
-pub decided-refused : (m : Part) (a : Asked) (r : Refusal) → holds_for m a.ask ≡ true → Gives (kept_facts m a.ask) a (Err r) → (rows : Rows) → Sound rows → IsPart m rows → Decides rows a (Err r)
+pub decided-refused : (m : Part) (a : Asked) (r : Refusal) → holds_for m a.ask ≡ true → AnswersBy (kept_facts m a.ask) a (Err r) → (rows : Rows) → Sound rows → IsPart m rows → Decides rows a (Err r)
 decided-refused m a r h g rows s p =
     let P : Facts → Type 0 = λ f. MayRefuse (refusal_of f a) r in
     subst P (facts-same m rows a.ask s.backed.named p h) g

@@ -254,6 +254,7 @@ seen-made head seats es who ask.CloseMatter day s p changing =
 seen-made head seats es who ask.Purge day s p changing =
     with-head head seats es who ask.Purge s.headed p.seat refl (SeenOn day (edit_of ask.Purge (entry_at es (number_named ask.Purge)) day)) (λ h. refl)
 seen-made head seats es who ask.Show day s p changing = absurd (false≢true changing)
+seen-made head seats es who ask.Accounting day s p changing = absurd (false≢true changing)
 seen-made head seats es who (ask.ShowEntry n) day s p changing = absurd (false≢true changing)
 
 pub day-is_last : DayIsLast
@@ -290,6 +291,7 @@ read-nothing rows who (ask.Award a) day reading = absurd (false≢true (sym read
 read-nothing rows who ask.CloseMatter day reading = absurd (false≢true (sym reading))
 read-nothing rows who ask.Purge day reading = absurd (false≢true (sym reading))
 read-nothing rows who ask.Show day reading = unchanged rows day (refusal rows (asked who ask.Show day))
+read-nothing rows who ask.Accounting day reading = unchanged rows day (refusal rows (asked who ask.Accounting day))
 read-nothing rows who (ask.ShowEntry n) day reading = unchanged rows day (refusal rows (asked who (ask.ShowEntry n) day))
 
 pub reads-change_nothing : ReadsChangeNothing

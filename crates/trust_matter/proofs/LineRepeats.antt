@@ -153,6 +153,7 @@ ask-keeps line es (ask.Award a) other day stays state = claim-keeps line es a.nu
 ask-keeps line es ask.CloseMatter other day stays state = λ n h. h
 ask-keeps line es ask.Purge other day stays state = absurd (false≢true (sym stays))
 ask-keeps line es ask.Show other day stays state = λ n h. h
+ask-keeps line es ask.Accounting other day stays state = λ n h. h
 ask-keeps line es (ask.ShowEntry k) other day stays state = λ n h. h
 
 or-second : (a b : Bool) → (a || b) ≡ false → b ≡ false

@@ -117,6 +117,7 @@ makes-of (ask.Award a) makes = absurd (false≢true makes)
 makes-of ask.CloseMatter makes = absurd (false≢true makes)
 makes-of ask.Purge makes = absurd (false≢true makes)
 makes-of ask.Show makes = absurd (false≢true makes)
+makes-of ask.Accounting makes = absurd (false≢true makes)
 makes-of (ask.ShowEntry n) makes = absurd (false≢true makes)
 makes-of (ask.Deposit a) makes = makes-deposit a
 makes-of (ask.Propose a) makes = makes-payment a

@@ -108,6 +108,7 @@ edit-grows rows (ask.Award a) day last kept = claim-grows rows a.number last (en
 edit-grows rows ask.CloseMatter day last kept = nothing-grows rows last
 edit-grows rows ask.Purge day last kept = absurd (false≢true (sym kept))
 edit-grows rows ask.Show day last kept = nothing-grows rows last
+edit-grows rows ask.Accounting day last kept = nothing-grows rows last
 edit-grows rows (ask.ShowEntry n) day last kept = nothing-grows rows last
 
 either-grows : (b : Bool) (rows : Rows) (e : Edit) (last : ℕ) → Grows rows (changed_by e last rows) → Grows rows (changed_by (cond b edit.Nothing e) last rows)
@@ -149,6 +150,7 @@ purging-goes (ask.Accept a) e day last head is closed = absurd (false≢true is)
 purging-goes (ask.Award a) e day last head is closed = absurd (false≢true is)
 purging-goes ask.CloseMatter e day last head is closed = absurd (false≢true is)
 purging-goes ask.Show e day last head is closed = absurd (false≢true is)
+purging-goes ask.Accounting e day last head is closed = absurd (false≢true is)
 purging-goes (ask.ShowEntry n) e day last head is closed = absurd (false≢true is)
 
 either-goes : (b : Bool) (rows : Rows) (a : Asked) (last : ℕ) → is_purging a.ask ≡ true → first (cond b (early_conditions (facts_of rows a.ask) a) (conditions (facts_of rows a.ask) a)) ≡ None → (changed_by (cond b edit.Nothing (edit_of a.ask (entry_at rows.entries (number_named a.ask)) a.day)) last rows ≡ rows) ⊎ (is_purged (changed_by (cond b edit.Nothing (edit_of a.ask (entry_at rows.entries (number_named a.ask)) a.day)) last rows).head ≡ true)

@@ -58,6 +58,7 @@ step-made None seats es c (ask.Award a) day s amount p = absurd (let h = head-th
 step-made None seats es c ask.CloseMatter day s amount p = absurd (let h = head-there None seats es c ask.CloseMatter s.headed p.seat refl in cc)
 step-made None seats es c ask.Purge day s amount p = absurd (let h = head-there None seats es c ask.Purge s.headed p.seat refl in cc)
 step-made None seats es c ask.Show day s amount p = absurd (let h = head-there None seats es c ask.Show s.headed p.seat refl in cc)
+step-made None seats es c ask.Accounting day s amount p = absurd (let h = head-there None seats es c ask.Accounting s.headed p.seat refl in cc)
 step-made None seats es c (ask.ShowEntry n) day s amount p = absurd (let h = head-there None seats es c (ask.ShowEntry n) s.headed p.seat refl in cc)
 step-made (Some h) seats es c (ask.OpenMatter o) day s amount p = absurd (let g = p.not_opened in false≢true (sym g))
 step-made (Some h) seats es c (ask.AddSeat new) day s amount p =
@@ -81,6 +82,7 @@ step-made (Some h) seats es c (ask.Award a) day s amount p = step-award h seats 
 step-made (Some h) seats es c ask.CloseMatter day s amount p = step-close h seats es c day s (none-is h.closed p.not_closed) (not-before day h.last p.forwards) p.empty
 step-made (Some h) seats es c ask.Purge day s amount p = step-purge h seats es c day s p.kept (not-before day h.last p.forwards) p.state
 step-made (Some h) seats es c ask.Show day s amount p = step-nothing h seats es (asked c ask.Show day) s
+step-made (Some h) seats es c ask.Accounting day s amount p = step-nothing h seats es (asked c ask.Accounting day) s
 step-made (Some h) seats es c (ask.ShowEntry n) day s amount p = step-nothing h seats es (asked c (ask.ShowEntry n) day) s
 
 again-other : (a : Ask) (e : Option Entry) → comes_again a e ≡ true → is_opening a ≡ false
@@ -101,6 +103,7 @@ again-other (ask.Award a) e h = refl
 again-other ask.CloseMatter e h = refl
 again-other ask.Purge e h = refl
 again-other ask.Show e h = refl
+again-other ask.Accounting e h = refl
 again-other (ask.ShowEntry n) e h = refl
 
 step-again : (head : Option Head) (seats : List Seat) (es : List Entry) (a : Asked) → Sound (rows-of head seats es) → is_some head ≡ true → Stepped head seats es a edit.Nothing

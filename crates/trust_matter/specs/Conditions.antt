@@ -38,6 +38,11 @@ abbrev pub is_purging : Ask → Bool
 is_purging ask.Purge = true
 is_purging _ = false
 
+-- the one ask that is answered by the matter whole
+abbrev pub is_accounting : Ask → Bool
+is_accounting ask.Accounting = true
+is_accounting _ = false
+
 -- the ask comes under a rule by which a matter changes
 abbrev pub is_changing : Ask → Bool
 is_changing a = changes_matter (rule_of a)

@@ -49,6 +49,7 @@ number_named (ask.Award a) = a.number
 number_named ask.CloseMatter = 0
 number_named ask.Purge = 0
 number_named ask.Show = 0
+number_named ask.Accounting = 0
 number_named (ask.ShowEntry n) = n
 
 -- the number of the fee or claim that the ask itself names, 0 for none

@@ -45,6 +45,7 @@ rule_of (ask.Award a) = rule.Office
 rule_of ask.CloseMatter = rule.Office
 rule_of ask.Purge = rule.Office
 rule_of ask.Show = rule.Read
+rule_of ask.Accounting = rule.Read
 rule_of (ask.ShowEntry n) = rule.Read
 
 -- under each rule but those of reading and of the firm as a whole, a matter changes

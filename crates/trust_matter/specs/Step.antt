@@ -176,6 +176,7 @@ edit_of (ask.Award a) e day = with_claim a.number e (settled day a.to_client)
 edit_of ask.CloseMatter e day = edit.Close day
 edit_of ask.Purge e day = edit.Clear day
 edit_of ask.Show e day = edit.Nothing
+edit_of ask.Accounting e day = edit.Nothing
 edit_of (ask.ShowEntry n) e day = edit.Nothing
 
 -- what an accepted ask changes
@@ -232,9 +233,9 @@ Answers refused made (Ok e) = (refused ≡ None) × (e ≡ made)
 Answers refused made (Err r) = MayRefuse refused r
 
 -- what is answered of an ask by the facts: its refusal, else what it changes or want of memory
-abbrev pub Gives : Facts → Asked → Result Edit Refusal → Type 0
-Gives f a result = Answers (refusal_of f a) (decided f a) result
+abbrev pub AnswersBy : Facts → Asked → Result Edit Refusal → Type 0
+AnswersBy f a result = Answers (refusal_of f a) (decided f a) result
 
 -- the same where the caller may ask it, and the matter was not purged
-abbrev pub GivesLate : Facts → Asked → Result Edit Refusal → Type 0
-GivesLate f a result = Answers (late_refusal f a) (decided f a) result
+abbrev pub AnswersLateBy : Facts → Asked → Result Edit Refusal → Type 0
+AnswersLateBy f a result = Answers (late_refusal f a) (decided f a) result

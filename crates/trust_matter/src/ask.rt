@@ -2,6 +2,7 @@
 
 ghost use Rattle.std.specs.Prelude.{◌≡◌};
 ghost use Rattle.matter_rows.specs.Shares.{number_or_none};
+ghost use Rattle.trust_matter.specs.Conditions.{is_accounting};
 ghost use Rattle.trust_matter.specs.Facts.{fund_named, number_named};
 ghost use Rattle.trust_matter.specs.Policy.{rule_against, rule_of};
 ghost use Rattle.trust_matter.specs.Step.{HasAmount};
@@ -66,6 +67,8 @@ pub enum Ask {
     Show,
     /// An entry is read.
     ShowEntry(EntryNo),
+    /// The ledger card of the matter is read, the full accounting of it (ABA Model Rule 1.15(d)).
+    Accounting,
 }
 
 impl Drop for Ask {
@@ -89,6 +92,7 @@ impl Drop for Ask {
             Ask::Award(_it) => (),
             Ask::Show => (),
             Ask::ShowEntry(_it) => (),
+            Ask::Accounting => (),
         }
     }
 }
@@ -99,7 +103,7 @@ impl Ask {
         ensures { result ≡ rule_of self.now }
     {
         match self {
-            Ask::Show | Ask::ShowEntry(_) => Rule::Read,
+            Ask::Show | Ask::ShowEntry(_) | Ask::Accounting => Rule::Read,
             Ask::Propose(_) => Rule::Propose,
             Ask::Approve(_)
             | Ask::Decline(_)
@@ -117,6 +121,13 @@ impl Ask {
             | Ask::CloseMatter
             | Ask::Purge => Rule::Office,
         }
+    }
+
+    /// Whether it is the one ask that is answered by the matter whole.
+    pub fn is_accounting(&self) -> bool
+        ensures { result ≡ is_accounting self.now }
+    {
+        matches!(self, Ask::Accounting)
     }
 
     /// The number of the entry that it names, if it names one.
@@ -139,7 +150,8 @@ impl Ask {
             | Ask::DropSeat(_)
             | Ask::CloseMatter
             | Ask::Purge
-            | Ask::Show => None,
+            | Ask::Show
+            | Ask::Accounting => None,
         }
     }
 

@@ -8,7 +8,7 @@ ghost use Rattle.trust_matter.specs.declared.ask.Caller.{Caller as AnyCaller};
 ghost use Rattle.trust_matter.specs.Conditions.{against_left, is_claim_asked};
 ghost use Rattle.trust_matter.specs.KeptFacts.{kept_facts};
 ghost use Rattle.trust_matter.specs.ClaimTables.{against_conditions, split_conditions};
-ghost use Rattle.trust_matter.specs.Step.{GivesLate, claim_of, first, settled, with_claim};
+ghost use Rattle.trust_matter.specs.Step.{AnswersLateBy, claim_of, first, settled, with_claim};
 
 use crate::ask::Ask;
 use matter_parts::{Edit, Kept, Matter, Numbered};
@@ -109,7 +109,7 @@ fn left_against(matter: &Matter, against: &Against) -> Result<u64, Refusal>
 
 // A claim is set apart from its fee, or from what is available.
 pub(crate) fn decide_claim(matter: &Matter, asked: &ClaimAsk, day: Day) -> Result<Edit, Refusal>
-    ensures { (c : AnyCaller) → GivesLate (kept_facts matter.now (Ask.RaiseClaim asked.now))
+    ensures { (c : AnyCaller) → AnswersLateBy (kept_facts matter.now (Ask.RaiseClaim asked.now))
         (record { caller = c; ask = Ask.RaiseClaim asked.now; day = day }) result }
 {
     if is_claim_asked(matter.find(asked.number), asked) {
@@ -170,7 +170,7 @@ fn claim_restated(number: EntryNo, claim: &Claim, state: ClaimState) -> Result<E
 
 // A part of an open claim is offered to the client, in the place of any offer before.
 pub(crate) fn decide_offer(matter: &Matter, asked: &SplitAsk, day: Day) -> Result<Edit, Refusal>
-    ensures { (c : AnyCaller) → GivesLate (kept_facts matter.now (Ask.Offer asked.now))
+    ensures { (c : AnyCaller) → AnswersLateBy (kept_facts matter.now (Ask.Offer asked.now))
         (record { caller = c; ask = Ask.Offer asked.now; day = day }) result }
 {
     if matter.is_closed() {
@@ -186,7 +186,7 @@ pub(crate) fn decide_offer(matter: &Matter, asked: &SplitAsk, day: Day) -> Resul
 
 // The part that was offered is accepted, and the claim is settled.
 pub(crate) fn decide_accept(matter: &Matter, asked: &SplitAsk, day: Day) -> Result<Edit, Refusal>
-    ensures { (c : AnyCaller) → GivesLate (kept_facts matter.now (Ask.Accept asked.now))
+    ensures { (c : AnyCaller) → AnswersLateBy (kept_facts matter.now (Ask.Accept asked.now))
         (record { caller = c; ask = Ask.Accept asked.now; day = day }) result }
 {
     if matter.is_closed() {
@@ -213,7 +213,7 @@ pub(crate) fn decide_accept(matter: &Matter, asked: &SplitAsk, day: Day) -> Resu
 
 // An open claim is settled with a part to the client, offered or not.
 pub(crate) fn decide_award(matter: &Matter, asked: &SplitAsk, day: Day) -> Result<Edit, Refusal>
-    ensures { (c : AnyCaller) → GivesLate (kept_facts matter.now (Ask.Award asked.now))
+    ensures { (c : AnyCaller) → AnswersLateBy (kept_facts matter.now (Ask.Award asked.now))
         (record { caller = c; ask = Ask.Award asked.now; day = day }) result }
 {
     if matter.is_closed() {

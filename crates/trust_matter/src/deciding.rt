@@ -9,7 +9,7 @@ ghost use Rattle.matter_parts.specs.Parts.{IsPart, kept_at, entry_in};
 ghost use Rattle.trust_matter.specs.declared.ask.Caller.{Caller as AnyCaller};
 ghost use Rattle.trust_matter.specs.Facts.{number_named, other_of};
 ghost use Rattle.trust_matter.specs.KeptFacts.{kept_facts, holds_for};
-ghost use Rattle.trust_matter.specs.Step.{Decides, Gives, GivesLate};
+ghost use Rattle.trust_matter.specs.Step.{Decides, AnswersBy, AnswersLateBy};
 
 use crate::ask::{Ask, Caller};
 use crate::claim::{decide_accept, decide_award, decide_claim, decide_offer};
@@ -52,7 +52,7 @@ pub fn holds_for(matter: &Matter, ask: &Ask) -> bool
 }
 
 fn decide_show_entry(matter: &Matter, number: EntryNo, day: Day) -> Result<Edit, Refusal>
-    ensures { (c : AnyCaller) → GivesLate (kept_facts matter.now (Ask.ShowEntry number))
+    ensures { (c : AnyCaller) → AnswersLateBy (kept_facts matter.now (Ask.ShowEntry number))
         (record { caller = c; ask = Ask.ShowEntry number; day = day }) result }
 {
     let _day = day;
@@ -64,7 +64,8 @@ fn decide_show_entry(matter: &Matter, number: EntryNo, day: Day) -> Result<Edit,
 
 // What an ask changes, by what is kept.
 fn decide_edit(matter: &Matter, caller: &Caller, ask: &Ask, day: Day) -> Result<Edit, Refusal>
-    ensures { Gives (kept_facts matter.now ask.now) (record { caller = caller.now; ask = ask.now; day = day }) result }
+    ensures { AnswersBy (kept_facts matter.now ask.now)
+        (record { caller = caller.now; ask = ask.now; day = day }) result }
 {
     if is_unknown_to(matter, caller, ask) {
         return Err(Refusal::NoMatter);
@@ -93,7 +94,7 @@ fn decide_edit(matter: &Matter, caller: &Caller, ask: &Ask, day: Day) -> Result<
         Ask::Award(asked) => decide_award(matter, asked, day),
         Ask::CloseMatter => decide_close(matter, day),
         Ask::Purge => decide_purge(matter, day),
-        Ask::Show => Ok(Edit::Nothing),
+        Ask::Show | Ask::Accounting => Ok(Edit::Nothing),
         Ask::ShowEntry(number) => decide_show_entry(matter, *number, day),
     }
 }

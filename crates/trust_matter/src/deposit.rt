@@ -6,7 +6,7 @@ ghost use Rattle.matter_parts.specs.Parts.{entry_in};
 ghost use Rattle.trust_matter.specs.declared.ask.Caller.{Caller as AnyCaller};
 ghost use Rattle.trust_matter.specs.Conditions.{is_as_asked};
 ghost use Rattle.trust_matter.specs.KeptFacts.{kept_facts};
-ghost use Rattle.trust_matter.specs.Step.{GivesLate, deposit_of};
+ghost use Rattle.trust_matter.specs.Step.{AnswersLateBy, deposit_of};
 
 use crate::ask::Ask;
 use matter_parts::{Edit, Kept, Matter, Numbered};
@@ -58,7 +58,7 @@ fn is_as_asked(kept: Option<&Kept>, asked: &DepositAsk) -> bool
 }
 
 pub(crate) fn decide_deposit(matter: &Matter, asked: &DepositAsk, day: Day) -> Result<Edit, Refusal>
-    ensures { (c : AnyCaller) → GivesLate (kept_facts matter.now (Ask.Deposit asked.now))
+    ensures { (c : AnyCaller) → AnswersLateBy (kept_facts matter.now (Ask.Deposit asked.now))
         (record { caller = c; ask = Ask.Deposit asked.now; day = day }) result }
 {
     if is_as_asked(matter.find(asked.number), asked) {
@@ -81,7 +81,7 @@ pub(crate) fn decide_deposit(matter: &Matter, asked: &DepositAsk, day: Day) -> R
 }
 
 pub(crate) fn decide_cancel(matter: &Matter, number: EntryNo, day: Day) -> Result<Edit, Refusal>
-    ensures { (c : AnyCaller) → GivesLate (kept_facts matter.now (Ask.CancelDeposit number))
+    ensures { (c : AnyCaller) → AnswersLateBy (kept_facts matter.now (Ask.CancelDeposit number))
         (record { caller = c; ask = Ask.CancelDeposit number; day = day }) result }
 {
     if matter.is_closed() {

@@ -6,7 +6,7 @@ ghost use Rattle.matter_parts.specs.Parts.{entry_in};
 ghost use Rattle.trust_matter.specs.declared.ask.Caller.{Caller as AnyCaller};
 ghost use Rattle.trust_matter.specs.Conditions.{is_fee_asked};
 ghost use Rattle.trust_matter.specs.KeptFacts.{kept_facts};
-ghost use Rattle.trust_matter.specs.Step.{GivesLate, fee_of};
+ghost use Rattle.trust_matter.specs.Step.{AnswersLateBy, fee_of};
 
 use crate::ask::Ask;
 use matter_parts::{Edit, Kept, Matter, Numbered};
@@ -53,7 +53,7 @@ fn is_fee_asked(kept: Option<&Kept>, asked: &FeeAsk) -> bool
 
 // A fee is set apart from what is available.
 pub(crate) fn decide_fee(matter: &Matter, asked: &FeeAsk, day: Day) -> Result<Edit, Refusal>
-    ensures { (c : AnyCaller) → GivesLate (kept_facts matter.now (Ask.EarnFee asked.now))
+    ensures { (c : AnyCaller) → AnswersLateBy (kept_facts matter.now (Ask.EarnFee asked.now))
         (record { caller = c; ask = Ask.EarnFee asked.now; day = day }) result }
 {
     if is_fee_asked(matter.find(asked.number), asked) {

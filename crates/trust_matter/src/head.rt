@@ -3,7 +3,7 @@
 ghost use Rattle.std.specs.Prelude.{◌≡◌};
 ghost use Rattle.trust_matter.specs.declared.ask.Caller.{Caller as AnyCaller};
 ghost use Rattle.trust_matter.specs.KeptFacts.{kept_facts};
-ghost use Rattle.trust_matter.specs.Step.{GivesLate};
+ghost use Rattle.trust_matter.specs.Step.{AnswersLateBy};
 
 use crate::ask::{Ask, OpenAsk};
 use matter_parts::{Edit, Matter, Opening};
@@ -11,7 +11,7 @@ use matter_rows::{Head, Holder, Role, Seat};
 use trust_base::{Day, Refusal};
 
 pub(crate) fn decide_open(matter: &Matter, asked: &OpenAsk, day: Day) -> Result<Edit, Refusal>
-    ensures { (c : AnyCaller) → GivesLate (kept_facts matter.now (Ask.OpenMatter asked.now))
+    ensures { (c : AnyCaller) → AnswersLateBy (kept_facts matter.now (Ask.OpenMatter asked.now))
         (record { caller = c; ask = Ask.OpenMatter asked.now; day = day }) result }
 {
     if matter.head().is_some() {
@@ -34,7 +34,7 @@ pub(crate) fn decide_open(matter: &Matter, asked: &OpenAsk, day: Day) -> Result<
 }
 
 pub(crate) fn decide_close(matter: &Matter, day: Day) -> Result<Edit, Refusal>
-    ensures { (c : AnyCaller) → GivesLate (kept_facts matter.now Ask.CloseMatter)
+    ensures { (c : AnyCaller) → AnswersLateBy (kept_facts matter.now Ask.CloseMatter)
         (record { caller = c; ask = Ask.CloseMatter; day = day }) result }
 {
     if matter.is_closed() {
@@ -53,7 +53,7 @@ pub(crate) fn decide_close(matter: &Matter, day: Day) -> Result<Edit, Refusal>
 
 // A closed matter is purged from the day on after the last for which its records are kept.
 pub(crate) fn decide_purge(matter: &Matter, day: Day) -> Result<Edit, Refusal>
-    ensures { (c : AnyCaller) → GivesLate (kept_facts matter.now Ask.Purge)
+    ensures { (c : AnyCaller) → AnswersLateBy (kept_facts matter.now Ask.Purge)
         (record { caller = c; ask = Ask.Purge; day = day }) result }
 {
     if let Some(last) = matter.last_behind(day) {

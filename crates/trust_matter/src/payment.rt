@@ -6,7 +6,7 @@ ghost use Rattle.matter_parts.specs.Parts.{entry_in};
 ghost use Rattle.trust_matter.specs.declared.ask.Caller.{Caller as AnyCaller};
 ghost use Rattle.trust_matter.specs.Conditions.{is_an_entry, is_claimant_of, is_no_fund, is_no_fund_yet, is_payment_asked, is_wrong_payee_of};
 ghost use Rattle.trust_matter.specs.KeptFacts.{kept_facts};
-ghost use Rattle.trust_matter.specs.Step.{GivesLate, payment_of};
+ghost use Rattle.trust_matter.specs.Step.{AnswersLateBy, payment_of};
 
 use crate::ask::Ask;
 use matter_parts::{Edit, Kept, Matter, Numbered};
@@ -135,7 +135,7 @@ fn is_payment_asked(kept: Option<&Kept>, asked: &PaymentAsk) -> bool
 }
 
 pub(crate) fn decide_propose(matter: &Matter, asked: &PaymentAsk, day: Day) -> Result<Edit, Refusal>
-    ensures { (c : AnyCaller) → GivesLate (kept_facts matter.now (Ask.Propose asked.now))
+    ensures { (c : AnyCaller) → AnswersLateBy (kept_facts matter.now (Ask.Propose asked.now))
         (record { caller = c; ask = Ask.Propose asked.now; day = day }) result }
 {
     if is_payment_asked(matter.find(asked.number), asked) {
@@ -174,7 +174,7 @@ pub(crate) fn decide_propose(matter: &Matter, asked: &PaymentAsk, day: Day) -> R
 }
 
 pub(crate) fn decide_approve(matter: &Matter, number: EntryNo, day: Day) -> Result<Edit, Refusal>
-    ensures { (c : AnyCaller) → GivesLate (kept_facts matter.now (Ask.Approve number))
+    ensures { (c : AnyCaller) → AnswersLateBy (kept_facts matter.now (Ask.Approve number))
         (record { caller = c; ask = Ask.Approve number; day = day }) result }
 {
     if matter.is_closed() {
@@ -204,7 +204,7 @@ pub(crate) fn decide_approve(matter: &Matter, number: EntryNo, day: Day) -> Resu
 }
 
 pub(crate) fn decide_decline(matter: &Matter, number: EntryNo, day: Day) -> Result<Edit, Refusal>
-    ensures { (c : AnyCaller) → GivesLate (kept_facts matter.now (Ask.Decline number))
+    ensures { (c : AnyCaller) → AnswersLateBy (kept_facts matter.now (Ask.Decline number))
         (record { caller = c; ask = Ask.Decline number; day = day }) result }
 {
     if matter.is_closed() {
@@ -230,7 +230,7 @@ pub(crate) fn decide_decline(matter: &Matter, number: EntryNo, day: Day) -> Resu
 }
 
 pub(crate) fn decide_void(matter: &Matter, number: EntryNo, day: Day) -> Result<Edit, Refusal>
-    ensures { (c : AnyCaller) → GivesLate (kept_facts matter.now (Ask.VoidPayment number))
+    ensures { (c : AnyCaller) → AnswersLateBy (kept_facts matter.now (Ask.VoidPayment number))
         (record { caller = c; ask = Ask.VoidPayment number; day = day }) result }
 {
     if matter.is_closed() {

@@ -3,7 +3,7 @@
 ghost use Rattle.std.specs.Prelude.{◌≡◌};
 ghost use Rattle.trust_matter.specs.declared.ask.Caller.{Caller as AnyCaller};
 ghost use Rattle.trust_matter.specs.KeptFacts.{kept_facts};
-ghost use Rattle.trust_matter.specs.Step.{GivesLate};
+ghost use Rattle.trust_matter.specs.Step.{AnswersLateBy};
 
 use crate::ask::Ask;
 use matter_parts::{Edit, Matter};
@@ -11,7 +11,7 @@ use matter_rows::{Role, Seat};
 use trust_base::{Day, PersonId, Refusal};
 
 pub(crate) fn decide_add_seat(matter: &Matter, asked: &Seat, day: Day) -> Result<Edit, Refusal>
-    ensures { (c : AnyCaller) → GivesLate (kept_facts matter.now (Ask.AddSeat asked.now))
+    ensures { (c : AnyCaller) → AnswersLateBy (kept_facts matter.now (Ask.AddSeat asked.now))
         (record { caller = c; ask = Ask.AddSeat asked.now; day = day }) result }
 {
     if matter.is_closed() {
@@ -28,7 +28,7 @@ pub(crate) fn decide_add_seat(matter: &Matter, asked: &Seat, day: Day) -> Result
 }
 
 pub(crate) fn decide_drop_seat(matter: &Matter, asked: &PersonId, day: Day) -> Result<Edit, Refusal>
-    ensures { (c : AnyCaller) → GivesLate (kept_facts matter.now (Ask.DropSeat asked.now))
+    ensures { (c : AnyCaller) → AnswersLateBy (kept_facts matter.now (Ask.DropSeat asked.now))
         (record { caller = c; ask = Ask.DropSeat asked.now; day = day }) result }
 {
     if matter.is_closed() {

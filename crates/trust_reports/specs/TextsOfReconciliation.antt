@@ -4,9 +4,9 @@ use Rattle.trust_values.specs.Texts.{day_text, signed_text}
 use Rattle.trust_base.specs.declared.line.Line.{Line}
 use Rattle.trust_figures.specs.declared.doubles.Issued.{Issued}
 use Rattle.trust_figures.specs.declared.lister.EntryLine.{EntryLine}
-use Rattle.trust_figures.specs.declared.lister.ReconciliationLists.{ReconciliationLists}
 use Rattle.trust_figures.specs.declared.openings.OpeningLine.{OpeningLine}
 use Rattle.trust_figures.specs.declared.reconciler.Figures.{Figures}
+use Rattle.trust_figures.specs.Reconciliations.{ReconciliationTold}
 use Rattle.trust_reports.specs.Texts.{heading, line, reference_text}
 use Rattle.trust_reports.specs.TextsOfLists.{exception_line, figure_line}
 
@@ -48,14 +48,14 @@ opening_line l =
     (day_text l.day ∷ signed_text l.amount ∷ codes "AFTER" ∷ day_text l.after ∷ signed_text l.closing ∷ [])
 
 -- by matter and entry, then exceptions in their order, doubles by instrument, openings by day
-abbrev pub reconciliation_text : ℕ → Figures → ReconciliationLists → List Issued → List OpeningLine → List ℕ
-reconciliation_text p f lists doubles openings =
+abbrev pub reconciliation_text : ℕ → ReconciliationTold → List ℕ
+reconciliation_text p r =
     heading (codes "RECONCILIATION") p
-    ++ (bank_figures f
-    ++ (book_figures f
-    ++ (flat_map (entry_line (codes "TRANSIT")) lists.transit.items
-    ++ (flat_map (entry_line (codes "OUT")) lists.out.items
-    ++ (flat_map listed_exception lists.exceptions.items
-    ++ (flat_map (entry_line (codes "EARLY")) lists.early.items
-    ++ (flat_map double_line doubles
-    ++ flat_map opening_line openings)))))))
+    ++ (bank_figures r.figures
+    ++ (book_figures r.figures
+    ++ (flat_map (entry_line (codes "TRANSIT")) r.transit
+    ++ (flat_map (entry_line (codes "OUT")) r.out
+    ++ (flat_map listed_exception r.exceptions
+    ++ (flat_map (entry_line (codes "EARLY")) r.early
+    ++ (flat_map double_line r.doubles
+    ++ flat_map opening_line r.openings)))))))

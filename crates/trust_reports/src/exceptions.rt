@@ -57,3 +57,16 @@ pub fn exceptions_text(today: Day, lines: &[Line], out: &mut Vec<u8>) -> Result<
     *out = page.ended(written.is_ok());
     written
 }
+
+/// Appends the line of one exception, as it stands in the report of all of them.
+///
+/// The only error is want of memory; the vector is then as before.
+pub fn exception_line(line: &Line, out: &mut Vec<u8>) -> Result<(), AllocError>
+    ensures ok { OnOk result (out.new.items ≡ out.old.items ++ exception_line line.now) }
+    ensures err { OnErr result (out.new.items ≡ out.old.items) }
+{
+    let mut page = Page::behind(out);
+    let written = push_exception(&mut page, line);
+    *out = page.ended(written.is_ok());
+    written
+}

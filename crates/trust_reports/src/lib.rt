@@ -15,7 +15,7 @@ mod sum;
 mod trial;
 
 pub use card::ledger_card;
-pub use exceptions::exceptions_text;
+pub use exceptions::{exception_line, exceptions_text};
 pub use journal::journal_text;
 pub use reconciliation::reconciliation_text;
 pub use retention::retention_text;

@@ -1,6 +1,7 @@
 // The reconciliation.
 
 ghost use Rattle.std.specs.Prelude.{◌≡◌, ◌++◌, OnOk, OnErr, codes, flat_map};
+ghost use Rattle.trust_figures.specs.Reconciliations.{told};
 ghost use Rattle.trust_reports.specs.Texts.{heading};
 ghost use Rattle.trust_reports.specs.TextsOfReconciliation.{bank_figures, book_figures, double_line, entry_line, listed_exception, opening_line, reconciliation_text};
 
@@ -11,7 +12,7 @@ use crate::piece::{Piece, push_heading, push_line};
 use crate::sum::Sum;
 use std::alloc::AllocError;
 use trust_base::{Day, Line};
-use trust_figures::{EntryLine, Figures, Issued, OpeningLine, ReconciliationLists};
+use trust_figures::{EntryLine, Figures, Issued, OpeningLine, Reconciliation, ReconciliationLists};
 
 #[tactic(auto, unfolding(crate::specs::TextsOfReconciliation::bank_figures))]
 fn push_bank_figures(page: &mut Page, figures: &Figures) -> Result<(), AllocError>
@@ -178,19 +179,15 @@ fn push_lists(page: &mut Page, lists: &ReconciliationLists) -> Result<(), AllocE
 fn push_reconciliation(
     page: &mut Page,
     p: Day,
-    figures: &Figures,
-    lists: &ReconciliationLists,
-    doubles: &[Issued],
-    openings: &[OpeningLine],
+    reconciliation: &Reconciliation,
 ) -> Result<(), AllocError>
     ensures before { page.new.before ≡ page.old.before }
-    ensures text { OnOk result (page.new.text ≡ page.old.text
-        ++ reconciliation_text p figures.now lists.now doubles.now openings.now) }
+    ensures text { OnOk result (page.new.text ≡ page.old.text ++ reconciliation_text p (told reconciliation.now)) }
 {
-    push_figures(page, p, figures)?;
-    push_lists(page, lists)?;
-    push_doubles(page, doubles)?;
-    push_openings(page, openings)
+    push_figures(page, p, &reconciliation.figures)?;
+    push_lists(page, &reconciliation.lists)?;
+    push_doubles(page, &reconciliation.doubles)?;
+    push_openings(page, &reconciliation.openings)
 }
 
 /// Appends the three-way reconciliation as of a day that the ABA Model Rules for Client Trust Account Records ask for:
@@ -201,18 +198,14 @@ fn push_reconciliation(
 /// The only error is want of memory; the vector is then as before.
 pub fn reconciliation_text(
     p: Day,
-    figures: &Figures,
-    lists: &ReconciliationLists,
-    doubles: &[Issued],
-    openings: &[OpeningLine],
+    reconciliation: &Reconciliation,
     out: &mut Vec<u8>,
 ) -> Result<(), AllocError>
-    ensures ok { OnOk result (out.new.items ≡ out.old.items
-        ++ reconciliation_text p figures.now lists.now doubles.now openings.now) }
+    ensures ok { OnOk result (out.new.items ≡ out.old.items ++ reconciliation_text p (told reconciliation.now)) }
     ensures err { OnErr result (out.new.items ≡ out.old.items) }
 {
     let mut page = Page::behind(out);
-    let written = push_reconciliation(&mut page, p, figures, lists, doubles, openings);
+    let written = push_reconciliation(&mut page, p, reconciliation);
     *out = page.ended(written.is_ok());
     written
 }

@@ -1,5 +1,5 @@
 -- The tables of a book as a database knows them, and the layouts in which they lie. Written by tools/book-tables.
-use Rattle.std.specs.Prelude.{ℕ, ℤ, pos, Bool, true, false, [], ◌∷◌, List, Some, None, codes}
+use Rattle.std.specs.Prelude.{ℕ, ℤ, pos, true, false, [], ◌∷◌, List, Some, None, codes}
 use Rattle.sqlite_value.specs.declared.value.Value.TheVariants.{Null}
 use Rattle.sqlite_value.specs.declared.keys.Collation.TheVariants.{Binary}
 use Rattle.sqlite_value.specs.Keys.{plain}
@@ -18,8 +18,8 @@ use Rattle.trust_schema.specs.declared.layout.Layout.TheVariants.{Made, Moved}
 abbrev pub version_now : ℤ
 version_now = pos 2
 
-abbrev pub column : List ℕ → Kind → Bool → Column
-column name kind not_null = record { name = name; kind = kind; is_strict = true; not_null = not_null; default = Null; collation = Binary }
+abbrev pub column : List ℕ → Kind → Column
+column name kind = record { name = name; kind = kind; is_strict = true; not_null = true; default = Null; collation = Binary }
 
 -- a column of the database's own table of counts
 abbrev pub loose : List ℕ → Column
@@ -114,7 +114,7 @@ abbrev pub book_table : Layout → Table
 book_table l = record {
   name = codes "book";
   tree = book_tree l;
-  columns = column (codes "version") Integer true ∷ [];
+  columns = column (codes "version") Integer ∷ [];
   key = None;
   primary = [];
   uniques = [];
@@ -133,7 +133,7 @@ abbrev pub old_matter_table : Table
 old_matter_table = record {
   name = codes "matter";
   tree = 1;
-  columns = column (codes "no") Integer true ∷ column (codes "client") Text true ∷ column (codes "opened") Integer true ∷ column (codes "closed") Integer true ∷ column (codes "last") Integer true ∷ column (codes "entries") Integer true ∷ column (codes "held") Integer true ∷ column (codes "available") Integer true ∷ column (codes "disputed") Integer true ∷ column (codes "fees") Integer true ∷ column (codes "claims") Integer true ∷ column (codes "pending") Integer true ∷ [];
+  columns = column (codes "no") Integer ∷ column (codes "client") Text ∷ column (codes "opened") Integer ∷ column (codes "closed") Integer ∷ column (codes "last") Integer ∷ column (codes "entries") Integer ∷ column (codes "held") Integer ∷ column (codes "available") Integer ∷ column (codes "disputed") Integer ∷ column (codes "fees") Integer ∷ column (codes "claims") Integer ∷ column (codes "pending") Integer ∷ [];
   key = Some 0;
   primary = 0 ∷ [];
   uniques = [];
@@ -152,7 +152,7 @@ abbrev pub old_seat_table : Table
 old_seat_table = record {
   name = codes "seat";
   tree = 2;
-  columns = column (codes "matter") Integer true ∷ column (codes "person") Text true ∷ column (codes "role") Integer true ∷ [];
+  columns = column (codes "matter") Integer ∷ column (codes "person") Text ∷ column (codes "role") Integer ∷ [];
   key = None;
   primary = 1 ∷ 2 ∷ [];
   uniques = (1 ∷ 2 ∷ []) ∷ [];
@@ -171,7 +171,7 @@ abbrev pub old_entry_table : Table
 old_entry_table = record {
   name = codes "entry";
   tree = 4;
-  columns = column (codes "matter") Integer true ∷ column (codes "no") Integer true ∷ column (codes "kind") Integer true ∷ column (codes "day") Integer true ∷ column (codes "amount") Integer true ∷ column (codes "state") Integer true ∷ column (codes "fund") Integer true ∷ column (codes "of_no") Integer true ∷ column (codes "text_a") Text true ∷ column (codes "text_b") Text true ∷ column (codes "text_c") Text true ∷ column (codes "day_done") Integer true ∷ column (codes "day_undone") Integer true ∷ column (codes "day_bank") Integer true ∷ column (codes "bank_ref") Text true ∷ column (codes "part") Integer true ∷ column (codes "left_now") Integer true ∷ [];
+  columns = column (codes "matter") Integer ∷ column (codes "no") Integer ∷ column (codes "kind") Integer ∷ column (codes "day") Integer ∷ column (codes "amount") Integer ∷ column (codes "state") Integer ∷ column (codes "fund") Integer ∷ column (codes "of_no") Integer ∷ column (codes "text_a") Text ∷ column (codes "text_b") Text ∷ column (codes "text_c") Text ∷ column (codes "day_done") Integer ∷ column (codes "day_undone") Integer ∷ column (codes "day_bank") Integer ∷ column (codes "bank_ref") Text ∷ column (codes "part") Integer ∷ column (codes "left_now") Integer ∷ [];
   key = None;
   primary = 1 ∷ 2 ∷ [];
   uniques = (1 ∷ 2 ∷ []) ∷ [];
@@ -190,7 +190,7 @@ abbrev pub matter_table : Layout → Table
 matter_table l = record {
   name = codes "matter_v2";
   tree = matter_tree l;
-  columns = column (codes "no") Integer true ∷ column (codes "client") Text true ∷ column (codes "opened") Integer true ∷ column (codes "closed") Integer true ∷ column (codes "last") Integer true ∷ column (codes "entries") Integer true ∷ column (codes "held") Integer true ∷ column (codes "available") Integer true ∷ column (codes "disputed") Integer true ∷ column (codes "fees") Integer true ∷ column (codes "claims") Integer true ∷ column (codes "pending") Integer true ∷ column (codes "purged") Integer true ∷ [];
+  columns = column (codes "no") Integer ∷ column (codes "client") Text ∷ column (codes "opened") Integer ∷ column (codes "closed") Integer ∷ column (codes "last") Integer ∷ column (codes "entries") Integer ∷ column (codes "held") Integer ∷ column (codes "available") Integer ∷ column (codes "disputed") Integer ∷ column (codes "fees") Integer ∷ column (codes "claims") Integer ∷ column (codes "pending") Integer ∷ column (codes "purged") Integer ∷ [];
   key = Some 0;
   primary = 0 ∷ [];
   uniques = [];
@@ -209,7 +209,7 @@ abbrev pub seat_table : Layout → Table
 seat_table l = record {
   name = codes "seat_v2";
   tree = seat_tree l;
-  columns = column (codes "matter") Integer true ∷ column (codes "person") Text true ∷ column (codes "role") Integer true ∷ [];
+  columns = column (codes "matter") Integer ∷ column (codes "person") Text ∷ column (codes "role") Integer ∷ [];
   key = None;
   primary = 1 ∷ 2 ∷ [];
   uniques = (1 ∷ 2 ∷ []) ∷ [];
@@ -228,7 +228,7 @@ abbrev pub entry_table : Layout → Table
 entry_table l = record {
   name = codes "entry_v2";
   tree = entry_tree l;
-  columns = column (codes "matter") Integer true ∷ column (codes "no") Integer true ∷ column (codes "kind") Integer true ∷ column (codes "day") Integer true ∷ column (codes "amount") Integer true ∷ column (codes "state") Integer true ∷ column (codes "fund") Integer true ∷ column (codes "of_no") Integer true ∷ column (codes "text_a") Text true ∷ column (codes "text_b") Text true ∷ column (codes "text_c") Text true ∷ column (codes "day_done") Integer true ∷ column (codes "day_undone") Integer true ∷ column (codes "day_bank") Integer true ∷ column (codes "bank_ref") Text true ∷ column (codes "part") Integer true ∷ column (codes "left_now") Integer true ∷ [];
+  columns = column (codes "matter") Integer ∷ column (codes "no") Integer ∷ column (codes "kind") Integer ∷ column (codes "day") Integer ∷ column (codes "amount") Integer ∷ column (codes "state") Integer ∷ column (codes "fund") Integer ∷ column (codes "of_no") Integer ∷ column (codes "text_a") Text ∷ column (codes "text_b") Text ∷ column (codes "text_c") Text ∷ column (codes "day_done") Integer ∷ column (codes "day_undone") Integer ∷ column (codes "day_bank") Integer ∷ column (codes "bank_ref") Text ∷ column (codes "part") Integer ∷ column (codes "left_now") Integer ∷ [];
   key = None;
   primary = 1 ∷ 2 ∷ [];
   uniques = (1 ∷ 2 ∷ []) ∷ [];
@@ -241,13 +241,13 @@ entry_table l = record {
 }
 
 abbrev pub journal_text : List ℕ
-journal_text = codes "CREATE TABLE journal (seq INTEGER PRIMARY KEY AUTOINCREMENT, matter INTEGER NOT NULL, entry INTEGER NOT NULL, day INTEGER NOT NULL, amount INTEGER NOT NULL) STRICT"
+journal_text = codes "CREATE TABLE journal (seq INTEGER NOT NULL PRIMARY KEY AUTOINCREMENT, matter INTEGER NOT NULL, entry INTEGER NOT NULL, day INTEGER NOT NULL, amount INTEGER NOT NULL) STRICT"
 
 abbrev pub journal_table : Layout → Table
 journal_table l = record {
   name = codes "journal";
   tree = journal_tree l;
-  columns = column (codes "seq") Integer false ∷ column (codes "matter") Integer true ∷ column (codes "entry") Integer true ∷ column (codes "day") Integer true ∷ column (codes "amount") Integer true ∷ [];
+  columns = column (codes "seq") Integer ∷ column (codes "matter") Integer ∷ column (codes "entry") Integer ∷ column (codes "day") Integer ∷ column (codes "amount") Integer ∷ [];
   key = Some 0;
   primary = 0 ∷ [];
   uniques = [];
@@ -260,13 +260,13 @@ journal_table l = record {
 }
 
 abbrev pub firm_line_text : List ℕ
-firm_line_text = codes "CREATE TABLE firm_line (seq INTEGER PRIMARY KEY AUTOINCREMENT, day INTEGER NOT NULL, bank_ref TEXT NOT NULL, amount INTEGER NOT NULL, text TEXT NOT NULL) STRICT"
+firm_line_text = codes "CREATE TABLE firm_line (seq INTEGER NOT NULL PRIMARY KEY AUTOINCREMENT, day INTEGER NOT NULL, bank_ref TEXT NOT NULL, amount INTEGER NOT NULL, text TEXT NOT NULL) STRICT"
 
 abbrev pub firm_line_table : Layout → Table
 firm_line_table l = record {
   name = codes "firm_line";
   tree = firm_line_tree l;
-  columns = column (codes "seq") Integer false ∷ column (codes "day") Integer true ∷ column (codes "bank_ref") Text true ∷ column (codes "amount") Integer true ∷ column (codes "text") Text true ∷ [];
+  columns = column (codes "seq") Integer ∷ column (codes "day") Integer ∷ column (codes "bank_ref") Text ∷ column (codes "amount") Integer ∷ column (codes "text") Text ∷ [];
   key = Some 0;
   primary = 0 ∷ [];
   uniques = [];
@@ -285,7 +285,7 @@ abbrev pub exception_table : Layout → Table
 exception_table l = record {
   name = codes "exception";
   tree = exception_tree l;
-  columns = column (codes "day") Integer true ∷ column (codes "reference") Text true ∷ column (codes "bank_ref") Text true ∷ column (codes "amount") Integer true ∷ column (codes "text") Text true ∷ [];
+  columns = column (codes "day") Integer ∷ column (codes "reference") Text ∷ column (codes "bank_ref") Text ∷ column (codes "amount") Integer ∷ column (codes "text") Text ∷ [];
   key = None;
   primary = 1 ∷ 2 ∷ 3 ∷ 4 ∷ 5 ∷ [];
   uniques = (1 ∷ 2 ∷ 3 ∷ 4 ∷ 5 ∷ []) ∷ [];
@@ -304,7 +304,7 @@ abbrev pub balance_table : Layout → Table
 balance_table l = record {
   name = codes "balance";
   tree = balance_tree l;
-  columns = column (codes "kind") Integer true ∷ column (codes "day") Integer true ∷ column (codes "amount") Integer true ∷ [];
+  columns = column (codes "kind") Integer ∷ column (codes "day") Integer ∷ column (codes "amount") Integer ∷ [];
   key = None;
   primary = 1 ∷ 2 ∷ [];
   uniques = (1 ∷ 2 ∷ []) ∷ [];

@@ -28,18 +28,6 @@ macro_rules! text {
     };
 }
 
-// The database counts such a column up by itself.
-macro_rules! count {
-    ($name:expr) => {
-        ColumnShape {
-            name: $name,
-            kind: Kind::Integer,
-            is_strict: true,
-            not_null: false,
-        }
-    };
-}
-
 // A column of the database's own table of counts.
 macro_rules! loose {
     ($name:expr) => {
@@ -243,7 +231,7 @@ macro_rules! journal {
             name: b"journal",
             tree: $tree,
             columns: &[
-                count!(b"seq"),
+                integer!(b"seq"),
                 integer!(b"matter"),
                 integer!(b"entry"),
                 integer!(b"day"),
@@ -265,7 +253,7 @@ macro_rules! firm_line {
             name: b"firm_line",
             tree: $tree,
             columns: &[
-                count!(b"seq"),
+                integer!(b"seq"),
                 integer!(b"day"),
                 text!(b"bank_ref"),
                 integer!(b"amount"),

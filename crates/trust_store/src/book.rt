@@ -44,6 +44,9 @@ pub trait Book {
     /// A firm for whose rows a store stands is sound.
     ghost sound: { (b : Self) → stands b → FirmSound (firm b) };
 
+    /// A store that serves is sure of what it read.
+    ghost clean_is_sure: { (b : Self) → clean b → sure b };
+
     /// How many calls have answered Store, up to `u64::MAX`.
     ghost refusals: { Self → ℕ };
 

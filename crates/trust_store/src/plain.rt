@@ -154,6 +154,8 @@ impl Book for PlainBook {
 
     ghost sound = { λ _ sound. sound };
 
+    ghost clean_is_sure = { λ _ clean. clean };
+
     ghost refusals = { λ _. 0 };
 
     fn matter(&mut self, alloc: Global, matter: MatterNo) -> Result<Matter, StoreFault> {

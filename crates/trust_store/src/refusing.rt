@@ -44,6 +44,8 @@ impl<B: Book> Book for RefusingBook<B> {
 
     ghost sound = { λ b. B.sound b.inner };
 
+    ghost clean_is_sure = { λ b. B.clean_is_sure b.inner };
+
     ghost refusals = { λ b. b.refusals };
 
     fn matter(&mut self, alloc: Global, matter: MatterNo) -> Result<Matter, StoreFault> {

@@ -1,5 +1,5 @@
 -- From what a call of `sqlite` says of a text to the meaning of a query that is written out.
-use Rattle.std.proofs.Common.{◌≡◌, ◌⊎◌, inl, inr, ℕ, Bool, true, false, cond, unwrap_or, refl, List, [], None, Some, Option, Result, Ok, Err, IfOk, IfErr, OnOk, IsTrue, subst, sym, ◌∙◌}
+use Rattle.std.proofs.Common.{◌≡◌, ◌⊎◌, inl, inr, ℕ, Bool, true, false, cond, unwrap_or, refl, List, [], None, Result, Ok, Err, IfOk, IfErr, OnOk, IsTrue, subst, sym, ◌∙◌}
 use Rattle.sqlite_value.specs.declared.value.Value.TheVariants.{Null}
 use Rattle.sqlite_value.specs.Order.{Row}
 use Rattle.sqlite_trees.specs.Tree.{Trees}
@@ -10,13 +10,12 @@ use Rattle.sqlite_schema.specs.declared.command.Command.TheVariants.{Select}
 use Rattle.sqlite.specs.Clock.{timed}
 use Rattle.sqlite.specs.Listing.{understood, reads_listing}
 use Rattle.sqlite.specs.declared.error.Error.{Error}
-use Rattle.sqlite_resolve.specs.declared.compiled.Compiled.{Compiled}
-use Rattle.sqlite_schema.specs.declared.command.Returning.{Returning}
 use Rattle.sqlite.specs.State.{State, Shown, ShowsRows, IsUnchanged, IsRolledBack, IsNotRun, FailsToQuery, FailsToShow}
 use Rattle.trust_schema.specs.declared.layout.Layout.{Layout}
 use Rattle.trust_schema.specs.Schema.{book_schema}
 use Rattle.trust_tables.specs.Standing.{Stands}
-use Rattle.trust_tables.specs.Reading.{IsKept, IsAsked, IsRead}
+use Rattle.trust_tables.specs.Reading.{IsKept, LeavesAll, IsSelect, IsAsked, IsRead}
+use Rattle.trust_tables.proofs.Selects.{ReturnsNothing, select_returns}
 use Rattle.std.proofs.lemmas.Result.{IfOk-weaker}
 use Rattle.sqlite.proofs.Callers.{IsPlain, command_of, reads_as}
 
@@ -26,30 +25,23 @@ pub record IsQuery (schema : Schema) (sql : List ℕ) (q : Query) (names : List 
   pub plain : IsPlain (understood schema sql)
   pub unlisted : reads_listing schema sql ≡ false
 
-pub shown_unchanged : (sql : List ℕ) (params : Row) (old new : State) (rows : List Row) → IsPlain (understood old.now.schema sql) → Shown sql params old new rows → IsUnchanged old new
+pub shown_unchanged : (sql : List ℕ) (params : Row) (old new : State) (rows : List Row) → IsSelect sql → Shown sql params old new rows → IsUnchanged old new
 unfolding Shown
-shown_unchanged sql params old new rows plain h =
-    let none = (subst IsPlain h.1.is plain).0 in
+shown_unchanged sql params old new rows is h =
+    let none : h.0.returning ≡ None = subst ReturnsNothing h.1.is (select_returns old.now.schema sql is) in
     (subst (ShowsRows old new sql h.0 (timed params h.0.formats h.1.now) rows) none h.2).3
 
 module _ {schema : Schema} {sql : List ℕ} {q : Query} {names : List (List ℕ)} (it : IsQuery schema sql q names) (params : Row) (old new : State) (has : old.now.schema ≡ schema) where
   pub answers : (rows : List Row) → Shown sql params old new rows → IsAnswer q (overlay old.now.trees []) params rows
   answers rows h = (reads_as sql params old new schema has _ it.is it.plain it.unlisted rows h).answer Null
 
-  pub plain_now : IsPlain (understood old.now.schema sql)
-  plain_now = subst (λ s. IsPlain (understood s sql)) (sym has) it.plain
-
 -- a text whose answers are known reads
-pub is_read : {T : Type 0} (items : T → List Row) {sql : List ℕ} {query : Layout → Query} {names : List (List ℕ)} (asks : (l : Layout) → IsQuery (book_schema l) sql (query l) names) (rows : Layout → List Row) (params : Row)
+pub is_read : {T : Type 0} (items : T → List Row) {sql : List ℕ} {query : Layout → Query} {names : List (List ℕ)} (asks : (l : Layout) → IsQuery (book_schema l) sql (query l) names) → IsSelect sql → (rows : Layout → List Row) (params : Row)
     (old new : State) (result : Result T Error) → ((l : Layout) → Stands l old.now → (found : List Row) → IsAnswer (query l) (overlay old.now.trees []) params found → found ≡ rows l)
     → IsAsked result items sql params old new → IsRead result items rows old new
-is_read items asks rows params old new result answer asked = record {
+is_read items asks selects rows params old new result answer asked = record {
   found = λ l clean s. IfOk-weaker result _ _ (λ r shown. answer l s (items r) (answers (asks l) params old new s.schema (items r) shown)) (asked.ok clean);
-  same = λ l clean s. asked.same (plain_now (asks l) params old new s.schema) clean;
-  kept = λ l clean s. asked.kept (plain_now (asks l) params old new s.schema) clean;
-  was_clean = asked.was_clean;
-  was_open = asked.was_open;
-  crash = λ l clean s. asked.crash (plain_now (asks l) params old new s.schema) clean;
+  left = asked.left selects;
 }
 
 given_none : {T : Type 0} (b : Bool) (x : T) → unwrap_or (cond b None None) x ≡ x
@@ -67,11 +59,11 @@ unfolding IsNotRun
 one_of old new sql params e (inl h) = inl h.1
 one_of old new sql params e (inr h) = inr h.3
 
-pub fails_kept : (sql : List ℕ) (params : Row) (old new : State) (e : Error) → IsPlain (understood old.now.schema sql) → FailsToQuery sql params old new e → IsUnchanged old new ⊎ IsRolledBack old new
+pub fails_kept : (sql : List ℕ) (params : Row) (old new : State) (e : Error) → IsSelect sql → FailsToQuery sql params old new e → IsUnchanged old new ⊎ IsRolledBack old new
 unfolding FailsToQuery
-fails_kept sql params old new e plain (inl h) = one_of old new sql params e h
-fails_kept sql params old new e plain (inr h) =
-    let none = (subst IsPlain h.1.is plain).0 in
+fails_kept sql params old new e is (inl h) = one_of old new sql params e h
+fails_kept sql params old new e is (inr h) =
+    let none : h.0.returning ≡ None = subst ReturnsNothing h.1.is (select_returns old.now.schema sql is) in
     inl (subst (FailsToShow old new sql h.0 (timed params h.0.formats h.1.now) e) none h.2).3
 
 pub kept_unchanged : (old new : State) → IsUnchanged old new → IsKept old new
@@ -88,42 +80,45 @@ pub kept_either : (old new : State) → (IsTrue old.is_open → old.now ≡ old.
 kept_either old new settled still (inl h) = kept_unchanged old new h
 kept_either old new settled still (inr h) = kept_undone old new settled still h
 
-pub asked_kept : {T : Type 0} (rows_of : T → List Row) (sql : List ℕ) (params : Row) (old new : State) (r : Result T Error) → IsPlain (understood old.now.schema sql) → (IsTrue old.is_open → old.now ≡ old.committed) → IsTrue new.is_open
+pub asked_kept : {T : Type 0} (rows_of : T → List Row) (sql : List ℕ) (params : Row) (old new : State) (r : Result T Error) → IsSelect sql → (IsTrue old.is_open → old.now ≡ old.committed) → IsTrue new.is_open
     → IfOk r (λ rows. Shown sql params old new (rows_of rows)) → IfErr r (FailsToQuery sql params old new) → IsKept old new
-asked_kept rows_of sql params old new (Ok rows) plain settled still shown fails = kept_unchanged old new (shown_unchanged sql params old new (rows_of rows) plain shown)
-asked_kept rows_of sql params old new (Err e) plain settled still shown fails = kept_either old new settled still (fails_kept sql params old new e plain fails)
+asked_kept rows_of sql params old new (Ok rows) is settled still shown fails = kept_unchanged old new (shown_unchanged sql params old new (rows_of rows) is shown)
+asked_kept rows_of sql params old new (Err e) is settled still shown fails = kept_either old new settled still (fails_kept sql params old new e is fails)
 
-pub when_shown : {T : Type 0} (rows_of : T → List Row) (sql : List ℕ) (params : Row) (old new : State) (r : Result T Error) → IsPlain (understood old.now.schema sql)
-    → IfOk r (λ rows. Shown sql params old new (rows_of rows)) → OnOk r (IsKept old new)
-when_shown rows_of sql params old new (Ok rows) plain shown = kept_unchanged old new (shown_unchanged sql params old new (rows_of rows) plain shown)
-when_shown rows_of sql params old new (Err e) plain shown = tt
+-- a call that answers leaves the connection open
+pub when_shown : {T : Type 0} (rows_of : T → List Row) (sql : List ℕ) (params : Row) (old new : State) (r : Result T Error) → IsSelect sql
+    → IfOk r (λ rows. Shown sql params old new (rows_of rows)) → OnOk r (IsTrue new.is_open)
+when_shown rows_of sql params old new (Ok rows) is shown = (shown_unchanged sql params old new (rows_of rows) is shown).0.is_open
+when_shown rows_of sql params old new (Err e) is shown = tt
 
--- A call that answers finds the connection open, as does one that leaves it open.
+-- Calls that read, one after the other.
 
-shows_open : (old new : State) (sql : List ℕ) (c : Compiled) (params : Row) (rows : List Row) (o : Option Returning) → ShowsRows old new sql c params rows o → IsTrue old.is_open
-shows_open old new sql c params rows None h = h.3.0.was_open
-shows_open old new sql c params rows (Some what) h = h.1.shown.was_open
+kept_then : (a b c : State) → IsKept a b → IsKept b c → IsKept a c
+kept_then a b c p q = record { was_open = p.was_open; now = q.now ∙ p.now; committed = q.committed ∙ p.committed }
 
-shown_open : (sql : List ℕ) (params : Row) (old new : State) (rows : List Row) → Shown sql params old new rows → IsTrue old.is_open
-unfolding Shown
-shown_open sql params old new rows h = shows_open old new sql h.0 (timed params h.0.formats h.1.now) rows h.0.returning h.2
+-- a call that asks nothing of the store leaves all, where the connection is open
+pub leaves_none : {T : Type 0} (r : Result T Error) (s : State) → IsTrue s.is_open → LeavesAll r s s
+leaves_none r s opened = record {
+  same = λ clean still. record { was_open = still; now = refl; committed = refl };
+  serves = λ clean. on_ok r opened;
+  was_clean = λ clean. clean;
+  crash = λ clean db may. inl may;
+}
+  where
+    on_ok : {T P : Type 0} (r : Result T Error) → P → OnOk r P
+    on_ok (Ok x) p = p
+    on_ok (Err e) p = tt
 
-show_fails_open : (old new : State) (sql : List ℕ) (c : Compiled) (params : Row) (e : Error) (o : Option Returning) → IsTrue new.is_open → FailsToShow old new sql c params e o → IsTrue old.is_open
-show_fails_open old new sql c params e None still h = h.3.0.was_open
-show_fails_open old new sql c params e (Some what) still (inl h) = h.1.0.was_open
-show_fails_open old new sql c params e (Some what) still (inr h) = h.3.was_open still
-
-not_run_open : (old new : State) (sql : List ℕ) (params : Row) (e : Error) → IsTrue new.is_open → IsNotRun old new sql params e → IsTrue old.is_open
-unfolding IsNotRun
-not_run_open old new sql params e still (inl h) = h.1.0.was_open
-not_run_open old new sql params e still (inr h) = h.3.was_open still
-
-fails_open : (sql : List ℕ) (params : Row) (old new : State) (e : Error) → IsTrue new.is_open → FailsToQuery sql params old new e → IsTrue old.is_open
-unfolding FailsToQuery
-fails_open sql params old new e still (inl h) = not_run_open old new sql params e still h
-fails_open sql params old new e still (inr h) = show_fails_open old new sql h.0 (timed params h.0.formats h.1.now) e h.0.returning still h.2
-
-pub asked_open : {T : Type 0} (rows_of : T → List Row) (sql : List ℕ) (params : Row) (old new : State) (r : Result T Error) → IsTrue new.is_open
-    → IfOk r (λ rows. Shown sql params old new (rows_of rows)) → IfErr r (FailsToQuery sql params old new) → IsTrue old.is_open
-asked_open rows_of sql params old new (Ok rows) still shown fails = shown_open sql params old new (rows_of rows) shown
-asked_open rows_of sql params old new (Err e) still shown fails = fails_open sql params old new e still fails
+pub leaves_then : {T U : Type 0} (r : Result T Error) (q : Result U Error) (a b c : State) → LeavesAll r a b → LeavesAll q b c → LeavesAll q a c
+leaves_then r q a b c x y = record {
+  same = λ clean still.
+      let late = y.same clean still in
+      kept_then a b c (x.same (y.was_clean clean) late.was_open) late;
+  serves = y.serves;
+  was_clean = λ clean. x.was_clean (y.was_clean clean);
+  crash = λ clean db may. before (x.crash (y.was_clean clean) db) (y.crash clean db may);
+}
+  where
+    before : {P Q : Type 0} → (P → Q ⊎ ⊥) → P ⊎ ⊥ → Q ⊎ ⊥
+    before f (inl p) = f p
+    before f (inr none) = absurd none

@@ -1,5 +1,6 @@
 pub mod Casts
 pub mod Together
+pub mod Selects
 pub mod Calls
 pub mod Means
 pub mod Kept

@@ -1,10 +1,13 @@
 -- What a query answers, and what a call leaves.
-use Rattle.std.specs.Prelude.{◌≡◌, ◌⊎◌, ℕ, List, Result, IfOk, OnOk, IsTrue}
+use Rattle.std.specs.Prelude.{◌≡◌, ◌⊎◌, ℕ, Bool, true, false, List, Result, Ok, Err, IfOk, OnOk, IsTrue}
 use Rattle.sqlite_value.specs.Order.{Row}
 use Rattle.sqlite_trees.specs.Tree.{Trees}
+use Rattle.sqlite_ast.specs.declared.Statement.{Statement}
+use Rattle.sqlite_ast.specs.declared.Statement.TheVariants as written
+use Rattle.sqlite_syntax.specs.declared.statement.Parsed.{Parsed}
+use Rattle.sqlite_resolve.specs.Compile.{first}
+use Rattle.sqlite_resolve.specs.Lowering.{Checked}
 use Rattle.sqlite.specs.declared.error.Error.{Error}
-use Rattle.sqlite.specs.Given.{IsPlain}
-use Rattle.sqlite.specs.Listing.{understood}
 use Rattle.sqlite.specs.State.{State, HasCleanDisk, Shown}
 use Rattle.trust_schema.specs.declared.layout.Layout.{Layout}
 use Rattle.trust_tables.specs.Standing.{Stands}
@@ -19,20 +22,31 @@ pub record IsKept (old new : State) : Type 0 where
 abbrev pub LeavesOnly : State → State → (Trees → Type 0) → Type 0
 LeavesOnly old new Commits = (db : Trees) → new.may_leave db → old.may_leave db ⊎ Commits db
 
--- a text was asked outside a transaction; where it only reads it changes nothing, also for a crash
+-- a call that reads changes nothing, whatever the tables are, also for a crash; one that answers leaves the connection open
+pub record LeavesAll {T : Type 0} (result : Result T Error) (old new : State) : Type 0 where
+  pub same : HasCleanDisk new → IsTrue new.is_open → IsKept old new
+  pub serves : HasCleanDisk new → OnOk result (IsTrue new.is_open)
+  pub was_clean : HasCleanDisk new → HasCleanDisk old
+  pub crash : HasCleanDisk new → LeavesOnly old new (λ _. ⊥)
+
+abbrev pub is_selection : Statement → Bool
+is_selection (written.Select s) = true
+is_selection _ = false
+
+abbrev pub selects : Checked Parsed → Bool
+selects (Ok p) = is_selection p.statement
+selects (Err e) = false
+
+-- the text begins with a SELECT
+abbrev pub IsSelect : List ℕ → Type 0
+IsSelect sql = selects (first sql) ≡ true
+
+-- a text was asked outside a transaction; a SELECT changes nothing
 pub record IsAsked {T : Type 0} (result : Result T Error) (items : T → List Row) (sql : List ℕ) (params : Row) (old new : State) : Type 0 where
   pub ok : HasCleanDisk new → IfOk result (λ rows. Shown sql params old new (items rows))
-  pub same : IsPlain (understood old.now.schema sql) → HasCleanDisk new → IsTrue new.is_open → IsKept old new
-  pub kept : IsPlain (understood old.now.schema sql) → HasCleanDisk new → OnOk result (IsKept old new)
-  pub was_clean : HasCleanDisk new → HasCleanDisk old
-  pub was_open : HasCleanDisk new → IsTrue new.is_open → IsTrue old.is_open
-  pub crash : IsPlain (understood old.now.schema sql) → HasCleanDisk new → LeavesOnly old new (λ _. ⊥)
+  pub left : IsSelect sql → LeavesAll result old new
 
--- where the tables stand in a layout, the rows of that layout are answered; the call changes nothing, also for a crash
+-- where the tables stand in a layout, the rows of that layout are answered; the call changes nothing, also where they do not stand
 pub record IsRead {T : Type 0} (result : Result T Error) (items : T → List Row) (rows : Layout → List Row) (old new : State) : Type 0 where
   pub found : (l : Layout) → HasCleanDisk new → Stands l old.now → IfOk result (λ r. items r ≡ rows l)
-  pub same : (l : Layout) → HasCleanDisk new → Stands l old.now → IsTrue new.is_open → IsKept old new
-  pub kept : (l : Layout) → HasCleanDisk new → Stands l old.now → OnOk result (IsKept old new)
-  pub was_clean : HasCleanDisk new → HasCleanDisk old
-  pub was_open : HasCleanDisk new → IsTrue new.is_open → IsTrue old.is_open
-  pub crash : (l : Layout) → HasCleanDisk new → Stands l old.now → LeavesOnly old new (λ _. ⊥)
+  pub left : LeavesAll result old new

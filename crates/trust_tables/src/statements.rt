@@ -323,6 +323,7 @@ fn write_all<S: Alter>(conn: &mut Connection<S>, script: &[Statement<'_>]) -> Re
     ensures all { HasCleanDisk (state S.Store conn.new)
         → OnOk result (RanAll S.Store (calls_of script.now) conn.old (state S.Store conn.new).now) }
     ensures settled { HasCleanDisk (state S.Store conn.new) → OnOk result (IsSettled (state S.Store conn.new)) }
+    ensures serves { HasCleanDisk (state S.Store conn.new) → OnOk result (IsTrue (state S.Store conn.new).is_open) }
     ensures was_open { HasCleanDisk (state S.Store conn.new)
         → IsTrue (state S.Store conn.new).is_open → IsTrue (state S.Store conn.old).is_open }
     ensures none { HasCleanDisk (state S.Store conn.new) → IsTrue (state S.Store conn.new).is_open
@@ -338,8 +339,8 @@ fn write_all<S: Alter>(conn: &mut Connection<S>, script: &[Statement<'_>]) -> Re
 }
 
 /// Writes in one transaction, all or nothing, also over a crash: where the tables stand in a layout, on Ok each
-/// statement has made its change in turn, they stand, and a crash leaves nothing else. The commit is the last call of
-/// the store. An error of a connection that stays open changes nothing; one that shuts it may leave the rows before or
+/// statement has made its change in turn, they stand, and a crash leaves nothing else. An Ok leaves the connection open.
+/// The commit is the last call of the store. An error of a connection that stays open changes nothing; one that shuts it may leave the rows before or
 /// those with the change. Asks that no transaction is open.
 pub fn write<S: Alter>(conn: &mut Connection<S>, script: &[Statement<'_>]) -> Result<(), Error>
     requires { (state S.Store conn.old).in_transaction ≡ false }
@@ -347,6 +348,7 @@ pub fn write<S: Alter>(conn: &mut Connection<S>, script: &[Statement<'_>]) -> Re
     ensures written { (l : Layout) → HasCleanDisk (state S.Store conn.new) → Stands l (state S.Store conn.old).now
         → OnOk result (Written l script.now (state S.Store conn.old).now (state S.Store conn.new).now) }
     ensures settled { HasCleanDisk (state S.Store conn.new) → OnOk result (IsSettled (state S.Store conn.new)) }
+    ensures serves { HasCleanDisk (state S.Store conn.new) → OnOk result (IsTrue (state S.Store conn.new).is_open) }
     ensures was_open { HasCleanDisk (state S.Store conn.new)
         → IsTrue (state S.Store conn.new).is_open → IsTrue (state S.Store conn.old).is_open }
     ensures none { HasCleanDisk (state S.Store conn.new) → IsTrue (state S.Store conn.new).is_open

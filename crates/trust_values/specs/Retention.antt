@@ -1,11 +1,8 @@
 -- Until when the records of a closed matter are kept.
 use Rattle.std.specs.Prelude.{ℕ, ◌+◌, ◌*◌, ◌<◌, ◌≤◌, ◌==◌, ◌&&◌, Bool, nat_lt, pos, if◌then◌else◌}
 use Rattle.jiff.specs.Words.{days_in_month}
+use Rattle.trust_values.specs.declared.limits.TheConstants.{YEARS_KEPT}
 use Rattle.trust_values.specs.Limits.{IsCivilDay, year_of, month_of, month_day_of}
-
--- the years for which records are kept after a matter was closed
-abbrev pub YEARS_KEPT : ℕ
-YEARS_KEPT = 5
 
 -- the number of a day: its year, its month and its day of the month
 abbrev pub day_number : ℕ → ℕ → ℕ → ℕ

@@ -59,9 +59,7 @@ fn read_negative(size: &[u8]) -> Option<BankAmount>
     ensures some { IfSome result (λ a. signed_text a ≡ 45 ∷ size.now) }
     ensures none { IfNone result ((n : ℕ) → 1 ≤ n → n ≤ MAX_BANK_AMOUNT → amount_text n ≢ size.now) }
 {
-    let Some(size) = read_sum(size, MAX_BANK_AMOUNT / 100) else {
-        return None;
-    };
+    let size = read_sum(size, MAX_BANK_AMOUNT / 100)?;
     withdrawal(size)
 }
 

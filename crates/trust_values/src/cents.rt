@@ -84,12 +84,8 @@ pub(crate) fn read_sum(text: &[u8], most: u64) -> Option<u64>
         return None;
     }
     let (whole, end) = text.split_at(text.len() - 3);
-    let Some(dollars) = read_dollars(whole, most) else {
-        return None;
-    };
-    let Some(cents) = read_end(end) else {
-        return None;
-    };
+    let dollars = read_dollars(whole, most)?;
+    let cents = read_end(end)?;
     Some(dollars * 100 + cents)
 }
 
@@ -99,9 +95,7 @@ fn read_amount(text: &[u8]) -> Option<Cents>
     ensures some { IfSome result (λ c. amount_text c ≡ text.now) }
     ensures none { IfNone result ((n : ℕ) → IsAmount n → amount_text n ≢ text.now) }
 {
-    let Some(value) = read_sum(text, MAX_AMOUNT / 100) else {
-        return None;
-    };
+    let value = read_sum(text, MAX_AMOUNT / 100)?;
     Cents::from_number(value)
 }
 

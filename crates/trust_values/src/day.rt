@@ -85,15 +85,9 @@ fn read_number(text: &[u8]) -> Option<u32>
     if !has_dashes(text) {
         return None;
     }
-    let Some(year) = read_fixed(&text[..4]) else {
-        return None;
-    };
-    let Some(month) = read_fixed(&text[5..7]) else {
-        return None;
-    };
-    let Some(day) = read_fixed(&text[8..10]) else {
-        return None;
-    };
+    let year = read_fixed(&text[..4])?;
+    let month = read_fixed(&text[5..7])?;
+    let day = read_fixed(&text[8..10])?;
     Some(year * 10_000 + month * 100 + day)
 }
 
@@ -103,9 +97,7 @@ fn read_day(text: &[u8]) -> Option<Day>
     ensures some { IfSome result (λ d. day_text d ≡ text.now) }
     ensures none { IfNone result ((n : ℕ) → IsDay n → day_text n ≢ text.now) }
 {
-    let Some(number) = read_number(text) else {
-        return None;
-    };
+    let number = read_number(text)?;
     Day::from_number(number)
 }
 

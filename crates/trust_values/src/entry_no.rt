@@ -37,9 +37,7 @@ fn read_entry(text: &[u8]) -> Option<EntryNo>
     if text.len() != 4 {
         return None;
     }
-    let Some(number) = read_fixed(text) else {
-        return None;
-    };
+    let number = read_fixed(text)?;
     EntryNo::from_number(number as u16)
 }
 

@@ -21,5 +21,6 @@ pub use dollars::{Dollars, write_amount};
 pub use entry_no::EntryNo;
 pub use limits::{
     MAX_AMOUNT, MAX_BANK_AMOUNT, MAX_CIVIL_YEAR, MAX_ENTRY, MAX_MATTER, MAX_YEAR, MIN_YEAR,
+    YEARS_KEPT,
 };
 pub use matter_no::MatterNo;

@@ -20,3 +20,6 @@ pub const MAX_YEAR: u32 = 2199;
 
 /// The last year of a civil day that is counted on from a business day.
 pub const MAX_CIVIL_YEAR: u32 = 9999;
+
+/// The years for which the records of a closed matter are kept (ABA Model Rule 1.15(a)).
+pub const YEARS_KEPT: u32 = 5;

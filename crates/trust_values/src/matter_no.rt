@@ -37,9 +37,7 @@ fn read_matter(text: &[u8]) -> Option<MatterNo>
     if text.len() != 6 {
         return None;
     }
-    let Some(number) = read_fixed(text) else {
-        return None;
-    };
+    let number = read_fixed(text)?;
     MatterNo::from_number(number)
 }
 

@@ -1,14 +1,14 @@
 // Until when the records of a closed matter are kept.
 
-ghost use Rattle.std.specs.Prelude.{◌≡◌, ◌<◌, ◌≤◌};
+ghost use Rattle.std.specs.Prelude.{◌≡◌, ◌+◌, ◌<◌, ◌≤◌};
 ghost use Rattle.trust_values.specs.Limits.{year_of};
 ghost use Rattle.trust_values.specs.Retention.{IsDayAfter, first_purge_day, next_day, retained_until};
 
-use crate::{CivilDay, Day};
+use crate::{CivilDay, Day, MAX_CIVIL_YEAR, MAX_YEAR, YEARS_KEPT};
 
 // The day after a day of a year before 9999.
 fn day_after(day: CivilDay) -> CivilDay
-    requires { year_of day < 9999 }
+    requires { year_of day < MAX_CIVIL_YEAR }
     ensures value { result ≡ next_day day }
     ensures after { IsDayAfter day result }
 {
@@ -32,7 +32,7 @@ impl Day {
     /// years later, or 28 February for 29 February. It may lie past 2199, up to 2204-12-31.
     pub fn retained_until(self) -> CivilDay
         ensures value { result ≡ retained_until self }
-        ensures range { year_of result ≤ 2204 }
+        ensures range { year_of result ≤ MAX_YEAR + YEARS_KEPT }
     {
         let number = self.get();
         let kept = if number % 10_000 == 229 {
@@ -40,7 +40,7 @@ impl Day {
         } else {
             number
         };
-        let Some(day) = CivilDay::from_number(kept + 50_000) else {
+        let Some(day) = CivilDay::from_number(kept + YEARS_KEPT * 10_000) else {
             unreachable!()
         };
         day

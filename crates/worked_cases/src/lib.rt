@@ -8,6 +8,8 @@ mod bodies;
 #[cfg(test)]
 mod books;
 #[cfg(test)]
+mod cards;
+#[cfg(test)]
 mod claims;
 #[cfg(test)]
 mod desk;

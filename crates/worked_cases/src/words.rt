@@ -132,6 +132,7 @@ fn ask_of(alloc: Global, verb: &str, number: &[u8], words: &mut Words<'_>) -> Re
         "close" => Ok(Ask::CloseMatter),
         "purge" => Ok(Ask::Purge),
         "show" => Ok(Ask::Show),
+        "ledger" => Ok(Ask::Accounting),
         _ => ask_of_entry(alloc, verb, read_entry(number)?, words),
     }
 }

@@ -10,10 +10,8 @@ use trust_matter::{Ask, Caller, DepositAsk, Fund, OpenAsk, PaymentAsk};
 pub enum Wrong {
     /// A word stands for no value of its kind.
     Value,
-    /// The step of this place, counted from 0, is refused.
-    Refused(usize),
-    /// Something else is told.
-    Told,
+    /// The step of this place, counted from 0, is answered otherwise.
+    Answer(usize),
     /// A growth was refused.
     Memory,
 }
@@ -88,6 +86,14 @@ fn ask_of(alloc: Global, verb: &str, number: &str, fields: &str) -> Result<Ask, 
     }
 }
 
+// The person who is named, or the cashier.
+fn caller_named(alloc: Global, name: &str) -> Result<Caller, Wrong> {
+    if name.is_empty() {
+        return Ok(Caller::Cashier);
+    }
+    Ok(Caller::Person(person(alloc, name)?))
+}
+
 // A lawyer approves and voids, the cashier does all else.
 fn caller_of(alloc: Global, verb: &str) -> Result<Caller, Wrong> {
     match verb {
@@ -105,12 +111,7 @@ fn statement(alloc: Global, lines: &str) -> Result<Request, Wrong> {
     })
 }
 
-/// The request of a record: lines of a bank's statement, or what is asked of a matter.
-pub fn request_of(alloc: Global, record: &str) -> Result<Request, Wrong> {
-    let (verb, rest) = parted(record);
-    if verb == "import" {
-        return statement(alloc, rest);
-    }
+fn matter_request(alloc: Global, verb: &str, rest: &str) -> Result<Request, Wrong> {
     let (matter, rest) = parted(rest);
     let (number, fields) = parted(rest);
     Ok(Request::Matter {
@@ -118,4 +119,22 @@ pub fn request_of(alloc: Global, record: &str) -> Result<Request, Wrong> {
         caller: caller_of(alloc, verb)?,
         ask: ask_of(alloc, verb, number, fields)?,
     })
+}
+
+/// The request of a record: lines of a bank's statement, a report with the person who asks for it where that is not the
+/// cashier, or what is asked of a matter.
+pub fn request_of(alloc: Global, record: &str) -> Result<Request, Wrong> {
+    let (verb, rest) = parted(record);
+    match verb {
+        "import" => statement(alloc, rest),
+        "exceptions" => Ok(Request::Exceptions(caller_named(alloc, rest)?)),
+        "trial" => Ok(Request::Trial(caller_named(alloc, rest)?)),
+        "journal" => Ok(Request::Journal(caller_named(alloc, rest)?)),
+        "retention" => Ok(Request::Retention(caller_named(alloc, rest)?)),
+        "reconcile" => {
+            let (as_of, name) = parted(rest);
+            Ok(Request::Reconcile(caller_named(alloc, name)?, day(as_of)?))
+        }
+        _ => matter_request(alloc, verb, rest),
+    }
 }

@@ -1,13 +1,13 @@
-//! Worked cases of the reconciliation and of the firm's lists, as tests over a desk's book.
+//! Worked cases of the firm's reports, as tests at a desk.
 #![tactic(auto)]
 
 #[cfg(test)]
 mod asks;
 #[cfg(test)]
-mod lists;
-#[cfg(test)]
 mod play;
 #[cfg(test)]
 mod reconciliations;
 #[cfg(test)]
-mod told;
+mod reports;
+#[cfg(test)]
+mod steps;

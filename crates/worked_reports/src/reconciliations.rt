@@ -3,7 +3,7 @@
 use crate::values::{Wrong, bank_amount, begun, day, ended, entry, label, line, matter};
 use std::alloc::Global;
 use trust_base::Line;
-use trust_figures::{EntryLine, Figures, Issued, OpeningLine, ReconciliationLists};
+use trust_figures::{EntryLine, Figures, Issued, OpeningLine, Reconciliation, ReconciliationLists};
 use trust_reports::reconciliation_text;
 
 // An entry of matter 000001: its number, a day of it, and its signed amount in cents.
@@ -105,18 +105,14 @@ fn is_reconciliation(
         early: entry_lines(alloc, beside.early)?,
         exceptions: exception_lines(alloc, beside.exceptions)?,
     };
-    let doubles = issued_lines(alloc, beside.doubles, "1001")?;
-    let openings = opening_lines(alloc, beside.openings)?;
-    let figures = figures_of(closing, sums);
+    let reconciliation = Reconciliation {
+        figures: figures_of(closing, sums),
+        lists,
+        doubles: issued_lines(alloc, beside.doubles, "1001")?,
+        openings: opening_lines(alloc, beside.openings)?,
+    };
     let mut out = begun(alloc)?;
-    let written = reconciliation_text(
-        day("2024-01-31")?,
-        &figures,
-        &lists,
-        &doubles,
-        &openings,
-        &mut out,
-    );
+    let written = reconciliation_text(day("2024-01-31")?, &reconciliation, &mut out);
     ended(written, &out, want)
 }
 

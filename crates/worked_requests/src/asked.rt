@@ -50,6 +50,7 @@ fn ask_name(ask: &Ask) -> &'static str {
         Ask::CloseMatter => "close",
         Ask::Purge => "purge",
         Ask::Show => "show",
+        Ask::Accounting => "accounting",
         Ask::ShowEntry(_) => "entry",
     }
 }
@@ -65,6 +66,11 @@ fn request_name(request: &Request) -> &'static str {
             caller: _caller,
             statement: _statement,
         } => "import",
+        Request::Exceptions(_) => "exceptions",
+        Request::Trial(_) => "trial",
+        Request::Journal(_) => "journal",
+        Request::Reconcile(_, _) => "reconcile",
+        Request::Retention(_) => "retention",
     }
 }
 

@@ -14,7 +14,9 @@ fn before_the_fields(rt: HostRuntime) -> Result<(), Fail> {
         ("PUT", "/matters/12", 0, Refusal::BadMethod),
         ("get", "/matters/000001", 1, Refusal::BadMethod),
         ("GET", "/firm/statements", 1, Refusal::BadMethod),
+        ("POST", "/firm/journal", 1, Refusal::BadMethod),
         ("GET", "/matters/12", 0, Refusal::NoCaller),
+        ("GET", "/firm/reconciliation/1", 0, Refusal::NoCaller),
         ("GET", "/matters/12", 2, Refusal::NoCaller),
         ("GET", "/matters/12", 1, Refusal::BadField(Field::Matter)),
         (
@@ -28,6 +30,12 @@ fn before_the_fields(rt: HostRuntime) -> Result<(), Fail> {
             "/matters/000001/entries/1",
             1,
             Refusal::BadField(Field::Entry),
+        ),
+        (
+            "GET",
+            "/firm/reconciliation/2024-02-30",
+            1,
+            Refusal::BadField(Field::Day),
         ),
     ] {
         let fine = refuses(rt.alloc(), &routes, method, target, times, "[", why)?;

@@ -32,6 +32,7 @@ fn each_route(rt: HostRuntime) -> Result<(), Fail> {
         ),
         ("POST", "/matters/000001/close", "", "close"),
         ("POST", "/matters/000001/purge", " {} ", "purge"),
+        ("GET", "/matters/000001/accounting", "[", "accounting"),
         ("GET", "/matters/000001/entries/0001", "", "entry"),
         (
             "POST",
@@ -90,6 +91,11 @@ fn each_route(rt: HostRuntime) -> Result<(), Fail> {
             "award",
         ),
         ("POST", "/firm/statements?january", "anything", "import"),
+        ("GET", "/firm/exceptions", "", "exceptions"),
+        ("GET", "/firm/trial-balance", "{{", "trial"),
+        ("GET", "/firm/journal?x", "", "journal"),
+        ("GET", "/firm/reconciliation/2024-01-31", "", "reconcile"),
+        ("GET", "/firm/retention", "", "retention"),
     ] {
         let fine = asks(rt.alloc(), &routes, method, target, body, name)?;
         assert!(rt; fine, "{target}");
@@ -116,8 +122,10 @@ fn no_route(rt: HostRuntime) -> Result<(), Fail> {
         "/matters/000001/entries",
         "/matters/000001/entries/0001/deposit/",
         "/firm/statements/",
-        "/firm/journal",
-        "/matters/000001/accounting",
+        "/firm/journal/",
+        "/firm/reconciliation/",
+        "/firm/reconciliation",
+        "/matters/000001/accounting/",
     ] {
         let fine = refuses(rt.alloc(), &routes, "PUT", target, 0, "", Refusal::NoRoute)?;
         assert!(rt; fine, "{target}");

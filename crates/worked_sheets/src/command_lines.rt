@@ -5,8 +5,9 @@ use cashier::{Outcome, run_in_memory};
 use std::process::Abort;
 use trust_base::{TrialReader, TrialWriter};
 
-// The outcome of these words over this folder and an opening on standard input, and the line that they print.
-fn check_words(
+/// Asserts that these words, over this folder and with an opening on standard input, have the outcome and print the
+/// line.
+pub fn check_words(
     rt: &(impl Abort + AllocGlobal),
     words: &'static [&'static str],
     folder: &TrialFolder,
@@ -21,8 +22,8 @@ fn check_words(
     assert_eq!(rt; writer.as_slice(), line);
 }
 
-// The words name no run.
-fn assert_line(rt: &(impl Abort + AllocGlobal), words: &'static [&'static str]) {
+/// Asserts that the words name no run.
+pub fn assert_line(rt: &(impl Abort + AllocGlobal), words: &'static [&'static str]) {
     check_words(rt, words, &NO_FILE, Outcome::CommandLine, b"");
 }
 

@@ -13,7 +13,8 @@ const TWO: &[u8] =
     b"GET /matters/000001 HTTP/1.1\r\nx-caller: bob\r\n\r\nGET /x HTTP/1.1\r\ncontent-length: 3\r\n\r\nabc\r\n";
 
 const ANSWER: &[u8] =
-    b"HTTP/1.1 404 Not Found\r\ncontent-type: application/json\r\ncontent-length: 31\r\n\r\n{\"name\":\"NoMatter\",\"refusal\":8}";
+    b"HTTP/1.1 404 Not Found\r\ncontent-type: application/json\r\ncontent-length: 31\r\n\r\n\
+{\"name\":\"NoMatter\",\"refusal\":8}";
 
 // How a stream ended, how many bytes were written, and whether they begin with the answer to the first message.
 #[derive(Clone, Copy)]

@@ -4,4 +4,10 @@
 #[cfg(test)]
 mod answers;
 #[cfg(test)]
+mod bodies;
+#[cfg(test)]
 mod ends;
+#[cfg(test)]
+mod exchanges;
+#[cfg(test)]
+mod reports;

@@ -3,8 +3,7 @@
 use std::alloc::Global;
 use std::test::Fail;
 use trust_base::{
-    BankAmount, BankText, CentsOrZero, Day, EntryNo, Label, Line, LineText, PersonId, is_bank_text,
-    is_label, is_line_text, is_person,
+    BankAmount, BankText, CentsOrZero, Day, EntryNo, Label, Line, LineText, PersonId,
 };
 
 #[test]
@@ -63,8 +62,24 @@ fn bank_amounts_of_texts(rt: HostRuntime) {
     }
 }
 
+fn is_person(alloc: Global, text: &[u8]) -> Result<bool, Fail> {
+    Ok(PersonId::read(alloc, text)?.is_some())
+}
+
+fn is_label(alloc: Global, text: &[u8]) -> Result<bool, Fail> {
+    Ok(Label::read(alloc, text)?.is_some())
+}
+
+fn is_bank_text(alloc: Global, text: &[u8]) -> Result<bool, Fail> {
+    Ok(BankText::read(alloc, text)?.is_some())
+}
+
+fn is_line_text(alloc: Global, text: &[u8]) -> Result<bool, Fail> {
+    Ok(LineText::read(alloc, text)?.is_some())
+}
+
 #[test]
-fn persons(rt: HostRuntime) {
+fn persons(rt: HostRuntime) -> Result<(), Fail> {
     for text in [
         "lee",
         "a",
@@ -74,7 +89,7 @@ fn persons(rt: HostRuntime) {
         "ada.chen-2",
         "abcdefghijklmnopqrstuvwxyz012345",
     ] {
-        assert!(rt; is_person(text.as_bytes()), "of {text}");
+        assert!(rt; is_person(rt.alloc(), text.as_bytes())?, "of {text}");
     }
     for text in [
         "cashier",
@@ -85,12 +100,13 @@ fn persons(rt: HostRuntime) {
         "lée",
         "abcdefghijklmnopqrstuvwxyz0123456",
     ] {
-        assert!(rt; !is_person(text.as_bytes()), "of {text}");
+        assert!(rt; !is_person(rt.alloc(), text.as_bytes())?, "of {text}");
     }
+    Ok(())
 }
 
 #[test]
-fn labels(rt: HostRuntime) {
+fn labels(rt: HostRuntime) -> Result<(), Fail> {
     for text in [
         "Ada Chen",
         " ",
@@ -100,33 +116,35 @@ fn labels(rt: HostRuntime) {
         "\"quoted\" \\",
         "Ā\u{100}",
     ] {
-        assert!(rt; is_label(text.as_bytes()), "of {text}");
+        assert!(rt; is_label(rt.alloc(), text.as_bytes())?, "of {text}");
     }
     for text in [
         "", "a\tb", "a\nb", "\u{0}", "\u{1F}", "\u{7F}", "\u{80}", "a\u{9F}",
     ] {
-        assert!(rt; !is_label(text.as_bytes()), "of {text}");
+        assert!(rt; !is_label(rt.alloc(), text.as_bytes())?, "of {text}");
     }
-    assert!(rt; is_label(&[b'x'; 80]));
-    assert!(rt; !is_label(&[b'x'; 81]));
-    assert!(rt; !is_label(b"\xC2"), "cut character");
-    assert!(rt; !is_label(b"\xFF"), "no UTF-8");
+    assert!(rt; is_label(rt.alloc(), &[b'x'; 80])?);
+    assert!(rt; !is_label(rt.alloc(), &[b'x'; 81])?);
+    assert!(rt; !is_label(rt.alloc(), b"\xC2")?, "cut character");
+    assert!(rt; !is_label(rt.alloc(), b"\xFF")?, "no UTF-8");
+    Ok(())
 }
 
 #[test]
-fn texts_of_lines(rt: HostRuntime) {
+fn texts_of_lines(rt: HostRuntime) -> Result<(), Fail> {
     for text in ["", " ", "OPEN", "M000001-0001", "~"] {
-        assert!(rt; is_bank_text(text.as_bytes()), "of {text}");
+        assert!(rt; is_bank_text(rt.alloc(), text.as_bytes())?, "of {text}");
     }
     for text in ["a\tb", "\u{7F}", "é"] {
-        assert!(rt; !is_bank_text(text.as_bytes()), "of {text}");
+        assert!(rt; !is_bank_text(rt.alloc(), text.as_bytes())?, "of {text}");
     }
-    assert!(rt; is_bank_text(&[b'x'; 64]));
-    assert!(rt; !is_bank_text(&[b'x'; 65]));
-    assert!(rt; is_line_text("a\t\n\u{0}é".as_bytes()));
-    assert!(rt; is_line_text(&[b'x'; 1000]));
-    assert!(rt; !is_line_text(&[b'x'; 1001]));
-    assert!(rt; !is_line_text(b"a\xFF"));
+    assert!(rt; is_bank_text(rt.alloc(), &[b'x'; 64])?);
+    assert!(rt; !is_bank_text(rt.alloc(), &[b'x'; 65])?);
+    assert!(rt; is_line_text(rt.alloc(), "a\t\n\u{0}é".as_bytes())?);
+    assert!(rt; is_line_text(rt.alloc(), &[b'x'; 1000])?);
+    assert!(rt; !is_line_text(rt.alloc(), &[b'x'; 1001])?);
+    assert!(rt; !is_line_text(rt.alloc(), b"a\xFF")?);
+    Ok(())
 }
 
 fn label_of(alloc: Global, text: &str) -> Result<Label, Fail> {

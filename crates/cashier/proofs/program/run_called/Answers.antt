@@ -17,7 +17,7 @@ none_ran : (words : List Text) (input : Option (List ℕ)) (known : Text → Opt
 none_ran words input known opens given = record {
   line = λ e. cc;
   meant = λ begun. absurd begun;
-  ends = λ _. (empty_firm, empty-sound, inr (inr (inr (record { outcome = refl; written = Appends-nil _; firm = refl }))));
+  ends = λ _. (empty_firm, empty-sound, inr (inr (inr (inr (record { outcome = refl; written = Appends-nil _; firm = refl })))));
 }
 
 pub returns-in_default-clause-ran : goal.returns-in_default-clause-ran

@@ -6,41 +6,47 @@ use Rattle.matter_rows.proofs.Store.{held-balance, pending-balance, available-ba
 use Rattle.matter_parts.proofs.Collected.{no-total}
 use Rattle.matter_parts.proofs.figures.figures_of.Goals as goal
 
-pub returns-in_default-clause-none : goal.returns-in_default-clause-none
-returns-in_default-clause-none c = λ backed.
+pub returns-in_err-pending-clause-none : goal.returns-in_err-pending-clause-none
+returns-in_err-pending-clause-none c =
+    rw c.from_residual.ensures (λ backed.
     let es = c.args.entries.now in
     let sums = c.sums_of-sums.ensures in
-    no-total (pending es) _ (pending-balance es backed) (omega (arith, ints, sums.pending, sums.small.pending.low, sums.small.pending.high)) c.in_default.ensures.none
+    no-total (pending es) _ (pending-balance es backed) (omega (arith, ints, sums.pending, sums.small.pending.low, sums.small.pending.high)) c.in_err-pending.ensures.none)
 
-pub returns-in_default-as_total-clause-none : goal.returns-in_default-as_total-clause-none
-returns-in_default-as_total-clause-none c = λ backed.
+pub returns-in_err-held-clause-none : goal.returns-in_err-held-clause-none
+returns-in_err-held-clause-none c =
+    rw c.from_residual-in_err-held.ensures (λ backed.
     let es = c.args.entries.now in
     let sums = c.sums_of-sums.ensures in
-    no-total (held es) _ (held-balance es backed) (omega (arith, ints, sums.held, sums.small.held.low, sums.small.held.high)) c.in_default-as_total.ensures.none
+    no-total (held es) _ (held-balance es backed) (omega (arith, ints, sums.held, sums.small.held.low, sums.small.held.high)) c.in_err-held.ensures.none)
 
-pub returns-in_default-as_total-2-clause-none : goal.returns-in_default-as_total-2-clause-none
-returns-in_default-as_total-2-clause-none c = λ backed.
+pub returns-in_err-available-clause-none : goal.returns-in_err-available-clause-none
+returns-in_err-available-clause-none c =
+    rw c.from_residual-in_err-available.ensures (λ backed.
     let es = c.args.entries.now in
     let sums = c.sums_of-sums.ensures in
-    no-total (available es) _ (available-balance es backed) (omega (arith, ints, sums.available, sums.small.available.low, sums.small.available.high)) c.in_default-as_total-2.ensures.none
+    no-total (available es) _ (available-balance es backed) (omega (arith, ints, sums.available, sums.small.available.low, sums.small.available.high)) c.in_err-available.ensures.none)
 
-pub returns-in_default-as_total-3-clause-none : goal.returns-in_default-as_total-3-clause-none
-returns-in_default-as_total-3-clause-none c = λ backed.
+pub returns-in_err-disputed-clause-none : goal.returns-in_err-disputed-clause-none
+returns-in_err-disputed-clause-none c =
+    rw c.from_residual-in_err-disputed.ensures (λ backed.
     let es = c.args.entries.now in
     let sums = c.sums_of-sums.ensures in
-    no-total (disputed es) _ (disputed-balance es backed) (omega (arith, ints, sums.disputed, sums.small.disputed.low, sums.small.disputed.high)) c.in_default-as_total-3.ensures.none
+    no-total (disputed es) _ (disputed-balance es backed) (omega (arith, ints, sums.disputed, sums.small.disputed.low, sums.small.disputed.high)) c.in_err-disputed.ensures.none)
 
-pub returns-in_default-as_total-4-clause-none : goal.returns-in_default-as_total-4-clause-none
-returns-in_default-as_total-4-clause-none c = λ backed.
+pub returns-in_err-fees-clause-none : goal.returns-in_err-fees-clause-none
+returns-in_err-fees-clause-none c =
+    rw c.from_residual-in_err-fees.ensures (λ backed.
     let es = c.args.entries.now in
     let sums = c.sums_of-sums.ensures in
-    no-total (fees es) _ (fees-balance es backed) (omega (arith, ints, sums.fees, sums.small.fees.low, sums.small.fees.high, fees-by_share es backed.named)) c.in_default-as_total-4.ensures.none
+    no-total (fees es) _ (fees-balance es backed) (omega (arith, ints, sums.fees, sums.small.fees.low, sums.small.fees.high, fees-by_share es backed.named)) c.in_err-fees.ensures.none)
 
-pub returns-in_default-as_total-5-clause-none : goal.returns-in_default-as_total-5-clause-none
-returns-in_default-as_total-5-clause-none c = λ backed.
+pub returns-in_err-claims-clause-none : goal.returns-in_err-claims-clause-none
+returns-in_err-claims-clause-none c =
+    rw c.from_residual-in_err-claims.ensures (λ backed.
     let es = c.args.entries.now in
     let sums = c.sums_of-sums.ensures in
-    no-total (claims es) _ (claims-balance es backed) (omega (arith, ints, sums.claims, sums.small.claims.low, sums.small.claims.high, claims-by_share es backed.named)) c.in_default-as_total-5.ensures.none
+    no-total (claims es) _ (claims-balance es backed) (omega (arith, ints, sums.claims, sums.small.claims.low, sums.small.claims.high, claims-by_share es backed.named)) c.in_err-claims.ensures.none)
 
 pub returns-clause-some : goal.returns-clause-some
 returns-clause-some c = λ backed.
@@ -48,10 +54,10 @@ returns-clause-some c = λ backed.
     let sums = c.sums_of-sums.ensures in
     record {
       entries = refl;
-      pending = omega (arith, ints, c.in-Some.ensures.some.1, sums.pending, sums.small.pending.low, sums.small.pending.high);
-      held = omega (arith, ints, c.in-Some-as_total.ensures.some.1, sums.held, sums.small.held.low, sums.small.held.high);
-      available = omega (arith, ints, c.in-Some-as_total-2.ensures.some.1, sums.available, sums.small.available.low, sums.small.available.high);
-      disputed = omega (arith, ints, c.in-Some-as_total-3.ensures.some.1, sums.disputed, sums.small.disputed.low, sums.small.disputed.high);
-      fees = omega (arith, ints, c.in-Some-as_total-4.ensures.some.1, sums.fees, sums.small.fees.low, sums.small.fees.high, fees-by_share es backed.named);
-      claims = omega (arith, ints, c.in-Some-as_total-5.ensures.some.1, sums.claims, sums.small.claims.low, sums.small.claims.high, claims-by_share es backed.named);
+      pending = omega (arith, ints, c.in_ok-pending.ensures.some.1, sums.pending, sums.small.pending.low, sums.small.pending.high);
+      held = omega (arith, ints, c.in_ok-held.ensures.some.1, sums.held, sums.small.held.low, sums.small.held.high);
+      available = omega (arith, ints, c.in_ok-available.ensures.some.1, sums.available, sums.small.available.low, sums.small.available.high);
+      disputed = omega (arith, ints, c.in_ok-disputed.ensures.some.1, sums.disputed, sums.small.disputed.low, sums.small.disputed.high);
+      fees = omega (arith, ints, c.in_ok-fees.ensures.some.1, sums.fees, sums.small.fees.low, sums.small.fees.high, fees-by_share es backed.named);
+      claims = omega (arith, ints, c.in_ok-claims.ensures.some.1, sums.claims, sums.small.claims.low, sums.small.claims.high, claims-by_share es backed.named);
     }

@@ -1,13 +1,24 @@
 use Rattle.std.proofs.Common.{ap, map}
-use Rattle.trust_desk.proofs.Own.{same-for_the_matter}
+use Rattle.trust_desk.proofs.AlwaysCovered.{runs-covered}
+use Rattle.trust_desk.proofs.Own.{each-own, same-for_the_matter}
 use Rattle.trust_desk.proofs.Runs.{sound-runs-are-runs}
 use Rattle.portal_requests.specs.Requests.{heard_of}
-use Rattle.portal_http.specs.Answers.{replies_bytes}
+use Rattle.portal_http.specs.Answers.{reply_bytes}
 use Rattle.portal_http.proofs.laws.two_streams.Goals as goal
 
 pub returns : goal.returns
-returns call m d e f g f' g' xs ys ps qs x y rs ss rows here there same one two fine well =
-    let run = sound-runs-are-runs d f f' (map heard_of ps) rs one in
-    let other = sound-runs-are-runs e g g' (map heard_of qs) ss two in
-    let both = same-for_the_matter m d e f g (map heard_of ps) (map heard_of qs) rs ss f' g' rows same fine well run other in
-    (ap replies_bytes both.0, both.1)
+returns call m d e f g f' g' xs ys ps qs x y rs ss rows same one two =
+    let hs = map heard_of ps in
+    let ks = map heard_of qs in
+    let run = sound-runs-are-runs d f f' hs rs one.run in
+    let other = sound-runs-are-runs e g g' ks ss two.run in
+    let both = same-for_the_matter m d e f g hs ks rs ss f' g' rows same one.unstopped two.unstopped run other in
+    let own = each-own m d f hs rs f' one.unstopped run in
+    record {
+      answers = ap (map reply_bytes) both.0;
+      own = ap (map reply_bytes) own.answers;
+      rows = both.1;
+      own_rows = own.rows;
+      covered = runs-covered d f f' hs rs one.sound one.run;
+      also_covered = runs-covered e g g' ks ss two.sound two.run;
+    }

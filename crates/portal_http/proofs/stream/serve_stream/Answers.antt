@@ -1,9 +1,8 @@
-use Rattle.trust_base.specs.declared.refusal.Refusal.TheVariants.{Memory}
-use Rattle.portal_http.proofs.Serve.{serving-nothing, served-no_memory, served-tail_fault}
+use Rattle.portal_http.proofs.Serve.{serving-nothing, served-memory_fault, served-no_memory}
 use Rattle.portal_http.proofs.stream.serve_stream.Goals as goal
 
 pub returns-in-Ok-write_reply : goal.returns-in-Ok-write_reply
-returns-in-Ok-write_reply g c = served-no_memory _ _ _ _ _ _ _ _ _ _ _ _ _ (serving-nothing _ _ _ _ _ c.args.day _ _ _) _ c.refused.result c.refused.ensures c.in-Ok-write_reply.ensures.ok
+returns-in-Ok-write_reply g c = served-no_memory _ _ _ _ _ _ g.B.Book.sound _ _ _ _ _ _ _ _ (serving-nothing _ _ _ _ _ _ g.B.Book.sound c.args.day _ _ _) _ c.refused.result c.refused.ensures c.in-Ok-write_reply.ensures.ok
 
 pub returns : goal.returns
-returns g c = served-tail_fault _ _ _ _ _ _ _ _ _ _ _ _ _ (serving-nothing _ _ _ _ _ c.args.day _ _ _) _ Memory c.refused.result c.refused.ensures c.in-Err-write_reply.ensures.err
+returns g c = served-memory_fault _ _ _ _ _ _ g.B.Book.sound _ _ _ _ _ _ _ _ (serving-nothing _ _ _ _ _ _ g.B.Book.sound c.args.day _ _ _) _ c.refused.result c.refused.ensures c.in-Err-write_reply.ensures.err

@@ -7,15 +7,17 @@ pub returns-clause-some : goal.returns-clause-some
 returns-clause-some c =
     let whole = twelve c.args.reference.now c.if-reference-ne12.false in
     let parts = rw (c.if-reference-ne77.false, c.if-reference-ne45.false) at whole in
-    rw (c.in-Some.ensures.some, c.in-Some-read.ensures.some) (sym parts)
+    rw (c.in_ok-matter.ensures.some, c.in_ok-entry.ensures.some) (sym parts)
 
-pub returns-in_default-clause-none : goal.returns-in_default-clause-none
-returns-in_default-clause-none c = λ m e is_matter is_entry same.
-    c.in_default.ensures.none m is_matter (sym (matter-reference m e) ∙ ap (λ (r : List ℕ). slice_range r 1 7) same)
+pub returns-in_err-matter-clause-none : goal.returns-in_err-matter-clause-none
+returns-in_err-matter-clause-none c =
+    rw c.from_residual.ensures (λ m e is_matter is_entry same.
+    c.in_err-matter.ensures.none m is_matter (sym (matter-reference m e) ∙ ap (λ (r : List ℕ). slice_range r 1 7) same))
 
-pub returns-in_default-read-clause-none : goal.returns-in_default-read-clause-none
-returns-in_default-read-clause-none c = λ m e is_matter is_entry same.
-    c.in_default-read.ensures.none e is_entry (sym (entry-reference m e) ∙ ap (λ (r : List ℕ). slice_range r 8 12) same)
+pub returns-in_err-entry-clause-none : goal.returns-in_err-entry-clause-none
+returns-in_err-entry-clause-none c =
+    rw c.from_residual-in_err-entry.ensures (λ m e is_matter is_entry same.
+    c.in_err-entry.ensures.none e is_entry (sym (entry-reference m e) ∙ ap (λ (r : List ℕ). slice_range r 8 12) same))
 
 pub returns-then-reference-ne12-clause-none : goal.returns-then-reference-ne12-clause-none
 returns-then-reference-ne12-clause-none c = λ m e is_matter is_entry same. elim c.then-reference-ne12.branch [

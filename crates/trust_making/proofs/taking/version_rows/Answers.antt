@@ -1,14 +1,13 @@
-use Rattle.std.proofs.Common.{◌≡◌, sym, subst, ap, ◌∙◌, IsTrue, not}
+use Rattle.std.proofs.Common.{◌≡◌, sym, ap, ◌∙◌, IsTrue, not}
 use Rattle.std.proofs.lemmas.Result.{IfOk-weaker, IfErr-weaker}
 use Rattle.sqlite.specs.Effect.{Database}
 use Rattle.sqlite.specs.Held.{state}
-use Rattle.sqlite.specs.Listing.{understood}
-use Rattle.sqlite.proofs.Callers.{IsPlain, never_commits}
 use Rattle.sqlite.proofs.StateLemmas.{survives_weaker}
 use Rattle.trust_making.specs.Books.{version_text}
+use Rattle.trust_tables.proofs.Selects.{select_commits}
 use Rattle.trust_tables.proofs.Calls.{shown_unchanged, kept_unchanged, kept_either, fails_kept}
 use Rattle.trust_making.proofs.Endings.{if_ok, either_way}
-use Rattle.trust_making.proofs.VersionRead.{version_plain, version_shown}
+use Rattle.trust_making.proofs.VersionRead.{version_selects, version_shown}
 use Rattle.trust_making.proofs.Causes.{query_cause}
 use Rattle.trust_making.proofs.taking.version_rows.Goals as goal
 
@@ -21,10 +20,9 @@ returns-clause-settled g c l clean has =
     let old = state g.S.Store c.args.conn.now in
     let end = c.query_all.new.self in
     let new = state g.S.Store end in
-    let plain : IsPlain (understood old.now.schema version_text) = subst (λ s. IsPlain (understood s version_text)) (sym has) (version_plain l) in
     let outside : IsTrue c.is_autocommit-settled.result = c.is_autocommit-settled.ensures.value ∙ ap not c.requires in
     if_ok c.query_all.result (c.query_all.ensures.ok clean) (λ rows shown.
-    let same = shown_unchanged version_text _ old new rows.items plain shown in
+    let same = shown_unchanged version_text _ old new rows.items version_selects shown in
     let alike : new.committed ≡ new.now = same.0.committed_is ∙ sym (c.is_autocommit-settled.ensures.settled outside same.0.was_open) ∙ sym same.0.now_is in
     ((alike, λ db left. g.met.S.Store.settled end.store db same.0.is_open left ∙ ap (λ (d : Database). d.trees) alike), kept_unchanged old new same))
 
@@ -32,17 +30,15 @@ pub returns-clause-kept : goal.returns-clause-kept
 returns-clause-kept g c l clean has still =
     let old = state g.S.Store c.args.conn.now in
     let new = state g.S.Store c.query_all.new.self in
-    let plain : IsPlain (understood old.now.schema version_text) = subst (λ s. IsPlain (understood s version_text)) (sym has) (version_plain l) in
     let outside : IsTrue c.is_autocommit-settled.result = c.is_autocommit-settled.ensures.value ∙ ap not c.requires in
     either_way c.query_all.result (c.query_all.ensures.ok clean) (c.query_all.ensures.err clean)
-    (λ rows shown. kept_unchanged old new (shown_unchanged version_text _ old new rows.items plain shown))
-    (λ e failed. kept_either old new (c.is_autocommit-settled.ensures.settled outside) still (fails_kept version_text _ old new e plain failed))
+    (λ rows shown. kept_unchanged old new (shown_unchanged version_text _ old new rows.items version_selects shown))
+    (λ e failed. kept_either old new (c.is_autocommit-settled.ensures.settled outside) still (fails_kept version_text _ old new e version_selects failed))
 
 pub returns-clause-crash : goal.returns-clause-crash
 returns-clause-crash g c l has =
     let old = state g.S.Store c.args.conn.now in
-    let plain : IsPlain (understood old.now.schema version_text) = subst (λ s. IsPlain (understood s version_text)) (sym has) (version_plain l) in
-    survives_weaker old (state g.S.Store c.query_all.new.self) _ _ (λ _ db. never_commits version_text _ old db plain) c.query_all.ensures.survives
+    survives_weaker old (state g.S.Store c.query_all.new.self) _ _ (λ _ db. select_commits version_text _ old db version_selects) c.query_all.ensures.survives
 
 pub returns-clause-told : goal.returns-clause-told
 returns-clause-told g c l clean has =

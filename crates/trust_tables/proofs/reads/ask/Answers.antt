@@ -2,8 +2,8 @@ use Rattle.std.proofs.Common.{IsTrue, not, ap, ◌∙◌, arith}
 use Rattle.sqlite.specs.Held.{state}
 use Rattle.sqlite.specs.Values.{bound}
 use Rattle.sqlite.proofs.StateLemmas.{survives_weaker}
-use Rattle.sqlite.proofs.Callers.{never_commits}
-use Rattle.trust_tables.proofs.Calls.{asked_kept, asked_open, when_shown}
+use Rattle.trust_tables.proofs.Calls.{asked_kept, when_shown}
+use Rattle.trust_tables.proofs.Selects.{select_commits}
 use Rattle.trust_tables.proofs.reads.ask.Goals as goal
 
 pub returns-clause-asked : goal.returns-clause-asked
@@ -13,12 +13,13 @@ returns-clause-asked g c =
     let params = bound c.args.params.now in
     record {
       ok = c.query_all.ensures.ok;
-      same = λ plain clean still.
-          let outside : IsTrue c.is_autocommit-settled.result = c.is_autocommit-settled.ensures.value ∙ ap not c.requires in
-          asked_kept (λ rows. rows.items) c.args.sql.now params old new c.query_all.result plain
-          (λ open_was. c.is_autocommit-settled.ensures.settled outside open_was) still (c.query_all.ensures.ok clean) (c.query_all.ensures.err clean);
-      kept = λ plain clean. when_shown (λ rows. rows.items) c.args.sql.now params old new c.query_all.result plain (c.query_all.ensures.ok clean);
-      was_clean = λ clean. omega (arith, clean, c.query_all.ensures.survives.clean);
-      was_open = λ clean still. asked_open (λ rows. rows.items) c.args.sql.now params old new c.query_all.result still (c.query_all.ensures.ok clean) (c.query_all.ensures.err clean);
-      crash = λ plain clean. (survives_weaker old new _ (λ _. ⊥) (λ _ db. never_commits c.args.sql.now params old db plain) c.query_all.ensures.survives).crash clean;
+      left = λ is. record {
+        same = λ clean still.
+            let outside : IsTrue c.is_autocommit-settled.result = c.is_autocommit-settled.ensures.value ∙ ap not c.requires in
+            asked_kept (λ rows. rows.items) c.args.sql.now params old new c.query_all.result is
+            (λ open_was. c.is_autocommit-settled.ensures.settled outside open_was) still (c.query_all.ensures.ok clean) (c.query_all.ensures.err clean);
+        serves = λ clean. when_shown (λ rows. rows.items) c.args.sql.now params old new c.query_all.result is (c.query_all.ensures.ok clean);
+        was_clean = λ clean. omega (arith, clean, c.query_all.ensures.survives.clean);
+        crash = λ clean. (survives_weaker old new _ (λ _. ⊥) (λ _ db. select_commits c.args.sql.now params old db is) c.query_all.ensures.survives).crash clean;
+      };
     }

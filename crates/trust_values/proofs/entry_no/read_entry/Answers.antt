@@ -11,7 +11,7 @@ returns-then-text-ne4-clause-none c n r e = c.if-text-ne4.true (ap (λ (t : List
 pub returns-clause-none : goal.returns-clause-none
 returns-clause-none c =
     let four = c.if-text-ne4.false in
-    let below = rw four at c.in-Some.ensures.below in
-    let text = rw four at c.in-Some.ensures.some in
-    none-in-range c.from_number.result c.in-Some.number entry_text c.args.text.now IsEntryNo c.from_number.ensures.none
-    (λ n r e. fixed-injective 4 n c.in-Some.number (omega arith) below (e ∙ sym text))
+    let below = rw four at c.in_ok-number.ensures.below in
+    let text = rw four at c.in_ok-number.ensures.some in
+    none-in-range c.from_number.result c.in_ok-number.number entry_text c.args.text.now IsEntryNo c.from_number.ensures.none
+    (λ n r e. fixed-injective 4 n c.in_ok-number.number (omega arith) below (e ∙ sym text))

@@ -11,7 +11,7 @@ returns-then-text-ne6-clause-none c n r e = c.if-text-ne6.true (ap (λ (t : List
 pub returns-clause-none : goal.returns-clause-none
 returns-clause-none c =
     let six = c.if-text-ne6.false in
-    let below = rw six at c.in-Some.ensures.below in
-    let text = rw six at c.in-Some.ensures.some in
-    none-in-range c.from_number.result c.in-Some.number matter_text c.args.text.now IsMatterNo c.from_number.ensures.none
-    (λ n r e. fixed-injective 6 n c.in-Some.number (omega arith) below (e ∙ sym text))
+    let below = rw six at c.in_ok-number.ensures.below in
+    let text = rw six at c.in_ok-number.ensures.some in
+    none-in-range c.from_number.result c.in_ok-number.number matter_text c.args.text.now IsMatterNo c.from_number.ensures.none
+    (λ n r e. fixed-injective 6 n c.in_ok-number.number (omega arith) below (e ∙ sym text))

@@ -23,12 +23,13 @@ returns-in_err-verdict-clause-kept g c =
     let fault = c.in_err-verdict.field-0.0 in
     let found = c.in_ok-matter.ensures in
     let n = g.B.Book.refusals c.args.self.now in
-    let none = λ (clean : B.clean c.matter_for.new.self) (stands : B.stands c.args.self.now).
-    let stood = subst (B.stands) (sym c.self.view_is) stands in
+    let none = λ (sure : B.sure c.matter_for.new.self) (stands : B.clean c.args.self.now → B.stands c.args.self.now).
+    let clean = found.read.serves sure in
+    let stood = subst (B.stands) (sym c.self.view_is) (stands (subst (B.clean) c.self.view_is (found.read.was_clean clean))) in
     let decides : LineDecides (of l.matter (firm c.self.inside.book)) l c.args.day (Err fault) = c.in_err-verdict.ensures (of l.matter (firm c.self.inside.book)) ((B.sound c.self.inside.book stood).matters l.matter) (found.found clean stood) in
     decision-uncounted (of l.matter (firm c.self.inside.book)) l c.args.day fault n decides in
     let read = subst (λ b. KeepsBook (B.clean) (B.sure) (B.stands) (B.refusals) (λ n. n) b c.matter_for.new.self) c.self.view_is (read-kept found.read) in
-    let is = kept-as {told = counted {T = Counted} (Err fault)} (λ clean stands. sym (none clean stands)) read in
+    let is = kept-as {told = counted {T = Counted} (Err fault)} (λ sure stands. sym (none sure stands)) read in
     let p = err_from_is_err_and c.from_residual-in_err-verdict.result c.from_residual-in_err-verdict.ensures.1 in
     rw (p.1, p.2) is
 

@@ -51,6 +51,9 @@ returns-in-Some-clause-front g c =
     let was = next.kept.was_clean is in
     amid-imports c.args.day (B.clean c.loop-turn.self × B.stands c.args.self.now) (firm c.args.self.now) (firm c.loop-turn.self) (firm c.import_next.new.self) told c.loop-turn.lines.left c.import_next.new.lines.left c.loop-turn.reply result (was, stands) (B.sound c.args.self.now stands) c.loop-turn.invariant.amid next.keeps.0 (next.keeps.1 is (c.loop-turn.invariant.kept.still_stands was stands)) (λ done. next.done (ap Some done))
 
+pub returns-in-Some-clause-kept : goal.returns-in-Some-clause-kept
+returns-in-Some-clause-kept g c = kept-then c.loop-turn.invariant.kept c.in-Some.ensures.kept
+
 pub returns-in-Some-clause-header : goal.returns-in-Some-clause-header
 returns-in-Some-clause-header g c =
     λ other.

@@ -31,7 +31,7 @@ loop-request-preserved g c =
           let now = i.kept.still_stands was stands in
           run-more c.args.day (firm c.args.self.now) (firm c.loop-request.self) (firm c.answer-reply.new.self) c.args.requests.now c.loop-request.request-index c.request-item.result c.loop-request.replies.items c.push.new.self.items c.answer-reply.result (omega arith) c.request-item.is (i.run was stands) (step.step clean now) (B.sound c.answer-reply.new.self (step.kept.still_stands clean now)) added;
       long = long;
-      kept = kept-as (λ clean stands. told (B.refusals c.args.self.now)) (kept-then i.kept step.kept);
+      kept = kept-as (λ sure stands. told (B.refusals c.args.self.now)) (kept-then i.kept step.kept);
       crash = λ sure clean stands but_last.
           let plain = none-before rs r (subst AreNoFaultsButLast added but_last) in
           let so_far = i.crash (step.kept.was_sure sure) clean stands (none-at_all rs plain) in

@@ -17,7 +17,7 @@ returns-in_err-check_import-clause-step g c =
 pub returns-in_err-check_import-clause-kept : goal.returns-in_err-check_import-clause-kept
 returns-in_err-check_import-clause-kept g c =
     let B = g.B.Book in
-    let is = kept-as {told = counted_refusal c.in_err-check_import.field-0.0} (λ clean stands. sym (unfit-uncounted c.args.caller.now c.args.bytes.now c.in_err-check_import.field-0.0 (B.refusals c.args.self.now) c.in_err-check_import.ensures)) (kept-still c.args.self.now) in
+    let is = kept-as {told = counted_refusal c.in_err-check_import.field-0.0} (λ sure stands. sym (unfit-uncounted c.args.caller.now c.args.bytes.now c.in_err-check_import.field-0.0 (B.refusals c.args.self.now) c.in_err-check_import.ensures)) (kept-still c.args.self.now) in
     let p = err_from_is_err_and c.from_residual.result c.from_residual.ensures.1 in
     rw (p.1, p.2) is
 

@@ -1,5 +1,0 @@
-use Rattle.cashier.proofs.LineFacts.{import-no-sheet}
-use Rattle.cashier.proofs.laws.import_is_no_sheet.Goals as goal
-
-pub returns : goal.returns
-returns c = import-no-sheet

@@ -1,0 +1,48 @@
+-- What a command that prints a report asks, and what it writes.
+use Rattle.std.specs.Prelude.{◌≡◌, ◌<◌, ◌⊎◌, ℕ, List, Option, length, take}
+use Rattle.std.specs.Io.KnownBytes.{Appends}
+use Rattle.trust_matter.specs.declared.ask.Ask.TheVariants.{Accounting}
+use Rattle.trust_matter.specs.declared.ask.Caller.TheVariants.{Cashier}
+use Rattle.firm_rows.specs.Firm.{Firm}
+use Rattle.trust_desk.specs.FirmStep.{Steps}
+use Rattle.trust_desk.specs.Heard.{Asks}
+use Rattle.trust_desk.specs.declared.requests.Reply.{Reply}
+use Rattle.trust_desk.specs.declared.requests.Request.{Request}
+use Rattle.trust_desk.specs.declared.requests.Request.TheVariants as requests
+use Rattle.command_line.specs.declared.report_command.ReportCommand.{ReportCommand}
+use Rattle.command_line.specs.declared.report_command.ReportCommand.TheVariants as commands
+use Rattle.cashier.specs.Sheet.{reply_kind, reply_line}
+use Rattle.cashier.specs.declared.outcome.Outcome.{Outcome}
+use Rattle.cashier.specs.declared.outcome.Outcome.TheVariants as outcome
+use Rattle.cashier.specs.declared.reply_kind.ReplyKind.{ReplyKind}
+use Rattle.cashier.specs.declared.reply_kind.ReplyKind.TheVariants as kind
+
+-- what the cashier asks for a report: of the firm, or of a matter its accounting
+abbrev pub asked_for : ReportCommand → Request
+asked_for (commands.Reconcile day) = requests.Reconcile Cashier day
+asked_for commands.Trial = requests.Trial Cashier
+asked_for commands.Journal = requests.Journal Cashier
+asked_for commands.Retention = requests.Retention Cashier
+asked_for (commands.Ledger matter) = requests.Matter matter Cashier Accounting
+
+-- the outcome of a run by what the reply says, once that was written
+abbrev pub reply_outcome : ReplyKind → Outcome
+reply_outcome kind.Accepted = outcome.Done
+reply_outcome kind.Refused = outcome.Refused
+reply_outcome kind.Store = outcome.StoreFault
+reply_outcome kind.Memory = outcome.MemoryFault
+
+-- a reply was written whole, its text alone or its refusal's line, and says the outcome; or a write failed, and a
+-- proper front of it was written
+abbrev pub Prints : Reply → Option (List ℕ) → Option (List ℕ) → Outcome → Type 0
+Prints reply old new told =
+    ((told ≡ reply_outcome (reply_kind reply)) × Appends old new (reply_line reply))
+    ⊎ ((told ≡ outcome.FileFault)
+    × ((n : ℕ) × (n < length (reply_line reply)) × Appends old new (take n (reply_line reply))))
+
+-- the cashier asked for the report on a day, the firm's step gave the reply, and that was printed
+pub record PrintsReport (day : ℕ) (before : Firm) (command : ReportCommand) (after : Firm)
+    (old new : Option (List ℕ)) (told : Outcome) : Type 0 where
+  pub reply : Reply
+  pub steps : Steps day before (Asks (asked_for command)) reply after
+  pub prints : Prints reply old new told

@@ -1,0 +1,62 @@
+// The reports that commands print.
+
+ghost use Rattle.std.specs.Prelude.{◌≡◌, ◌≢◌};
+ghost use Rattle.cashier.specs.Calls.{CountsStore, LeavesBook};
+ghost use Rattle.cashier.specs.Report.{PrintsReport, asked_for};
+
+use crate::outcome::{Outcome, outcome_of_reply};
+use crate::reply_kind::kind_of_reply;
+use crate::reply_line::write_reply;
+use command_line::ReportCommand;
+use std::alloc::Global;
+use std::io::Write;
+use trust_base::Day;
+use trust_desk::{Desk, Request};
+use trust_matter::{Ask, Caller};
+use trust_store::Book;
+
+// What the cashier asks for a report.
+fn request_for(command: ReportCommand) -> Request
+    ensures { result ≡ asked_for command }
+{
+    match command {
+        ReportCommand::Reconcile(day) => Request::Reconcile(Caller::Cashier, day),
+        ReportCommand::Trial => Request::Trial(Caller::Cashier),
+        ReportCommand::Journal => Request::Journal(Caller::Cashier),
+        ReportCommand::Retention => Request::Retention(Caller::Cashier),
+        ReportCommand::Ledger(no) => Request::Matter {
+            no,
+            caller: Caller::Cashier,
+            ask: Ask::Accounting,
+        },
+    }
+}
+
+/// Prints a report of a desk's book on a business day, which the cashier asks: its text as it is, or the line of its
+/// refusal.
+///
+/// The outcome is `Done` where the text was written, and `Refused` where the line of a refusal was; where the store or
+/// memory was refused, that was told by its line, and it is `StoreFault` or `MemoryFault`. Where a write failed it is
+/// `FileFault`, and a proper front of the text or line was written. Nothing is read.
+pub fn run_report<W: Write, B: Book>(
+    alloc: Global,
+    command: ReportCommand,
+    writer: &mut W,
+    desk: &mut Desk<B>,
+    today: Day,
+) -> Outcome
+    ensures began { result ≢ Outcome.CommandLine }
+    ensures ends { B.clean desk.new → B.stands desk.old
+        → PrintsReport today (B.firm desk.old) command (B.firm desk.new) (W.contents writer.old)
+        (W.contents writer.new) result }
+
+    // It ends by Store only where a call of the book was refused.
+    ensures kept { LeavesBook B.clean B.sure B.stands B.refusals (CountsStore Outcome.StoreFault result)
+        desk.old desk.new }
+{
+    let reply = desk.answer(alloc, &request_for(command), today);
+    let Ok(()) = write_reply(writer, &reply) else {
+        return Outcome::FileFault;
+    };
+    outcome_of_reply(kind_of_reply(&reply))
+}

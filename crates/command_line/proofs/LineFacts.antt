@@ -1,0 +1,205 @@
+-- What a parse of the program's own command line says.
+use Rattle.std.specs.Prelude.{◌==◌}
+use Rattle.std.proofs.Common.{◌≡◌, ◌≢◌, ◌∙◌, inl, inr, ap, sym, refl, subst, Bool, false, true, ℕ, List, [], ◌∷◌, Option, Some, None, IfNone, option_map, option_and_then, codes}
+use Rattle.clap.specs.Words.{App, Row, Text, fault_of, first_of, found_of, is_simple, is_simple_and_free, kind_of, matches_of, rows_of, subcommand_name_of, subcommand_of, subcommand_rows_of}
+use Rattle.clap.specs.Kinds.{HasKind, Kinds}
+use Rattle.clap.specs.declared.error.Error.{Error}
+use Rattle.clap.specs.declared.error.kind.ErrorKind.TheVariants.{OutOfMemory}
+use Rattle.clap.specs.declared.parser.matches.ArgMatches.{ArgMatches}
+use Rattle.clap.specs.Matches.{first_value}
+use Rattle.clap.specs.declared.parser.matches.Found.{Found}
+use Rattle.clap.proofs.OnLiterals.{clap_on_literals}
+use Rattle.clap.proofs.WalkLemmas.{first_value-rows}
+use Rattle.std.specs.Borrow.{Bor}
+use Rattle.std.specs.Str.{bytes_eq}
+use Rattle.trust_values.specs.Texts.{day_of, matter_of}
+use Rattle.command_line.specs.Program.{Gives, IsTask, LeavesNoPlan, MeetsTask, Means, MeansNothing, import_app, operand_app, operand_rule, report_apps, HasReportOperands, ImportIsNoSheet, ImportIsNoStream, IsReportCommand, MeansReport, ReportReadsNothing, program, report_name, sheet_app, stream_app, today_rule}
+use Rattle.command_line.specs.declared.command.CliFault.{CliFault}
+use Rattle.command_line.specs.declared.command.CliFault.TheVariants as faults
+use Rattle.command_line.specs.declared.report_command.ReportCommand.{ReportCommand}
+use Rattle.command_line.specs.declared.report_command.ReportCommand.TheVariants as reports
+use Rattle.command_line.specs.declared.command.Task.{Task}
+use Rattle.command_line.specs.declared.command.Task.TheVariants as tasks
+
+is_simple_program : is_simple program ≡ true
+unfolding clap_on_literals program sheet_app today_rule import_app operand_app operand_rule stream_app report_apps
+is_simple_program = refl
+
+is_free_program : is_simple_and_free program ≡ true
+unfolding clap_on_literals program sheet_app today_rule import_app operand_app operand_rule stream_app report_apps
+is_free_program = refl
+
+parses : (a : App) (words : List Text) → a ≡ program → (is_simple_and_free a ≡ true → fault_of a words ≡ []) → fault_of program words ≡ []
+parses a words same kinds = sym (ap (λ (x : App). fault_of x words) same) ∙ kinds (ap is_simple_and_free same ∙ is_free_program)
+
+-- an error of the parse that is not want of memory: the command line does not take the words
+pub fails : (a : App) (words : List Text) (e : Error) → a ≡ program → (is_simple_and_free a ≡ true → HasKind (fault_of a words) e) → kind_of e ≢ OutOfMemory
+    → fault_of program words ≡ [] → ⊥
+fails a words e same kinds memory none =
+    let has = subst (λ (x : App). HasKind (fault_of x words) e) same (kinds (ap is_simple_and_free same ∙ is_free_program)) in
+    elim (subst (λ (k : Kinds). HasKind k e) none has) [
+      | inl m ↦ memory m
+      | inr h ↦ absurd h
+    ]
+
+pair-parts : {X Y : Type 0} (o : Option (X × Y)) (x : X) (y : Y) → option_map (λ q. q.0) o ≡ Some x → option_map (λ q. q.1) o ≡ Some y → o ≡ Some (x, y)
+pair-parts None x y e f = cc
+pair-parts (Some (u, v)) x y e f = cc
+
+twice : {X Y Z : Type 0} (f : Y → Z) (g : X → Y) (o : Option X) → option_map f (option_map g o) ≡ option_map (λ x. f (g x)) o
+twice f g None = refl
+twice f g (Some x) = refl
+
+-- the name of the command that a parse met, also beside its rows
+name_in_rows : (m : ArgMatches) → option_map (λ (q : Text × List Row). q.0) (subcommand_rows_of m) ≡ subcommand_name_of m
+name_in_rows m = twice _ _ _
+
+-- the command that a parse met, by its name and its values
+pub met : (m : ArgMatches) (name : Text) (values : List Row) → subcommand_name_of m ≡ Some name → option_map (λ (q : Text × List Row). q.1) (subcommand_rows_of m) ≡ Some values
+    → subcommand_rows_of m ≡ Some (name, values)
+met m name values n v = pair-parts (subcommand_rows_of m) name values (name_in_rows m ∙ n) v
+
+-- the values of a parse are those of the command line
+abbrev HasValues : App → List Text → ArgMatches → Type 0
+HasValues a words m = is_simple a ≡ true → (rows_of (found_of m) ≡ matches_of a words) × (subcommand_rows_of m ≡ subcommand_of a words)
+
+rows_are : (a : App) (words : List Text) (m : ArgMatches) → a ≡ program → HasValues a words m → rows_of (found_of m) ≡ matches_of program words
+rows_are a words m same has = (has (ap is_simple same ∙ is_simple_program)).0 ∙ ap (λ (x : App). matches_of x words) same
+
+met_is : (a : App) (words : List Text) (m : ArgMatches) → a ≡ program → HasValues a words m → subcommand_rows_of m ≡ subcommand_of program words
+met_is a words m same has = (has (ap is_simple same ∙ is_simple_program)).1 ∙ ap (λ (x : App). subcommand_of x words) same
+
+given : (rows rows2 : List Row) (met met2 : Option (Text × List Row)) (today : ℕ) (task : Task) → rows ≡ rows2 → met ≡ met2 → Gives rows met today task → Gives rows2 met2 today task
+given rows rows2 met met2 today task r n g = record {
+  day = sym (ap (λ (x : List Row). option_and_then day_of (first_of (codes "today") x)) r) ∙ g.day;
+  meets = rw n at g.meets;
+}
+
+-- what the values of a parse give is what the words mean
+pub means : (a : App) (words : List Text) (m : ArgMatches) → a ≡ program → (is_simple_and_free a ≡ true → fault_of a words ≡ []) → HasValues a words m
+    → (today : ℕ) (task : Task) → Gives (rows_of (found_of m)) (subcommand_rows_of m) today task → Means words today task
+means a words m same kinds has today task g = record {
+  parses = parses a words same kinds;
+  gives = given _ _ _ _ today task (rows_are a words m same has) (met_is a words m same has) g;
+}
+
+-- and the other way round
+pub gives : (a : App) (words : List Text) (m : ArgMatches) → a ≡ program → HasValues a words m
+    → (today : ℕ) (task : Task) → Means words today task → Gives (rows_of (found_of m)) (subcommand_rows_of m) today task
+gives a words m same has today task says =
+    given _ _ _ _ today task (sym (rows_are a words m same has)) (sym (met_is a words m same has)) says.gives
+
+-- a fault that is Line only where the words mean nothing
+pub leaves : (words : List Text) (fault : CliFault) → (fault ≡ faults.Line → MeansNothing words) → LeavesNoPlan words fault
+leaves words faults.Line h = h refl
+leaves words faults.Memory h = tt
+
+-- what holds at any rate
+pub if_none : {X : Type 0} (o : Option X) (P : Type 0) → P → IfNone o P
+if_none None P p = p
+if_none (Some x) P p = tt
+
+-- the command with a path is the import of that path
+pub imports : (f : Found) (name : Text) (path : Bor (List ℕ)) → name ≡ codes "import" → first_value f (codes "FILE") ≡ Some path.now → IsTask name (rows_of f) (tasks.Import path)
+imports f name path n v = record { named = n; operands = sym (first_value-rows f (codes "FILE")) ∙ v }
+
+-- two names of commands that are not the same text
+differ : (a b : Text) → bytes_eq a b ≡ false → bytes_eq b b ≡ true → a ≡ b → ⊥
+differ a b apart same e = let clash = sym apart ∙ ap (λ (x : Text). bytes_eq x b) e ∙ same in cc
+
+-- no report's command reads the file or standard input
+no_import_report : (r : ReportCommand) → codes "import" ≡ report_name r → ⊥
+no_import_report (reports.Reconcile day) = differ _ _ refl refl
+no_import_report reports.Trial = differ _ _ refl refl
+no_import_report reports.Journal = differ _ _ refl refl
+no_import_report reports.Retention = differ _ _ refl refl
+no_import_report (reports.Ledger m) = differ _ _ refl refl
+
+no_sheet_report : (r : ReportCommand) → codes "sheet" ≡ report_name r → ⊥
+no_sheet_report (reports.Reconcile day) = differ _ _ refl refl
+no_sheet_report reports.Trial = differ _ _ refl refl
+no_sheet_report reports.Journal = differ _ _ refl refl
+no_sheet_report reports.Retention = differ _ _ refl refl
+no_sheet_report (reports.Ledger m) = differ _ _ refl refl
+
+no_stream_report : (r : ReportCommand) → codes "stream" ≡ report_name r → ⊥
+no_stream_report (reports.Reconcile day) = differ _ _ refl refl
+no_stream_report reports.Trial = differ _ _ refl refl
+no_stream_report reports.Journal = differ _ _ refl refl
+no_stream_report reports.Retention = differ _ _ refl refl
+no_stream_report (reports.Ledger m) = differ _ _ refl refl
+
+no_import_stream : codes "import" ≡ codes "stream" → ⊥
+no_import_stream = differ _ _ refl refl
+
+-- the command without a path is no task
+pub no_file : (f : Found) (name : Text) (task : Task) → name ≡ codes "import" → first_value f (codes "FILE") ≡ None → IsTask name (rows_of f) task → ⊥
+no_file f name tasks.Sheet n v is = let e = sym n ∙ is.named in cc
+no_file f name (tasks.Import path) n v is = let e = sym v ∙ first_value-rows f (codes "FILE") ∙ is.operands in cc
+no_file f name tasks.Stream n v is = no_import_stream (sym n ∙ is.named)
+no_file f name (tasks.Report r) n v is = no_import_report r (sym n ∙ is.named)
+
+-- a command that is none of the first three, and of no report, is no task
+pub no_task : (name : Text) (values : List Row) (task : Task) → name ≢ codes "sheet" → name ≢ codes "import" → name ≢ codes "stream"
+    → ((r : ReportCommand) → ¬ IsReportCommand name values r) → IsTask name values task → ⊥
+no_task name values tasks.Sheet s i m none is = s is.named
+no_task name values (tasks.Import path) s i m none is = i is.named
+no_task name values tasks.Stream s i m none is = m is.named
+no_task name values (tasks.Report r) s i m none is = none r (record { named = is.named; operands = is.operands })
+
+-- a report's command is its task
+pub prints : (name : Text) (values : List Row) (r : ReportCommand) → IsReportCommand name values r → IsTask name values (tasks.Report r)
+prints name values r is = record { named = is.named; operands = is.operands }
+
+-- a reconciliation without a day is no report
+pub no_day_report : (name : Text) (values : List Row) (r : ReportCommand) → name ≡ codes "reconcile" → option_and_then day_of (first_of (codes "DAY") values) ≡ None
+    → IsReportCommand name values r → ⊥
+no_day_report name values (reports.Reconcile day) n v is = let e = sym v ∙ is.operands in cc
+no_day_report name values reports.Trial n v is = differ _ _ refl refl (sym n ∙ is.named)
+no_day_report name values reports.Journal n v is = differ _ _ refl refl (sym n ∙ is.named)
+no_day_report name values reports.Retention n v is = differ _ _ refl refl (sym n ∙ is.named)
+no_day_report name values (reports.Ledger m) n v is = differ _ _ refl refl (sym n ∙ is.named)
+
+-- nor is a ledger card without a matter
+pub no_matter_report : (name : Text) (values : List Row) (r : ReportCommand) → name ≡ codes "ledger" → option_and_then matter_of (first_of (codes "MATTER") values) ≡ None
+    → IsReportCommand name values r → ⊥
+no_matter_report name values (reports.Reconcile day) n v is = differ _ _ refl refl (sym n ∙ is.named)
+no_matter_report name values reports.Trial n v is = differ _ _ refl refl (sym n ∙ is.named)
+no_matter_report name values reports.Journal n v is = differ _ _ refl refl (sym n ∙ is.named)
+no_matter_report name values reports.Retention n v is = differ _ _ refl refl (sym n ∙ is.named)
+no_matter_report name values (reports.Ledger m) n v is = let e = sym v ∙ is.operands in cc
+
+-- the command that was met, and the task that it is
+pub meets : (m : Option (Text × List Row)) (name : Text) (values : List Row) (task : Task) → m ≡ Some (name, values) → IsTask name values task → MeetsTask m task
+meets m name values task e h = rw e h
+
+-- an import is no sheet
+import_or_sheet : (m : Option (Text × List Row)) (path : Bor (List ℕ)) → MeetsTask m (tasks.Import path) → MeetsTask m tasks.Sheet → ⊥
+import_or_sheet None path a b = a
+import_or_sheet (Some met) path a b = let e = sym a.named ∙ b.named in cc
+
+pub import-no-sheet : ImportIsNoSheet
+import-no-sheet words (today, path, a) (later, b) = import_or_sheet (subcommand_of program words) path a.gives.meets b.gives.meets
+
+-- and no stream
+import_or_stream : (m : Option (Text × List Row)) (path : Bor (List ℕ)) → MeetsTask m (tasks.Import path) → MeetsTask m tasks.Stream → ⊥
+import_or_stream None path a b = a
+import_or_stream (Some command) path a b = no_import_stream (sym a.named ∙ b.named)
+
+pub import-no-stream : ImportIsNoStream
+import-no-stream words (today, path, a) (later, b) = import_or_stream (subcommand_of program words) path a.gives.meets b.gives.meets
+
+-- a report is no sheet and no stream
+report_or_sheet : (m : Option (Text × List Row)) (r : ReportCommand) → MeetsTask m (tasks.Report r) → MeetsTask m tasks.Sheet → ⊥
+report_or_sheet None r a b = a
+report_or_sheet (Some command) r a b = no_sheet_report r (sym b.named ∙ a.named)
+
+report_or_stream : (m : Option (Text × List Row)) (r : ReportCommand) → MeetsTask m (tasks.Report r) → MeetsTask m tasks.Stream → ⊥
+report_or_stream None r a b = a
+report_or_stream (Some command) r a b = no_stream_report r (sym b.named ∙ a.named)
+
+pub report-reads-nothing : ReportReadsNothing
+report-reads-nothing words (today, r, a) = (
+  λ (later, b). report_or_sheet (subcommand_of program words) r a.gives.meets b.gives.meets,
+  λ (later, b). report_or_stream (subcommand_of program words) r a.gives.meets b.gives.meets,
+)

@@ -1,0 +1,155 @@
+-- The program's command line, as a parser of words sees it, and the plan that words mean.
+use Rattle.std.specs.Prelude.{◌≡◌, ℕ, List, [], ◌∷◌, Option, Some, None, true, codes, map, option_and_then, ⊤}
+use Rattle.std.specs.Borrow.{Bor}
+use Rattle.clap.specs.Words.{App, Row, Rule, Text, fault_of, first_of, matches_of, new_app, new_rule, subcommand_of, with_rule, with_subcommand}
+use Rattle.clap.specs.Simple.{on_top}
+use Rattle.clap.specs.declared.builder.ArgAction.TheVariants as action
+use Rattle.trust_values.specs.Texts.{day_of, matter_of}
+use Rattle.command_line.specs.declared.command.CliFault.{CliFault}
+use Rattle.command_line.specs.declared.command.CliFault.TheVariants as faults
+use Rattle.command_line.specs.declared.command.Task.{Task}
+use Rattle.command_line.specs.declared.command.Task.TheVariants as tasks
+use Rattle.command_line.specs.declared.report_command.ReportCommand.{ReportCommand}
+use Rattle.command_line.specs.declared.report_command.ReportCommand.TheVariants as reports
+
+-- `--today DAY`, required
+unfoldable pub today_rule : Rule
+today_rule =
+    record (new_rule (codes "today")) { long = Some (codes "today"); required = true; action = Some action.Set }
+
+unfoldable pub sheet_app : App
+sheet_app = new_app (codes "sheet")
+
+-- an operand, required
+unfoldable pub operand_rule : Text → Rule
+operand_rule operand = record (new_rule operand) { required = true; action = Some action.Set }
+
+-- a command of this name with one operand
+unfoldable pub operand_app : Text → Text → App
+operand_app name operand = with_rule (new_app name) (operand_rule operand)
+
+-- the command `import FILE`
+unfoldable pub import_app : App
+import_app = operand_app (codes "import") (codes "FILE")
+
+unfoldable pub stream_app : App
+stream_app = new_app (codes "stream")
+
+-- the commands of reports: `reconcile DAY`, `trial`, `journal`, `retention`, `ledger MATTER`
+unfoldable pub report_apps : List App
+report_apps =
+    operand_app (codes "reconcile") (codes "DAY") ∷ new_app (codes "trial") ∷ new_app (codes "journal")
+    ∷ new_app (codes "retention") ∷ operand_app (codes "ledger") (codes "MATTER") ∷ []
+
+-- a command line with these commands behind its own
+abbrev pub with_commands : App → List App → App
+with_commands app [] = app
+with_commands app (command ∷ rest) = with_commands (with_subcommand app command.top) rest
+
+-- the command line: `--today DAY` and a command
+unfoldable pub program : App
+program =
+    on_top (λ s. record s { subcommand_required = true })
+    (with_commands
+    (with_commands (with_rule (new_app (codes "cashier_cli")) today_rule)
+    (sheet_app ∷ import_app ∷ stream_app ∷ []))
+    report_apps)
+
+-- the name of a report's command
+abbrev pub report_name : ReportCommand → Text
+report_name (reports.Reconcile day) = codes "reconcile"
+report_name reports.Trial = codes "trial"
+report_name reports.Journal = codes "journal"
+report_name reports.Retention = codes "retention"
+report_name (reports.Ledger matter) = codes "ledger"
+
+-- the values of its command are the report's operands: the text of a day, a matter's six digits
+abbrev pub HasReportOperands : List Row → ReportCommand → Type 0
+HasReportOperands values (reports.Reconcile day) =
+    option_and_then day_of (first_of (codes "DAY") values) ≡ Some day
+HasReportOperands values reports.Trial = ⊤
+HasReportOperands values reports.Journal = ⊤
+HasReportOperands values reports.Retention = ⊤
+HasReportOperands values (reports.Ledger matter) =
+    option_and_then matter_of (first_of (codes "MATTER") values) ≡ Some matter
+
+-- a command of this name with these values prints the report
+pub record IsReportCommand (name : Text) (values : List Row) (report : ReportCommand) : Type 0 where
+  pub named : name ≡ report_name report
+  pub operands : HasReportOperands values report
+
+-- the name of a task's command
+abbrev pub task_text : Task → Text
+task_text tasks.Sheet = codes "sheet"
+task_text (tasks.Import path) = codes "import"
+task_text tasks.Stream = codes "stream"
+task_text (tasks.Report report) = report_name report
+
+-- the values of a command are the task's operands
+abbrev pub HasOperands : List Row → Task → Type 0
+HasOperands values tasks.Sheet = ⊤
+HasOperands values (tasks.Import path) = first_of (codes "FILE") values ≡ Some path.now
+HasOperands values tasks.Stream = ⊤
+HasOperands values (tasks.Report report) = HasReportOperands values report
+
+-- a command of this name with these values is the task
+pub record IsTask (name : Text) (values : List Row) (task : Task) : Type 0 where
+  pub named : name ≡ task_text task
+  pub operands : HasOperands values task
+
+-- the command that was met is the task
+abbrev pub MeetsTask : Option (Text × List Row) → Task → Type 0
+MeetsTask None task = ⊥
+MeetsTask (Some met) task = IsTask met.0 met.1 task
+
+-- the texts of words
+abbrev pub words_of : List (Bor (List ℕ)) → List Text
+words_of = map (λ s. s.now)
+
+-- the matched values and the command that was met give this business day and this task
+pub record Gives (rows : List Row) (met : Option (Text × List Row)) (today : ℕ) (task : Task) : Type 0 where
+  -- the value of `--today` is the text of the day
+  pub day : option_and_then day_of (first_of (codes "today") rows) ≡ Some today
+  pub meets : MeetsTask met task
+
+-- the words mean this plan: the command line takes them, and their values give it
+pub record Means (words : List Text) (today : ℕ) (task : Task) : Type 0 where
+  pub parses : fault_of program words ≡ []
+  pub gives : Gives (matches_of program words) (subcommand_of program words) today task
+
+-- the words mean that a sheet is run
+abbrev pub MeansSheet : List Text → Type 0
+MeansSheet words = (today : ℕ) × Means words today tasks.Sheet
+
+-- the words mean that a statement is imported
+abbrev pub MeansImport : List Text → Type 0
+MeansImport words = (today : ℕ) × (path : Bor (List ℕ)) × Means words today (tasks.Import path)
+
+-- the words mean that the messages of standard input are served
+abbrev pub MeansStream : List Text → Type 0
+MeansStream words = (today : ℕ) × Means words today tasks.Stream
+
+-- the words mean that a report is printed
+abbrev pub MeansReport : List Text → Type 0
+MeansReport words = (today : ℕ) × (report : ReportCommand) × Means words today (tasks.Report report)
+
+-- the words of an import mean no sheet
+abbrev pub ImportIsNoSheet : Type 0
+ImportIsNoSheet = (words : List Text) → MeansImport words → ¬ MeansSheet words
+
+-- the words of an import mean no stream
+abbrev pub ImportIsNoStream : Type 0
+ImportIsNoStream = (words : List Text) → MeansImport words → ¬ MeansStream words
+
+-- the words of a report mean no sheet and no stream
+abbrev pub ReportReadsNothing : Type 0
+ReportReadsNothing = (words : List Text) → MeansReport words → (¬ MeansSheet words) × (¬ MeansStream words)
+
+-- the words mean no plan
+abbrev pub MeansNothing : List Text → Type 0
+MeansNothing words = (today : ℕ) → (task : Task) → ¬ Means words today task
+
+-- what a fault of the command line says of the words
+abbrev pub LeavesNoPlan : List Text → CliFault → Type 0
+LeavesNoPlan words faults.Line = MeansNothing words
+LeavesNoPlan words faults.Memory = ⊤

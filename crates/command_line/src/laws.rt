@@ -1,0 +1,18 @@
+//! Laws over the definitions, each the contract of a function with nothing to do.
+
+ghost use Rattle.command_line.specs.Program.{ImportIsNoSheet, ImportIsNoStream, ReportReadsNothing};
+
+/// Words that mean an import mean no sheet, so that an import leaves standard input as it was.
+pub fn import_is_no_sheet()
+    ensures { ImportIsNoSheet }
+{}
+
+/// Words that mean an import mean no stream either, which reads standard input as well.
+pub fn import_is_no_stream()
+    ensures { ImportIsNoStream }
+{}
+
+/// Words that mean a report mean neither a sheet nor a stream, so that a report leaves standard input as it was.
+pub fn report_reads_nothing()
+    ensures { ReportReadsNothing }
+{}

@@ -1,0 +1,56 @@
+// The commands that print a report.
+
+ghost use Rattle.std.specs.Prelude.{◌≡◌, IfErr, IfNone, IfOk, IfSome};
+ghost use Rattle.clap.specs.Words.{app_of, found_of, rows_of};
+ghost use Rattle.command_line.specs.Program.{IsReportCommand, report_apps, with_commands};
+ghost use Rattle.command_line.specs.declared.report_command.ReportCommand.{ReportCommand};
+
+use crate::command::{CliFault, operand_command};
+use crate::operands::{day_operand, matter_operand};
+use clap::{ArgMatches, Command};
+use std::alloc::Global;
+use trust_base::{Day, MatterNo};
+
+/// A report that is to be printed.
+#[derive(Clone, Copy, PartialEq, Eq, Debug)]
+pub enum ReportCommand {
+    /// The three-way reconciliation of this day.
+    Reconcile(Day),
+    /// The trial balance.
+    Trial,
+    /// The journal.
+    Journal,
+    /// The retention list.
+    Retention,
+    /// The ledger card of this matter.
+    Ledger(MatterNo),
+}
+
+/// A command line with the commands of reports behind its own.
+pub fn with_reports<'a>(alloc: Global, command: Command<'a>) -> Result<Command<'a>, CliFault>
+    ensures ok { IfOk result (λ c. app_of c ≡ with_commands (app_of command.entry) report_apps) }
+    ensures err { IfErr result (λ fault. fault ≡ CliFault.Memory) }
+{
+    let with_lists = command
+        .subcommand(operand_command(alloc, "reconcile", "DAY")?)?
+        .subcommand(Command::new(alloc, "trial"))?
+        .subcommand(Command::new(alloc, "journal"))?
+        .subcommand(Command::new(alloc, "retention"))?;
+    Ok(with_lists.subcommand(operand_command(alloc, "ledger", "MATTER")?)?)
+}
+
+/// The report of a command, by its name and its values.
+pub fn report_command_of(name: &str, values: &ArgMatches) -> Option<ReportCommand>
+    ensures some { IfSome result (IsReportCommand name.now (rows_of (found_of values.now))) }
+    ensures none { IfNone result
+        ((report : ReportCommand) → ¬ IsReportCommand name.now (rows_of (found_of values.now)) report) }
+{
+    match name {
+        "reconcile" => Some(ReportCommand::Reconcile(day_operand(values, "DAY")?)),
+        "trial" => Some(ReportCommand::Trial),
+        "journal" => Some(ReportCommand::Journal),
+        "retention" => Some(ReportCommand::Retention),
+        "ledger" => Some(ReportCommand::Ledger(matter_operand(values, "MATTER")?)),
+        _ => None,
+    }
+}

@@ -1,0 +1,3 @@
+mod BookReads
+mod ReconciliationAnswers
+mod ReportTexts

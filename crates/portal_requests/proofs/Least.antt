@@ -1,0 +1,147 @@
+-- The refusal that is told of a message is the least.
+use Rattle.std.proofs.Common.{◌≡◌, ◌∙◌, ◌<◌, ℕ, Bool, true, false, cond, List, Option, Some, None, Result, Ok, Err, refl, sym, ap, subst, arith}
+use Rattle.std.specs.Str.{bytes_eq}
+use Rattle.trust_values.specs.Texts.{day_of}
+use Rattle.trust_base.specs.Refusals.{number_of}
+use Rattle.trust_base.specs.declared.refusal.Field.{Field}
+use Rattle.trust_base.specs.declared.refusal.Field.TheVariants as field
+use Rattle.trust_base.specs.declared.refusal.Refusal.{Refusal}
+use Rattle.trust_base.specs.declared.refusal.Refusal.TheVariants.{BadField, BadMethod, NoCaller, NoRoute}
+use Rattle.trust_matter.specs.declared.ask.Ask.{Ask}
+use Rattle.trust_matter.specs.declared.ask.Caller.{Caller}
+use Rattle.trust_desk.specs.declared.requests.Request.{Request}
+use Rattle.portal_messages.specs.declared.message.Message.{Message}
+use Rattle.portal_messages.specs.Fields.{path_of}
+use Rattle.portal_requests.specs.declared.place.ReportPlace.{ReportPlace}
+use Rattle.portal_requests.specs.declared.place.ReportPlace.TheVariants as report
+use Rattle.portal_requests.specs.declared.place.Place.{Place}
+use Rattle.portal_requests.specs.declared.place.Place.TheVariants as place
+use Rattle.portal_requests.specs.Asked.{entry_ask, matter_ask}
+use Rattle.portal_requests.specs.Callers.{caller_of}
+use Rattle.portal_requests.specs.LeastRefusal.{LeastRefusal, RefusesAt}
+use Rattle.portal_requests.specs.Paths.{day_part, entry_part, named_in}
+use Rattle.portal_requests.specs.Places.{method_of}
+use Rattle.portal_requests.specs.Requests.{as_of, asked_at, called, of_matter, reported, request, routed}
+use Rattle.portal_requests.specs.Routing.{place_of}
+
+-- What is asked at a place is refused for a field alone.
+
+abbrev IsOfField : Refusal → Type 0
+IsOfField r = (f : Field) × (r ≡ BadField f)
+
+abbrev refusal_in : Refusal → Result Request Refusal → Refusal
+refusal_in r (Ok asked) = r
+refusal_in r (Err why) = why
+
+abbrev refusing : Refusal → Result Request Refusal
+refusing r = Err r
+
+err-same : (why r : Refusal) → refusing why ≡ refusing r → r ≡ why
+err-same why r e = sym (ap (refusal_in why) e)
+
+matter-field : (caller : Caller) (named : Option ℕ) (asked : Result Ask Field) (r : Refusal) → of_matter caller named asked ≡ Err r → IsOfField r
+matter-field caller None asked r e = (field.Matter, err-same (BadField field.Matter) r e)
+matter-field caller (Some m) (Err f) r e = (f, err-same (BadField f) r e)
+matter-field caller (Some m) (Ok a) r e = absurd (cc)
+
+day-field : (caller : Caller) (o : Option ℕ) (r : Refusal) → as_of caller o ≡ Err r → IsOfField r
+day-field caller None r e = (field.Day, err-same (BadField field.Day) r e)
+day-field caller (Some day) r e = absurd (cc)
+
+report-field : (p : ReportPlace) (caller : Caller) (path : List ℕ) (r : Refusal) → reported p caller path ≡ Err r → IsOfField r
+report-field report.Exceptions caller path r e = absurd (cc)
+report-field report.TrialBalance caller path r e = absurd (cc)
+report-field report.Journal caller path r e = absurd (cc)
+report-field report.Reconciliation caller path r e = day-field caller (day_of (day_part path)) r e
+report-field report.Retention caller path r e = absurd (cc)
+
+of-field : (p : Place) (caller : Caller) (path body : List ℕ) (r : Refusal) → asked_at p caller path body ≡ Err r → IsOfField r
+of-field (place.Matter p) caller path body r e = matter-field caller (named_in path) (matter_ask p body) r e
+of-field (place.Entry p) caller path body r e = matter-field caller (named_in path) (entry_ask p (entry_part path) body) r e
+of-field (place.Report p) caller path body r e = report-field p caller path r e
+of-field place.Statements caller path body r e = absurd (cc)
+
+-- The least refusal, by a place and a caller.
+
+module _ (m : Message) where
+  abbrev Tells : Option Place → Option Caller → Result Request Refusal → Type 0
+  Tells o c (Ok asked) = (s : Refusal) → RefusesAt o c m s → ⊥
+  Tells o c (Err r) = RefusesAt o c m r × ((s : Refusal) → number_of s < number_of r → RefusesAt o c m s → ⊥)
+
+  no-route : (c : Option Caller) → Tells None c (Err NoRoute)
+  no-route c = (refl, none)
+    where
+      none : (s : Refusal) → number_of s < 4 → RefusesAt None c m s → ⊥
+      none NoRoute lt is = absurd (omega arith)
+      none BadMethod lt is = is
+      none NoCaller lt is = absurd (omega arith)
+      none (BadField f) lt is = is
+      none _ lt is = is
+
+  other-method : (p : Place) (c : Option Caller) → bytes_eq m.method (method_of p) ≡ false → Tells (Some p) c (Err BadMethod)
+  other-method p c other = (other, none)
+    where
+      none : (s : Refusal) → number_of s < 5 → RefusesAt (Some p) c m s → ⊥
+      none NoRoute lt is = cc
+      none BadMethod lt is = absurd (omega arith)
+      none NoCaller lt is = absurd (omega arith)
+      none (BadField f) lt is = absurd (omega arith)
+      none _ lt is = is
+
+  no-caller : (p : Place) → bytes_eq m.method (method_of p) ≡ true → Tells (Some p) None (Err NoCaller)
+  no-caller p same = (refl, none)
+    where
+      none : (s : Refusal) → number_of s < 6 → RefusesAt (Some p) None m s → ⊥
+      none NoRoute lt is = cc
+      none BadMethod lt is = cc
+      none NoCaller lt is = absurd (omega arith)
+      none (BadField f) lt is = is
+      none _ lt is = is
+
+  bad-field : (p : Place) (caller : Caller) (f : Field) → bytes_eq m.method (method_of p) ≡ true → asked_at p caller (path_of m.target) m.body ≡ Err (BadField f) → Tells (Some p) (Some caller) (Err (BadField f))
+  bad-field p caller f same bad = (bad, none)
+    where
+      none : (s : Refusal) → number_of s < 7 → RefusesAt (Some p) (Some caller) m s → ⊥
+      none NoRoute lt is = cc
+      none BadMethod lt is = cc
+      none NoCaller lt is = cc
+      none (BadField g) lt is = absurd (omega arith)
+      none _ lt is = is
+
+  all-good : (p : Place) (caller : Caller) (asked : Request) → bytes_eq m.method (method_of p) ≡ true → asked_at p caller (path_of m.target) m.body ≡ Ok asked → Tells (Some p) (Some caller) (Ok asked)
+  all-good p caller asked same good = none
+    where
+      none : (s : Refusal) → RefusesAt (Some p) (Some caller) m s → ⊥
+      none NoRoute is = cc
+      none BadMethod is = cc
+      none NoCaller is = cc
+      none (BadField g) is = cc
+      none _ is = is
+
+  asked-tells : (p : Place) (caller : Caller) (r : Result Request Refusal) → bytes_eq m.method (method_of p) ≡ true → asked_at p caller (path_of m.target) m.body ≡ r → Tells (Some p) (Some caller) r
+  asked-tells p caller (Ok asked) same e = all-good p caller asked same e
+  asked-tells p caller (Err r) same e =
+      let why = of-field p caller (path_of m.target) m.body r e in
+      subst (λ (x : Refusal). Tells (Some p) (Some caller) (Err x)) (sym why.1) (bad-field p caller why.0 same (e ∙ ap refusing why.1))
+
+  called-tells : (p : Place) (c : Option Caller) → bytes_eq m.method (method_of p) ≡ true → Tells (Some p) c (called p c (path_of m.target) m.body)
+  called-tells p None same = no-caller p same
+  called-tells p (Some caller) same = asked-tells p caller (asked_at p caller (path_of m.target) m.body) same refl
+
+  routed-tells : (o : Option Place) → Tells o (caller_of m.callers) (routed o m)
+  routed-tells None = no-route (caller_of m.callers)
+  routed-tells (Some p) = cases (bytes_eq m.method (method_of p)) refl
+    where
+      cases : (b : Bool) → bytes_eq m.method (method_of p) ≡ b → Tells (Some p) (caller_of m.callers) (cond b (called p (caller_of m.callers) (path_of m.target) m.body) (Err BadMethod))
+      cases true same = called-tells p (caller_of m.callers) same
+      cases false other = other-method p (caller_of m.callers) other
+
+  tells : Tells (place_of (path_of m.target)) (caller_of m.callers) (request m)
+  unfolding request
+  tells = routed-tells (place_of (path_of m.target))
+
+  tells-of : (r : Result Request Refusal) → request m ≡ r → Tells (place_of (path_of m.target)) (caller_of m.callers) r
+  tells-of r e = subst (Tells (place_of (path_of m.target)) (caller_of m.callers)) e tells
+
+pub least-refusal : LeastRefusal
+least-refusal = ((λ m r e. tells-of m (Err r) e), (λ m asked e. tells-of m (Ok asked) e))

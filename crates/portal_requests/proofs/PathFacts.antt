@@ -1,0 +1,152 @@
+-- Which matter a message names, by its path.
+use Rattle.std.proofs.Common.{◌≡◌, ◌∙◌, ℕ, Bool, true, false, cond, List, [], ◌∷◌, Option, Some, None, Result, Ok, Err, refl, sym, ap, subst, arith}
+use Rattle.std.specs.Prelude.{codes, drop, length, nat_le, option_map, take, unwrap_or, ⊤}
+use Rattle.std.specs.Str.{bytes_eq, is_utf8}
+use Rattle.matchit.specs.Level.{IsText}
+use Rattle.matchit.specs.Route.{Scan, parse_route}
+use Rattle.matchit.specs.Router.{RouteOf, route_from}
+use Rattle.matchit.specs.Rows.{RowsOf}
+use Rattle.matchit.specs.Seek.{first}
+use Rattle.matchit.specs.declared.error.InsertError.{InsertError}
+use Rattle.trust_values.specs.Texts.{day_of, matter_of}
+use Rattle.trust_base.specs.declared.refusal.Field.{Field}
+use Rattle.trust_base.specs.declared.refusal.Refusal.TheVariants.{BadMethod}
+use Rattle.trust_matter.specs.declared.ask.Ask.{Ask}
+use Rattle.trust_matter.specs.declared.ask.Caller.{Caller}
+use Rattle.trust_desk.specs.Heard.{is_the, names}
+use Rattle.portal_messages.specs.declared.message.Message.{Message}
+use Rattle.portal_messages.specs.Fields.{path_of}
+use Rattle.portal_requests.specs.declared.place.ReportPlace.{ReportPlace}
+use Rattle.portal_requests.specs.declared.place.ReportPlace.TheVariants as report
+use Rattle.portal_requests.specs.declared.place.Place.{Place}
+use Rattle.portal_requests.specs.declared.place.Place.TheVariants as place
+use Rattle.portal_requests.specs.Asked.{entry_ask, matter_ask}
+use Rattle.portal_requests.specs.Callers.{caller_of}
+use Rattle.portal_requests.specs.NamedByPath.{NamedByPath}
+use Rattle.portal_requests.specs.Paths.{day_part, entry_part, has_matter, named_in}
+use Rattle.portal_requests.specs.Places.{method_of}
+use Rattle.portal_requests.specs.Requests.{as_of, asked_at, called, heard_as, heard_of, of_matter, placed, reported, request, routed}
+use Rattle.portal_requests.specs.Routing.{place_of}
+use Rattle.portal_requests.specs.Table.{TABLE, route_rows, row_in, the_routes}
+use Rattle.portal_requests.proofs.Literals.{AllRows, Starts, first-starts, placed-rows}
+use Rattle.matchit.proofs.OnLiterals.{matchit_on_literals}
+
+-- Paths of the firm.
+
+-- a place of the firm, and of no matter
+abbrev pub is_of_firm : Place → Bool
+is_of_firm (place.Matter p) = false
+is_of_firm (place.Entry p) = false
+is_of_firm (place.Report p) = true
+is_of_firm place.Statements = true
+
+-- a route that leads there
+abbrev pub LeadsToFirm : RouteOf Place → Type 0
+LeadsToFirm e = is_of_firm e.value ≡ true
+
+abbrev firm_front : List ℕ
+firm_front = codes "/firm/"
+
+abbrev OfFirm : List ℕ → Type 0
+OfFirm t = Starts firm_front t
+
+-- the pattern of a route's text
+abbrev pattern_in : Result Scan InsertError → List ℕ
+pattern_in (Ok s) = s.pattern
+pattern_in (Err e) = []
+
+-- the pattern of each text that leads to the firm begins so
+abbrev AllTexts : List (List ℕ × Place) → Type 0
+AllTexts [] = ⊤
+AllTexts (p ∷ rest) = (is_of_firm p.1 ≡ true → OfFirm (pattern_in (parse_route p.0))) × AllTexts rest
+
+row-more : (r : Result Scan InsertError) (p : Place) (rows : RowsOf (RouteOf Place)) → (is_of_firm p ≡ true → OfFirm (pattern_in r)) → AllRows LeadsToFirm OfFirm rows → AllRows LeadsToFirm OfFirm (row_in r p rows)
+row-more (Ok s) p rows is all = placed-rows LeadsToFirm OfFirm s.pattern (route_from s p) rows is all
+row-more (Err e) p rows is all = all
+
+rows-more : (table : List (List ℕ × Place)) (rows : RowsOf (RouteOf Place)) → AllTexts table → AllRows LeadsToFirm OfFirm rows → AllRows LeadsToFirm OfFirm (route_rows table rows)
+unfolding route_rows
+rows-more [] rows texts all = all
+rows-more (p ∷ rest) rows texts all = rows-more rest (row_in (parse_route p.0) p.1 rows) texts.1 (row-more (parse_route p.0) p.1 rows texts.0 all)
+
+table-texts : AllTexts TABLE
+unfolding TABLE matchit_on_literals
+table-texts =
+    ((λ e. absurd (cc)), ((λ e. absurd (cc)), ((λ e. absurd (cc)), ((λ e. absurd (cc)), ((λ e. absurd (cc)), ((λ e. absurd (cc)), ((λ e. absurd (cc)), ((λ e. absurd (cc)), ((λ e. absurd (cc)), ((λ e. absurd (cc)), ((λ e. absurd (cc)), ((λ e. absurd (cc)), ((λ e. absurd (cc)), ((λ e. absurd (cc)), ((λ e. absurd (cc)), ((λ e. absurd (cc)), ((λ e. absurd (cc)), ((λ e. absurd (cc)), ((λ e. absurd (cc)), ((λ e. (refl, (refl, (refl, (refl, (refl, (refl, tt))))))), ((λ e. (refl, (refl, (refl, (refl, (refl, (refl, tt))))))), ((λ e. (refl, (refl, (refl, (refl, (refl, (refl, tt))))))), ((λ e. (refl, (refl, (refl, (refl, (refl, (refl, tt))))))), ((λ e. (refl, (refl, (refl, (refl, (refl, (refl, tt))))))), ((λ e. (refl, (refl, (refl, (refl, (refl, (refl, tt))))))), tt)))))))))))))))))))))))))
+
+the-rows : AllRows LeadsToFirm OfFirm the_routes
+unfolding the_routes
+the-rows = rows-more TABLE [] table-texts tt
+
+front-text : IsText firm_front
+front-text = (omega arith, (omega arith, (omega arith, (omega arith, (omega arith, (omega arith, tt))))))
+
+-- a path that leads to the firm begins so
+to-firm : (path : List ℕ) (o : Option (RouteOf Place)) (p : Place) → is_of_firm p ≡ true → first the_routes path ≡ o → option_map (λ e. e.value) o ≡ Some p → OfFirm path
+to-firm path None p is found e = absurd (cc)
+to-firm path (Some r) p is found e = first-starts LeadsToFirm firm_front the_routes path r front-text the-rows found (ap is_of_firm (ap (λ o. unwrap_or o r.value) e) ∙ is)
+
+-- so it names no matter
+front-unnamed : (path : List ℕ) → OfFirm path → named_in path ≡ None
+front-unnamed [] is = absurd is
+front-unnamed (a ∷ []) is = absurd is.1
+front-unnamed (a ∷ b ∷ rest) is = subst (λ (n : ℕ). named_in (n ∷ b ∷ rest) ≡ None) (sym is.0) (subst (λ (n : ℕ). named_in (47 ∷ n ∷ rest) ≡ None) (sym is.1.0) (cases (nat_le 15 (length (47 ∷ 102 ∷ rest)))))
+  where
+    cases : (b : Bool) → cond b (cond (has_matter (47 ∷ 102 ∷ rest)) (matter_of (take 6 (drop 9 (47 ∷ 102 ∷ rest)))) None) None ≡ None
+    cases true = refl
+    cases false = refl
+
+firm-unnamed : (path : List ℕ) (p : Place) → is_of_firm p ≡ true → place_of path ≡ Some p → named_in path ≡ None
+firm-unnamed path p is e = cases (is_utf8 path) e
+  where
+    cases : (b : Bool) → cond b (option_map (λ e. e.value) (first the_routes path)) None ≡ Some p → named_in path ≡ None
+    cases true there = front-unnamed path (to-firm path (first the_routes path) p is refl there)
+    cases false there = absurd (cc)
+
+-- A request.
+
+-- what is asked of the matter of a path names that
+of-named : (n : ℕ) (caller : Caller) (named : Option ℕ) (asked : Result Ask Field) → names n (heard_as named (of_matter caller named asked)) ≡ is_the n named
+of-named n caller None asked = refl
+of-named n caller (Some m) (Err f) = refl
+of-named n caller (Some m) (Ok a) = refl
+
+-- what is asked of the firm names none
+report-named : (n : ℕ) (p : ReportPlace) (caller : Caller) (path : List ℕ) → names n (heard_as None (reported p caller path)) ≡ false
+report-named n report.Exceptions caller path = refl
+report-named n report.TrialBalance caller path = refl
+report-named n report.Journal caller path = refl
+report-named n report.Reconciliation caller path = cases (day_of (day_part path))
+  where
+    cases : (o : Option ℕ) → names n (heard_as None (as_of caller o)) ≡ false
+    cases None = refl
+    cases (Some day) = refl
+report-named n report.Retention caller path = refl
+
+at-named : (n : ℕ) (p : Place) (caller : Caller) (path body : List ℕ) → place_of path ≡ Some p → names n (heard_as (named_in path) (asked_at p caller path body)) ≡ is_the n (named_in path)
+at-named n (place.Matter p) caller path body e = of-named n caller (named_in path) (matter_ask p body)
+at-named n (place.Entry p) caller path body e = of-named n caller (named_in path) (entry_ask p (entry_part path) body)
+at-named n (place.Report p) caller path body e = subst (λ (o : Option ℕ). names n (heard_as o (reported p caller path)) ≡ is_the n o) (sym (firm-unnamed path (place.Report p) refl e)) (report-named n p caller path)
+at-named n place.Statements caller path body e = sym (ap (is_the n) (firm-unnamed path place.Statements refl e))
+
+called-named : (n : ℕ) (p : Place) (o : Option Caller) (path body : List ℕ) → place_of path ≡ Some p → names n (heard_as (named_in path) (called p o path body)) ≡ is_the n (named_in path)
+called-named n p None path body e = refl
+called-named n p (Some caller) path body e = at-named n p caller path body e
+
+placed-named : (n : ℕ) (p : Place) (m : Message) → place_of (path_of m.target) ≡ Some p → names n (heard_as (named_in (path_of m.target)) (placed p m)) ≡ is_the n (named_in (path_of m.target))
+placed-named n p m e = cases (bytes_eq m.method (method_of p))
+  where
+    path : List ℕ
+    path = path_of m.target
+
+    cases : (b : Bool) → names n (heard_as (named_in path) (cond b (called p (caller_of m.callers) path m.body) (Err BadMethod))) ≡ is_the n (named_in path)
+    cases true = called-named n p (caller_of m.callers) path m.body e
+    cases false = refl
+
+routed-named : (n : ℕ) (o : Option Place) (m : Message) → place_of (path_of m.target) ≡ o → names n (heard_as (named_in (path_of m.target)) (routed o m)) ≡ is_the n (named_in (path_of m.target))
+routed-named n None m e = refl
+routed-named n (Some p) m e = placed-named n p m e
+
+pub named-by_path : NamedByPath
+unfolding heard_of request
+named-by_path n m = routed-named n (place_of (path_of m.target)) m refl

@@ -1,0 +1,3 @@
+pub mod EndLines
+pub mod ServedAll
+pub mod Operands

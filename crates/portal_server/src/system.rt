@@ -1,0 +1,57 @@
+// The network of the system.
+
+ghost use Rattle.std.specs.Prelude.{None};
+
+use crate::listener::{AcceptFault, ClientListener, Connection, Network};
+use std::io::ErrorKind;
+use std::net::{Ipv4Addr, Net, OpenListener, OpenStream, TcpListener};
+
+/// The network of the system, of which nothing is known. Its ports are those of the loopback address.
+#[derive(Drop)]
+pub struct SystemNetwork<'a, R> {
+    /// The system.
+    pub rt: &'a R,
+}
+
+/// A port of the system that listens.
+#[derive(Drop)]
+pub struct SystemListener<L> {
+    listener: L,
+}
+
+impl<R: Net> Network for SystemNetwork<'_, R> {
+    type Listener = SystemListener<R::Listener>;
+
+    ghost clients = { λ network port k. None };
+
+    fn listen(&self, port: u16) -> Option<SystemListener<R::Listener>> {
+        match TcpListener::bind(self.rt, (Ipv4Addr::LOCALHOST, port)) {
+            Ok(listener) => Some(SystemListener { listener }),
+            Err(_) => None,
+        }
+    }
+}
+
+impl<L: OpenListener> ClientListener for SystemListener<L>
+where
+    L::Stream: std::io::Read + std::io::Write + OpenStream + Drop,
+{
+    type Reader = L::Stream;
+
+    type Writer = L::Stream;
+
+    ghost sent = { λ listener k. None };
+
+    fn accept(&mut self) -> Result<Connection<L::Stream, L::Stream>, AcceptFault> {
+        match self.listener.accept() {
+            Ok((reader, _)) => match reader.try_clone() {
+                Ok(writer) => Ok(Connection { reader, writer }),
+                Err(_) => Err(AcceptFault::Network),
+            },
+            Err(error) => match error.kind() {
+                ErrorKind::ConnectionAborted => Err(AcceptFault::Aborted),
+                _ => Err(AcceptFault::Network),
+            },
+        }
+    }
+}

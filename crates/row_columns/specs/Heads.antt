@@ -1,0 +1,38 @@
+-- The columns of a head, its totals aside.
+use Rattle.std.specs.Prelude.{◌≡◌, ℕ, ℤ, pos, List, [], Option, Some, None, IfSome}
+use Rattle.trust_values.specs.Limits.{IsDay}
+use Rattle.trust_base.specs.Names.{IsLabel}
+use Rattle.matter_rows.specs.declared.head.Head.{Head}
+use Rattle.matter_rows.specs.declared.head.Holder.{Holder}
+use Rattle.matter_rows.specs.declared.head.Holder.TheVariants.{Client, Purged}
+use Rattle.trust_tables.specs.Rows as table
+
+-- a purged matter has no client
+abbrev pub client_column : Holder → List ℕ
+client_column (Client name) = name
+client_column (Purged day) = []
+
+-- the day of the purge, or 0
+abbrev pub purged_column : Holder → ℤ
+purged_column (Client name) = pos 0
+purged_column (Purged day) = pos day
+
+-- the day of closing, or 0
+abbrev pub closed_column : Option ℕ → ℤ
+closed_column None = pos 0
+closed_column (Some day) = pos day
+
+-- a row has these columns of a head
+abbrev pub HasHead : Head → table.Head → Type 0
+HasHead h t =
+    (client_column h.holder ≡ t.client) × (pos h.opened ≡ t.opened) × (closed_column h.closed ≡ t.closed)
+    × (pos h.last ≡ t.last) × (purged_column h.holder ≡ t.purged)
+
+-- a holder as the types hold it
+abbrev pub IsHolder : Holder → Type 0
+IsHolder (Client name) = IsLabel name
+IsHolder (Purged day) = IsDay day
+
+-- a head as the types hold it
+abbrev pub IsHead : Head → Type 0
+IsHead h = IsHolder h.holder × IsDay h.opened × IfSome h.closed IsDay × IsDay h.last

@@ -1,0 +1,21 @@
+//! The columns of a row and what they stand for: a balance, a movement, a line of the firm, an exception and a seat are
+//! written as columns and read back from them, an entry is written, a head is read. Columns that stand for nothing are
+//! Store, never guessed at.
+#![tactic(auto)]
+
+mod balance;
+mod column;
+mod entry;
+mod exception;
+mod firm_line;
+mod head;
+mod movement;
+mod seat;
+
+pub use balance::{balance_columns, balance_of};
+pub use entry::entry_columns;
+pub use exception::{exception_columns, exception_of};
+pub use firm_line::{firm_line_columns, firm_line_of};
+pub use head::head_of;
+pub use movement::{movement_columns, movement_of};
+pub use seat::{seat_columns, seat_of};

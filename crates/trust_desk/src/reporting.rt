@@ -1,0 +1,52 @@
+//! What there is of a report, by the rows of any book.
+
+ghost use Rattle.std.specs.Prelude.{◌≡◌, IfOk};
+ghost use Rattle.trust_store.specs.Calls.{IsRead};
+ghost use Rattle.trust_desk.specs.ReportStep.{found_reply, found_text, report_for};
+
+use crate::requests::{Body, Reply, Report};
+use firm_reports::{
+    Reconciled, exceptions_report, journal_report, reconciliation_report, retention_report,
+    trial_report,
+};
+use std::alloc::Global;
+use trust_base::{Day, OwnedBytes, Refusal, StoreFault};
+use trust_matter::Caller;
+use trust_store::Book;
+
+/// The text of a report on a business day, or why there is none, which is so of a reconciliation alone.
+///
+/// Store is answered where the book's store was at fault, and Memory where a growth was refused.
+pub(crate) fn find_report<B: Book>(
+    alloc: Global,
+    book: &mut B,
+    report: Report,
+    today: Day,
+) -> Result<Reconciled, StoreFault>
+    ensures told { B.clean book.new → B.stands book.old
+        → IfOk result (λ found. found_text found ≡ report_for Caller.Cashier report today (B.firm book.old)) }
+    ensures read { IsRead B.firm B.clean B.sure B.stands B.leaves B.refusals result book.old book.new }
+{
+    match report {
+        Report::Exceptions => exceptions_report(alloc, book, today).map(Reconciled::Text),
+        Report::Trial => trial_report(alloc, book, today).map(Reconciled::Text),
+        Report::Journal => journal_report(alloc, book, today).map(Reconciled::Text),
+        Report::Reconciliation(as_of) => reconciliation_report(alloc, book, as_of),
+        Report::Retention => retention_report(alloc, book, today).map(Reconciled::Text),
+    }
+}
+
+/// The reply to what there is of a report, or to the fault that stopped it.
+pub(crate) fn found_reply(found: Result<Reconciled, StoreFault>) -> Reply
+    ensures { result ≡ found_reply found }
+{
+    match found {
+        Ok(Reconciled::Text(text)) => Reply {
+            status: 200,
+            body: Body::Text(OwnedBytes::new(text)),
+        },
+        Ok(Reconciled::NoStatement) => Reply::refused(Refusal::NoStatement),
+        Ok(Reconciled::PeriodPurged) => Reply::refused(Refusal::PeriodPurged),
+        Err(fault) => Reply::refused(Refusal::from(fault)),
+    }
+}
