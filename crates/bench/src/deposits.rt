@@ -6,23 +6,25 @@ use trust_base::{Cents, EntryNo, Label, MatterNo, PersonId};
 use trust_desk::Request;
 use trust_matter::{Ask, Caller, DepositAsk, OpenAsk};
 
-/// How many deposits go to each of how many matters.
+/// How many matters there are, and how many entries go to each of them.
 #[derive(Clone, Copy, Debug, PartialEq, Eq)]
 pub struct Load {
     /// From 1 to 999,999.
     pub matters: u32,
-    /// From 0 to 9,999.
+    /// From 0 to 9,999, and for a report to 4,999.
     pub each: u16,
 }
 
-fn label(alloc: Global, text: &str) -> Result<Label> {
+/// A label of this text.
+pub fn label(alloc: Global, text: &str) -> Result<Label> {
     Label::read(alloc, text.as_bytes())?.context("a label")
 }
 
-fn asked_of(number: u32, ask: Ask) -> Result<Request> {
+/// What a caller asks of the matter of this number.
+pub fn asked_of(number: u32, caller: Caller, ask: Ask) -> Result<Request> {
     Ok(Request::Matter {
         no: MatterNo::from_number(number).context("a matter")?,
-        caller: Caller::Cashier,
+        caller,
         ask,
     })
 }
@@ -31,13 +33,18 @@ fn asked_of(number: u32, ask: Ask) -> Result<Request> {
 pub fn opening(alloc: Global, number: u32) -> Result<Request> {
     let client = label(alloc, "Ada Chen")?;
     let lawyer = PersonId::read(alloc, b"lee")?.context("a person")?;
-    asked_of(number, Ask::OpenMatter(OpenAsk { client, lawyer }))
+    asked_of(
+        number,
+        Caller::Cashier,
+        Ask::OpenMatter(OpenAsk { client, lawyer }),
+    )
 }
 
 /// The request that books a deposit to a matter, as the entry of this number.
 pub fn booking(alloc: Global, number: u32, entry: u16) -> Result<Request> {
     asked_of(
         number,
+        Caller::Cashier,
         Ask::Deposit(DepositAsk {
             number: EntryNo::from_number(entry).context("an entry")?,
             amount: Cents::read(b"500.00").context("an amount")?,
@@ -45,6 +52,11 @@ pub fn booking(alloc: Global, number: u32, entry: u16) -> Result<Request> {
             description: label(alloc, "retainer")?,
         }),
     )
+}
+
+/// The request that shows a matter.
+pub fn showing(number: u32) -> Result<Request> {
+    asked_of(number, Caller::Cashier, Ask::Show)
 }
 
 /// The requests that open so many matters.

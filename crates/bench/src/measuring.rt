@@ -31,6 +31,11 @@ pub fn is_made(reply: &Reply) -> bool {
     reply.status == 201
 }
 
+/// The request was answered, and was not refused.
+pub fn is_accepted(reply: &Reply) -> bool {
+    reply.status < 300
+}
+
 /// Fails where a request of a run was not answered, or refused.
 pub fn all_made(ended: &RunEnd) -> Result<()> {
     ensure!(ended.end == End::Done, "memory was refused");
@@ -53,13 +58,17 @@ pub fn booked(rt: &impl Clock, alloc: Global, load: Load, day: Day) -> Result<Me
     })
 }
 
+/// The middle one of three.
+pub fn middle(mut rounds: [u128; 3]) -> u128 {
+    rounds.sort_unstable();
+    rounds[1]
+}
+
 /// The nanoseconds of one request: the middle one of three rounds.
 pub fn middle_of_three(rt: &impl Clock, alloc: Global, load: Load, day: Day) -> Result<u128> {
-    let mut rounds = [
+    Ok(middle([
         booked(rt, alloc, load, day)?.of_each(),
         booked(rt, alloc, load, day)?.of_each(),
         booked(rt, alloc, load, day)?.of_each(),
-    ];
-    rounds.sort_unstable();
-    Ok(rounds[1])
+    ]))
 }

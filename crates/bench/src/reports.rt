@@ -1,8 +1,6 @@
-// A report over a book of lists that holds deposits, and the time that it takes.
+// A report over a book of lists, and the time that it takes.
 
-use crate::deposits::{Load, booking, opening};
-use crate::measuring::is_made;
-use anyhow::{Context, Result, bail, ensure};
+use anyhow::{Context, Result, bail};
 use firm_reports::{
     Reconciled, exceptions_report, journal_report, reconciliation_report, retention_report,
     trial_report,
@@ -11,7 +9,6 @@ use std::alloc::Global;
 use std::rt::Clock;
 use std::time::Instant;
 use trust_base::Day;
-use trust_desk::{Desk, ImportStop, Request};
 use trust_store::PlainBook;
 
 /// Which report is measured.
@@ -31,8 +28,6 @@ pub struct MeasuredReport {
     pub nanoseconds: u128,
 }
 
-const CLOSING: &str = "date,reference,bank_ref,amount,text\n2024-01-10,CLOSE,,0.00,\n";
-
 impl Report {
     /// The report of this name.
     pub fn named(name: &str) -> Option<Report> {
@@ -45,43 +40,6 @@ impl Report {
             _ => None,
         }
     }
-}
-
-fn make(alloc: Global, desk: &mut Desk<PlainBook>, request: &Request, day: Day) -> Result<()> {
-    let reply = desk.answer(alloc, request, day);
-    ensure!(is_made(&reply), "a request was refused");
-    Ok(())
-}
-
-// Adds a deposit to each matter.
-fn deposit_to_each(
-    alloc: Global,
-    desk: &mut Desk<PlainBook>,
-    matters: u32,
-    entry: u16,
-    day: Day,
-) -> Result<()> {
-    for number in 1..=matters {
-        make(alloc, desk, &booking(alloc, number, entry)?, day)?;
-    }
-    Ok(())
-}
-
-/// A book of matters with deposits, and with a closing balance of the day. Nothing else is held.
-pub fn filled(alloc: Global, load: Load, day: Day) -> Result<PlainBook> {
-    let mut desk = Desk::new(PlainBook::new(alloc));
-    for number in 1..=load.matters {
-        make(alloc, &mut desk, &opening(alloc, number)?, day)?;
-    }
-    for entry in 1..=load.each {
-        deposit_to_each(alloc, &mut desk, load.matters, entry, day)?;
-    }
-    let ended = desk.import(alloc, CLOSING.as_bytes(), day);
-    ensure!(
-        matches!(ended.end, ImportStop::Done),
-        "the import did not end well"
-    );
-    Ok(desk.into_book())
 }
 
 fn reconciliation_of(alloc: Global, book: &mut PlainBook, day: Day) -> Result<Vec<u8>> {

@@ -1,5 +1,6 @@
 -- What one run over a desk after another leaves of its book.
 use Rattle.std.proofs.Common.{◌≡◌, ℕ, refl}
+use Rattle.portal_server.specs.ServedAll.{KeepsStanding}
 use Rattle.trust_desk.specs.Calls.{KeepsBook}
 use Rattle.cashier.specs.Calls.{IsSame, LeavesBook}
 
@@ -32,6 +33,16 @@ book-kept tells h = record {
   was_sure = h.was_sure;
   still_stands = h.still_stands;
   cause = λ sure stands. tells _ _ (h.cause sure stands);
+}
+
+-- what leaves its book standing, where the count may be any that is told of
+pub book-standing : {B : Type 0} {clean sure stands : B → Type 0} {refusals : B → ℕ} {Told : ℕ → ℕ → Type 0} {old new : B}
+    → ((before after : ℕ) → Told before after) → KeepsStanding clean sure stands old new → LeavesBook clean sure stands refusals Told old new
+book-standing tells h = record {
+  was_clean = h.was_clean;
+  was_sure = h.was_sure;
+  still_stands = h.still_stands;
+  cause = λ _ _. tells _ _;
 }
 
 -- one after another, where the first met no fault

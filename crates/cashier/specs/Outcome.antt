@@ -7,6 +7,7 @@ use Rattle.firm_rows.specs.Firm.{Firm, empty_firm}
 use Rattle.firm_rows.specs.FirmSound.{FirmSound}
 use Rattle.command_line.specs.Program.{Means, MeansNothing}
 use Rattle.cashier.specs.Report.{PrintsReport}
+use Rattle.cashier.specs.Serving.{PortEnds}
 use Rattle.cashier.specs.Sheet.{Ends}
 use Rattle.cashier.specs.Statement.{StatementEnds}
 use Rattle.cashier.specs.Stream.{StreamEnds}
@@ -32,17 +33,19 @@ exit_status outcome.CommandLine = 2
 exit_status outcome.FileFault = 3
 exit_status outcome.StoreFault = 3
 exit_status outcome.MemoryFault = 3
+exit_status outcome.NetworkFault = 3
 
 -- the line on standard error, where there is one
 abbrev pub notice : Outcome → Option (List ℕ)
 notice outcome.Done = None
 notice outcome.Refused = None
 notice outcome.CommandLine =
-    Some (codes "usage: cashier_cli --today DAY (sheet | import FILE | stream | "
+    Some (codes "usage: cashier_cli --today DAY (sheet | import FILE | stream | serve PORT COUNT | "
     ++ codes "reconcile DAY | trial | journal | retention | ledger MATTER)")
 notice outcome.FileFault = Some (codes "file fault")
 notice outcome.StoreFault = Some (codes "store fault")
 notice outcome.MemoryFault = Some (codes "memory fault")
+notice outcome.NetworkFault = Some (codes "network fault")
 
 -- what an error in reading the words is to the program
 abbrev pub words_outcome : ErrorKind → Outcome
@@ -84,6 +87,7 @@ HasBegun outcome.CommandLine = ⊥
 HasBegun outcome.FileFault = ⊤
 HasBegun outcome.StoreFault = ⊤
 HasBegun outcome.MemoryFault = ⊥
+HasBegun outcome.NetworkFault = ⊤
 
 -- the file of a path was not opened, as its folder may tell, and nothing was done
 pub record IsUnopened (opens : Option (Option ℕ) → Type 0) (before after : Firm) (old new : Option (List ℕ))
@@ -141,6 +145,15 @@ pub record RanStream (words : List Text) (input : Option (List ℕ)) (before aft
   pub means : Means words today task.Stream
   pub ends : IsServed today before input after old new told
 
+-- the words mean that clients of a port are served on a day, and that ended with that outcome
+pub record RanServe (words : List Text) (clients : ℕ → ℕ → Option (List ℕ)) (before after : Firm)
+    (old new : Option (List ℕ)) (told : Outcome) : Type 0 where
+  pub today : ℕ
+  pub port : ℕ
+  pub count : ℕ
+  pub means : Means words today (task.Serve port count)
+  pub ends : PortEnds today count (clients port) before after old new told
+
 -- the words mean that a report is printed on a day, and that ended with that outcome
 pub record RanReport (words : List Text) (before after : Firm) (old new : Option (List ℕ)) (told : Outcome)
     : Type 0 where
@@ -155,21 +168,24 @@ pub record RanNothing (before after : Firm) (old new : Option (List ℕ)) (told 
   pub written : Appends old new []
   pub firm : after ≡ before
 
--- what became of the words, the sheet or the stream on standard input, the files of paths, a report and the firm
+-- what became of the words, the sheet or the stream on standard input, the files of paths, the clients of ports, by
+-- what is known of their bytes, a report and the firm
 abbrev pub Ran : List Text → Option (List ℕ) → (Text → Option (List ℕ)) → (Text → Option (Option ℕ) → Type 0)
-    → Firm → Firm → Option (List ℕ) → Option (List ℕ) → Outcome → Type 0
-Ran words input known opens before after old new told =
+    → (ℕ → ℕ → Option (List ℕ)) → Firm → Firm → Option (List ℕ) → Option (List ℕ) → Outcome → Type 0
+Ran words input known opens clients before after old new told =
     RanSheet words input before after old new told
     ⊎ (RanImport words known opens before after old new told
     ⊎ (RanStream words input before after old new told
-    ⊎ (RanReport words before after old new told ⊎ RanNothing before after old new told)))
+    ⊎ (RanServe words clients before after old new told
+    ⊎ (RanReport words before after old new told ⊎ RanNothing before after old new told))))
 
 -- the run of words over a book that begins without rows: it ended at the command line only where they mean nothing;
--- they mean what was begun; and, of any other end, what became of the sheet, the file, the stream or the report, and
--- the firm that is left is sound
+-- they mean what was begun; and, of any other end, what became of the sheet, the file, the stream, the port or the
+-- report, and the firm that is left is sound
 pub record HasRun (words : List Text) (input : Option (List ℕ)) (known : Text → Option (List ℕ))
-    (opens : Text → Option (Option ℕ) → Type 0) (old new : Option (List ℕ)) (told : Outcome) : Type 0 where
+    (opens : Text → Option (Option ℕ) → Type 0) (clients : ℕ → ℕ → Option (List ℕ)) (old new : Option (List ℕ))
+    (told : Outcome) : Type 0 where
   pub line : told ≡ outcome.CommandLine → MeansNothing words
   pub meant : HasBegun told → (today : ℕ) × (task : Task) × Means words today task
   pub ends : told ≢ outcome.CommandLine → (after : Firm) × FirmSound after
-      × Ran words input known opens empty_firm after old new told
+      × Ran words input known opens clients empty_firm after old new told

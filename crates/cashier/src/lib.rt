@@ -1,5 +1,5 @@
 //! The cashier's program: a day sheet or a stream of messages from standard input, a bank's statement from a file, or
-//! a report, to standard output.
+//! a report, to standard output; or the clients of a port, and how the stream of each ended.
 #![tactic(auto)]
 
 mod fields;
@@ -12,14 +12,18 @@ mod record_asks;
 mod reply_kind;
 mod reply_line;
 mod report;
+mod serving;
 mod sheet;
 mod statement;
+mod surroundings;
 mod system;
 
 pub use folder::{Folder, Opened};
 pub use outcome::{Outcome, exit_of};
 pub use program::{run_in_memory, run_words};
 pub use report::run_report;
+pub use serving::run_serve;
 pub use sheet::{SheetEnd, run_sheet};
 pub use statement::{StatementEnd, run_import};
+pub use surroundings::Surroundings;
 pub use system::run_on_system;

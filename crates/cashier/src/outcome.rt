@@ -3,6 +3,7 @@
 ghost use Rattle.std.specs.Prelude.{◌≡◌, option_map};
 ghost use Rattle.std.specs.Process.{exit_status as process_status};
 ghost use Rattle.cashier.specs.Report.{reply_outcome};
+ghost use Rattle.cashier.specs.Serving.{serving_outcome};
 ghost use Rattle.cashier.specs.Outcome.{exit_status, notice};
 ghost use Rattle.cashier.specs.Outcome.{sheet_outcome, statement_outcome, stream_outcome, words_outcome};
 
@@ -10,6 +11,7 @@ use crate::reply_kind::ReplyKind;
 use crate::sheet::SheetEnd;
 use crate::statement::StatementEnd;
 use portal_http::StreamEnd;
+use portal_server::ServeEnd;
 use std::io::ErrorKind;
 use std::process::ExitCode;
 
@@ -28,6 +30,8 @@ pub enum Outcome {
     StoreFault,
     /// A growth was refused.
     MemoryFault,
+    /// A port could not be had, or an accept was refused.
+    NetworkFault,
 }
 
 // 0 done, 1 something was refused, 2 the command line, 3 a fault.
@@ -38,7 +42,8 @@ fn status_of(outcome: Outcome) -> u8
         Outcome::Done => 0,
         Outcome::Refused => 1,
         Outcome::CommandLine => 2,
-        Outcome::FileFault | Outcome::StoreFault | Outcome::MemoryFault => 3,
+        Outcome::FileFault | Outcome::StoreFault | Outcome::MemoryFault | Outcome::NetworkFault =>
+            3,
     }
 }
 
@@ -57,12 +62,13 @@ pub fn notice_of(outcome: Outcome) -> Option<&'static str>
     match outcome {
         Outcome::Done | Outcome::Refused => None,
         Outcome::CommandLine => Some(
-            "usage: cashier_cli --today DAY (sheet | import FILE | stream | \
+            "usage: cashier_cli --today DAY (sheet | import FILE | stream | serve PORT COUNT | \
             reconcile DAY | trial | journal | retention | ledger MATTER)",
         ),
         Outcome::FileFault => Some("file fault"),
         Outcome::StoreFault => Some("store fault"),
         Outcome::MemoryFault => Some("memory fault"),
+        Outcome::NetworkFault => Some("network fault"),
     }
 }
 
@@ -123,5 +129,16 @@ pub fn outcome_of_stream(end: StreamEnd) -> Outcome
         StreamEnd::BadFraming | StreamEnd::Limit => Outcome::Refused,
         StreamEnd::ReadFault | StreamEnd::WriteFault => Outcome::FileFault,
         StreamEnd::NoMemory => Outcome::MemoryFault,
+    }
+}
+
+/// The outcome of serving the clients of a port: how each one's stream ended is no part of it.
+pub fn outcome_of_serving(end: ServeEnd) -> Outcome
+    ensures { result ≡ serving_outcome end }
+{
+    match end {
+        ServeEnd::Done => Outcome::Done,
+        ServeEnd::NetworkFault => Outcome::NetworkFault,
+        ServeEnd::WriteFault => Outcome::FileFault,
     }
 }

@@ -12,12 +12,16 @@ use crate::outcome::{
     Outcome, outcome_of_sheet, outcome_of_statement, outcome_of_stream, outcome_of_words,
 };
 use crate::report::run_report;
+use crate::serving::run_serve;
 use crate::sheet::run_sheet;
 use crate::statement::run_import;
+use crate::surroundings::Surroundings;
 use command_line::{CliFault, Plan, Task, command_of};
 use portal_http::serve_stream;
+use portal_server::Network;
 use std::alloc::{AllocError, Global};
 use std::io::{ErrorKind, Read, Write};
+use std::rt::Clock;
 use trust_base::Day;
 use trust_desk::Desk;
 use trust_store::{Book, PlainBook};
@@ -79,13 +83,14 @@ fn serve_input<R: Read, W: Write, B: Book>(
 /// standard input and output. Where the command line is at fault nothing is read, run or written; nor where a
 /// growth was refused before its plan was known, and the outcome is `MemoryFault` then. Else the outcome is that of
 /// the sheet's, the statement's or the stream's end, or the report's own, or `FileFault` where the statement can't be
-/// opened. Standard input is read only for a sheet or a stream. A stream goes by its end alone: it is never
-/// `StoreFault`, since what the store refused was answered to its message.
-pub fn run_words<'a, R: Read, F: Folder, W: Write, B: Book>(
+/// opened, or that of serving clients, `NetworkFault` where their port can't be had or an accept was refused. Standard
+/// input is read only for a sheet or a stream. A stream goes by its end alone, and serving clients by its own: neither
+/// is ever `StoreFault`, since what the store refused was answered to its message.
+pub fn run_words<'a, R: Read, F: Folder, C: Clock + Drop, N: Network, W: Write, B: Book>(
     alloc: Global,
     words: &'a [&'a str],
     reader: &mut R,
-    folder: &F,
+    around: Surroundings<'_, F, C, N>,
     writer: &mut W,
     desk: &mut Desk<B>,
 ) -> Outcome
@@ -94,14 +99,16 @@ pub fn run_words<'a, R: Read, F: Folder, W: Write, B: Book>(
     ensures unwritten { result ≡ Outcome.CommandLine → writer.new ≡ writer.old }
     ensures unasked { result ≡ Outcome.CommandLine → desk.new ≡ desk.old }
 
-    // An import, a report, and whatever else is no sheet and no stream, leaves standard input as it was.
+    // An import, a report, the clients of a port, and whatever else is no sheet and no stream, leaves standard input
+    // as it was.
     ensures input { MeansSheet (words_of words.entry.now)
         ⊎ (MeansStream (words_of words.entry.now) ⊎ (reader.new ≡ reader.old)) }
 
     ensures meant { HasBegun result → (today : ℕ) × (task : Task) × Means (words_of words.entry.now) today task }
     ensures ends { B.clean desk.new → B.stands desk.old → result ≢ Outcome.CommandLine
-        → Ran (words_of words.entry.now) (R.remaining reader.old) (F.known folder.now) (F.opens folder.now)
-        (B.firm desk.old) (B.firm desk.new) (W.contents writer.old) (W.contents writer.new) result }
+        → Ran (words_of words.entry.now) (R.remaining reader.old) (F.known around.entry.folder.now)
+        (F.opens around.entry.folder.now) (N.clients around.entry.network.now) (B.firm desk.old) (B.firm desk.new)
+        (W.contents writer.old) (W.contents writer.new) result }
     ensures kept { LeavesBook B.clean B.sure B.stands B.refusals (CountsStore Outcome.StoreFault result)
         desk.old desk.new }
 {
@@ -112,46 +119,49 @@ pub fn run_words<'a, R: Read, F: Folder, W: Write, B: Book>(
     };
     match task {
         Task::Sheet => outcome_of_sheet(run_sheet(alloc, reader, writer, desk, today)),
-        Task::Import(path) => import_file(alloc, folder, path, writer, desk, today),
+        Task::Import(path) => import_file(alloc, around.folder, path, writer, desk, today),
         Task::Stream => serve_input(alloc, reader, writer, desk, today),
+        Task::Serve { port, count } => run_serve(alloc, around, port, count, writer, desk, today),
         Task::Report(command) => run_report(alloc, command, writer, desk, today),
     }
 }
 
 /// Runs what the program's words ask for over a book that is kept in memory, begins without rows and is given up at
 /// the end. The firm that is left then is sound, as it is after each record, each line of a statement and each message.
-pub fn run_in_memory<'a, R: Read, F: Folder, W: Write>(
+pub fn run_in_memory<'a, R: Read, F: Folder, C: Clock + Drop, N: Network, W: Write>(
     alloc: Global,
     words: &'a [&'a str],
     reader: &mut R,
-    folder: &F,
+    around: Surroundings<'_, F, C, N>,
     writer: &mut W,
 ) -> Outcome
-    ensures ran { HasRun (words_of words.entry.now) (R.remaining reader.old) (F.known folder.now) (F.opens folder.now)
-        (W.contents writer.old) (W.contents writer.new) result }
+    ensures ran { HasRun (words_of words.entry.now) (R.remaining reader.old) (F.known around.entry.folder.now)
+        (F.opens around.entry.folder.now) (N.clients around.entry.network.now) (W.contents writer.old)
+        (W.contents writer.new) result }
     ensures unread { result ≡ Outcome.CommandLine → reader.new ≡ reader.old }
     ensures unwritten { result ≡ Outcome.CommandLine → writer.new ≡ writer.old }
     ensures input { MeansSheet (words_of words.entry.now)
         ⊎ (MeansStream (words_of words.entry.now) ⊎ (reader.new ≡ reader.old)) }
 {
     let mut desk = Desk::new(PlainBook::new(alloc));
-    run_words(alloc, words, reader, folder, writer, &mut desk)
+    run_words(alloc, words, reader, around, writer, &mut desk)
 }
 
 /// Runs the program on the words that it was called with, its name first among them, as `run_in_memory` does.
 ///
 /// Where the words can't be told, nothing is read, run or written: the outcome is `MemoryFault` where a growth was
 /// refused, and `CommandLine` where a word is no text.
-pub fn run_called<R: Read, F: Folder, W: Write>(
+pub fn run_called<R: Read, F: Folder, C: Clock + Drop, N: Network, W: Write>(
     alloc: Global,
     called: Result<Vec<String>, ErrorKind>,
     reader: &mut R,
-    folder: &F,
+    around: Surroundings<'_, F, C, N>,
     writer: &mut W,
 ) -> Outcome
     ensures ran { IfOk called
-        (λ words. HasRun (map string_bytes words.items) (R.remaining reader.old) (F.known folder.now)
-        (F.opens folder.now) (W.contents writer.old) (W.contents writer.new) result) }
+        (λ words. HasRun (map string_bytes words.items) (R.remaining reader.old) (F.known around.entry.folder.now)
+        (F.opens around.entry.folder.now) (N.clients around.entry.network.now) (W.contents writer.old)
+        (W.contents writer.new) result) }
     ensures unread { result ≡ Outcome.CommandLine → reader.new ≡ reader.old }
     ensures unwritten { result ≡ Outcome.CommandLine → writer.new ≡ writer.old }
     ensures input { IfOk called
@@ -169,5 +179,5 @@ pub fn run_called<R: Read, F: Folder, W: Write>(
     let Ok(texts) = texts_of(alloc, words.as_slice()) else {
         return Outcome::MemoryFault;
     };
-    run_in_memory(alloc, texts.as_slice(), reader, folder, writer)
+    run_in_memory(alloc, texts.as_slice(), reader, around, writer)
 }

@@ -5,10 +5,13 @@ ghost use Rattle.std.specs.Prelude.{None, ⊤};
 use crate::folder::{Folder, Opened};
 use crate::outcome::{exit_of, notice_of};
 use crate::program::run_called;
+use crate::surroundings::Surroundings;
+use portal_server::SystemNetwork;
 use std::fs::{self, OpenFile};
 use std::io::{self, ErrorKind};
+use std::net::Net;
 use std::process::ExitCode;
-use std::rt::{Env, Files};
+use std::rt::{Clock, Env, Files};
 
 // The files of the system, of which nothing is known.
 #[derive(Drop)]
@@ -46,16 +49,23 @@ fn words(rt: &(impl Env + AllocGlobal)) -> Result<Vec<String>, ErrorKind> {
 }
 
 /// The whole program: runs what the words that it was called with ask for, over standard input, standard output and
-/// the system's files, tells standard error of a fault, and answers the exit status.
+/// the system's files and ports, tells standard error of a fault, and answers the exit status.
 ///
 /// It joins `run_called`, `notice_of` and `exit_of`, whose contracts say what a run does and how it ends. What the
-/// system's words, files and streams hold no contract can tell, so there is none here.
-pub fn run_on_system(rt: &(impl Env + Input + Files + Print + Eprint + AllocGlobal)) -> ExitCode {
+/// system's words, files, streams and clients hold no contract can tell, so there is none here.
+pub fn run_on_system(
+    rt: &(impl Env + Input + Files + Print + Eprint + Clock + Net + Drop + AllocGlobal),
+) -> ExitCode {
+    let around = Surroundings {
+        folder: &SystemFiles { rt },
+        clock: rt,
+        network: &SystemNetwork { rt },
+    };
     let outcome = run_called(
         rt.alloc(),
         words(rt),
         &mut rt.reader(),
-        &SystemFiles { rt },
+        around,
         &mut io::writer(rt),
     );
     if let Some(notice) = notice_of(outcome) {

@@ -1,6 +1,5 @@
 -- What a parse of the program's own command line says.
-use Rattle.std.specs.Prelude.{◌==◌}
-use Rattle.std.proofs.Common.{◌≡◌, ◌≢◌, ◌∙◌, inl, inr, ap, sym, refl, subst, Bool, false, true, ℕ, List, [], ◌∷◌, Option, Some, None, IfNone, option_map, option_and_then, codes}
+use Rattle.std.proofs.Common.{◌≡◌, ◌≢◌, ◌∙◌, inl, inr, ap, sym, refl, subst, false, true, ℕ, List, [], Option, Some, None, IfNone, option_map, option_and_then, codes}
 use Rattle.clap.specs.Words.{App, Row, Text, fault_of, first_of, found_of, is_simple, is_simple_and_free, kind_of, matches_of, rows_of, subcommand_name_of, subcommand_of, subcommand_rows_of}
 use Rattle.clap.specs.Kinds.{HasKind, Kinds}
 use Rattle.clap.specs.declared.error.Error.{Error}
@@ -13,7 +12,7 @@ use Rattle.clap.proofs.WalkLemmas.{first_value-rows}
 use Rattle.std.specs.Borrow.{Bor}
 use Rattle.std.specs.Str.{bytes_eq}
 use Rattle.trust_values.specs.Texts.{day_of, matter_of}
-use Rattle.command_line.specs.Program.{Gives, IsTask, LeavesNoPlan, MeetsTask, Means, MeansNothing, import_app, operand_app, operand_rule, report_apps, HasReportOperands, ImportIsNoSheet, ImportIsNoStream, IsReportCommand, MeansReport, ReportReadsNothing, program, report_name, sheet_app, stream_app, today_rule}
+use Rattle.command_line.specs.Program.{Gives, IsTask, LeavesNoPlan, MeetsTask, Means, MeansNothing, import_app, operand_app, operand_rule, report_apps, ImportIsNoSheet, ImportIsNoStream, IsReportCommand, ReportReadsNothing, ServeReadsNothing, program, report_name, run_apps, serve_app, sheet_app, stream_app, today_rule}
 use Rattle.command_line.specs.declared.command.CliFault.{CliFault}
 use Rattle.command_line.specs.declared.command.CliFault.TheVariants as faults
 use Rattle.command_line.specs.declared.report_command.ReportCommand.{ReportCommand}
@@ -22,11 +21,11 @@ use Rattle.command_line.specs.declared.command.Task.{Task}
 use Rattle.command_line.specs.declared.command.Task.TheVariants as tasks
 
 is_simple_program : is_simple program ≡ true
-unfolding clap_on_literals program sheet_app today_rule import_app operand_app operand_rule stream_app report_apps
+unfolding clap_on_literals program sheet_app today_rule import_app operand_app operand_rule stream_app serve_app run_apps report_apps
 is_simple_program = refl
 
 is_free_program : is_simple_and_free program ≡ true
-unfolding clap_on_literals program sheet_app today_rule import_app operand_app operand_rule stream_app report_apps
+unfolding clap_on_literals program sheet_app today_rule import_app operand_app operand_rule stream_app serve_app run_apps report_apps
 is_free_program = refl
 
 parses : (a : App) (words : List Text) → a ≡ program → (is_simple_and_free a ≡ true → fault_of a words ≡ []) → fault_of program words ≡ []
@@ -132,24 +131,22 @@ no_stream_report (reports.Ledger m) = differ _ _ refl refl
 no_import_stream : codes "import" ≡ codes "stream" → ⊥
 no_import_stream = differ _ _ refl refl
 
+no_import_serve : codes "import" ≡ codes "serve" → ⊥
+no_import_serve = differ _ _ refl refl
+
+no_sheet_serve : codes "sheet" ≡ codes "serve" → ⊥
+no_sheet_serve = differ _ _ refl refl
+
+no_stream_serve : codes "stream" ≡ codes "serve" → ⊥
+no_stream_serve = differ _ _ refl refl
+
 -- the command without a path is no task
 pub no_file : (f : Found) (name : Text) (task : Task) → name ≡ codes "import" → first_value f (codes "FILE") ≡ None → IsTask name (rows_of f) task → ⊥
 no_file f name tasks.Sheet n v is = let e = sym n ∙ is.named in cc
 no_file f name (tasks.Import path) n v is = let e = sym v ∙ first_value-rows f (codes "FILE") ∙ is.operands in cc
 no_file f name tasks.Stream n v is = no_import_stream (sym n ∙ is.named)
+no_file f name (tasks.Serve port count) n v is = no_import_serve (sym n ∙ is.named)
 no_file f name (tasks.Report r) n v is = no_import_report r (sym n ∙ is.named)
-
--- a command that is none of the first three, and of no report, is no task
-pub no_task : (name : Text) (values : List Row) (task : Task) → name ≢ codes "sheet" → name ≢ codes "import" → name ≢ codes "stream"
-    → ((r : ReportCommand) → ¬ IsReportCommand name values r) → IsTask name values task → ⊥
-no_task name values tasks.Sheet s i m none is = s is.named
-no_task name values (tasks.Import path) s i m none is = i is.named
-no_task name values tasks.Stream s i m none is = m is.named
-no_task name values (tasks.Report r) s i m none is = none r (record { named = is.named; operands = is.operands })
-
--- a report's command is its task
-pub prints : (name : Text) (values : List Row) (r : ReportCommand) → IsReportCommand name values r → IsTask name values (tasks.Report r)
-prints name values r is = record { named = is.named; operands = is.operands }
 
 -- a reconciliation without a day is no report
 pub no_day_report : (name : Text) (values : List Row) (r : ReportCommand) → name ≡ codes "reconcile" → option_and_then day_of (first_of (codes "DAY") values) ≡ None
@@ -202,4 +199,19 @@ pub report-reads-nothing : ReportReadsNothing
 report-reads-nothing words (today, r, a) = (
   λ (later, b). report_or_sheet (subcommand_of program words) r a.gives.meets b.gives.meets,
   λ (later, b). report_or_stream (subcommand_of program words) r a.gives.meets b.gives.meets,
+)
+
+-- nor are connections that are served
+serve_or_sheet : (m : Option (Text × List Row)) (port count : ℕ) → MeetsTask m (tasks.Serve port count) → MeetsTask m tasks.Sheet → ⊥
+serve_or_sheet None port count a b = a
+serve_or_sheet (Some command) port count a b = no_sheet_serve (sym b.named ∙ a.named)
+
+serve_or_stream : (m : Option (Text × List Row)) (port count : ℕ) → MeetsTask m (tasks.Serve port count) → MeetsTask m tasks.Stream → ⊥
+serve_or_stream None port count a b = a
+serve_or_stream (Some command) port count a b = no_stream_serve (sym b.named ∙ a.named)
+
+pub serve-reads-nothing : ServeReadsNothing
+serve-reads-nothing words (today, port, count, a) = (
+  λ (later, b). serve_or_sheet (subcommand_of program words) port count a.gives.meets b.gives.meets,
+  λ (later, b). serve_or_stream (subcommand_of program words) port count a.gives.meets b.gives.meets,
 )

@@ -1,10 +1,11 @@
 -- The program's command line, as a parser of words sees it, and the plan that words mean.
-use Rattle.std.specs.Prelude.{◌≡◌, ℕ, List, [], ◌∷◌, Option, Some, None, true, codes, map, option_and_then, ⊤}
+use Rattle.std.specs.Prelude.{◌≡◌, ℕ, List, [], ◌∷◌, Option, Some, None, IsSomeAnd, true, codes, map, option_and_then, ⊤}
 use Rattle.std.specs.Borrow.{Bor}
 use Rattle.clap.specs.Words.{App, Row, Rule, Text, fault_of, first_of, matches_of, new_app, new_rule, subcommand_of, with_rule, with_subcommand}
 use Rattle.clap.specs.Simple.{on_top}
 use Rattle.clap.specs.declared.builder.ArgAction.TheVariants as action
 use Rattle.trust_values.specs.Texts.{day_of, matter_of}
+use Rattle.command_line.specs.Numerals.{IsCount, IsPort}
 use Rattle.command_line.specs.declared.command.CliFault.{CliFault}
 use Rattle.command_line.specs.declared.command.CliFault.TheVariants as faults
 use Rattle.command_line.specs.declared.command.Task.{Task}
@@ -35,6 +36,14 @@ import_app = operand_app (codes "import") (codes "FILE")
 unfoldable pub stream_app : App
 stream_app = new_app (codes "stream")
 
+-- the command `serve PORT COUNT`
+unfoldable pub serve_app : App
+serve_app = with_rule (operand_app (codes "serve") (codes "PORT")) (operand_rule (codes "COUNT"))
+
+-- the commands that are no reports: `sheet`, `import FILE`, `stream`, `serve PORT COUNT`
+unfoldable pub run_apps : List App
+run_apps = sheet_app ∷ import_app ∷ stream_app ∷ serve_app ∷ []
+
 -- the commands of reports: `reconcile DAY`, `trial`, `journal`, `retention`, `ledger MATTER`
 unfoldable pub report_apps : List App
 report_apps =
@@ -50,10 +59,7 @@ with_commands app (command ∷ rest) = with_commands (with_subcommand app comman
 unfoldable pub program : App
 program =
     on_top (λ s. record s { subcommand_required = true })
-    (with_commands
-    (with_commands (with_rule (new_app (codes "cashier_cli")) today_rule)
-    (sheet_app ∷ import_app ∷ stream_app ∷ []))
-    report_apps)
+    (with_commands (with_commands (with_rule (new_app (codes "cashier_cli")) today_rule) run_apps) report_apps)
 
 -- the name of a report's command
 abbrev pub report_name : ReportCommand → Text
@@ -83,13 +89,28 @@ abbrev pub task_text : Task → Text
 task_text tasks.Sheet = codes "sheet"
 task_text (tasks.Import path) = codes "import"
 task_text tasks.Stream = codes "stream"
+task_text (tasks.Serve port count) = codes "serve"
 task_text (tasks.Report report) = report_name report
+
+-- the text that was given is this port's
+abbrev pub IsPortGiven : Option Text → ℕ → Type 0
+IsPortGiven given port = IsSomeAnd given (λ text. IsPort text port)
+
+-- the text that was given is this count's
+abbrev pub IsCountGiven : Option Text → ℕ → Type 0
+IsCountGiven given count = IsSomeAnd given (λ text. IsCount text count)
+
+-- the values of the command `serve` are a port and a count
+pub record IsServing (values : List Row) (port count : ℕ) : Type 0 where
+  pub port_given : IsPortGiven (first_of (codes "PORT") values) port
+  pub count_given : IsCountGiven (first_of (codes "COUNT") values) count
 
 -- the values of a command are the task's operands
 abbrev pub HasOperands : List Row → Task → Type 0
 HasOperands values tasks.Sheet = ⊤
 HasOperands values (tasks.Import path) = first_of (codes "FILE") values ≡ Some path.now
 HasOperands values tasks.Stream = ⊤
+HasOperands values (tasks.Serve port count) = IsServing values port count
 HasOperands values (tasks.Report report) = HasReportOperands values report
 
 -- a command of this name with these values is the task
@@ -129,6 +150,10 @@ MeansImport words = (today : ℕ) × (path : Bor (List ℕ)) × Means words toda
 abbrev pub MeansStream : List Text → Type 0
 MeansStream words = (today : ℕ) × Means words today tasks.Stream
 
+-- the words mean that so many connections of a port are served
+abbrev pub MeansServe : List Text → Type 0
+MeansServe words = (today : ℕ) × (port : ℕ) × (count : ℕ) × Means words today (tasks.Serve port count)
+
 -- the words mean that a report is printed
 abbrev pub MeansReport : List Text → Type 0
 MeansReport words = (today : ℕ) × (report : ReportCommand) × Means words today (tasks.Report report)
@@ -144,6 +169,10 @@ ImportIsNoStream = (words : List Text) → MeansImport words → ¬ MeansStream 
 -- the words of a report mean no sheet and no stream
 abbrev pub ReportReadsNothing : Type 0
 ReportReadsNothing = (words : List Text) → MeansReport words → (¬ MeansSheet words) × (¬ MeansStream words)
+
+-- the words of serving mean no sheet and no stream
+abbrev pub ServeReadsNothing : Type 0
+ServeReadsNothing = (words : List Text) → MeansServe words → (¬ MeansSheet words) × (¬ MeansStream words)
 
 -- the words mean no plan
 abbrev pub MeansNothing : List Text → Type 0

@@ -3,10 +3,10 @@
 ghost use Rattle.std.specs.Prelude.{◌≡◌, ◌≢◌, ℕ, IfErr, IfOk, IfSome, IfNone, false};
 ghost use Rattle.clap.specs.Words.{app_of, found_of, kind_of, rows_of, subcommand_rows_of};
 ghost use Rattle.clap.specs.declared.builder.command.Command.TheViews.{out-Command};
-ghost use Rattle.command_line.specs.Program.{Gives, IsTask, LeavesNoPlan, Means, operand_app, program, words_of};
+ghost use Rattle.command_line.specs.Program.{Gives, IsTask, LeavesNoPlan, Means, operand_app, program, run_apps, serve_app, with_commands, words_of};
 ghost use Rattle.command_line.specs.declared.command.Task.{Task};
 
-use crate::operands::day_operand;
+use crate::operands::{count_operand, day_operand, port_operand};
 use crate::report_command::{ReportCommand, report_command_of, with_reports};
 use clap::error::ErrorKind;
 use clap::{Arg, ArgAction, ArgMatches, Command, Error};
@@ -22,6 +22,13 @@ pub enum Task<'a> {
     Import(&'a str),
     /// Serve the messages of standard input.
     Stream,
+    /// Serve connections, one after the other.
+    Serve {
+        /// The port of 127.0.0.1, from 1,024 to 65,535.
+        port: u16,
+        /// How many connections, from 1 to 1,000,000.
+        count: u32,
+    },
     /// Print this report.
     Report(ReportCommand),
 }
@@ -38,7 +45,8 @@ pub struct Plan<'a> {
 /// Why words give no plan.
 #[derive(Clone, Copy, PartialEq, Eq, Debug)]
 pub enum CliFault {
-    /// The words are not of the command line's form.
+    /// The words are not of the command line's form, help among them, or a day, a matter's number, a port or a count
+    /// among them is none.
     Line,
     /// A growth was refused.
     Memory,
@@ -64,11 +72,19 @@ fn command<'a>(alloc: Global) -> Result<Command<'a>, CliFault>
         .required(true)
         .action(ArgAction::Set);
     let with_day = Command::new(alloc, "cashier_cli").arg(today)?;
-    let with_runs = with_day
+    Ok(with_reports(alloc, with_runs(alloc, with_day)?)?.subcommand_required(true))
+}
+
+// A command line with the commands that are no reports behind its own.
+fn with_runs<'a>(alloc: Global, command: Command<'a>) -> Result<Command<'a>, CliFault>
+    ensures ok { IfOk result (λ c. app_of c ≡ with_commands (app_of command.entry) run_apps) }
+    ensures err { IfErr result (λ fault. fault ≡ CliFault.Memory) }
+{
+    let with_input = command
         .subcommand(Command::new(alloc, "sheet"))?
         .subcommand(operand_command(alloc, "import", "FILE")?)?
         .subcommand(Command::new(alloc, "stream"))?;
-    Ok(with_reports(alloc, with_runs)?.subcommand_required(true))
+    Ok(with_input.subcommand(serve_command(alloc)?)?)
 }
 
 /// A command with one operand, which has to be given.
@@ -85,6 +101,18 @@ pub fn operand_command<'a>(
         .required(true)
         .action(ArgAction::Set);
     Ok(Command::new(alloc, name).arg(value)?)
+}
+
+// The command that serves connections: its port and their count.
+fn serve_command<'a>(alloc: Global) -> Result<Command<'a>, CliFault>
+    ensures ok { IfOk result (λ c. app_of c ≡ serve_app) }
+    ensures local { IfOk result (λ c. (out-Command c).has_globals ≡ false) }
+    ensures err { IfErr result (λ fault. fault ≡ CliFault.Memory) }
+{
+    let count = Arg::new(alloc, "COUNT")
+        .required(true)
+        .action(ArgAction::Set);
+    Ok(operand_command(alloc, "serve", "PORT")?.arg(count)?)
 }
 
 fn cli_fault(error: &Error) -> CliFault
@@ -106,6 +134,10 @@ fn task_of<'a>(name: &str, values: &ArgMatches<'a>) -> Option<Task<'a>>
         "sheet" => Some(Task::Sheet),
         "import" => Some(Task::Import(values.get_str("FILE")?)),
         "stream" => Some(Task::Stream),
+        "serve" => Some(Task::Serve {
+            port: port_operand(values, "PORT")?,
+            count: count_operand(values, "COUNT")?,
+        }),
         _ => Some(Task::Report(report_command_of(name, values)?)),
     }
 }
@@ -131,7 +163,7 @@ fn plan_of<'a>(matches: &ArgMatches<'a>) -> Option<Plan<'a>>
 }
 
 /// The plan that words mean, the program's name first among them. `Line` comes only where they mean none: the command
-/// line does not take them, asks for help included, or the word of `--today` is no business day.
+/// line does not take them, asks for help included, or the word of `--today` or an operand is not of its form.
 ///
 /// `Memory` comes where a growth was refused. That it comes nowhere else can't be said here: by clap's contract a parse
 /// may end by an error of want of memory at any words, and nothing tells whether memory was refused. `cli_fault` tells

@@ -1,6 +1,6 @@
 //! Laws over the definitions, each the contract of a function with nothing to do.
 
-ghost use Rattle.command_line.specs.Program.{ImportIsNoSheet, ImportIsNoStream, ReportReadsNothing};
+ghost use Rattle.command_line.specs.Program.{ImportIsNoSheet, ImportIsNoStream, ReportReadsNothing, ServeReadsNothing};
 
 /// Words that mean an import mean no sheet, so that an import leaves standard input as it was.
 pub fn import_is_no_sheet()
@@ -15,4 +15,10 @@ pub fn import_is_no_stream()
 /// Words that mean a report mean neither a sheet nor a stream, so that a report leaves standard input as it was.
 pub fn report_reads_nothing()
     ensures { ReportReadsNothing }
+{}
+
+/// Words that mean that connections are served mean neither a sheet nor a stream, so that serving leaves standard input
+/// as it was.
+pub fn serve_reads_nothing()
+    ensures { ServeReadsNothing }
 {}

@@ -3,8 +3,10 @@
 
 mod command;
 pub mod laws;
+mod numerals;
 mod operands;
 mod report_command;
 
 pub use command::{CliFault, Plan, Task, command_of};
+pub use numerals::{MAX_COUNT, MAX_PORT, MIN_PORT};
 pub use report_command::ReportCommand;

@@ -1,9 +1,11 @@
 // The values of the command line.
 
-ghost use Rattle.std.specs.Prelude.{◌≡◌, option_and_then};
+ghost use Rattle.std.specs.Prelude.{◌≡◌, ℕ, IfNone, IfSome, option_and_then};
 ghost use Rattle.clap.specs.Words.{first_of, found_of, rows_of};
 ghost use Rattle.trust_values.specs.Texts.{day_of, matter_of};
+ghost use Rattle.command_line.specs.Program.{IsCountGiven, IsPortGiven};
 
+use crate::numerals::{count_of, port_of};
 use clap::ArgMatches;
 use trust_base::{Day, MatterNo};
 
@@ -20,4 +22,22 @@ pub fn matter_operand(values: &ArgMatches, id: &str) -> Option<MatterNo>
     ensures { result ≡ option_and_then matter_of (first_of id.now (rows_of (found_of values.now))) }
 {
     MatterNo::read(values.get_str(id)?.as_bytes())
+}
+
+/// The port whose text is the first value of an argument; none where it has no value, or one that is no port's text.
+pub fn port_operand(values: &ArgMatches, id: &str) -> Option<u16>
+    ensures some { IfSome result (IsPortGiven (first_of id.now (rows_of (found_of values.now)))) }
+    ensures none { IfNone result
+        ((port : ℕ) → ¬ IsPortGiven (first_of id.now (rows_of (found_of values.now))) port) }
+{
+    port_of(values.get_str(id)?)
+}
+
+/// The count whose text is the first value of an argument; none where it has no value, or one that is no count's text.
+pub fn count_operand(values: &ArgMatches, id: &str) -> Option<u32>
+    ensures some { IfSome result (IsCountGiven (first_of id.now (rows_of (found_of values.now)))) }
+    ensures none { IfNone result
+        ((count : ℕ) → ¬ IsCountGiven (first_of id.now (rows_of (found_of values.now))) count) }
+{
+    count_of(values.get_str(id)?)
 }

@@ -1,6 +1,7 @@
 -- A stream that is served.
-use Rattle.std.proofs.Common.{◌≡◌, inl, inr, false, ◌<◌, ◌+◌, ℕ, List, [], ◌∷◌, ◌++◌, Option, Some, None, length, map, refl, sym, ap, ◌∙◌, subst, arith, length-append, append_assoc, IfSome}
-use Rattle.std.proofs.lemmas.List.{append-nil}
+use Rattle.std.proofs.Common.{◌≡◌, ◌⊎◌, inl, inr, true, false, ◌<◌, ◌+◌, ℕ, List, [], ◌∷◌, ◌++◌, Option, Some, None, length, map, refl, sym, ap, ◌∙◌, subst, arith, length-append, append_assoc, IfSome}
+use Rattle.std.proofs.lemmas.List.{append-nil, map-append}
+use Rattle.std.proofs.lemmas.Grind.{flat_map-append}
 use Rattle.std.specs.Io.KnownBytes.{Appends, Keeps}
 use Rattle.std.proofs.KnownBytes.{Appends-nil, Appends-trans}
 use Rattle.trust_base.specs.declared.refusal.Refusal.{Refusal}
@@ -24,7 +25,7 @@ use Rattle.trust_desk.proofs.Own.{each-own}
 use Rattle.trust_desk.proofs.Runs.{RunsSoundly-push, counted-push, sound-runs-are-runs}
 use Rattle.portal_messages.specs.declared.message.Message.{Message}
 use Rattle.portal_messages.specs.declared.input.Next.TheVariants as nexts
-use Rattle.portal_messages.specs.Messages.{AreMessages, BeginsWithAll, MESSAGE_LIMIT}
+use Rattle.portal_messages.specs.Messages.{AreMessages, BeginsWithAll, MESSAGE_LIMIT, is_framing}
 use Rattle.portal_messages.specs.Messages as messages
 use Rattle.portal_messages.specs.Inputs.{Began, IsNext}
 use Rattle.portal_messages.proofs.Readings.{begins-push}
@@ -81,12 +82,7 @@ memory-behind (Some xs) (Some ys) ms x = inr (refl, (ys, x))
 -- What was written.
 
 flat-push : (rs : List Reply) (r : Reply) → replies_bytes (rs ++ r ∷ []) ≡ replies_bytes rs ++ reply_bytes r
-flat-push [] r = append-nil (reply_bytes r)
-flat-push (s ∷ rs) r = ap (λ (t : List ℕ). reply_bytes s ++ t) (flat-push rs r) ∙ sym (append_assoc (reply_bytes s) (replies_bytes rs) (reply_bytes r))
-
-map-push : (ms : List Message) (m : Message) → map heard_of (ms ++ m ∷ []) ≡ map heard_of ms ++ heard_of m ∷ []
-map-push [] m = refl
-map-push (n ∷ ms) m = ap (λ hs. heard_of n ∷ hs) (map-push ms m)
+flat-push rs r = flat_map-append reply_bytes rs (r ∷ []) ∙ ap (λ (t : List ℕ). replies_bytes rs ++ t) (append-nil (reply_bytes r))
 
 -- The replies before a fault.
 
@@ -143,7 +139,7 @@ module _ {B : Type 0} (clean sure stands : B → Type 0) (leaves : B → Firm �
     run-more clean stands =
         let was = kept.was_clean clean in
         let now = s.kept.still_stands was stands in
-        subst (λ (hs : List Heard). RunsSoundly day (firm old) hs replies-more (firm next)) (sym (map-push s.messages m))
+        subst (λ (hs : List Heard). RunsSoundly day (firm old) hs replies-more (firm next)) (sym (map-append heard_of s.messages (m ∷ [])))
         (RunsSoundly-push day (firm old) (firm mid) (firm next) (map heard_of s.messages) (heard_of m) s.replies reply (s.run was stands) (step clean now) (sound next (kept.still_stands clean now)))
 
     own-more : clean next → stands old → (k : ℕ) → IsUnstopped k (map heard_of messages-more) replies-more → IsOwn k day (firm old) (map heard_of messages-more) replies-more (firm next)
@@ -170,7 +166,7 @@ module _ {B : Type 0} (clean sure stands : B → Type 0) (leaves : B → Firm �
         let hs = map heard_of s.messages in
         let last = λ (fine : AreNoFaults replies-more). none-last s.replies reply fine in
         let made = leave-as last (λ found is. is) (λ fine. plain-step day (firm mid) (firm next) h reply (last fine) (step (one.serves was (last fine)) stood)) one in
-        subst (λ (l : List Heard). MayLeave clean leaves (AreNoFaults replies-more) (IsMadeInRun day (firm old) l) (firm old) (firm next) old next) (sym (map-push s.messages m))
+        subst (λ (l : List Heard). MayLeave clean leaves (AreNoFaults replies-more) (IsMadeInRun day (firm old) l) (firm old) (firm next) old next) (sym (map-append heard_of s.messages (m ∷ [])))
         (leave-then (λ found is. made-before day (firm old) found hs h is) (λ found is. made-last day (firm old) (firm mid) found hs h s.replies (s.run was standing) plain is) plain so_far made)
 
     shut-more : sure next → clean old → stands old → IsFrontRun day (firm old) messages-more (before_fault replies-more)
@@ -250,15 +246,15 @@ module _ {B : Type 0} (clean sure stands : B → Type 0) (leaves : B → Firm �
     pub served-read_fault : WasServed ends.ReadFault after new
     served-read_fault = record { messages = s.messages; replies = s.replies; tail = None; read = began-some stream unread s.messages s.read; paired = s.paired; behind = refl; written = no-tail; run = s.run; own = own; covered = covered; kept = s.kept; crash = s.crash; shut = s.shut; serves = serves }
 
-    pub served-framing : (left later : Option (List ℕ)) (r : Refusal) (reply : Reply) → n < MESSAGE_LIMIT → IsNext unread left (nexts.Framing r) → reply ≡ refused r → Appends after later (reply_bytes reply)
+    pub served-framing : (left later : Option (List ℕ)) (r : Refusal) (reply : Reply) → n < MESSAGE_LIMIT → IsNext unread left (nexts.Framing r) → is_framing r ≡ true → reply ≡ refused r → Appends after later (reply_bytes reply)
         → WasServed ends.BadFraming later new
-    served-framing left later r reply lt y is wrote = record {
+    served-framing left later r reply lt y framed is wrote = record {
       messages = s.messages;
       replies = s.replies;
       tail = Some r;
       read = read-fault stream unread left s.messages r (below lt) s.read y;
       paired = s.paired;
-      behind = (r, refl);
+      behind = (r, framed, refl);
       written = with-tail later r reply is wrote;
       run = s.run;
       own = own;
@@ -288,14 +284,14 @@ module _ {B : Type 0} (clean sure stands : B → Type 0) (leaves : B → Firm �
     }
 
     -- a write failed in the refusal behind the replies
-    tail-fault : (later : Option (List ℕ)) (r : Refusal) (reply : Reply) → IfSome stream (λ bytes. AreBehind bytes s.messages (Some r)) → reply ≡ refused r → WroteFront after later (reply_bytes reply) → WasServed ends.WriteFault later new
-    tail-fault later r reply why is wrote = record {
+    tail-fault : (later : Option (List ℕ)) (r : Refusal) (reply : Reply) → IfSome stream (λ bytes. AreBehind bytes s.messages (Some r)) → (is_framing r ≡ true) ⊎ (r ≡ Memory) → reply ≡ refused r → WroteFront after later (reply_bytes reply) → WasServed ends.WriteFault later new
+    tail-fault later r reply why one is wrote = record {
       messages = s.messages;
       replies = s.replies;
       tail = Some r;
       read = why;
       paired = s.paired;
-      behind = tt;
+      behind = one;
       written = cut-behind before after later (replies_bytes s.replies) (reply_bytes (refused r)) s.written (subst (λ (x : Reply). WroteFront after later (reply_bytes x)) is wrote);
       run = s.run;
       own = own;
@@ -306,8 +302,8 @@ module _ {B : Type 0} (clean sure stands : B → Type 0) (leaves : B → Firm �
       serves = serves;
     }
 
-    pub served-framing_fault : (left later : Option (List ℕ)) (r : Refusal) (reply : Reply) → n < MESSAGE_LIMIT → IsNext unread left (nexts.Framing r) → reply ≡ refused r → WroteFront after later (reply_bytes reply) → WasServed ends.WriteFault later new
-    served-framing_fault left later r reply lt y is wrote = tail-fault later r reply (fault-behind stream unread left s.messages r (below lt) s.read y) is wrote
+    pub served-framing_fault : (left later : Option (List ℕ)) (r : Refusal) (reply : Reply) → n < MESSAGE_LIMIT → IsNext unread left (nexts.Framing r) → is_framing r ≡ true → reply ≡ refused r → WroteFront after later (reply_bytes reply) → WasServed ends.WriteFault later new
+    served-framing_fault left later r reply lt y framed is wrote = tail-fault later r reply (fault-behind stream unread left s.messages r (below lt) s.read y) (inl framed) is wrote
 
     pub served-memory_fault : (later : Option (List ℕ)) (reply : Reply) → reply ≡ refused Memory → WroteFront after later (reply_bytes reply) → WasServed ends.WriteFault later new
-    served-memory_fault later reply is wrote = tail-fault later Memory reply (memory-behind stream unread s.messages s.read) is wrote
+    served-memory_fault later reply is wrote = tail-fault later Memory reply (memory-behind stream unread s.messages s.read) (inr refl) is wrote

@@ -1,5 +1,5 @@
 -- What is served of a stream.
-use Rattle.std.specs.Prelude.{◌≡◌, ◌⊎◌, ◌≤◌, ◌<◌, ◌+◌, ℕ, List, [], ◌∷◌, ◌++◌, Option, Some, None, length, map, take, IfSome, ⊤}
+use Rattle.std.specs.Prelude.{◌≡◌, ◌⊎◌, ◌≤◌, ◌<◌, ◌+◌, ℕ, true, List, [], ◌∷◌, ◌++◌, Option, Some, None, length, map, take, IfSome}
 use Rattle.std.specs.Io.KnownBytes.{Appends}
 use Rattle.trust_base.specs.declared.refusal.Refusal.{Refusal}
 use Rattle.trust_base.specs.declared.refusal.Refusal.TheVariants.{Memory}
@@ -14,7 +14,7 @@ use Rattle.trust_desk.specs.NeverBelowZero.{CoveredRun}
 use Rattle.trust_desk.specs.Replies.{refused}
 use Rattle.portal_messages.specs.declared.message.Message.{Message}
 use Rattle.portal_messages.specs.Inputs.{Began}
-use Rattle.portal_messages.specs.Messages.{AreMessages, BeginsWithAll}
+use Rattle.portal_messages.specs.Messages.{AreMessages, BeginsWithAll, is_framing}
 use Rattle.portal_messages.specs.Messages as messages
 use Rattle.portal_requests.specs.Requests.{heard_of}
 use Rattle.portal_http.specs.Answers.{replies_bytes, reply_bytes}
@@ -36,13 +36,13 @@ last_text [] None = []
 last_text (reply ∷ []) None = reply_bytes reply
 last_text (reply ∷ next ∷ replies) None = last_text (next ∷ replies) None
 
--- the refusal that is answered behind the replies, by the end
+-- the refusal that is answered behind the replies, by the end: of what is no message, or want of memory
 abbrev pub IsTail : StreamEnd → Option Refusal → Type 0
 IsTail ends.Ended tail = tail ≡ None
-IsTail ends.BadFraming tail = (r : Refusal) × (tail ≡ Some r)
+IsTail ends.BadFraming tail = (r : Refusal) × (is_framing r ≡ true) × (tail ≡ Some r)
 IsTail ends.Limit tail = tail ≡ None
 IsTail ends.ReadFault tail = tail ≡ None
-IsTail ends.WriteFault tail = ⊤
+IsTail ends.WriteFault tail = IfSome tail (λ r. (is_framing r ≡ true) ⊎ (r ≡ Memory))
 IsTail ends.NoMemory tail = tail ≡ Some Memory
 
 -- the bytes begin with these messages

@@ -1,7 +1,7 @@
 -- What contracts see of a stream that is being read, and what comes next in it.
 use Rattle.std.specs.Prelude.{◌≡◌, ℕ, true, ⊤, List, Option, Some, None, Result, Ok, Err, option_map}
 use Rattle.portal_messages.specs.Heads.{is_ended}
-use Rattle.portal_messages.specs.Messages.{BeginsWithAll, IsFault, IsMessage}
+use Rattle.portal_messages.specs.Messages.{BeginsWithAll, IsFault, IsMessage, is_framing}
 use Rattle.portal_messages.specs.declared.message.Message.{Message}
 use Rattle.portal_messages.specs.declared.input.Next.{Next}
 use Rattle.portal_messages.specs.declared.input.Next.TheVariants as nexts
@@ -25,6 +25,12 @@ IsNext (Some bytes) None (nexts.Message m) = ⊥
 IsNext (Some bytes) (Some rest) (nexts.Message m) = IsMessage bytes m rest
 IsNext (Some bytes) new nexts.Ended = is_ended bytes ≡ true
 IsNext (Some bytes) new (nexts.Framing r) = IsFault bytes r
+
+-- what is refused as no message is refused as such, also where the reader tells no bytes
+abbrev pub IsFramed : Next → Type 0
+IsFramed (nexts.Message m) = ⊤
+IsFramed nexts.Ended = ⊤
+IsFramed (nexts.Framing r) = is_framing r ≡ true
 
 -- the answer, if it comes again from then on: any but a message
 abbrev pub stays : Result Next Stop → Option (Result Next Stop)

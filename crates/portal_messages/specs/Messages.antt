@@ -1,7 +1,7 @@
 -- The messages that a stream of bytes has.
-use Rattle.std.specs.Prelude.{◌≡◌, ◌≤◌, ◌<◌, ◌⊎◌, ℕ, true, false, List, [], ◌∷◌, length, drop, take, codes, Ok, Err}
+use Rattle.std.specs.Prelude.{◌≡◌, ◌≤◌, ◌<◌, ◌⊎◌, ℕ, Bool, true, false, List, [], ◌∷◌, length, drop, take, codes, Ok, Err}
 use Rattle.trust_base.specs.declared.refusal.Refusal.{Refusal}
-use Rattle.trust_base.specs.declared.refusal.Refusal.TheVariants.{BadMessage}
+use Rattle.trust_base.specs.declared.refusal.Refusal.TheVariants.{BadMessage, LengthRequired, TooLarge}
 use Rattle.httparse.specs.Grammar.{RequestHead}
 use Rattle.portal_messages.specs.declared.message.Message.{Message}
 use Rattle.portal_messages.specs.Heads.{BeginsWith, HasNoHead, is_ended}
@@ -27,6 +27,13 @@ pub record IsMessage (bytes : List ℕ) (m : Message) (rest : List ℕ) : Type 0
   pub whole : size ≤ length after
   pub message : m ≡ message_of head (take size after)
   pub follows : rest ≡ drop size after
+
+-- the refusals of what is no message: of its form, of a body whose length is not told, of a body that is too large
+abbrev pub is_framing : Refusal → Bool
+is_framing BadMessage = true
+is_framing LengthRequired = true
+is_framing TooLarge = true
+is_framing _ = false
 
 -- a head stands at the front, and its fields refuse the body
 pub record RefusesBody (bytes : List ℕ) (r : Refusal) : Type 0 where

@@ -1,10 +1,11 @@
 // The fields of a head, and what they say of the body.
 
-ghost use Rattle.std.specs.Prelude.{◌≡◌, ◌≤◌, [], map, length, take, codes, All, IfOk, MatchOption};
+ghost use Rattle.std.specs.Prelude.{◌≡◌, ◌≤◌, [], map, length, take, codes, true, All, IfOk, IfErr, MatchOption};
 ghost use Rattle.std.specs.Str.{bytes_eq, str_eq_ignore_ascii_case};
 ghost use Rattle.httparse.specs.Spans.{IsHeaderWithin, IsRequestWithin, header_bytes, span_bytes};
 ghost use Rattle.portal_messages.specs.Fields.{body_limit, body_size, is_statement, path_of, size_of, size_of_text, values_of};
 ghost use Rattle.portal_messages.specs.FieldPlaces.{IsFirstOf, pairs_from};
+ghost use Rattle.portal_messages.specs.Messages.{is_framing};
 
 use crate::text::{Texts, copied};
 use httparse::spans::{HeaderSpan, RequestSpans, Span};
@@ -115,6 +116,7 @@ pub(crate) fn size_of_body(
     ensures value { result ≡ body_size (span_bytes bytes.now head.now.method) (span_bytes bytes.now head.now.path)
         (map (header_bytes bytes.now) (take head.now.headers spans.now)) }
     ensures bound { IfOk result (λ n. n ≤ 4194304) }
+    ensures framing { IfErr result (λ why. is_framing why ≡ true) }
 {
     let fields = &spans[..head.headers];
     let Some(size) = read_length(bytes, fields) else {

@@ -2,7 +2,7 @@
 
 ghost use Rattle.std.specs.Prelude.{◌≡◌, IfOk, None, Some, Result};
 ghost use Rattle.std.specs.Io.KnownBytes.{Keeps};
-ghost use Rattle.portal_messages.specs.Inputs.{IsNext, stays};
+ghost use Rattle.portal_messages.specs.Inputs.{IsFramed, IsNext, stays};
 
 use crate::message::Message;
 use crate::source::Source;
@@ -117,9 +117,11 @@ impl Last {
 /// same answer comes from then on, and nothing is read.
 ///
 /// `Reader` comes where a read failed, and `Memory` where a growth was refused; the bytes then read count for nothing.
-/// A body of up to 65,536 bytes, or 4,194,304 for `POST /firm/statements`, is held twice while the call runs.
+/// A body has up to 65,536 bytes, or 4,194,304 for `POST /firm/statements`. It is held once: the message keeps the
+/// memory that its bytes were read into, whose room is taken as soon as the head tells their number.
 pub fn read_message<R: Read>(input: &mut Input<R>) -> Result<Next, Stop>
     ensures next { input.old.last ≡ None → IfOk result (IsNext input.old.unread input.new.unread) }
+    ensures framing { input.old.last ≡ None → IfOk result IsFramed }
     ensures again { (answer : Result Next Stop) → input.old.last ≡ Some answer
         → (result ≡ answer) × (input.new ≡ input.old) }
     ensures last { input.new.last ≡ stays result }

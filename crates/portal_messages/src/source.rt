@@ -1,8 +1,8 @@
 // A reader with the bytes that it gave and that no message has used.
 
-ghost use Rattle.std.specs.Prelude.{◌≡◌, ◌≤◌, ◌<◌, OnOk, IfOk, true, length, drop, MatchBool};
+ghost use Rattle.std.specs.Prelude.{◌≡◌, ◌≤◌, ◌<◌, OnOk, IfOk, true, length, drop, slice_range, MatchBool};
 ghost use Rattle.std.specs.Io.KnownBytes.{IsAtEnd, Keeps};
-ghost use Rattle.portal_messages.specs.Inputs.{IsNext};
+ghost use Rattle.portal_messages.specs.Inputs.{IsFramed, IsNext};
 ghost use Rattle.portal_messages.specs.Sources.{unread};
 
 use crate::fields::{copied_callers, size_of_body};
@@ -11,9 +11,13 @@ use crate::input::{Next, Stop};
 use crate::message::Message;
 use crate::text::copied;
 use httparse::spans::{EMPTY_HEADER_SPAN, HeaderSpan, RequestSpans};
-use std::alloc::Global;
+use std::alloc::{AllocError, Global};
 use std::io::Read;
-use trust_base::Refusal;
+use std::mem;
+use trust_base::{OwnedBytes, Refusal};
+
+// The most bytes of one read.
+const MAX_PART_BYTES: usize = 1_024;
 
 // The head that comes next, with the places of its parts, or none.
 #[derive(Clone, Copy, PartialEq, Eq, Debug)]
@@ -42,6 +46,30 @@ fn drop_front(buffer: &mut Vec<u8>, n: usize)
     buffer.truncate(left);
 }
 
+// Gives room for so many bytes and for what the last read may bring behind them, so that reading them moves nothing.
+fn make_room(buffer: &mut Vec<u8>, size: usize) -> Result<(), AllocError>
+    requires { size ≤ 100000000 }
+    ensures { buffer.new.items ≡ buffer.old.items }
+{
+    buffer.reserve_exact((size + MAX_PART_BYTES).saturating_sub(buffer.len()))
+}
+
+// Takes the bytes before an end away, and gives those of them from a place on. They stay in their own memory: what is
+// copied is the bytes behind the end. The error is want of memory.
+fn take_body(buffer: &mut Vec<u8>, from: usize, end: usize) -> Result<Vec<u8>, AllocError>
+    requires ordered { from ≤ end }
+    requires within { end ≤ length buffer.old.items }
+    ensures body { IfOk result (λ body. body.items ≡ slice_range buffer.old.items from end) }
+    ensures rest { OnOk result (buffer.new.items ≡ drop end buffer.old.items) }
+{
+    let alloc = *buffer.allocator();
+    let rest = Vec::from_slice(alloc, buffer.as_slice().split_at(end).1)?;
+    let mut body = mem::replace(buffer, rest);
+    body.truncate(end);
+    drop_front(&mut body, from);
+    Ok(body)
+}
+
 impl<R: Read> Source<R> {
     ghost use Rattle.portal_messages.specs.Sources.{Grew, HeadStands, IsHeadNext};
 
@@ -63,7 +91,7 @@ impl<R: Read> Source<R> {
         ensures more { OnOk result (Grew self.old self.new) }
         ensures ended { OnOk result (self.new.ended ≡ true → IsAtEnd (R.remaining self.new.reader)) }
     {
-        let mut part = [0u8; 1024];
+        let mut part = [0u8; MAX_PART_BYTES];
         match self.reader.read(&mut part) {
             Ok(0) => {
                 self.ended = true;
@@ -102,13 +130,14 @@ impl<R: Read> Source<R> {
         unreachable!()
     }
 
-    // Reads until so many bytes are there, or the end.
+    // Reads until so many bytes are there, or the end. They are held in one block, whose room is taken at once.
     fn fill_to(&mut self, size: usize) -> Result<bool, Stop>
         requires { size ≤ 100000000 }
         ensures unread { OnOk result (Keeps (unread R.remaining self.old) (unread R.remaining self.new)) }
         ensures full { IfOk result (λ full. MatchBool full (size ≤ length self.new.buffer.items)
             ((length self.new.buffer.items < size) × IsAtEnd (R.remaining self.new.reader))) }
     {
+        make_room(&mut self.buffer, size)?;
         for _ in 0..size + 1 {
             if self.buffer.len() >= size {
                 return Ok(true);
@@ -128,7 +157,8 @@ impl<R: Read> Source<R> {
         head: RequestSpans,
     ) -> Result<Next, Stop>
         requires { HeadStands self.old spans.now head }
-        ensures { IfOk result (IsNext (unread R.remaining self.old) (unread R.remaining self.new)) }
+        ensures next { IfOk result (IsNext (unread R.remaining self.old) (unread R.remaining self.new)) }
+        ensures framing { IfOk result IsFramed }
     {
         let alloc = *self.buffer.allocator();
         let first = first_bytes(self.buffer.as_slice());
@@ -139,11 +169,11 @@ impl<R: Read> Source<R> {
         let method = copied(alloc, head.method.of(first))?;
         let target = copied(alloc, head.path.of(first))?;
         let callers = copied_callers(alloc, first, spans, &head)?;
-        if !self.fill_to(head.len + size)? {
+        let end = head.len + size;
+        if !self.fill_to(end)? {
             return Ok(Next::Framing(Refusal::BadMessage));
         }
-        let body = copied(alloc, &self.buffer[head.len..head.len + size])?;
-        drop_front(&mut self.buffer, head.len + size);
+        let body = OwnedBytes::new(take_body(&mut self.buffer, head.len, end)?);
         Ok(Next::Message(Message {
             method,
             target,
@@ -154,7 +184,8 @@ impl<R: Read> Source<R> {
 
     /// What comes next, read as far as a byte is needed that has not come.
     pub(crate) fn read_next(&mut self) -> Result<Next, Stop>
-        ensures { IfOk result (IsNext (unread R.remaining self.old) (unread R.remaining self.new)) }
+        ensures next { IfOk result (IsNext (unread R.remaining self.old) (unread R.remaining self.new)) }
+        ensures framing { IfOk result IsFramed }
     {
         let mut spans = [EMPTY_HEADER_SPAN; MAX_FIELDS];
         match self.next_head(&mut spans)? {

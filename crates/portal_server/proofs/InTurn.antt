@@ -7,6 +7,7 @@ use Rattle.std.proofs.Math.Seq.{take-append-add}
 use Rattle.std.proofs.lemmas.List.Concat.{flat_map-append}
 use Rattle.std.proofs.lemmas.List.{append-nil}
 use Rattle.firm_rows.specs.Firm.{Firm}
+use Rattle.trust_desk.proofs.Calls.{kept-still, kept-then}
 use Rattle.portal_http.specs.declared.stream.StreamEnd.{StreamEnd}
 use Rattle.portal_server.specs.EndLines.{IsFrontWritten, end_line, end_lines}
 use Rattle.portal_server.specs.ServedAll.{AreServedInTurn, IsClientServed, KeepsStanding, ServedAll}
@@ -35,22 +36,8 @@ module _ {B : Type 0} (clean sure stands : B → Type 0) (leaves : B → Firm �
       → IsClientServed clean sure stands leaves firm refusals day known old end new → KeepsStanding clean sure stands old new
   client-keeps day known old end new (inl stream) =
       let kept = stream.served.kept in
-      record { was_clean = kept.was_clean; was_sure = kept.was_sure; still_stands = kept.still_stands }
-  client-keeps day known old end new (inr gone) = record {
-    was_clean = subst clean gone.same;
-    was_sure = subst sure gone.same;
-    still_stands = λ clean. subst stands (sym gone.same);
-  }
-
-pub keeps-still : {B : Type 0} {clean sure stands : B → Type 0} (b : B) → KeepsStanding clean sure stands b b
-keeps-still b = record { was_clean = λ c. c; was_sure = λ s. s; still_stands = λ c s. s }
-
-pub keeps-then : {B : Type 0} {clean sure stands : B → Type 0} {old mid new : B} → KeepsStanding clean sure stands old mid → KeepsStanding clean sure stands mid new → KeepsStanding clean sure stands old new
-keeps-then first next = record {
-  was_clean = λ c. first.was_clean (next.was_clean c);
-  was_sure = λ s. first.was_sure (next.was_sure s);
-  still_stands = λ c s. next.still_stands c (first.still_stands (next.was_clean c) s);
-}
+      record { was_clean = kept.was_clean; was_sure = kept.was_sure; still_stands = kept.still_stands; cause = λ sure stands. refl }
+  client-keeps day known old end new (inr gone) = subst (KeepsStanding clean sure stands old) (sym gone.same) (kept-still old)
 
 -- so many clients were served, and each one's end was told; what is known of those to come
 pub record ServingAll {B : Type 0} (clean sure stands : B → Type 0) (leaves : B → Firm → Type 0) (firm : B → Firm) (refusals : B → ℕ) (day : ℕ)
@@ -73,7 +60,7 @@ module _ {B : Type 0} (clean sure stands : B → Type 0) (leaves : B → Firm �
     served = refl;
     told = Appends-nil before;
     behind = λ k. ap sent (omega arith);
-    kept = keeps-still old;
+    kept = kept-still old;
   }
 
   module _ (n : ℕ) (coming : ℕ → Option (List ℕ)) (mid : Option (List ℕ)) (book : B)
@@ -99,7 +86,7 @@ module _ {B : Type 0} (clean sure stands : B → Type 0) (leaves : B → Firm �
       served = in-turn-more;
       told = subst (Appends before after) (sym (lines-push h.ends end)) (Appends-trans before mid after _ _ h.told told);
       behind = λ k. next k ∙ (h.behind (k + 1) ∙ ap sent (omega arith));
-      kept = keeps-then h.kept (client-keeps clean sure stands leaves firm refusals day _ _ _ _ client);
+      kept = kept-then h.kept (client-keeps clean sure stands leaves firm refusals day _ _ _ _ client);
     }
 
     -- a client more was served, and its end could not be told

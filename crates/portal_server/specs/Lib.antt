@@ -1,3 +1,2 @@
 pub mod EndLines
 pub mod ServedAll
-pub mod Operands

@@ -2,6 +2,7 @@
 use Rattle.std.specs.Prelude.{◌≡◌, ◌⊎◌, ℕ, suc, List, [], ◌∷◌, Option}
 use Rattle.std.specs.Io.KnownBytes.{Keeps}
 use Rattle.firm_rows.specs.Firm.{Firm}
+use Rattle.trust_desk.specs.Calls.{KeepsBook}
 use Rattle.portal_http.specs.Served.{Served}
 use Rattle.portal_http.specs.declared.stream.StreamEnd.{StreamEnd}
 use Rattle.portal_http.specs.declared.stream.StreamEnd.TheVariants as stream
@@ -44,8 +45,6 @@ module _ {B : Type 0} (clean sure stands : B → Type 0) (leaves : B → Firm �
     pub told : IsTold end count ends before after
 
 -- what a book's store is sure of now it was sure of before, and where it serves now it served before; where it stood
--- for a sound firm it still does
-pub record KeepsStanding {B : Type 0} (clean sure stands : B → Type 0) (old new : B) : Type 0 where
-  pub was_clean : clean new → clean old
-  pub was_sure : sure new → sure old
-  pub still_stands : clean new → stands old → stands new
+-- for a sound firm it still does; its faults, of which no answer stands here, are not counted
+abbrev pub KeepsStanding : {B : Type 0} → (B → Type 0) → (B → Type 0) → (B → Type 0) → B → B → Type 0
+KeepsStanding clean sure stands old new = KeepsBook clean sure stands (λ _. 0) (λ n. n) old new

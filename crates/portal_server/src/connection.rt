@@ -76,8 +76,10 @@ fn serve_paced<C: Clock + Drop, R: Read + OpenStream + Drop, W: Write + OpenStre
     Answered { end, writer: half }
 }
 
-/// Serves the stream of one connection, and closes it. The client may be silent for 10 seconds between messages, and
-/// the bytes of a message have 60, as those of an answer have; else the stream ends by `ReadFault` or `WriteFault`.
+/// Serves the stream of one connection, and closes it. The client may be silent for 10 seconds between messages. The
+/// bytes of a message have 60 seconds from the first; the head of an answer has 60 to be taken, and its body 60 more. A
+/// client that takes longer ends the stream by `ReadFault` or `WriteFault`, and so does a clock that can't be read. The
+/// time in which the desk works counts for nothing. So a connection ends at last, since a stream has 1,000 messages.
 /// Where an answer ended the stream, the client still gets it: up to 4,194,304 bytes or one second of what it still
 /// sends are read and dropped before the close.
 pub fn serve_connection<

@@ -1,10 +1,10 @@
-//! Connections that are served one after the other, at a pace that no client can hold.
+//! Connections that are served one after the other. Where a client is silent for too long, or takes too long to send
+//! a message or to take an answer, its connection is closed, and the next client is served.
 #![tactic(auto)]
 
 mod connection;
 mod end_line;
 mod listener;
-mod operands;
 mod pace;
 mod paced;
 mod server;
@@ -12,6 +12,5 @@ mod system;
 
 pub use connection::{Answered, serve_connection};
 pub use listener::{AcceptFault, ClientListener, Connection, Network};
-pub use operands::{count_of, port_of};
 pub use server::{ServeEnd, serve_connections};
 pub use system::{SystemListener, SystemNetwork};

@@ -18,9 +18,10 @@ pub struct Connection<R: Drop, W: Drop> {
 /// Why no connection came of an accept.
 #[derive(Clone, Copy, PartialEq, Eq, Debug)]
 pub enum AcceptFault {
-    /// The client ended the connection before it was accepted.
+    /// The connection of one client could not be had: the client ended it before, or its halves could not be made.
+    /// Other clients may still be accepted.
     Aborted,
-    /// The network refused the accept.
+    /// The network refused the accept, and no client is accepted any more.
     Network,
 }
 

@@ -28,7 +28,8 @@ impl<C: Clock, R: Read + OpenStream> Read for PacedReader<'_, '_, C, R> {
     }
 }
 
-/// A half of a connection that is written, each time within what is left of the answers' time.
+/// A half of a connection that is written, each time within what is left of the time of the text that goes. What a
+/// write leaves of a text has to be offered to the next.
 #[derive(Drop)]
 pub struct PacedWriter<'p, C, W> {
     /// The pace of the connection.
@@ -43,7 +44,11 @@ impl<C: Clock, W: Write + OpenStream> Write for PacedWriter<'_, C, W> {
     fn write(&mut self, buf: &[u8]) -> io::Result<usize> {
         let left = self.pace.time_to_write()?;
         self.half.set_write_timeout(Some(left))?;
-        self.half.write(buf)
+        let taken = self.half.write(buf)?;
+        if taken == buf.len() {
+            self.pace.has_written();
+        }
+        Ok(taken)
     }
 
     fn flush(&mut self) -> io::Result<()> {

@@ -44,10 +44,15 @@ where
 
     fn accept(&mut self) -> Result<Connection<L::Stream, L::Stream>, AcceptFault> {
         match self.listener.accept() {
-            Ok((reader, _)) => match reader.try_clone() {
-                Ok(writer) => Ok(Connection { reader, writer }),
-                Err(_) => Err(AcceptFault::Network),
-            },
+            Ok((reader, _)) => {
+                // An answer is two writes, of which the second would wait for the client to acknowledge the first.
+                let _ = reader.set_nodelay(true);
+                match reader.try_clone() {
+                    Ok(writer) => Ok(Connection { reader, writer }),
+                    // The connection is closed here, and the port still listens.
+                    Err(_) => Err(AcceptFault::Aborted),
+                }
+            }
             Err(error) => match error.kind() {
                 ErrorKind::ConnectionAborted => Err(AcceptFault::Aborted),
                 _ => Err(AcceptFault::Network),

@@ -1,7 +1,8 @@
 -- The columns of what a row stands for. A rowid stands for nothing: it is left out, as 0.
-use Rattle.std.specs.Prelude.{◌≡◌, ℕ, ℤ, pos, Result, Ok, Err}
+use Rattle.std.specs.Prelude.{◌≡◌, ℕ, ℤ, pos, List, Result, Ok, Err}
 use Rattle.trust_values.specs.Limits.{IsDay, IsMatterNo, IsEntryNo, IsBankAmount}
 use Rattle.trust_base.specs.BankTexts.{IsBankText, IsLineText}
+use Rattle.trust_base.specs.Names.{IsPerson}
 use Rattle.trust_base.specs.declared.line.Line.{Line}
 use Rattle.trust_base.specs.declared.refusal.StoreFault.{StoreFault}
 use Rattle.trust_base.specs.declared.refusal.StoreFault.TheVariants.{Memory}
@@ -63,6 +64,18 @@ IsFirmLine l = IsDay l.date × IsBankText l.bank_ref × IsBankAmount l.amount ×
 -- a line of the bank as the types hold it
 abbrev pub IsBankLine : Line → Type 0
 IsBankLine l = IsDay l.date × IsBankText l.reference × IsBankText l.bank_ref × IsBankAmount l.amount × IsLineText l.text
+
+-- the columns are those of a seat of a matter: of a person, and of a role
+pub record HasSeat (matter : ℕ) (row : table.Seat) : Type 0 where
+  pub of_matter : row.matter ≡ pos matter
+  pub person : IsPerson row.person
+  pub role : (r : Role) × (role_column r ≡ row.role)
+
+-- the numbers of a line, and its first text, are of their form
+pub record BeginsLine (day amount : ℤ) (text : List ℕ) : Type 0 where
+  pub dated : (d : ℕ) × (IsDay d × (pos d ≡ day))
+  pub amounts : IsBankAmount amount
+  pub referred : IsBankText text
 
 -- the columns of a value give it back, or memory is refused
 abbrev pub GivesBack : {T : Type 0} → T → Result T StoreFault → Type 0

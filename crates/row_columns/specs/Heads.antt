@@ -36,3 +36,11 @@ IsHolder (Purged day) = IsDay day
 -- a head as the types hold it
 abbrev pub IsHead : Head → Type 0
 IsHead h = IsHolder h.holder × IsDay h.opened × IfSome h.closed IsDay × IsDay h.last
+
+-- the columns are those of the head of a matter that was not purged, its totals aside
+pub record HasClientsHead (row : table.Head) : Type 0 where
+  pub client : IsLabel row.client
+  pub opened : (d : ℕ) × (IsDay d × (pos d ≡ row.opened))
+  pub closed : (c : Option ℕ) × (IfSome c IsDay × (closed_column c ≡ row.closed))
+  pub last : (d : ℕ) × (IsDay d × (pos d ≡ row.last))
+  pub unpurged : row.purged ≡ pos 0

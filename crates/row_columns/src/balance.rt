@@ -1,11 +1,11 @@
 // The columns of a balance that the bank told of.
 
-ghost use Rattle.std.specs.Prelude.{◌≡◌, IfSome, IfNone, IfOk};
+ghost use Rattle.std.specs.Prelude.{◌≡◌, Ok, IfSome, IfNone, IfOk, IfErr};
 ghost use Rattle.trust_values.specs.Limits.{IsDay, IsBankAmount};
 ghost use Rattle.firm_rows.specs.declared.ledger.BalanceKind.{BalanceKind as Kind};
 ghost use Rattle.firm_rows.specs.declared.ledger.StatementRow.{StatementRow as Balance};
 ghost use Rattle.trust_tables.specs.Given.{balance_given};
-ghost use Rattle.row_columns.specs.Columns.{kind_column, balance_columns, GivesBack};
+ghost use Rattle.row_columns.specs.Columns.{kind_column, balance_columns};
 
 use crate::column::day_in;
 use firm_rows::{BalanceKind, StatementRow};
@@ -47,7 +47,8 @@ pub fn balance_columns(balance: StatementRow) -> BalanceColumns
 pub fn balance_of(columns: BalanceColumns) -> Result<StatementRow, StoreFault>
     ensures ok { IfOk result (λ b. balance_columns b ≡ balance_given columns) }
     ensures back { (b : Balance) → IsDay b.day → IsBankAmount b.amount → balance_columns b ≡ balance_given columns
-        → GivesBack b result }
+        → result ≡ Ok b }
+    ensures store { IfErr result (λ e. e ≡ StoreFault.Store) }
 {
     let kind = kind_in(columns.kind).ok_or(StoreFault::Store)?;
     let day = day_in(columns.day).ok_or(StoreFault::Store)?;

@@ -1,6 +1,6 @@
 // Single columns, and what they stand for.
 
-ghost use Rattle.std.specs.Prelude.{◌≡◌, ◌≢◌, ℕ, pos, IfSome, IfNone, IfOk, IfErr};
+ghost use Rattle.std.specs.Prelude.{◌≡◌, ◌≢◌, ◌↔◌, ℕ, pos, IfSome, IfNone, IfOk, IfErr};
 ghost use Rattle.trust_values.specs.Limits.{IsDay, IsMatterNo, IsEntryNo};
 ghost use Rattle.trust_base.specs.BankTexts.{IsBankText, IsLineText};
 ghost use Rattle.trust_base.specs.Names.{IsLabel, IsPerson};
@@ -42,37 +42,37 @@ pub(crate) fn entry_in(column: i64) -> Option<EntryNo>
     EntryNo::from_number(column as u16)
 }
 
-/// The short text of the bank in a column. Other bytes are Store; Memory means that a growth was refused.
+/// The short text of the bank in a column. Other bytes are Store; Memory comes only of a text of this form, where a growth was refused.
 pub(crate) fn bank_text_in(alloc: Global, column: &[u8]) -> Result<BankText, StoreFault>
     ensures ok { IfOk result (λ t. t ≡ column.now) }
-    ensures err { IfErr result (λ e. IsBankText column.now → e ≡ StoreFault.Memory) }
+    ensures err { IfErr result (λ e. e ≡ StoreFault.Memory ↔ IsBankText column.now) }
 {
     let text = BankText::read(alloc, column)?;
     text.ok_or(StoreFault::Store)
 }
 
-/// The text of a line of the bank in a column. Other bytes are Store; Memory means that a growth was refused.
+/// The text of a line of the bank in a column. Other bytes are Store; Memory comes only of a text of this form, where a growth was refused.
 pub(crate) fn line_text_in(alloc: Global, column: &[u8]) -> Result<LineText, StoreFault>
     ensures ok { IfOk result (λ t. t ≡ column.now) }
-    ensures err { IfErr result (λ e. IsLineText column.now → e ≡ StoreFault.Memory) }
+    ensures err { IfErr result (λ e. e ≡ StoreFault.Memory ↔ IsLineText column.now) }
 {
     let text = LineText::read(alloc, column)?;
     text.ok_or(StoreFault::Store)
 }
 
-/// The person in a column. Other bytes are Store; Memory means that a growth was refused.
+/// The person in a column. Other bytes are Store; Memory comes only of a text of this form, where a growth was refused.
 pub(crate) fn person_in(alloc: Global, column: &[u8]) -> Result<PersonId, StoreFault>
     ensures ok { IfOk result (λ t. t ≡ column.now) }
-    ensures err { IfErr result (λ e. IsPerson column.now → e ≡ StoreFault.Memory) }
+    ensures err { IfErr result (λ e. e ≡ StoreFault.Memory ↔ IsPerson column.now) }
 {
     let text = PersonId::read(alloc, column)?;
     text.ok_or(StoreFault::Store)
 }
 
-/// The label in a column. Other bytes are Store; Memory means that a growth was refused.
+/// The label in a column. Other bytes are Store; Memory comes only of a text of this form, where a growth was refused.
 pub(crate) fn label_in(alloc: Global, column: &[u8]) -> Result<Label, StoreFault>
     ensures ok { IfOk result (λ t. t ≡ column.now) }
-    ensures err { IfErr result (λ e. IsLabel column.now → e ≡ StoreFault.Memory) }
+    ensures err { IfErr result (λ e. e ≡ StoreFault.Memory ↔ IsLabel column.now) }
 {
     let text = Label::read(alloc, column)?;
     text.ok_or(StoreFault::Store)

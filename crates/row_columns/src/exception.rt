@@ -1,9 +1,9 @@
 // The columns of a line of the bank that matched nothing.
 
-ghost use Rattle.std.specs.Prelude.{◌≡◌, IfOk};
+ghost use Rattle.std.specs.Prelude.{◌≡◌, IfOk, IfErr};
 ghost use Rattle.trust_base.specs.declared.line.Line.{Line as BankLine};
 ghost use Rattle.trust_tables.specs.Given.{exception_given};
-ghost use Rattle.row_columns.specs.Columns.{exception_columns, IsBankLine, GivesBack};
+ghost use Rattle.row_columns.specs.Columns.{exception_columns, IsBankLine, BeginsLine, GivesBack};
 
 use crate::column::{bank_text_in, day_in, line_text_in};
 use std::alloc::Global;
@@ -24,12 +24,14 @@ pub fn exception_columns(line: &Line) -> ExceptionColumns<'_>
     }
 }
 
-/// The line of columns, with texts of its own. Columns that stand for none are Store; Memory means that a growth was
-/// refused.
+/// The line of columns, with texts of its own. Columns that stand for none are Store, or Memory where a growth was
+/// refused before the one that is not of its form: only where day, amount and the reference are.
 pub fn exception_of(alloc: Global, columns: ExceptionColumns<'_>) -> Result<Line, StoreFault>
     ensures ok { IfOk result (λ l. exception_columns l ≡ exception_given columns.entry) }
     ensures back { (l : BankLine) → IsBankLine l → exception_columns l ≡ exception_given columns.entry
         → GivesBack l result }
+    ensures memory { IfErr result (λ e. e ≡ StoreFault.Memory
+        → BeginsLine columns.entry.day columns.entry.amount columns.entry.reference.now) }
 {
     let date = day_in(columns.day).ok_or(StoreFault::Store)?;
     let amount = BankAmount::from_number(columns.amount).ok_or(StoreFault::Store)?;

@@ -1,9 +1,9 @@
 // The columns of a line of the firm's own ledger.
 
-ghost use Rattle.std.specs.Prelude.{◌≡◌, IfOk};
+ghost use Rattle.std.specs.Prelude.{◌≡◌, IfOk, IfErr};
 ghost use Rattle.firm_rows.specs.declared.ledger.FirmLine.{FirmLine as Line};
 ghost use Rattle.trust_tables.specs.Given.{firm_line_given};
-ghost use Rattle.row_columns.specs.Columns.{firm_line_columns, IsFirmLine, GivesBack};
+ghost use Rattle.row_columns.specs.Columns.{firm_line_columns, IsFirmLine, BeginsLine, GivesBack};
 
 use crate::column::{bank_text_in, day_in, line_text_in};
 use firm_rows::FirmLine;
@@ -23,11 +23,13 @@ pub fn firm_line_columns(line: &FirmLine) -> FirmLineColumns<'_>
     }
 }
 
-/// The line of the firm of columns, with texts of its own. Columns that stand for none are Store; Memory means that a
-/// growth was refused.
+/// The line of the firm of columns, with texts of its own. Columns that stand for none are Store, or Memory where a
+/// growth was refused before the one that is not of its form: only where day, amount and the bank's reference are.
 pub fn firm_line_of(alloc: Global, columns: FirmLineColumns<'_>) -> Result<FirmLine, StoreFault>
     ensures ok { IfOk result (λ l. firm_line_columns l ≡ firm_line_given columns.entry) }
     ensures back { (l : Line) → IsFirmLine l → firm_line_columns l ≡ firm_line_given columns.entry → GivesBack l result }
+    ensures memory { IfErr result (λ e. e ≡ StoreFault.Memory
+        → BeginsLine columns.entry.day columns.entry.amount columns.entry.bank_ref.now) }
 {
     let date = day_in(columns.day).ok_or(StoreFault::Store)?;
     let amount = BankAmount::from_number(columns.amount).ok_or(StoreFault::Store)?;

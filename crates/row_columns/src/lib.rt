@@ -1,6 +1,6 @@
 //! The columns of a row and what they stand for: a balance, a movement, a line of the firm, an exception and a seat are
 //! written as columns and read back from them, an entry is written, a head is read. Columns that stand for nothing are
-//! Store, never guessed at.
+//! never guessed at: they are Store, or Memory where a growth was refused before the one that is at fault.
 #![tactic(auto)]
 
 mod balance;

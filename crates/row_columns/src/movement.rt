@@ -1,11 +1,11 @@
 // The columns of a movement of the journal.
 
-ghost use Rattle.std.specs.Prelude.{◌≡◌, IfOk};
+ghost use Rattle.std.specs.Prelude.{◌≡◌, Ok, IfOk, IfErr};
 ghost use Rattle.trust_values.specs.Limits.{IsDay};
 ghost use Rattle.firm_rows.specs.declared.movement.Owner.{Owner as MovedBy};
 ghost use Rattle.firm_rows.specs.declared.movement.Movement.{Movement as Moved};
 ghost use Rattle.trust_tables.specs.Given.{movement_given};
-ghost use Rattle.row_columns.specs.Columns.{matter_column, entry_column, movement_columns, IsOwner, GivesBack};
+ghost use Rattle.row_columns.specs.Columns.{matter_column, entry_column, movement_columns, IsOwner};
 
 use crate::column::{day_in, entry_in, matter_in};
 use firm_rows::{Movement, Owner};
@@ -48,7 +48,8 @@ fn owner_in(matter: i64, entry: i64) -> Result<Owner, StoreFault>
     ensures matter { IfOk result (λ o. matter_column o ≡ matter) }
     ensures entry { IfOk result (λ o. entry_column o ≡ entry) }
     ensures back { (o : MovedBy) → IsOwner o → matter_column o ≡ matter → entry_column o ≡ entry
-        → GivesBack o result }
+        → result ≡ Ok o }
+    ensures store { IfErr result (λ e. e ≡ StoreFault.Store) }
 {
     if matter == 0 && entry == 0 {
         return Ok(Owner::Firm);
@@ -62,7 +63,8 @@ fn owner_in(matter: i64, entry: i64) -> Result<Owner, StoreFault>
 pub fn movement_of(columns: MovementColumns) -> Result<Movement, StoreFault>
     ensures ok { IfOk result (λ v. movement_columns v ≡ movement_given columns) }
     ensures back { (v : Moved) → IsOwner v.owner → IsDay v.day → movement_columns v ≡ movement_given columns
-        → GivesBack v result }
+        → result ≡ Ok v }
+    ensures store { IfErr result (λ e. e ≡ StoreFault.Store) }
 {
     let owner = owner_in(columns.matter, columns.entry)?;
     let day = day_in(columns.day).ok_or(StoreFault::Store)?;

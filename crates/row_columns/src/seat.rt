@@ -1,11 +1,11 @@
 // The columns of a seat.
 
-ghost use Rattle.std.specs.Prelude.{◌≡◌, IfOk, IfSome, IfNone};
+ghost use Rattle.std.specs.Prelude.{◌≡◌, IfOk, IfErr, IfSome, IfNone};
 ghost use Rattle.matter_rows.specs.declared.seat.Role.{Role as SeatRole};
 ghost use Rattle.matter_rows.specs.declared.seat.Seat.{Seat as Taken};
 ghost use Rattle.trust_base.specs.Names.{IsPerson};
 ghost use Rattle.trust_tables.specs.Given.{seat_given};
-ghost use Rattle.row_columns.specs.Columns.{role_column, seat_columns, GivesBack};
+ghost use Rattle.row_columns.specs.Columns.{role_column, seat_columns, GivesBack, HasSeat};
 
 use crate::column::person_in;
 use matter_rows::{Role, Seat};
@@ -44,8 +44,8 @@ pub fn seat_columns(matter: MatterNo, seat: &Seat) -> SeatColumns<'_>
     }
 }
 
-/// The seat of columns of a matter, with a text of its own. Columns that stand for none are Store; Memory means that a
-/// growth was refused.
+/// The seat of columns of a matter, with a text of its own. Columns that stand for none are Store; Memory comes only of
+/// those of a seat, where a growth was refused.
 pub fn seat_of(
     alloc: Global,
     matter: MatterNo,
@@ -54,6 +54,7 @@ pub fn seat_of(
     ensures ok { IfOk result (λ s. seat_columns matter s ≡ seat_given columns.entry) }
     ensures back { (s : Taken) → IsPerson s.person → seat_columns matter s ≡ seat_given columns.entry
         → GivesBack s result }
+    ensures memory { IfErr result (λ e. e ≡ StoreFault.Memory → HasSeat matter (seat_given columns.entry)) }
 {
     if columns.matter != matter.get() as i64 {
         return Err(StoreFault::Store);

@@ -25,6 +25,7 @@ fn is_no_schema(schema: &Schema) -> bool
 fn build<S: Alter>(conn: &mut Connection<S>) -> Result<(), Error>
     requires { conn.old.in_transaction ≡ false }
     ensures mode { conn.new.in_transaction ≡ false }
+    ensures serves { HasCleanDisk (state S.Store conn.new) → OnOk result (IsTrue (state S.Store conn.new).is_open) }
     ensures made { HasCleanDisk (state S.Store conn.new) → (state S.Store conn.old).now.schema ≡ no_schema
         → OnOk result (IsNewBook (state S.Store conn.new).now) }
     ensures settled { HasCleanDisk (state S.Store conn.new) → OnOk result (IsSettled (state S.Store conn.new)) }
@@ -47,6 +48,7 @@ fn build<S: Alter>(conn: &mut Connection<S>) -> Result<(), Error>
 pub fn make<S: Alter>(conn: &mut Connection<S>) -> Result<(), OpenFault>
     requires { conn.old.in_transaction ≡ false }
     ensures mode { conn.new.in_transaction ≡ false }
+    ensures serves { HasCleanDisk (state S.Store conn.new) → OnOk result (IsTrue (state S.Store conn.new).is_open) }
     ensures made { HasCleanDisk (state S.Store conn.new) → OnOk result (IsNewBook (state S.Store conn.new).now) }
     ensures book { HasCleanDisk (state S.Store conn.new) → OnOk result (IsBook Made (state S.Store conn.new).now) }
     ensures stands { HasCleanDisk (state S.Store conn.new) → OnOk result (Stands Made (state S.Store conn.new).now) }

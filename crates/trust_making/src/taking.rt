@@ -36,6 +36,7 @@ fn one_number(rows: &[Row]) -> Option<i64>
 fn version_rows<S: Alter>(conn: &mut Connection<S>) -> Result<Vec<Row>, Error>
     requires { conn.old.in_transaction ≡ false }
     ensures mode { conn.new.in_transaction ≡ false }
+    ensures serves { HasCleanDisk (state S.Store conn.new) → OnOk result (IsTrue (state S.Store conn.new).is_open) }
     ensures rows { (l : Layout) → HasCleanDisk (state S.Store conn.new) → (state S.Store conn.old).now.schema ≡ book_schema l
         → IfOk result (λ rows.
         IsPermutation (map (λ v. v ∷ []) (versions_in l (state S.Store conn.old).now.trees)) rows.items) }
@@ -60,6 +61,7 @@ fn version_rows<S: Alter>(conn: &mut Connection<S>) -> Result<Vec<Row>, Error>
 pub fn version_of<S: Alter>(conn: &mut Connection<S>) -> Result<Option<i64>, Error>
     requires { conn.old.in_transaction ≡ false }
     ensures mode { conn.new.in_transaction ≡ false }
+    ensures serves { HasCleanDisk (state S.Store conn.new) → OnOk result (IsTrue (state S.Store conn.new).is_open) }
     ensures is { (l : Layout) → HasCleanDisk (state S.Store conn.new) → (state S.Store conn.old).now.schema ≡ book_schema l
         → IfOk result (λ o. (v : ℤ)
         → (o ≡ Some v) ↔ (versions_in l (state S.Store conn.old).now.trees ≡ Int v ∷ [])) }
@@ -82,6 +84,7 @@ pub fn version_of<S: Alter>(conn: &mut Connection<S>) -> Result<Option<i64>, Err
 fn is_of_now<S: Alter>(conn: &mut Connection<S>) -> Result<bool, Error>
     requires { conn.old.in_transaction ≡ false }
     ensures mode { conn.new.in_transaction ≡ false }
+    ensures serves { HasCleanDisk (state S.Store conn.new) → OnOk result (IsTrue (state S.Store conn.new).is_open) }
     ensures is { (l : Layout) → HasCleanDisk (state S.Store conn.new) → (state S.Store conn.old).now.schema ≡ book_schema l
         → IfOk result (λ b. IsTrue b ↔ IsBook l (state S.Store conn.old).now) }
     ensures settled { (l : Layout) → HasCleanDisk (state S.Store conn.new) → (state S.Store conn.old).now.schema ≡ book_schema l
@@ -105,6 +108,7 @@ fn is_of_now<S: Alter>(conn: &mut Connection<S>) -> Result<bool, Error>
 pub fn adopt<S: Alter>(conn: &mut Connection<S>) -> Result<Layout, OpenFault>
     requires { conn.old.in_transaction ≡ false }
     ensures mode { conn.new.in_transaction ≡ false }
+    ensures serves { HasCleanDisk (state S.Store conn.new) → OnOk result (IsTrue (state S.Store conn.new).is_open) }
     ensures taken { HasCleanDisk (state S.Store conn.new)
         → IfOk result (λ l. IsBook l (state S.Store conn.old).now
         × IsSettled (state S.Store conn.new) × IsKept (state S.Store conn.old) (state S.Store conn.new)) }

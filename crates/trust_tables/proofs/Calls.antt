@@ -1,5 +1,5 @@
 -- From what a call of `sqlite` says of a text to the meaning of a query that is written out.
-use Rattle.std.proofs.Common.{◌≡◌, ◌⊎◌, inl, inr, ℕ, Bool, true, false, cond, unwrap_or, refl, List, [], None, Result, Ok, Err, IfOk, IfErr, OnOk, IsTrue, subst, sym, ◌∙◌}
+use Rattle.std.proofs.Common.{◌≡◌, ◌⊎◌, inl, inr, ℕ, Bool, true, false, cond, unwrap_or, refl, List, [], None, Result, Ok, Err, IfOk, IfErr, IsOk, OnOk, IsTrue, subst, sym, ◌∙◌}
 use Rattle.sqlite_value.specs.declared.value.Value.TheVariants.{Null}
 use Rattle.sqlite_value.specs.Order.{Row}
 use Rattle.sqlite_trees.specs.Tree.{Trees}
@@ -97,7 +97,7 @@ kept_then : (a b c : State) → IsKept a b → IsKept b c → IsKept a c
 kept_then a b c p q = record { was_open = p.was_open; now = q.now ∙ p.now; committed = q.committed ∙ p.committed }
 
 -- a call that asks nothing of the store leaves all, where the connection is open
-pub leaves_none : {T : Type 0} (r : Result T Error) (s : State) → IsTrue s.is_open → LeavesAll r s s
+pub leaves_none : {T E : Type 0} (r : Result T E) (s : State) → IsTrue s.is_open → LeavesAll r s s
 leaves_none r s opened = record {
   same = λ clean still. record { was_open = still; now = refl; committed = refl };
   serves = λ clean. on_ok r opened;
@@ -105,11 +105,25 @@ leaves_none r s opened = record {
   crash = λ clean db may. inl may;
 }
   where
-    on_ok : {T P : Type 0} (r : Result T Error) → P → OnOk r P
+    on_ok : {T E P : Type 0} (r : Result T E) → P → OnOk r P
     on_ok (Ok x) p = p
     on_ok (Err e) p = tt
 
-pub leaves_then : {T U : Type 0} (r : Result T Error) (q : Result U Error) (a b c : State) → LeavesAll r a b → LeavesAll q b c → LeavesAll q a c
+-- what is told of a call that reads does not matter, but where a call answers
+pub leaves_on : {T U E F : Type 0} (r : Result T E) (q : Result U F) (a b : State) → (IsOk q → IsOk r) → LeavesAll r a b → LeavesAll q a b
+leaves_on r q a b told x = record {
+  same = x.same;
+  serves = λ clean. serves_on _ r q told (x.serves clean);
+  was_clean = x.was_clean;
+  crash = x.crash;
+}
+  where
+    serves_on : {T U E F : Type 0} (P : Type 0) (r : Result T E) (q : Result U F) → (IsOk q → IsOk r) → OnOk r P → OnOk q P
+    serves_on P (Ok x) (Ok y) told p = p
+    serves_on P (Err e) (Ok y) told p = absurd (let e = told refl in cc)
+    serves_on P r (Err e) told p = tt
+
+pub leaves_then : {T U E F : Type 0} (r : Result T E) (q : Result U F) (a b c : State) → LeavesAll r a b → LeavesAll q b c → LeavesAll q a c
 leaves_then r q a b c x y = record {
   same = λ clean still.
       let late = y.same clean still in

@@ -23,7 +23,7 @@ abbrev pub LeavesOnly : State → State → (Trees → Type 0) → Type 0
 LeavesOnly old new Commits = (db : Trees) → new.may_leave db → old.may_leave db ⊎ Commits db
 
 -- a call that reads changes nothing, whatever the tables are, also for a crash; one that answers leaves the connection open
-pub record LeavesAll {T : Type 0} (result : Result T Error) (old new : State) : Type 0 where
+pub record LeavesAll {T E : Type 0} (result : Result T E) (old new : State) : Type 0 where
   pub same : HasCleanDisk new → IsTrue new.is_open → IsKept old new
   pub serves : HasCleanDisk new → OnOk result (IsTrue new.is_open)
   pub was_clean : HasCleanDisk new → HasCleanDisk old

@@ -1,6 +1,6 @@
 //! Statements that write, and a list of them in one transaction.
 
-ghost use Rattle.std.specs.Prelude.{◌≡◌, false, [], ◌∷◌, OnOk, OnErr, IsTrue};
+ghost use Rattle.std.specs.Prelude.{◌≡◌, ◌≢◌, false, [], ◌∷◌, OnOk, OnErr, IsTrue};
 ghost use Rattle.sqlite_value.specs.declared.value.Value.TheVariants.{Int, Text};
 ghost use Rattle.sqlite.specs.Held.{state};
 ghost use Rattle.sqlite.specs.Effect.{Database};
@@ -308,6 +308,9 @@ fn perform_all<S: Alter>(tx: &mut Transaction<'_, S>, script: &[Statement<'_>]) 
     ensures kept { HasCleanDisk (state S.Store tx.new.conn.now)
         → IsTrue (state S.Store tx.old.conn.now).in_transaction
         → KeepsCommit (state S.Store tx.old.conn.now) (state S.Store tx.new.conn.now) }
+    ensures opened { HasCleanDisk (state S.Store tx.new.conn.now)
+        → IsTrue (state S.Store tx.old.conn.now).in_transaction
+        → OnOk result (script.now ≢ [] → IsTrue (state S.Store tx.old.conn.now).is_open) }
     ensures crash { Survives (state S.Store tx.old.conn.now) (state S.Store tx.new.conn.now) (λ _. ⊥) }
 {
     'each: for statement in script {
@@ -329,6 +332,9 @@ fn write_all<S: Alter>(conn: &mut Connection<S>, script: &[Statement<'_>]) -> Re
     ensures none { HasCleanDisk (state S.Store conn.new) → IsTrue (state S.Store conn.new).is_open
         → OnErr result (((state S.Store conn.new).now ≡ (state S.Store conn.old).now)
         × ((state S.Store conn.new).committed ≡ (state S.Store conn.old).committed)) }
+    ensures opened { HasCleanDisk (state S.Store conn.new) → script.now ≢ []
+        → LeavesOnly (state S.Store conn.old) (state S.Store conn.new)
+        (λ _. IsTrue (state S.Store conn.old).is_open) }
     ensures crash { Survives (state S.Store conn.old) (state S.Store conn.new)
         (λ trees. (db : Database) × RanAll S.Store (calls_of script.now) conn.old db × (trees ≡ db.trees)) }
 {
@@ -355,6 +361,11 @@ pub fn write<S: Alter>(conn: &mut Connection<S>, script: &[Statement<'_>]) -> Re
         → OnErr result (((state S.Store conn.new).now ≡ (state S.Store conn.old).now)
         × ((state S.Store conn.new).committed ≡ (state S.Store conn.old).committed)) }
     ensures was_clean { HasCleanDisk (state S.Store conn.new) → HasCleanDisk (state S.Store conn.old) }
+
+    // A connection that was shut leaves nothing new.
+    ensures opened { HasCleanDisk (state S.Store conn.new) → script.now ≢ []
+        → LeavesOnly (state S.Store conn.old) (state S.Store conn.new)
+        (λ _. IsTrue (state S.Store conn.old).is_open) }
     ensures crash { (l : Layout) → HasCleanDisk (state S.Store conn.new) → Stands l (state S.Store conn.old).now
         → LeavesOnly (state S.Store conn.old) (state S.Store conn.new)
         (λ trees. (db : Database) × Written l script.now (state S.Store conn.old).now db × (trees ≡ db.trees)) }

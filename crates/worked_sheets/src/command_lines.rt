@@ -1,7 +1,8 @@
 // The command lines that the program takes, and others.
 
+use crate::networks::run_over;
 use crate::runs::{NO_FILE, TrialFolder};
-use cashier::{Outcome, run_in_memory};
+use cashier::Outcome;
 use std::process::Abort;
 use trust_base::{TrialReader, TrialWriter};
 
@@ -17,7 +18,7 @@ pub fn check_words(
     let opening = b"open,000001,,Ada Chen,lee\n".as_slice();
     let mut reader = TrialReader::new(opening, 7, 100);
     let mut writer = TrialWriter::new(rt.alloc(), 3, 1000);
-    let told = run_in_memory(rt.alloc(), words, &mut reader, folder, &mut writer);
+    let told = run_over(rt.alloc(), words, &mut reader, folder, &mut writer);
     assert_eq!(rt; told, outcome, "{words:?}");
     assert_eq!(rt; writer.as_slice(), line);
 }

@@ -1,6 +1,7 @@
 // Runs of the program, from its words to its outcome.
 
-use cashier::{Folder, Opened, Outcome, run_in_memory};
+use crate::networks::run_over;
+use cashier::{Folder, Opened, Outcome};
 use std::process::Abort;
 use trust_base::{TrialReader, TrialWriter};
 
@@ -48,7 +49,7 @@ fn runs_a_sheet(rt: HostRuntime) {
     let words = ["cashier_cli", "--today", "2024-01-10", "sheet"];
     let mut reader = TrialReader::new(b"show,000001,\n", 7, 100);
     let mut writer = TrialWriter::new(rt.alloc(), 3, 100);
-    let outcome = run_in_memory(
+    let outcome = run_over(
         rt.alloc(),
         words.as_slice(),
         &mut reader,
@@ -70,7 +71,7 @@ fn check_import(
     let words = ["cashier_cli", "--today", "2024-01-12", "import", "bank.csv"];
     let mut reader = TrialReader::new(OPENING, 7, 100);
     let mut writer = TrialWriter::new(rt.alloc(), 3, 100);
-    let told = run_in_memory(
+    let told = run_over(
         rt.alloc(),
         words.as_slice(),
         &mut reader,
@@ -120,7 +121,7 @@ fn runs_nothing_at_a_bad_line(rt: HostRuntime) {
     let words = ["cashier_cli", "sheet"];
     let mut reader = TrialReader::new(OPENING, 7, 100);
     let mut writer = TrialWriter::new(rt.alloc(), 3, 100);
-    let outcome = run_in_memory(
+    let outcome = run_over(
         rt.alloc(),
         words.as_slice(),
         &mut reader,
@@ -137,7 +138,7 @@ fn begins_without_rows(rt: HostRuntime) {
     for _ in [1, 2] {
         let mut reader = TrialReader::new(OPENING, 7, 100);
         let mut writer = TrialWriter::new(rt.alloc(), 3, 1000);
-        let outcome = run_in_memory(
+        let outcome = run_over(
             rt.alloc(),
             words.as_slice(),
             &mut reader,

@@ -1,7 +1,8 @@
 // Streams of messages on standard input, from their words to their outcomes.
 
+use crate::networks::run_over;
 use crate::runs::NO_FILE;
-use cashier::{Outcome, run_in_memory};
+use cashier::Outcome;
 use std::process::Abort;
 use trust_base::{TrialReader, TrialWriter};
 
@@ -27,7 +28,7 @@ fn check(rt: &(impl Abort + AllocGlobal), stream: &[u8], answers: &[u8], outcome
     for most in [1, 7, 4096] {
         let mut reader = TrialReader::new(stream, most, u64::MAX);
         let mut writer = TrialWriter::new(rt.alloc(), most, u64::MAX);
-        let told = run_in_memory(
+        let told = run_over(
             rt.alloc(),
             words.as_slice(),
             &mut reader,

@@ -10,4 +10,14 @@ mod ends;
 #[cfg(test)]
 mod exchanges;
 #[cfg(test)]
+mod faults;
+#[cfg(test)]
+mod framing;
+#[cfg(test)]
+mod isolation;
+#[cfg(test)]
+mod pieces;
+#[cfg(test)]
+mod player;
+#[cfg(test)]
 mod reports;

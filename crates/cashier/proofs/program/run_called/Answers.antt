@@ -12,13 +12,13 @@ if_ok (Ok x) P p = p x
 if_ok (Err e) P p = tt
 
 -- memory was refused before anything was run
-none_ran : (words : List Text) (input : Option (List ℕ)) (known : Text → Option (List ℕ)) (opens : Text → Option (Option ℕ) → Type 0) (given : Option (List ℕ))
-    → HasRun words input known opens given given outcome.MemoryFault
-none_ran words input known opens given = record {
+none_ran : (words : List Text) (input : Option (List ℕ)) (known : Text → Option (List ℕ)) (opens : Text → Option (Option ℕ) → Type 0) (clients : ℕ → ℕ → Option (List ℕ)) (given : Option (List ℕ))
+    → HasRun words input known opens clients given given outcome.MemoryFault
+none_ran words input known opens clients given = record {
   line = λ e. cc;
   meant = λ begun. absurd begun;
-  ends = λ _. (empty_firm, empty-sound, inr (inr (inr (inr (record { outcome = refl; written = Appends-nil _; firm = refl })))));
+  ends = λ _. (empty_firm, empty-sound, inr (inr (inr (inr (inr (record { outcome = refl; written = Appends-nil _; firm = refl }))))));
 }
 
 pub returns-in_default-clause-ran : goal.returns-in_default-clause-ran
-returns-in_default-clause-ran g c = if_ok _ _ (λ words. none_ran _ _ _ _ _)
+returns-in_default-clause-ran g c = if_ok _ _ (λ words. none_ran _ _ _ _ _ _)

@@ -1,4 +1,4 @@
-use Rattle.std.proofs.Common.{rules, ap, ap₂, ◌≡◌, ◌∙◌}
+use Rattle.std.proofs.Common.{rules, ap, ap₂, ◌∙◌}
 use Rattle.clap.specs.Words.{App, app_of, with_subcommand}
 use Rattle.command_line.specs.Program.{report_apps}
 use Rattle.command_line.proofs.report_command.with_reports.Goals as goal

@@ -20,9 +20,10 @@ returns-in-Ok-Ended g c =
 pub returns-in-Ok-Framing : goal.returns-in-Ok-Framing
 returns-in-Ok-Framing g c =
     let comes = rw c.in-Ok-Framing.field-0-is at (c.in-Ok-Framing.ensures.next c.loop.invariant.fresh) in
+    let framed = rw c.in-Ok-Framing.field-0-is at (c.in-Ok-Framing.ensures.framing c.loop.invariant.fresh) in
     elim c.match-write_reply.branch [
-      | in-Ok w ↦ rw w.result-is (served-framing _ _ _ _ _ _ g.B.Book.sound _ _ _ _ _ _ _ _ c.loop.invariant.serving _ _ c.in-Ok-Framing.why c.refused.result c.loop-test.true comes c.refused.ensures w.in-Ok.ensures.ok)
-      | in-Err w ↦ rw w.result-is (served-framing_fault _ _ _ _ _ _ g.B.Book.sound _ _ _ _ _ _ _ _ c.loop.invariant.serving _ _ c.in-Ok-Framing.why c.refused.result c.loop-test.true comes c.refused.ensures w.in-Err.ensures.err)
+      | in-Ok w ↦ rw w.result-is (served-framing _ _ _ _ _ _ g.B.Book.sound _ _ _ _ _ _ _ _ c.loop.invariant.serving _ _ c.in-Ok-Framing.why c.refused.result c.loop-test.true comes framed c.refused.ensures w.in-Ok.ensures.ok)
+      | in-Err w ↦ rw w.result-is (served-framing_fault _ _ _ _ _ _ g.B.Book.sound _ _ _ _ _ _ _ _ c.loop.invariant.serving _ _ c.in-Ok-Framing.why c.refused.result c.loop-test.true comes framed c.refused.ensures w.in-Err.ensures.err)
     ]
 
 pub returns-in-Err-Reader : goal.returns-in-Err-Reader

@@ -2,7 +2,7 @@ use Rattle.std.proofs.Common.{refl, sym, ap, ◌∙◌, arith, rules, IsTrue, On
 use Rattle.sqlite.specs.State.{HasCleanDisk}
 use Rattle.sqlite.specs.Held.{state}
 use Rattle.trust_tables.specs.Reading.{IsKept}
-use Rattle.trust_tables.proofs.Together.{when_err}
+use Rattle.trust_tables.proofs.Together.{when_err, when_ok}
 use Rattle.trust_making.proofs.Endings.{uncommitted}
 use Rattle.trust_making.proofs.making.build.Goals as goal
 
@@ -23,4 +23,11 @@ returns-clause-neither g c clean still =
     let outside : IsTrue c.is_autocommit-settled.result = c.is_autocommit-settled.ensures.value ∙ ap not c.requires in
     let before = c.is_autocommit-settled.ensures.settled outside it.0 in
     record { was_open = it.0; now = it.1 ∙ sym before; committed = it.2 }) in
+    search rules
+
+pub returns-clause-serves : goal.returns-clause-serves
+returns-clause-serves g c clean =
+    let last = c.commit.new.self.0 in
+    let clear : HasCleanDisk (state g.S.Store last) = search rules in
+    let here = when_ok c.commit.result (c.commit.ensures.ok clear) (λ it. it.1.is_open) in
     search rules

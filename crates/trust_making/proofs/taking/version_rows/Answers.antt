@@ -5,7 +5,7 @@ use Rattle.sqlite.specs.Held.{state}
 use Rattle.sqlite.proofs.StateLemmas.{survives_weaker}
 use Rattle.trust_making.specs.Books.{version_text}
 use Rattle.trust_tables.proofs.Selects.{select_commits}
-use Rattle.trust_tables.proofs.Calls.{shown_unchanged, kept_unchanged, kept_either, fails_kept}
+use Rattle.trust_tables.proofs.Calls.{shown_unchanged, kept_unchanged, kept_either, fails_kept, when_shown}
 use Rattle.trust_making.proofs.Endings.{if_ok, either_way}
 use Rattle.trust_making.proofs.VersionRead.{version_selects, version_shown}
 use Rattle.trust_making.proofs.Causes.{query_cause}
@@ -43,3 +43,8 @@ returns-clause-crash g c l has =
 pub returns-clause-told : goal.returns-clause-told
 returns-clause-told g c l clean has =
     IfErr-weaker c.query_all.result _ _ (λ e failed. query_cause l (state g.S.Store c.args.conn.now) (state g.S.Store c.query_all.new.self) e has failed) (c.query_all.ensures.err clean)
+
+pub returns-clause-serves : goal.returns-clause-serves
+returns-clause-serves g c clean =
+    let old = state g.S.Store c.args.conn.now in
+    when_shown (λ rows. rows.items) version_text _ old (state g.S.Store c.query_all.new.self) c.query_all.result version_selects (c.query_all.ensures.ok clean)

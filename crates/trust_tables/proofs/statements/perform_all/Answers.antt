@@ -34,6 +34,10 @@ each-preserved g c =
           let ran = c.in_ok-perform.ensures.ran.ok clean was.0 in
           let before = c.each.invariant.3 (late clean) inside ran.1.was_open in
           (before.0, ran.1.committed_is ∙ before.1)),
+      (λ clean inside some.
+          let was = c.each.invariant.2 (late clean) inside in
+          let ran = c.in_ok-perform.ensures.ran.ok clean was.0 in
+          (c.each.invariant.3 (late clean) inside ran.1.was_open).0),
     )
 
 pub returns-clause-kept : goal.returns-clause-kept

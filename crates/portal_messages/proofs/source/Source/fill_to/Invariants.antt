@@ -7,5 +7,5 @@ abbrev pub invariant-loop : goal.invariant-loop
 invariant-loop g l = record {
   turns : l.counter ≤ l.size;
   grown : l.counter ≤ length l.self.buffer.items;
-  unread : Keeps (unread (g.R.Read.remaining) l.initial.self) (unread (g.R.Read.remaining) l.self);
+  unread : Keeps (unread (g.R.Read.remaining) l.fn.self) (unread (g.R.Read.remaining) l.self);
 }

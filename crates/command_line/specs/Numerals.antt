@@ -1,6 +1,7 @@
 -- The texts of ports and of counts.
 use Rattle.std.specs.Prelude.{◌≡◌, ◌≤◌, ℕ, List}
 use Rattle.std.specs.Fmt.{decimal}
+use Rattle.command_line.specs.declared.numerals.TheConstants.{MAX_COUNT, MAX_PORT, MIN_PORT}
 
 -- the text is the digits of the number, without leading zeros, and that is from `least` to `most`
 pub record IsNumberBetween (least most : ℕ) (text : List ℕ) (number : ℕ) : Type 0 where
@@ -10,7 +11,12 @@ pub record IsNumberBetween (least most : ℕ) (text : List ℕ) (number : ℕ) :
 
 -- a port that is not the system's own
 abbrev pub IsPort : List ℕ → ℕ → Type 0
-IsPort text port = IsNumberBetween 1024 65535 text port
+IsPort text port = IsNumberBetween MIN_PORT MAX_PORT text port
 
+-- the fewest connections of a run
+abbrev pub MIN_COUNT : ℕ
+MIN_COUNT = 1
+
+-- how many connections a run serves
 abbrev pub IsCount : List ℕ → ℕ → Type 0
-IsCount text count = IsNumberBetween 1 1000000 text count
+IsCount text count = IsNumberBetween MIN_COUNT MAX_COUNT text count

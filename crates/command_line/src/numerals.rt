@@ -1,18 +1,18 @@
-// The operands of serving: a port and a count.
+// The numbers of the command line, from their texts: a port and a count of connections.
 
 ghost use Rattle.std.specs.Prelude.{ℕ, IfNone, IfSome};
-ghost use Rattle.portal_server.specs.Operands.{IsCount, IsNumberBetween, IsPort};
+ghost use Rattle.command_line.specs.Numerals.{IsCount, IsNumberBetween, IsPort};
 
 use itoa::Buffer;
 
-// The lowest port: those below are the system's own.
-const MIN_PORT: u32 = 1_024;
+/// The lowest port that is served: those below are the system's own.
+pub const MIN_PORT: u32 = 1_024;
 
-// The highest port of TCP (RFC 9293, 3.1).
-const MAX_PORT: u32 = 65_535;
+/// The highest port of TCP (RFC 9293, 3.1).
+pub const MAX_PORT: u32 = 65_535;
 
-// The most connections of one run.
-const MAX_COUNT: u32 = 1_000_000;
+/// The most connections of one run.
+pub const MAX_COUNT: u32 = 1_000_000;
 
 // The number from `least` to `most` whose digits a text is, without leading zeros.
 fn number_between(text: &str, least: u32, most: u32) -> Option<u32>

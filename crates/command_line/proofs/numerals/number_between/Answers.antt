@@ -1,7 +1,7 @@
 use Rattle.std.proofs.Common.{arith, ◌∙◌, sym}
-use Rattle.portal_server.proofs.Numerals.{never-unlike, reads-back, reads-same, shows-text}
-use Rattle.portal_server.proofs.operands.number_between.Goals as goal
-use Rattle.portal_server.proofs.operands.number_between.Goals.{else-eq-via-then-eq+then-least-number+else-number-most, else-eq-via-then-eq+else-least-number, else-eq-via-else-eq}
+use Rattle.command_line.proofs.NumeralFacts.{never-unlike, reads-back, reads-same, shows-text}
+use Rattle.command_line.proofs.numerals.number_between.Goals as goal
+use Rattle.command_line.proofs.numerals.number_between.Goals.{else-eq-via-then-eq+then-least-number+else-number-most, else-eq-via-then-eq+else-least-number, else-eq-via-else-eq}
 
 pub returns-in_default-clause-none : goal.returns-in_default-clause-none
 returns-in_default-clause-none c = λ number is.

@@ -1,0 +1,28 @@
+use Rattle.std.proofs.Common.{◌∙◌, inl, inr, refl, sym}
+use Rattle.std.proofs.KnownBytes.{Appends-nil}
+use Rattle.cashier.proofs.CallFacts.{book-standing}
+use Rattle.cashier.proofs.ServingFacts.{met-in-turn, serving-no-store}
+use Rattle.cashier.proofs.serving.run_serve.Goals as goal
+
+pub returns-in_default-clause-ends : goal.returns-in_default-clause-ends
+returns-in_default-clause-ends g c = λ clean stands. inr (record { outcome = refl; written = Appends-nil _; firm = refl })
+
+pub returns-clause-store : goal.returns-clause-store
+returns-clause-store g c = λ store. serving-no-store _ (sym c.outcome_of_serving.ensures ∙ store)
+
+pub returns-clause-ends : goal.returns-clause-ends
+returns-clause-ends g c =
+    let B = g.B.Book in
+    let all = c.serve_connections.ensures.served in
+    λ clean stands.
+    inl (record {
+      end = c.serve_connections.result;
+      outcome = sym c.outcome_of_serving.ensures;
+      ends = all.ends;
+      met = met-in-turn B.clean B.sure B.stands B.leaves B.firm B.refusals _ _ _ c.in-Some.ensures _ all.ends _ all.served clean stands;
+      lines = all.told;
+    })
+
+pub returns-clause-kept : goal.returns-clause-kept
+returns-clause-kept g c =
+    book-standing (λ before after store. absurd (serving-no-store _ (sym c.outcome_of_serving.ensures ∙ store))) c.serve_connections.ensures.kept

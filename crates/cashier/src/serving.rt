@@ -1,0 +1,54 @@
+// The clients of a port.
+
+ghost use Rattle.std.specs.Prelude.{◌≡◌, ◌≢◌};
+ghost use Rattle.cashier.specs.Calls.{CountsStore, LeavesBook};
+ghost use Rattle.cashier.specs.Serving.{PortEnds};
+
+use crate::folder::Folder;
+use crate::outcome::{Outcome, outcome_of_serving};
+use crate::surroundings::Surroundings;
+use portal_server::{Network, serve_connections};
+use std::alloc::Global;
+use std::io::Write;
+use std::rt::Clock;
+use trust_base::Day;
+use trust_desk::Desk;
+use trust_store::Book;
+
+/// Serves so many clients of a port over a desk on a business day, one after the other, and writes a line for each: the
+/// name of its stream's end.
+///
+/// The outcome is `Done` where as many were served as were asked for, however their streams ended; `NetworkFault` where
+/// the port can't be had, and then nothing is served or written, or where an accept was refused; `FileFault` where a
+/// line could not be written, and then a proper front of the lines was. It is never `StoreFault`: what the store
+/// refused was answered to its message.
+pub fn run_serve<F: Folder, C: Clock + Drop, N: Network, W: Write, B: Book>(
+    alloc: Global,
+    around: Surroundings<'_, F, C, N>,
+    port: u16,
+    count: u32,
+    writer: &mut W,
+    desk: &mut Desk<B>,
+    today: Day,
+) -> Outcome
+    ensures began { result ≢ Outcome.CommandLine }
+    ensures store { result ≢ Outcome.StoreFault }
+    ensures ends { B.clean desk.new → B.stands desk.old
+        → PortEnds today count (N.clients around.entry.network.now port) (B.firm desk.old) (B.firm desk.new)
+        (W.contents writer.old) (W.contents writer.new) result }
+    ensures kept { LeavesBook B.clean B.sure B.stands B.refusals (CountsStore Outcome.StoreFault result)
+        desk.old desk.new }
+{
+    let Some(mut listener) = around.network.listen(port) else {
+        return Outcome::NetworkFault;
+    };
+    outcome_of_serving(serve_connections(
+        alloc,
+        around.clock,
+        &mut listener,
+        count,
+        writer,
+        desk,
+        today,
+    ))
+}

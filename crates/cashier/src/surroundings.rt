@@ -1,0 +1,12 @@
+// What lies around a run.
+
+/// What a run may reach beside its standard streams.
+#[derive(Drop)]
+pub struct Surroundings<'a, F, C, N> {
+    /// The files that a command line names.
+    pub folder: &'a F,
+    /// The clock that clients are held to.
+    pub clock: &'a C,
+    /// The ports that a command line names.
+    pub network: &'a N,
+}

@@ -1,0 +1,19 @@
+-- Tables without rows.
+use Rattle.std.proofs.Common.{refl}
+use Rattle.firm_rows.proofs.Kept.{empty-sound}
+use Rattle.tables_meaning.specs.Standing.{EmptyTablesStand}
+
+pub empty_stands : EmptyTablesStand
+empty_stands = (
+  record {
+    keyed = record { heads = tt; seats = tt; entries = tt; movements = tt; firm_lines = tt; exceptions = tt; balances = tt };
+    meant = record {
+      written = record { heads = tt; seats = tt; entries = tt; movements = tt; firm_lines = tt; exceptions = tt; balances = tt };
+      matters = record { ascends = tt; whole = tt };
+      seated = tt;
+      entered = tt;
+    };
+    sound = empty-sound;
+  },
+  refl,
+)

@@ -1,0 +1,76 @@
+// Clients that are refused in the middle of a message.
+
+use crate::cases::{Case, DONE, Wrong, serves};
+use crate::clients::{Arrival, BAD_MESSAGE, Client, GOOD, QUIET};
+
+const TOO_LARGE: &str = "HTTP/1.1 413 Payload Too Large\r\ncontent-type: application/json\r\n\
+content-length: 31\r\n\r\n{\"name\":\"TooLarge\",\"refusal\":3}";
+
+const HEAD: &[u8] = b"POST /matters/000001/open HTTP/1.1\r\ncontent-length: 9999999999\r\n\r\n";
+
+const PART: &[u8] = b"AAAAAAAAAAAAAAAAAAAAAAAAAAAAAAAAAAAAAAAAAAAAAAAAAAAAAAAAAAAAAAAA";
+
+// A client that sends a body of more than is dropped, and takes its answer meanwhile.
+const MUCH: Client = Client {
+    sends: &[(1, 0, HEAD), (70_000, 0, PART)],
+    answered: (0, TOO_LARGE),
+    read: 4_194_370,
+    ..QUIET
+};
+
+#[test]
+fn so_many_bytes_are_dropped(rt: HostRuntime) -> Result<(), Wrong> {
+    serves(
+        rt.alloc(),
+        &Case {
+            arrivals: &[Arrival::Comes(MUCH), Arrival::Comes(GOOD)],
+            lines: "BadFraming\nEnded\n",
+            ..DONE
+        },
+    )
+}
+
+// A client that goes on slowly.
+const SLOWLY: Client = Client {
+    sends: &[(1, 0, HEAD), (9, 300, PART)],
+    answered: (0, TOO_LARGE),
+    read: 258,
+    ..QUIET
+};
+
+#[test]
+fn a_second_is_what_the_close_takes(rt: HostRuntime) -> Result<(), Wrong> {
+    serves(
+        rt.alloc(),
+        &Case {
+            arrivals: &[Arrival::Comes(SLOWLY), Arrival::Comes(GOOD)],
+            lines: "BadFraming\nEnded\n",
+            passed: 1_000,
+            ..DONE
+        },
+    )
+}
+
+// A client that ends by itself.
+const ENDS: Client = Client {
+    sends: &[
+        (1, 0, b"GET / HTTP/1.1\r\nbad header\r\n\r\n"),
+        (3, 300, PART),
+    ],
+    answered: (0, BAD_MESSAGE),
+    read: 222,
+    ..QUIET
+};
+
+#[test]
+fn the_close_ends_with_the_client(rt: HostRuntime) -> Result<(), Wrong> {
+    serves(
+        rt.alloc(),
+        &Case {
+            arrivals: &[Arrival::Comes(ENDS), Arrival::Comes(GOOD)],
+            lines: "BadFraming\nEnded\n",
+            passed: 900,
+            ..DONE
+        },
+    )
+}
