@@ -24,7 +24,7 @@ pub record IsAnswered (day : ℕ) (known : Option (List ℕ)) (before : Firm) (e
   pub new : Option (List ℕ)
   pub ends : StreamEnds day before known after old new end
 
--- a client was gone before its connection was accepted, and nothing was done
+-- a client could not be had, since it was gone or the system could not make its connection; nothing was done
 pub record IsGone (before : Firm) (end : StreamEnd) (after : Firm) : Type 0 where
   pub ended : end ≡ stream.ReadFault
   pub firm : after ≡ before

@@ -21,7 +21,7 @@ module _ {B : Type 0} (clean sure stands : B → Type 0) (leaves : B → Firm �
     pub sent : Keeps known stream
     pub served : Served clean sure stands leaves firm refusals day stream before old end after new
 
-  -- a client was gone before its connection was accepted, and nothing was done
+  -- a client could not be had, since it was gone or the system could not make its connection; nothing was done
   pub record IsAborted (old : B) (end : StreamEnd) (new : B) : Type 0 where
     pub ended : end ≡ stream.ReadFault
     pub same : new ≡ old
