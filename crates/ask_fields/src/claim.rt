@@ -4,7 +4,7 @@ ghost use Rattle.std.specs.Prelude.{◌≢◌, IfErr, option_and_then};
 ghost use Rattle.std.specs.Option.{option_copied};
 ghost use Rattle.trust_base.specs.Names.{label_of};
 ghost use Rattle.trust_matter.specs.declared.ask.Ask.TheVariants as ask;
-ghost use Rattle.trust_values.specs.Texts.{amount_of, amount_or_zero_of, entry_of};
+ghost use Rattle.trust_base.specs.Texts.{amount_of, amount_or_zero_of, entry_of};
 ghost use Rattle.ask_fields.specs.Asks.{claiming, splitting};
 ghost use Rattle.ask_fields.specs.Fields.{Reads, against_in, on_fee, on_general};
 

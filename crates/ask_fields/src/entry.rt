@@ -2,7 +2,7 @@
 
 ghost use Rattle.std.specs.Prelude.{◌≡◌, ◌≢◌, IfOk, IfErr, Some, None};
 ghost use Rattle.trust_matter.specs.declared.ask.Ask.TheVariants as ask;
-ghost use Rattle.trust_values.specs.Texts.{entry_of};
+ghost use Rattle.trust_base.specs.Texts.{entry_of};
 ghost use Rattle.ask_fields.specs.Asks.{naming};
 ghost use Rattle.ask_fields.specs.Fields.{Reads};
 

@@ -1,7 +1,7 @@
 // Fees.
 
 ghost use Rattle.trust_base.specs.Names.{label_of};
-ghost use Rattle.trust_values.specs.Texts.{amount_of};
+ghost use Rattle.trust_base.specs.Texts.{amount_of};
 ghost use Rattle.ask_fields.specs.Asks.{earning};
 ghost use Rattle.ask_fields.specs.Fields.{Reads};
 

@@ -1,7 +1,7 @@
 -- The lines of one matter among those of others.
 use Rattle.std.proofs.Common.{◌≡◌, ◌∙◌, ℕ, Bool, true, false, List, [], ◌∷◌, Option, Some, None, Result, Ok, Err, refl, sym, ap}
 use Rattle.std.specs.List.{filter}
-use Rattle.trust_values.specs.Texts.{matter_of}
+use Rattle.trust_base.specs.Texts.{matter_of}
 use Rattle.trust_base.specs.declared.refusal.Field.{Field}
 use Rattle.trust_matter.specs.declared.ask.Ask.{Ask}
 use Rattle.firm_rows.specs.Firm.{Firm, of}

@@ -3,7 +3,7 @@ use Rattle.std.proofs.Common.{◌≡◌, ℕ, suc, List, [], ◌∷◌, Option, 
 use Rattle.std.proofs.KnownBytes.{Keeps-trans}
 use Rattle.std.specs.Io.KnownBytes.{Keeps}
 use Rattle.firm_rows.specs.Firm.{Firm}
-use Rattle.portal_http.specs.declared.stream.StreamEnd.{StreamEnd}
+use Rattle.portal_server.specs.stream.StreamEnd.{StreamEnd}
 use Rattle.portal_server.specs.ServedAll.{AreServedInTurn, IsClientServed}
 use Rattle.portal_server.specs.declared.server.ServeEnd.{ServeEnd}
 use Rattle.portal_server.specs.declared.server.ServeEnd.TheVariants as serving

@@ -22,8 +22,8 @@ use Rattle.cashier.specs.declared.sheet.SheetEnd.{SheetEnd}
 use Rattle.cashier.specs.declared.sheet.SheetEnd.TheVariants as sheet
 use Rattle.cashier.specs.declared.statement.StatementEnd.{StatementEnd}
 use Rattle.cashier.specs.declared.statement.StatementEnd.TheVariants as statement
-use Rattle.portal_http.specs.declared.stream.StreamEnd.{StreamEnd}
-use Rattle.portal_http.specs.declared.stream.StreamEnd.TheVariants as stream
+use Rattle.portal_server.specs.stream.StreamEnd.{StreamEnd}
+use Rattle.portal_server.specs.stream.StreamEnd.TheVariants as stream
 
 -- 0 done, 1 something was refused, 2 the command line, 3 a fault
 abbrev pub exit_status : Outcome → ℕ

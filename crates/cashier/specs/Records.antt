@@ -4,7 +4,7 @@ use Rattle.std.specs.List.{list_all}
 use Rattle.std.specs.Str.{bytes_eq, is_utf8}
 use Rattle.csv.specs.Records.{field_at}
 use Rattle.trust_base.specs.Names.{label_of, person_of}
-use Rattle.trust_values.specs.Texts.{amount_of, amount_or_zero_of, matter_of}
+use Rattle.trust_base.specs.Texts.{amount_of, amount_or_zero_of, matter_of}
 use Rattle.trust_base.specs.declared.refusal.Field.{Field}
 use Rattle.trust_base.specs.declared.refusal.Field.TheVariants as field
 use Rattle.trust_matter.specs.declared.ask.Ask.{Ask}

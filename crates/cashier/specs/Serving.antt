@@ -2,8 +2,8 @@
 use Rattle.std.specs.Prelude.{◌≡◌, ◌⊎◌, ℕ, suc, List, [], ◌∷◌, Option}
 use Rattle.std.specs.Io.KnownBytes.{Appends}
 use Rattle.firm_rows.specs.Firm.{Firm}
-use Rattle.portal_http.specs.declared.stream.StreamEnd.{StreamEnd}
-use Rattle.portal_http.specs.declared.stream.StreamEnd.TheVariants as stream
+use Rattle.portal_server.specs.stream.StreamEnd.{StreamEnd}
+use Rattle.portal_server.specs.stream.StreamEnd.TheVariants as stream
 use Rattle.portal_server.specs.EndLines.{IsTold}
 use Rattle.portal_server.specs.declared.server.ServeEnd.{ServeEnd}
 use Rattle.portal_server.specs.declared.server.ServeEnd.TheVariants as serving

@@ -6,7 +6,7 @@ use Rattle.std.specs.List.{concat, filter}
 use Rattle.csv.specs.Reading.{default_config, records, strip_bom}
 use Rattle.trust_base.specs.declared.limits.TheConstants.{MAX_FILE_BYTES}
 use Rattle.trust_base.specs.Refusals.{refusal_text, status_of}
-use Rattle.trust_values.specs.Texts.{matter_of}
+use Rattle.trust_base.specs.Texts.{matter_of}
 use Rattle.trust_base.specs.declared.refusal.Field.{Field}
 use Rattle.trust_base.specs.declared.refusal.Refusal.{Refusal}
 use Rattle.trust_base.specs.declared.refusal.Refusal.TheVariants.{BadField, TooLarge, Store, Memory}

@@ -20,6 +20,7 @@ mod system;
 
 pub use folder::{Folder, Opened};
 pub use outcome::{Outcome, exit_of};
+pub use portal_server::{AcceptFault, ClientListener, Connection, Network};
 pub use program::{run_in_memory, run_words};
 pub use report::run_report;
 pub use serving::run_serve;

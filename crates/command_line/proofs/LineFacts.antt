@@ -11,7 +11,7 @@ use Rattle.clap.proofs.OnLiterals.{clap_on_literals}
 use Rattle.clap.proofs.WalkLemmas.{first_value-rows}
 use Rattle.std.specs.Borrow.{Bor}
 use Rattle.std.specs.Str.{bytes_eq}
-use Rattle.trust_values.specs.Texts.{day_of, matter_of}
+use Rattle.trust_base.specs.Texts.{day_of, matter_of}
 use Rattle.command_line.specs.Program.{Gives, IsTask, LeavesNoPlan, MeetsTask, Means, MeansNothing, import_app, operand_app, operand_rule, report_apps, ImportIsNoSheet, ImportIsNoStream, IsReportCommand, ReportReadsNothing, ServeReadsNothing, program, report_name, run_apps, serve_app, sheet_app, stream_app, today_rule}
 use Rattle.command_line.specs.declared.command.CliFault.{CliFault}
 use Rattle.command_line.specs.declared.command.CliFault.TheVariants as faults

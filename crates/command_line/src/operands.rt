@@ -2,7 +2,7 @@
 
 ghost use Rattle.std.specs.Prelude.{◌≡◌, ℕ, IfNone, IfSome, option_and_then};
 ghost use Rattle.clap.specs.Words.{first_of, found_of, rows_of};
-ghost use Rattle.trust_values.specs.Texts.{day_of, matter_of};
+ghost use Rattle.trust_base.specs.Texts.{day_of, matter_of};
 ghost use Rattle.command_line.specs.Program.{IsCountGiven, IsPortGiven};
 
 use crate::numerals::{count_of, port_of};

@@ -4,11 +4,11 @@ use Rattle.std.specs.Prelude.{is_none}
 use Rattle.std.specs.Option.{option_map}
 use Rattle.firm_rows.specs.Firm.{Firm}
 use Rattle.firm_rows.specs.FirmSound.{FirmSound}
-use Rattle.trust_figures.specs.Figures.{closing_on, figures, figures_on}
-use Rattle.trust_figures.specs.Openings.{AreClosings}
-use Rattle.trust_figures.specs.Purged.{is_period_purged}
-use Rattle.trust_figures.specs.Reconciliations.{ReconciliationKept, ReconciliationTold, kept_told, reconciled, reconciliation_on}
-use Rattle.trust_figures.proofs.ReconciliationRows.{reconciliation-kept}
+use Rattle.trust_reports.specs.Figures.{closing_on, figures, figures_on}
+use Rattle.trust_reports.specs.Openings.{AreClosings}
+use Rattle.trust_reports.specs.Purged.{is_period_purged}
+use Rattle.trust_reports.specs.Reconciliations.{ReconciliationKept, ReconciliationTold, kept_told, reconciled, reconciliation_on}
+use Rattle.trust_reports.proofs.ReconciliationRows.{reconciliation-kept}
 use Rattle.firm_reports.specs.Kept.{IsAnswer, IsKeptOf}
 use Rattle.firm_reports.specs.Reports.{IsReconciled, has_no_statement, reconciliation_report}
 use Rattle.firm_reports.specs.declared.reconciliation.Reconciled.{Reconciled}

@@ -4,11 +4,11 @@ use Rattle.std.specs.Prelude.{codes}
 use Rattle.firm_rows.specs.Countable.{AreCountable, IsFirmLineInRange, IsMovementInRange, IsRowInRange}
 use Rattle.firm_rows.specs.Firm.{Firm}
 use Rattle.firm_rows.specs.FirmSound.{FirmSound}
-use Rattle.trust_lists.specs.Lists.{JournalKept, TrialKept, no_journal, trial_kept, trial_of, trial_sum, with_moved}
-use Rattle.trust_lists.specs.Retained.{Retained, none_retained, with_row_retained}
-use Rattle.trust_lists.proofs.Lists.{journal-kept}
-use Rattle.trust_lists.proofs.Retained.{retention-kept}
-use Rattle.trust_lists.proofs.Trial.{total-kept, trial-kept}
+use Rattle.trust_reports.specs.Lists.{JournalKept, TrialKept, no_journal, trial_kept, trial_of, trial_sum, with_moved}
+use Rattle.trust_reports.specs.Retained.{Retained, none_retained, with_row_retained}
+use Rattle.trust_reports.proofs.Lists.{journal-kept}
+use Rattle.trust_reports.proofs.Retained.{retention-kept}
+use Rattle.trust_reports.proofs.Trial.{total-kept, trial-kept}
 use Rattle.trust_reports.specs.Texts.{heading}
 use Rattle.trust_reports.specs.TextsOfLists.{exception_line, exceptions_text, journal_text, retention_text, trial_text}
 use Rattle.firm_reports.specs.Reports.{exceptions_report, journal_report, retention_report, trial_report}

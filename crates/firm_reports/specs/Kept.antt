@@ -2,7 +2,7 @@
 use Rattle.std.specs.Prelude.{◌≡◌, ℕ, Bool, true, false, Option, is_none}
 use Rattle.firm_rows.specs.Countable.{IsCountable}
 use Rattle.firm_rows.specs.Firm.{Firm}
-use Rattle.trust_figures.specs.Reconciliations.{ReconciliationKept, ReconciliationTold, all_kept}
+use Rattle.trust_reports.specs.Reconciliations.{ReconciliationKept, ReconciliationTold, all_kept}
 use Rattle.firm_reports.specs.Reports.{text_of}
 use Rattle.firm_reports.specs.declared.reconciliation.Reconciled.{Reconciled}
 use Rattle.firm_reports.specs.declared.reconciliation.Reconciled.TheVariants as answer

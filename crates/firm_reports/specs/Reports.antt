@@ -2,11 +2,11 @@
 use Rattle.std.specs.Prelude.{◌≡◌, ℕ, Bool, true, false, List, [], Option, Some, None, is_none}
 use Rattle.firm_rows.specs.Firm.{Firm}
 use Rattle.firm_rows.specs.FirmLines.{balance_of}
-use Rattle.trust_figures.specs.Figures.{closing_on}
-pub use Rattle.trust_figures.specs.Purged.{is_period_purged}
-use Rattle.trust_figures.specs.Reconciliations.{ReconciliationTold, reconciliation_on}
-use Rattle.trust_lists.specs.Lists.{journal_list, trial_lines, trial_total}
-use Rattle.trust_lists.specs.Retained.{retention_list}
+use Rattle.trust_reports.specs.Figures.{closing_on}
+pub use Rattle.trust_reports.specs.Purged.{is_period_purged}
+use Rattle.trust_reports.specs.Reconciliations.{ReconciliationTold, reconciliation_on}
+use Rattle.trust_reports.specs.Lists.{journal_list, trial_lines, trial_total}
+use Rattle.trust_reports.specs.Retained.{retention_list}
 use Rattle.trust_reports.specs.TextsOfLists.{exceptions_text, journal_text, retention_text, trial_text}
 use Rattle.trust_reports.specs.TextsOfReconciliation.{reconciliation_text}
 use Rattle.firm_reports.specs.declared.reconciliation.Reconciled.{Reconciled}

@@ -7,8 +7,7 @@ ghost use Rattle.firm_reports.specs.Reports.{journal_report};
 
 use std::alloc::{AllocError, Global};
 use trust_base::{Day, StoreFault};
-use trust_lists::{JournalLine, JournalSink};
-use trust_reports::journal_text;
+use trust_reports::{JournalLine, JournalSink, journal_text};
 use trust_store::Book;
 
 // The text of a journal.

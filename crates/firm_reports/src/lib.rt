@@ -13,3 +13,4 @@ pub use journal::journal_report;
 pub use reconciliation::{Reconciled, reconciliation_report};
 pub use retention::retention_report;
 pub use trial::trial_report;
+pub use trust_reports::ledger_card;

@@ -1,8 +1,8 @@
 // The reconciliation of a firm.
 
 ghost use Rattle.std.specs.Prelude.{◌≡◌, IfOk};
-ghost use Rattle.trust_figures.specs.Openings.{AreClosings};
-ghost use Rattle.trust_figures.specs.Reconciliations.{kept_told, told};
+ghost use Rattle.trust_reports.specs.Openings.{AreClosings};
+ghost use Rattle.trust_reports.specs.Reconciliations.{kept_told, told};
 ghost use Rattle.trust_reports.specs.TextsOfReconciliation.{reconciliation_text};
 ghost use Rattle.trust_store.specs.Calls.{IsRead};
 ghost use Rattle.firm_reports.specs.Kept.{IsAnswer, IsKeptOf};
@@ -10,8 +10,7 @@ ghost use Rattle.firm_reports.specs.Reports.{IsReconciled};
 
 use std::alloc::{AllocError, Global};
 use trust_base::{Day, StoreFault};
-use trust_figures::{Reconciliation, ReconciliationSink};
-use trust_reports::reconciliation_text;
+use trust_reports::{Reconciliation, ReconciliationSink, reconciliation_text};
 use trust_store::Book;
 
 /// What is answered where the reconciliation as of a day is asked for.

@@ -7,8 +7,7 @@ ghost use Rattle.firm_reports.specs.Reports.{retention_report};
 
 use std::alloc::{AllocError, Global};
 use trust_base::{Day, StoreFault};
-use trust_lists::{RetentionLine, RetentionSink};
-use trust_reports::retention_text;
+use trust_reports::{RetentionLine, RetentionSink, retention_text};
 use trust_store::Book;
 
 // The text of a retention list.

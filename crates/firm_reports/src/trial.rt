@@ -7,8 +7,7 @@ ghost use Rattle.firm_reports.specs.Reports.{trial_report};
 
 use std::alloc::{AllocError, Global};
 use trust_base::{Day, StoreFault};
-use trust_lists::{TrialBalance, TrialSink};
-use trust_reports::trial_text;
+use trust_reports::{TrialBalance, TrialSink, trial_text};
 use trust_store::Book;
 
 // The text of a trial balance.

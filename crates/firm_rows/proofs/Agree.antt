@@ -4,9 +4,9 @@ use Rattle.std.specs.Prelude.{ℤ, pos, ◌+ℤ◌, ◌==◌, ◌&&◌}
 use Rattle.std.specs.List.{filter}
 use Rattle.std.proofs.lemmas.Int.{ints}
 use Rattle.std.proofs.lemmas.Bool.Decides.{nat_tests}
-use Rattle.matter_rows.specs.declared.entry.Entry.{Entry}
-use Rattle.matter_rows.specs.Rows.{entry_at}
-use Rattle.matter_rows.specs.Events.{Event, events_of, events_in}
+use Rattle.trust_matter.specs.entry.Entry.{Entry}
+use Rattle.trust_matter.specs.Rows.{entry_at}
+use Rattle.trust_matter.specs.Events.{Event, events_of, events_in}
 use Rattle.firm_rows.specs.declared.movement.Movement.{Movement}
 use Rattle.firm_rows.specs.declared.movement.Owner.{Owner}
 use Rattle.firm_rows.specs.declared.movement.Owner.TheVariants as owner

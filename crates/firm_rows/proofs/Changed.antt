@@ -1,9 +1,9 @@
 -- A change of a matter changes the rows of that matter alone.
 use Rattle.std.proofs.Common.{◌≡◌, ◌≢◌, ℕ, ◌⊎◌, inl, inr, refl, sym, ap, ◌∙◌, ◌++◌, List, append-nil}
-use Rattle.matter_parts.specs.declared.edit.Edit.{Edit}
-use Rattle.matter_parts.specs.declared.edit.Edit.TheVariants as edit
-use Rattle.matter_rows.specs.Rows.{Rows}
-use Rattle.matter_parts.specs.Changes.{MatterChange, changed, changed_by}
+use Rattle.trust_matter.specs.edit.Edit.{Edit}
+use Rattle.trust_matter.specs.edit.Edit.TheVariants as edit
+use Rattle.trust_matter.specs.Rows.{Rows}
+use Rattle.trust_matter.specs.Changes.{MatterChange, changed, changed_by}
 use Rattle.firm_rows.specs.declared.movement.Movement.{Movement}
 use Rattle.firm_rows.specs.Firm.{Firm, of, among, rewritten_by, cleared_by, moved_by, moved_without, kept_movements, put, after_edit, after_change}
 use Rattle.firm_rows.proofs.Joined.{rows_of-put_same, rows_of-put_other}

@@ -4,11 +4,11 @@ use Rattle.std.specs.Prelude.{◌==◌, pos, ◌+ℤ◌, ◌≤ℤ◌}
 use Rattle.std.specs.List.{filter, AllByRecursion}
 use Rattle.std.proofs.lemmas.Int.{ints}
 use Rattle.std.proofs.lemmas.Bool.Decides.{nat_tests}
-use Rattle.matter_rows.specs.declared.entry.Entry.{Entry}
-use Rattle.matter_rows.specs.Rows.{Rows, entry_at, last_of}
-use Rattle.matter_rows.specs.Balances.{ledger}
-use Rattle.matter_rows.specs.Events.{events_in}
-use Rattle.matter_rows.specs.Sound.{Sound}
+use Rattle.trust_matter.specs.entry.Entry.{Entry}
+use Rattle.trust_matter.specs.Rows.{Rows, entry_at, last_of}
+use Rattle.trust_matter.specs.Balances.{ledger}
+use Rattle.trust_matter.specs.Events.{events_in}
+use Rattle.trust_matter.specs.Sound.{Sound}
 use Rattle.firm_rows.specs.declared.movement.Movement.{Movement}
 use Rattle.firm_rows.specs.declared.movement.Owner.{Owner}
 use Rattle.firm_rows.specs.declared.movement.Owner.TheVariants as owner

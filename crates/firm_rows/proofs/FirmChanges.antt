@@ -4,8 +4,8 @@ use Rattle.std.specs.Prelude.{◌==◌}
 use Rattle.std.proofs.lemmas.Bool.Decides.{nat_tests}
 use Rattle.trust_base.specs.declared.line.Line.{Line}
 use Rattle.trust_matter.specs.declared.line_verdict.LineVerdict.TheVariants as verdict
-use Rattle.matter_rows.specs.Laws.{Covered}
-use Rattle.matter_parts.specs.Changes.{changed}
+use Rattle.trust_matter.specs.Laws.{Covered}
+use Rattle.trust_matter.specs.Changes.{changed}
 use Rattle.firm_rows.specs.FirmLines.{as_firm_line, balance_row}
 use Rattle.firm_rows.specs.Firm.{Firm, of, after_change, with_firm_line, with_statement}
 use Rattle.firm_rows.specs.FirmChange.{FirmChange, OfMatter, Repeated, Unmatched, OfFirm, OfBalance, matched_by, after}

@@ -5,10 +5,10 @@ use Rattle.std.specs.List.{AllByRecursion}
 use Rattle.std.proofs.lemmas.Bool.Decides.{nat_tests}
 use Rattle.std.proofs.lemmas.List.{map-append}
 use Rattle.std.proofs.lemmas.List.Elements.{filter-append}
-use Rattle.matter_rows.specs.declared.movement.EntryMovement as change
-use Rattle.matter_rows.specs.Sound.{AreRising}
-use Rattle.matter_parts.specs.Changes.{IsMovedWithin}
-use Rattle.matter_rows.proofs.Days.{up-to}
+use Rattle.trust_matter.specs.movement.EntryMovement as change
+use Rattle.trust_matter.specs.Sound.{AreRising}
+use Rattle.trust_matter.specs.Changes.{IsMovedWithin}
+use Rattle.trust_matter.proofs.Days.{up-to}
 use Rattle.firm_rows.specs.declared.movement.Movement.{Movement}
 use Rattle.firm_rows.specs.Firm.{is_of_matter, joined_movement}
 use Rattle.firm_rows.specs.Journal.{days_moved}

@@ -4,10 +4,10 @@ use Rattle.std.specs.Prelude.{filter, nat_lt, ◌==◌}
 use Rattle.std.proofs.lemmas.Bool.{cases_lt}
 use Rattle.std.proofs.lemmas.Bool.Decides.{nat_tests}
 use Rattle.std.proofs.lemmas.List.Elements.{filter-append}
-use Rattle.matter_rows.specs.Rows.{Rows}
-use Rattle.matter_rows.specs.declared.entry.Entry.{Entry}
-use Rattle.matter_rows.specs.declared.head.Head.{Head}
-use Rattle.matter_rows.specs.declared.seat.Seat.{Seat}
+use Rattle.trust_matter.specs.Rows.{Rows}
+use Rattle.trust_matter.specs.entry.Entry.{Entry}
+use Rattle.trust_matter.specs.head.Head.{Head}
+use Rattle.trust_matter.specs.seat.Seat.{Seat}
 use Rattle.firm_rows.specs.Firm.{Row, SeatRow, EntryRow, pairs, head_pairs, seat_pairs, entry_pairs, put, rows_of, among}
 
 -- the pairs of one matter pass a test on the matter together

@@ -7,14 +7,14 @@ use Rattle.std.proofs.lemmas.Bool.Decides.{nat_tests}
 use Rattle.std.proofs.Math.Seq.{take-nil}
 use Rattle.std.proofs.lemmas.List.{take-append-le, take_all}
 use Rattle.std.specs.List.Sorted.{IsStrictlySortedBy}
-use Rattle.matter_parts.specs.declared.edit.Edit.{Edit}
-use Rattle.matter_rows.specs.declared.movement.EntryMovement as change
-use Rattle.matter_rows.specs.Rows.{Rows, unopened, entry_at, last_of}
-use Rattle.matter_rows.specs.Balances.{ledger}
-use Rattle.matter_rows.specs.Events.{events_in}
-use Rattle.matter_rows.specs.Sound.{Sound}
-use Rattle.matter_rows.specs.Laws.{Covered}
-use Rattle.matter_parts.specs.Changes.{MatterChange, IsChange, changed_by, movement_of, AreMoved, IsMovedWithin, IsPlace}
+use Rattle.trust_matter.specs.edit.Edit.{Edit}
+use Rattle.trust_matter.specs.movement.EntryMovement as change
+use Rattle.trust_matter.specs.Rows.{Rows, unopened, entry_at, last_of}
+use Rattle.trust_matter.specs.Balances.{ledger}
+use Rattle.trust_matter.specs.Events.{events_in}
+use Rattle.trust_matter.specs.Sound.{Sound}
+use Rattle.trust_matter.specs.Laws.{Covered}
+use Rattle.trust_matter.specs.Changes.{MatterChange, IsChange, changed_by, movement_of, AreMoved, IsMovedWithin, IsPlace}
 use Rattle.firm_rows.specs.declared.movement.Movement.{Movement}
 use Rattle.firm_rows.specs.Firm.{Firm, empty_firm, of, joined_movement, moved_by, rewritten_by, after_edit, after_change}
 use Rattle.firm_rows.specs.declared.ledger.FirmLine.{FirmLine}

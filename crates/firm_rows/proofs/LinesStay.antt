@@ -13,8 +13,8 @@ use Rattle.std.proofs.lemmas.Cmp.{tied_back, tied_itself}
 use Rattle.std.proofs.lemmas.List.Folds.{find-append, list_any-append}
 use Rattle.std.proofs.lemmas.Slice.Eq.{bytes_eq-Decides}
 use Rattle.trust_base.specs.declared.line.Line.{Line}
-use Rattle.matter_parts.specs.declared.edit.Edit.{Edit}
-use Rattle.matter_parts.specs.declared.edit.Edit.TheVariants as edit
+use Rattle.trust_matter.specs.edit.Edit.{Edit}
+use Rattle.trust_matter.specs.edit.Edit.TheVariants as edit
 use Rattle.firm_rows.specs.declared.ledger.BalanceKind.{BalanceKind}
 use Rattle.firm_rows.specs.declared.ledger.StatementRow.{StatementRow}
 use Rattle.firm_rows.specs.FirmLines.{is_kept_as, as_firm_line, place_of, balance_cmp, balance_row, is_balance_on, kept_balance, with_balance}

@@ -3,9 +3,9 @@ use Rattle.std.proofs.Common.{◌≡◌, ◌≢◌, ℕ, ◌<◌, ◌≤◌, Boo
 use Rattle.std.specs.Prelude.{nat_lt, ◌==◌}
 use Rattle.std.proofs.lemmas.Bool.{cases_lt}
 use Rattle.std.proofs.lemmas.Bool.Decides.{nat_tests}
-use Rattle.matter_parts.specs.declared.edit.Edit.{Edit}
-use Rattle.matter_rows.specs.Rows.{Rows}
-use Rattle.matter_parts.specs.Changes.{MatterChange, changed_by}
+use Rattle.trust_matter.specs.edit.Edit.{Edit}
+use Rattle.trust_matter.specs.Rows.{Rows}
+use Rattle.trust_matter.specs.Changes.{MatterChange, changed_by}
 use Rattle.firm_rows.specs.Firm.{Row, Firm, of, pairs, put, rewritten_by, cleared_by, after_change}
 use Rattle.firm_rows.specs.FirmSound.{IsInOrder}
 use Rattle.firm_rows.proofs.Joined.{passing, passing-append, passing_twice, passing_never, passing_swap, pairs_pass, pairs_fail}

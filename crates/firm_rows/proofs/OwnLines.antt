@@ -5,7 +5,7 @@ use Rattle.std.specs.Ordering.{int_eq}
 use Rattle.std.specs.List.{list_any}
 use Rattle.std.proofs.lemmas.Int.{ints}
 use Rattle.std.proofs.lemmas.List.{map-append, take_all}
-use Rattle.matter_rows.specs.Rows.{last_of}
+use Rattle.trust_matter.specs.Rows.{last_of}
 use Rattle.firm_rows.specs.declared.movement.Movement.{Movement}
 use Rattle.firm_rows.specs.declared.ledger.FirmLine.{FirmLine}
 use Rattle.firm_rows.specs.declared.ledger.Verdict.{Verdict}

@@ -3,10 +3,10 @@ use Rattle.std.proofs.Common.{◌≡◌, ℕ, zero, suc, Bool, true, false, cond
 use Rattle.std.specs.Prelude.{ℤ, pos, ◌+ℤ◌, ◌≤ℤ◌}
 use Rattle.std.specs.List.{filter}
 use Rattle.std.proofs.lemmas.Int.{ints}
-use Rattle.matter_rows.specs.declared.entry.Entry.{Entry}
-use Rattle.matter_rows.specs.Balances.{ledger}
-use Rattle.matter_rows.specs.Events.{Event}
-use Rattle.matter_rows.specs.Laws.{Covered}
+use Rattle.trust_matter.specs.entry.Entry.{Entry}
+use Rattle.trust_matter.specs.Balances.{ledger}
+use Rattle.trust_matter.specs.Events.{Event}
+use Rattle.trust_matter.specs.Laws.{Covered}
 use Rattle.firm_rows.specs.declared.movement.Movement.{Movement}
 use Rattle.firm_rows.specs.declared.ledger.FirmLine.{FirmLine}
 use Rattle.firm_rows.specs.Sums.{sum_of}

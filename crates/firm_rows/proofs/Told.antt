@@ -5,25 +5,25 @@ use Rattle.std.proofs.lemmas.Int.{ints}
 use Rattle.std.proofs.lemmas.Bool.Decides.{nat_tests}
 use Rattle.std.proofs.lemmas.List.{map-append}
 use Rattle.std.proofs.lemmas.List.Elements.{filter-append}
-use Rattle.matter_rows.specs.declared.entry.Entry.{Entry}
-use Rattle.matter_rows.specs.declared.entry.Entry.TheVariants as entry
-use Rattle.matter_rows.specs.declared.deposit.DepositState.{DepositState}
-use Rattle.matter_rows.specs.declared.deposit.DepositState.TheVariants as deposit
-use Rattle.matter_rows.specs.declared.payment.PaymentState.{PaymentState}
-use Rattle.matter_rows.specs.declared.payment.PaymentState.TheVariants as payment
-use Rattle.matter_parts.specs.declared.edit.Numbered.{Numbered}
-use Rattle.matter_parts.specs.declared.edit.Edit.{Edit}
-use Rattle.matter_parts.specs.declared.edit.Edit.TheVariants as edit
-use Rattle.matter_rows.specs.declared.movement.EntryMovement as change
-use Rattle.matter_rows.specs.Rows.{Rows, entry_at, with_entry}
-use Rattle.matter_rows.specs.Shares.{total_share, held_share, held_deposit, cleared_deposit, paid}
-use Rattle.matter_rows.specs.Balances.{ledger}
-use Rattle.matter_rows.specs.Events.{Event, events_of, events_in, cancelling, payments, received}
-use Rattle.matter_rows.specs.Events.{as_movement}
-use Rattle.matter_parts.specs.Changes.{edited, movement_of, events_by, AreMoved, IsPlace}
-use Rattle.matter_parts.specs.Changes as changes
-use Rattle.matter_rows.proofs.Entries.{entry_at-append, entry_at-with, none-past}
-use Rattle.matter_rows.proofs.Sums.{total-append, total-with}
+use Rattle.trust_matter.specs.entry.Entry.{Entry}
+use Rattle.trust_matter.specs.entry.Entry.TheVariants as entry
+use Rattle.trust_matter.specs.deposit.DepositState.{DepositState}
+use Rattle.trust_matter.specs.deposit.DepositState.TheVariants as deposit
+use Rattle.trust_matter.specs.payment.PaymentState.{PaymentState}
+use Rattle.trust_matter.specs.payment.PaymentState.TheVariants as payment
+use Rattle.trust_matter.specs.edit.Numbered.{Numbered}
+use Rattle.trust_matter.specs.edit.Edit.{Edit}
+use Rattle.trust_matter.specs.edit.Edit.TheVariants as edit
+use Rattle.trust_matter.specs.movement.EntryMovement as change
+use Rattle.trust_matter.specs.Rows.{Rows, entry_at, with_entry}
+use Rattle.trust_matter.specs.Shares.{total_share, held_share, held_deposit, cleared_deposit, paid}
+use Rattle.trust_matter.specs.Balances.{ledger}
+use Rattle.trust_matter.specs.Events.{Event, events_of, events_in, cancelling, payments, received}
+use Rattle.trust_matter.specs.Events.{as_movement}
+use Rattle.trust_matter.specs.Changes.{edited, movement_of, events_by, AreMoved, IsPlace}
+use Rattle.trust_matter.specs.Changes as changes
+use Rattle.trust_matter.proofs.Entries.{entry_at-append, entry_at-with, none-past}
+use Rattle.trust_matter.proofs.Sums.{total-append, total-with}
 use Rattle.firm_rows.specs.declared.movement.Movement.{Movement}
 use Rattle.firm_rows.specs.declared.movement.Owner.TheVariants as owner
 use Rattle.firm_rows.specs.Firm.{joined_movement}

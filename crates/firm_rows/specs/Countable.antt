@@ -2,9 +2,9 @@
 use Rattle.std.specs.Prelude.{ℕ, ◌≤◌, List, length, FitsSigned}
 use Rattle.std.specs.Int.{w64}
 use Rattle.std.specs.List.{AllByRecursion}
-use Rattle.trust_values.specs.Limits.{IsAmount, IsBankAmount}
+use Rattle.trust_base.specs.Limits.{IsAmount, IsBankAmount}
 use Rattle.trust_base.specs.declared.line.Line.{Line}
-use Rattle.matter_rows.specs.Rows.{entry_amount}
+use Rattle.trust_matter.specs.Rows.{entry_amount}
 use Rattle.firm_rows.specs.declared.movement.Movement.{Movement}
 use Rattle.firm_rows.specs.declared.ledger.FirmLine.{FirmLine}
 use Rattle.firm_rows.specs.declared.ledger.StatementRow.{StatementRow}

@@ -4,14 +4,14 @@ use Rattle.std.specs.Prelude.{ℕ, Bool, false, ◌+◌, ◌==◌, nat_lt, List,
 use Rattle.std.specs.List.{filter}
 use Rattle.trust_base.specs.LineOrder.{is_before, is_same_line}
 use Rattle.trust_base.specs.declared.line.Line.{Line}
-use Rattle.matter_rows.specs.declared.head.Head.{Head}
-use Rattle.matter_rows.specs.declared.seat.Seat.{Seat}
-use Rattle.matter_rows.specs.declared.entry.Entry.{Entry}
-use Rattle.matter_parts.specs.declared.edit.Edit.{Edit}
-use Rattle.matter_parts.specs.declared.edit.Edit.TheVariants as edit
-use Rattle.matter_rows.specs.declared.movement.EntryMovement as change
-use Rattle.matter_rows.specs.Rows.{Rows}
-use Rattle.matter_parts.specs.Changes.{MatterChange, changed_by, movement_of}
+use Rattle.trust_matter.specs.head.Head.{Head}
+use Rattle.trust_matter.specs.seat.Seat.{Seat}
+use Rattle.trust_matter.specs.entry.Entry.{Entry}
+use Rattle.trust_matter.specs.edit.Edit.{Edit}
+use Rattle.trust_matter.specs.edit.Edit.TheVariants as edit
+use Rattle.trust_matter.specs.movement.EntryMovement as change
+use Rattle.trust_matter.specs.Rows.{Rows}
+use Rattle.trust_matter.specs.Changes.{MatterChange, changed_by, movement_of}
 use Rattle.firm_rows.specs.declared.movement.Movement.{Movement}
 use Rattle.firm_rows.specs.declared.movement.Owner.{Owner}
 use Rattle.firm_rows.specs.declared.movement.Owner.TheVariants as owner

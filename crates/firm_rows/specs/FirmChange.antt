@@ -4,8 +4,8 @@ use Rattle.trust_base.specs.declared.line.Line.{Line}
 use Rattle.trust_matter.specs.declared.bank_line.BankLine.{BankLine}
 use Rattle.trust_matter.specs.declared.line_verdict.LineVerdict.{LineVerdict}
 use Rattle.trust_matter.specs.declared.line_verdict.LineVerdict.TheVariants as verdict
-use Rattle.matter_rows.specs.Rows.{Rows}
-use Rattle.matter_parts.specs.Changes.{MatterChange, changed, IsChange}
+use Rattle.trust_matter.specs.Rows.{Rows}
+use Rattle.trust_matter.specs.Changes.{MatterChange, changed, IsChange}
 use Rattle.firm_rows.specs.declared.ledger.Verdict.{Verdict}
 use Rattle.firm_rows.specs.declared.ledger.Verdict.TheVariants as told
 use Rattle.firm_rows.specs.declared.ledger.BalanceKind.{BalanceKind}

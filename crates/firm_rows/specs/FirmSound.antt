@@ -4,13 +4,13 @@ use Rattle.std.specs.List.{filter, AllByRecursion}
 use Rattle.std.specs.List.Sorted.{IsStrictlySortedBy}
 use Rattle.trust_base.specs.LineOrder.{line_cmp}
 use Rattle.trust_base.specs.declared.line.Line.{Line}
-use Rattle.matter_parts.specs.declared.edit.Edit.TheVariants as edit
+use Rattle.trust_matter.specs.edit.Edit.TheVariants as edit
 use Rattle.trust_matter.specs.declared.bank_line.BankLine.{BankLine}
 use Rattle.trust_matter.specs.declared.line_verdict.LineVerdict.{LineVerdict}
-use Rattle.matter_rows.specs.Rows.{entry_at, last_of}
-use Rattle.matter_rows.specs.Balances.{ledger}
-use Rattle.matter_rows.specs.Events.{events_in}
-use Rattle.matter_rows.specs.Sound.{AreRising, Sound}
+use Rattle.trust_matter.specs.Rows.{entry_at, last_of}
+use Rattle.trust_matter.specs.Balances.{ledger}
+use Rattle.trust_matter.specs.Events.{events_in}
+use Rattle.trust_matter.specs.Sound.{AreRising, Sound}
 use Rattle.trust_matter.specs.LineStep.{LineDecides}
 use Rattle.firm_rows.specs.declared.ledger.Verdict.{Verdict}
 use Rattle.firm_rows.specs.declared.ledger.BalanceKind.{BalanceKind}

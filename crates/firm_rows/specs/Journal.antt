@@ -1,9 +1,9 @@
 -- What the movements of a firm say of a matter and of an entry.
 use Rattle.std.specs.Prelude.{ℕ, Bool, true, false, cond, ◌==◌, ◌&&◌, List, map, ℤ, pos, ◌+ℤ◌}
 use Rattle.std.specs.List.{filter}
-use Rattle.matter_rows.specs.declared.entry.Entry.{Entry}
-use Rattle.matter_rows.specs.Shares.{total_share, held_share}
-use Rattle.matter_rows.specs.Events.{Event}
+use Rattle.trust_matter.specs.entry.Entry.{Entry}
+use Rattle.trust_matter.specs.Shares.{total_share, held_share}
+use Rattle.trust_matter.specs.Events.{Event}
 use Rattle.firm_rows.specs.declared.movement.Movement.{Movement}
 use Rattle.firm_rows.specs.declared.movement.Owner.{Owner}
 use Rattle.firm_rows.specs.declared.movement.Owner.TheVariants as owner

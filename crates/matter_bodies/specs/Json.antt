@@ -4,7 +4,7 @@ use Rattle.json.specs.Token.{Token}
 use Rattle.json.specs.Tree.{json_tokens}
 use Rattle.serde_json.specs.Data.{Data, null, number, string, array, object, unsigned, Items, no_items, item, Members, no_members, member}
 use Rattle.serde_json.specs.Written.{outline}
-use Rattle.trust_values.specs.Texts.{amount_text, signed_text, day_text, matter_text, entry_text}
+use Rattle.trust_base.specs.Texts.{amount_text, signed_text, day_text, matter_text, entry_text}
 
 abbrev pub members_of : List (List ℕ × Data) → Members
 members_of [] = no_members

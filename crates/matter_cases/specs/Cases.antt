@@ -18,7 +18,7 @@ use Rattle.trust_matter.specs.declared.ask.Ask.TheVariants as ask
 use Rattle.trust_matter.specs.Conditions.{is_repeat}
 use Rattle.trust_matter.specs.Facts.{Asked, facts_of}
 use Rattle.trust_matter.specs.Step.{refusal, rows_after}
-use Rattle.trust_values.specs.declared.limits.TheConstants.{MAX_ENTRY}
+use Rattle.trust_base.specs.TheConstants.{MAX_ENTRY}
 
 -- How an ask is answered.
 

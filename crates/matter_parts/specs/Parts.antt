@@ -11,7 +11,7 @@ use Rattle.matter_rows.specs.declared.limits.TheConstants.{MAX_TOTAL}
 use Rattle.matter_parts.specs.declared.figures.Balances.{Balances}
 use Rattle.matter_parts.specs.declared.figures.Figures.{Figures}
 use Rattle.matter_parts.specs.declared.kept.Kept.{Kept}
-use Rattle.trust_values.specs.declared.limits.TheConstants.{MAX_ENTRY}
+use Rattle.trust_base.specs.TheConstants.{MAX_ENTRY}
 
 -- what is kept of a matter
 pub record Part : Type 0 where

@@ -22,7 +22,7 @@ use Rattle.matter_rows.specs.declared.payment.Fund.{Fund}
 use Rattle.matter_rows.specs.declared.payment.Fund.TheVariants as fund
 use Rattle.matter_rows.specs.declared.claim.Against.{Against}
 use Rattle.matter_rows.specs.declared.claim.Against.TheVariants as against
-use Rattle.trust_values.specs.declared.limits.TheConstants.{MAX_ENTRY}
+use Rattle.trust_base.specs.TheConstants.{MAX_ENTRY}
 
 -- a client's ledger: entry n is the n-th of the list, so that the numbers are 1, 2 and so on
 pub record Rows : Type 0 where

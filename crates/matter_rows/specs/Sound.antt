@@ -1,7 +1,7 @@
 -- What holds of a matter's rows at every moment.
 use Rattle.std.specs.Prelude.{◌≡◌, ℕ, ◌≤◌, true, List, [], ◌∷◌, ◌++◌, map, length, pos, ◌≤ℤ◌, Option, Some, None, IsSome}
 use Rattle.std.specs.List.{AllByRecursion}
-use Rattle.trust_values.specs.Limits.{IsAmount}
+use Rattle.trust_base.specs.Limits.{IsAmount}
 use Rattle.matter_rows.specs.declared.head.Head.{Head}
 use Rattle.matter_rows.specs.declared.head.Holder.{Holder}
 use Rattle.matter_rows.specs.declared.head.Holder.TheVariants as holder
@@ -18,7 +18,7 @@ use Rattle.matter_rows.specs.declared.entry.Entry.{Entry}
 use Rattle.matter_rows.specs.declared.entry.Entry.TheVariants as entry
 use Rattle.matter_rows.specs.Rows.{Rows, entry_at, entry_amount, book_day, comes_before}
 use Rattle.matter_rows.specs.Balances.{left_of, available, ledger, pending, names}
-use Rattle.trust_values.specs.declared.limits.TheConstants.{MAX_ENTRY}
+use Rattle.trust_base.specs.TheConstants.{MAX_ENTRY}
 
 -- The entries.
 

@@ -6,7 +6,7 @@ ghost use Rattle.matter_rows.specs.Shares.{shares_of, no_shares, worth, AreSmall
 ghost use Rattle.matter_rows.specs.Rows.{is_same_against};
 ghost use Rattle.matter_rows.specs.Balances.{is_against};
 ghost use Rattle.matter_rows.specs.Sound.{part_of, claim_days, AreRising, day_settled};
-ghost use Rattle.trust_values.specs.declared.limits.TheConstants.{MAX_AMOUNT};
+ghost use Rattle.trust_base.specs.TheConstants.{MAX_AMOUNT};
 
 use crate::entry::Entry;
 use crate::fee::Fee;

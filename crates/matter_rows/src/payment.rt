@@ -8,7 +8,7 @@ ghost use Rattle.matter_rows.specs.Rows.{is_same_fund, entry_at};
 ghost use Rattle.matter_rows.specs.Clearings.{clearing_by, is_payment_cleared_by, cleared_payment};
 ghost use Rattle.matter_rows.specs.Balances.{funds};
 ghost use Rattle.matter_rows.specs.Sound.{payment_days, payment_bank, AreRising, funded_from};
-ghost use Rattle.trust_values.specs.declared.limits.TheConstants.{MAX_AMOUNT};
+ghost use Rattle.trust_base.specs.TheConstants.{MAX_AMOUNT};
 
 use crate::claim::Claim;
 use crate::clearing::{Clearing, clearing_by};

@@ -3,7 +3,7 @@
 ghost use Rattle.std.specs.Prelude.{◌≡◌, ◌≢◌, ℕ, ◌+◌, ◌<◌, ◌≤◌, ◌↔◌, pos, length, IfSome, IfNone};
 ghost use Rattle.matter_rows.specs.Shares.{draw_on, held_share, available_share, disputed_share, fee_share, claim_share, pending_share, IsSmallSum, AreSmallSums};
 ghost use Rattle.matter_rows.specs.Balances.{available, total_of};
-ghost use Rattle.trust_values.specs.declared.limits.TheConstants.{MAX_ENTRY};
+ghost use Rattle.trust_base.specs.TheConstants.{MAX_ENTRY};
 
 use crate::MAX_TOTAL;
 use crate::entry::Entry;

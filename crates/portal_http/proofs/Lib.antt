@@ -2,3 +2,4 @@ pub mod Fronts
 pub mod Steps
 pub mod Serve
 pub mod HeadTexts
+pub use Rattle.trust_desk.proofs.Calls

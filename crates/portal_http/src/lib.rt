@@ -10,3 +10,4 @@ pub use answers::{bytes_of, write_reply};
 pub use portal_messages::{Input, Message, Next, Stop, read_message};
 pub use portal_requests::{Routes, request_of};
 pub use stream::{StreamEnd, serve_stream};
+pub use trust_desk::Desk;

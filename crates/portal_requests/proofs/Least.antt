@@ -1,7 +1,7 @@
 -- The refusal that is told of a message is the least.
 use Rattle.std.proofs.Common.{◌≡◌, ◌∙◌, ◌<◌, ℕ, Bool, true, false, cond, List, Option, Some, None, Result, Ok, Err, refl, sym, ap, subst, arith}
 use Rattle.std.specs.Str.{bytes_eq}
-use Rattle.trust_values.specs.Texts.{day_of}
+use Rattle.trust_base.specs.Texts.{day_of}
 use Rattle.trust_base.specs.Refusals.{number_of}
 use Rattle.trust_base.specs.declared.refusal.Field.{Field}
 use Rattle.trust_base.specs.declared.refusal.Field.TheVariants as field

@@ -8,7 +8,7 @@ use Rattle.matchit.specs.Router.{RouteOf, route_from}
 use Rattle.matchit.specs.Rows.{RowsOf}
 use Rattle.matchit.specs.Seek.{first}
 use Rattle.matchit.specs.declared.error.InsertError.{InsertError}
-use Rattle.trust_values.specs.Texts.{day_of, matter_of}
+use Rattle.trust_base.specs.Texts.{day_of, matter_of}
 use Rattle.trust_base.specs.declared.refusal.Field.{Field}
 use Rattle.trust_base.specs.declared.refusal.Refusal.TheVariants.{BadMethod}
 use Rattle.trust_matter.specs.declared.ask.Ask.{Ask}

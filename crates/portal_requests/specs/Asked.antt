@@ -1,7 +1,7 @@
 -- What a place asks, with the fields of a body. The bodies of what only reads are passed over.
 use Rattle.std.specs.Prelude.{ℕ, List, [], ◌∷◌, codes, Result, Ok}
 use Rattle.trust_base.specs.Names.{label_of, person_of}
-use Rattle.trust_values.specs.Texts.{amount_of, amount_or_zero_of}
+use Rattle.trust_base.specs.Texts.{amount_of, amount_or_zero_of}
 use Rattle.trust_base.specs.declared.refusal.Field.{Field}
 use Rattle.trust_matter.specs.declared.ask.Ask.{Ask}
 use Rattle.trust_matter.specs.declared.ask.Ask.TheVariants as ask

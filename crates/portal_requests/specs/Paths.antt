@@ -1,7 +1,7 @@
 -- The parts of a path, and the matter that it names.
 use Rattle.std.specs.Prelude.{◌==◌, ◌&&◌, ℕ, Bool, true, nat_le, length, List, [], ◌∷◌, take, drop, codes, Option, None, if◌then◌else◌}
 use Rattle.std.specs.Str.{bytes_eq}
-use Rattle.trust_values.specs.Texts.{matter_of}
+use Rattle.trust_base.specs.Texts.{matter_of}
 
 -- the bytes before the first slash
 abbrev pub up_to_slash : List ℕ → List ℕ

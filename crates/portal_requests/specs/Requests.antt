@@ -1,7 +1,7 @@
 -- What a message asks. Its refusals come in this order: no route, another method, no caller, a field.
 use Rattle.std.specs.Prelude.{ℕ, List, Option, Some, None, Result, Ok, Err, if◌then◌else◌}
 use Rattle.std.specs.Str.{bytes_eq}
-use Rattle.trust_values.specs.Texts.{day_of}
+use Rattle.trust_base.specs.Texts.{day_of}
 use Rattle.trust_base.specs.declared.refusal.Refusal.{Refusal}
 use Rattle.trust_base.specs.declared.refusal.Refusal.TheVariants.{BadField, BadMethod, NoCaller, NoRoute}
 use Rattle.trust_base.specs.declared.refusal.Field.{Field}

@@ -7,7 +7,7 @@ use Rattle.std.proofs.Math.Seq.{take-append-add}
 use Rattle.std.proofs.lemmas.List.Concat.{flat_map-append}
 use Rattle.std.proofs.lemmas.List.{append-nil}
 use Rattle.firm_rows.specs.Firm.{Firm}
-use Rattle.trust_desk.proofs.Calls.{kept-still, kept-then}
+use Rattle.portal_http.proofs.Calls.{kept-still, kept-then}
 use Rattle.portal_http.specs.declared.stream.StreamEnd.{StreamEnd}
 use Rattle.portal_server.specs.EndLines.{IsFrontWritten, end_line, end_lines}
 use Rattle.portal_server.specs.ServedAll.{AreServedInTurn, IsClientServed, KeepsStanding, ServedAll}

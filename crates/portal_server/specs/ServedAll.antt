@@ -2,7 +2,7 @@
 use Rattle.std.specs.Prelude.{◌≡◌, ◌⊎◌, ℕ, suc, List, [], ◌∷◌, Option}
 use Rattle.std.specs.Io.KnownBytes.{Keeps}
 use Rattle.firm_rows.specs.Firm.{Firm}
-use Rattle.trust_desk.specs.Calls.{KeepsBook}
+use Rattle.portal_http.specs.Calls.{KeepsBook}
 use Rattle.portal_http.specs.Served.{Served}
 use Rattle.portal_http.specs.declared.stream.StreamEnd.{StreamEnd}
 use Rattle.portal_http.specs.declared.stream.StreamEnd.TheVariants as stream

@@ -5,7 +5,7 @@ ghost use Rattle.portal_http.specs.Served.{Served};
 use crate::listener::Connection;
 use crate::pace::{Pace, time_left};
 use crate::paced::{PacedReader, PacedWriter};
-use portal_http::{StreamEnd, serve_stream};
+use portal_http::{Desk, StreamEnd, serve_stream};
 use std::alloc::Global;
 use std::io;
 use std::io::{Read, Write};
@@ -13,7 +13,6 @@ use std::net::{OpenStream, Shutdown};
 use std::rt::Clock;
 use std::time::{Duration, Instant};
 use trust_base::Day;
-use trust_desk::Desk;
 use trust_store::Book;
 
 // How many bytes that no message is read from are taken before a connection is closed.

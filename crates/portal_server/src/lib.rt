@@ -12,5 +12,6 @@ mod system;
 
 pub use connection::{Answered, serve_connection};
 pub use listener::{AcceptFault, ClientListener, Connection, Network};
+pub use portal_http::{StreamEnd, serve_stream};
 pub use server::{ServeEnd, serve_connections};
 pub use system::{SystemListener, SystemNetwork};

@@ -7,12 +7,11 @@ use crate::connection::serve_connection;
 use crate::end_line::line_of;
 use crate::listener::{AcceptFault, ClientListener};
 use byte_streams::send;
-use portal_http::StreamEnd;
+use portal_http::{Desk, StreamEnd};
 use std::alloc::Global;
 use std::io::Write;
 use std::rt::Clock;
 use trust_base::Day;
-use trust_desk::Desk;
 use trust_store::Book;
 
 /// How serving ended.

@@ -1,7 +1,7 @@
 -- The parts of a reference that names an entry.
 use Rattle.std.proofs.Common.{◌≡◌, ℕ, List, [], ◌∷◌, ◌++◌, length, refl, slice_index, slice_range, arith}
 use Rattle.byte_streams.specs.Digits.{fixed_digits}
-use Rattle.trust_values.specs.Texts.{entry_text, matter_text}
+use Rattle.trust_base.specs.Texts.{entry_text, matter_text}
 use Rattle.statement_csv.specs.References.{reference_text}
 
 -- twelve bytes are their parts

@@ -1,7 +1,7 @@
 -- The line of a record of a statement.
 use Rattle.std.specs.Prelude.{ℕ, ℤ, List, [], ◌∷◌, Option, Some, None, option_and_then}
 use Rattle.trust_base.specs.BankTexts.{bank_text_of, line_text_of}
-use Rattle.trust_values.specs.Texts.{bank_amount_of, day_of}
+use Rattle.trust_base.specs.Texts.{bank_amount_of, day_of}
 use Rattle.trust_base.specs.declared.line.Line.{Line}
 
 -- the line of five values

@@ -1,7 +1,7 @@
 -- Whose line a reference makes it.
 use Rattle.std.specs.Prelude.{◌==◌, ◌&&◌, ℕ, List, ◌∷◌, ◌++◌, length, slice_index, slice_range, Option, Some, None, if◌then◌else◌, option_and_then, option_map, codes}
 use Rattle.std.specs.Str.{bytes_eq}
-use Rattle.trust_values.specs.Texts.{entry_of, entry_text, matter_of, matter_text}
+use Rattle.trust_base.specs.Texts.{entry_of, entry_text, matter_of, matter_text}
 use Rattle.statement_csv.specs.declared.owner.NamedEntry.{NamedEntry}
 use Rattle.statement_csv.specs.declared.owner.LineOwner.{LineOwner}
 use Rattle.statement_csv.specs.declared.owner.LineOwner.TheVariants as owner

@@ -1,7 +1,7 @@
 //! Laws over the definitions, each the contract of a function with nothing to do.
 
 ghost use Rattle.std.specs.Prelude.{◌≡◌, IfSome, List, Some, ℕ};
-ghost use Rattle.trust_values.specs.Limits.{IsEntryNo, IsMatterNo};
+ghost use Rattle.trust_base.specs.Limits.{IsEntryNo, IsMatterNo};
 ghost use Rattle.statement_csv.specs.References.{entry_named, named, reference_text};
 
 /// A text names an entry exactly where it is the entry's reference: `M`, the six digits of the matter, `-` and the four

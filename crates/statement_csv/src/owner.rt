@@ -1,7 +1,7 @@
 // Whose line a reference makes it.
 
 ghost use Rattle.std.specs.Prelude.{◌≡◌, ◌≢◌, ℕ, IfNone, IfSome};
-ghost use Rattle.trust_values.specs.Limits.{IsEntryNo, IsMatterNo};
+ghost use Rattle.trust_base.specs.Limits.{IsEntryNo, IsMatterNo};
 ghost use Rattle.statement_csv.specs.References.{entry_named, owner_of, reference_text};
 
 use trust_base::{EntryNo, MatterNo};

@@ -23,5 +23,5 @@ pub use refusal::{Field, Refusal, Rule, StoreFault};
 pub use refusal_text::RefusalText;
 pub use trust_values::{
     BankAmount, Cents, CentsOrZero, CivilDay, Day, Dollars, EntryNo, MAX_AMOUNT, MAX_ENTRY,
-    MatterNo, write_amount,
+    MatterNo, day_bytes, write_amount,
 };

@@ -22,13 +22,13 @@ ghost use Rattle.trust_desk.specs.Imports.{AreBelow, CountsOne, Imports, IsStop,
 ghost use Rattle.trust_desk.specs.ItemStep.{KeepsAll, KeepsUnnamed, after_balance, after_item, balance_on, count_item, count_one, counted_by, counted_of, counted_verdict, none_counted};
 
 use crate::desk::Desk;
+use firm_rows::{BalanceKind, Verdict, decide_balance, decide_firm_line};
 use matter_bodies::ImportReply;
 use statement_csv::{Item, Lines, ReadFault, Whole};
 use std::alloc::Global;
 use std::io::Read;
 use std::marker::Brand;
 use trust_base::{Day, Field, Line, Refusal, StoreFault};
-use trust_firm::{BalanceKind, Verdict, decide_balance, decide_firm_line};
 use trust_matter::{BankLine, LineVerdict, Matter, decide_line, holds_for_line};
 use trust_store::Book;
 

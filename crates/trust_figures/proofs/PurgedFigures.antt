@@ -24,9 +24,9 @@ use Rattle.firm_rows.specs.Sums.{sum_of}
 use Rattle.firm_rows.specs.Firm.{Row, Firm, of}
 use Rattle.firm_rows.specs.FirmSound.{FirmSound}
 use Rattle.trust_figures.specs.Figures.{entries_in, transit, outstanding, journal, own_by, ledgers, exceptions, matched, early, figures, figures_on, closing_on}
-use Rattle.matter_parts.specs.declared.edit.Edit.{Edit}
-use Rattle.matter_parts.specs.declared.edit.Edit.TheVariants as edit
-use Rattle.matter_parts.specs.Changes.{changed_by}
+use Rattle.trust_matter.specs.edit.Edit.{Edit}
+use Rattle.trust_matter.specs.edit.Edit.TheVariants as edit
+use Rattle.trust_matter.specs.Changes.{changed_by}
 use Rattle.firm_rows.specs.Firm.{cleared_by, after_change, after_edit}
 use Rattle.trust_figures.specs.Purged.{IsClosedBy, PurgeChangesNoFigure}
 use Rattle.firm_rows.proofs.Sums.{sum-agree}

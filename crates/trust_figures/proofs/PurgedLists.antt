@@ -24,9 +24,9 @@ use Rattle.firm_rows.specs.Firm.{Row, HeadRow, SeatRow, EntryRow, Firm, of, pair
 use Rattle.firm_rows.specs.FirmSound.{FirmSound}
 use Rattle.trust_figures.specs.Figures.{booked_on, is_in_transit, is_outstanding, is_banked_early, is_back_early}
 use Rattle.trust_figures.specs.Listing.{line_where, early_lines}
-use Rattle.matter_parts.specs.declared.edit.Edit.{Edit}
-use Rattle.matter_parts.specs.declared.edit.Edit.TheVariants as edit
-use Rattle.matter_parts.specs.Changes.{changed_by}
+use Rattle.trust_matter.specs.edit.Edit.{Edit}
+use Rattle.trust_matter.specs.edit.Edit.TheVariants as edit
+use Rattle.trust_matter.specs.Changes.{changed_by}
 use Rattle.firm_rows.specs.Firm.{cleared_by, after_change, after_edit}
 use Rattle.firm_rows.proofs.Clearing.{IsClear}
 use Rattle.trust_figures.specs.Purged.{IsClosedBy, AreListsLeft, PurgeChangesNoList}

@@ -8,9 +8,9 @@ use Rattle.std.proofs.lemmas.List.Folds.{list_any-append}
 use Rattle.matter_rows.specs.declared.head.Head.{Head}
 use Rattle.matter_rows.specs.Rows.{Rows, cleared_head, closed_on}
 use Rattle.matter_rows.specs.Laws.{Covered}
-use Rattle.matter_parts.specs.declared.edit.Edit.{Edit}
-use Rattle.matter_parts.specs.declared.edit.Edit.TheVariants as edit
-use Rattle.matter_parts.specs.Changes.{IsPlace, MatterChange, changed_by}
+use Rattle.trust_matter.specs.edit.Edit.{Edit}
+use Rattle.trust_matter.specs.edit.Edit.TheVariants as edit
+use Rattle.trust_matter.specs.Changes.{IsPlace, MatterChange, changed_by}
 use Rattle.firm_rows.specs.Firm.{Row, Firm, after_change, after_edit, cleared_by, entry_pairs, head_pairs, of, pairs, put, seat_pairs}
 use Rattle.trust_figures.specs.Purged.{IsClosedBy, IsPurge, PurgeChangesNoFigureLeft, PurgeChangesNoListLeft, is_day_after, is_period_purged, is_purged_after}
 use Rattle.trust_figures.proofs.PurgedFigures.{purge-changes-no_figure}

@@ -2,9 +2,9 @@
 use Rattle.std.specs.Prelude.{◌≡◌, ℕ, ◌≤◌, Bool, false, ◌&&◌, ◌||◌, nat_lt, Option, Some, None}
 use Rattle.std.specs.List.{list_any}
 use Rattle.matter_rows.specs.declared.head.Head.{Head}
-use Rattle.matter_parts.specs.declared.edit.Edit.TheVariants as edit
+use Rattle.trust_matter.specs.edit.Edit.TheVariants as edit
 use Rattle.matter_rows.specs.Rows.{closed_on, is_of_nobody}
-use Rattle.matter_parts.specs.Changes.{MatterChange, IsChange}
+use Rattle.trust_matter.specs.Changes.{MatterChange, IsChange}
 use Rattle.firm_rows.specs.Firm.{Row, HeadRow, SeatRow, EntryRow, Firm, of, after_change}
 use Rattle.firm_rows.specs.FirmSound.{FirmSound}
 use Rattle.trust_figures.specs.Figures.{figures_on}

@@ -3,7 +3,7 @@ use Rattle.std.specs.Prelude.{◌≡◌, ℕ, ◌||◌, cond, ℤ, pos, ◌+ℤ�
 use Rattle.std.specs.Option.{option_map}
 use Rattle.std.specs.Int.{int_wrap, w128}
 use Rattle.std.specs.Int.RustNames.{FitsSigned}
-use Rattle.trust_values.specs.Limits.{IsBankAmount}
+use Rattle.trust_base.specs.Limits.{IsBankAmount}
 use Rattle.trust_base.specs.declared.line.Line.{Line}
 use Rattle.matter_rows.specs.declared.entry.Entry.{Entry}
 use Rattle.matter_rows.specs.Rows.{entry_amount}

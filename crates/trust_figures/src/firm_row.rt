@@ -2,14 +2,14 @@
 
 ghost use Rattle.std.specs.Prelude.{◌≡◌, fold, map, OnOk, FitsSigned};
 ghost use Rattle.std.specs.Int.{w64};
-ghost use Rattle.trust_values.specs.Limits.{IsAmount};
+ghost use Rattle.trust_base.specs.Limits.{IsAmount};
 ghost use Rattle.matter_rows.specs.Rows.{entry_amount};
 ghost use Rattle.firm_rows.specs.Countable.{AreCountable, IsRowInRange, IsMovementInRange, IsFirmLineInRange, IsLineInRange, IsBalanceInRange};
 ghost use Rattle.trust_figures.specs.Copied.{row_pair};
 
+use firm_rows::{FirmLine, Movement, RowSink, StatementRow};
 use std::alloc::AllocError;
 use trust_base::{EntryNo, Line, MatterNo};
-use trust_firm::{FirmLine, Movement, RowSink, StatementRow};
 use trust_matter::{Entry, Head, Seat};
 
 /// A row of some matter, in memory.

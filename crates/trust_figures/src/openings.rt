@@ -3,10 +3,10 @@
 ghost use Rattle.std.specs.Prelude.{◌≡◌, ◌++◌, option_to_list, IfOk, OnOk, OnErr};
 ghost use Rattle.trust_figures.specs.Openings.{latest_before, after_closing, openings_after, openings_kept, AreClosings, BalancesKept, no_balances, with_balance_kept};
 
+use firm_rows::{BalanceKind, StatementRow};
 use std::alloc::{AllocError, Global};
 use std::marker::Model;
 use trust_base::{BankAmount, Day};
-use trust_firm::{BalanceKind, StatementRow};
 
 /// An opening, and the closing of another amount that it follows.
 #[derive(Clone, Copy, Debug)]

@@ -5,9 +5,9 @@ ghost use Rattle.trust_figures.specs.declared.reconciler.Figures.{Figures};
 ghost use Rattle.trust_figures.specs.Reconciling.{added, less, Tallies, no_tallies, with_entry_told, with_movement, with_own, with_exception, with_balance_told, figures_kept, finished};
 
 use crate::shares;
+use firm_rows::{BalanceKind, FirmLine, Movement, StatementRow};
 use std::marker::Model;
 use trust_base::{Day, Line};
-use trust_firm::{BalanceKind, FirmLine, Movement, StatementRow};
 use trust_matter::Entry;
 
 /// The ten figures of the firm as of a day, in cents.

@@ -16,10 +16,10 @@ use crate::lister::{Lister, ReconciliationLists};
 use crate::openings::{BalanceList, OpeningLine};
 use crate::period::Period;
 use crate::reconciler::{Figures, Reconciler};
+use firm_rows::{FirmLine, Movement, RowSink, StatementRow};
 use std::alloc::{AllocError, Global};
 use std::marker::Model;
 use trust_base::{Day, EntryNo, Line, MatterNo};
-use trust_firm::{FirmLine, Movement, RowSink, StatementRow};
 use trust_matter::{Entry, Head, Seat};
 
 /// The reconciliation as of a day: the ten figures, and the lists beside them. Doubles are payments whose instrument

@@ -2,8 +2,8 @@
 
 ghost use Rattle.std.specs.Prelude.{◌≡◌, ◌≤◌, ◌&&◌, not, ℕ, pos, ◌+ℤ◌, ◌≤ℤ◌};
 ghost use Rattle.std.specs.Option.{option_copied};
-ghost use Rattle.trust_values.specs.Limits.{IsAmount};
-ghost use Rattle.trust_values.specs.declared.limits.TheConstants.{MAX_AMOUNT};
+ghost use Rattle.trust_base.specs.Limits.{IsAmount};
+ghost use Rattle.trust_base.specs.TheConstants.{MAX_AMOUNT};
 ghost use Rattle.matter_rows.specs.Clearings.{cleared_amount};
 ghost use Rattle.trust_figures.specs.Figures.{is_by, issued_on, voided_on, payment_banked_on, booked_on, undone_on, banked_on, is_waiting, is_in_transit, is_outstanding, is_counted, names_balance};
 ghost use Rattle.trust_figures.specs.Figures.{returned_on, back_on, is_banked_early, is_back_early};

@@ -17,7 +17,7 @@ use Rattle.firm_rows.specs.FirmSound.{IsInOrder}
 use Rattle.firm_rows.specs.FirmLines.{balance_of}
 use Rattle.firm_rows.specs.Countable.{AreCountable, IsRowInRange, IsFirmLineInRange}
 use Rattle.firm_rows.specs.declared.ledger.FirmLine.{FirmLine}
-use Rattle.trust_values.specs.Limits.{IsAmount}
+use Rattle.trust_base.specs.Limits.{IsAmount}
 use Rattle.matter_rows.specs.declared.deposit.DepositState.{DepositState}
 use Rattle.matter_rows.specs.declared.deposit.DepositState.TheVariants as deposit
 use Rattle.matter_rows.specs.declared.payment.PaymentState.{PaymentState}

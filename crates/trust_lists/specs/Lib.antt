@@ -1,2 +1,11 @@
 pub mod Lists
 pub mod Retained
+pub use Rattle.firm_rows.specs.declared.movement
+pub use Rattle.trust_figures.specs.Reconciliations
+pub use Rattle.trust_figures.specs.declared.doubles
+pub use Rattle.trust_figures.specs.declared.lister
+pub use Rattle.trust_figures.specs.declared.openings
+pub use Rattle.trust_figures.specs.declared.reconciler
+pub use Rattle.trust_figures.specs.Figures
+pub use Rattle.trust_figures.specs.Openings
+pub use Rattle.trust_figures.specs.Purged

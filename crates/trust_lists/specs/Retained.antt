@@ -1,7 +1,7 @@
 -- The retention list: until when the records of each closed matter are kept.
 use Rattle.std.specs.Prelude.{◌≡◌, ℕ, nat_lt, cond, List, [], ◌∷◌, ◌++◌, Option, Some, None, fold}
 use Rattle.std.specs.List.{flat_map}
-use Rattle.trust_values.specs.Retention.{retained_until}
+use Rattle.trust_base.specs.Retention.{retained_until}
 use Rattle.matter_rows.specs.Rows.{is_of_nobody}
 use Rattle.firm_rows.specs.Firm.{Row, HeadRow, SeatRow, EntryRow, Firm}
 use Rattle.trust_lists.specs.declared.retention_sink.RetentionLine.{RetentionLine}

@@ -4,11 +4,11 @@ ghost use Rattle.std.specs.Prelude.{◌≡◌, IfOk};
 ghost use Rattle.trust_lists.specs.Lists.{JournalKept, no_journal, with_moved, journal_of};
 ghost use Rattle.trust_lists.specs.declared.journal_sink.JournalLine.{JournalLine};
 
+use firm_rows::{FirmLine, Movement, RowSink, StatementRow};
 use std::alloc::{AllocError, Global};
 use std::marker::Model;
 use trust_base::{EntryNo, Line, MatterNo};
 use trust_figures::{added, hand_movements};
-use trust_firm::{FirmLine, Movement, RowSink, StatementRow};
 use trust_matter::{Entry, Head, Seat};
 
 /// A movement with the sum so far, in cents.

@@ -6,6 +6,11 @@ pub mod laws;
 mod retention_sink;
 mod trial_sink;
 
+pub use firm_rows::Owner;
 pub use journal_sink::{JournalLine, JournalSink, journal_list};
 pub use retention_sink::{RetentionLine, RetentionSink, retention_list};
 pub use trial_sink::{TrialBalance, TrialLine, TrialSink, trial_balance};
+pub use trust_figures::{
+    EntryLine, Figures, Issued, OpeningLine, Reconciliation, ReconciliationLists,
+    ReconciliationSink,
+};

@@ -5,11 +5,11 @@ ghost use Rattle.firm_rows.specs.Firm.{HeadRow};
 ghost use Rattle.trust_figures.specs.Copied.{in_memory};
 ghost use Rattle.trust_lists.specs.Retained.{retention_line, retention_list as retention_lines, Retained, none_retained, with_row_retained};
 
+use firm_rows::{FirmLine, Movement, RowSink, StatementRow};
 use std::alloc::{AllocError, Global};
 use std::marker::Model;
 use trust_base::{CivilDay, Day, EntryNo, Line, MatterNo};
 use trust_figures::{FirmRow, hand_rows};
-use trust_firm::{FirmLine, Movement, RowSink, StatementRow};
 use trust_matter::{Entry, Head, Holder, Seat};
 
 /// A closed matter: the day of its close, the last day for which its records are kept, which may lie past 2199, and

@@ -9,11 +9,11 @@ ghost use Rattle.trust_figures.specs.Reconciling.{added};
 ghost use Rattle.trust_lists.specs.Lists.{TrialKept, no_trial, add_last, with_trial_row, with_trial_own, trial_sum, IsTrialBalance};
 ghost use Rattle.trust_lists.specs.declared.trial_sink.TrialLine.{TrialLine};
 
+use firm_rows::{FirmLine, Movement, RowSink, StatementRow};
 use std::alloc::{AllocError, Global};
 use std::marker::Model;
 use trust_base::{EntryNo, Line, MatterNo};
 use trust_figures::{FirmRow, added, hand_firm_lines, hand_rows, together};
-use trust_firm::{FirmLine, Movement, RowSink, StatementRow};
 use trust_matter::{DepositState, Entry, Head, PaymentState, Seat};
 
 /// An open matter and its ledger, in cents.

@@ -15,3 +15,6 @@ pub mod LineRepeats
 pub mod LastNumber
 pub mod Purging
 pub mod HeadSteps
+pub use Rattle.matter_rows.proofs.Days
+pub use Rattle.matter_rows.proofs.Entries
+pub use Rattle.matter_rows.proofs.Sums

@@ -2,7 +2,7 @@
 use Rattle.std.specs.Prelude.{ℕ, Bool, true, false, not, ◌&&◌, ◌||◌, ◌==◌, nat_lt, List, Option, Some, None, is_some, is_none, ℤ, pos, negsuc}
 use Rattle.std.specs.Str.{bytes_eq}
 use Rattle.trust_base.specs.Names.{is_cash_label, is_firm_label}
-use Rattle.trust_values.specs.Retention.{first_purge_day}
+use Rattle.trust_base.specs.Retention.{first_purge_day}
 use Rattle.matter_rows.specs.declared.seat.Role.{Role}
 use Rattle.matter_rows.specs.declared.head.Head.{Head}
 use Rattle.matter_rows.specs.declared.seat.Seat.{Seat}

@@ -4,6 +4,7 @@ use Rattle.std.specs.List.{AllByRecursion}
 use Rattle.trust_base.specs.declared.refusal.Refusal.{Refusal}
 use Rattle.trust_base.specs.declared.refusal.Refusal.TheVariants as refusals
 use Rattle.trust_base.specs.Refusals.{number_of}
+pub use Rattle.matter_rows.specs.Laws.{Covered}
 use Rattle.matter_rows.specs.declared.entry.Entry.{Entry}
 use Rattle.matter_rows.specs.Rows.{Rows, as_made, last_of, closed_on, is_purged}
 use Rattle.matter_rows.specs.Sound.{Sound}
@@ -15,7 +16,7 @@ use Rattle.trust_matter.specs.Facts.{Facts, Asked, facts_of}
 use Rattle.trust_matter.specs.Conditions.{is_purging, is_repeat, number_made}
 use Rattle.trust_matter.specs.Step.{conditions, refusal_of, refusal, rows_after, HasAmount}
 use Rattle.trust_matter.specs.LineStep.{line_facts, reasons, line_on, rows_after_line, IsApplied}
-use Rattle.trust_values.specs.declared.limits.TheConstants.{MAX_ENTRY}
+use Rattle.trust_base.specs.TheConstants.{MAX_ENTRY}
 
 -- no ask whose amount is one leaves a matter unsound
 abbrev pub SoundForEver : Type 0

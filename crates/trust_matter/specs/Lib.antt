@@ -7,3 +7,16 @@ pub mod KeptFacts
 pub mod LineStep
 pub mod Policy
 pub mod Step
+pub use Rattle.matter_parts.specs.Changes
+pub use Rattle.matter_parts.specs.declared.edit
+pub use Rattle.matter_rows.specs.Balances
+pub use Rattle.matter_rows.specs.Events
+pub use Rattle.matter_rows.specs.Rows
+pub use Rattle.matter_rows.specs.Shares
+pub use Rattle.matter_rows.specs.Sound
+pub use Rattle.matter_rows.specs.declared.deposit
+pub use Rattle.matter_rows.specs.declared.entry
+pub use Rattle.matter_rows.specs.declared.head
+pub use Rattle.matter_rows.specs.declared.movement
+pub use Rattle.matter_rows.specs.declared.payment
+pub use Rattle.matter_rows.specs.declared.seat

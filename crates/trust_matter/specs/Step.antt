@@ -2,7 +2,7 @@
 use Rattle.std.specs.Prelude.{◌≡◌, ℕ, Bool, List, [], ◌∷◌, ◌++◌, Option, Some, None, if◌then◌else◌, Result, Ok, Err, ℤ, pos, negsuc}
 use Rattle.trust_base.specs.declared.refusal.Refusal.{Refusal}
 use Rattle.trust_base.specs.declared.refusal.Refusal.TheVariants as refusals
-use Rattle.trust_values.specs.Limits.{IsAmount}
+use Rattle.trust_base.specs.Limits.{IsAmount}
 use Rattle.matter_rows.specs.declared.head.Holder.TheVariants as holder
 use Rattle.matter_rows.specs.declared.seat.Role.TheVariants as role
 use Rattle.matter_rows.specs.declared.deposit.DepositState.TheVariants as deposit

@@ -2,7 +2,7 @@
 use Rattle.std.proofs.Common.{◌≡◌, ℕ, ◌+◌, ◌≤◌, List, [], ◌∷◌, ◌++◌, refl, ap, ◌∙◌, arith, Some, eqb, true, false, flat_map}
 use Rattle.std.specs.Prelude.{pos}
 use Rattle.std.proofs.lemmas.Bool.Decides.{nat_tests}
-use Rattle.trust_values.specs.Texts.{entry_text}
+use Rattle.trust_base.specs.Texts.{entry_text}
 use Rattle.matter_rows.specs.declared.entry.Entry.{Entry}
 use Rattle.matter_rows.specs.Balances.{available, claims, disputed, fees, held, left_of}
 use Rattle.matter_parts.specs.declared.figures.Balances.{Balances}

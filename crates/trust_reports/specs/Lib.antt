@@ -4,3 +4,9 @@ pub mod Pieces
 pub mod TextsOfLists
 pub mod TextsOfReconciliation
 pub mod TextsOfLedgers
+pub use Rattle.trust_lists.specs.Lists
+pub use Rattle.trust_lists.specs.Retained
+pub use Rattle.trust_lists.specs.Figures
+pub use Rattle.trust_lists.specs.Openings
+pub use Rattle.trust_lists.specs.Purged
+pub use Rattle.trust_lists.specs.Reconciliations

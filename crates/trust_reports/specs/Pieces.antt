@@ -1,7 +1,7 @@
 -- The texts of what the writers are given.
 use Rattle.std.specs.Prelude.{ℕ, List, neg_ℤ}
 use Rattle.std.specs.Borrow.{Bor}
-use Rattle.trust_values.specs.Texts.{amount_text, day_text, entry_text, matter_text, signed_text}
+use Rattle.trust_base.specs.Texts.{amount_text, day_text, entry_text, matter_text, signed_text}
 use Rattle.trust_reports.specs.declared.piece.Piece.{Piece}
 use Rattle.trust_reports.specs.declared.piece.Piece.TheVariants as piece
 use Rattle.trust_reports.specs.declared.sum.Sum.{Sum}

@@ -2,9 +2,9 @@
 use Rattle.std.specs.Prelude.{ℕ, ◌-◌, List, [], ◌∷◌, ◌++◌, length, codes, map, replicate, flat_map, if◌then◌else◌, encode_utf8_all}
 use Rattle.std.specs.Char.{is_control}
 use Rattle.std.specs.Str.{chars}
-use Rattle.trust_values.specs.Texts.{day_text, entry_text, matter_text}
-use Rattle.firm_rows.specs.declared.movement.Owner.{Owner}
-use Rattle.firm_rows.specs.declared.movement.Owner.TheVariants as owner
+use Rattle.trust_base.specs.Texts.{day_text, entry_text, matter_text}
+use Rattle.trust_lists.specs.movement.Owner.{Owner}
+use Rattle.trust_lists.specs.movement.Owner.TheVariants as owner
 
 -- Places.
 

@@ -1,6 +1,6 @@
 -- A client's ledger card: the matter, each entry as it stands, and the balances.
 use Rattle.std.specs.Prelude.{◌≡◌, ℕ, ◌+◌, ℤ, pos, List, [], ◌∷◌, ◌++◌, codes, flat_map, Option, Some, None}
-use Rattle.trust_values.specs.Texts.{amount_text, day_text, entry_text, matter_text, signed_text}
+use Rattle.trust_base.specs.Texts.{amount_text, day_text, entry_text, matter_text, signed_text}
 use Rattle.matter_rows.specs.declared.head.Head.{Head}
 use Rattle.matter_rows.specs.declared.head.Holder.{Holder}
 use Rattle.matter_rows.specs.declared.head.Holder.TheVariants as holder

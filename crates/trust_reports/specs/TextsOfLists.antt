@@ -1,6 +1,6 @@
 -- The trial balance, the journal, the retention list and the exceptions, as they are printed.
 use Rattle.std.specs.Prelude.{ℕ, ℤ, List, [], ◌∷◌, ◌++◌, codes, flat_map, if◌then◌else◌}
-use Rattle.trust_values.specs.Texts.{day_text, matter_text, signed_text}
+use Rattle.trust_base.specs.Texts.{day_text, matter_text, signed_text}
 use Rattle.trust_base.specs.declared.line.Line.{Line}
 use Rattle.trust_lists.specs.declared.journal_sink.JournalLine.{JournalLine}
 use Rattle.trust_lists.specs.declared.retention_sink.RetentionLine.{RetentionLine}

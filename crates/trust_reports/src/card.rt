@@ -5,7 +5,7 @@ ghost use Rattle.std.specs.Option.{option_copied};
 ghost use Rattle.matter_rows.specs.Rows.{closed_on as closed_in};
 ghost use Rattle.matter_parts.specs.Parts.{AreSmall};
 ghost use Rattle.trust_reports.specs.Texts.{line};
-ghost use Rattle.trust_values.specs.Texts.{matter_text};
+ghost use Rattle.trust_base.specs.Texts.{matter_text};
 ghost use Rattle.trust_reports.specs.Pieces.{text_of};
 ghost use Rattle.trust_reports.specs.TextsOfLedgers.{client_text, day_or_dash, kept_balances, kept_line, ledger_card, ledger_heading, opened_on as opened_in};
 

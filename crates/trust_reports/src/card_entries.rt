@@ -1,7 +1,7 @@
 // The entries of a ledger card.
 
 ghost use Rattle.std.specs.Prelude.{◌≡◌, [], ◌∷◌, ◌++◌, OnOk, codes, flat_map, pos};
-ghost use Rattle.trust_values.specs.Texts.{amount_text, day_text, entry_text};
+ghost use Rattle.trust_base.specs.Texts.{amount_text, day_text, entry_text};
 ghost use Rattle.trust_reports.specs.Texts.{further};
 ghost use Rattle.trust_reports.specs.TextsOfLedgers.{against_fields, barred, claim_fields, claim_state, deposit_fields, deposit_state, entry_fields, fee_fields, fund_fields, kept_line, made, payment_fields, payment_state, told};
 

@@ -20,3 +20,7 @@ pub use journal::journal_text;
 pub use reconciliation::reconciliation_text;
 pub use retention::retention_text;
 pub use trial::trial_text;
+pub use trust_lists::{
+    JournalLine, JournalSink, Reconciliation, ReconciliationSink, RetentionLine, RetentionSink,
+    TrialBalance, TrialSink,
+};

@@ -1,7 +1,7 @@
 // The pieces of a line.
 
 ghost use Rattle.std.specs.Prelude.{◌≡◌, [], ◌∷◌, ◌++◌, OnOk, flat_map, encode_utf8};
-ghost use Rattle.trust_values.specs.Texts.{amount_text, day_text, matter_text, signed_text};
+ghost use Rattle.trust_base.specs.Texts.{amount_text, day_text, matter_text, signed_text};
 ghost use Rattle.trust_reports.specs.Texts.{further, heading, or_dash, owner_text, reference_text, shown, shown_text, words_shown};
 ghost use Rattle.trust_reports.specs.Pieces.{further_piece, text_of};
 
@@ -10,9 +10,9 @@ use crate::sum::Sum;
 use std::alloc::AllocError;
 use trust_base::{
     BankAmount, BankText, Cents, CentsOrZero, CivilDay, Day, EntryNo, Label, LineText, MatterNo,
+    day_bytes,
 };
-use trust_firm::Owner;
-use trust_values::day_bytes;
+use trust_lists::Owner;
 
 /// A piece of a line.
 #[derive(Clone, Copy)]

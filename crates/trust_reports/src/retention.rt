@@ -1,7 +1,7 @@
 // The retention list.
 
 ghost use Rattle.std.specs.Prelude.{◌≡◌, [], ◌∷◌, ◌++◌, OnOk, OnErr, codes, flat_map};
-ghost use Rattle.trust_values.specs.Texts.{day_text, matter_text};
+ghost use Rattle.trust_base.specs.Texts.{day_text, matter_text};
 ghost use Rattle.trust_reports.specs.Texts.{further};
 ghost use Rattle.trust_reports.specs.TextsOfLists.{purge_fields, retention_line, retention_text};
 

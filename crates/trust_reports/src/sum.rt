@@ -2,7 +2,7 @@
 
 ghost use Rattle.std.specs.Prelude.{◌≡◌, ◌≤◌, ◌+◌, ◌++◌, ◌∷◌, [], if◌then◌else◌};
 ghost use Rattle.arrayvec.specs.ArrayVec.{array_vec_len};
-ghost use Rattle.trust_values.specs.Texts.{amount_text};
+ghost use Rattle.trust_base.specs.Texts.{amount_text};
 ghost use Rattle.trust_reports.specs.Pieces.{sum_text};
 
 use arrayvec::ArrayVec;

@@ -1,10 +1,10 @@
 // What a book holds, as text.
 
 use crate::values::Wrong;
+use firm_rows::{BalanceKind, FirmLine, Movement, Owner, RowSink, StatementRow};
 use std::alloc::{AllocError, Global};
 use std::marker::Model;
 use trust_base::{EntryNo, Line, MatterNo, StoreFault, write_amount};
-use trust_firm::{BalanceKind, FirmLine, Movement, Owner, RowSink, StatementRow};
 use trust_matter::{Entry, Head, Holder, Seat};
 use trust_store::Book;
 

@@ -1,8 +1,8 @@
 // The trial balance, the journal, the retention list and the exceptions.
 
 use crate::values::{Wrong, begun, day, ended, entry, line, matter};
+use firm_rows::{Movement, Owner};
 use std::alloc::Global;
-use trust_firm::{Movement, Owner};
 use trust_lists::{JournalLine, RetentionLine, TrialLine};
 use trust_reports::{exceptions_text, journal_text, retention_text, trial_text};
 

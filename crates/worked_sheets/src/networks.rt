@@ -1,8 +1,9 @@
 // Clocks, clients and ports for runs of the program.
 
 use crate::runs::TrialFolder;
-use cashier::{Outcome, Surroundings, run_in_memory};
-use portal_server::{AcceptFault, ClientListener, Connection, Network};
+use cashier::{
+    AcceptFault, ClientListener, Connection, Network, Outcome, Surroundings, run_in_memory,
+};
 use std::alloc::Global;
 use std::io;
 use std::io::{Read, Write};

@@ -1,7 +1,7 @@
 use Rattle.std.proofs.Common.{◌∙◌, ap, sym, option_and_then}
 use Rattle.clap.specs.Words.{found_of}
 use Rattle.clap.proofs.WalkLemmas.{first_value-rows}
-use Rattle.trust_values.specs.Texts.{day_of}
+use Rattle.trust_base.specs.Texts.{day_of}
 use Rattle.command_line.proofs.operands.day_operand.Goals as goal
 
 pub returns-in_err-get_str : goal.returns-in_err-get_str

@@ -1,6 +1,6 @@
 use Rattle.std.proofs.Common.{◌≡◌, fold, ap, ◌∙◌}
 use Rattle.firm_rows.specs.Firm.{Firm}
-use Rattle.trust_lists.specs.Lists.{JournalKept, no_journal, with_moved}
+use Rattle.trust_reports.specs.Lists.{JournalKept, no_journal, with_moved}
 use Rattle.trust_reports.specs.TextsOfLists.{journal_text}
 use Rattle.firm_reports.proofs.ReportTexts.{journal-told}
 use Rattle.firm_reports.proofs.journal.journal_report.Goals as goal

@@ -1,6 +1,6 @@
 use Rattle.std.proofs.Common.{◌≡◌, fold, ap, ◌∙◌}
 use Rattle.firm_rows.specs.Firm.{Firm}
-use Rattle.trust_lists.specs.Retained.{Retained, none_retained, with_row_retained}
+use Rattle.trust_reports.specs.Retained.{Retained, none_retained, with_row_retained}
 use Rattle.trust_reports.specs.TextsOfLists.{retention_text}
 use Rattle.firm_reports.proofs.ReportTexts.{retention-told}
 use Rattle.firm_reports.proofs.retention.retention_report.Goals as goal

@@ -1,6 +1,6 @@
 use Rattle.std.proofs.Common.{◌≡◌, fold, ap, ◌∙◌}
 use Rattle.firm_rows.specs.Firm.{Firm}
-use Rattle.trust_lists.specs.Lists.{trial_kept, with_trial_row, with_trial_own}
+use Rattle.trust_reports.specs.Lists.{trial_kept, with_trial_row, with_trial_own}
 use Rattle.trust_reports.specs.TextsOfLists.{trial_text}
 use Rattle.firm_reports.proofs.BookReads.{handed-before}
 use Rattle.firm_reports.proofs.ReportTexts.{trial-told}

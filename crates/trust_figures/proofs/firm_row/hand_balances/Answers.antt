@@ -1,5 +1,5 @@
 use Rattle.std.proofs.Common.{arith, subst}
-use Rattle.trust_values.specs.Limits.{IsBankAmount}
+use Rattle.trust_base.specs.Limits.{IsBankAmount}
 use Rattle.firm_rows.specs.Countable.{IsBalanceInRange}
 use Rattle.trust_figures.proofs.Handed.{next_taken, all_taken, all_countable}
 use Rattle.trust_figures.proofs.firm_row.hand_balances.Goals as goal

@@ -1,5 +1,5 @@
 use Rattle.std.proofs.Common.{arith}
-use Rattle.trust_values.proofs.DayFacts.{day-bounds}
+use Rattle.trust_base.proofs.DayFacts.{day-bounds}
 use Rattle.trust_reports.proofs.piece.push_day.Goals as goal
 
 pub day_bytes-requires : goal.day_bytes-requires

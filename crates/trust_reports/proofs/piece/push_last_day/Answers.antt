@@ -1,4 +1,4 @@
-use Rattle.trust_values.proofs.CivilDayFacts.{civil_day-bound}
+use Rattle.trust_base.proofs.CivilDayFacts.{civil_day-bound}
 use Rattle.trust_reports.proofs.piece.push_last_day.Goals as goal
 
 pub day_bytes-requires : goal.day_bytes-requires

@@ -1,5 +1,5 @@
 use Rattle.std.proofs.Common.{[], ◌∷◌, codes}
-use Rattle.trust_values.specs.Texts.{day_text, matter_text}
+use Rattle.trust_base.specs.Texts.{day_text, matter_text}
 use Rattle.trust_reports.specs.TextsOfLists.{purge_fields, retention_line}
 use Rattle.trust_reports.proofs.TextFacts.{fields_more}
 use Rattle.trust_reports.proofs.retention.push_retention_line.Goals as goal

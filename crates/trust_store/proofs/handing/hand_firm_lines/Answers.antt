@@ -1,5 +1,5 @@
 use Rattle.std.proofs.Common.{arith, subst}
-use Rattle.trust_values.specs.Limits.{IsBankAmount}
+use Rattle.trust_base.specs.Limits.{IsBankAmount}
 use Rattle.firm_rows.specs.Countable.{IsFirmLineInRange}
 use Rattle.trust_store.proofs.Sinks.{next_handed}
 use Rattle.trust_store.proofs.handing.hand_firm_lines.Goals as goal
