@@ -1,12 +1,14 @@
 // Single columns, and what they stand for.
 
-ghost use Rattle.std.specs.Prelude.{◌≡◌, ◌≢◌, ◌↔◌, ℕ, pos, IfSome, IfNone, IfOk, IfErr};
-ghost use Rattle.trust_values.specs.Limits.{IsDay, IsMatterNo, IsEntryNo};
+ghost use Rattle.std.specs.Prelude.{◌≡◌, ◌≢◌, ◌≤◌, ◌↔◌, ℕ, pos, Ok, IfSome, IfNone, IfOk, IfErr};
+ghost use Rattle.trust_values.specs.Limits.{IsDay, IsMatterNo, IsEntryNo, IsAmount, IsAmountOrZero};
 ghost use Rattle.trust_base.specs.BankTexts.{IsBankText, IsLineText};
 ghost use Rattle.trust_base.specs.Names.{IsLabel, IsPerson};
 
 use std::alloc::Global;
-use trust_base::{BankText, Day, EntryNo, Label, LineText, MatterNo, PersonId, StoreFault};
+use trust_base::{
+    BankText, Cents, CentsOrZero, Day, EntryNo, Label, LineText, MatterNo, PersonId, StoreFault,
+};
 
 /// The day of a column year * 10000 + month * 100 + day of the month, where the calendar has it.
 #[tactic(auto, unfolding(trust_values::specs::Limits::IsDay))]
@@ -18,6 +20,15 @@ pub(crate) fn day_in(column: i64) -> Option<Day>
         return None;
     }
     Day::from_number(column as u32)
+}
+
+/// The same day; any other column is Store.
+pub(crate) fn stored_day(column: i64) -> Result<Day, StoreFault>
+    ensures ok { IfOk result (λ d. pos d ≡ column) }
+    ensures back { (d : ℕ) → IsDay d → pos d ≡ column → result ≡ Ok d }
+    ensures store { IfErr result (λ e. e ≡ StoreFault.Store) }
+{
+    day_in(column).ok_or(StoreFault::Store)
 }
 
 /// The number of a matter in a column.
@@ -42,7 +53,47 @@ pub(crate) fn entry_in(column: i64) -> Option<EntryNo>
     EntryNo::from_number(column as u16)
 }
 
-/// The short text of the bank in a column. Other bytes are Store; Memory comes only of a text of this form, where a growth was refused.
+/// The number in a column, not below zero and at most `most`. Any other is Store.
+pub(crate) fn number_in(column: i64, most: u64) -> Result<u64, StoreFault>
+    ensures ok { IfOk result (λ n. pos n ≡ column) }
+    ensures most { IfOk result (λ n. n ≤ most) }
+    ensures back { (n : ℕ) → n ≤ most → pos n ≡ column → result ≡ Ok n }
+    ensures store { IfErr result (λ e. e ≡ StoreFault.Store) }
+{
+    if column < 0 {
+        return Err(StoreFault::Store);
+    }
+    let number = column as u64;
+    if number > most {
+        return Err(StoreFault::Store);
+    }
+    Ok(number)
+}
+
+/// The amount in a column, in cents.
+pub(crate) fn amount_in(column: i64) -> Option<Cents>
+    ensures some { IfSome result (λ a. pos a ≡ column) }
+    ensures none { IfNone result ((a : ℕ) → IsAmount a → pos a ≢ column) }
+{
+    if column < 0 {
+        return None;
+    }
+    Cents::from_number(column as u64)
+}
+
+/// The amount or nothing in a column, in cents.
+pub(crate) fn part_in(column: i64) -> Option<CentsOrZero>
+    ensures some { IfSome result (λ a. pos a ≡ column) }
+    ensures none { IfNone result ((a : ℕ) → IsAmountOrZero a → pos a ≢ column) }
+{
+    if column < 0 {
+        return None;
+    }
+    CentsOrZero::from_number(column as u64)
+}
+
+/// The short text of the bank in a column. Other bytes are Store; Memory comes only of a text of this form, where a
+/// growth was refused.
 pub(crate) fn bank_text_in(alloc: Global, column: &[u8]) -> Result<BankText, StoreFault>
     ensures ok { IfOk result (λ t. t ≡ column.now) }
     ensures err { IfErr result (λ e. e ≡ StoreFault.Memory ↔ IsBankText column.now) }
@@ -51,7 +102,8 @@ pub(crate) fn bank_text_in(alloc: Global, column: &[u8]) -> Result<BankText, Sto
     text.ok_or(StoreFault::Store)
 }
 
-/// The text of a line of the bank in a column. Other bytes are Store; Memory comes only of a text of this form, where a growth was refused.
+/// The text of a line of the bank in a column. Other bytes are Store; Memory comes only of a text of this form, where
+/// a growth was refused.
 pub(crate) fn line_text_in(alloc: Global, column: &[u8]) -> Result<LineText, StoreFault>
     ensures ok { IfOk result (λ t. t ≡ column.now) }
     ensures err { IfErr result (λ e. e ≡ StoreFault.Memory ↔ IsLineText column.now) }

@@ -33,7 +33,8 @@ pub fn entry_columns<'a>(
 
 fn deposit_columns<'a>(matter: MatterNo, no: EntryNo, d: &'a Deposit, left: u64) -> EntryColumns<'a>
     requires { left ≤ MAX_TOTAL }
-    ensures { entry_given result ≡ as_columns matter no left (deposit_parts d.now.state d.now.book d.now.amount d.now.source d.now.description) }
+    ensures { entry_given result ≡ as_columns matter no left
+        (deposit_parts d.now.state d.now.book d.now.amount d.now.source d.now.description) }
 {
     let mut columns = EntryColumns {
         matter: matter.get() as i64,
@@ -89,7 +90,9 @@ fn fund_code(fund: &Fund) -> (i64, i64)
 
 fn payment_columns<'a>(matter: MatterNo, no: EntryNo, p: &'a Payment, left: u64) -> EntryColumns<'a>
     requires { left ≤ MAX_TOTAL }
-    ensures { entry_given result ≡ as_columns matter no left (payment_parts p.now.state p.now.book p.now.amount (fund_kind p.now.fund) (fund_of p.now.fund) p.now.payee p.now.purpose p.now.instrument) }
+    ensures { entry_given result ≡ as_columns matter no left
+        (payment_parts p.now.state p.now.book p.now.amount (fund_kind p.now.fund) (fund_of p.now.fund) p.now.payee
+        p.now.purpose p.now.instrument) }
 {
     let (fund, of_no) = fund_code(&p.fund);
     let mut columns = EntryColumns {
@@ -135,7 +138,8 @@ fn payment_columns<'a>(matter: MatterNo, no: EntryNo, p: &'a Payment, left: u64)
 
 fn fee_columns<'a>(matter: MatterNo, no: EntryNo, f: &'a Fee, left: u64) -> EntryColumns<'a>
     requires { left ≤ MAX_TOTAL }
-    ensures { entry_given result ≡ as_columns matter no left (plain_parts 3 f.now.book f.now.amount 0 0 0 f.now.description [] []) }
+    ensures { entry_given result ≡ as_columns matter no left
+        (plain_parts 3 f.now.book f.now.amount 0 0 0 f.now.description [] []) }
 {
     EntryColumns {
         matter: matter.get() as i64,
@@ -160,7 +164,8 @@ fn fee_columns<'a>(matter: MatterNo, no: EntryNo, f: &'a Fee, left: u64) -> Entr
 
 fn claim_columns<'a>(matter: MatterNo, no: EntryNo, c: &'a Claim, left: u64) -> EntryColumns<'a>
     requires { left ≤ MAX_TOTAL }
-    ensures { entry_given result ≡ as_columns matter no left (claim_on_parts c.now.against c.now.state c.now.book c.now.amount c.now.reason) }
+    ensures { entry_given result ≡ as_columns matter no left
+        (claim_on_parts c.now.against c.now.state c.now.book c.now.amount c.now.reason) }
 {
     let mut columns = EntryColumns {
         matter: matter.get() as i64,

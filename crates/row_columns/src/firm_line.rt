@@ -27,7 +27,8 @@ pub fn firm_line_columns(line: &FirmLine) -> FirmLineColumns<'_>
 /// growth was refused before the one that is not of its form: only where day, amount and the bank's reference are.
 pub fn firm_line_of(alloc: Global, columns: FirmLineColumns<'_>) -> Result<FirmLine, StoreFault>
     ensures ok { IfOk result (λ l. firm_line_columns l ≡ firm_line_given columns.entry) }
-    ensures back { (l : Line) → IsFirmLine l → firm_line_columns l ≡ firm_line_given columns.entry → GivesBack l result }
+    ensures back { (l : Line) → IsFirmLine l → firm_line_columns l ≡ firm_line_given columns.entry
+        → GivesBack l result }
     ensures memory { IfErr result (λ e. e ≡ StoreFault.Memory
         → BeginsLine columns.entry.day columns.entry.amount columns.entry.bank_ref.now) }
 {

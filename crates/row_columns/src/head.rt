@@ -7,13 +7,70 @@ ghost use Rattle.trust_base.specs.Names.{IsLabel};
 ghost use Rattle.matter_rows.specs.declared.head.Head.{Head as Kept};
 ghost use Rattle.matter_rows.specs.declared.head.Holder.{Holder as Held};
 ghost use Rattle.row_columns.specs.Columns.{GivesBack};
-ghost use Rattle.row_columns.specs.Heads.{client_column, purged_column, closed_column, HasHead, IsHolder, IsHead, HasClientsHead};
+ghost use Rattle.row_columns.specs.Heads.{client_column, purged_column, closed_column, head_columns};
+ghost use Rattle.row_columns.specs.Heads.{HasHead, HasTotals, IsHolder, IsHead, HasClientsHead};
+ghost use Rattle.matter_parts.specs.declared.figures.Figures.{Figures as Totals};
+ghost use Rattle.matter_parts.specs.Parts.{AreSmall};
 
-use crate::column::{day_in, label_in};
-use matter_rows::{Head, Holder};
+use crate::column::{day_in, label_in, number_in};
+use matter_parts::Figures;
+use matter_rows::{Head, Holder, MAX_TOTAL};
 use std::alloc::Global;
-use trust_base::{Day, StoreFault};
+use trust_base::{Day, MAX_ENTRY, MatterNo, StoreFault};
 use trust_tables::HeadColumns;
+
+// The client's name, or nothing after a purge.
+fn client_column(holder: &Holder) -> &[u8]
+    ensures { result.now ≡ client_column holder.now }
+{
+    match holder {
+        Holder::Client(client) => client.as_slice(),
+        Holder::Purged(_) => b"",
+    }
+}
+
+// The day of the purge, or 0.
+fn purged_column(holder: &Holder) -> i64
+    ensures { result ≡ purged_column holder.now }
+{
+    match holder {
+        Holder::Client(_) => 0,
+        Holder::Purged(day) => day.get() as i64,
+    }
+}
+
+// The day of closing, or 0.
+fn closed_column(closed: Option<Day>) -> i64
+    ensures { result ≡ closed_column closed }
+{
+    match closed {
+        None => 0,
+        Some(day) => day.get() as i64,
+    }
+}
+
+/// The columns of the head of a matter: its number, its client or nothing after a purge, its days, 0 for those that it
+/// does not have, and its totals in cents.
+pub fn head_columns(matter: MatterNo, head: &Head, figures: Figures) -> HeadColumns<'_>
+    requires { AreSmall figures }
+    ensures { head_given result ≡ head_columns matter head.now figures }
+{
+    HeadColumns {
+        no: matter.get() as i64,
+        client: client_column(&head.holder),
+        opened: head.opened.get() as i64,
+        closed: closed_column(head.closed),
+        last: head.last.get() as i64,
+        entries: figures.entries as i64,
+        held: figures.held as i64,
+        available: figures.available as i64,
+        disputed: figures.disputed as i64,
+        fees: figures.fees as i64,
+        claims: figures.claims as i64,
+        pending: figures.pending as i64,
+        purged: purged_column(&head.holder),
+    }
+}
 
 // Whose the matter is.
 #[tactic(auto, unfolding(trust_values::specs::Limits::IsDay))]
@@ -64,5 +121,31 @@ pub fn head_of(alloc: Global, columns: HeadColumns<'_>) -> Result<Head, StoreFau
         opened,
         closed,
         last,
+    })
+}
+
+/// The totals of the columns of a head; the rest of it is not read. Columns that stand for none are Store, as where a
+/// matter has more entries than it may have, or a total more than all these can come to.
+pub fn totals_of(columns: HeadColumns<'_>) -> Result<Figures, StoreFault>
+    ensures ok { IfOk result (λ f. HasTotals f (head_given columns.entry)) }
+    ensures small { IfOk result AreSmall }
+    ensures back { (f : Totals) → AreSmall f → HasTotals f (head_given columns.entry) → result ≡ Ok f }
+    ensures store { IfErr result (λ e. e ≡ StoreFault.Store) }
+{
+    let entries = number_in(columns.entries, MAX_ENTRY as u64)?;
+    let pending = number_in(columns.pending, MAX_TOTAL)?;
+    let held = number_in(columns.held, MAX_TOTAL)?;
+    let available = number_in(columns.available, MAX_TOTAL)?;
+    let disputed = number_in(columns.disputed, MAX_TOTAL)?;
+    let fees = number_in(columns.fees, MAX_TOTAL)?;
+    let claims = number_in(columns.claims, MAX_TOTAL)?;
+    Ok(Figures {
+        entries,
+        pending,
+        held,
+        available,
+        disputed,
+        fees,
+        claims,
     })
 }

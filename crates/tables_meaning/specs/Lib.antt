@@ -1,3 +1,4 @@
 pub mod Meaning
+pub mod Scripts
 pub mod Standing
 pub mod Steps

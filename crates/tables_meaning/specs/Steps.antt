@@ -21,7 +21,7 @@ use Rattle.trust_tables.specs.Lists.{Lists}
 use Rattle.trust_tables.specs.Rows as table
 use Rattle.row_columns.specs.Columns.{balance_columns, movement_columns, firm_line_columns, exception_columns, seat_columns}
 use Rattle.row_columns.specs.Entries.{entry_columns}
-use Rattle.row_columns.specs.Heads.{client_column, purged_column, closed_column}
+use Rattle.row_columns.specs.Heads.{head_columns}
 use Rattle.tables_meaning.specs.Meaning.{head_from}
 
 -- A step.
@@ -78,24 +78,6 @@ AreMade [] a b = b ≡ a
 AreMade (s ∷ steps) a b = (mid : Lists) × IsMade s a mid × AreMade steps mid b
 
 -- The steps of a change.
-
--- the columns of a head with its kept totals
-abbrev pub head_columns : ℕ → Head → Figures → table.Head
-head_columns m h f = record {
-  no = pos m;
-  client = client_column h.holder;
-  opened = pos h.opened;
-  closed = closed_column h.closed;
-  last = pos h.last;
-  entries = pos f.entries;
-  held = pos f.held;
-  available = pos f.available;
-  disputed = pos f.disputed;
-  fees = pos f.fees;
-  claims = pos f.claims;
-  pending = pos f.pending;
-  purged = purged_column h.holder;
-}
 
 -- the head of a matter, if it was opened
 abbrev pub head_at : ℕ → Lists → Option Head

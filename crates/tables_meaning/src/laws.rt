@@ -1,6 +1,9 @@
 //! Laws over the definitions, each the contract of a function with nothing to do.
 
+ghost use Rattle.tables_meaning.specs.Scripts.{LineScriptsAreMeant, ScriptsAreMeant};
 ghost use Rattle.tables_meaning.specs.Standing.{EmptyTablesStand, EntriesReadBack};
+
+use firm_rows::laws::firm_stays_sound;
 
 /// Tables without rows stand for the firm without rows, which is sound.
 pub fn empty_tables_stand()
@@ -11,3 +14,19 @@ pub fn empty_tables_stand()
 pub fn entries_read_back()
     ensures { EntriesReadBack }
 {}
+
+/// What is written for a line of the bank that comes again or matches nothing, for a line of the firm's own, and for a
+/// balance leaves tables that stand for the firm after it, which is sound.
+pub fn line_scripts_are_meant()
+    ensures { LineScriptsAreMeant }
+{
+    firm_stays_sound();
+}
+
+/// What is written for a change of the firm, of whatever kind, leaves tables that stand for the firm after it, which is
+/// sound.
+pub fn scripts_are_meant()
+    ensures { ScriptsAreMeant }
+{
+    firm_stays_sound();
+}

@@ -2,4 +2,10 @@
 #![tactic(auto)]
 
 #[cfg(test)]
+mod entries;
+#[cfg(test)]
+mod heads;
+#[cfg(test)]
 mod spoiled;
+#[cfg(test)]
+mod stored;
