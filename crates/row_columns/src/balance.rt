@@ -12,7 +12,8 @@ use firm_rows::{BalanceKind, StatementRow};
 use trust_base::{BankAmount, StoreFault};
 use trust_tables::BalanceColumns;
 
-fn kind_column(kind: BalanceKind) -> i64
+/// The column of a kind of balance: 1 for opening and 2 for closing.
+pub fn kind_column(kind: BalanceKind) -> i64
     ensures { result ≡ kind_column kind }
 {
     match kind {

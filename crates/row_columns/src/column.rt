@@ -14,6 +14,7 @@ use trust_base::{
 #[tactic(auto, unfolding(trust_values::specs::Limits::IsDay))]
 pub(crate) fn day_in(column: i64) -> Option<Day>
     ensures some { IfSome result (λ d. pos d ≡ column) }
+    ensures form { IfSome result IsDay }
     ensures none { IfNone result ((d : ℕ) → IsDay d → pos d ≢ column) }
 {
     if column < 0 || column > 99_999_999 {
@@ -124,6 +125,7 @@ pub(crate) fn person_in(alloc: Global, column: &[u8]) -> Result<PersonId, StoreF
 /// The label in a column. Other bytes are Store; Memory comes only of a text of this form, where a growth was refused.
 pub(crate) fn label_in(alloc: Global, column: &[u8]) -> Result<Label, StoreFault>
     ensures ok { IfOk result (λ t. t ≡ column.now) }
+    ensures form { IfOk result IsLabel }
     ensures err { IfErr result (λ e. e ≡ StoreFault.Memory ↔ IsLabel column.now) }
 {
     let text = Label::read(alloc, column)?;

@@ -77,6 +77,7 @@ pub fn head_columns(matter: MatterNo, head: &Head, figures: Figures) -> HeadColu
 fn holder_in(alloc: Global, client: &[u8], purged: i64) -> Result<Holder, StoreFault>
     ensures client { IfOk result (λ h. client_column h ≡ client.now) }
     ensures purged { IfOk result (λ h. purged_column h ≡ purged) }
+    ensures form { IfOk result IsHolder }
     ensures back { (h : Held) → IsHolder h → client_column h ≡ client.now → purged_column h ≡ purged
         → GivesBack h result }
     ensures memory { IfErr result (λ e. e ≡ StoreFault.Memory → IsLabel client.now × (purged ≡ pos 0)) }
@@ -95,6 +96,7 @@ fn holder_in(alloc: Global, client: &[u8], purged: i64) -> Result<Holder, StoreF
 #[tactic(auto, unfolding(trust_values::specs::Limits::IsDay))]
 fn closed_in(column: i64) -> Result<Option<Day>, StoreFault>
     ensures ok { IfOk result (λ c. closed_column c ≡ column) }
+    ensures form { IfOk result (λ c. IfSome c IsDay) }
     ensures back { (c : Option ℕ) → IfSome c IsDay → closed_column c ≡ column → result ≡ Ok c }
     ensures store { IfErr result (λ e. e ≡ StoreFault.Store) }
 {
@@ -109,6 +111,7 @@ fn closed_in(column: i64) -> Result<Option<Day>, StoreFault>
 /// comes only of those of a head that was not purged, where a growth was refused.
 pub fn head_of(alloc: Global, columns: HeadColumns<'_>) -> Result<Head, StoreFault>
     ensures ok { IfOk result (λ h. HasHead h (head_given columns.entry)) }
+    ensures form { IfOk result IsHead }
     ensures back { (h : Kept) → IsHead h → HasHead h (head_given columns.entry) → GivesBack h result }
     ensures memory { IfErr result (λ e. e ≡ StoreFault.Memory → HasClientsHead (head_given columns.entry)) }
 {

@@ -13,7 +13,7 @@ mod movement;
 mod seat;
 mod stored_entry;
 
-pub use balance::{balance_columns, balance_of};
+pub use balance::{balance_columns, balance_of, kind_column};
 pub use entry::entry_columns;
 pub use exception::{exception_columns, exception_of};
 pub use firm_line::{firm_line_columns, firm_line_of};

@@ -1,0 +1,17 @@
+-- What a loop over rows has gathered so far.
+use Rattle.std.proofs.Common.{◌≡◌, zero, suc, add-one, ℕ, ◌+◌, ◌<◌, List, [], ◌∷◌, ◌++◌, map, length, get_or, take, ap, subst, ◌∙◌, arith}
+use Rattle.std.proofs.lemmas.List.{length-map}
+use Rattle.sqlite_value.specs.Order.{Row}
+
+module _ {X Y : Type 0} (shown : X → Row) (from : X → Y) (r : Row) (y : Y) (reads : (x : X) → r ≡ shown x → y ≡ from x) where
+  front_more : (xs : List X) (i : ℕ) → i < length xs → r ≡ get_or (map shown xs) i r → map from (take i xs) ++ y ∷ [] ≡ map from (take (i + 1) xs)
+  front_more [] i within at = absurd (omega (arith, within))
+  front_more (x ∷ xs) zero within at = ap (λ z. z ∷ []) (reads x at)
+  front_more (x ∷ xs) (suc i) within at = rw add-one (ap (λ l. from x ∷ l) (rw add-one at (front_more xs i (omega (arith, within)) at)))
+
+  -- with what the next row stands for it is one more
+  pub one_more : (xs : List X) (rows : List Row) (i : ℕ) (now : List Y) → rows ≡ map shown xs → i < length rows → r ≡ get_or rows i r → now ≡ map from (take i xs)
+      → now ++ y ∷ [] ≡ map from (take (i + 1) xs)
+  one_more xs rows i now is within at so_far =
+      ap (λ l. l ++ y ∷ []) so_far
+      ∙ front_more xs i (subst (λ n. i < n) (ap length is ∙ length-map xs shown) within) (at ∙ ap (λ l. get_or l i r) is)

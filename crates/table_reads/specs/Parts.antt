@@ -1,0 +1,40 @@
+-- What the tables hold of one matter, column by column.
+use Rattle.std.specs.Prelude.{ℕ, pos, map, find, Option, Some, None, option_map}
+use Rattle.matter_parts.specs.declared.figures.Figures.{Figures}
+use Rattle.matter_parts.specs.Parts.{Part, IsWhole, no_figures}
+use Rattle.firm_rows.specs.Firm.{of}
+use Rattle.trust_tables.specs.Lists.{Lists}
+use Rattle.trust_tables.specs.Rows as table
+use Rattle.tables_meaning.specs.Meaning.{AreSound, figures_from, firm_from, head_from, kept_from, seat_from}
+use Rattle.tables_meaning.specs.Steps.{head_at}
+use Rattle.table_reads.specs.declared.head.HeadWithTotals.{HeadWithTotals}
+
+-- the totals of the head that was found; without one there are none
+abbrev pub figures_found : Option table.Head → Figures
+figures_found None = no_figures
+figures_found (Some h) = figures_from h
+
+-- the totals that are kept with the head of a matter
+abbrev pub figures_at : ℕ → Lists → Figures
+figures_at m a = figures_found (find (table.is_head (pos m)) a.heads)
+
+-- a head with the totals that are kept with it
+abbrev pub with_totals_from : table.Head → HeadWithTotals
+with_totals_from h = record { head = head_from h; figures = figures_from h }
+
+-- that of a matter, if it was opened
+abbrev pub with_totals_at : ℕ → Lists → Option HeadWithTotals
+with_totals_at m a = option_map with_totals_from (find (table.is_head (pos m)) a.heads)
+
+-- the head of a matter, its seats by person, its totals, and its entries by number
+abbrev pub part_at : ℕ → Lists → Part
+part_at m a = record {
+  head = head_at m a;
+  seats = map seat_from (table.seats_of (pos m) a.seats);
+  figures = figures_at m a;
+  kept = map kept_from (table.entries_of (pos m) a.entries);
+}
+
+-- where the rows stand for those of a sound firm, these are all rows of the matter
+abbrev pub PartsAreWhole : Type 0
+PartsAreWhole = (m : ℕ) (a : Lists) → AreSound a → IsWhole (part_at m a) (of m (firm_from a))

@@ -1,0 +1,44 @@
+-- What a write of a change leaves of the tables for whose firm it is one.
+use Rattle.std.specs.Prelude.{◌≡◌, List, map, Result, OnOk, OnErr, IsTrue}
+use Rattle.sqlite.specs.Effect.{Database}
+use Rattle.sqlite.specs.State.{State, HasCleanDisk}
+use Rattle.trust_base.specs.declared.refusal.StoreFault.{StoreFault}
+use Rattle.firm_rows.specs.FirmChange.{FirmChange, after, FitsFirm}
+use Rattle.trust_schema.specs.declared.layout.Layout.{Layout}
+use Rattle.trust_tables.specs.declared.statements.Statement.{Statement}
+use Rattle.trust_tables.specs.Lists.{lists_in}
+use Rattle.trust_tables.specs.Reading.{IsKept, LeavesOnly}
+use Rattle.trust_tables.specs.Script.{IsSettled}
+use Rattle.tables_meaning.specs.Standing.{StandsSound, firm_in}
+use Rattle.tables_meaning.specs.Steps.{step_of, steps_of}
+
+-- where the connection serves, the change fits the firm for which its tables stand
+abbrev pub FitsServed : Layout → FirmChange → State → Type 0
+FitsServed l change s = IsTrue s.is_open → FitsFirm (firm_in l s.now.trees) change
+
+-- the second tables stand for the firm of the first after the change
+pub record StandsAfter (l : Layout) (change : FirmChange) (db next : Database) : Type 0 where
+  pub firm : firm_in l next.trees ≡ after change (firm_in l db.trees)
+  pub stands : StandsSound l next
+
+-- a write of a change that fits makes it where it answers Ok, and the connection then serves and a crash leaves what it
+-- sees; an error of a connection that still serves changes nothing; a crash may leave what it might have left before,
+-- or, where the connection served, tables that stand for the firm after the change
+pub record IsFirmWrite {T : Type 0} (change : FirmChange) (result : Result T StoreFault) (old new : State) : Type 0
+  where
+    pub made : (l : Layout) → HasCleanDisk new → StandsSound l old.now → FitsServed l change old
+        → OnOk result (StandsAfter l change old.now new.now)
+    pub kept : HasCleanDisk new → IsTrue new.is_open → OnErr result (IsKept old new)
+    pub serves : HasCleanDisk new → OnOk result (IsTrue new.is_open)
+    pub was_open : HasCleanDisk new → IsTrue new.is_open → IsTrue old.is_open
+    pub was_clean : HasCleanDisk new → HasCleanDisk old
+    pub settled : HasCleanDisk new → OnOk result (IsSettled new)
+    pub opened : HasCleanDisk new → LeavesOnly old new (λ _. IsTrue old.is_open)
+    pub crash : (l : Layout) → HasCleanDisk new → StandsSound l old.now → FitsServed l change old
+        → LeavesOnly old new (λ trees. (db : Database) × StandsAfter l change old.now db × (trees ≡ db.trees))
+
+-- the statements are the steps of the change, where it fits
+abbrev pub IsScriptOf : FirmChange → List Statement → State → Type 0
+IsScriptOf change script s =
+    (l : Layout) → HasCleanDisk s → StandsSound l s.now → FitsServed l change s
+    → map step_of script ≡ steps_of change (lists_in l s.now.trees)
