@@ -9,8 +9,9 @@ use Rattle.trust_tables.specs.declared.statements.Statement.{Statement}
 use Rattle.trust_tables.specs.Lists.{lists_in}
 use Rattle.trust_tables.specs.Reading.{IsKept, LeavesOnly}
 use Rattle.trust_tables.specs.Script.{IsSettled}
+use Rattle.tables_meaning.specs.Scripts.{IsTyped, IsScriptMeant}
 use Rattle.tables_meaning.specs.Standing.{StandsSound, firm_in}
-use Rattle.tables_meaning.specs.Steps.{step_of, steps_of}
+use Rattle.tables_meaning.specs.Steps.{Step, step_of, steps_of}
 
 -- where the connection serves, the change fits the firm for which its tables stand
 abbrev pub FitsServed : Layout → FirmChange → State → Type 0
@@ -37,8 +38,18 @@ pub record IsFirmWrite {T : Type 0} (change : FirmChange) (result : Result T Sto
     pub crash : (l : Layout) → HasCleanDisk new → StandsSound l old.now → FitsServed l change old
         → LeavesOnly old new (λ trees. (db : Database) × StandsAfter l change old.now db × (trees ≡ db.trees))
 
+-- these are the steps of the change, where it fits
+abbrev pub AreStepsOf : FirmChange → List Step → State → Type 0
+AreStepsOf change steps s =
+    (l : Layout) → HasCleanDisk s → StandsSound l s.now → FitsServed l change s
+    → steps ≡ steps_of change (lists_in l s.now.trees)
+
 -- the statements are the steps of the change, where it fits
 abbrev pub IsScriptOf : FirmChange → List Statement → State → Type 0
-IsScriptOf change script s =
-    (l : Layout) → HasCleanDisk s → StandsSound l s.now → FitsServed l change s
-    → map step_of script ≡ steps_of change (lists_in l s.now.trees)
+IsScriptOf change script s = AreStepsOf change (map step_of script) s
+
+-- a write of the change whose steps these are
+abbrev pub IsWriteOf : {T : Type 0} → List Step → Result T StoreFault → State → State → Type 0
+IsWriteOf steps result old new =
+    (change : FirmChange) → IsScriptMeant change → IsTyped change → AreStepsOf change steps old
+    → IsFirmWrite change result old new

@@ -6,7 +6,9 @@
 //! still serves after an error has changed nothing; one that was shut by it may have written all of the change.
 #![tactic(auto)]
 
+mod changes;
 mod lines;
 mod script;
 
+pub use changes::{write_close, write_open, write_seat, write_unseat};
 pub use lines::{add_balance, add_firm_line, note_exception, remove_exception};
