@@ -1,17 +1,19 @@
 -- What a write of a change leaves of the tables for whose firm it is one.
-use Rattle.std.specs.Prelude.{◌≡◌, List, map, Result, OnOk, OnErr, IsTrue}
+use Rattle.std.specs.Prelude.{◌≡◌, ℕ, List, [], ◌∷◌, map, Option, Some, None, Result, OnOk, OnErr, IsTrue}
 use Rattle.sqlite.specs.Effect.{Database}
 use Rattle.sqlite.specs.State.{State, HasCleanDisk}
 use Rattle.trust_base.specs.declared.refusal.StoreFault.{StoreFault}
+use Rattle.matter_parts.specs.declared.kept.Kept.{Kept}
 use Rattle.firm_rows.specs.FirmChange.{FirmChange, after, FitsFirm}
 use Rattle.trust_schema.specs.declared.layout.Layout.{Layout}
 use Rattle.trust_tables.specs.declared.statements.Statement.{Statement}
 use Rattle.trust_tables.specs.Lists.{lists_in}
 use Rattle.trust_tables.specs.Reading.{IsKept, LeavesOnly}
 use Rattle.trust_tables.specs.Script.{IsSettled}
+use Rattle.row_columns.specs.Entries.{entry_columns}
 use Rattle.tables_meaning.specs.Scripts.{IsTyped, IsScriptMeant}
 use Rattle.tables_meaning.specs.Standing.{StandsSound, firm_in}
-use Rattle.tables_meaning.specs.Steps.{Step, step_of, steps_of}
+use Rattle.tables_meaning.specs.Steps.{Step, PutEntry, step_of, steps_of}
 
 -- where the connection serves, the change fits the firm for which its tables stand
 abbrev pub FitsServed : Layout → FirmChange → State → Type 0
@@ -53,3 +55,8 @@ abbrev pub IsWriteOf : {T : Type 0} → List Step → Result T StoreFault → St
 IsWriteOf steps result old new =
     (change : FirmChange) → IsScriptMeant change → IsTyped change → AreStepsOf change steps old
     → IsFirmWrite change result old new
+
+-- what is written of an entry that is kept, if one is
+abbrev pub kept_steps : ℕ → Option Kept → List Step
+kept_steps m None = []
+kept_steps m (Some k) = PutEntry (entry_columns m k.number k.left k.entry) ∷ []

@@ -82,8 +82,8 @@ pub fn add_firm_line<S: Alter>(conn: &mut Connection<S>, line: &Line) -> Result<
 }
 
 /// Writes a balance that is applied: it is kept, and its line is no exception from then on. Where one of its kind and
-/// day is kept already, nothing is said of the tables. After an error, Memory where memory was refused and Store for any
-/// other, a connection that serves has changed nothing.
+/// day is kept already, nothing is said of the tables. After an error, Memory where memory was refused and Store for
+/// any other, a connection that serves has changed nothing.
 pub fn add_balance<S: Alter>(
     conn: &mut Connection<S>,
     kind: BalanceKind,

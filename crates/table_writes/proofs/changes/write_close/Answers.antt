@@ -21,12 +21,14 @@ returns-clause-written g c =
     let mid = state g.S.Store c.opened_head.new.conn in
     let last = made.last in
     let change = OfMatter m line made in
+    let was = c.in_ok-head.head in
     let head =
     c.head_columns.ensures
-    ∙ ap₂ (λ day (v : TotalsAfter). head_columns m (record c.in_ok-head.head { closed = Some c.args.day; last = day }) v.figures) c.last-head.ensures c.moves.ensures.is in
-    after_read change c.opened_head.result c.write_one.result old mid (state g.S.Store c.write_one.new.conn)
+    ∙ ap₂ (λ day (v : TotalsAfter). head_columns m (record was { closed = Some c.args.day; last = day }) v.figures)
+    c.last-head.ensures c.moves.ensures.is in
+    after_read change c.opened_head.result c.write_with_line.result old mid (state g.S.Store c.write_with_line.new.conn)
     c.opened_head.ensures.left
-    (c.write_one.ensures.written change (c.scripts_are_meant.ensures change)
+    (c.write_with_line.ensures.written change (c.scripts_are_meant.ensures change)
     (c.matter_is_typed.ensures, subst IsTypedEdit (sym c.requires.is) c.day_is_typed.ensures)
     (λ l clean stands fits.
     let a = lists_in l mid.now.trees in

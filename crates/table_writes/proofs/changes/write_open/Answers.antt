@@ -17,7 +17,7 @@ returns-clause-written g c =
     let head =
     c.head_columns.ensures
     ∙ ap (λ (v : TotalsAfter). head_columns m opening.head v.figures) c.moves.ensures.is in
-    c.write_two.ensures.written (OfMatter m line made) (c.scripts_are_meant.ensures (OfMatter m line made))
+    c.write_with_line.ensures.written (OfMatter m line made) (c.scripts_are_meant.ensures (OfMatter m line made))
     (c.matter_is_typed.ensures, subst IsTypedEdit (sym c.requires.is) c.opening_is_typed.ensures)
     (λ l clean stands fits.
     ap₂ (λ h s. PutHead h ∷ AddSeat s ∷ line_steps line) head c.seat_columns.ensures

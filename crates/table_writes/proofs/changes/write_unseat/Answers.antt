@@ -21,16 +21,19 @@ returns-clause-written g c =
     let mid = state g.S.Store c.opened_head.new.conn in
     let last = made.last in
     let change = OfMatter m line made in
+    let was = c.in_ok-head.head in
     let head =
     c.head_columns.ensures
-    ∙ ap₂ (λ day (v : TotalsAfter). head_columns m (record c.in_ok-head.head { last = day }) v.figures) c.last-head.ensures c.moves.ensures.is in
-    after_read change c.opened_head.result c.write_two.result old mid (state g.S.Store c.write_two.new.conn)
+    ∙ ap₂ (λ day (v : TotalsAfter). head_columns m (record was { last = day }) v.figures)
+    c.last-head.ensures c.moves.ensures.is in
+    after_read change c.opened_head.result c.write_with_line.result old mid (state g.S.Store c.write_with_line.new.conn)
     c.opened_head.ensures.left
-    (c.write_two.ensures.written change (c.scripts_are_meant.ensures change)
+    (c.write_with_line.ensures.written change (c.scripts_are_meant.ensures change)
     (c.matter_is_typed.ensures, subst IsTypedEdit (sym c.requires.is) tt)
     (λ l clean stands fits.
     let a = lists_in l mid.now.trees in
-    ap₂ (λ h s. PutHead h ∷ s ∷ line_steps line) head (ap₂ SeatGone c.seat_name.ensures.matter c.seat_name.ensures.person)
+    ap₂ (λ h s. PutHead h ∷ s ∷ line_steps line) head
+    (ap₂ SeatGone c.seat_name.ensures.matter c.seat_name.ensures.person)
     ∙ ap (λ h. (head_steps m made.moves.figures (head_after h e last) ++ edit_steps m made e a) ++ line_steps line)
     (sym (c.in_ok-head.ensures.found l clean stands))
     ∙ ap (λ x. matter_steps m made x a ++ line_steps line) (sym c.requires.is)))
