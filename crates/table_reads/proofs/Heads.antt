@@ -1,9 +1,8 @@
 -- A head that is read back from its columns.
-use Rattle.std.proofs.Common.{◌≡◌, zero, suc, ℕ, ◌==◌, false, ℤ, nat_abs, cond, List, Option, Some, None, Result, Ok, Err, IfOk, IfSome, refl, ap, subst, ◌∙◌, arith}
+use Rattle.std.proofs.Common.{◌≡◌, zero, suc, ℕ, ◌==◌, false, ℤ, nat_abs, cond, List, Option, Some, None, IfSome, refl, ap, subst, ◌∙◌, arith}
 use Rattle.std.proofs.lemmas.Bool.Decides.{nat_tests}
 use Rattle.sqlite_value.specs.Order.{Row}
 use Rattle.trust_base.specs.Limits.{IsDay}
-use Rattle.trust_base.specs.declared.refusal.StoreFault.{StoreFault}
 use Rattle.matter_rows.specs.declared.head.Head as kept
 use Rattle.matter_rows.specs.declared.head.Holder.{Holder}
 use Rattle.matter_rows.specs.declared.head.Holder.TheVariants.{Client, Purged}
@@ -38,12 +37,6 @@ head_back h x is has =
     let last : h.last ≡ nat_abs x.last = ap nat_abs has.3 in
     λ i. record { holder = holder i; opened = opened i; closed = closed i; last = last i }
 
--- the head of the columns of a row is that for which the row stands
-pub head_reads : (n : ℤ) (columns : Head) (row : Row) (r : Result kept.Head StoreFault) → ((x : Head) → row ≡ head_shown x → columns ≡ record x { no = n })
-    → IfOk r (λ h. HasHead h columns) → IfOk r IsHead → IfOk r (λ h. (x : Head) → row ≡ head_shown x → h ≡ head_from x)
-head_reads n columns row (Ok h) given has is = λ x shows. head_back h columns is has ∙ ap head_from (given x shows)
-head_reads n columns row (Err e) given has is = tt
-
 pub totals_back : (f : Figures) (x : Head) → HasTotals f x → f ≡ figures_from x
 totals_back f x has =
     let entries : f.entries ≡ nat_abs x.entries = ap nat_abs has.entries in
@@ -55,7 +48,7 @@ totals_back f x has =
     let claims : f.claims ≡ nat_abs x.claims = ap nat_abs has.claims in
     λ i. record { entries = entries i; pending = pending i; held = held i; available = available i; disputed = disputed i; fees = fees i; claims = claims i }
 
--- and its totals are those for which the row stands
+-- the head of the columns of a row is that for which the row stands, and so are its totals
 pub totals_read : (n : ℤ) (columns : Head) (row : Row) (h : kept.Head) (f : Figures) → ((x : Head) → row ≡ head_shown x → columns ≡ record x { no = n })
     → HasHead h columns → IsHead h → HasTotals f columns → (x : Head) → row ≡ head_shown x → record { head = h; figures = f } ≡ with_totals_from x
 totals_read n columns row h f given has is totals x shows =

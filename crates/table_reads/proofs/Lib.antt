@@ -4,5 +4,6 @@ pub mod Entries
 pub mod Firsts
 pub mod Gathered
 pub mod Heads
+pub mod NamedEntries
 pub mod Parts
 pub mod Values

@@ -18,6 +18,7 @@ use Rattle.trust_tables.specs.Rows as table
 use Rattle.tables_meaning.specs.Meaning.{AreSound, HasHeadAt, IsWrittenHead, firm_from, head_from, kept_from, matter_from, matters_from, part_from, seat_from}
 use Rattle.tables_meaning.proofs.HeadOrder.{IsNumbered, rows_found, rows_in-made}
 use Rattle.tables_meaning.proofs.RowOrder.{all-find}
+use Rattle.tables_meaning.specs.Steps.{head_at}
 use Rattle.table_reads.specs.declared.head.HeadWithTotals.{HeadWithTotals}
 use Rattle.table_reads.specs.Parts.{PartsAreWhole, figures_found, part_at, with_totals_at, with_totals_from}
 
@@ -98,15 +99,29 @@ none_read : (f : Option table.Head) → None ≡ option_map with_totals_from f �
 none_read None e = refl
 none_read (Some h) e = absurd (let d = e in cc)
 
+-- its head and its totals, as they were found
+pub head_found : (m : ℕ) (a : Lists) (o : HeadWithTotals) → Some o ≡ with_totals_at m a → (Some o.head ≡ (part_at m a).head) × (o.figures ≡ (part_at m a).figures)
+head_found m a o found = head_read o (find (table.is_head (pos m)) a.heads) found
+
+alone : (f : Option table.Head) → option_map (λ (x : HeadWithTotals). x.head) (option_map with_totals_from f) ≡ option_map head_from f
+alone None = refl
+alone (Some h) = refl
+
+-- without the totals it is the head alone
+pub head_alone : (m : ℕ) (a : Lists) (o : Option HeadWithTotals) → o ≡ with_totals_at m a → option_map (λ (x : HeadWithTotals). x.head) o ≡ head_at m a
+head_alone m a o found = ap (option_map (λ (x : HeadWithTotals). x.head)) found ∙ alone (find (table.is_head (pos m)) a.heads)
+
 -- its head with the totals, its seats and its entries are all of it
 pub read_whole : (m : ℕ) (a : Lists) → AreSound a → (o : HeadWithTotals) → Some o ≡ with_totals_at m a → (seats : List Seat) → seats ≡ (part_at m a).seats
     → (kept : List Kept) → kept ≡ (part_at m a).kept → IsWhole (record { head = Some o.head; seats = seats; figures = o.figures; kept = kept }) (of m (firm_from a))
 read_whole m a sound o found seats sits kept keeps =
-    let read = head_read o (find (table.is_head (pos m)) a.heads) found in
+    let read = head_found m a o found in
     subst (λ (p : Part). IsWhole p (of m (firm_from a)))
     (λ i. record { head = sym read.0 i; seats = sym sits i; figures = sym read.1 i; kept = sym keeps i }) (parts_whole m a sound)
 
 -- without a head it has no rows
+pub none_rows : (m : ℕ) (a : Lists) → AreSound a → None ≡ with_totals_at m a → unopened ≡ of m (firm_from a)
+none_rows m a sound none = ap (rows_found (part_from a)) (sym (none_read _ none)) ∙ rows_are m a sound
+
 pub none_whole : (m : ℕ) (a : Lists) → AreSound a → None ≡ with_totals_at m a → (p : Part) → IsWhole p unopened → IsWhole p (of m (firm_from a))
-none_whole m a sound none p whole =
-    subst (λ (rows : Rows). IsWhole p rows) (ap (rows_found (part_from a)) (sym (none_read _ none)) ∙ rows_are m a sound) whole
+none_whole m a sound none p whole = subst (λ (rows : Rows). IsWhole p rows) (none_rows m a sound none) whole

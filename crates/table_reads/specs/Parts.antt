@@ -1,7 +1,8 @@
 -- What the tables hold of one matter, column by column.
-use Rattle.std.specs.Prelude.{ℕ, pos, map, find, Option, Some, None, option_map}
+use Rattle.std.specs.Prelude.{◌≡◌, ℕ, pos, ◌==◌, ◌||◌, Bool, cond, List, map, find, Option, Some, None, option_map}
 use Rattle.matter_parts.specs.declared.figures.Figures.{Figures}
-use Rattle.matter_parts.specs.Parts.{Part, IsWhole, no_figures}
+use Rattle.matter_parts.specs.declared.kept.Kept.{Kept}
+use Rattle.matter_parts.specs.Parts.{Part, IsWhole, is_it, kept_in, no_figures, target_by}
 use Rattle.firm_rows.specs.Firm.{of}
 use Rattle.trust_tables.specs.Lists.{Lists}
 use Rattle.trust_tables.specs.Rows as table
@@ -38,3 +39,16 @@ part_at m a = record {
 -- where the rows stand for those of a sound firm, these are all rows of the matter
 abbrev pub PartsAreWhole : Type 0
 PartsAreWhole = (m : ℕ) (a : Lists) → AreSound a → IsWhole (part_at m a) (of m (firm_from a))
+
+-- the number is that of the named entry, or of the one that it draws on
+abbrev pub is_named_by : Part → Option ℕ → ℕ → Bool
+is_named_by m named n = is_it named n || n == target_by m named
+
+-- of all entries of a matter, only those of these numbers are kept
+abbrev pub KeepsOnly : (ℕ → Bool) → List Kept → List Kept → Type 0
+KeepsOnly has all kept = (n : ℕ) → kept_in kept n ≡ cond (has n) (kept_in all n) None
+
+-- where only those of some numbers were kept, those of these are kept too, and no others
+abbrev pub KeepsAlso : (ℕ → Bool) → List Kept → List Kept → List Kept → Type 0
+KeepsAlso more all old new =
+    (has : ℕ → Bool) → KeepsOnly has all old → KeepsOnly (λ n. has n || more n) all new

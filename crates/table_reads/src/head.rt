@@ -29,45 +29,14 @@ pub struct HeadWithTotals {
     pub figures: Figures,
 }
 
-// The head of a row.
-fn opened_in(alloc: Global, matter: MatterNo, row: &Row) -> Result<Head, StoreFault>
-    ensures { IfOk result (λ h. (x : HeadRow) → row.now ≡ head_shown x → h ≡ head_from x) }
-{
-    let columns = head_in(matter.get() as i64, row)?;
-    head_of(alloc, columns)
-}
-
 // The head and the totals of a row.
-fn opened_with_totals_in(
-    alloc: Global,
-    matter: MatterNo,
-    row: &Row,
-) -> Result<HeadWithTotals, StoreFault>
+fn opened_in(alloc: Global, matter: MatterNo, row: &Row) -> Result<HeadWithTotals, StoreFault>
     ensures { IfOk result (λ h. (x : HeadRow) → row.now ≡ head_shown x → h ≡ with_totals_from x) }
 {
     let columns = head_in(matter.get() as i64, row)?;
     let figures = totals_of(columns)?;
     let head = head_of(alloc, columns)?;
     Ok(HeadWithTotals { head, figures })
-}
-
-/// The head of a matter, or None where it was never opened.
-pub fn head_of_matter<S: Alter>(
-    conn: &mut Connection<S>,
-    alloc: Global,
-    matter: MatterNo,
-) -> Result<Option<Head>, StoreFault>
-    requires { conn.old.in_transaction ≡ false }
-    ensures mode { conn.new.in_transaction ≡ false }
-    ensures found { (l : Layout) → HasCleanDisk (state S.Store conn.new) → StandsSound l (state S.Store conn.old).now
-        → IfOk result (λ head. head ≡ head_at matter (lists_in l (state S.Store conn.old).now.trees)) }
-    ensures left { LeavesAll result (state S.Store conn.old) (state S.Store conn.new) }
-{
-    let rows = answered(head_rows(conn, matter.get() as i64))?;
-    match rows.first() {
-        None => Ok(None),
-        Some(row) => Ok(Some(opened_in(alloc, matter, row)?)),
-    }
 }
 
 /// The head of a matter with its totals, or None where it was never opened.
@@ -85,6 +54,24 @@ pub fn head_with_totals<S: Alter>(
     let rows = answered(head_rows(conn, matter.get() as i64))?;
     match rows.first() {
         None => Ok(None),
-        Some(row) => Ok(Some(opened_with_totals_in(alloc, matter, row)?)),
+        Some(row) => Ok(Some(opened_in(alloc, matter, row)?)),
+    }
+}
+
+/// The head of a matter, or None where it was never opened.
+pub fn head_of_matter<S: Alter>(
+    conn: &mut Connection<S>,
+    alloc: Global,
+    matter: MatterNo,
+) -> Result<Option<Head>, StoreFault>
+    requires { conn.old.in_transaction ≡ false }
+    ensures mode { conn.new.in_transaction ≡ false }
+    ensures found { (l : Layout) → HasCleanDisk (state S.Store conn.new) → StandsSound l (state S.Store conn.old).now
+        → IfOk result (λ head. head ≡ head_at matter (lists_in l (state S.Store conn.old).now.trees)) }
+    ensures left { LeavesAll result (state S.Store conn.old) (state S.Store conn.new) }
+{
+    match head_with_totals(conn, alloc, matter)? {
+        None => Ok(None),
+        Some(opened) => Ok(Some(opened.head)),
     }
 }

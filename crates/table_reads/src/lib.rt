@@ -10,6 +10,7 @@ mod head;
 pub mod laws;
 mod ledger;
 mod matter;
+mod named;
 mod seat;
 mod value;
 
@@ -21,5 +22,5 @@ pub use entry::{entries_of, entry_at};
 pub use fault::{answered, fault_of};
 pub use head::{HeadWithTotals, head_of_matter, head_with_totals};
 pub use ledger::firm_ledger;
-pub use matter::whole_matter;
+pub use matter::{matter_for, whole_matter};
 pub use seat::seats_of;

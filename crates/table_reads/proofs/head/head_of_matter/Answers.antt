@@ -1,22 +1,20 @@
-use Rattle.std.proofs.Common.{rules, ◌≡◌, pos, Some, find, option_map, option_copied, slice_get, sym, ap, ◌∙◌, to_z, w64}
+use Rattle.std.proofs.Common.{sym, ap, option_map, ◌∙◌}
 use Rattle.sqlite.specs.Held.{state}
-use Rattle.trust_tables.specs.Rows.{head_shown, heads_in, is_head}
-use Rattle.tables_meaning.specs.Meaning.{head_from}
-use Rattle.table_reads.proofs.Firsts.{none_first, some_first, of_answer}
+use Rattle.trust_tables.specs.Lists.{lists_in}
+use Rattle.table_reads.specs.declared.head.HeadWithTotals.{HeadWithTotals}
+use Rattle.table_reads.proofs.Parts.{head_alone}
 use Rattle.table_reads.proofs.head.head_of_matter.Goals as goal
 
 pub returns-in-None-clause-found : goal.returns-in-None-clause-found
 returns-in-None-clause-found g c l clean stands =
-    let hs = heads_in l (state g.S.Store c.args.conn.now).now.trees in
-    let own : to_z w64 c.get.result ≡ pos c.args.matter = search rules in
-    let is = of_answer _ c.head_rows.result c.in_ok-rows.rows c.in_ok-rows.ensures.ok (c.head_rows.ensures.read.found l clean stands.tables) in
-    let none = none_first head_shown (is_head (to_z w64 c.get.result)) hs c.in_ok-rows.rows.items is (sym (ap (λ l. slice_get l 0) c.deref.ensures.value) ∙ sym c.first.ensures.value ∙ ap option_copied c.in-None.is) in
-    sym (ap (option_map head_from) (ap (λ z. find (is_head z) hs) (sym own) ∙ none))
+    let a = lists_in l (state g.S.Store c.args.conn.now).now.trees in
+    let o = c.in_ok-head_with_totals.field-0 in
+    let found = head_alone c.args.matter a o (c.in_ok-head_with_totals.ensures.found l clean stands) in
+    ap (option_map (λ (x : HeadWithTotals). x.head)) (sym c.in-None.is) ∙ found
 
-pub returns-clause-found : goal.returns-clause-found
-returns-clause-found g c l clean stands =
-    let hs = heads_in l (state g.S.Store c.args.conn.now).now.trees in
-    let own : to_z w64 c.get.result ≡ pos c.args.matter = search rules in
-    let is = of_answer _ c.head_rows.result c.in_ok-rows.rows c.in_ok-rows.ensures.ok (c.head_rows.ensures.read.found l clean stands.tables) in
-    let one = some_first head_shown (is_head (to_z w64 c.get.result)) hs c.in_ok-rows.rows.items is c.in-Some.row.now (sym (ap (λ l. slice_get l 0) c.deref.ensures.value) ∙ sym c.first.ensures.value ∙ ap option_copied c.in-Some.is) in
-    ap Some (c.in_ok-opened_in-in-Some.ensures one.one one.shows) ∙ sym (ap (option_map head_from) (ap (λ z. find (is_head z) hs) (sym own) ∙ one.found_one))
+pub returns-in-Some-clause-found : goal.returns-in-Some-clause-found
+returns-in-Some-clause-found g c l clean stands =
+    let a = lists_in l (state g.S.Store c.args.conn.now).now.trees in
+    let o = c.in_ok-head_with_totals.field-0 in
+    let found = head_alone c.args.matter a o (c.in_ok-head_with_totals.ensures.found l clean stands) in
+    ap (option_map (λ (x : HeadWithTotals). x.head)) (sym c.in-Some.is) ∙ found

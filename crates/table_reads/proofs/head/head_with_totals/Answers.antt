@@ -19,4 +19,4 @@ returns-clause-found g c l clean stands =
     let own : to_z w64 c.get.result ≡ pos c.args.matter = search rules in
     let is = of_answer _ c.head_rows.result c.in_ok-rows.rows c.in_ok-rows.ensures.ok (c.head_rows.ensures.read.found l clean stands.tables) in
     let one = some_first head_shown (is_head (to_z w64 c.get.result)) hs c.in_ok-rows.rows.items is c.in-Some.row.now (sym (ap (λ l. slice_get l 0) c.deref.ensures.value) ∙ sym c.first.ensures.value ∙ ap option_copied c.in-Some.is) in
-    ap Some (c.in_ok-opened_with_totals_in-in-Some.ensures one.one one.shows) ∙ sym (ap (option_map with_totals_from) (ap (λ z. find (is_head z) hs) (sym own) ∙ one.found_one))
+    ap Some (c.in_ok-opened_in-in-Some.ensures one.one one.shows) ∙ sym (ap (option_map with_totals_from) (ap (λ z. find (is_head z) hs) (sym own) ∙ one.found_one))
