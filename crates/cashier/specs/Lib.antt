@@ -1,4 +1,5 @@
 pub mod Calls
+pub mod Notice
 pub mod Outcome
 pub mod Records
 pub mod Report

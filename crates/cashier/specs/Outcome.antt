@@ -1,4 +1,4 @@
--- How a run of the program ends for its caller: the exit status and the notice on standard error.
+-- How a run of the program ends for its caller, and its exit status.
 use Rattle.std.specs.Prelude.{◌≡◌, ◌≢◌, ◌⊎◌, ◌++◌, ℕ, List, [], Option, Some, None, IfSome, codes, ⊤}
 use Rattle.std.specs.Borrow.{Bor}
 use Rattle.std.specs.Io.KnownBytes.{Appends}
@@ -31,21 +31,10 @@ exit_status outcome.Done = 0
 exit_status outcome.Refused = 1
 exit_status outcome.CommandLine = 2
 exit_status outcome.FileFault = 3
+exit_status outcome.OutputFault = 3
 exit_status outcome.StoreFault = 3
 exit_status outcome.MemoryFault = 3
 exit_status outcome.NetworkFault = 3
-
--- the line on standard error, where there is one
-abbrev pub notice : Outcome → Option (List ℕ)
-notice outcome.Done = None
-notice outcome.Refused = None
-notice outcome.CommandLine =
-    Some (codes "usage: cashier_cli --today DAY (sheet | import FILE | stream | serve PORT COUNT | "
-    ++ codes "reconcile DAY | trial | journal | retention | ledger MATTER)")
-notice outcome.FileFault = Some (codes "file fault")
-notice outcome.StoreFault = Some (codes "store fault")
-notice outcome.MemoryFault = Some (codes "memory fault")
-notice outcome.NetworkFault = Some (codes "network fault")
 
 -- what an error in reading the words is to the program
 abbrev pub words_outcome : ErrorKind → Outcome
@@ -57,7 +46,7 @@ abbrev pub sheet_outcome : SheetEnd → Outcome
 sheet_outcome sheet.Done = outcome.Done
 sheet_outcome sheet.Refused = outcome.Refused
 sheet_outcome sheet.ReadFault = outcome.FileFault
-sheet_outcome sheet.WriteFault = outcome.FileFault
+sheet_outcome sheet.WriteFault = outcome.OutputFault
 sheet_outcome sheet.Store = outcome.StoreFault
 sheet_outcome sheet.NoMemory = outcome.MemoryFault
 
@@ -66,7 +55,7 @@ abbrev pub statement_outcome : StatementEnd → Outcome
 statement_outcome statement.Done = outcome.Done
 statement_outcome statement.Refused = outcome.Refused
 statement_outcome statement.ReadFault = outcome.FileFault
-statement_outcome statement.WriteFault = outcome.FileFault
+statement_outcome statement.WriteFault = outcome.OutputFault
 statement_outcome statement.Store = outcome.StoreFault
 statement_outcome statement.NoMemory = outcome.MemoryFault
 
@@ -76,7 +65,7 @@ stream_outcome stream.Ended = outcome.Done
 stream_outcome stream.BadFraming = outcome.Refused
 stream_outcome stream.Limit = outcome.Refused
 stream_outcome stream.ReadFault = outcome.FileFault
-stream_outcome stream.WriteFault = outcome.FileFault
+stream_outcome stream.WriteFault = outcome.OutputFault
 stream_outcome stream.NoMemory = outcome.MemoryFault
 
 -- the words were understood, and their task began
@@ -85,6 +74,7 @@ HasBegun outcome.Done = ⊤
 HasBegun outcome.Refused = ⊤
 HasBegun outcome.CommandLine = ⊥
 HasBegun outcome.FileFault = ⊤
+HasBegun outcome.OutputFault = ⊤
 HasBegun outcome.StoreFault = ⊤
 HasBegun outcome.MemoryFault = ⊥
 HasBegun outcome.NetworkFault = ⊤

@@ -37,7 +37,7 @@ reply_outcome kind.Memory = outcome.MemoryFault
 abbrev pub Prints : Reply → Option (List ℕ) → Option (List ℕ) → Outcome → Type 0
 Prints reply old new told =
     ((told ≡ reply_outcome (reply_kind reply)) × Appends old new (reply_line reply))
-    ⊎ ((told ≡ outcome.FileFault)
+    ⊎ ((told ≡ outcome.OutputFault)
     × ((n : ℕ) × (n < length (reply_line reply)) × Appends old new (take n (reply_line reply))))
 
 -- the cashier asked for the report on a day, the firm's step gave the reply, and that was printed

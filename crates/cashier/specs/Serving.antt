@@ -15,7 +15,7 @@ use Rattle.cashier.specs.declared.outcome.Outcome.TheVariants as outcome
 abbrev pub serving_outcome : ServeEnd → Outcome
 serving_outcome serving.Done = outcome.Done
 serving_outcome serving.NetworkFault = outcome.NetworkFault
-serving_outcome serving.WriteFault = outcome.FileFault
+serving_outcome serving.WriteFault = outcome.OutputFault
 
 -- the stream of a client, whose bytes may be known, was served on a day
 pub record IsAnswered (day : ℕ) (known : Option (List ℕ)) (before : Firm) (end : StreamEnd) (after : Firm)

@@ -5,6 +5,7 @@
 mod fields;
 mod folder;
 pub mod laws;
+mod notice;
 mod outcome;
 mod program;
 mod record;
@@ -19,6 +20,7 @@ mod surroundings;
 mod system;
 
 pub use folder::{Folder, Opened};
+pub use notice::{Notice, Source, bare_notice_of, notice_of};
 pub use outcome::{Outcome, exit_of};
 pub use portal_server::{AcceptFault, ClientListener, Connection, Network};
 pub use program::{run_in_memory, run_words};

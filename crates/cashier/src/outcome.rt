@@ -1,10 +1,10 @@
 // How a run of the program ends.
 
-ghost use Rattle.std.specs.Prelude.{◌≡◌, option_map};
+ghost use Rattle.std.specs.Prelude.{◌≡◌};
 ghost use Rattle.std.specs.Process.{exit_status as process_status};
 ghost use Rattle.cashier.specs.Report.{reply_outcome};
 ghost use Rattle.cashier.specs.Serving.{serving_outcome};
-ghost use Rattle.cashier.specs.Outcome.{exit_status, notice};
+ghost use Rattle.cashier.specs.Outcome.{exit_status};
 ghost use Rattle.cashier.specs.Outcome.{sheet_outcome, statement_outcome, stream_outcome, words_outcome};
 
 use crate::reply_kind::ReplyKind;
@@ -23,8 +23,10 @@ pub enum Outcome {
     Refused,
     /// The command line names no run.
     CommandLine,
-    /// A file could not be opened, or a read or a write failed.
+    /// A file could not be opened, or a read of it or of standard input failed.
     FileFault,
+    /// A write to standard output failed.
+    OutputFault,
     /// The store refused a call.
     StoreFault,
     /// A growth was refused.
@@ -41,8 +43,11 @@ fn status_of(outcome: Outcome) -> u8
         Outcome::Done => 0,
         Outcome::Refused => 1,
         Outcome::CommandLine => 2,
-        Outcome::FileFault | Outcome::StoreFault | Outcome::MemoryFault | Outcome::NetworkFault =>
-            3,
+        Outcome::FileFault
+        | Outcome::OutputFault
+        | Outcome::StoreFault
+        | Outcome::MemoryFault
+        | Outcome::NetworkFault => 3,
     }
 }
 
@@ -52,23 +57,6 @@ pub fn exit_of(outcome: Outcome) -> ExitCode
     ensures { process_status result ≡ exit_status outcome }
 {
     ExitCode::from(status_of(outcome))
-}
-
-/// What standard error is told of an outcome, without the line's end.
-pub fn notice_of(outcome: Outcome) -> Option<&'static str>
-    ensures { option_map (λ s. s.now) result ≡ notice outcome }
-{
-    match outcome {
-        Outcome::Done | Outcome::Refused => None,
-        Outcome::CommandLine => Some(
-            "usage: cashier_cli --today DAY (sheet | import FILE | stream | serve PORT COUNT | \
-            reconcile DAY | trial | journal | retention | ledger MATTER)",
-        ),
-        Outcome::FileFault => Some("file fault"),
-        Outcome::StoreFault => Some("store fault"),
-        Outcome::MemoryFault => Some("memory fault"),
-        Outcome::NetworkFault => Some("network fault"),
-    }
 }
 
 /// The outcome of a run whose words were not read: want of memory, or a word that is no text.
@@ -100,7 +88,8 @@ pub fn outcome_of_sheet(end: SheetEnd) -> Outcome
     match end {
         SheetEnd::Done => Outcome::Done,
         SheetEnd::Refused => Outcome::Refused,
-        SheetEnd::ReadFault | SheetEnd::WriteFault => Outcome::FileFault,
+        SheetEnd::ReadFault => Outcome::FileFault,
+        SheetEnd::WriteFault => Outcome::OutputFault,
         SheetEnd::Store => Outcome::StoreFault,
         SheetEnd::NoMemory => Outcome::MemoryFault,
     }
@@ -113,7 +102,8 @@ pub fn outcome_of_statement(end: StatementEnd) -> Outcome
     match end {
         StatementEnd::Done => Outcome::Done,
         StatementEnd::Refused => Outcome::Refused,
-        StatementEnd::ReadFault | StatementEnd::WriteFault => Outcome::FileFault,
+        StatementEnd::ReadFault => Outcome::FileFault,
+        StatementEnd::WriteFault => Outcome::OutputFault,
         StatementEnd::Store => Outcome::StoreFault,
         StatementEnd::NoMemory => Outcome::MemoryFault,
     }
@@ -126,7 +116,8 @@ pub fn outcome_of_stream(end: StreamEnd) -> Outcome
     match end {
         StreamEnd::Ended => Outcome::Done,
         StreamEnd::BadFraming | StreamEnd::Limit => Outcome::Refused,
-        StreamEnd::ReadFault | StreamEnd::WriteFault => Outcome::FileFault,
+        StreamEnd::ReadFault => Outcome::FileFault,
+        StreamEnd::WriteFault => Outcome::OutputFault,
         StreamEnd::NoMemory => Outcome::MemoryFault,
     }
 }
@@ -138,6 +129,6 @@ pub fn outcome_of_serving(end: ServeEnd) -> Outcome
     match end {
         ServeEnd::Done => Outcome::Done,
         ServeEnd::NetworkFault => Outcome::NetworkFault,
-        ServeEnd::WriteFault => Outcome::FileFault,
+        ServeEnd::WriteFault => Outcome::OutputFault,
     }
 }

@@ -25,8 +25,8 @@ use trust_base::Day;
 use trust_desk::Desk;
 use trust_store::{Book, PlainBook};
 
-// The texts of words, in their order.
-fn texts_of<'a>(alloc: Global, words: &'a [String]) -> Result<Vec<&'a str>, AllocError>
+/// The texts of words, in their order.
+pub fn texts_of<'a>(alloc: Global, words: &'a [String]) -> Result<Vec<&'a str>, AllocError>
     ensures { IfOk result (λ texts. words_of texts.items ≡ map string_bytes words.entry.now) }
 {
     let mut texts = Vec::new(alloc);
@@ -152,28 +152,28 @@ pub fn run_in_memory<'a, R: Read, F: Folder, C: Clock + Drop, N: Network, W: Wri
 /// refused, and `CommandLine` where a word is no text.
 pub fn run_called<R: Read, F: Folder, C: Clock + Drop, N: Network, W: Write>(
     alloc: Global,
-    called: Result<Vec<String>, ErrorKind>,
+    called: &Result<Vec<String>, ErrorKind>,
     reader: &mut R,
     around: Surroundings<'_, F, C, N>,
     writer: &mut W,
 ) -> Outcome
-    ensures ran { IfOk called
+    ensures ran { IfOk called.now
         (λ words. HasRun (map string_bytes words.items) (R.remaining reader.old) (F.known around.entry.folder.now)
         (F.opens around.entry.folder.now) (N.clients around.entry.network.now) (W.contents writer.old)
         (W.contents writer.new) result) }
     ensures unread { result ≡ Outcome.CommandLine → reader.new ≡ reader.old }
     ensures unwritten { result ≡ Outcome.CommandLine → writer.new ≡ writer.old }
-    ensures input { IfOk called
+    ensures input { IfOk called.now
         (λ words. MeansSheet (map string_bytes words.items)
         ⊎ (MeansStream (map string_bytes words.items) ⊎ (reader.new ≡ reader.old))) }
 
     // Without words nothing begins.
-    ensures untold { IfErr called (λ kind. (result ≡ words_outcome kind) × (reader.new ≡ reader.old)
+    ensures untold { IfErr called.now (λ kind. (result ≡ words_outcome kind) × (reader.new ≡ reader.old)
         × (writer.new ≡ writer.old)) }
 {
     let words = match called {
         Ok(words) => words,
-        Err(kind) => return outcome_of_words(kind),
+        Err(kind) => return outcome_of_words(*kind),
     };
     let Ok(texts) = texts_of(alloc, words.as_slice()) else {
         return Outcome::MemoryFault;

@@ -37,7 +37,7 @@ fn request_for(command: ReportCommand) -> Request
 ///
 /// The outcome is `Done` where the text was written, and `Refused` where the line of a refusal was; where the store or
 /// memory was refused, that was told by its line, and it is `StoreFault` or `MemoryFault`. Where a write failed it is
-/// `FileFault`, and a proper front of the text or line was written. Nothing is read.
+/// `OutputFault`, and a proper front of the text or line was written. Nothing is read.
 pub fn run_report<W: Write, B: Book>(
     alloc: Global,
     command: ReportCommand,
@@ -56,7 +56,7 @@ pub fn run_report<W: Write, B: Book>(
 {
     let reply = desk.answer(alloc, &request_for(command), today);
     let Ok(()) = write_reply(writer, &reply) else {
-        return Outcome::FileFault;
+        return Outcome::OutputFault;
     };
     outcome_of_reply(kind_of_reply(&reply))
 }

@@ -19,7 +19,7 @@ use trust_store::Book;
 /// name of its stream's end.
 ///
 /// The outcome is `Done` where as many were served as were asked for, however their streams ended; `NetworkFault` where
-/// the port can't be had, and then nothing is served or written, or where an accept was refused; `FileFault` where a
+/// the port can't be had, and then nothing is served or written, or where an accept was refused; `OutputFault` where a
 /// line could not be written, and then a proper front of the lines was. It is never `StoreFault`: what the store
 /// refused was answered to its message.
 pub fn run_serve<F: Folder, C: Clock + Drop, N: Network, W: Write, B: Book>(

@@ -3,8 +3,9 @@
 ghost use Rattle.std.specs.Prelude.{None, ⊤};
 
 use crate::folder::{Folder, Opened};
-use crate::outcome::{exit_of, notice_of};
-use crate::program::run_called;
+use crate::notice::{Notice, bare_notice_of, notice_of};
+use crate::outcome::{Outcome, exit_of};
+use crate::program::{run_called, texts_of};
 use crate::surroundings::Surroundings;
 use portal_server::SystemNetwork;
 use std::fs::{self, OpenFile};
@@ -48,11 +49,33 @@ fn words(rt: &(impl Env + AllocGlobal)) -> Result<Vec<String>, ErrorKind> {
     }
 }
 
+// Tells standard error what there is to tell.
+fn tell(rt: &impl Eprint, notice: Option<Notice<'_>>) {
+    if let Some(notice) = notice {
+        let _ = eprintln!(rt; "{notice}");
+    }
+}
+
+// Tells standard error of an outcome, with what the words have to do with it where they are known.
+fn tell_outcome(
+    rt: &(impl Eprint + AllocGlobal),
+    outcome: Outcome,
+    called: &Result<Vec<String>, ErrorKind>,
+) {
+    let Ok(words) = called else {
+        return tell(rt, bare_notice_of(outcome));
+    };
+    match texts_of(rt.alloc(), words.as_slice()) {
+        Ok(texts) => tell(rt, notice_of(rt.alloc(), outcome, texts.as_slice())),
+        Err(_) => tell(rt, bare_notice_of(outcome)),
+    }
+}
+
 /// The whole program: runs what the words that it was called with ask for, over standard input, standard output and
-/// the system's files and ports, tells standard error of a fault, and answers the exit status.
+/// the system's files and ports, tells standard error of a fault or of wrong words, and answers the exit status.
 ///
-/// It joins `run_called`, `notice_of` and `exit_of`, whose contracts say what a run does and how it ends. What the
-/// system's words, files, streams and clients hold no contract can tell, so there is none here.
+/// It joins `run_called`, `notice_of` and `exit_of`, whose contracts say what a run does, what is told of it and how it
+/// ends. What the system's words, files, streams and clients hold no contract can tell, so there is none here.
 pub fn run_on_system(
     rt: &(impl Env + Input + Files + Print + Eprint + Clock + Net + Drop + AllocGlobal),
 ) -> ExitCode {
@@ -61,15 +84,14 @@ pub fn run_on_system(
         clock: rt,
         network: &SystemNetwork { rt },
     };
+    let called = words(rt);
     let outcome = run_called(
         rt.alloc(),
-        words(rt),
+        &called,
         &mut rt.reader(),
         around,
         &mut io::writer(rt),
     );
-    if let Some(notice) = notice_of(outcome) {
-        let _ = eprintln!(rt; "{notice}");
-    }
+    tell_outcome(rt, outcome, &called);
     exit_of(outcome)
 }

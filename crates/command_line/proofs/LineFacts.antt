@@ -20,15 +20,15 @@ use Rattle.command_line.specs.declared.report_command.ReportCommand.TheVariants 
 use Rattle.command_line.specs.declared.command.Task.{Task}
 use Rattle.command_line.specs.declared.command.Task.TheVariants as tasks
 
-is_simple_program : is_simple program ≡ true
+pub is_simple_program : is_simple program ≡ true
 unfolding clap_on_literals program sheet_app today_rule import_app operand_app operand_rule stream_app serve_app run_apps report_apps
 is_simple_program = refl
 
-is_free_program : is_simple_and_free program ≡ true
+pub is_free_program : is_simple_and_free program ≡ true
 unfolding clap_on_literals program sheet_app today_rule import_app operand_app operand_rule stream_app serve_app run_apps report_apps
 is_free_program = refl
 
-parses : (a : App) (words : List Text) → a ≡ program → (is_simple_and_free a ≡ true → fault_of a words ≡ []) → fault_of program words ≡ []
+pub parses : (a : App) (words : List Text) → a ≡ program → (is_simple_and_free a ≡ true → fault_of a words ≡ []) → fault_of program words ≡ []
 parses a words same kinds = sym (ap (λ (x : App). fault_of x words) same) ∙ kinds (ap is_simple_and_free same ∙ is_free_program)
 
 -- an error of the parse that is not want of memory: the command line does not take the words
@@ -59,13 +59,13 @@ pub met : (m : ArgMatches) (name : Text) (values : List Row) → subcommand_name
 met m name values n v = pair-parts (subcommand_rows_of m) name values (name_in_rows m ∙ n) v
 
 -- the values of a parse are those of the command line
-abbrev HasValues : App → List Text → ArgMatches → Type 0
+abbrev pub HasValues : App → List Text → ArgMatches → Type 0
 HasValues a words m = is_simple a ≡ true → (rows_of (found_of m) ≡ matches_of a words) × (subcommand_rows_of m ≡ subcommand_of a words)
 
-rows_are : (a : App) (words : List Text) (m : ArgMatches) → a ≡ program → HasValues a words m → rows_of (found_of m) ≡ matches_of program words
+pub rows_are : (a : App) (words : List Text) (m : ArgMatches) → a ≡ program → HasValues a words m → rows_of (found_of m) ≡ matches_of program words
 rows_are a words m same has = (has (ap is_simple same ∙ is_simple_program)).0 ∙ ap (λ (x : App). matches_of x words) same
 
-met_is : (a : App) (words : List Text) (m : ArgMatches) → a ≡ program → HasValues a words m → subcommand_rows_of m ≡ subcommand_of program words
+pub met_is : (a : App) (words : List Text) (m : ArgMatches) → a ≡ program → HasValues a words m → subcommand_rows_of m ≡ subcommand_of program words
 met_is a words m same has = (has (ap is_simple same ∙ is_simple_program)).1 ∙ ap (λ (x : App). subcommand_of x words) same
 
 given : (rows rows2 : List Row) (met met2 : Option (Text × List Row)) (today : ℕ) (task : Task) → rows ≡ rows2 → met ≡ met2 → Gives rows met today task → Gives rows2 met2 today task

@@ -62,8 +62,8 @@ impl From<AllocError> for CliFault {
     }
 }
 
-// The program's own command line.
-fn command<'a>(alloc: Global) -> Result<Command<'a>, CliFault>
+/// The program's own command line.
+pub fn command<'a>(alloc: Global) -> Result<Command<'a>, CliFault>
     ensures ok { IfOk result (λ c. app_of c ≡ program) }
     ensures err { IfErr result (λ fault. fault ≡ CliFault.Memory) }
 {

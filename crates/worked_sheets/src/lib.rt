@@ -1,11 +1,13 @@
-//! Worked cases of day sheets, statements, streams, ports, reports and command lines, as tests of the cashier's program
-//! from bytes to bytes.
+//! Worked cases of day sheets, statements, streams, ports, reports, command lines and notices, as tests of the cashier's
+//! program from bytes to bytes.
 #![tactic(auto)]
 
 #[cfg(test)]
 mod command_lines;
 #[cfg(test)]
 mod networks;
+#[cfg(test)]
+mod notices;
 #[cfg(test)]
 mod openings;
 #[cfg(test)]

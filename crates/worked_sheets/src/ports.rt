@@ -102,7 +102,7 @@ fn ends_where_the_network_refuses(rt: HostRuntime) {
 fn ends_where_a_line_cannot_be_written(rt: HostRuntime) {
     let network = port_of(&[Some(SHOWN), Some(SHOWN)]);
     let words = serving("8080", "2");
-    check_written(&rt, words, &network, 3, Outcome::FileFault, b"Ended\nEnd");
+    check_written(&rt, words, &network, 3, Outcome::OutputFault, b"Ended\nEnd");
 }
 
 #[test]

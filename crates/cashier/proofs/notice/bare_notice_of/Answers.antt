@@ -1,0 +1,14 @@
+use Rattle.std.proofs.Common.{◌≡◌, List, Some, None, refl}
+use Rattle.clap.specs.Words.{Text}
+use Rattle.cashier.specs.Notice.{IsTold}
+use Rattle.cashier.specs.declared.notice.Notice.TheVariants as notice
+use Rattle.cashier.specs.declared.outcome.Outcome.{Outcome}
+use Rattle.cashier.specs.declared.outcome.Outcome.TheVariants as outcome
+use Rattle.cashier.proofs.notice.bare_notice_of.Goals as goal
+
+-- advice that names nothing is true of all words
+nothing-named : (words : List Text) (told : Outcome) → told ≡ outcome.CommandLine → IsTold words told (Some (notice.CommandLine record { verb = None; wrong = None }))
+nothing-named words told is = rw is (record { verb = None; wrong = None }, record { verb = tt; wrong = tt }, refl)
+
+pub returns-in-CommandLine : goal.returns-in-CommandLine
+returns-in-CommandLine c = λ words. nothing-named words _ c.in-CommandLine.is

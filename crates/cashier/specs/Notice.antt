@@ -1,0 +1,72 @@
+-- What standard error is told of the outcome of a run.
+use Rattle.std.specs.Prelude.{◌≡◌, ◌⊎◌, ◌++◌, ℕ, List, Option, Some, None, IfSome, codes}
+use Rattle.std.specs.Borrow.{Bor}
+use Rattle.std.specs.Fmt.{decimal}
+use Rattle.clap.specs.Words.{Text}
+use Rattle.command_line.specs.Advice.{IsWrong, Names, advice_text}
+use Rattle.command_line.specs.Program.{Means, MeansSheet, MeansStream}
+use Rattle.command_line.specs.declared.advice.Advice.{Advice}
+use Rattle.command_line.specs.declared.command.Task.TheVariants as task
+use Rattle.cashier.specs.declared.notice.Notice.{Notice}
+use Rattle.cashier.specs.declared.notice.Notice.TheVariants as notice
+use Rattle.cashier.specs.declared.notice.Source.{Source}
+use Rattle.cashier.specs.declared.notice.Source.TheVariants as source
+use Rattle.cashier.specs.declared.outcome.Outcome.{Outcome}
+use Rattle.cashier.specs.declared.outcome.Outcome.TheVariants as outcome
+
+-- ---- texts
+
+-- what could not be read
+abbrev pub source_text : Source → Text
+source_text (source.File path) = path.now ++ codes " could not be opened or read"
+source_text source.Input = codes "standard input could not be read"
+
+-- the line of what could not be read, where that is known
+abbrev pub source_line : Option Source → Text
+source_line None = codes "file fault"
+source_line (Some s) = codes "file fault\n" ++ source_text s
+
+-- the line of the port, where it is known
+abbrev pub port_line : Option ℕ → Text
+port_line None = codes "network fault"
+port_line (Some port) = codes "network fault\nport " ++ (decimal port
+    ++ codes " could not be had, or an accept on it was refused")
+
+-- the lines on standard error, without the last one's end
+abbrev pub notice_text : Notice → Text
+notice_text (notice.CommandLine advice) = advice_text advice
+notice_text (notice.FileFault s) = source_line s
+notice_text notice.OutputFault = codes "file fault\nstandard output could not be written"
+notice_text notice.StoreFault = codes "store fault"
+notice_text notice.MemoryFault = codes "memory fault"
+notice_text (notice.NetworkFault port) = port_line port
+
+-- ---- what is true of the run
+
+-- the advice is that of the words
+pub record IsAdvice (words : List Text) (advice : Advice) : Type 0 where
+  pub verb : IfSome advice.verb (Names words)
+  pub wrong : IfSome advice.wrong (IsWrong words)
+
+-- the words mean that this is read
+abbrev pub IsSource : List Text → Source → Type 0
+IsSource words (source.File path) = (today : ℕ) × Means words today (task.Import path)
+IsSource words source.Input = MeansSheet words ⊎ MeansStream words
+
+-- the words mean that clients of this port are served
+abbrev pub IsServedPort : List Text → ℕ → Type 0
+IsServedPort words port = (today : ℕ) × (count : ℕ) × Means words today (task.Serve port count)
+
+-- what is told of an outcome of the words: nothing, where all was done or something was refused
+abbrev pub IsTold : List Text → Outcome → Option Notice → Type 0
+IsTold words outcome.Done told = told ≡ None
+IsTold words outcome.Refused told = told ≡ None
+IsTold words outcome.CommandLine told =
+    (advice : Advice) × IsAdvice words advice × (told ≡ Some (notice.CommandLine advice))
+IsTold words outcome.FileFault told =
+    (s : Option Source) × IfSome s (IsSource words) × (told ≡ Some (notice.FileFault s))
+IsTold words outcome.OutputFault told = told ≡ Some notice.OutputFault
+IsTold words outcome.StoreFault told = told ≡ Some notice.StoreFault
+IsTold words outcome.MemoryFault told = told ≡ Some notice.MemoryFault
+IsTold words outcome.NetworkFault told =
+    (port : Option ℕ) × IfSome port (IsServedPort words) × (told ≡ Some (notice.NetworkFault port))

@@ -1,0 +1,128 @@
+// What standard error is told of the outcome of a run.
+
+ghost use Rattle.std.specs.Prelude.{◌≡◌, IfSome, List, Some};
+ghost use Rattle.clap.specs.Words.{Text};
+ghost use Rattle.cashier.specs.Notice.{IsServedPort, IsSource, IsTold, notice_text, source_text};
+ghost use Rattle.command_line.specs.Program.{words_of};
+
+use crate::outcome::Outcome;
+use command_line::{Advice, Task, advice_of, command_of};
+use std::alloc::Global;
+use std::fmt;
+
+/// What a run reads.
+#[derive(Clone, Copy, PartialEq, Eq, Debug)]
+pub enum Source<'a> {
+    /// The file at this path.
+    File(&'a str),
+    /// Standard input.
+    Input,
+}
+
+/// What standard error is told of a run that ended by a fault or that its words do not name.
+#[derive(Clone, Copy, PartialEq, Eq, Debug)]
+pub enum Notice<'a> {
+    /// The command line names no run: the usage, an example, and what is wrong.
+    CommandLine(Advice<'a>),
+    /// This could not be opened or read.
+    FileFault(Option<Source<'a>>),
+    /// Standard output could not be written.
+    OutputFault,
+    /// The store refused a call.
+    StoreFault,
+    /// A growth was refused.
+    MemoryFault,
+    /// This port could not be had, or an accept on it was refused.
+    NetworkFault(Option<u16>),
+}
+
+impl fmt::Display for Source<'_> {
+    ghost output = { λ source. Some (source_text source) };
+
+    fn fmt<W: fmt::Write>(&self, f: &mut fmt::Formatter<W>) -> fmt::Result {
+        match *self {
+            Source::File(path) => write!(f, "{path} could not be opened or read"),
+            Source::Input => f.write_str("standard input could not be read"),
+        }
+    }
+}
+
+impl fmt::Display for Notice<'_> {
+    ghost output = { λ notice. Some (notice_text notice) };
+
+    fn fmt<W: fmt::Write>(&self, f: &mut fmt::Formatter<W>) -> fmt::Result {
+        match *self {
+            Notice::CommandLine(advice) => write!(f, "{advice}"),
+            Notice::FileFault(None) => f.write_str("file fault"),
+            Notice::FileFault(Some(source)) => write!(f, "file fault\n{source}"),
+            Notice::OutputFault => f.write_str("file fault\nstandard output could not be written"),
+            Notice::StoreFault => f.write_str("store fault"),
+            Notice::MemoryFault => f.write_str("memory fault"),
+            Notice::NetworkFault(None) => f.write_str("network fault"),
+            Notice::NetworkFault(Some(port)) => write!(
+                f,
+                "network fault\nport {port} could not be had, or an accept on it was refused"
+            ),
+        }
+    }
+}
+
+// What words mean that is read.
+fn source_of<'a>(alloc: Global, words: &'a [&'a str]) -> Option<Source<'a>>
+    ensures { IfSome result (IsSource (words_of words.entry.now)) }
+{
+    let Ok(plan) = command_of(alloc, words) else {
+        return None;
+    };
+    match plan.task {
+        Task::Import(path) => Some(Source::File(path)),
+        Task::Sheet => Some(Source::Input),
+        Task::Stream => Some(Source::Input),
+        _ => None,
+    }
+}
+
+// The port whose clients words mean that are served.
+fn port_served<'a>(alloc: Global, words: &'a [&'a str]) -> Option<u16>
+    ensures { IfSome result (IsServedPort (words_of words.entry.now)) }
+{
+    let Ok(plan) = command_of(alloc, words) else {
+        return None;
+    };
+    match plan.task {
+        Task::Serve { port, .. } => Some(port),
+        _ => None,
+    }
+}
+
+/// What standard error is told of an outcome, whatever the words of the run were.
+pub fn bare_notice_of(outcome: Outcome) -> Option<Notice<'static>>
+    ensures { (words : List Text) → IsTold words outcome result }
+{
+    match outcome {
+        Outcome::Done => None,
+        Outcome::Refused => None,
+        Outcome::CommandLine => Some(Notice::CommandLine(Advice {
+            verb: None,
+            wrong: None,
+        })),
+        Outcome::FileFault => Some(Notice::FileFault(None)),
+        Outcome::OutputFault => Some(Notice::OutputFault),
+        Outcome::StoreFault => Some(Notice::StoreFault),
+        Outcome::MemoryFault => Some(Notice::MemoryFault),
+        Outcome::NetworkFault => Some(Notice::NetworkFault(None)),
+    }
+}
+
+/// What standard error is told of an outcome of a run of these words, the program's name first among them: nothing
+/// where all was done or something was refused. Where memory is wanting it tells less.
+pub fn notice_of<'a>(alloc: Global, outcome: Outcome, words: &'a [&'a str]) -> Option<Notice<'a>>
+    ensures { IsTold (words_of words.entry.now) outcome result }
+{
+    match outcome {
+        Outcome::CommandLine => Some(Notice::CommandLine(advice_of(alloc, words))),
+        Outcome::FileFault => Some(Notice::FileFault(source_of(alloc, words))),
+        Outcome::NetworkFault => Some(Notice::NetworkFault(port_served(alloc, words))),
+        _ => bare_notice_of(outcome),
+    }
+}

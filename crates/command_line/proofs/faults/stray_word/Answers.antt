@@ -1,0 +1,12 @@
+use Rattle.std.proofs.Common.{inl, inr}
+use Rattle.command_line.proofs.AdviceFacts.{none-taken, still-taken, stray}
+use Rattle.command_line.proofs.faults.stray_word.Goals as goal
+
+pub loop-place-init : goal.loop-place-init
+loop-place-init c = inr (inl none-taken)
+
+pub returns-in-Strays : goal.returns-in-Strays
+returns-in-Strays c = stray c.args.words.now c.loop-place.place _ _ c.loop-place-test.true c.loop-place.invariant c.in-Strays.is c.front_of.ensures
+
+pub loop-place-preserved : goal.loop-place-preserved
+loop-place-preserved c = still-taken c.args.words.now c.loop-place.place _ c.in_default.not-Strays c.in_default.not-Fails c.front_of.ensures

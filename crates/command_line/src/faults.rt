@@ -1,0 +1,239 @@
+// What is wrong with words that mean nothing, as clap's errors on their fronts tell it.
+
+ghost use Rattle.std.specs.Prelude.{◌≡◌, ◌⊎◌, ℕ, IfNone, IfSome, None, [], false};
+ghost use Rattle.std.specs.List.{list_any};
+ghost use Rattle.clap.specs.Words.{fault_of, found_of, rows_of, subcommand_rows_of};
+ghost use Rattle.trust_base.specs.Texts.{day_of, matter_of};
+ghost use Rattle.command_line.specs.Advice.{FailsAs, IsFront, IsStray, IsWrong, IsWrongOperand, IsWrongToday};
+ghost use Rattle.command_line.specs.Advice.{IsWrongValue, Names, front_by, names_day};
+ghost use Rattle.command_line.specs.Numerals.{IsCount, IsPort};
+ghost use Rattle.command_line.specs.Program.{program, words_of};
+
+use crate::advice::{Advice, Verb, Wrong, verb_of};
+use crate::command::command;
+use crate::numerals::{count_of, port_of};
+use clap::ArgMatches;
+use clap::error::ErrorKind;
+use std::alloc::Global;
+use trust_base::{Day, MatterNo};
+
+// The kind of error that the command line refuses words by, where it does; want of memory is one too.
+fn failure_of<'a>(alloc: Global, words: &'a [&'a str]) -> Option<ErrorKind>
+    ensures none { IfNone result (fault_of program (words_of words.entry.now) ≡ []) }
+    ensures some { IfSome result
+        (λ kind. (kind ≡ ErrorKind.OutOfMemory) ⊎ FailsAs (words_of words.entry.now) kind) }
+{
+    let Ok(command) = command(alloc) else {
+        return Some(ErrorKind::OutOfMemory);
+    };
+    match command.try_get_matches_from(words) {
+        Ok(_) => None,
+        Err(error) => Some(error.kind()),
+    }
+}
+
+// How far the command line takes words.
+#[derive(Clone, Copy)]
+enum Front {
+    // As far as a command: it takes them, or wants only required ones.
+    Met,
+    // A command is wanted.
+    WantsCommand,
+    // An option's value is wanted.
+    WantsValue,
+    // A word is not taken where it stands.
+    Strays,
+    // They fail otherwise, or memory was wanting.
+    Fails,
+}
+
+fn front_by(failure: Option<ErrorKind>) -> Front
+    ensures { result ≡ front_by failure }
+{
+    let Some(kind) = failure else {
+        return Front::Met;
+    };
+    match kind {
+        ErrorKind::MissingRequiredArgument => Front::Met,
+        ErrorKind::MissingSubcommand => Front::WantsCommand,
+        ErrorKind::InvalidValue => Front::WantsValue,
+        ErrorKind::UnknownArgument | ErrorKind::InvalidSubcommand | ErrorKind::TooManyValues =>
+            Front::Strays,
+        _ => Front::Fails,
+    }
+}
+
+fn front_of<'a>(alloc: Global, words: &'a [&'a str]) -> Front
+    ensures { IsFront (words_of words.entry.now) result }
+{
+    front_by(failure_of(alloc, words))
+}
+
+// The first word that the command line does not take where it stands. None also where memory was wanting.
+fn stray_word<'a>(alloc: Global, words: &'a [&'a str]) -> Option<&'a str>
+    ensures { IfSome result (λ word. IsStray (words_of words.entry.now) word.now) }
+{
+    for place in 0..words.len() {
+        match front_of(alloc, &words[..place + 1]) {
+            Front::Strays => return Some(words[place]),
+            Front::Fails => return None,
+            _ => (),
+        }
+    }
+    None
+}
+
+// The command that words name. None also where memory was wanting.
+fn verb_named<'a>(alloc: Global, words: &'a [&'a str]) -> Option<Verb>
+    ensures { IfSome result (Names (words_of words.entry.now)) }
+{
+    let mut is_wanted = false;
+    for place in 0..words.len() {
+        match front_of(alloc, &words[..place + 1]) {
+            Front::WantsCommand => is_wanted = true,
+            Front::WantsValue => is_wanted = false,
+            Front::Met if is_wanted => return verb_of(words[place]),
+            _ => return None,
+        }
+    }
+    None
+}
+
+// Whether a word begins as the option of the business day does.
+fn is_naming_day(word: &str) -> bool
+    ensures { result ≡ names_day word.now }
+{
+    let bytes = word.as_bytes();
+    &bytes[..bytes.len().min(7)] == b"--today".as_slice()
+}
+
+// Whether any word begins so.
+fn is_day_named(words: &[&str]) -> bool
+    ensures { result ≡ list_any names_day (words_of words.now) }
+{
+    let mut is_named = false;
+    for word in words {
+        is_named |= is_naming_day(word);
+    }
+    is_named
+}
+
+// Tells a text that is no day.
+fn no_day<'a>(text: &'a str) -> Option<Wrong<'a>>
+    ensures { IfSome result (λ wrong. (wrong ≡ Wrong.NoDay text.entry) × (day_of text.entry.now ≡ None)) }
+{
+    match Day::read(text.as_bytes()) {
+        Some(_) => None,
+        None => Some(Wrong::NoDay(text)),
+    }
+}
+
+// Tells a text that is no matter's number.
+fn no_matter<'a>(text: &'a str) -> Option<Wrong<'a>>
+    ensures { IfSome result (λ wrong. (wrong ≡ Wrong.NoMatter text.entry) × (matter_of text.entry.now ≡ None)) }
+{
+    match MatterNo::read(text.as_bytes()) {
+        Some(_) => None,
+        None => Some(Wrong::NoMatter(text)),
+    }
+}
+
+// Tells a text that is no port.
+fn no_port<'a>(text: &'a str) -> Option<Wrong<'a>>
+    ensures { IfSome result
+        (λ wrong. (wrong ≡ Wrong.NoPort text.entry) × ((port : ℕ) → ¬ IsPort text.entry.now port)) }
+{
+    match port_of(text) {
+        Some(_) => None,
+        None => Some(Wrong::NoPort(text)),
+    }
+}
+
+// Tells a text that is no count.
+fn no_count<'a>(text: &'a str) -> Option<Wrong<'a>>
+    ensures { IfSome result
+        (λ wrong. (wrong ≡ Wrong.NoCount text.entry) × ((count : ℕ) → ¬ IsCount text.entry.now count)) }
+{
+    match count_of(text) {
+        Some(_) => None,
+        None => Some(Wrong::NoCount(text)),
+    }
+}
+
+// The operand of a command that is wrong, by its name and its values.
+fn wrong_operand<'a>(name: &str, values: &ArgMatches<'a>) -> Option<Wrong<'a>>
+    ensures { IfSome result (IsWrongOperand name.now (rows_of (found_of values.now))) }
+{
+    match name {
+        "reconcile" => no_day(values.get_str("DAY")?),
+        "ledger" => no_matter(values.get_str("MATTER")?),
+        "serve" => match no_port(values.get_str("PORT")?) {
+            Some(wrong) => Some(wrong),
+            None => no_count(values.get_str("COUNT")?),
+        },
+        _ => None,
+    }
+}
+
+// The value of `--today`, where it is wrong.
+fn wrong_today<'a>(values: &ArgMatches<'a>) -> Option<Wrong<'a>>
+    ensures { IfSome result (IsWrongToday (rows_of (found_of values.now))) }
+{
+    no_day(values.get_str("today")?)
+}
+
+// The value that is wrong in a parse.
+fn wrong_value<'a>(matches: &ArgMatches<'a>) -> Option<Wrong<'a>>
+    ensures { IfSome result (IsWrongValue (rows_of (found_of matches.now)) (subcommand_rows_of matches.now)) }
+{
+    if let Some(wrong) = wrong_today(matches) {
+        return Some(wrong);
+    }
+    let (name, values) = matches.subcommand()?;
+    wrong_operand(name, values)
+}
+
+// What is wrong with words that the command line refuses by an error of this kind.
+fn wrong_words<'a>(alloc: Global, words: &'a [&'a str], kind: ErrorKind) -> Option<Wrong<'a>>
+    requires { (kind ≡ ErrorKind.OutOfMemory) ⊎ FailsAs (words_of words.now) kind }
+    ensures { IfSome result (IsWrong (words_of words.entry.now)) }
+{
+    match kind {
+        ErrorKind::MissingSubcommand => Some(Wrong::MissingCommand),
+        ErrorKind::MissingRequiredArgument => {
+            if is_day_named(words) {
+                Some(Wrong::MissingWord)
+            } else {
+                Some(Wrong::MissingDay)
+            }
+        }
+        ErrorKind::InvalidValue => Some(Wrong::EmptyDay),
+        ErrorKind::ArgumentConflict => Some(Wrong::RepeatedDay),
+        _ => Some(Wrong::Word(stray_word(alloc, words)?)),
+    }
+}
+
+// What is wrong with words.
+fn wrong_of<'a>(alloc: Global, words: &'a [&'a str]) -> Option<Wrong<'a>>
+    ensures { IfSome result (IsWrong (words_of words.entry.now)) }
+{
+    let Ok(command) = command(alloc) else {
+        return None;
+    };
+    match command.try_get_matches_from(words) {
+        Ok(matches) => wrong_value(&matches),
+        Err(error) => wrong_words(alloc, words, error.kind()),
+    }
+}
+
+/// What is told of words that mean nothing, the program's name first among them: the command that they name, and what
+/// is wrong. Both are known only where memory suffices, and nothing is wrong where help was asked for.
+pub fn advice_of<'a>(alloc: Global, words: &'a [&'a str]) -> Advice<'a>
+    ensures verb { IfSome result.verb (Names (words_of words.entry.now)) }
+    ensures wrong { IfSome result.wrong (IsWrong (words_of words.entry.now)) }
+{
+    Advice {
+        verb: verb_named(alloc, words),
+        wrong: wrong_of(alloc, words),
+    }
+}
