@@ -24,3 +24,4 @@ pub use head::{HeadWithTotals, head_of_matter, head_with_totals};
 pub use ledger::firm_ledger;
 pub use matter::{matter_for, whole_matter};
 pub use seat::seats_of;
+pub use value::{number_at, text_at};

@@ -9,7 +9,7 @@ use sqlite_value::value::ValueRef;
 use trust_base::StoreFault;
 
 /// The number at a place of a row. Any other value is Store.
-pub(crate) fn number_at(row: &Row, at: usize) -> Result<i64, StoreFault>
+pub fn number_at(row: &Row, at: usize) -> Result<i64, StoreFault>
     ensures ok { IfOk result (λ n. column row.now at ≡ Int n) }
     ensures store { IfErr result (λ e. e ≡ StoreFault.Store) }
     ensures none { IfErr result (λ e. (n : ℤ) → column row.now at ≢ Int n) }
@@ -21,7 +21,7 @@ pub(crate) fn number_at(row: &Row, at: usize) -> Result<i64, StoreFault>
 }
 
 /// The bytes of the text at a place of a row. Any other value is Store.
-pub(crate) fn text_at(row: &Row, at: usize) -> Result<&[u8], StoreFault>
+pub fn text_at(row: &Row, at: usize) -> Result<&[u8], StoreFault>
     ensures ok { IfOk result (λ t. column row.now at ≡ Text t.now) }
     ensures store { IfErr result (λ e. e ≡ StoreFault.Store) }
     ensures none { IfErr result (λ e. (t : List ℕ) → column row.now at ≢ Text t) }

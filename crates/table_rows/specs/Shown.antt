@@ -1,0 +1,40 @@
+-- What a row that a query shows stands for.
+use Rattle.std.specs.Prelude.{ℕ, pos, nat_abs, List, ◌∷◌, ◌++◌, map}
+use Rattle.sqlite_value.specs.declared.value.Value.TheVariants.{Int, Null}
+use Rattle.sqlite_value.specs.Order.{Row, column}
+use Rattle.matter_rows.specs.declared.head.Head.{Head}
+use Rattle.matter_rows.specs.declared.seat.Seat.{Seat}
+use Rattle.matter_parts.specs.declared.kept.Kept.{Kept}
+use Rattle.firm_rows.specs.Firm.{Row as FirmRow, HeadRow, seat_pairs}
+use Rattle.trust_store.specs.Kept.{kept_pairs}
+use Rattle.trust_tables.specs.Lists.{Lists}
+use Rattle.trust_tables.specs.Rows as table
+use Rattle.tables_meaning.specs.Meaning.{head_from, kept_from, seat_from}
+use Rattle.table_rows.specs.declared.heads.NumberedHead.{NumberedHead}
+
+-- the seat that a row of a matter shows
+abbrev pub seat_at : ℕ → Row → Seat
+seat_at m r = seat_from (table.seat_in (Int (pos 0) ∷ Int (pos m) ∷ r))
+
+-- the entry that a row of a matter shows behind its number
+abbrev pub kept_at : ℕ → Row → Kept
+kept_at m r = kept_from (table.entry_in (Int (pos 0) ∷ Int (pos m) ∷ r))
+
+-- a head with its number
+abbrev pub numbered_from : table.Head → NumberedHead
+numbered_from h = record { matter = nat_abs h.no; head = head_from h }
+
+-- the head that a row shows in front of its number
+abbrev pub next_at : Row → NumberedHead
+next_at r = numbered_from (table.head_in (column r 12 ∷ Null ∷ r))
+
+-- the seats of a matter by person, and its entries by number, as rows
+abbrev pub seat_rows : Lists → ℕ → List (ℕ × FirmRow)
+seat_rows a m = seat_pairs m (map seat_from (table.seats_of (pos m) a.seats))
+
+abbrev pub entry_rows : Lists → ℕ → List (ℕ × FirmRow)
+entry_rows a m = kept_pairs m (map kept_from (table.entries_of (pos m) a.entries))
+
+-- the rows of a matter: its head, its seats and its entries
+abbrev pub rows_at : Lists → NumberedHead → List (ℕ × FirmRow)
+rows_at a n = (n.matter, HeadRow n.head) ∷ (seat_rows a n.matter ++ entry_rows a n.matter)

@@ -1,0 +1,69 @@
+// The columns of a row that a query shows. A value of another type than its column's is Store.
+
+ghost use Rattle.std.specs.Prelude.{◌≡◌, ◌∷◌, pos, IfOk};
+ghost use Rattle.sqlite_value.specs.declared.value.Value.TheVariants.{Int, Null};
+ghost use Rattle.sqlite_value.specs.Order.{column};
+ghost use Rattle.trust_tables.specs.Rows as table;
+ghost use Rattle.trust_tables.specs.Given.{head_given, seat_given, entry_given};
+
+use sqlite::Row;
+use table_reads::{number_at, text_at};
+use trust_base::StoreFault;
+use trust_tables::{EntryColumns, HeadColumns, SeatColumns};
+
+/// The columns of a seat of a matter, its text that of the row.
+pub(crate) fn seat_in(matter: i64, row: &Row) -> Result<SeatColumns<'_>, StoreFault>
+    ensures { IfOk result (λ c. seat_given c ≡ table.seat_in (Int (pos 0) ∷ Int matter ∷ row.now)) }
+{
+    Ok(SeatColumns {
+        matter,
+        person: text_at(row, 0)?,
+        role: number_at(row, 1)?,
+    })
+}
+
+/// The columns of an entry of a matter behind its number, its texts those of the row.
+pub(crate) fn numbered_in(matter: i64, row: &Row) -> Result<EntryColumns<'_>, StoreFault>
+    ensures { IfOk result (λ c. entry_given c ≡ table.entry_in (Int (pos 0) ∷ Int matter ∷ row.now)) }
+{
+    Ok(EntryColumns {
+        matter,
+        no: number_at(row, 0)?,
+        kind: number_at(row, 1)?,
+        day: number_at(row, 2)?,
+        amount: number_at(row, 3)?,
+        state: number_at(row, 4)?,
+        fund: number_at(row, 5)?,
+        of_no: number_at(row, 6)?,
+        text_a: text_at(row, 7)?,
+        text_b: text_at(row, 8)?,
+        text_c: text_at(row, 9)?,
+        day_done: number_at(row, 10)?,
+        day_undone: number_at(row, 11)?,
+        day_bank: number_at(row, 12)?,
+        bank_ref: text_at(row, 13)?,
+        part: number_at(row, 14)?,
+        left_now: number_at(row, 15)?,
+    })
+}
+
+/// The columns of a head, the number last, its text that of the row.
+pub(crate) fn next_head_in(row: &Row) -> Result<HeadColumns<'_>, StoreFault>
+    ensures { IfOk result (λ c. head_given c ≡ table.head_in (column row.now 12 ∷ Null ∷ row.now)) }
+{
+    Ok(HeadColumns {
+        no: number_at(row, 12)?,
+        client: text_at(row, 0)?,
+        opened: number_at(row, 1)?,
+        closed: number_at(row, 2)?,
+        last: number_at(row, 3)?,
+        entries: number_at(row, 4)?,
+        held: number_at(row, 5)?,
+        available: number_at(row, 6)?,
+        disputed: number_at(row, 7)?,
+        fees: number_at(row, 8)?,
+        claims: number_at(row, 9)?,
+        pending: number_at(row, 10)?,
+        purged: number_at(row, 11)?,
+    })
+}
