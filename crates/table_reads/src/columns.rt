@@ -2,48 +2,15 @@
 
 ghost use Rattle.std.specs.Prelude.{◌≡◌, ◌≢◌, pos, IfOk, IfErr};
 ghost use Rattle.trust_tables.specs.Rows as table;
-ghost use Rattle.trust_tables.specs.Given.{head_given, seat_given, entry_given, movement_given, firm_line_given};
-ghost use Rattle.trust_tables.specs.Given.{exception_given, balance_given};
+ghost use Rattle.trust_tables.specs.Given.{head_given, seat_given, entry_given, firm_line_given};
 
 use crate::value::{number_at, text_at};
 use sqlite::Row;
 use trust_base::StoreFault;
-use trust_tables::{
-    BalanceColumns, EntryColumns, ExceptionColumns, FirmLineColumns, HeadColumns, MovementColumns,
-    SeatColumns,
-};
-
-/// The columns of a balance. Values of other types are Store.
-pub fn balance_in(row: &Row) -> Result<BalanceColumns, StoreFault>
-    ensures ok { IfOk result (λ c. (b : table.Balance) → row.now ≡ table.balance_values b
-        → balance_given c ≡ record b { id = pos 0 }) }
-    ensures store { IfErr result (λ e. e ≡ StoreFault.Store) }
-    ensures none { IfErr result (λ e. (b : table.Balance) → row.now ≢ table.balance_values b) }
-{
-    Ok(BalanceColumns {
-        kind: number_at(row, 0)?,
-        day: number_at(row, 1)?,
-        amount: number_at(row, 2)?,
-    })
-}
-
-/// The columns of a movement. Values of other types are Store.
-pub fn movement_in(row: &Row) -> Result<MovementColumns, StoreFault>
-    ensures ok { IfOk result (λ c. (m : table.Movement) → row.now ≡ table.movement_values m
-        → movement_given c ≡ record m { seq = pos 0 }) }
-    ensures store { IfErr result (λ e. e ≡ StoreFault.Store) }
-    ensures none { IfErr result (λ e. (m : table.Movement) → row.now ≢ table.movement_values m) }
-{
-    Ok(MovementColumns {
-        matter: number_at(row, 0)?,
-        entry: number_at(row, 1)?,
-        day: number_at(row, 2)?,
-        amount: number_at(row, 3)?,
-    })
-}
+use trust_tables::{EntryColumns, FirmLineColumns, HeadColumns, SeatColumns};
 
 /// The columns of a line of the firm, its texts those of the row. Values of other types are Store.
-pub fn firm_line_in(row: &Row) -> Result<FirmLineColumns<'_>, StoreFault>
+pub(crate) fn firm_line_in(row: &Row) -> Result<FirmLineColumns<'_>, StoreFault>
     ensures ok { IfOk result (λ c. (l : table.FirmLine) → row.now ≡ table.firm_line_values l
         → firm_line_given c ≡ record l { seq = pos 0 }) }
     ensures store { IfErr result (λ e. e ≡ StoreFault.Store) }
@@ -57,24 +24,8 @@ pub fn firm_line_in(row: &Row) -> Result<FirmLineColumns<'_>, StoreFault>
     })
 }
 
-/// The columns of an exception, its texts those of the row. Values of other types are Store.
-pub fn exception_in(row: &Row) -> Result<ExceptionColumns<'_>, StoreFault>
-    ensures ok { IfOk result (λ c. (x : table.Exception) → row.now ≡ table.exception_values x
-        → exception_given c ≡ record x { id = pos 0 }) }
-    ensures store { IfErr result (λ e. e ≡ StoreFault.Store) }
-    ensures none { IfErr result (λ e. (x : table.Exception) → row.now ≢ table.exception_values x) }
-{
-    Ok(ExceptionColumns {
-        day: number_at(row, 0)?,
-        reference: text_at(row, 1)?,
-        bank_ref: text_at(row, 2)?,
-        amount: number_at(row, 3)?,
-        text: text_at(row, 4)?,
-    })
-}
-
 /// The columns of a seat of a matter, its text that of the row. Values of other types are Store.
-pub fn seat_in(matter: i64, row: &Row) -> Result<SeatColumns<'_>, StoreFault>
+pub(crate) fn seat_in(matter: i64, row: &Row) -> Result<SeatColumns<'_>, StoreFault>
     ensures ok { IfOk result (λ c. (s : table.Seat) → row.now ≡ table.seat_shown s
         → seat_given c ≡ record s { id = pos 0; matter = matter }) }
     ensures store { IfErr result (λ e. e ≡ StoreFault.Store) }
@@ -88,7 +39,7 @@ pub fn seat_in(matter: i64, row: &Row) -> Result<SeatColumns<'_>, StoreFault>
 }
 
 /// The columns of the head of a number, its text that of the row. Values of other types are Store.
-pub fn head_in(no: i64, row: &Row) -> Result<HeadColumns<'_>, StoreFault>
+pub(crate) fn head_in(no: i64, row: &Row) -> Result<HeadColumns<'_>, StoreFault>
     ensures ok { IfOk result (λ c. (h : table.Head) → row.now ≡ table.head_shown h
         → head_given c ≡ record h { no = no }) }
     ensures store { IfErr result (λ e. e ≡ StoreFault.Store) }
@@ -112,7 +63,7 @@ pub fn head_in(no: i64, row: &Row) -> Result<HeadColumns<'_>, StoreFault>
 }
 
 /// The columns of the entry of a number of a matter, its texts those of the row. Values of other types are Store.
-pub fn entry_in(matter: i64, no: i64, row: &Row) -> Result<EntryColumns<'_>, StoreFault>
+pub(crate) fn entry_in(matter: i64, no: i64, row: &Row) -> Result<EntryColumns<'_>, StoreFault>
     ensures ok { IfOk result (λ c. (e : table.Entry) → row.now ≡ table.entry_shown e
         → entry_given c ≡ record e { id = pos 0; matter = matter; no = no }) }
     ensures store { IfErr result (λ e. e ≡ StoreFault.Store) }
@@ -140,7 +91,7 @@ pub fn entry_in(matter: i64, no: i64, row: &Row) -> Result<EntryColumns<'_>, Sto
 }
 
 /// The columns of an entry of a matter behind its number, its texts those of the row. Values of other types are Store.
-pub fn numbered_in(matter: i64, row: &Row) -> Result<EntryColumns<'_>, StoreFault>
+pub(crate) fn numbered_in(matter: i64, row: &Row) -> Result<EntryColumns<'_>, StoreFault>
     ensures ok { IfOk result (λ c. (e : table.Entry) → row.now ≡ table.numbered_shown e
         → entry_given c ≡ record e { id = pos 0; matter = matter }) }
     ensures store { IfErr result (λ e. e ≡ StoreFault.Store) }

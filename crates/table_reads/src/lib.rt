@@ -15,9 +15,6 @@ mod seat;
 mod value;
 
 pub use balance::balance_at;
-pub use columns::{
-    balance_in, entry_in, exception_in, firm_line_in, head_in, movement_in, numbered_in, seat_in,
-};
 pub use entry::{entries_of, entry_at};
 pub use fault::{answered, fault_of};
 pub use head::{HeadWithTotals, head_of_matter, head_with_totals};

@@ -1,6 +1,7 @@
 pub mod Answer
 pub mod Fed
 pub mod Going
+pub mod Handed
 pub mod Shown
 pub mod Steps
 pub mod Streams

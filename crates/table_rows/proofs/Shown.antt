@@ -1,20 +1,20 @@
 -- What a row shows is what it stands for.
-use Rattle.std.proofs.Common.{◌≡◌, ℕ, ℤ, pos, nat_abs, Bool, true, false, List, [], ◌∷◌, map, filter, find, take, slice_get, Option, Some, None, option_map, inl, inr, refl, sym, ap, ◌∙◌}
+use Rattle.std.proofs.Common.{◌≡◌, ℕ, ℤ, pos, nat_abs, Bool, List, [], ◌∷◌, map, filter, find, take, slice_get, Option, Some, None, option_map, inl, inr, refl, sym, ap, ◌∙◌}
 use Rattle.std.proofs.lemmas.Bool.{cases_Bool}
 use Rattle.sqlite_value.specs.declared.value.Value.{Value}
 use Rattle.sqlite_value.specs.declared.value.Value.TheVariants.{Int, Null, Text}
 use Rattle.sqlite_value.specs.Order.{Row, column, bytes}
 use Rattle.matter_rows.specs.declared.head.Head.{Head}
-use Rattle.matter_rows.specs.declared.seat.Seat.{Seat}
 use Rattle.firm_rows.specs.Firm.{SeatRow, EntryRow, seat_pairs}
-use Rattle.firm_rows.specs.Firm as firm
 use Rattle.trust_store.specs.Kept.{kept_pairs}
 use Rattle.row_columns.specs.Heads.{HasHead, IsHead}
 use Rattle.trust_tables.specs.Rows as table
 use Rattle.tables_meaning.specs.Meaning.{head_from, kept_from, seat_from}
+use Rattle.tables_meaning.specs.Meaning.{movement_from, firm_line_from, exception_from, balance_from}
 use Rattle.table_reads.proofs.Heads.{head_back}
 use Rattle.table_rows.specs.declared.heads.NumberedHead.{NumberedHead}
 use Rattle.table_rows.specs.Shown.{kept_at, next_at, numbered_from, seat_at}
+use Rattle.table_rows.specs.Shown.{movement_at, firm_line_at, exception_at, balance_at}
 
 -- Single values.
 
@@ -84,3 +84,25 @@ pub entries_shown : (m : ℕ) (es : List table.Entry)
     ≡ kept_pairs m (map kept_from es)
 entries_shown m [] = refl
 entries_shown m (e ∷ es) = ap (λ l. (m, EntryRow (kept_from e).number (kept_from e).entry) ∷ l) (entries_shown m es)
+
+-- The firm's own rows.
+
+pub movements_shown : (ms : List table.Movement)
+    → map movement_at (map table.movement_values ms) ≡ map movement_from ms
+movements_shown [] = refl
+movements_shown (m ∷ ms) = ap (λ l. movement_from m ∷ l) (movements_shown ms)
+
+pub firm_lines_shown : (ls : List table.FirmLine)
+    → map firm_line_at (map table.firm_line_values ls) ≡ map firm_line_from ls
+firm_lines_shown [] = refl
+firm_lines_shown (f ∷ ls) = ap (λ l. firm_line_from f ∷ l) (firm_lines_shown ls)
+
+pub exceptions_shown : (es : List table.Exception)
+    → map exception_at (map table.exception_values es) ≡ map exception_from es
+exceptions_shown [] = refl
+exceptions_shown (e ∷ es) = ap (λ l. exception_from e ∷ l) (exceptions_shown es)
+
+pub balances_shown : (bs : List table.Balance)
+    → map balance_at (map table.balance_values bs) ≡ map balance_from bs
+balances_shown [] = refl
+balances_shown (b ∷ bs) = ap (λ l. balance_from b ∷ l) (balances_shown bs)

@@ -1,8 +1,8 @@
 -- The matters of a book, one behind another.
-use Rattle.std.proofs.Common.{◌≡◌, inl, inr, ℕ, ℤ, pos, negsuc, nat_abs, ◌+◌, ◌≤◌, ◌<ℤ◌, int_lt, Bool, true, false, List, [], ◌∷◌, ◌++◌, map, filter, find, length, fold, Option, Some, None, Result, Ok, Err, IsErr, refl, sym, ap, ◌∙◌, subst, arith, length-append}
+use Rattle.std.proofs.Common.{◌≡◌, inl, inr, ℕ, ℤ, pos, negsuc, nat_abs, ◌+◌, ◌≤◌, ◌<ℤ◌, int_lt, Bool, true, false, List, [], ◌∷◌, ◌++◌, map, filter, find, length, fold, Some, None, Result, Ok, IsErr, refl, sym, ap, ◌∙◌, subst, arith, length-append}
 use Rattle.std.specs.List.{AllByRecursion}
 use Rattle.std.proofs.lemmas.Int.{ints}
-use Rattle.std.proofs.lemmas.Bool.{cases_Bool, true≢false}
+use Rattle.std.proofs.lemmas.Bool.{cases_Bool}
 use Rattle.sqlite_keyed.specs.Keyed.{IsKeyedBy}
 use Rattle.sqlite_keyed.proofs.ListLemmas.{all_of, all_unmap, all_weaker}
 use Rattle.matter_parts.specs.Parts.{entries_kept}
@@ -19,8 +19,6 @@ use Rattle.trust_tables.specs.Rows as table
 use Rattle.trust_tables.specs.Rows.{is_past}
 use Rattle.tables_meaning.specs.Meaning.{AreSound, IsWrittenHead, head_from, kept_from, matter_from, matters_from, part_from, seat_from}
 use Rattle.tables_meaning.proofs.RowOrder.{all-find}
-use Rattle.table_rows.specs.declared.heads.NumberedHead.{NumberedHead}
-use Rattle.table_rows.specs.Fed.{AreCounted}
 use Rattle.table_rows.specs.Shown.{entry_rows, numbered_from, rows_at}
 use Rattle.table_rows.proofs.Fed.{of_err}
 

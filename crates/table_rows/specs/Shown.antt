@@ -2,14 +2,18 @@
 use Rattle.std.specs.Prelude.{ℕ, pos, nat_abs, List, ◌∷◌, ◌++◌, map}
 use Rattle.sqlite_value.specs.declared.value.Value.TheVariants.{Int, Null}
 use Rattle.sqlite_value.specs.Order.{Row, column}
-use Rattle.matter_rows.specs.declared.head.Head.{Head}
+use Rattle.trust_base.specs.declared.line.Line.{Line}
 use Rattle.matter_rows.specs.declared.seat.Seat.{Seat}
 use Rattle.matter_parts.specs.declared.kept.Kept.{Kept}
+use Rattle.firm_rows.specs.declared.movement.Movement.{Movement}
+use Rattle.firm_rows.specs.declared.ledger.FirmLine.{FirmLine}
+use Rattle.firm_rows.specs.declared.ledger.StatementRow.{StatementRow}
 use Rattle.firm_rows.specs.Firm.{Row as FirmRow, HeadRow, seat_pairs}
 use Rattle.trust_store.specs.Kept.{kept_pairs}
 use Rattle.trust_tables.specs.Lists.{Lists}
 use Rattle.trust_tables.specs.Rows as table
 use Rattle.tables_meaning.specs.Meaning.{head_from, kept_from, seat_from}
+use Rattle.tables_meaning.specs.Meaning.{movement_from, firm_line_from, exception_from, balance_from}
 use Rattle.table_rows.specs.declared.heads.NumberedHead.{NumberedHead}
 
 -- the seat that a row of a matter shows
@@ -38,3 +42,19 @@ entry_rows a m = kept_pairs m (map kept_from (table.entries_of (pos m) a.entries
 -- the rows of a matter: its head, its seats and its entries
 abbrev pub rows_at : Lists → NumberedHead → List (ℕ × FirmRow)
 rows_at a n = (n.matter, HeadRow n.head) ∷ (seat_rows a n.matter ++ entry_rows a n.matter)
+
+-- the movement that a row of the journal shows
+abbrev pub movement_at : Row → Movement
+movement_at r = movement_from (table.movement_in (Int (pos 0) ∷ Null ∷ r))
+
+-- the line of the firm's own that a row shows
+abbrev pub firm_line_at : Row → FirmLine
+firm_line_at r = firm_line_from (table.firm_line_in (Int (pos 0) ∷ Null ∷ r))
+
+-- the exception that a row shows
+abbrev pub exception_at : Row → Line
+exception_at r = exception_from (table.exception_in (Int (pos 0) ∷ r))
+
+-- the balance that a row shows
+abbrev pub balance_at : Row → StatementRow
+balance_at r = balance_from (table.balance_in (Int (pos 0) ∷ r))

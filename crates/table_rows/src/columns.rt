@@ -4,12 +4,16 @@ ghost use Rattle.std.specs.Prelude.{◌≡◌, ◌∷◌, pos, IfOk};
 ghost use Rattle.sqlite_value.specs.declared.value.Value.TheVariants.{Int, Null};
 ghost use Rattle.sqlite_value.specs.Order.{column};
 ghost use Rattle.trust_tables.specs.Rows as table;
-ghost use Rattle.trust_tables.specs.Given.{head_given, seat_given, entry_given};
+ghost use Rattle.trust_tables.specs.Given.{head_given, seat_given, entry_given, movement_given, firm_line_given};
+ghost use Rattle.trust_tables.specs.Given.{exception_given, balance_given};
 
 use sqlite::Row;
 use table_reads::{number_at, text_at};
 use trust_base::StoreFault;
-use trust_tables::{EntryColumns, HeadColumns, SeatColumns};
+use trust_tables::{
+    BalanceColumns, EntryColumns, ExceptionColumns, FirmLineColumns, HeadColumns, MovementColumns,
+    SeatColumns,
+};
 
 /// The columns of a seat of a matter, its text that of the row.
 pub(crate) fn seat_in(matter: i64, row: &Row) -> Result<SeatColumns<'_>, StoreFault>
@@ -65,5 +69,53 @@ pub(crate) fn next_head_in(row: &Row) -> Result<HeadColumns<'_>, StoreFault>
         claims: number_at(row, 9)?,
         pending: number_at(row, 10)?,
         purged: number_at(row, 11)?,
+    })
+}
+
+/// The columns of a movement.
+pub(crate) fn movement_in(row: &Row) -> Result<MovementColumns, StoreFault>
+    ensures { IfOk result (λ c. movement_given c ≡ table.movement_in (Int (pos 0) ∷ Null ∷ row.now)) }
+{
+    Ok(MovementColumns {
+        matter: number_at(row, 0)?,
+        entry: number_at(row, 1)?,
+        day: number_at(row, 2)?,
+        amount: number_at(row, 3)?,
+    })
+}
+
+/// The columns of a line of the firm's own, its texts those of the row.
+pub(crate) fn firm_line_in(row: &Row) -> Result<FirmLineColumns<'_>, StoreFault>
+    ensures { IfOk result (λ c. firm_line_given c ≡ table.firm_line_in (Int (pos 0) ∷ Null ∷ row.now)) }
+{
+    Ok(FirmLineColumns {
+        day: number_at(row, 0)?,
+        bank_ref: text_at(row, 1)?,
+        amount: number_at(row, 2)?,
+        text: text_at(row, 3)?,
+    })
+}
+
+/// The columns of an exception, its texts those of the row.
+pub(crate) fn exception_in(row: &Row) -> Result<ExceptionColumns<'_>, StoreFault>
+    ensures { IfOk result (λ c. exception_given c ≡ table.exception_in (Int (pos 0) ∷ row.now)) }
+{
+    Ok(ExceptionColumns {
+        day: number_at(row, 0)?,
+        reference: text_at(row, 1)?,
+        bank_ref: text_at(row, 2)?,
+        amount: number_at(row, 3)?,
+        text: text_at(row, 4)?,
+    })
+}
+
+/// The columns of a balance.
+pub(crate) fn balance_in(row: &Row) -> Result<BalanceColumns, StoreFault>
+    ensures { IfOk result (λ c. balance_given c ≡ table.balance_in (Int (pos 0) ∷ row.now)) }
+{
+    Ok(BalanceColumns {
+        kind: number_at(row, 0)?,
+        day: number_at(row, 1)?,
+        amount: number_at(row, 2)?,
     })
 }

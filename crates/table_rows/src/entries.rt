@@ -62,7 +62,7 @@ pub(crate) fn hand_entries<S: Alter, K: RowSink>(
     ensures mode { conn.new.in_transaction ≡ false }
     ensures handed { (l : Layout) → HasCleanDisk (state S.Store conn.new) → Stands l (state S.Store conn.old).now
         → AreCounted K.stepped (entry_rows (lists_in l (state S.Store conn.old).now.trees) matter)
-            result sink.old sink.new }
+        result sink.old sink.new }
     ensures left { LeavesAll result (state S.Store conn.old) (state S.Store conn.new) }
 {
     hand_rows(

@@ -40,7 +40,7 @@ fn hand_matter<S: Alter, K: RowSink>(
     ensures mode { conn.new.in_transaction ≡ false }
     ensures handed { (l : Layout) → HasCleanDisk (state S.Store conn.new) → Stands l (state S.Store conn.old).now
         → AreCounted K.stepped (rows_at (lists_in l (state S.Store conn.old).now.trees) next.now)
-            result sink.old sink.new }
+        result sink.old sink.new }
     ensures left { LeavesAll result (state S.Store conn.old) (state S.Store conn.new) }
 {
     sink.head(next.matter, &next.head)?;
@@ -62,7 +62,7 @@ pub fn each_row<S: Alter, K: RowSink>(
     ensures mode { conn.new.in_transaction ≡ false }
     ensures handed { (l : Layout) → HasCleanDisk (state S.Store conn.new) → StandsSound l (state S.Store conn.old).now
         → AreHanded K.stepped IsRowInRange (firm_in l (state S.Store conn.old).now.trees).rows
-            result sink.old sink.new }
+        result sink.old sink.new }
     ensures left { LeavesAll result (state S.Store conn.old) (state S.Store conn.new) }
 {
     let mut after: i64 = -1;

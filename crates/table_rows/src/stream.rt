@@ -42,7 +42,7 @@ pub(crate) fn hand_rows<S: Alter, K, T: RowTaking<K>>(
     ensures mode { conn.new.in_transaction ≡ false }
     ensures handed { HasCleanDisk (state S.Store conn.new) → IsSelect sql.now
         → IsFed (T.taken taking.now) (T.fits taking.now) sql.now (bound params.now)
-            (state S.Store conn.old) (state S.Store conn.new) result sink.old sink.new }
+        (state S.Store conn.old) (state S.Store conn.new) result sink.old sink.new }
     ensures left { IsSelect sql.now → LeavesAll result (state S.Store conn.old) (state S.Store conn.new) }
 {
     // Outside a transaction what is seen is what was committed, so going back to the commit changes nothing.

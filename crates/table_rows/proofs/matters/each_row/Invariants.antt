@@ -17,5 +17,5 @@ invariant-matters g l = record {
   few : l.count ≤ MOST_ROWS;
   reached : (y : Layout) → HasCleanDisk (state g.S.Store l.conn) → StandsSound y (state g.S.Store l.fn.conn).now
       → IsReached g.K.RowSink.stepped (lists_in y (state g.S.Store l.fn.conn).now.trees) l.after l.count l.fn.sink
-      l.sink
+      l.sink;
 }

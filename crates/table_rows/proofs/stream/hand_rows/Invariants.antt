@@ -11,6 +11,4 @@ invariant-rows g l =
     let old = state g.S.Store l.fn.conn in
     let now = state g.S.Store l.rows.conn.now in
     (l.rows.conn.ghost_name ≡ l.initial.rows.conn.ghost_name) × (l.rows.conn.now.in_transaction ≡ false)
-    × (IsSelect l.sql → Survives old now (λ _. ⊥)
-    × (HasCleanDisk now → Gave g.S.Store (g.T.RowTaking.taken l.taking) (g.T.RowTaking.fits l.taking)
-    l.sql (bound l.params) old l.fn.sink l.rows.conn.now l.count l.sink))
+    × (IsSelect l.sql → Survives old now (λ _. ⊥) × (HasCleanDisk now → Gave g.S.Store (g.T.RowTaking.taken l.taking) (g.T.RowTaking.fits l.taking) l.sql (bound l.params) old l.fn.sink l.rows.conn.now l.count l.sink))

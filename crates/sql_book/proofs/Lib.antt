@@ -1,0 +1,2 @@
+pub mod BookWrites
+pub mod Refused

@@ -1,0 +1,28 @@
+-- A book that was just made in an empty database, and one that was taken from a database that holds it.
+use Rattle.std.specs.Prelude.{◌≡◌}
+use Rattle.sqlite_trees.specs.declared.store.Store.{Ghosts}
+use Rattle.sqlite.specs.Held.{Held, state}
+use Rattle.firm_rows.specs.Firm.{empty_firm}
+use Rattle.trust_store.specs.Crashes.{LeavesAlone}
+use Rattle.trust_tables.specs.Reading.{IsKept}
+use Rattle.tables_meaning.specs.Standing.{StandsSound, firm_in}
+use Rattle.trust_making.specs.Books.{IsBook}
+use Rattle.sql_book.specs.Books.{HeldBook, at, firm_of, IsServing, IsStanding, MayLeave}
+
+-- it serves, it stands for the firm without rows, and a crash leaves that firm
+pub record IsMade {S : Type 0} (g : Ghosts S) (b : HeldBook S) : Type 0 where
+  pub serves : IsServing g b
+  pub book : IsBook b.layout (at g b).now
+  pub stands : IsStanding g b
+  pub empty : firm_of g b ≡ empty_firm
+  pub settled : LeavesAlone empty_firm (MayLeave g b)
+
+-- it serves, its tables are those of the connection, which lie in its layout, and a crash leaves them; they stand for
+-- the rows of a sound firm where they did, which is not looked at
+pub record IsTaken {S : Type 0} (g : Ghosts S) (conn : Held S) (b : HeldBook S) : Type 0 where
+  pub serves : IsServing g b
+  pub book : IsBook b.layout (state g conn).now
+  pub kept : IsKept (state g conn) (at g b)
+  pub firm : firm_of g b ≡ firm_in b.layout (state g conn).now.trees
+  pub stands : StandsSound b.layout (state g conn).now → IsStanding g b
+  pub settled : LeavesAlone (firm_of g b) (MayLeave g b)

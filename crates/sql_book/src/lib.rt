@@ -1,0 +1,10 @@
+//! The book on disk: a firm's rows in the tables of a connection.
+#![tactic(auto)]
+
+mod book;
+mod counting;
+mod opening;
+mod verdicts;
+
+pub use book::SqlBook;
+pub use trust_making::OpenFault;

@@ -1,0 +1,99 @@
+// Making a book in a database, taking one from it, and giving the connection back.
+
+ghost use Rattle.std.specs.Prelude.{◌≡◌, ◌≢◌, false, IfOk, IfErr, IsTrue};
+ghost use Rattle.sqlite.specs.Held.{state};
+ghost use Rattle.sqlite.specs.State.{HasCleanDisk, Survives};
+ghost use Rattle.trust_making.specs.Books.{no_schema, IsBook, AreNewBook};
+ghost use Rattle.trust_schema.specs.declared.layout.Layout.{Layout};
+ghost use Rattle.trust_tables.specs.Reading.{IsKept};
+ghost use Rattle.sql_book.specs.Books.{at, IsSure};
+ghost use Rattle.sql_book.specs.Opening.{IsMade, IsTaken};
+
+use crate::book::SqlBook;
+use sqlite::{Alter, Connection};
+use std::alloc::Global;
+use tables_meaning::laws::empty_tables_stand;
+use trust_making::OpenFault;
+use trust_schema::Layout;
+
+impl<S: Alter + Drop> SqlBook<S> {
+    /// Makes a book without rows in an empty database, all of it or nothing, also over a crash. A database that is not
+    /// empty, and no other, is NotABook, and its connection is handed back as it was. After another fault a connection
+    /// that is open sees what it saw. Asks that no transaction is open.
+    pub fn make(
+        alloc: Global,
+        conn: Connection<S>,
+    ) -> Result<SqlBook<S>, (OpenFault, Connection<S>)>
+        requires { conn.in_transaction ≡ false }
+        ensures made { IfOk result (λ b. IsSure S.Store b → IsMade S.Store b) }
+        ensures none_refused { IfOk result (λ b. b.refusals ≡ 0) }
+        ensures was_empty { IfOk result (λ _. (state S.Store conn).now.schema ≡ no_schema) }
+        ensures not_empty { IfErr result (λ e. e.0 ≡ OpenFault.NotABook
+            → ((state S.Store conn).now.schema ≢ no_schema) × (e.1 ≡ conn)) }
+        ensures told { (state S.Store conn).now.schema ≢ no_schema → IfErr result (λ e. e.0 ≡ OpenFault.NotABook) }
+        ensures mode { IfErr result (λ e. e.1.in_transaction ≡ false) }
+        ensures kept { IfErr result (λ e. HasCleanDisk (state S.Store e.1) → IsTrue (state S.Store e.1).is_open
+            → IsKept (state S.Store conn) (state S.Store e.1)) }
+        ensures crash { IfOk result (λ b. Survives (state S.Store conn) (at S.Store b) AreNewBook) }
+        ensures crash_at_fault { IfErr result (λ e.
+            Survives (state S.Store conn) (state S.Store e.1) AreNewBook) }
+    {
+        empty_tables_stand();
+        let mut conn = conn;
+        match trust_making::make(&mut conn) {
+            Ok(()) => Ok(SqlBook {
+                conn,
+                layout: Layout::Made,
+                alloc,
+                refused: 0,
+            }),
+            Err(fault) => Err((fault, conn)),
+        }
+    }
+
+    /// Takes the book that a database holds. NotABook means that it holds no book of this version, Store that the store
+    /// failed or the connection has a limit on steps. Nothing is written, and no row of the firm is read: rows that
+    /// stand for nothing are Store at the call that reads them. The connection of a fault, where it is open, sees what
+    /// it saw. Asks that no transaction is open.
+    pub fn adopt(
+        alloc: Global,
+        conn: Connection<S>,
+    ) -> Result<SqlBook<S>, (OpenFault, Connection<S>)>
+        requires { conn.in_transaction ≡ false }
+        ensures taken { IfOk result (λ b. IsSure S.Store b → IsTaken S.Store conn b) }
+        ensures none_refused { IfOk result (λ b. b.refusals ≡ 0) }
+        ensures not_a_book { IfErr result (λ e. HasCleanDisk (state S.Store e.1) → e.0 ≡ OpenFault.NotABook
+            → (l : Layout) → ¬ IsBook l (state S.Store conn).now) }
+        ensures mode { IfErr result (λ e. e.1.in_transaction ≡ false) }
+        ensures kept { IfErr result (λ e. HasCleanDisk (state S.Store e.1) → IsTrue (state S.Store e.1).is_open
+            → IsKept (state S.Store conn) (state S.Store e.1)) }
+        ensures crash { IfOk result (λ b. Survives (state S.Store conn) (at S.Store b) (λ _. ⊥)) }
+        ensures crash_at_fault { IfErr result (λ e.
+            Survives (state S.Store conn) (state S.Store e.1) (λ _. ⊥)) }
+    {
+        let mut conn = conn;
+        match trust_making::adopt(&mut conn) {
+            Ok(layout) => Ok(SqlBook {
+                conn,
+                layout,
+                alloc,
+                refused: 0,
+            }),
+            Err(fault) => Err((fault, conn)),
+        }
+    }
+
+    /// Gives the connection back as it is. It takes no memory.
+    pub fn release(self) -> Connection<S>
+        ensures same { result ≡ self.conn }
+        ensures mode { result.in_transaction ≡ false }
+    {
+        let SqlBook {
+            conn,
+            layout: _,
+            alloc: _,
+            refused: _,
+        } = self;
+        conn
+    }
+}

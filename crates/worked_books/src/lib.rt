@@ -1,0 +1,9 @@
+//! Worked books in a database in memory, as tests.
+#![tactic(auto)]
+
+#[cfg(test)]
+mod kept;
+#[cfg(test)]
+mod opened;
+#[cfg(test)]
+mod values;

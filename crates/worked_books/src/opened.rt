@@ -1,0 +1,31 @@
+// Databases that are no book, and a book that is there already.
+
+use crate::values::{Wrong, made};
+use sql_book::{OpenFault, SqlBook};
+use sqlite::Connection;
+
+// An empty database holds no book.
+#[test]
+fn an_empty_database_is_not_taken(rt: HostRuntime) -> Result<(), Wrong> {
+    let conn = Connection::open_in_memory(rt.alloc())?;
+    match SqlBook::adopt(rt.alloc(), conn) {
+        Err((OpenFault::NotABook, _)) => Ok(()),
+        Err((fault, _)) => Err(Wrong::Opening(fault)),
+        Ok(_) => Err(Wrong::Opened),
+    }
+}
+
+// No second book is made beside one, and that one is still there.
+#[test]
+fn a_book_is_made_once(rt: HostRuntime) -> Result<(), Wrong> {
+    let book = made(rt.alloc())?;
+    let conn = match SqlBook::make(rt.alloc(), book.release()) {
+        Err((OpenFault::NotABook, conn)) => conn,
+        Err((fault, _)) => return Err(Wrong::Opening(fault)),
+        Ok(_) => return Err(Wrong::Opened),
+    };
+    match SqlBook::adopt(rt.alloc(), conn) {
+        Ok(_) => Ok(()),
+        Err((fault, _)) => Err(Wrong::Opening(fault)),
+    }
+}
