@@ -41,8 +41,8 @@ pub fn whole_matter<S: Alter>(
 }
 
 /// A matter with its head, seats and totals, the entries that are named, those that these draw on, and no others; where
-/// it was never opened, without any row. Of the entries only these are read, each once. Totals that no matter can have
-/// are Store, and so is as much left of an entry that is read.
+/// it was never opened, without any row. It reads at most four entries, these and no others. Totals that no matter can
+/// have are Store, and so is as much left of an entry that is read.
 pub fn matter_for<S: Alter>(
     conn: &mut Connection<S>,
     alloc: Global,

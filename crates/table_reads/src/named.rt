@@ -91,7 +91,7 @@ fn keep_named<S: Alter>(
     }
 }
 
-// The entries of a matter that are named, and those that these draw on. Each is read once, and no other.
+// The entries of a matter that are named, and those that these draw on. No other entry is read.
 pub(crate) fn named_entries<S: Alter>(
     conn: &mut Connection<S>,
     alloc: Global,
