@@ -4,7 +4,8 @@ use cashier::{Outcome, bare_notice_of, notice_of};
 use std::process::Abort;
 use std::test::Fail;
 
-const PROGRAM: &str = "usage: cashier_cli --today DAY (sheet | import FILE | stream | serve PORT COUNT | \
+const PROGRAM: &str =
+    "usage: cashier_cli --today DAY (sheet | import FILE | stream | serve PORT COUNT | \
     reconcile DAY | trial | journal | retention | ledger MATTER)\n\
     example: cashier_cli --today 2026-03-31 reconcile 2026-03-31";
 
@@ -31,8 +32,7 @@ fn check_named(
 ) -> Result<(), Fail> {
     let notice = notice_of(rt.alloc(), Outcome::CommandLine, words).ok_or("a notice")?;
     let told = format!(in rt.alloc(); "{notice}")?;
-    let lines = format!(
-        in rt.alloc();
+    let lines = format!(in rt.alloc();
         "usage: cashier_cli --today DAY {usage}\nexample: cashier_cli --today 2026-03-31 {example}\n\
         wrong: {wrong}"
     )?;
@@ -54,9 +54,21 @@ fn check_unnamed(
 fn names_the_text_that_is_no_day(rt: HostRuntime) -> Result<(), Fail> {
     let reconcile = "reconcile DAY";
     let example = "reconcile 2026-03-31";
-    let words = &["cashier_cli", "--today", "2026-02-30", "reconcile", "2026-03-31"];
+    let words = &[
+        "cashier_cli",
+        "--today",
+        "2026-02-30",
+        "reconcile",
+        "2026-03-31",
+    ];
     check_named(&rt, words, reconcile, example, "2026-02-30 is no day")?;
-    let words = &["cashier_cli", "--today", "2026-03-31", "reconcile", "31.3.2026"];
+    let words = &[
+        "cashier_cli",
+        "--today",
+        "2026-03-31",
+        "reconcile",
+        "31.3.2026",
+    ];
     check_named(&rt, words, reconcile, example, "31.3.2026 is no day")?;
     let words = &["cashier_cli", "--today=today", "sheet"];
     check_named(&rt, words, "sheet", "sheet < day.csv", "today is no day")
@@ -65,13 +77,31 @@ fn names_the_text_that_is_no_day(rt: HostRuntime) -> Result<(), Fail> {
 #[test]
 fn names_the_operand_that_is_wrong(rt: HostRuntime) -> Result<(), Fail> {
     let words = &["cashier_cli", "--today", "2026-03-31", "ledger", "1"];
-    check_named(&rt, words, "ledger MATTER", "ledger 000001", "1 is no matter's number")?;
+    check_named(
+        &rt,
+        words,
+        "ledger MATTER",
+        "ledger 000001",
+        "1 is no matter's number",
+    )?;
     let serve = "serve PORT COUNT";
     let example = "serve 8080 100";
     let words = &["cashier_cli", "--today", "2026-03-31", "serve", "80", "0"];
-    check_named(&rt, words, serve, example, "80 is no port from 1024 to 65535")?;
+    check_named(
+        &rt,
+        words,
+        serve,
+        example,
+        "80 is no port from 1024 to 65535",
+    )?;
     let words = &["cashier_cli", "--today", "2026-03-31", "serve", "8080", "0"];
-    check_named(&rt, words, serve, example, "0 is no count from 1 to 1000000")
+    check_named(
+        &rt,
+        words,
+        serve,
+        example,
+        "0 is no count from 1 to 1000000",
+    )
 }
 
 #[test]
@@ -80,7 +110,14 @@ fn names_the_word_that_is_not_taken(rt: HostRuntime) -> Result<(), Fail> {
     check_unnamed(&rt, words, "improt is not taken here")?;
     let words = &["cashier_cli", "--db", "x", "--today", "2026-03-31", "sheet"];
     check_unnamed(&rt, words, "--db is not taken here")?;
-    let words = &["cashier_cli", "--today", "2026-03-31", "import", "a.csv", "b.csv"];
+    let words = &[
+        "cashier_cli",
+        "--today",
+        "2026-03-31",
+        "import",
+        "a.csv",
+        "b.csv",
+    ];
     let import = "import FILE";
     let example = "import statement.csv";
     check_named(&rt, words, import, example, "b.csv is not taken here")?;
@@ -94,21 +131,46 @@ fn tells_what_is_missing(rt: HostRuntime) -> Result<(), Fail> {
     check_unnamed(&rt, &[], "a command is missing")?;
     check_unnamed(&rt, &["cashier_cli"], "a command is missing")?;
     check_unnamed(&rt, &["cashier_cli", "--today"], "--today has no day")?;
-    let words = &["cashier_cli", "--today", "2026-03-31", "--today", "2026-03-31", "trial"];
+    let words = &[
+        "cashier_cli",
+        "--today",
+        "2026-03-31",
+        "--today",
+        "2026-03-31",
+        "trial",
+    ];
     check_unnamed(&rt, words, "--today is given twice")?;
     let words = &["cashier_cli", "trial"];
     check_named(&rt, words, "trial", "trial", "--today DAY is missing")?;
     let words = &["cashier_cli", "--today", "2026-03-31", "import"];
-    check_named(&rt, words, "import FILE", "import statement.csv", "a word is missing")
+    check_named(
+        &rt,
+        words,
+        "import FILE",
+        "import statement.csv",
+        "a word is missing",
+    )
 }
 
 #[test]
 fn tells_the_usage_where_help_is_asked_for(rt: HostRuntime) -> Result<(), Fail> {
-    check(&rt, &["cashier_cli", "--help"], Outcome::CommandLine, PROGRAM)?;
+    check(
+        &rt,
+        &["cashier_cli", "--help"],
+        Outcome::CommandLine,
+        PROGRAM,
+    )?;
     let words = &["cashier_cli", "--today", "2026-03-31", "journal", "--help"];
-    let journal = "usage: cashier_cli --today DAY journal\nexample: cashier_cli --today 2026-03-31 journal";
+    let journal =
+        "usage: cashier_cli --today DAY journal\nexample: cashier_cli --today 2026-03-31 journal";
     check(&rt, words, Outcome::CommandLine, journal)?;
-    let words = &["cashier_cli", "--today", "2026-03-31", "retention", "--help"];
+    let words = &[
+        "cashier_cli",
+        "--today",
+        "2026-03-31",
+        "retention",
+        "--help",
+    ];
     let retention =
         "usage: cashier_cli --today DAY retention\nexample: cashier_cli --today 2026-03-31 retention";
     check(&rt, words, Outcome::CommandLine, retention)
