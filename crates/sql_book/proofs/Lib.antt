@@ -1,2 +1,1 @@
 pub mod BookWrites
-pub mod Refused

@@ -1,8 +1,11 @@
 // A balance that the bank told of.
 
-ghost use Rattle.std.specs.Prelude.{◌≡◌, false, IfOk};
+ghost use Rattle.std.specs.Prelude.{◌≡◌, ◌≢◌, ℤ, false, IfOk, IfErr};
+ghost use Rattle.sqlite_value.specs.declared.value.Value.TheVariants.{Int};
+ghost use Rattle.sqlite_value.specs.Order.{column};
 ghost use Rattle.sqlite.specs.Held.{state};
 ghost use Rattle.sqlite.specs.State.{HasCleanDisk};
+ghost use Rattle.trust_base.specs.Limits.{IsBankAmount};
 ghost use Rattle.firm_rows.specs.FirmLines.{kept_balance};
 ghost use Rattle.trust_schema.specs.declared.layout.Layout.{Layout};
 ghost use Rattle.trust_tables.specs.Reading.{LeavesAll};
@@ -12,11 +15,23 @@ use crate::fault::answered;
 use crate::value::number_at;
 use firm_rows::BalanceKind;
 use row_columns::kind_column;
-use sqlite::{Alter, Connection};
-use trust_base::{Day, StoreFault};
+use sqlite::{Alter, Connection, Row};
+use trust_base::{BankAmount, Day, StoreFault};
 use trust_tables::reads::balance_rows;
 
-/// The balance of a kind and day, in cents, or None where none is kept.
+// The amount that a row shows. One that no line of the bank has is Store.
+fn amount_in(row: &Row) -> Result<i64, StoreFault>
+    ensures ok { IfOk result (λ n. (column row.now 0 ≡ Int n) × IsBankAmount n) }
+    ensures none { IfErr result (λ e. (n : ℤ) → IsBankAmount n → column row.now 0 ≢ Int n) }
+{
+    let cents = number_at(row, 0)?;
+    match BankAmount::from_number(cents) {
+        Some(amount) => Ok(amount.get()),
+        None => Err(StoreFault::Store),
+    }
+}
+
+/// The balance of a kind and day, in cents, or None where none is kept. An amount that no line of the bank has is Store.
 pub fn balance_at<S: Alter>(
     conn: &mut Connection<S>,
     kind: BalanceKind,
@@ -31,6 +46,6 @@ pub fn balance_at<S: Alter>(
     let rows = answered(balance_rows(conn, kind_column(kind), day.get() as i64))?;
     match rows.first() {
         None => Ok(None),
-        Some(row) => Ok(Some(number_at(row, 0)?)),
+        Some(row) => Ok(Some(amount_in(row)?)),
     }
 }

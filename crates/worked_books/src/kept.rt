@@ -25,7 +25,11 @@ fn imported<B: Book + Drop>(
     let mut desk = Desk::new(book);
     let reader = TrialReader::new(STATEMENT.as_bytes(), 4096, 4096);
     let told = desk.import(alloc, reader, day("2024-02-01")?);
-    let counts = (told.reply.applied, told.reply.repeated, told.reply.exceptions);
+    let counts = (
+        told.reply.applied,
+        told.reply.repeated,
+        told.reply.exceptions,
+    );
     match told.end {
         ImportStop::Done if counts == (applied, repeated, exceptions) => Ok(desk.into_book()),
         _ => Err(Wrong::Counts(counts.0, counts.1, counts.2)),
