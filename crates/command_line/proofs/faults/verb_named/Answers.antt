@@ -10,6 +10,6 @@ returns-in-Met c = IfSome_then c.verb_of.result c.verb_of.ensures
 
 pub loop-place-preserved : goal.loop-place-preserved
 loop-place-preserved c = λ wanted. elim c.match-front_of.branch [
-    | in-WantsCommand w ↦ wants-command c.args.words.now c.loop-place.place _ w.in-WantsCommand.is c.front_of.ensures
-    | in-WantsValue w ↦ let e = sym wanted ∙ w.is_wanted-is in cc
-  ]
+  | in-WantsCommand w ↦ wants-command c.args.words.now c.loop-place.place _ w.in-WantsCommand.is c.front_of.ensures
+  | in-WantsValue w ↦ let e = sym wanted ∙ w.is_wanted-is in cc
+]
