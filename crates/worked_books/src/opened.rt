@@ -1,6 +1,6 @@
 // Databases that are no book, and a book that is there already.
 
-use crate::values::{Wrong, made};
+use crate::values::{Wrong, adopted, made};
 use sql_book::{OpenFault, SqlBook};
 use sqlite::Connection;
 
@@ -28,4 +28,26 @@ fn a_book_is_made_once(rt: HostRuntime) -> Result<(), Wrong> {
         Ok(_) => Ok(()),
         Err((fault, _)) => Err(Wrong::Opening(fault)),
     }
+}
+
+// Databases that hold another version, or no book to the last column.
+#[test]
+fn another_form_is_not_taken(rt: HostRuntime) -> Result<(), Wrong> {
+    let changes = [
+        "UPDATE book SET version = 1",
+        "UPDATE book SET version = 3",
+        "DELETE FROM book",
+        "INSERT INTO book (version) VALUES (2)",
+        "DROP TABLE balance",
+        "CREATE TABLE other (a INTEGER)",
+    ];
+    for (place, change) in changes.iter().enumerate() {
+        let mut conn = made(rt.alloc())?.release();
+        conn.execute_batch(change)?;
+        match adopted(rt.alloc(), conn) {
+            Err(Wrong::Opening(OpenFault::NotABook)) => {}
+            _ => return Err(Wrong::Answer(place)),
+        }
+    }
+    Ok(())
 }

@@ -1,15 +1,15 @@
 // Books in memory, and why a test fails.
 
 use sql_book::{OpenFault, SqlBook};
-use sqlite::{Connection, MemStore};
-use std::alloc::{AllocError, Global};
-use trust_base::{Day, StoreFault};
+use sqlite::{Alter, Connection, Error, MemStore};
+use std::alloc::{AllocError, AllocFailed, Global};
+use trust_base::{Day, Refusal, StoreFault};
 
 /// Why a test fails.
 #[derive(Clone, Copy, Debug)]
 pub(crate) enum Wrong {
-    /// A word stands for no day.
-    Day,
+    /// A word stands for no value of its kind.
+    Word,
     /// A growth was refused.
     Memory,
     /// A book was refused, or not.
@@ -22,11 +22,43 @@ pub(crate) enum Wrong {
     Counts(u64, u64, u64),
     /// A book keeps something else.
     Kept,
+    /// The step of this place, counted from 0, is answered otherwise.
+    Answer(usize),
+    /// At the spoiling of the first place, counted from 0, the request of the second is answered otherwise, or changes
+    /// a row.
+    Spoiled(usize, usize),
+    /// A statement of SQL failed.
+    Sql,
+    /// A disk in memory failed, or a book on it.
+    Disk,
+    /// After a stop behind so many calls of the log and of the database the book holds other rows, or none can be made.
+    Stopped(u64, u64),
 }
 
 impl From<AllocError> for Wrong {
     fn from(_: AllocError) -> Wrong {
         Wrong::Memory
+    }
+}
+
+impl<T: Drop> From<AllocFailed<T>> for Wrong {
+    fn from(_: AllocFailed<T>) -> Wrong {
+        Wrong::Memory
+    }
+}
+
+impl From<Refusal> for Wrong {
+    fn from(refusal: Refusal) -> Wrong {
+        match refusal {
+            Refusal::Memory => Wrong::Memory,
+            _ => Wrong::Word,
+        }
+    }
+}
+
+impl From<Error> for Wrong {
+    fn from(_: Error) -> Wrong {
+        Wrong::Sql
     }
 }
 
@@ -38,7 +70,7 @@ impl From<StoreFault> for Wrong {
 
 /// A civil day.
 pub(crate) fn day(text: &str) -> Result<Day, Wrong> {
-    Day::read(text.as_bytes()).ok_or(Wrong::Day)
+    Day::read(text.as_bytes()).ok_or(Wrong::Word)
 }
 
 /// A book that was just made in memory.
@@ -50,10 +82,21 @@ pub(crate) fn made(alloc: Global) -> Result<SqlBook<MemStore>, Wrong> {
     }
 }
 
-/// The same book, taken anew.
-pub(crate) fn taken(alloc: Global, book: SqlBook<MemStore>) -> Result<SqlBook<MemStore>, Wrong> {
-    match SqlBook::adopt(alloc, book.release()) {
+/// The book of a connection.
+pub(crate) fn adopted<S: Alter + Drop>(
+    alloc: Global,
+    conn: Connection<S>,
+) -> Result<SqlBook<S>, Wrong> {
+    if !conn.is_autocommit() {
+        return Err(Wrong::Sql);
+    }
+    match SqlBook::adopt(alloc, conn) {
         Ok(book) => Ok(book),
         Err((fault, _)) => Err(Wrong::Opening(fault)),
     }
+}
+
+/// The same book, taken anew.
+pub(crate) fn taken(alloc: Global, book: SqlBook<MemStore>) -> Result<SqlBook<MemStore>, Wrong> {
+    adopted(alloc, book.release())
 }
