@@ -12,7 +12,7 @@ use Rattle.clap.proofs.WalkLemmas.{first_value-rows}
 use Rattle.std.specs.Borrow.{Bor}
 use Rattle.std.specs.Str.{bytes_eq}
 use Rattle.trust_base.specs.Texts.{day_of, matter_of}
-use Rattle.command_line.specs.Program.{Gives, IsTask, LeavesNoPlan, MeetsTask, Means, MeansNothing, import_app, operand_app, operand_rule, report_apps, ImportIsNoSheet, ImportIsNoStream, IsReportCommand, ReportReadsNothing, ServeReadsNothing, program, report_name, run_apps, serve_app, sheet_app, stream_app, today_rule}
+use Rattle.command_line.specs.Program.{Gives, IsTask, LeavesNoPlan, MeetsTask, Means, MeansNothing, db_of, db_rule, import_app, operand_app, operand_rule, options_app, report_apps, ImportIsNoSheet, ImportIsNoStream, IsReportCommand, ReportReadsNothing, ServeReadsNothing, program, report_name, run_apps, serve_app, sheet_app, stream_app, today_rule}
 use Rattle.command_line.specs.declared.command.CliFault.{CliFault}
 use Rattle.command_line.specs.declared.command.CliFault.TheVariants as faults
 use Rattle.command_line.specs.declared.report_command.ReportCommand.{ReportCommand}
@@ -21,11 +21,11 @@ use Rattle.command_line.specs.declared.command.Task.{Task}
 use Rattle.command_line.specs.declared.command.Task.TheVariants as tasks
 
 pub is_simple_program : is_simple program ≡ true
-unfolding clap_on_literals program sheet_app today_rule import_app operand_app operand_rule stream_app serve_app run_apps report_apps
+unfolding clap_on_literals program options_app today_rule db_rule sheet_app import_app operand_app operand_rule stream_app serve_app run_apps report_apps
 is_simple_program = refl
 
 pub is_free_program : is_simple_and_free program ≡ true
-unfolding clap_on_literals program sheet_app today_rule import_app operand_app operand_rule stream_app serve_app run_apps report_apps
+unfolding clap_on_literals program options_app today_rule db_rule sheet_app import_app operand_app operand_rule stream_app serve_app run_apps report_apps
 is_free_program = refl
 
 pub parses : (a : App) (words : List Text) → a ≡ program → (is_simple_and_free a ≡ true → fault_of a words ≡ []) → fault_of program words ≡ []
@@ -67,6 +67,11 @@ rows_are a words m same has = (has (ap is_simple same ∙ is_simple_program)).0 
 
 pub met_is : (a : App) (words : List Text) (m : ArgMatches) → a ≡ program → HasValues a words m → subcommand_rows_of m ≡ subcommand_of program words
 met_is a words m same has = (has (ap is_simple same ∙ is_simple_program)).1 ∙ ap (λ (x : App). subcommand_of x words) same
+
+-- and so is the value of `--db`
+pub db-is : (a : App) (words : List Text) (m : ArgMatches) → a ≡ program → HasValues a words m → (db : Option Text) → db ≡ first_of (codes "db") (rows_of (found_of m))
+    → db ≡ db_of words
+db-is a words m same has db is = is ∙ ap (first_of (codes "db")) (rows_are a words m same has)
 
 given : (rows rows2 : List Row) (met met2 : Option (Text × List Row)) (today : ℕ) (task : Task) → rows ≡ rows2 → met ≡ met2 → Gives rows met today task → Gives rows2 met2 today task
 given rows rows2 met met2 today task r n g = record {

@@ -1,6 +1,7 @@
 -- What is told of words that mean nothing: the usage of the command that they name, an example, and what is wrong.
-use Rattle.std.specs.Prelude.{◌≡◌, ◌⊎◌, ◌++◌, ◌+◌, ℕ, Bool, false, List, [], Option, Some, None, codes, slice_get, take, ⊤}
+use Rattle.std.specs.Prelude.{◌≡◌, ◌⊎◌, ◌++◌, ◌+◌, ℕ, Bool, false, List, [], Option, Some, None, codes, fold, if◌then◌else◌, slice_get, take, ⊤}
 use Rattle.std.specs.List.{list_any}
+use Rattle.std.specs.Option.{option_or}
 use Rattle.std.specs.Str.{bytes_eq}
 use Rattle.clap.specs.Words.{IsAmong, Row, Text, fault_of, first_of, matches_of, subcommand_of}
 use Rattle.clap.specs.declared.error.kind.ErrorKind.{ErrorKind}
@@ -9,6 +10,8 @@ use Rattle.trust_base.specs.Texts.{day_of, matter_of}
 use Rattle.command_line.specs.Numerals.{IsCount, IsPort}
 use Rattle.command_line.specs.Program.{program}
 use Rattle.command_line.specs.declared.advice.Advice.{Advice}
+use Rattle.command_line.specs.declared.advice.Setting.{Setting}
+use Rattle.command_line.specs.declared.advice.Setting.TheVariants as settings
 use Rattle.command_line.specs.declared.advice.Verb.{Verb}
 use Rattle.command_line.specs.declared.advice.Verb.TheVariants as verbs
 use Rattle.command_line.specs.declared.advice.Wrong.{Wrong}
@@ -30,7 +33,7 @@ verb_name verbs.Journal = codes "journal"
 verb_name verbs.Retention = codes "retention"
 verb_name verbs.Ledger = codes "ledger"
 
--- how a command is written behind the business day; all of them, where none is named
+-- how a command is written behind the options; all of them, where none is named
 abbrev pub verb_usage : Option Verb → Text
 verb_usage None = codes "(sheet | import FILE | stream | serve PORT COUNT | reconcile DAY | trial | journal | "
     ++ codes "retention | ledger MATTER)"
@@ -64,8 +67,10 @@ wrong_text (wrong.NoDay text) = text.now ++ codes " is no day"
 wrong_text (wrong.NoMatter text) = text.now ++ codes " is no matter's number"
 wrong_text (wrong.NoPort text) = text.now ++ codes " is no port from 1024 to 65535"
 wrong_text (wrong.NoCount text) = text.now ++ codes " is no count from 1 to 1000000"
-wrong_text wrong.RepeatedDay = codes "--today is given twice"
-wrong_text wrong.EmptyDay = codes "--today has no day"
+wrong_text (wrong.Repeated settings.Today) = codes "--today is given twice"
+wrong_text (wrong.Repeated settings.Db) = codes "--db is given twice"
+wrong_text (wrong.NoValue settings.Today) = codes "--today has no day"
+wrong_text (wrong.NoValue settings.Db) = codes "--db has no path"
 wrong_text wrong.MissingDay = codes "--today DAY is missing"
 wrong_text wrong.MissingCommand = codes "a command is missing"
 wrong_text wrong.MissingWord = codes "a word is missing"
@@ -77,7 +82,7 @@ wrong_line (Some w) = codes "\nwrong: " ++ wrong_text w
 
 -- the lines that are told, without the last one's end
 abbrev pub advice_text : Advice → Text
-advice_text a = codes "usage: cashier_cli --today DAY " ++ (verb_usage a.verb
+advice_text a = codes "usage: cashier_cli [--db PATH] --today DAY " ++ (verb_usage a.verb
     ++ (codes "\nexample: cashier_cli --today 2026-03-31 " ++ (verb_example a.verb ++ wrong_line a.wrong)))
 
 -- ---- what is true of the words
@@ -105,6 +110,7 @@ front_by None = fronts.Met
 front_by (Some kind.MissingRequiredArgument) = fronts.Met
 front_by (Some kind.MissingSubcommand) = fronts.WantsCommand
 front_by (Some kind.InvalidValue) = fronts.WantsValue
+front_by (Some kind.ArgumentConflict) = fronts.Repeats
 front_by (Some kind.UnknownArgument) = fronts.Strays
 front_by (Some kind.InvalidSubcommand) = fronts.Strays
 front_by (Some kind.TooManyValues) = fronts.Strays
@@ -115,6 +121,7 @@ abbrev pub IsFront : List Text → Front → Type 0
 IsFront words fronts.Met = HasCommand words
 IsFront words fronts.WantsCommand = FailsAs words kind.MissingSubcommand
 IsFront words fronts.WantsValue = FailsAs words kind.InvalidValue
+IsFront words fronts.Repeats = FailsAs words kind.ArgumentConflict
 IsFront words fronts.Strays = IsStrayed words
 IsFront words fronts.Fails = ⊤
 
@@ -135,6 +142,39 @@ pub record Names (words : List Text) (verb : Verb) : Type 0 where
 -- the word begins as the option of the business day does
 abbrev pub names_day : Text → Bool
 names_day word = bytes_eq (take 7 word) (codes "--today")
+
+-- the word begins as the option of the database does
+abbrev pub names_db : Text → Bool
+names_db word = bytes_eq (take 4 word) (codes "--db")
+
+-- the option that a word begins as
+abbrev pub setting_named : Text → Option Setting
+setting_named word = if names_day word then Some settings.Today else (if names_db word then Some settings.Db else None)
+
+-- the option that the last of the words that begin as one begins as
+abbrev pub last_setting : List Text → Option Setting
+last_setting = fold (λ before word. option_or (setting_named word) before) None
+
+-- the option is given again: the command line takes the words before this place so far, and with the word that stands
+-- there it refuses them as a repetition; the option that was named last is that which is repeated
+pub record IsRepeated (words : List Text) (setting : Setting) : Type 0 where
+  pub place : ℕ
+  pub before : IsTakenSoFar (take place words)
+  pub refused : FailsAs (take (place + 1) words) kind.ArgumentConflict
+  pub named : last_setting (take (place + 1) words) ≡ Some setting
+
+-- with the word at this place an option's value is wanted, while before it a command is, and the next word, where there
+-- is one, does not give it
+pub record LacksValueAt (words : List Text) (place : ℕ) : Type 0 where
+  pub before : FailsAs (take place words) kind.MissingSubcommand
+  pub wanted : FailsAs (take (place + 1) words) kind.InvalidValue
+  pub left : FailsAs (take (place + 2) words) kind.InvalidValue
+
+-- the option has no value
+pub record LacksValue (words : List Text) (setting : Setting) : Type 0 where
+  pub place : ℕ
+  pub lacks : LacksValueAt words place
+  pub named : last_setting (take (place + 1) words) ≡ Some setting
 
 -- of the matched values, that of `--today` is wrong
 abbrev pub IsWrongToday : List Row → Wrong → Type 0
@@ -167,8 +207,8 @@ pub record HasWrongValue (words : List Text) (w : Wrong) : Type 0 where
 -- this is wrong with the words
 abbrev pub IsWrong : List Text → Wrong → Type 0
 IsWrong words (wrong.Word text) = IsStray words text.now
-IsWrong words wrong.RepeatedDay = FailsAs words kind.ArgumentConflict
-IsWrong words wrong.EmptyDay = FailsAs words kind.InvalidValue
+IsWrong words (wrong.Repeated setting) = IsRepeated words setting
+IsWrong words (wrong.NoValue setting) = LacksValue words setting
 IsWrong words wrong.MissingCommand = FailsAs words kind.MissingSubcommand
 IsWrong words wrong.MissingDay = FailsAs words kind.MissingRequiredArgument × (list_any names_day words ≡ false)
 IsWrong words wrong.MissingWord = FailsAs words kind.MissingRequiredArgument

@@ -18,6 +18,14 @@ unfoldable pub today_rule : Rule
 today_rule =
     record (new_rule (codes "today")) { long = Some (codes "today"); required = true; action = Some action.Set }
 
+-- `--db PATH`, which may be left out
+unfoldable pub db_rule : Rule
+db_rule = record (new_rule (codes "db")) { long = Some (codes "db"); action = Some action.Set }
+
+-- the command line's options, without its commands
+unfoldable pub options_app : App
+options_app = with_rule (with_rule (new_app (codes "cashier_cli")) today_rule) db_rule
+
 unfoldable pub sheet_app : App
 sheet_app = new_app (codes "sheet")
 
@@ -55,11 +63,12 @@ abbrev pub with_commands : App → List App → App
 with_commands app [] = app
 with_commands app (command ∷ rest) = with_commands (with_subcommand app command.top) rest
 
--- the command line: `--today DAY` and a command
+-- the command line: its options, which are `--today DAY` and then `--db PATH`, in any order among the words and each at
+-- most once, and a command behind them
 unfoldable pub program : App
 program =
     on_top (λ s. record s { subcommand_required = true })
-    (with_commands (with_commands (with_rule (new_app (codes "cashier_cli")) today_rule) run_apps) report_apps)
+    (with_commands (with_commands options_app run_apps) report_apps)
 
 -- the name of a report's command
 abbrev pub report_name : ReportCommand → Text
@@ -137,6 +146,10 @@ pub record Gives (rows : List Row) (met : Option (Text × List Row)) (today : �
 pub record Means (words : List Text) (today : ℕ) (task : Task) : Type 0 where
   pub parses : fault_of program words ≡ []
   pub gives : Gives (matches_of program words) (subcommand_of program words) today task
+
+-- the value of `--db`, where it is given
+abbrev pub db_of : List Text → Option Text
+db_of words = first_of (codes "db") (matches_of program words)
 
 -- the words mean that a sheet is run
 abbrev pub MeansSheet : List Text → Type 0

@@ -28,6 +28,15 @@ pub enum Verb {
     Ledger,
 }
 
+/// The options.
+#[derive(Clone, Copy, PartialEq, Eq, Debug)]
+pub enum Setting {
+    /// `--today`, the business day.
+    Today,
+    /// `--db`, the path of the database that keeps the book.
+    Db,
+}
+
 /// What is wrong with words that mean nothing.
 #[derive(Clone, Copy, PartialEq, Eq, Debug)]
 pub enum Wrong<'a> {
@@ -41,10 +50,10 @@ pub enum Wrong<'a> {
     NoPort(&'a str),
     /// The second operand of `serve` is no count of connections.
     NoCount(&'a str),
-    /// `--today` is given more than once.
-    RepeatedDay,
-    /// `--today` has no value.
-    EmptyDay,
+    /// This option is given more than once.
+    Repeated(Setting),
+    /// This option has no value.
+    NoValue(Setting),
     /// `--today` is not given.
     MissingDay,
     /// No command is given.
@@ -80,7 +89,7 @@ pub fn verb_of(name: &str) -> Option<Verb>
     }
 }
 
-// How a command is written behind the business day.
+// How a command is written behind the options.
 fn usage_of(verb: Option<Verb>) -> &'static str
     ensures { result.now ≡ verb_usage verb }
 {
@@ -127,8 +136,10 @@ impl fmt::Display for Wrong<'_> {
             Wrong::NoMatter(text) => write!(f, "{text} is no matter's number"),
             Wrong::NoPort(text) => write!(f, "{text} is no port from 1024 to 65535"),
             Wrong::NoCount(text) => write!(f, "{text} is no count from 1 to 1000000"),
-            Wrong::RepeatedDay => f.write_str("--today is given twice"),
-            Wrong::EmptyDay => f.write_str("--today has no day"),
+            Wrong::Repeated(Setting::Today) => f.write_str("--today is given twice"),
+            Wrong::Repeated(Setting::Db) => f.write_str("--db is given twice"),
+            Wrong::NoValue(Setting::Today) => f.write_str("--today has no day"),
+            Wrong::NoValue(Setting::Db) => f.write_str("--db has no path"),
             Wrong::MissingDay => f.write_str("--today DAY is missing"),
             Wrong::MissingCommand => f.write_str("a command is missing"),
             Wrong::MissingWord => f.write_str("a word is missing"),
@@ -145,11 +156,11 @@ impl fmt::Display for Advice<'_> {
         match self.wrong {
             None => write!(
                 f,
-                "usage: cashier_cli --today DAY {usage}\nexample: cashier_cli --today 2026-03-31 {example}"
+                "usage: cashier_cli [--db PATH] --today DAY {usage}\nexample: cashier_cli --today 2026-03-31 {example}"
             ),
             Some(wrong) => write!(
                 f,
-                "usage: cashier_cli --today DAY {usage}\nexample: cashier_cli --today 2026-03-31 {example}\n\
+                "usage: cashier_cli [--db PATH] --today DAY {usage}\nexample: cashier_cli --today 2026-03-31 {example}\n\
                 wrong: {wrong}"
             ),
         }

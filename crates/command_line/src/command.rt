@@ -1,9 +1,10 @@
 // The command line.
 
-ghost use Rattle.std.specs.Prelude.{◌≡◌, ◌≢◌, ℕ, IfErr, IfOk, IfSome, IfNone, false};
-ghost use Rattle.clap.specs.Words.{app_of, found_of, kind_of, rows_of, subcommand_rows_of};
+ghost use Rattle.std.specs.Prelude.{◌≡◌, ◌≢◌, ℕ, IfErr, IfOk, IfSome, IfNone, codes, false, option_map};
+ghost use Rattle.clap.specs.Words.{app_of, first_of, found_of, kind_of, rows_of, subcommand_rows_of};
 ghost use Rattle.clap.specs.declared.builder.command.Command.TheViews.{out-Command};
-ghost use Rattle.command_line.specs.Program.{Gives, IsTask, LeavesNoPlan, Means, operand_app, program, run_apps, serve_app, with_commands, words_of};
+ghost use Rattle.command_line.specs.Program.{Gives, IsTask, LeavesNoPlan, Means, db_of, operand_app, options_app};
+ghost use Rattle.command_line.specs.Program.{program, run_apps, serve_app, with_commands, words_of};
 ghost use Rattle.command_line.specs.declared.command.Task.{Task};
 
 use crate::operands::{count_operand, day_operand, port_operand};
@@ -33,11 +34,13 @@ pub enum Task<'a> {
     Report(ReportCommand),
 }
 
-/// A plan of a run: the business day, and what is to be done.
+/// A plan of a run: the business day, where the book is kept, and what is to be done.
 #[derive(Clone, Copy, Debug)]
 pub struct Plan<'a> {
     /// The business day that the run is on.
     pub today: Day,
+    /// The path of the database that keeps the book; none where the book is kept in memory.
+    pub db: Option<&'a str>,
     /// What is to be done.
     pub task: Task<'a>,
 }
@@ -67,12 +70,22 @@ pub fn command<'a>(alloc: Global) -> Result<Command<'a>, CliFault>
     ensures ok { IfOk result (λ c. app_of c ≡ program) }
     ensures err { IfErr result (λ fault. fault ≡ CliFault.Memory) }
 {
+    let with_options = options_command(alloc)?;
+    Ok(with_reports(alloc, with_runs(alloc, with_options)?)?.subcommand_required(true))
+}
+
+// The command line's options.
+fn options_command<'a>(alloc: Global) -> Result<Command<'a>, CliFault>
+    ensures ok { IfOk result (λ c. app_of c ≡ options_app) }
+    ensures err { IfErr result (λ fault. fault ≡ CliFault.Memory) }
+{
     let today = Arg::new(alloc, "today")
         .long("today")
         .required(true)
         .action(ArgAction::Set);
+    let db = Arg::new(alloc, "db").long("db").action(ArgAction::Set);
     let with_day = Command::new(alloc, "cashier_cli").arg(today)?;
-    Ok(with_reports(alloc, with_runs(alloc, with_day)?)?.subcommand_required(true))
+    Ok(with_day.arg(db)?)
 }
 
 // A command line with the commands that are no reports behind its own.
@@ -149,6 +162,8 @@ fn plan_of<'a>(matches: &ArgMatches<'a>) -> Option<Plan<'a>>
     ensures none { IfNone result
         ((today : ℕ) → (task : Task)
         → ¬ Gives (rows_of (found_of matches.now)) (subcommand_rows_of matches.now) today task) }
+    ensures db { IfSome result
+        (λ p. option_map (λ s. s.now) p.db ≡ first_of (codes "db") (rows_of (found_of matches.now))) }
 {
     let Some(today) = day_operand(matches, "today") else {
         return None;
@@ -159,11 +174,16 @@ fn plan_of<'a>(matches: &ArgMatches<'a>) -> Option<Plan<'a>>
     let Some(task) = task_of(name, values) else {
         return None;
     };
-    Some(Plan { today, task })
+    Some(Plan {
+        today,
+        db: matches.get_str("db"),
+        task,
+    })
 }
 
-/// The plan that words mean, the program's name first among them. `Line` comes only where they mean none: the command
-/// line does not take them, asks for help included, or the word of `--today` or an operand is not of its form.
+/// The plan that words mean, the program's name first among them; its `db` is the value of `--db` where that is given,
+/// be it the path of a file or not. `Line` comes only where they mean none: the command line does not take them, asks
+/// for help included, or the word of `--today` or an operand is not of its form.
 ///
 /// `Memory` comes where a growth was refused. That it comes nowhere else can't be said here: by clap's contract a parse
 /// may end by an error of want of memory at any words, and nothing tells whether memory was refused. `cli_fault` tells
@@ -171,6 +191,7 @@ fn plan_of<'a>(matches: &ArgMatches<'a>) -> Option<Plan<'a>>
 pub fn command_of<'a>(alloc: Global, words: &'a [&'a str]) -> Result<Plan<'a>, CliFault>
     ensures plan { IfOk result (λ p. Means (words_of words.entry.now) p.today p.task) }
     ensures none { IfErr result (LeavesNoPlan (words_of words.entry.now)) }
+    ensures db { IfOk result (λ p. option_map (λ s. s.now) p.db ≡ db_of (words_of words.entry.now)) }
 {
     let matches = match command(alloc)?.try_get_matches_from(words) {
         Ok(matches) => matches,

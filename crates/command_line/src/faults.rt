@@ -1,15 +1,16 @@
 // What is wrong with words that mean nothing, as clap's errors on their fronts tell it.
 
-ghost use Rattle.std.specs.Prelude.{◌≡◌, ◌⊎◌, ℕ, IfNone, IfSome, None, [], false};
+ghost use Rattle.std.specs.Prelude.{◌≡◌, ◌⊎◌, ◌<◌, ℕ, IfNone, IfSome, None, [], false, length, true};
 ghost use Rattle.std.specs.List.{list_any};
 ghost use Rattle.clap.specs.Words.{fault_of, found_of, rows_of, subcommand_rows_of};
 ghost use Rattle.trust_base.specs.Texts.{day_of, matter_of};
-ghost use Rattle.command_line.specs.Advice.{FailsAs, IsFront, IsStray, IsWrong, IsWrongOperand, IsWrongToday};
-ghost use Rattle.command_line.specs.Advice.{IsWrongValue, Names, front_by, names_day};
+ghost use Rattle.command_line.specs.Advice.{FailsAs, IsFront, IsWrong, IsWrongOperand, IsWrongToday, IsWrongValue};
+ghost use Rattle.command_line.specs.Advice.{LacksValue, LacksValueAt, Names, front_by, last_setting, names_day};
+ghost use Rattle.command_line.specs.Advice.{names_db, setting_named};
 ghost use Rattle.command_line.specs.Numerals.{IsCount, IsPort};
 ghost use Rattle.command_line.specs.Program.{program, words_of};
 
-use crate::advice::{Advice, Verb, Wrong, verb_of};
+use crate::advice::{Advice, Setting, Verb, Wrong, verb_of};
 use crate::command::command;
 use crate::numerals::{count_of, port_of};
 use clap::ArgMatches;
@@ -41,6 +42,8 @@ enum Front {
     WantsCommand,
     // An option's value is wanted.
     WantsValue,
+    // An option is given again.
+    Repeats,
     // A word is not taken where it stands.
     Strays,
     // They fail otherwise, or memory was wanting.
@@ -57,6 +60,7 @@ fn front_by(failure: Option<ErrorKind>) -> Front
         ErrorKind::MissingRequiredArgument => Front::Met,
         ErrorKind::MissingSubcommand => Front::WantsCommand,
         ErrorKind::InvalidValue => Front::WantsValue,
+        ErrorKind::ArgumentConflict => Front::Repeats,
         ErrorKind::UnknownArgument | ErrorKind::InvalidSubcommand | ErrorKind::TooManyValues =>
             Front::Strays,
         _ => Front::Fails,
@@ -69,15 +73,49 @@ fn front_of<'a>(alloc: Global, words: &'a [&'a str]) -> Front
     front_by(failure_of(alloc, words))
 }
 
-// The first word that the command line does not take where it stands. None also where memory was wanting.
-fn stray_word<'a>(alloc: Global, words: &'a [&'a str]) -> Option<&'a str>
-    ensures { IfSome result (λ word. IsStray (words_of words.entry.now) word.now) }
+// The first word that the command line does not take where it stands, or the option that is given again with it. None
+// also where memory was wanting.
+fn refused_word<'a>(alloc: Global, words: &'a [&'a str]) -> Option<Wrong<'a>>
+    ensures { IfSome result (IsWrong (words_of words.entry.now)) }
 {
     for place in 0..words.len() {
-        match front_of(alloc, &words[..place + 1]) {
-            Front::Strays => return Some(words[place]),
+        let front = &words[..place + 1];
+        match front_of(alloc, front) {
+            Front::Strays => return Some(Wrong::Word(words[place])),
+            Front::Repeats => return Some(Wrong::Repeated(last_setting(front)?)),
             Front::Fails => return None,
             _ => (),
+        }
+    }
+    None
+}
+
+// Whether with the word at this place an option's value is wanted that the next word, if there is one, does not give.
+// No also where memory was wanting.
+fn is_value_lacking<'a>(alloc: Global, words: &'a [&'a str], place: usize) -> bool
+    requires { place < length words.now }
+    ensures { result ≡ true → LacksValueAt (words_of words.entry.now) place }
+{
+    let Front::WantsCommand = front_of(alloc, &words[..place]) else {
+        return false;
+    };
+    let Front::WantsValue = front_of(alloc, &words[..place + 1]) else {
+        return false;
+    };
+    let next = (place + 2).min(words.len());
+    match front_of(alloc, &words[..next]) {
+        Front::WantsValue => true,
+        _ => false,
+    }
+}
+
+// The option that has no value. None also where memory was wanting.
+fn empty_setting<'a>(alloc: Global, words: &'a [&'a str]) -> Option<Setting>
+    ensures { IfSome result (LacksValue (words_of words.entry.now)) }
+{
+    for place in 0..words.len() {
+        if is_value_lacking(alloc, words, place) {
+            return last_setting(&words[..place + 1]);
         }
     }
     None
@@ -107,7 +145,39 @@ fn is_naming_day(word: &str) -> bool
     &bytes[..bytes.len().min(7)] == b"--today".as_slice()
 }
 
-// Whether any word begins so.
+// Whether a word begins as the option of the database does.
+fn is_naming_db(word: &str) -> bool
+    ensures { result ≡ names_db word.now }
+{
+    let bytes = word.as_bytes();
+    &bytes[..bytes.len().min(4)] == b"--db".as_slice()
+}
+
+// The option that a word begins as.
+fn setting_named(word: &str) -> Option<Setting>
+    ensures { result ≡ setting_named word.now }
+{
+    if is_naming_day(word) {
+        Some(Setting::Today)
+    } else if is_naming_db(word) {
+        Some(Setting::Db)
+    } else {
+        None
+    }
+}
+
+// The option that the last of the words that begin as one begins as.
+fn last_setting(words: &[&str]) -> Option<Setting>
+    ensures { result ≡ last_setting (words_of words.now) }
+{
+    let mut last = None;
+    for word in words {
+        last = setting_named(word).or(last);
+    }
+    last
+}
+
+// Whether any word begins as the option of the business day does.
 fn is_day_named(words: &[&str]) -> bool
     ensures { result ≡ list_any names_day (words_of words.now) }
 {
@@ -207,9 +277,8 @@ fn wrong_words<'a>(alloc: Global, words: &'a [&'a str], kind: ErrorKind) -> Opti
                 Some(Wrong::MissingDay)
             }
         }
-        ErrorKind::InvalidValue => Some(Wrong::EmptyDay),
-        ErrorKind::ArgumentConflict => Some(Wrong::RepeatedDay),
-        _ => Some(Wrong::Word(stray_word(alloc, words)?)),
+        ErrorKind::InvalidValue => Some(Wrong::NoValue(empty_setting(alloc, words)?)),
+        _ => refused_word(alloc, words),
     }
 }
 

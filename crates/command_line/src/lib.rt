@@ -9,7 +9,7 @@ mod numerals;
 mod operands;
 mod report_command;
 
-pub use advice::{Advice, Verb, Wrong};
+pub use advice::{Advice, Setting, Verb, Wrong};
 pub use command::{CliFault, Plan, Task, command_of};
 pub use faults::advice_of;
 pub use numerals::{MAX_COUNT, MAX_PORT, MIN_PORT};

@@ -1,4 +1,4 @@
-use Rattle.command_line.proofs.LineFacts.{fails, gives, leaves, means}
+use Rattle.command_line.proofs.LineFacts.{db-is, fails, gives, leaves, means}
 use Rattle.command_line.proofs.command.command_of.Goals as goal
 
 pub returns-in-Err-clause-none : goal.returns-in-Err-clause-none
@@ -8,6 +8,9 @@ returns-in-Err-clause-none c = leaves _ _ (λ line today task says.
 pub returns-in-Some-clause-plan : goal.returns-in-Some-clause-plan
 returns-in-Some-clause-plan c =
     means _ _ c.in-Ok.matches c.in_ok-command.ensures.ok c.in-Ok.ensures.kinds c.in-Ok.ensures.matches _ _ c.in-Some.ensures.some
+
+pub returns-in-Some-clause-db : goal.returns-in-Some-clause-db
+returns-in-Some-clause-db c = db-is _ _ c.in-Ok.matches c.in_ok-command.ensures.ok c.in-Ok.ensures.matches _ c.in-Some.ensures.db
 
 pub returns-clause-none : goal.returns-clause-none
 returns-clause-none c =

@@ -1,4 +1,6 @@
-use Rattle.std.proofs.Common.{◌∙◌, sym}
+use Rattle.std.proofs.Common.{◌∙◌, codes, sym}
+use Rattle.clap.specs.Words.{found_of}
+use Rattle.clap.proofs.WalkLemmas.{first_value-rows}
 use Rattle.command_line.proofs.LineFacts.{meets, met}
 use Rattle.command_line.proofs.command.plan_of.Goals as goal
 
@@ -12,3 +14,6 @@ returns-clause-some c =
       day = sym c.in-Some.ensures;
       meets = meets _ _ _ _ (met c.args.matches.now _ _ (sym command.name) (sym command.rows)) c.in-Some-task_of.ensures.some;
     }
+
+pub returns-clause-db : goal.returns-clause-db
+returns-clause-db c = c.get_str.ensures ∙ first_value-rows (found_of c.args.matches.now) (codes "db")
