@@ -1,6 +1,7 @@
 pub mod CallFacts
 pub mod IsolationFacts
 pub mod ReportFacts
+pub mod RunFacts
 pub mod ServingFacts
 pub mod SheetFacts
 pub mod StatementFacts

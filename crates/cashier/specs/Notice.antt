@@ -4,7 +4,7 @@ use Rattle.std.specs.Borrow.{Bor}
 use Rattle.std.specs.Fmt.{decimal}
 use Rattle.clap.specs.Words.{Text}
 use Rattle.command_line.specs.Advice.{IsWrong, Names, advice_text}
-use Rattle.command_line.specs.Program.{Means, MeansSheet, MeansStream}
+use Rattle.command_line.specs.Program.{Means, MeansSheet, MeansStream, db_of}
 use Rattle.command_line.specs.declared.advice.Advice.{Advice}
 use Rattle.command_line.specs.declared.command.Task.TheVariants as task
 use Rattle.cashier.specs.declared.notice.Notice.{Notice}
@@ -26,6 +26,12 @@ abbrev pub source_line : Option Source → Text
 source_line None = codes "file fault"
 source_line (Some s) = codes "file fault\n" ++ source_text s
 
+-- the line of the book, and of its path where that is known
+abbrev pub book_line : Option (Bor (List ℕ)) → Text
+book_line None = codes "store fault"
+book_line (Some path) = codes "store fault\n" ++ (path.now
+    ++ codes " holds no book of this version, or could not be opened, read or written")
+
 -- the line of the port, where it is known
 abbrev pub port_line : Option ℕ → Text
 port_line None = codes "network fault"
@@ -37,7 +43,7 @@ abbrev pub notice_text : Notice → Text
 notice_text (notice.CommandLine advice) = advice_text advice
 notice_text (notice.FileFault s) = source_line s
 notice_text notice.OutputFault = codes "file fault\nstandard output could not be written"
-notice_text notice.StoreFault = codes "store fault"
+notice_text (notice.StoreFault path) = book_line path
 notice_text notice.MemoryFault = codes "memory fault"
 notice_text (notice.NetworkFault port) = port_line port
 
@@ -57,6 +63,10 @@ IsSource words source.Input = MeansSheet words ⊎ MeansStream words
 abbrev pub IsServedPort : List Text → ℕ → Type 0
 IsServedPort words port = (today : ℕ) × (count : ℕ) × Means words today (task.Serve port count)
 
+-- the words name a book at this path
+abbrev pub IsBookPath : List Text → Text → Type 0
+IsBookPath words path = db_of words ≡ Some path
+
 -- what is told of an outcome of the words: nothing, where all was done or something was refused
 abbrev pub IsTold : List Text → Outcome → Option Notice → Type 0
 IsTold words outcome.Done told = told ≡ None
@@ -66,7 +76,8 @@ IsTold words outcome.CommandLine told =
 IsTold words outcome.FileFault told =
     (s : Option Source) × IfSome s (IsSource words) × (told ≡ Some (notice.FileFault s))
 IsTold words outcome.OutputFault told = told ≡ Some notice.OutputFault
-IsTold words outcome.StoreFault told = told ≡ Some notice.StoreFault
+IsTold words outcome.StoreFault told =
+    (path : Option (Bor (List ℕ))) × IfSome path (λ p. IsBookPath words p.now) × (told ≡ Some (notice.StoreFault path))
 IsTold words outcome.MemoryFault told = told ≡ Some notice.MemoryFault
 IsTold words outcome.NetworkFault told =
     (port : Option ℕ) × IfSome port (IsServedPort words) × (told ≡ Some (notice.NetworkFault port))

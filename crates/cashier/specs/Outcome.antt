@@ -1,11 +1,14 @@
 -- How a run of the program ends for its caller, and its exit status.
-use Rattle.std.specs.Prelude.{◌≡◌, ◌≢◌, ◌⊎◌, ◌++◌, ℕ, List, [], Option, Some, None, IfSome, codes, ⊤}
+use Rattle.std.specs.Prelude.{◌≡◌, ◌≢◌, ◌⊎◌, ◌++◌, ℕ, List, [], Option, Some, None, IfSome, Result, Ok, Err, codes, ⊤}
 use Rattle.std.specs.Borrow.{Bor}
 use Rattle.std.specs.Io.KnownBytes.{Appends}
 use Rattle.clap.specs.Words.{Text}
 use Rattle.firm_rows.specs.Firm.{Firm, empty_firm}
 use Rattle.firm_rows.specs.FirmSound.{FirmSound}
-use Rattle.command_line.specs.Program.{Means, MeansNothing}
+use Rattle.trust_base.specs.declared.refusal.StoreFault.{StoreFault}
+use Rattle.trust_base.specs.declared.refusal.StoreFault.TheVariants as faults
+use Rattle.command_line.specs.Program.{Means, MeansNothing, db_of}
+use Rattle.cashier.specs.Calls.{CountsStore, LeavesBook}
 use Rattle.cashier.specs.Report.{PrintsReport}
 use Rattle.cashier.specs.Serving.{PortEnds}
 use Rattle.cashier.specs.Sheet.{Ends}
@@ -41,6 +44,23 @@ abbrev pub words_outcome : ErrorKind → Outcome
 words_outcome kind.OutOfMemory = outcome.MemoryFault
 words_outcome _ = outcome.CommandLine
 
+-- what a store that refuses a run its book is to the program
+abbrev pub store_outcome : StoreFault → Outcome
+store_outcome faults.Store = outcome.StoreFault
+store_outcome faults.Memory = outcome.MemoryFault
+
+-- what a run that ended so is to the program, once its book was put back, or could not be: no other fault gives way
+abbrev pub put_outcome : Outcome → Result Unit StoreFault → Outcome
+put_outcome ended (Ok done) = ended
+put_outcome outcome.Done (Err fault) = store_outcome fault
+put_outcome outcome.Refused (Err fault) = store_outcome fault
+put_outcome outcome.CommandLine (Err fault) = outcome.CommandLine
+put_outcome outcome.FileFault (Err fault) = outcome.FileFault
+put_outcome outcome.OutputFault (Err fault) = outcome.OutputFault
+put_outcome outcome.StoreFault (Err fault) = outcome.StoreFault
+put_outcome outcome.MemoryFault (Err fault) = outcome.MemoryFault
+put_outcome outcome.NetworkFault (Err fault) = outcome.NetworkFault
+
 -- what the end of a sheet is to the program
 abbrev pub sheet_outcome : SheetEnd → Outcome
 sheet_outcome sheet.Done = outcome.Done
@@ -68,7 +88,7 @@ stream_outcome stream.ReadFault = outcome.FileFault
 stream_outcome stream.WriteFault = outcome.OutputFault
 stream_outcome stream.NoMemory = outcome.MemoryFault
 
--- the words were understood, and their task began
+-- the words were understood
 abbrev pub HasBegun : Outcome → Type 0
 HasBegun outcome.Done = ⊤
 HasBegun outcome.Refused = ⊤
@@ -169,13 +189,45 @@ Ran words input known opens clients before after old new told =
     ⊎ (RanServe words clients before after old new told
     ⊎ (RanReport words before after old new told ⊎ RanNothing before after old new told))))
 
--- the run of words over a book that begins without rows: it ended at the command line only where they mean nothing;
--- they mean what was begun; and, of any other end, what became of the sheet, the file, the stream, the port or the
--- report, and the firm that is left is sound
-pub record HasRun (words : List Text) (input : Option (List ℕ)) (known : Text → Option (List ℕ))
-    (opens : Text → Option (Option ℕ) → Type 0) (clients : ℕ → ℕ → Option (List ℕ)) (old new : Option (List ℕ))
-    (told : Outcome) : Type 0 where
+-- what became of a run over a book in memory, which begins without rows and is given up at the end: the firm that was
+-- left is sound. `runs` is what became of the words, by the firm before and after and the outcome
+abbrev pub RanInMemory : (Firm → Firm → Outcome → Type 0) → Outcome → Type 0
+RanInMemory runs told = (after : Firm) × FirmSound after × runs empty_firm after told
+
+-- what became of a run over the book that was found at a path, of which the store keeps such firms: it serves, and the
+-- run ended so over it; then it was put back, or could not be. What is said of the firm holds where the book's store is
+-- clean once all was run, and where it stood for a sound firm as it was found
+pub record RanAtPath {B : Type 0} (clean sure stands : B → Type 0) (firm : B → Firm) (refusals : B → ℕ)
+    (keeps : Firm → Type 0) (runs : Firm → Firm → Outcome → Type 0) (told : Outcome) : Type 0 where
+  pub before : B
+  pub found : sure before → keeps (firm before)
+  pub serves : sure before → clean before
+  pub after : B
+  pub ended : Outcome
+  pub kept : LeavesBook clean sure stands refusals (CountsStore outcome.StoreFault ended) before after
+  pub sound : clean after → stands before → FirmSound (firm after)
+  pub ran : clean after → stands before → runs (firm before) (firm after) ended
+  pub put : Result Unit StoreFault
+  pub outcome : told ≡ put_outcome ended put
+
+-- no book could be had, and nothing was done
+pub record HadNoBook (untouched : Type 0) (told : Outcome) : Type 0 where
+  pub fault : StoreFault
+  pub outcome : told ≡ store_outcome fault
+  pub nothing : untouched
+
+-- the run of words over a book: it ended at the command line only where they mean nothing; they mean what was begun;
+-- and of any other end, what became of the sheet, the file, the stream, the port or the report, and of the firm: over
+-- a book in memory where `--db` names no path, and else over that at its path, of which the store keeps such firms, if
+-- that could be had
+pub record HasRun {B : Type 0} (clean sure stands : B → Type 0) (firm : B → Firm) (refusals : B → ℕ)
+    (keeps : Text → Firm → Type 0) (untouched : Type 0) (words : List Text) (input : Option (List ℕ))
+    (known : Text → Option (List ℕ)) (opens : Text → Option (Option ℕ) → Type 0)
+    (clients : ℕ → ℕ → Option (List ℕ)) (old new : Option (List ℕ)) (told : Outcome) : Type 0 where
   pub line : told ≡ outcome.CommandLine → MeansNothing words
   pub meant : HasBegun told → (today : ℕ) × (task : Task) × Means words today task
-  pub ends : told ≢ outcome.CommandLine → (after : Firm) × FirmSound after
-      × Ran words input known opens clients empty_firm after old new told
+  pub in_memory : db_of words ≡ None → told ≢ outcome.CommandLine
+      → RanInMemory (λ before after. Ran words input known opens clients before after old new) told
+  pub at_path : (path : Text) → db_of words ≡ Some path → told ≢ outcome.CommandLine
+      → RanAtPath clean sure stands firm refusals (keeps path)
+      (λ before after. Ran words input known opens clients before after old new) told ⊎ HadNoBook untouched told

@@ -2,7 +2,7 @@
 
 ghost use Rattle.std.specs.Prelude.{◌≡◌, IfSome, List, Some};
 ghost use Rattle.clap.specs.Words.{Text};
-ghost use Rattle.cashier.specs.Notice.{IsServedPort, IsSource, IsTold, notice_text, source_text};
+ghost use Rattle.cashier.specs.Notice.{IsBookPath, IsServedPort, IsSource, IsTold, notice_text, source_text};
 ghost use Rattle.command_line.specs.Program.{words_of};
 
 use crate::outcome::Outcome;
@@ -28,8 +28,8 @@ pub enum Notice<'a> {
     FileFault(Option<Source<'a>>),
     /// Standard output could not be written.
     OutputFault,
-    /// The store refused a call.
-    StoreFault,
+    /// The book at this path could not be had, read or written.
+    StoreFault(Option<&'a str>),
     /// A growth was refused.
     MemoryFault,
     /// This port could not be had, or an accept on it was refused.
@@ -56,7 +56,11 @@ impl fmt::Display for Notice<'_> {
             Notice::FileFault(None) => f.write_str("file fault"),
             Notice::FileFault(Some(source)) => write!(f, "file fault\n{source}"),
             Notice::OutputFault => f.write_str("file fault\nstandard output could not be written"),
-            Notice::StoreFault => f.write_str("store fault"),
+            Notice::StoreFault(None) => f.write_str("store fault"),
+            Notice::StoreFault(Some(path)) => write!(
+                f,
+                "store fault\n{path} holds no book of this version, or could not be opened, read or written"
+            ),
             Notice::MemoryFault => f.write_str("memory fault"),
             Notice::NetworkFault(None) => f.write_str("network fault"),
             Notice::NetworkFault(Some(port)) => write!(
@@ -80,6 +84,16 @@ fn source_of<'a>(alloc: Global, words: &'a [&'a str]) -> Option<Source<'a>>
         Task::Stream => Some(Source::Input),
         _ => None,
     }
+}
+
+// The path of the book that words name.
+fn book_path<'a>(alloc: Global, words: &'a [&'a str]) -> Option<&'a str>
+    ensures { IfSome result (λ path. IsBookPath (words_of words.entry.now) path.now) }
+{
+    let Ok(plan) = command_of(alloc, words) else {
+        return None;
+    };
+    plan.db
 }
 
 // The port whose clients words mean that are served.
@@ -108,7 +122,7 @@ pub fn bare_notice_of(outcome: Outcome) -> Option<Notice<'static>>
         })),
         Outcome::FileFault => Some(Notice::FileFault(None)),
         Outcome::OutputFault => Some(Notice::OutputFault),
-        Outcome::StoreFault => Some(Notice::StoreFault),
+        Outcome::StoreFault => Some(Notice::StoreFault(None)),
         Outcome::MemoryFault => Some(Notice::MemoryFault),
         Outcome::NetworkFault => Some(Notice::NetworkFault(None)),
     }
@@ -122,6 +136,7 @@ pub fn notice_of<'a>(alloc: Global, outcome: Outcome, words: &'a [&'a str]) -> O
     match outcome {
         Outcome::CommandLine => Some(Notice::CommandLine(advice_of(alloc, words))),
         Outcome::FileFault => Some(Notice::FileFault(source_of(alloc, words))),
+        Outcome::StoreFault => Some(Notice::StoreFault(book_path(alloc, words))),
         Outcome::NetworkFault => Some(Notice::NetworkFault(port_served(alloc, words))),
         _ => bare_notice_of(outcome),
     }

@@ -4,7 +4,7 @@ ghost use Rattle.std.specs.Prelude.{◌≡◌};
 ghost use Rattle.std.specs.Process.{exit_status as process_status};
 ghost use Rattle.cashier.specs.Report.{reply_outcome};
 ghost use Rattle.cashier.specs.Serving.{serving_outcome};
-ghost use Rattle.cashier.specs.Outcome.{exit_status};
+ghost use Rattle.cashier.specs.Outcome.{exit_status, put_outcome, store_outcome};
 ghost use Rattle.cashier.specs.Outcome.{sheet_outcome, statement_outcome, stream_outcome, words_outcome};
 
 use crate::reply_kind::ReplyKind;
@@ -13,6 +13,7 @@ use crate::statement::StatementEnd;
 use portal_server::{ServeEnd, StreamEnd};
 use std::io::ErrorKind;
 use std::process::ExitCode;
+use trust_base::StoreFault;
 
 /// How a run of the program ended.
 #[derive(Clone, Copy, PartialEq, Eq, Debug)]
@@ -27,7 +28,7 @@ pub enum Outcome {
     FileFault,
     /// A write to standard output failed.
     OutputFault,
-    /// The store refused a call.
+    /// The book could not be had from its store or put back there, or the store refused a call.
     StoreFault,
     /// A growth was refused.
     MemoryFault,
@@ -66,6 +67,34 @@ pub fn outcome_of_words(kind: ErrorKind) -> Outcome
     match kind {
         ErrorKind::OutOfMemory => Outcome::MemoryFault,
         _ => Outcome::CommandLine,
+    }
+}
+
+/// The outcome of a run whose store refused it its book.
+pub fn outcome_of_store(fault: StoreFault) -> Outcome
+    ensures { result ≡ store_outcome fault }
+{
+    match fault {
+        StoreFault::Store => Outcome::StoreFault,
+        StoreFault::Memory => Outcome::MemoryFault,
+    }
+}
+
+/// The outcome of a run that ended so, once its book was to be put back: a fault of that is told where no other was.
+pub fn outcome_put_back(ended: Outcome, put: Result<(), StoreFault>) -> Outcome
+    ensures { result ≡ put_outcome ended put }
+{
+    match put {
+        Ok(()) => ended,
+        Err(fault) => match ended {
+            Outcome::Done | Outcome::Refused => outcome_of_store(fault),
+            Outcome::CommandLine
+            | Outcome::FileFault
+            | Outcome::OutputFault
+            | Outcome::StoreFault
+            | Outcome::MemoryFault
+            | Outcome::NetworkFault => ended,
+        },
     }
 }
 

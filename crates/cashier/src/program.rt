@@ -2,19 +2,23 @@
 
 ghost use Rattle.std.specs.Prelude.{◌≡◌, ◌≢◌, ◌⊎◌, ℕ, IfErr, IfOk, map};
 ghost use Rattle.std.specs.String.{string_bytes};
+ghost use Rattle.clap.specs.Words.{Text};
 ghost use Rattle.cashier.specs.Calls.{CountsStore, LeavesBook};
-ghost use Rattle.cashier.specs.Outcome.{FileEnds, HasBegun, HasRun, IsServed, Ran, words_outcome};
+ghost use Rattle.cashier.specs.Outcome.{FileEnds, HadNoBook, HasBegun, HasRun, IsServed, Ran};
+ghost use Rattle.cashier.specs.Outcome.{RanAtPath, RanInMemory, words_outcome};
 ghost use Rattle.command_line.specs.Program.{Means, MeansNothing, MeansSheet, MeansStream, words_of};
 ghost use Rattle.command_line.specs.declared.command.Task.{Task};
 
 use crate::folder::Folder;
 use crate::outcome::{
-    Outcome, outcome_of_sheet, outcome_of_statement, outcome_of_stream, outcome_of_words,
+    Outcome, outcome_of_sheet, outcome_of_statement, outcome_of_store, outcome_of_stream,
+    outcome_of_words, outcome_put_back,
 };
 use crate::report::run_report;
 use crate::serving::run_serve;
 use crate::sheet::run_sheet;
 use crate::statement::run_import;
+use crate::stores::Stores;
 use crate::surroundings::Surroundings;
 use command_line::{CliFault, Plan, Task, command_of};
 use portal_server::{Network, serve_stream};
@@ -78,13 +82,13 @@ fn serve_input<R: Read, W: Write, B: Book>(
     outcome_of_stream(serve_stream(alloc, reader, writer, desk, today))
 }
 
-/// Runs what the program's words ask for, its name first among them, over a desk, with `reader` and `writer` for
-/// standard input and output. Where the command line is at fault nothing is read, run or written; nor where a
-/// growth was refused before its plan was known, and the outcome is `MemoryFault` then. Else the outcome is that of
-/// the sheet's, the statement's or the stream's end, or the report's own, or `FileFault` where the statement can't be
-/// opened, or that of serving clients, `NetworkFault` where their port can't be had or an accept was refused. Standard
-/// input is read only for a sheet or a stream. A stream goes by its end alone, and serving clients by its own: neither
-/// is ever `StoreFault`, since what the store refused was answered to its message.
+/// Runs what the program's words ask for, its name first among them, over a desk, whatever book `--db` names among
+/// them. Where the command line is at fault nothing is read, run or written; nor where a growth was refused before its
+/// plan was known, and the outcome is `MemoryFault` then. Else the outcome is that of the sheet's, the statement's or
+/// the stream's end, or the report's own, or `FileFault` where the statement can't be opened, or that of serving
+/// clients, `NetworkFault` where their port can't be had or an accept was refused. Standard input is read only for a
+/// sheet or a stream. A stream goes by its end alone, and serving clients by its own: neither is ever `StoreFault`,
+/// since what the store refused was answered to its message.
 pub fn run_words<'a, R: Read, F: Folder, C: Clock + Drop, N: Network, W: Write, B: Book>(
     alloc: Global,
     words: &'a [&'a str],
@@ -111,7 +115,7 @@ pub fn run_words<'a, R: Read, F: Folder, C: Clock + Drop, N: Network, W: Write, 
     ensures kept { LeavesBook B.clean B.sure B.stands B.refusals (CountsStore Outcome.StoreFault result)
         desk.old desk.new }
 {
-    let Plan { today, task } = match command_of(alloc, words) {
+    let Plan { today, task, db: _ } = match command_of(alloc, words) {
         Ok(plan) => plan,
         Err(CliFault::Line) => return Outcome::CommandLine,
         Err(CliFault::Memory) => return Outcome::MemoryFault,
@@ -125,16 +129,102 @@ pub fn run_words<'a, R: Read, F: Folder, C: Clock + Drop, N: Network, W: Write, 
     }
 }
 
-/// Runs what the program's words ask for over a book that is kept in memory, begins without rows and is given up at
-/// the end. The firm that is left then is sound, as it is after each record, each line of a statement and each message.
-pub fn run_in_memory<'a, R: Read, F: Folder, C: Clock + Drop, N: Network, W: Write>(
+// Runs words that mean something over a book that is kept in memory, begins without rows and is given up at the end.
+fn run_in_memory<'a, R: Read, F: Folder, C: Clock + Drop, N: Network, W: Write>(
     alloc: Global,
     words: &'a [&'a str],
     reader: &mut R,
     around: Surroundings<'_, F, C, N>,
     writer: &mut W,
 ) -> Outcome
-    ensures ran { HasRun (words_of words.entry.now) (R.remaining reader.old) (F.known around.entry.folder.now)
+    ensures began { (today : ℕ) → (task : Task) → Means (words_of words.entry.now) today task
+        → result ≢ Outcome.CommandLine }
+    ensures input { MeansSheet (words_of words.entry.now)
+        ⊎ (MeansStream (words_of words.entry.now) ⊎ (reader.new ≡ reader.old)) }
+    ensures ran { result ≢ Outcome.CommandLine
+        → RanInMemory (λ before after. Ran (words_of words.entry.now) (R.remaining reader.old)
+        (F.known around.entry.folder.now) (F.opens around.entry.folder.now) (N.clients around.entry.network.now)
+        before after (W.contents writer.old) (W.contents writer.new)) result }
+{
+    let mut desk = Desk::new(PlainBook::new(alloc));
+    run_words(alloc, words, reader, around, writer, &mut desk)
+}
+
+// Runs words that mean something over a book of a store, and puts the book back.
+fn run_over_book<'a, R: Read, F: Folder, C: Clock + Drop, N: Network, S: Stores, W: Write>(
+    alloc: Global,
+    words: &'a [&'a str],
+    reader: &mut R,
+    around: Surroundings<'_, F, C, N>,
+    stores: &S,
+    book: S::AtPath,
+    writer: &mut W,
+) -> Outcome
+    ensures began { (today : ℕ) → (task : Task) → Means (words_of words.entry.now) today task
+        → result ≢ Outcome.CommandLine }
+    ensures input { MeansSheet (words_of words.entry.now)
+        ⊎ (MeansStream (words_of words.entry.now) ⊎ (reader.new ≡ reader.old)) }
+    ensures ran { (path : Text) → (S.AtPath.sure book → S.keeps stores.now path (S.AtPath.firm book))
+        → (S.AtPath.sure book → S.AtPath.clean book) → result ≢ Outcome.CommandLine
+        → RanAtPath S.AtPath.clean S.AtPath.sure S.AtPath.stands S.AtPath.firm S.AtPath.refusals
+        (S.keeps stores.now path) (λ before after. Ran (words_of words.entry.now) (R.remaining reader.old)
+        (F.known around.entry.folder.now) (F.opens around.entry.folder.now) (N.clients around.entry.network.now)
+        before after (W.contents writer.old) (W.contents writer.new)) result }
+{
+    let mut desk = Desk::new(book);
+    let ended = run_words(alloc, words, reader, around, writer, &mut desk);
+    let put = stores.put_back(desk.into_book());
+    outcome_put_back(ended, put)
+}
+
+// Runs words that mean something over the book at a path, where that can be had.
+fn run_at_path<'a, R: Read, F: Folder, C: Clock + Drop, N: Network, S: Stores, W: Write>(
+    alloc: Global,
+    words: &'a [&'a str],
+    path: &str,
+    reader: &mut R,
+    around: Surroundings<'_, F, C, N>,
+    stores: &S,
+    writer: &mut W,
+) -> Outcome
+    ensures began { (today : ℕ) → (task : Task) → Means (words_of words.entry.now) today task
+        → result ≢ Outcome.CommandLine }
+    ensures input { MeansSheet (words_of words.entry.now)
+        ⊎ (MeansStream (words_of words.entry.now) ⊎ (reader.new ≡ reader.old)) }
+    ensures ran { result ≢ Outcome.CommandLine
+        → RanAtPath S.AtPath.clean S.AtPath.sure S.AtPath.stands S.AtPath.firm S.AtPath.refusals
+        (S.keeps stores.now path.now) (λ before after. Ran (words_of words.entry.now) (R.remaining reader.old)
+        (F.known around.entry.folder.now) (F.opens around.entry.folder.now) (N.clients around.entry.network.now)
+        before after (W.contents writer.old) (W.contents writer.new)) result
+        ⊎ HadNoBook ((reader.new ≡ reader.old) × (writer.new ≡ writer.old)) result }
+{
+    match stores.at(alloc, path) {
+        Ok(book) => run_over_book(alloc, words, reader, around, stores, book, writer),
+        Err(fault) => outcome_of_store(fault),
+    }
+}
+
+/// Runs what the program's words ask for over the book that is kept at the path of `--db`, or, where `--db` names none,
+/// over one that is kept in memory, begins without rows and is given up at the end.
+///
+/// Where the command line is at fault nothing is read, run or written, and no book is asked for; nor is it where a
+/// growth was refused before the plan was known. Where the book can't be had nothing is read or written, and no file or
+/// port is asked for: the outcome is `StoreFault`, or `MemoryFault` where a growth was refused. Else it is that of the
+/// task (`run_words`). Then the book is put back at its path. Where that fails, and the task ended by no fault, the
+/// outcome is `StoreFault` or `MemoryFault` too: what was accepted is kept all the same.
+///
+/// The firm that is left in memory is sound, as it is after each record, each line of a statement and each message.
+pub fn run_over_stores<'a, R: Read, F: Folder, C: Clock + Drop, N: Network, S: Stores, W: Write>(
+    alloc: Global,
+    words: &'a [&'a str],
+    reader: &mut R,
+    around: Surroundings<'_, F, C, N>,
+    stores: &S,
+    writer: &mut W,
+) -> Outcome
+    ensures ran { HasRun S.AtPath.clean S.AtPath.sure S.AtPath.stands S.AtPath.firm S.AtPath.refusals
+        (S.keeps stores.now) ((reader.new ≡ reader.old) × (writer.new ≡ writer.old))
+        (words_of words.entry.now) (R.remaining reader.old) (F.known around.entry.folder.now)
         (F.opens around.entry.folder.now) (N.clients around.entry.network.now) (W.contents writer.old)
         (W.contents writer.new) result }
     ensures unread { result ≡ Outcome.CommandLine → reader.new ≡ reader.old }
@@ -142,23 +232,32 @@ pub fn run_in_memory<'a, R: Read, F: Folder, C: Clock + Drop, N: Network, W: Wri
     ensures input { MeansSheet (words_of words.entry.now)
         ⊎ (MeansStream (words_of words.entry.now) ⊎ (reader.new ≡ reader.old)) }
 {
-    let mut desk = Desk::new(PlainBook::new(alloc));
-    run_words(alloc, words, reader, around, writer, &mut desk)
+    match command_of(alloc, words) {
+        Ok(plan) => match plan.db {
+            Some(path) => run_at_path(alloc, words, path, reader, around, stores, writer),
+            None => run_in_memory(alloc, words, reader, around, writer),
+        },
+        Err(CliFault::Line) => Outcome::CommandLine,
+        Err(CliFault::Memory) => Outcome::MemoryFault,
+    }
 }
 
-/// Runs the program on the words that it was called with, its name first among them, as `run_in_memory` does.
+/// Runs the program on the words that it was called with, its name first among them, as `run_over_stores` does.
 ///
 /// Where the words can't be told, nothing is read, run or written: the outcome is `MemoryFault` where a growth was
 /// refused, and `CommandLine` where a word is no text.
-pub fn run_called<R: Read, F: Folder, C: Clock + Drop, N: Network, W: Write>(
+pub fn run_called<R: Read, F: Folder, C: Clock + Drop, N: Network, S: Stores, W: Write>(
     alloc: Global,
     called: &Result<Vec<String>, ErrorKind>,
     reader: &mut R,
     around: Surroundings<'_, F, C, N>,
+    stores: &S,
     writer: &mut W,
 ) -> Outcome
     ensures ran { IfOk called.now
-        (λ words. HasRun (map string_bytes words.items) (R.remaining reader.old) (F.known around.entry.folder.now)
+        (λ words. HasRun S.AtPath.clean S.AtPath.sure S.AtPath.stands S.AtPath.firm S.AtPath.refusals
+        (S.keeps stores.now) ((reader.new ≡ reader.old) × (writer.new ≡ writer.old))
+        (map string_bytes words.items) (R.remaining reader.old) (F.known around.entry.folder.now)
         (F.opens around.entry.folder.now) (N.clients around.entry.network.now) (W.contents writer.old)
         (W.contents writer.new) result) }
     ensures unread { result ≡ Outcome.CommandLine → reader.new ≡ reader.old }
@@ -178,5 +277,5 @@ pub fn run_called<R: Read, F: Folder, C: Clock + Drop, N: Network, W: Write>(
     let Ok(texts) = texts_of(alloc, words.as_slice()) else {
         return Outcome::MemoryFault;
     };
-    run_in_memory(alloc, texts.as_slice(), reader, around, writer)
+    run_over_stores(alloc, texts.as_slice(), reader, around, stores, writer)
 }

@@ -6,6 +6,7 @@ use crate::folder::{Folder, Opened};
 use crate::notice::{Notice, bare_notice_of, notice_of};
 use crate::outcome::{Outcome, exit_of};
 use crate::program::{run_called, texts_of};
+use crate::stores::Stores;
 use crate::surroundings::Surroundings;
 use portal_server::SystemNetwork;
 use std::fs::{self, OpenFile};
@@ -71,13 +72,15 @@ fn tell_outcome(
     }
 }
 
-/// The whole program: runs what the words that it was called with ask for, over standard input, standard output and
-/// the system's files and ports, tells standard error of a fault or of wrong words, and answers the exit status.
+/// The whole program: runs what the words that it was called with ask for, over standard input, standard output, the
+/// system's files and ports and the books of `stores`, tells standard error of a fault or of wrong words, and answers
+/// the exit status.
 ///
 /// It joins `run_called`, `notice_of` and `exit_of`, whose contracts say what a run does, what is told of it and how it
 /// ends. What the system's words, files, streams and clients hold no contract can tell, so there is none here.
-pub fn run_on_system(
+pub fn run_on_system<S: Stores>(
     rt: &(impl Env + Input + Files + Print + Eprint + Clock + Net + Drop + AllocGlobal),
+    stores: &S,
 ) -> ExitCode {
     let around = Surroundings {
         folder: &SystemFiles { rt },
@@ -90,6 +93,7 @@ pub fn run_on_system(
         &called,
         &mut rt.reader(),
         around,
+        stores,
         &mut io::writer(rt),
     );
     tell_outcome(rt, outcome, &called);

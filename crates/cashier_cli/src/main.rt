@@ -4,7 +4,8 @@
 
 use cashier::run_on_system;
 use std::process::ExitCode;
+use system_store::SystemStores;
 
 fn main(rt: HostRuntime) -> ExitCode {
-    run_on_system(&rt)
+    run_on_system(&rt, &SystemStores { rt: &rt })
 }

@@ -2,9 +2,9 @@
 //! is 1.
 #![tactic(auto)]
 
-use cashier::run_on_system;
+use cashier::{NoStores, run_on_system};
 use std::process::ExitCode;
 
 fn main(rt: HostRuntime) -> ExitCode {
-    run_on_system(&rt)
+    run_on_system(&rt, &NoStores)
 }

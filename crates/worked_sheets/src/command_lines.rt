@@ -100,7 +100,31 @@ fn refuses_other_lines(rt: HostRuntime) {
     );
     assert_line(
         &rt,
-        &["cashier_cli", "--db", "x", "--today", "2024-01-10", "sheet"],
+        &[
+            "cashier_cli",
+            "--db",
+            "x",
+            "--db=x",
+            "--today",
+            "2024-01-10",
+            "sheet",
+        ],
+    );
+    assert_line(&rt, &["cashier_cli", "--db", "x", "sheet"]);
+    assert_line(
+        &rt,
+        &["cashier_cli", "--today", "2024-01-10", "sheet", "--db", "x"],
+    );
+    assert_line(
+        &rt,
+        &[
+            "cashier_cli",
+            "--book",
+            "x",
+            "--today",
+            "2024-01-10",
+            "sheet",
+        ],
     );
     assert_line(&rt, &["cashier_cli", "--help"]);
     assert_line(&rt, &["cashier_cli", "help"]);

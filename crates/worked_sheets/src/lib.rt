@@ -1,5 +1,5 @@
-//! Worked cases of day sheets, statements, streams, ports, reports, command lines and notices, as tests of the cashier's
-//! program from bytes to bytes.
+//! Worked cases of day sheets, statements, streams, ports, reports, stores, command lines and notices, as tests of the
+//! cashier's program from bytes to bytes.
 #![tactic(auto)]
 
 #[cfg(test)]
@@ -20,5 +20,7 @@ mod runs;
 mod sheets;
 #[cfg(test)]
 mod statements;
+#[cfg(test)]
+mod stores;
 #[cfg(test)]
 mod streams;

@@ -2,7 +2,8 @@
 
 use crate::runs::TrialFolder;
 use cashier::{
-    AcceptFault, ClientListener, Connection, Network, Outcome, Surroundings, run_in_memory,
+    AcceptFault, ClientListener, Connection, Network, NoStores, Outcome, Stores, Surroundings,
+    run_over_stores,
 };
 use std::alloc::Global;
 use std::io;
@@ -144,10 +145,22 @@ pub fn run_over<'a>(
     folder: &TrialFolder,
     writer: &mut TrialWriter,
 ) -> Outcome {
+    run_beside(alloc, words, reader, folder, &NoStores, writer)
+}
+
+/// The same, beside these stores.
+pub fn run_beside<'a, S: Stores>(
+    alloc: Global,
+    words: &'a [&'a str],
+    reader: &mut TrialReader<'_>,
+    folder: &TrialFolder,
+    stores: &S,
+    writer: &mut TrialWriter,
+) -> Outcome {
     let around = Surroundings {
         folder,
         clock: &CLOCK,
         network: &NO_NETWORK,
     };
-    run_in_memory(alloc, words, reader, around, writer)
+    run_over_stores(alloc, words, reader, around, stores, writer)
 }

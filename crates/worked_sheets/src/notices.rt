@@ -5,7 +5,7 @@ use std::process::Abort;
 use std::test::Fail;
 
 const PROGRAM: &str =
-    "usage: cashier_cli --today DAY (sheet | import FILE | stream | serve PORT COUNT | \
+    "usage: cashier_cli [--db PATH] --today DAY (sheet | import FILE | stream | serve PORT COUNT | \
     reconcile DAY | trial | journal | retention | ledger MATTER)\n\
     example: cashier_cli --today 2026-03-31 reconcile 2026-03-31";
 
@@ -33,7 +33,7 @@ fn check_named(
     let notice = notice_of(rt.alloc(), Outcome::CommandLine, words).ok_or("a notice")?;
     let told = format!(in rt.alloc(); "{notice}")?;
     let lines = format!(in rt.alloc();
-        "usage: cashier_cli --today DAY {usage}\nexample: cashier_cli --today 2026-03-31 {example}\n\
+        "usage: cashier_cli [--db PATH] --today DAY {usage}\nexample: cashier_cli --today 2026-03-31 {example}\n\
         wrong: {wrong}"
     )?;
     assert_eq!(rt; told.as_str(), lines.as_str(), "{words:?}");
@@ -108,8 +108,15 @@ fn names_the_operand_that_is_wrong(rt: HostRuntime) -> Result<(), Fail> {
 fn names_the_word_that_is_not_taken(rt: HostRuntime) -> Result<(), Fail> {
     let words = &["cashier_cli", "--today", "2026-03-31", "improt", "sheet"];
     check_unnamed(&rt, words, "improt is not taken here")?;
-    let words = &["cashier_cli", "--db", "x", "--today", "2026-03-31", "sheet"];
-    check_unnamed(&rt, words, "--db is not taken here")?;
+    let words = &[
+        "cashier_cli",
+        "--book",
+        "x",
+        "--today",
+        "2026-03-31",
+        "sheet",
+    ];
+    check_unnamed(&rt, words, "--book is not taken here")?;
     let words = &[
         "cashier_cli",
         "--today",
@@ -123,7 +130,82 @@ fn names_the_word_that_is_not_taken(rt: HostRuntime) -> Result<(), Fail> {
     check_named(&rt, words, import, example, "b.csv is not taken here")?;
     let words = &["cashier_cli", "stream", "--today", "2026-03-31"];
     let example = "stream < messages.http";
-    check_named(&rt, words, "stream", example, "--today is not taken here")
+    check_named(&rt, words, "stream", example, "--today is not taken here")?;
+    let words = &[
+        "cashier_cli",
+        "--today",
+        "2026-03-31",
+        "stream",
+        "--db",
+        "x",
+    ];
+    check_named(&rt, words, "stream", example, "--db is not taken here")
+}
+
+#[test]
+fn names_the_command_behind_both_options(rt: HostRuntime) -> Result<(), Fail> {
+    let words = &["cashier_cli", "--db", "x", "--today", "31.3.2026", "trial"];
+    check_named(&rt, words, "trial", "trial", "31.3.2026 is no day")?;
+    let words = &["cashier_cli", "--today", "31.3.2026", "--db=x", "trial"];
+    check_named(&rt, words, "trial", "trial", "31.3.2026 is no day")?;
+    let words = &[
+        "cashier_cli",
+        "--db",
+        "--db",
+        "--today",
+        "2026-03-31",
+        "trial",
+    ];
+    check_unnamed(&rt, words, "--db has no path")?;
+    let words = &["cashier_cli", "--db", "sheet"];
+    check_unnamed(&rt, words, "a command is missing")?;
+    let words = &["cashier_cli", "--db", "", "trial"];
+    check_named(&rt, words, "trial", "trial", "--today DAY is missing")
+}
+
+#[test]
+fn names_the_option_that_is_given_twice(rt: HostRuntime) -> Result<(), Fail> {
+    let words = &[
+        "cashier_cli",
+        "--db",
+        "x",
+        "--today",
+        "2026-03-31",
+        "--db",
+        "y",
+        "trial",
+    ];
+    check_unnamed(&rt, words, "--db is given twice")?;
+    let words = &[
+        "cashier_cli",
+        "--db",
+        "x",
+        "--db=--today",
+        "--today",
+        "2026-03-31",
+        "trial",
+    ];
+    check_unnamed(&rt, words, "--db is given twice")?;
+    let words = &[
+        "cashier_cli",
+        "--today=2026-03-31",
+        "--db",
+        "x",
+        "--today=2026-03-31",
+        "--db=y",
+    ];
+    check_unnamed(&rt, words, "--today is given twice")
+}
+
+#[test]
+fn names_the_option_that_has_no_value(rt: HostRuntime) -> Result<(), Fail> {
+    check_unnamed(&rt, &["cashier_cli", "--db"], "--db has no path")?;
+    let words = &["cashier_cli", "--db", "--today", "2026-03-31", "trial"];
+    check_unnamed(&rt, words, "--db has no path")?;
+    let words = &["cashier_cli", "--today", "--db", "x", "trial"];
+    check_unnamed(&rt, words, "--today has no day")?;
+    let words = &["cashier_cli", "--today", "2026-03-31", "--db"];
+    check_unnamed(&rt, words, "--db has no path")
 }
 
 #[test]
@@ -162,7 +244,7 @@ fn tells_the_usage_where_help_is_asked_for(rt: HostRuntime) -> Result<(), Fail> 
     )?;
     let words = &["cashier_cli", "--today", "2026-03-31", "journal", "--help"];
     let journal =
-        "usage: cashier_cli --today DAY journal\nexample: cashier_cli --today 2026-03-31 journal";
+        "usage: cashier_cli [--db PATH] --today DAY journal\nexample: cashier_cli --today 2026-03-31 journal";
     check(&rt, words, Outcome::CommandLine, journal)?;
     let words = &[
         "cashier_cli",
@@ -172,7 +254,7 @@ fn tells_the_usage_where_help_is_asked_for(rt: HostRuntime) -> Result<(), Fail> 
         "--help",
     ];
     let retention =
-        "usage: cashier_cli --today DAY retention\nexample: cashier_cli --today 2026-03-31 retention";
+        "usage: cashier_cli [--db PATH] --today DAY retention\nexample: cashier_cli --today 2026-03-31 retention";
     check(&rt, words, Outcome::CommandLine, retention)
 }
 
@@ -185,6 +267,17 @@ fn tells_what_a_fault_has_to_do_with(rt: HostRuntime) -> Result<(), Fail> {
     check(&rt, words, Outcome::OutputFault, output)?;
     check(&rt, words, Outcome::StoreFault, "store fault")?;
     check(&rt, words, Outcome::MemoryFault, "memory fault")?;
+    let words = &[
+        "cashier_cli",
+        "--db",
+        "book.db",
+        "--today",
+        "2026-03-31",
+        "trial",
+    ];
+    let book =
+        "store fault\nbook.db holds no book of this version, or could not be opened, read or written";
+    check(&rt, words, Outcome::StoreFault, book)?;
     let words = &["cashier_cli", "--today", "2026-03-31", "sheet"];
     let input = "file fault\nstandard input could not be read";
     check(&rt, words, Outcome::FileFault, input)?;
@@ -200,6 +293,7 @@ fn tells_the_first_line_alone_without_words(rt: HostRuntime) -> Result<(), Fail>
     for (outcome, line) in [
         (Outcome::CommandLine, PROGRAM),
         (Outcome::FileFault, "file fault"),
+        (Outcome::StoreFault, "store fault"),
         (Outcome::NetworkFault, "network fault"),
     ] {
         let notice = bare_notice_of(outcome).ok_or("a notice")?;

@@ -3,7 +3,7 @@
 use crate::command_lines::assert_line;
 use crate::networks::{CLOCK, NO_NETWORK, TrialClients, TrialNetwork};
 use crate::runs::NO_FILE;
-use cashier::{Outcome, Surroundings, run_in_memory};
+use cashier::{NoStores, Outcome, Surroundings, run_over_stores};
 use std::process::Abort;
 use trust_base::{TrialReader, TrialWriter};
 
@@ -26,11 +26,12 @@ fn check_written(
     };
     let mut reader = TrialReader::new(OPENING, 7, 100);
     let mut writer = TrialWriter::new(rt.alloc(), 3, writes);
-    let told = run_in_memory(
+    let told = run_over_stores(
         rt.alloc(),
         words.as_slice(),
         &mut reader,
         around,
+        &NoStores,
         &mut writer,
     );
     assert_eq!(rt; told, outcome, "{words:?}");

@@ -1,0 +1,102 @@
+-- How the run of words over a book is told, by what became of it.
+use Rattle.std.proofs.Common.{◌≡◌, ◌≢◌, ◌⊎◌, ◌∙◌, ℕ, List, Option, Some, None, Result, Ok, Err, refl, sym, subst, inr}
+use Rattle.std.proofs.KnownBytes.{Appends-nil}
+use Rattle.std.proofs.lemmas.Option.{none-some, same_Some}
+use Rattle.clap.specs.Words.{Text}
+use Rattle.trust_base.specs.declared.refusal.StoreFault.{StoreFault}
+use Rattle.trust_base.specs.declared.refusal.StoreFault.TheVariants as faults
+use Rattle.firm_rows.specs.Firm.{Firm, empty_firm}
+use Rattle.firm_rows.specs.FirmSound.{FirmSound}
+use Rattle.firm_rows.proofs.Kept.{empty-sound}
+use Rattle.command_line.specs.Program.{Means, MeansNothing, db_of}
+use Rattle.command_line.specs.declared.command.Task.{Task}
+use Rattle.cashier.specs.Outcome.{HadNoBook, HasRun, Ran, RanAtPath, RanInMemory, put_outcome, store_outcome}
+use Rattle.cashier.specs.declared.outcome.Outcome.{Outcome}
+use Rattle.cashier.specs.declared.outcome.Outcome.TheVariants as outcome
+
+-- a fault of the store is none of the command line
+pub store-no-line : (fault : StoreFault) → store_outcome fault ≡ outcome.CommandLine → ⊥
+store-no-line faults.Store h = cc
+store-no-line faults.Memory h = cc
+
+-- only a run that ended at the command line is told so once its book was put back
+pub put-line : (ended : Outcome) (put : Result Unit StoreFault) → put_outcome ended put ≡ outcome.CommandLine → ended ≡ outcome.CommandLine
+put-line ended (Ok done) h = h
+put-line outcome.Done (Err fault) h = absurd (store-no-line fault h)
+put-line outcome.Refused (Err fault) h = absurd (store-no-line fault h)
+put-line outcome.CommandLine (Err fault) h = refl
+put-line outcome.FileFault (Err fault) h = h
+put-line outcome.OutputFault (Err fault) h = h
+put-line outcome.StoreFault (Err fault) h = h
+put-line outcome.MemoryFault (Err fault) h = h
+put-line outcome.NetworkFault (Err fault) h = h
+
+at_line : (put : Result Unit StoreFault) → put_outcome outcome.CommandLine put ≡ outcome.CommandLine
+at_line (Ok done) = refl
+at_line (Err fault) = refl
+
+-- and it is told so
+pub line-put : (ended : Outcome) (put : Result Unit StoreFault) → ended ≡ outcome.CommandLine → put_outcome ended put ≡ outcome.CommandLine
+line-put ended put h = subst (λ e. put_outcome e put ≡ outcome.CommandLine) (sym h) (at_line put)
+
+-- a book in memory begins without rows
+pub in-memory : (before after : Firm) (words : List Text) (input : Option (List ℕ)) (known : Text → Option (List ℕ))
+    (opens : Text → Option (Option ℕ) → Type 0) (clients : ℕ → ℕ → Option (List ℕ)) (old new : Option (List ℕ)) (told : Outcome)
+    → before ≡ empty_firm → FirmSound after → Ran words input known opens clients before after old new told
+    → RanInMemory (λ f g. Ran words input known opens clients f g old new) told
+in-memory before after words input known opens clients old new told none sound ran = (after, sound, rw none at ran)
+
+-- the path that words name is one
+pub one-path : (given : Option Text) (path other : Text) (P : Text → Type 0) → given ≡ Some path → given ≡ Some other → P path → P other
+one-path given path other P here there p = subst P (same_Some path other (sym here ∙ there)) p
+
+module _ {B : Type 0} {clean sure stands : B → Type 0} {firm : B → Firm} {refusals : B → ℕ}
+    {keeps : Text → Firm → Type 0} {untouched : Type 0} {words : List Text} {input : Option (List ℕ)}
+    {known : Text → Option (List ℕ)} {opens : Text → Option (Option ℕ) → Type 0} {clients : ℕ → ℕ → Option (List ℕ)} where
+  -- the words mean nothing
+  pub by-line : (old new : Option (List ℕ)) → MeansNothing words
+      → HasRun clean sure stands firm refusals keeps untouched words input known opens clients old new outcome.CommandLine
+  by-line old new nothing = record {
+    line = λ _. nothing;
+    meant = λ begun. absurd begun;
+    in_memory = λ _ other. absurd (other refl);
+    at_path = λ path _ other. absurd (other refl);
+  }
+
+  -- memory was refused before anything was run
+  pub by-want : (given : Option (List ℕ)) → untouched
+      → HasRun clean sure stands firm refusals keeps untouched words input known opens clients given given outcome.MemoryFault
+  by-want given nothing = record {
+    line = λ e. cc;
+    meant = λ begun. absurd begun;
+    in_memory = λ _ _. (empty_firm, empty-sound, inr (inr (inr (inr (inr (record { outcome = refl; written = Appends-nil _; firm = refl }))))));
+    at_path = λ path _ _. inr (record { fault = faults.Memory; outcome = refl; nothing = nothing });
+  }
+
+  -- the words name no path
+  pub over-memory : (old new : Option (List ℕ)) (told : Outcome) (today : ℕ) (task : Task) → told ≢ outcome.CommandLine
+      → Means words today task → db_of words ≡ None
+      → RanInMemory (λ before after. Ran words input known opens clients before after old new) told
+      → HasRun clean sure stands firm refusals keeps untouched words input known opens clients old new told
+  over-memory old new told today task began means none ran = record {
+    line = λ e. absurd (began e);
+    meant = λ _. (today, task, means);
+    in_memory = λ _ _. ran;
+    at_path = λ path named _. absurd (none-some path (sym none ∙ named));
+  }
+
+  -- the words name a path
+  pub over-path : (old new : Option (List ℕ)) (told : Outcome) (today : ℕ) (task : Task) (path : Text) → told ≢ outcome.CommandLine
+      → Means words today task → db_of words ≡ Some path
+      → RanAtPath clean sure stands firm refusals (keeps path) (λ before after. Ran words input known opens clients before after old new) told
+      ⊎ HadNoBook untouched told
+      → HasRun clean sure stands firm refusals keeps untouched words input known opens clients old new told
+  over-path old new told today task path began means named ran = record {
+    line = λ e. absurd (began e);
+    meant = λ _. (today, task, means);
+    in_memory = λ none _. absurd (none-some path (sym none ∙ named));
+    at_path = λ other there _. one-path _ path other
+        (λ p. RanAtPath clean sure stands firm refusals (keeps p) (λ before after. Ran words input known opens clients before after old new) told
+        ⊎ HadNoBook untouched told)
+        named there ran;
+  }

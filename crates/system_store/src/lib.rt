@@ -1,0 +1,7 @@
+//! The books of the system's files: each in a database that any tool of SQLite opens.
+#![tactic(auto)]
+
+mod opening;
+mod system_stores;
+
+pub use system_stores::{SystemFile, SystemStores};
