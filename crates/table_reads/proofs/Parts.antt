@@ -20,7 +20,7 @@ use Rattle.tables_meaning.proofs.HeadOrder.{IsNumbered, rows_found, rows_in-made
 use Rattle.tables_meaning.proofs.RowOrder.{all-find}
 use Rattle.tables_meaning.specs.Steps.{head_at}
 use Rattle.table_reads.specs.declared.head.HeadWithTotals.{HeadWithTotals}
-use Rattle.table_reads.specs.Parts.{PartsAreWhole, figures_found, part_at, with_totals_at, with_totals_from}
+use Rattle.table_reads.specs.Parts.{PartsAreWhole, figures_found, part_at, part_of, totals_of, with_totals_at, with_totals_from}
 
 unopened_whole : IsWhole (record { head = None; seats = []; figures = no_figures; kept = [] }) unopened
 unopened_whole = record {
@@ -111,17 +111,18 @@ alone (Some h) = refl
 pub head_alone : (m : ℕ) (a : Lists) (o : Option HeadWithTotals) → o ≡ with_totals_at m a → option_map (λ (x : HeadWithTotals). x.head) o ≡ head_at m a
 head_alone m a o found = ap (option_map (λ (x : HeadWithTotals). x.head)) found ∙ alone (find (table.is_head (pos m)) a.heads)
 
--- its head with the totals, its seats and its entries are all of it
-pub read_whole : (m : ℕ) (a : Lists) → AreSound a → (o : HeadWithTotals) → Some o ≡ with_totals_at m a → (seats : List Seat) → seats ≡ (part_at m a).seats
-    → (kept : List Kept) → kept ≡ (part_at m a).kept → IsWhole (record { head = Some o.head; seats = seats; figures = o.figures; kept = kept }) (of m (firm_from a))
-read_whole m a sound o found seats sits kept keeps =
-    let read = head_found m a o found in
-    subst (λ (p : Part). IsWhole p (of m (firm_from a)))
-    (λ i. record { head = sym read.0 i; seats = sym sits i; figures = sym read.1 i; kept = sym keeps i }) (parts_whole m a sound)
+totals_found : (f : Option table.Head) → totals_of (option_map with_totals_from f) ≡ figures_found f
+totals_found None = refl
+totals_found (Some h) = refl
+
+-- its head with the totals, its seats and its entries are what the tables hold of it
+pub read_part : (m : ℕ) (a : Lists) (o : Option HeadWithTotals) → o ≡ with_totals_at m a → (seats : List Seat) → seats ≡ (part_at m a).seats
+    → (kept : List Kept) → kept ≡ (part_at m a).kept → part_of o seats kept ≡ part_at m a
+read_part m a o found seats sits kept keeps =
+    let head = head_alone m a o found in
+    let totals : totals_of o ≡ (part_at m a).figures = ap totals_of found ∙ totals_found (find (table.is_head (pos m)) a.heads) in
+    λ i. record { head = head i; seats = sits i; figures = totals i; kept = keeps i }
 
 -- without a head it has no rows
 pub none_rows : (m : ℕ) (a : Lists) → AreSound a → None ≡ with_totals_at m a → unopened ≡ of m (firm_from a)
 none_rows m a sound none = ap (rows_found (part_from a)) (sym (none_read _ none)) ∙ rows_are m a sound
-
-pub none_whole : (m : ℕ) (a : Lists) → AreSound a → None ≡ with_totals_at m a → (p : Part) → IsWhole p unopened → IsWhole p (of m (firm_from a))
-none_whole m a sound none p whole = subst (λ (rows : Rows). IsWhole p rows) (none_rows m a sound none) whole

@@ -1,5 +1,6 @@
 -- What the tables hold of one matter, column by column.
 use Rattle.std.specs.Prelude.{◌≡◌, ℕ, pos, ◌==◌, ◌||◌, Bool, cond, List, map, find, Option, Some, None, option_map}
+use Rattle.matter_rows.specs.declared.seat.Seat.{Seat}
 use Rattle.matter_parts.specs.declared.figures.Figures.{Figures}
 use Rattle.matter_parts.specs.declared.kept.Kept.{Kept}
 use Rattle.matter_parts.specs.Parts.{Part, IsWhole, is_it, kept_in, no_figures, target_by}
@@ -26,6 +27,20 @@ with_totals_from h = record { head = head_from h; figures = figures_from h }
 -- that of a matter, if it was opened
 abbrev pub with_totals_at : ℕ → Lists → Option HeadWithTotals
 with_totals_at m a = option_map with_totals_from (find (table.is_head (pos m)) a.heads)
+
+-- the totals that were read with the head; without one there are none
+abbrev pub totals_of : Option HeadWithTotals → Figures
+totals_of None = no_figures
+totals_of (Some h) = h.figures
+
+-- a matter of what was read
+abbrev pub part_of : Option HeadWithTotals → List Seat → List Kept → Part
+part_of opened seats kept = record {
+  head = option_map (λ (h : HeadWithTotals). h.head) opened;
+  seats = seats;
+  figures = totals_of opened;
+  kept = kept;
+}
 
 -- the head of a matter, its seats by person, its totals, and its entries by number
 abbrev pub part_at : ℕ → Lists → Part

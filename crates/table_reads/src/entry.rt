@@ -7,6 +7,7 @@ ghost use Rattle.matter_parts.specs.Parts.{kept_at};
 ghost use Rattle.trust_schema.specs.declared.layout.Layout.{Layout};
 ghost use Rattle.trust_tables.specs.Lists.{lists_in};
 ghost use Rattle.trust_tables.specs.Reading.{LeavesAll};
+ghost use Rattle.trust_tables.specs.Standing.{Stands};
 ghost use Rattle.trust_tables.specs.Rows.{Entry as EntryRow, entry_shown, numbered_shown};
 ghost use Rattle.tables_meaning.specs.Meaning.{kept_from};
 ghost use Rattle.tables_meaning.specs.Standing.{StandsSound};
@@ -78,7 +79,7 @@ pub fn entries_of<S: Alter>(
 ) -> Result<Vec<Kept>, StoreFault>
     requires { conn.old.in_transaction ≡ false }
     ensures mode { conn.new.in_transaction ≡ false }
-    ensures found { (l : Layout) → HasCleanDisk (state S.Store conn.new) → StandsSound l (state S.Store conn.old).now
+    ensures found { (l : Layout) → HasCleanDisk (state S.Store conn.new) → Stands l (state S.Store conn.old).now
         → IfOk result (λ kept. kept.items ≡ (part_at matter (lists_in l (state S.Store conn.old).now.trees)).kept) }
     ensures left { LeavesAll result (state S.Store conn.old) (state S.Store conn.new) }
 {

@@ -6,6 +6,7 @@ ghost use Rattle.sqlite.specs.State.{HasCleanDisk};
 ghost use Rattle.trust_schema.specs.declared.layout.Layout.{Layout};
 ghost use Rattle.trust_tables.specs.Lists.{lists_in};
 ghost use Rattle.trust_tables.specs.Reading.{LeavesAll};
+ghost use Rattle.trust_tables.specs.Standing.{Stands};
 ghost use Rattle.trust_tables.specs.Rows.{Head as HeadRow, head_shown};
 ghost use Rattle.tables_meaning.specs.Meaning.{head_from};
 ghost use Rattle.tables_meaning.specs.Standing.{StandsSound};
@@ -47,7 +48,7 @@ pub fn head_with_totals<S: Alter>(
 ) -> Result<Option<HeadWithTotals>, StoreFault>
     requires { conn.old.in_transaction ≡ false }
     ensures mode { conn.new.in_transaction ≡ false }
-    ensures found { (l : Layout) → HasCleanDisk (state S.Store conn.new) → StandsSound l (state S.Store conn.old).now
+    ensures found { (l : Layout) → HasCleanDisk (state S.Store conn.new) → Stands l (state S.Store conn.old).now
         → IfOk result (λ head. head ≡ with_totals_at matter (lists_in l (state S.Store conn.old).now.trees)) }
     ensures left { LeavesAll result (state S.Store conn.old) (state S.Store conn.new) }
 {

@@ -6,9 +6,9 @@ ghost use Rattle.sqlite.specs.State.{HasCleanDisk};
 ghost use Rattle.trust_schema.specs.declared.layout.Layout.{Layout};
 ghost use Rattle.trust_tables.specs.Lists.{lists_in};
 ghost use Rattle.trust_tables.specs.Reading.{LeavesAll};
+ghost use Rattle.trust_tables.specs.Standing.{Stands};
 ghost use Rattle.trust_tables.specs.Rows.{Seat as SeatRow, seat_shown};
 ghost use Rattle.tables_meaning.specs.Meaning.{seat_from};
-ghost use Rattle.tables_meaning.specs.Standing.{StandsSound};
 ghost use Rattle.table_reads.specs.Parts.{part_at};
 
 use crate::columns::seat_in;
@@ -49,7 +49,7 @@ pub fn seats_of<S: Alter>(
 ) -> Result<Vec<Seat>, StoreFault>
     requires { conn.old.in_transaction ≡ false }
     ensures mode { conn.new.in_transaction ≡ false }
-    ensures found { (l : Layout) → HasCleanDisk (state S.Store conn.new) → StandsSound l (state S.Store conn.old).now
+    ensures found { (l : Layout) → HasCleanDisk (state S.Store conn.new) → Stands l (state S.Store conn.old).now
         → IfOk result (λ seats. seats.items
         ≡ (part_at matter (lists_in l (state S.Store conn.old).now.trees)).seats) }
     ensures left { LeavesAll result (state S.Store conn.old) (state S.Store conn.new) }

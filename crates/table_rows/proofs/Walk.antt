@@ -1,5 +1,5 @@
 -- The matters of a book, one behind another.
-use Rattle.std.proofs.Common.{◌≡◌, inl, inr, ℕ, ℤ, pos, negsuc, nat_abs, ◌+◌, ◌≤◌, ◌<ℤ◌, int_lt, Bool, true, false, List, [], ◌∷◌, ◌++◌, map, filter, find, length, fold, Some, None, Result, Ok, IsErr, refl, sym, ap, ◌∙◌, subst, arith, length-append}
+use Rattle.std.proofs.Common.{◌≡◌, inl, inr, ℕ, ℤ, pos, nat_abs, ◌+◌, ◌≤◌, ◌<ℤ◌, int_lt, Bool, true, false, List, [], ◌∷◌, ◌++◌, map, filter, find, length, fold, Some, None, Result, Ok, IsErr, refl, sym, ap, ◌∙◌, subst, arith, length-append}
 use Rattle.std.specs.List.{AllByRecursion}
 use Rattle.std.proofs.lemmas.Int.{ints}
 use Rattle.std.proofs.lemmas.Bool.{cases_Bool}
@@ -72,13 +72,14 @@ next_past after (x ∷ xs) h up found = elim (cases_Bool (is_past after x)) [
       rw (b, past_before after h.no x.no here b) (next_past after xs h up.1 later)
 ]
 
-begin_past : (z : ℤ) (k : ℕ) → z ≡ pos k → int_lt (negsuc 0) z ≡ true
-begin_past z k is = grind (arith, ints)
+begin_past : (from z : ℤ) (k : ℕ) → from <ℤ pos 0 → z ≡ pos k → int_lt from z ≡ true
+begin_past from z k low is = grind (arith, ints)
 
-pub all_past : (hs : List table.Head) → AllByRecursion IsWrittenHead hs → filter (is_past (negsuc 0)) hs ≡ hs
-all_past hs written =
-    filter_whole (is_past (negsuc 0)) hs
-    (all_weaker IsWrittenHead (λ h. is_past (negsuc 0) h ≡ true) (λ h w. begin_past h.no (nat_abs h.no) w.0) hs written)
+-- every head is behind a number below zero
+pub all_past : (from : ℤ) (hs : List table.Head) → from <ℤ pos 0 → AllByRecursion IsWrittenHead hs → filter (is_past from) hs ≡ hs
+all_past from hs low written =
+    filter_whole (is_past from) hs
+    (all_weaker IsWrittenHead (λ h. is_past from h ≡ true) (λ h w. begin_past from h.no (nat_abs h.no) low w.0) hs written)
 
 -- The rows of one matter.
 
@@ -109,10 +110,10 @@ module _ {K : Type 0} (step : K → ℕ × Row → K) (a : Lists) (sound : AreSo
   abbrev all : List (ℕ × Row)
   all = joined (matters_from a)
 
-  pub at_start : (old : K) → IsReached step a (negsuc 0) 0 old old
-  at_start old =
-      let rest : joined (past a (negsuc 0)) ≡ all =
-      ap (λ hs. joined (map (matter_from a) hs)) (all_past a.heads sound.meant.written.heads) in
+  pub at_start : (from : ℤ) → from <ℤ pos 0 → (old : K) → IsReached step a from 0 old old
+  at_start from low old =
+      let rest : joined (past a from) ≡ all =
+      ap (λ hs. joined (map (matter_from a) hs)) (all_past from a.heads low sound.meant.written.heads) in
       record {
         handed = subst (λ xs. HandedOver step old all xs old) (sym rest) (begun step old all);
         counted = omega (arith, ap length rest);

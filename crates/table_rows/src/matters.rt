@@ -19,7 +19,9 @@ use crate::seats::hand_seats;
 use firm_rows::RowSink;
 use sqlite::{Alter, Connection};
 use std::alloc::Global;
+use table_reads::answered;
 use trust_base::StoreFault;
+use trust_tables::reads::head_rows;
 
 // How many rows a matter has: its head, its seats and its entries. 2^64 or more are Store.
 fn row_count(seats: u64, entries: u64) -> Result<u64, StoreFault>
@@ -49,6 +51,16 @@ fn hand_matter<S: Alter, K: RowSink>(
     row_count(seats, entries)
 }
 
+// Is there a head of the least number? No matter has that number, and the walk over the heads begins behind it.
+fn has_least_head<S: Alter>(conn: &mut Connection<S>) -> Result<bool, StoreFault>
+    requires { conn.old.in_transaction ≡ false }
+    ensures mode { conn.new.in_transaction ≡ false }
+    ensures left { LeavesAll result (state S.Store conn.old) (state S.Store conn.new) }
+{
+    let rows = answered(head_rows(conn, i64::MIN))?;
+    Ok(rows.first().is_some())
+}
+
 /// Hands over each row of each matter: the matters by number, in each the head, the seats by person and the entries by
 /// number. A row for which memory is refused ends the call with Memory, and one that stands for nothing, or past the
 /// 2^64 - 1st, with Store; the sink then keeps the rows before it. One row is held at a time, so that memory does not
@@ -65,7 +77,11 @@ pub fn each_row<S: Alter, K: RowSink>(
         result sink.old sink.new }
     ensures left { LeavesAll result (state S.Store conn.old) (state S.Store conn.new) }
 {
-    let mut after: i64 = -1;
+    let least = has_least_head(conn)?;
+    if least {
+        return Err(StoreFault::Store);
+    }
+    let mut after = i64::MIN;
     let mut count: u64 = 0;
     'matters: for _ in 0..u64::MAX {
         let Some(next) = next_head(conn, alloc, after)? else {

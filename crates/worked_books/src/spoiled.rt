@@ -1,4 +1,5 @@
-// Rows that stand for nothing, by one statement of SQL: a call that reads such a row is Store, and no call changes one.
+// Rows that stand for nothing, or that are no sound matter's, by a statement of SQL: a call that reads such a row is
+// Store, and so is a ledger card of such a matter, and no call changes one.
 
 use crate::play::{Step, are_same, ask, ask_all, is_store};
 use crate::values::{Wrong, adopted, made};
@@ -35,6 +36,33 @@ const SETTING: [Step; 6] = [
         201,
     ),
     ("2024-02-01", "lee", "approve,000001,0002", 200),
+];
+
+// A matter with a fee, and with a claim that is settled and paid from.
+const CLAIMED: [Step; 8] = [
+    ("2024-01-10", "", "open,000001,,Ada Chen,lee", 201),
+    (
+        "2024-01-10",
+        "",
+        "deposit,000001,0001,500.00,Ada Chen,retainer",
+        201,
+    ),
+    ("2024-02-01", "", LINES, 200),
+    ("2024-02-01", "lee", "fee,000001,0002,200.00,advice", 201),
+    (
+        "2024-02-01",
+        "",
+        "claim,000001,0003,120.00,Roof Builders,repairs",
+        201,
+    ),
+    ("2024-02-01", "", "award,000001,0003,20.00", 200),
+    (
+        "2024-02-01",
+        "",
+        "propose,000001,0004,100.00,claim,0003,Roof Builders,award,1005",
+        201,
+    ),
+    ("2024-02-01", "lee", "approve,000001,0004", 200),
 ];
 
 // What is asked of each spoiled book. The last two write where nothing is spoiled.
@@ -98,15 +126,15 @@ fn rows_of(alloc: Global, conn: &mut Connection<MemStore>) -> Result<Vec<u8>, Wr
 }
 
 // A desk over the book of the matter.
-fn set(alloc: Global) -> Result<Desk<SqlBook<MemStore>>, Wrong> {
+fn set(alloc: Global, setting: &[Step]) -> Result<Desk<SqlBook<MemStore>>, Wrong> {
     let mut desk = Desk::new(made(alloc)?);
-    ask_all(alloc, &mut desk, &SETTING)?;
+    ask_all(alloc, &mut desk, setting)?;
     Ok(desk)
 }
 
 // What is answered where nothing is spoiled.
-fn answers(alloc: Global) -> Result<Vec<Reply>, Wrong> {
-    let mut desk = set(alloc)?;
+fn answers(alloc: Global, setting: &[Step]) -> Result<Vec<Reply>, Wrong> {
+    let mut desk = set(alloc, setting)?;
     let mut replies = Vec::new(alloc);
     for step in ASKED.iter().take(READING) {
         let reply = ask(alloc, &mut desk, step)?;
@@ -141,12 +169,13 @@ fn ask_anew(
 // Spoils a book, and asks of it; fails with the place of the first ask that is answered otherwise, or changes a row.
 fn is_refused(
     alloc: Global,
+    setting: &[Step],
     before: &[Reply],
     place: usize,
     spoiling: &Spoiling,
 ) -> Result<(), Wrong> {
     let (sql, wanted) = *spoiling;
-    let mut conn = set(alloc)?.into_book().release();
+    let mut conn = set(alloc, setting)?.into_book().release();
     conn.execute_batch(sql)?;
     let rows = rows_of(alloc, &mut conn)?;
     for (at, (wanted, step)) in wanted.as_bytes().iter().zip(ASKED.iter()).enumerate() {
@@ -164,16 +193,16 @@ fn is_refused(
 }
 
 // Fails with the place of the first spoiling at which an ask is answered otherwise, or changes a row.
-fn are_refused(alloc: Global, spoilings: &[Spoiling]) -> Result<(), Wrong> {
-    let before = answers(alloc)?;
+fn are_refused(alloc: Global, setting: &[Step], spoilings: &[Spoiling]) -> Result<(), Wrong> {
+    let before = answers(alloc, setting)?;
     for (place, spoiling) in spoilings.iter().enumerate() {
-        is_refused(alloc, &before, place, spoiling)?;
+        is_refused(alloc, setting, &before, place, spoiling)?;
     }
     Ok(())
 }
 
 // Columns of heads, and heads of numbers that no matter has.
-const HEADS: [Spoiling; 31] = [
+const HEADS: [Spoiling; 32] = [
     ("UPDATE matter_v2 SET client = ''", "SSSSS==SSSSS"),
     ("UPDATE matter_v2 SET client = 'Ada\tChen'", "SSSSS==SSSSS"),
     ("UPDATE matter_v2 SET opened = 0", "SSSSS==SSSSS"),
@@ -236,29 +265,34 @@ const HEADS: [Spoiling; 31] = [
     (
         "INSERT INTO matter_v2 SELECT -1, client, opened, closed, last, entries, held, available, disputed, \
          fees, claims, pending, purged FROM matter_v2",
-        "==========--",
+        "====S==SS=--",
+    ),
+    (
+        "INSERT INTO matter_v2 SELECT -9223372036854775807 - 1, client, opened, closed, last, entries, held, \
+         available, disputed, fees, claims, pending, purged FROM matter_v2",
+        "====S==SS=--",
     ),
 ];
 
 #[test]
 fn heads_that_are_spoiled(rt: HostRuntime) -> Result<(), Wrong> {
-    are_refused(rt.alloc(), &HEADS)
+    are_refused(rt.alloc(), &SETTING, &HEADS)
 }
 
-// Totals that the entries do not come to, which are told as they stand, and entries that are missing: an ask that names
-// one is Store, and the lists leave it out.
+// Totals that the entries do not come to, and entries that are missing: an ask that names one is Store, and so is the
+// ledger card. What else reads them takes them as they stand.
 const TOTALS: [Spoiling; 10] = [
     (
         "UPDATE matter_v2 SET available = available + 1",
-        "o==o======--",
+        "o==S======--",
     ),
-    ("UPDATE matter_v2 SET held = held + 1", "o==o======--"),
-    ("UPDATE matter_v2 SET fees = fees + 1", "o==o======--"),
-    ("UPDATE matter_v2 SET entries = 1", "o=========--"),
-    ("UPDATE matter_v2 SET entries = 3", "o=========S-"),
-    ("DELETE FROM entry_v2 WHERE no = 1", "=S=oo==o=S--"),
-    ("DELETE FROM entry_v2 WHERE no = 2", "==Soo=====-S"),
-    ("UPDATE entry_v2 SET no = 3 WHERE no = 2", "==So======-S"),
+    ("UPDATE matter_v2 SET held = held + 1", "o==S======--"),
+    ("UPDATE matter_v2 SET fees = fees + 1", "o==S======--"),
+    ("UPDATE matter_v2 SET entries = 1", "o==S======--"),
+    ("UPDATE matter_v2 SET entries = 3", "o==S======S-"),
+    ("DELETE FROM entry_v2 WHERE no = 1", "=S=So==o=S--"),
+    ("DELETE FROM entry_v2 WHERE no = 2", "==SSo=====-S"),
+    ("UPDATE entry_v2 SET no = 3 WHERE no = 2", "==SS======-S"),
     ("UPDATE entry_v2 SET no = 0 WHERE no = 2", "==SSS==SS=-S"),
     (
         "UPDATE entry_v2 SET no = 10000 WHERE no = 2",
@@ -268,7 +302,53 @@ const TOTALS: [Spoiling; 10] = [
 
 #[test]
 fn totals_that_are_spoiled(rt: HostRuntime) -> Result<(), Wrong> {
-    are_refused(rt.alloc(), &TOTALS)
+    are_refused(rt.alloc(), &SETTING, &TOTALS)
+}
+
+// Rows that each stand for something, and together for no sound matter: what is left off by a cent, days out of order,
+// money in a closed matter, more paid than was there.
+const MATTERS: [Spoiling; 6] = [
+    (
+        "UPDATE entry_v2 SET left_now = 1 WHERE no = 1",
+        "===S======--",
+    ),
+    ("UPDATE matter_v2 SET opened = 20240120", "o==S======--"),
+    ("UPDATE matter_v2 SET closed = 20240201", "o==So===o=--"),
+    ("UPDATE matter_v2 SET last = 20240131", "===S======--"),
+    (
+        "UPDATE entry_v2 SET day = 20240109 WHERE no = 2",
+        "==oS======--",
+    ),
+    (
+        "UPDATE entry_v2 SET amount = 60000 WHERE no = 2",
+        "==oSo=====--",
+    ),
+];
+
+#[test]
+fn matters_that_are_spoiled(rt: HostRuntime) -> Result<(), Wrong> {
+    are_refused(rt.alloc(), &SETTING, &MATTERS)
+}
+
+// What is left of a fee and of a claim off by a cent, and a claim that is paid from before it is settled.
+const CLAIMS: [Spoiling; 3] = [
+    (
+        "UPDATE entry_v2 SET left_now = left_now + 1 WHERE no = 2",
+        "==oS======--",
+    ),
+    (
+        "UPDATE entry_v2 SET left_now = left_now + 1 WHERE no = 3",
+        "===S======--",
+    ),
+    (
+        "UPDATE matter_v2 SET last = 20240202; UPDATE entry_v2 SET day_done = 20240202 WHERE no = 3",
+        "===S======--",
+    ),
+];
+
+#[test]
+fn claims_that_are_spoiled(rt: HostRuntime) -> Result<(), Wrong> {
+    are_refused(rt.alloc(), &CLAIMED, &CLAIMS)
 }
 
 // Columns of seats.
@@ -301,7 +381,7 @@ const SEATS: [Spoiling; 6] = [
 
 #[test]
 fn seats_that_are_spoiled(rt: HostRuntime) -> Result<(), Wrong> {
-    are_refused(rt.alloc(), &SEATS)
+    are_refused(rt.alloc(), &SETTING, &SEATS)
 }
 
 // Columns of a deposit that is cleared.
@@ -379,7 +459,7 @@ const DEPOSITS: [Spoiling; 24] = [
 
 #[test]
 fn deposits_that_are_spoiled(rt: HostRuntime) -> Result<(), Wrong> {
-    are_refused(rt.alloc(), &DEPOSITS)
+    are_refused(rt.alloc(), &SETTING, &DEPOSITS)
 }
 
 // Columns of a payment that is issued.
@@ -460,7 +540,7 @@ const PAYMENTS: [Spoiling; 27] = [
 
 #[test]
 fn payments_that_are_spoiled(rt: HostRuntime) -> Result<(), Wrong> {
-    are_refused(rt.alloc(), &PAYMENTS)
+    are_refused(rt.alloc(), &SETTING, &PAYMENTS)
 }
 
 // Columns of the journal.
@@ -504,7 +584,7 @@ const MOVEMENTS: [Spoiling; 11] = [
 
 #[test]
 fn movements_that_are_spoiled(rt: HostRuntime) -> Result<(), Wrong> {
-    are_refused(rt.alloc(), &MOVEMENTS)
+    are_refused(rt.alloc(), &SETTING, &MOVEMENTS)
 }
 
 // Columns of the lines of the firm's own.
@@ -523,7 +603,7 @@ const FIRM_LINES: [Spoiling; 7] = [
 
 #[test]
 fn firm_lines_that_are_spoiled(rt: HostRuntime) -> Result<(), Wrong> {
-    are_refused(rt.alloc(), &FIRM_LINES)
+    are_refused(rt.alloc(), &SETTING, &FIRM_LINES)
 }
 
 // Columns of the exceptions.
@@ -541,7 +621,7 @@ const EXCEPTIONS: [Spoiling; 6] = [
 
 #[test]
 fn exceptions_that_are_spoiled(rt: HostRuntime) -> Result<(), Wrong> {
-    are_refused(rt.alloc(), &EXCEPTIONS)
+    are_refused(rt.alloc(), &SETTING, &EXCEPTIONS)
 }
 
 // Columns of the balances.
@@ -565,5 +645,5 @@ const BALANCES: [Spoiling; 6] = [
 
 #[test]
 fn balances_that_are_spoiled(rt: HostRuntime) -> Result<(), Wrong> {
-    are_refused(rt.alloc(), &BALANCES)
+    are_refused(rt.alloc(), &SETTING, &BALANCES)
 }

@@ -6,6 +6,7 @@ use Rattle.matter_parts.specs.Parts.{Part, kept_at, kept_in, named_part}
 use Rattle.firm_rows.specs.Firm.{of}
 use Rattle.trust_store.specs.Named.{IsPartFor}
 use Rattle.trust_tables.specs.Lists.{lists_in}
+use Rattle.trust_tables.specs.Standing.{Stands}
 use Rattle.tables_meaning.specs.Standing.{StandsSound, firm_in}
 use Rattle.table_reads.specs.Parts.{part_at, with_totals_at}
 use Rattle.table_reads.proofs.Calls.{kept_by}
@@ -15,7 +16,7 @@ use Rattle.table_reads.proofs.matter.matter_for.Goals as goal
 pub returns-in_default-clause-found : goal.returns-in_default-clause-found
 returns-in_default-clause-found g c l clean stands =
     let a = lists_in l (state g.S.Store c.args.conn.now).now.trees in
-    let head : c.in_ok-opened.field-0 ≡ with_totals_at c.args.matter a = c.in_ok-opened.ensures.found l clean stands in
+    let head : c.in_ok-opened.field-0 ≡ with_totals_at c.args.matter a = c.in_ok-opened.ensures.found l clean stands.tables in
     let none : None ≡ with_totals_at c.args.matter a = sym c.in_default.is ∙ head in
     none_for c.args.matter a stands.rows none c.args.entry c.args.other c.unopened.result c.unopened.ensures
 
@@ -35,11 +36,11 @@ returns-clause-found g c l clean stands =
     let now1 : s1.now ≡ s0.now = kept1.now in
     let now2 : s2.now ≡ s0.now = kept2.now ∙ kept1.now in
     let a = lists_in l s0.now.trees in
-    let head : c.in_ok-opened.field-0 ≡ with_totals_at m a = c.in_ok-opened.ensures.found l clean1 stands in
+    let head : c.in_ok-opened.field-0 ≡ with_totals_at m a = c.in_ok-opened.ensures.found l clean1 stands.tables in
     let some : Some c.in-Some.opened ≡ with_totals_at m a = sym c.in-Some.is ∙ head in
     let all = λ (db : Database). part_at m (lists_in l db.trees) in
     let seats =
-    c.in_ok-seats.ensures.found l clean2 (subst (StandsSound l) (sym now1) stands)
+    c.in_ok-seats.ensures.found l clean2 (subst (Stands l) (sym now1) stands.tables)
     ∙ ap (λ (db : Database). (all db).seats) now1 in
     let items = c.in_ok-kept.kept.items in
     let kept = subst (λ (db : Database). (n : ℕ) → kept_in items n ≡ kept_at (named_part (all db) e o) n)

@@ -1,23 +1,42 @@
-use Rattle.std.proofs.Common.{rules, ◌≡◌, ◌+◌, arith, sym, subst, ◌∙◌, pos, to_z, w64}
+use Rattle.std.proofs.Common.{rules, ◌≡◌, ◌+◌, arith, refl, sym, subst, ◌∙◌, pos, negsuc, Err, to_z, w64}
+use Rattle.std.proofs.lemmas.Int.{ints}
 use Rattle.sqlite.specs.Held.{state}
+use Rattle.trust_base.specs.declared.refusal.StoreFault.TheVariants.{Store}
 use Rattle.trust_tables.specs.Lists.{lists_in}
 use Rattle.trust_tables.specs.Standing.{Stands}
 use Rattle.table_reads.proofs.Calls.{kept_by}
 use Rattle.table_rows.proofs.Going.{goes_from, goes_then}
-use Rattle.table_rows.proofs.Steps.{all_done, broken_off, gone_on}
+use Rattle.table_rows.proofs.Steps.{all_done, broken_off, gone_on, not_done}
 use Rattle.table_rows.proofs.Walk.{at_start}
 use Rattle.table_rows.proofs.matters.each_row.Goals as goal
 
 pub matters-init : goal.matters-init
 matters-init g c =
     let s0 = state g.S.Store c.args.conn.now in
+    let s1 = state g.S.Store c.has_least_head.new.conn in
     record {
-      mode = c.requires;
-      on = goes_from s0;
+      mode = c.has_least_head.ensures.mode;
+      on = goes_then s0 s0 s1 c.has_least_head.result c.in_ok-least.least c.in_ok-least.was (goes_from s0) c.has_least_head.ensures.left;
       few = omega arith;
       reached = λ y clean stands.
-          at_start g.K.RowSink.stepped (lists_in y s0.now.trees) stands.rows c.args.sink.now;
+          at_start g.K.RowSink.stepped (lists_in y s0.now.trees) stands.rows _ (omega (arith, ints)) c.args.sink.now;
     }
+
+pub returns-in_err-least-clause-handed : goal.returns-in_err-least-clause-handed
+returns-in_err-least-clause-handed g c l clean stands =
+    let step = g.K.RowSink.stepped in
+    let s0 = state g.S.Store c.args.conn.now in
+    not_done step l s0.now stands (negsuc 0) 0 c.args.sink.now c.args.sink.now
+    (at_start step (lists_in l s0.now.trees) stands.rows (negsuc 0) (omega (arith, ints)) c.args.sink.now)
+    c.from_residual.result c.from_residual.ensures.0
+
+pub returns-then-least-clause-handed : goal.returns-then-least-clause-handed
+returns-then-least-clause-handed g c l clean stands =
+    let step = g.K.RowSink.stepped in
+    let s0 = state g.S.Store c.args.conn.now in
+    not_done step l s0.now stands (negsuc 0) 0 c.args.sink.now c.args.sink.now
+    (at_start step (lists_in l s0.now.trees) stands.rows (negsuc 0) (omega (arith, ints)) c.args.sink.now)
+    (Err Store) refl
 
 pub returns-in_default-clause-handed : goal.returns-in_default-clause-handed
 returns-in_default-clause-handed g c l clean stands =

@@ -1,0 +1,4 @@
+pub mod Audited
+pub mod Copied
+pub mod Drawn
+pub mod InPlace
