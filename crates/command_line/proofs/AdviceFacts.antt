@@ -1,5 +1,5 @@
 -- What is wrong with words, by the errors of the parser on them and on their fronts.
-use Rattle.std.proofs.Common.{◌≡◌, ◌≢◌, ◌∙◌, ◌⊎◌, ◌+◌, ◌<◌, ◌||◌, inl, inr, ap, ap₂, sym, refl, subst, true, Bool, ℕ, List, [], Option, Some, None, IfNone, IfSome, codes, get_or, length, min, option_map, slice_get, take}
+use Rattle.std.proofs.Common.{◌≡◌, ◌≢◌, ◌∙◌, ◌⊎◌, ◌+◌, ◌<◌, ◌||◌, inl, inr, ap, ap₂, sym, refl, subst, false, true, Bool, ℕ, List, [], Option, Some, None, IfNone, IfSome, codes, get_or, length, min, option_map, slice_get, take}
 use Rattle.std.proofs.lemmas.List.{get_or-map, length-map, take-map, take_min}
 use Rattle.std.proofs.lemmas.List.Folds.{list_any_more}
 use Rattle.std.proofs.lemmas.List.Sums.{fold_more}

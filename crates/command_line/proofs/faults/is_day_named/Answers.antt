@@ -1,3 +1,4 @@
+use Rattle.std.proofs.Common.{inl, inr, refl}
 use Rattle.command_line.proofs.AdviceFacts.{day-named-more}
 use Rattle.command_line.proofs.faults.is_day_named.Goals as goal
 
