@@ -15,9 +15,9 @@ pub type SystemFile = FileStore<FileFrom<Unknown>>;
 
 /// The books of the system: each in the database file at its path, of which nothing is known.
 ///
-/// A file that is missing or empty gets a book without rows. While a book is in use its file is locked: another run over
-/// it has a fault of the store. A book that was put back is in its file alone. One that was not, as where the run was
-/// broken off, is in the file and the log together, and the next run over it finds it there.
+/// A file that is missing or empty gets a book without rows. While a book is in use its file is locked: another run
+/// over it has a fault of the store. A book that was put back is in its file alone. One that was not, as where the run
+/// was broken off, is in the file and the log together, and the next run over it finds it there.
 #[derive(Clone, Copy)]
 pub struct SystemStores<'a> {
     /// The system.
