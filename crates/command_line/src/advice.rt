@@ -160,7 +160,8 @@ impl fmt::Display for Advice<'_> {
             ),
             Some(wrong) => write!(
                 f,
-                "usage: cashier_cli [--db PATH] --today DAY {usage}\nexample: cashier_cli --today 2026-03-31 {example}\n\
+                "usage: cashier_cli [--db PATH] --today DAY {usage}\n\
+                example: cashier_cli --today 2026-03-31 {example}\n\
                 wrong: {wrong}"
             ),
         }
