@@ -5,6 +5,7 @@ mod book;
 mod counting;
 mod opening;
 mod verdicts;
+mod version;
 
 pub use book::SqlBook;
 pub use trust_making::OpenFault;

@@ -1,6 +1,6 @@
 // Databases that are no book, and a book that is there already.
 
-use crate::values::{Wrong, adopted, made};
+use crate::values::{Wrong, adopted, made, taken};
 use sql_book::{OpenFault, SqlBook};
 use sqlite::Connection;
 
@@ -50,4 +50,16 @@ fn another_form_is_not_taken(rt: HostRuntime) -> Result<(), Wrong> {
         }
     }
     Ok(())
+}
+
+// A book says its version, when it was just made and when it was taken.
+#[test]
+fn a_book_says_its_version(rt: HostRuntime) -> Result<(), Wrong> {
+    let mut new = made(rt.alloc())?;
+    let version = new.version()?;
+    let mut same = taken(rt.alloc(), new)?;
+    if version == 2 && same.version()? == 2 {
+        return Ok(());
+    }
+    Err(Wrong::Kept)
 }

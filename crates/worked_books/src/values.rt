@@ -29,10 +29,6 @@ pub(crate) enum Wrong {
     Spoiled(usize, usize),
     /// A statement of SQL failed.
     Sql,
-    /// A disk in memory failed, or a book on it.
-    Disk,
-    /// After a stop behind so many calls of the log and of the database the book holds other rows, or none can be made.
-    Stopped(u64, u64),
 }
 
 impl From<AllocError> for Wrong {

@@ -1,0 +1,140 @@
+// A stop behind each number of calls, of the log and of the database's file.
+
+use crate::disks::{Calls, Image, UNSTOPPED};
+use crate::runs::{image_before, is_last, recovered, stopped};
+use crate::works::{
+    APPROVAL, DEPOSIT, LINE, MAKING, OPENING, PROPOSAL, STATEMENT, Work, pictures_of,
+};
+use crate::wrong::Wrong;
+use std::alloc::Global;
+
+// Which of the two files stops.
+#[derive(Clone, Copy)]
+enum Stopping {
+    Log,
+    Database,
+}
+
+impl Stopping {
+    fn behind(self, calls: u64) -> Calls {
+        match self {
+            Stopping::Log => (calls, u64::MAX),
+            Stopping::Database => (u64::MAX, calls),
+        }
+    }
+}
+
+// How many stops left the rows before, a part, and all.
+#[derive(Clone, Copy)]
+struct Told {
+    before: u64,
+    parts: u64,
+    all: u64,
+}
+
+impl Told {
+    fn count(&mut self, pictures: &[Vec<u8>], place: usize) {
+        if place == 0 {
+            self.before = self.before.saturating_add(1);
+        } else if is_last(pictures, place) {
+            self.all = self.all.saturating_add(1);
+        } else {
+            self.parts = self.parts.saturating_add(1);
+        }
+    }
+}
+
+// More calls than a run makes of a file.
+const MOST: u64 = 2_000;
+
+// Stops one file behind no call, behind one, and so on, until a run meets no stop.
+fn stops_of(
+    alloc: Global,
+    image: &Image,
+    work: &Work,
+    pictures: &[Vec<u8>],
+    stopping: Stopping,
+) -> Result<Told, Wrong> {
+    let mut told = Told {
+        before: 0,
+        parts: 0,
+        all: 0,
+    };
+    for number in 0..MOST {
+        let calls = stopping.behind(number);
+        let (whole, left) = stopped(alloc, image, work, calls)?;
+        let place = recovered(alloc, &left, work, pictures, calls)?;
+        if !whole {
+            told.count(pictures, place);
+        } else if is_last(pictures, place) {
+            return Ok(told);
+        } else {
+            return Err(Wrong::Whole);
+        }
+    }
+    Err(Wrong::Endless)
+}
+
+// Stops one file as often. Fails where no stop left the rows before, or none left all; where the log stops, also where
+// none left a part of what has parts.
+fn stop_one(
+    alloc: Global,
+    image: &Image,
+    work: &Work,
+    pictures: &[Vec<u8>],
+    stopping: Stopping,
+) -> Result<(), Wrong> {
+    let told = stops_of(alloc, image, work, pictures, stopping)?;
+    let wants_parts = matches!(stopping, Stopping::Log) && work.parts.len() > 1;
+    if told.before == 0 || told.all == 0 || (wants_parts && told.parts == 0) {
+        return Err(Wrong::Untried(told.before, told.parts, told.all));
+    }
+    Ok(())
+}
+
+// Stops the log, and then the database's file. Fails where a run without a stop is not whole.
+fn stop_both(alloc: Global, work: &Work) -> Result<(), Wrong> {
+    let image = image_before(alloc, work)?;
+    let pictures = pictures_of(alloc, work)?;
+    let (whole, _) = stopped(alloc, &image, work, UNSTOPPED)?;
+    if !whole {
+        return Err(Wrong::Whole);
+    }
+    stop_one(alloc, &image, work, &pictures, Stopping::Log)?;
+    stop_one(alloc, &image, work, &pictures, Stopping::Database)
+}
+
+#[test]
+fn a_book_is_made_or_not(rt: HostRuntime) -> Result<(), Wrong> {
+    stop_both(rt.alloc(), &MAKING)
+}
+
+#[test]
+fn a_matter_is_opened_or_not(rt: HostRuntime) -> Result<(), Wrong> {
+    stop_both(rt.alloc(), &OPENING)
+}
+
+#[test]
+fn a_deposit_is_booked_or_not(rt: HostRuntime) -> Result<(), Wrong> {
+    stop_both(rt.alloc(), &DEPOSIT)
+}
+
+#[test]
+fn a_line_is_applied_or_not(rt: HostRuntime) -> Result<(), Wrong> {
+    stop_both(rt.alloc(), &LINE)
+}
+
+#[test]
+fn a_payment_is_proposed_or_not(rt: HostRuntime) -> Result<(), Wrong> {
+    stop_both(rt.alloc(), &PROPOSAL)
+}
+
+#[test]
+fn a_payment_is_issued_or_not(rt: HostRuntime) -> Result<(), Wrong> {
+    stop_both(rt.alloc(), &APPROVAL)
+}
+
+#[test]
+fn a_statement_is_applied_to_some_line(rt: HostRuntime) -> Result<(), Wrong> {
+    stop_both(rt.alloc(), &STATEMENT)
+}
