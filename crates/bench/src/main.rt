@@ -1,9 +1,9 @@
-//! Measures the desk. `bench deposits` measures what a deposit takes. `bench statement 4` imports a statement of the bank
-//! of nearly so many mebibytes, so that the memory of that can be measured. `bench reports 10000 10 trial` makes the
-//! trial balance of 10,000 matters with 10 entries each, or with another name the journal, the retention list, the
+//! Measures the desk. `bench deposits` measures what a deposit takes. `bench statement 4` imports a statement of the
+//! bank of nearly so many mebibytes, so that the memory of that can be measured. `bench reports 10000 10 trial` makes
+//! the trial balance of 10,000 matters with 10 entries each, or with another name the journal, the retention list, the
 //! exceptions or the reconciliation, and measures it; with the name `rows` it makes none, so that the rows alone can be
-//! measured. `bench stream 1000` asks over a stream of messages and asks the desk itself. `bench memory 65536 1000` serves
-//! a stream of messages of nearly so many bytes, so that the memory of that can be measured.
+//! measured. `bench stream 1000` asks over a stream of messages and asks the desk itself. `bench memory 65536 1000`
+//! serves a stream of messages of nearly so many bytes, so that the memory of that can be measured.
 #![tactic(auto)]
 
 mod deposits;

@@ -9,8 +9,8 @@ abbrev pub line_with : ℕ → ℤ → List ℕ → List ℕ → List ℕ → Li
 line_with date amount reference bank_ref text =
     record { date = date; reference = reference; bank_ref = bank_ref; amount = amount; text = text }
 
--- the line of the texts of its fields: a day, two references of at most 64 printed bytes, an amount of a bank and at most
--- 1,000 bytes of UTF-8
+-- the line of the texts of its fields: a day, two references of at most 64 printed bytes, an amount of a bank and at
+-- most 1,000 bytes of UTF-8
 unfoldable pub line_of_texts : List ℕ → List ℕ → List ℕ → List ℕ → List ℕ → Option Line
 line_of_texts date reference bank_ref amount text =
     option_and_then (λ d. option_and_then (λ a. option_and_then (λ r. option_and_then (λ b. option_and_then (λ t.

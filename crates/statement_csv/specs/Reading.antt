@@ -82,8 +82,8 @@ pub record IsLive (rdr : Records) : Type 0 where
   pub config : reader_config rdr ≡ default_config
   pub ready : Ready rdr
 
--- these are the first records of the statement, and they were read of no more bytes than it may have, where its bytes are
--- told
+-- these are the first records of the statement, and they were read of no more bytes than it may have, where its bytes
+-- are told
 abbrev pub HasRead : Option (List ℕ) → List (List (List ℕ)) → Records → Type 0
 HasRead whole rows rdr = (bytes : List ℕ) → whole ≡ Some bytes
     → (rest : List ℕ) × (unread rdr ≡ Some rest) × (length bytes ≤ MAX_FILE_BYTES + length rest)

@@ -31,7 +31,8 @@ fn amount_in(row: &Row) -> Result<i64, StoreFault>
     }
 }
 
-/// The balance of a kind and day, in cents, or None where none is kept. An amount that no line of the bank has is Store.
+/// The balance of a kind and day, in cents, or None where none is kept. An amount that no line of the bank has is
+/// Store.
 pub fn balance_at<S: Alter>(
     conn: &mut Connection<S>,
     kind: BalanceKind,

@@ -60,8 +60,8 @@ voided_on (payment.Issued day) = None
 voided_on (payment.Cleared c) = None
 voided_on (payment.Voided v) = Some v.undone
 
--- the day on which that was undone: a deposit was cancelled, a payment voided; a return undoes none, since the bank told
--- of both
+-- the day on which that was undone: a deposit was cancelled, a payment voided; a return undoes none, since the bank
+-- told of both
 abbrev pub undone_on : Entry → Option ℕ
 undone_on (entry.Deposit d) = cancelled_on d.state
 undone_on (entry.Payment p) = voided_on p.state

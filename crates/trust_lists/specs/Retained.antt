@@ -42,4 +42,5 @@ with_row_retained s row = record s { lines = s.lines ++ retention_line s.today r
 abbrev pub RetentionIsKept : Type 0
 RetentionIsKept =
     (today : ℕ) (firm : Firm)
-    → fold with_row_retained (none_retained today) firm.rows ≡ record { today = today; lines = retention_list today firm }
+    → fold with_row_retained (none_retained today) firm.rows
+      ≡ record { today = today; lines = retention_list today firm }

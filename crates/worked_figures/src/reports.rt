@@ -179,8 +179,8 @@ EXCEPTION 2024-01-31 CLOSE - 301.00 -
     plays(rt.alloc(), &steps)
 }
 
-// A line of the firm's of an earlier day that is accepted later stands where it was accepted; a matter that is closed is
-// in the journal and no longer in the trial balance.
+// A line of the firm's of an earlier day that is accepted later stands where it was accepted; a matter that is closed
+// is in the journal and no longer in the trial balance.
 #[test]
 fn in_the_order_of_acceptance(rt: HostRuntime) -> Result<(), Wrong> {
     let steps = [
