@@ -37,16 +37,20 @@ fn version_rows<S: Alter>(conn: &mut Connection<S>) -> Result<Vec<Row>, Error>
     requires { conn.old.in_transaction ≡ false }
     ensures mode { conn.new.in_transaction ≡ false }
     ensures serves { HasCleanDisk (state S.Store conn.new) → OnOk result (IsTrue (state S.Store conn.new).is_open) }
-    ensures rows { (l : Layout) → HasCleanDisk (state S.Store conn.new) → (state S.Store conn.old).now.schema ≡ book_schema l
+    ensures rows { (l : Layout) → HasCleanDisk (state S.Store conn.new)
+        → (state S.Store conn.old).now.schema ≡ book_schema l
         → IfOk result (λ rows.
         IsPermutation (map (λ v. v ∷ []) (versions_in l (state S.Store conn.old).now.trees)) rows.items) }
-    ensures settled { (l : Layout) → HasCleanDisk (state S.Store conn.new) → (state S.Store conn.old).now.schema ≡ book_schema l
+    ensures settled { (l : Layout) → HasCleanDisk (state S.Store conn.new)
+        → (state S.Store conn.old).now.schema ≡ book_schema l
         → OnOk result (IsSettled (state S.Store conn.new)
         × IsKept (state S.Store conn.old) (state S.Store conn.new)) }
-    ensures told { (l : Layout) → HasCleanDisk (state S.Store conn.new) → (state S.Store conn.old).now.schema ≡ book_schema l
+    ensures told { (l : Layout) → HasCleanDisk (state S.Store conn.new)
+        → (state S.Store conn.old).now.schema ≡ book_schema l
         → IfErr result (λ e. (e ≡ Error.SqliteFailure ErrorCode.OutOfMemory)
         ⊎ HasFailed (state S.Store conn.old) (state S.Store conn.new)) }
-    ensures kept { (l : Layout) → HasCleanDisk (state S.Store conn.new) → (state S.Store conn.old).now.schema ≡ book_schema l
+    ensures kept { (l : Layout) → HasCleanDisk (state S.Store conn.new)
+        → (state S.Store conn.old).now.schema ≡ book_schema l
         → IsTrue (state S.Store conn.new).is_open → IsKept (state S.Store conn.old) (state S.Store conn.new) }
     ensures crash { (l : Layout) → (state S.Store conn.old).now.schema ≡ book_schema l
         → Survives (state S.Store conn.old) (state S.Store conn.new) (λ _. ⊥) }
@@ -56,22 +60,26 @@ fn version_rows<S: Alter>(conn: &mut Connection<S>) -> Result<Vec<Row>, Error>
     conn.query_all("SELECT version FROM book ORDER BY rowid", &[])
 }
 
-/// The version that the tables say, where they say just one. Its clauses want the schema of a book. It fails for want of
-/// memory, or since the store failed or the connection has a limit on steps. Asks that no transaction is open.
+/// The version that the tables say, where they say just one. Its clauses want the schema of a book. It fails for want
+/// of memory, or since the store failed or the connection has a limit on steps. Asks that no transaction is open.
 pub fn version_of<S: Alter>(conn: &mut Connection<S>) -> Result<Option<i64>, Error>
     requires { conn.old.in_transaction ≡ false }
     ensures mode { conn.new.in_transaction ≡ false }
     ensures serves { HasCleanDisk (state S.Store conn.new) → OnOk result (IsTrue (state S.Store conn.new).is_open) }
-    ensures is { (l : Layout) → HasCleanDisk (state S.Store conn.new) → (state S.Store conn.old).now.schema ≡ book_schema l
+    ensures is { (l : Layout) → HasCleanDisk (state S.Store conn.new)
+        → (state S.Store conn.old).now.schema ≡ book_schema l
         → IfOk result (λ o. (v : ℤ)
         → (o ≡ Some v) ↔ (versions_in l (state S.Store conn.old).now.trees ≡ Int v ∷ [])) }
-    ensures settled { (l : Layout) → HasCleanDisk (state S.Store conn.new) → (state S.Store conn.old).now.schema ≡ book_schema l
+    ensures settled { (l : Layout) → HasCleanDisk (state S.Store conn.new)
+        → (state S.Store conn.old).now.schema ≡ book_schema l
         → OnOk result (IsSettled (state S.Store conn.new)
         × IsKept (state S.Store conn.old) (state S.Store conn.new)) }
-    ensures told { (l : Layout) → HasCleanDisk (state S.Store conn.new) → (state S.Store conn.old).now.schema ≡ book_schema l
+    ensures told { (l : Layout) → HasCleanDisk (state S.Store conn.new)
+        → (state S.Store conn.old).now.schema ≡ book_schema l
         → IfErr result (λ e. (e ≡ Error.SqliteFailure ErrorCode.OutOfMemory)
         ⊎ HasFailed (state S.Store conn.old) (state S.Store conn.new)) }
-    ensures kept { (l : Layout) → HasCleanDisk (state S.Store conn.new) → (state S.Store conn.old).now.schema ≡ book_schema l
+    ensures kept { (l : Layout) → HasCleanDisk (state S.Store conn.new)
+        → (state S.Store conn.old).now.schema ≡ book_schema l
         → IsTrue (state S.Store conn.new).is_open → IsKept (state S.Store conn.old) (state S.Store conn.new) }
     ensures crash { (l : Layout) → (state S.Store conn.old).now.schema ≡ book_schema l
         → Survives (state S.Store conn.old) (state S.Store conn.new) (λ _. ⊥) }
@@ -85,15 +93,19 @@ fn is_of_now<S: Alter>(conn: &mut Connection<S>) -> Result<bool, Error>
     requires { conn.old.in_transaction ≡ false }
     ensures mode { conn.new.in_transaction ≡ false }
     ensures serves { HasCleanDisk (state S.Store conn.new) → OnOk result (IsTrue (state S.Store conn.new).is_open) }
-    ensures is { (l : Layout) → HasCleanDisk (state S.Store conn.new) → (state S.Store conn.old).now.schema ≡ book_schema l
+    ensures is { (l : Layout) → HasCleanDisk (state S.Store conn.new)
+        → (state S.Store conn.old).now.schema ≡ book_schema l
         → IfOk result (λ b. IsTrue b ↔ IsBook l (state S.Store conn.old).now) }
-    ensures settled { (l : Layout) → HasCleanDisk (state S.Store conn.new) → (state S.Store conn.old).now.schema ≡ book_schema l
+    ensures settled { (l : Layout) → HasCleanDisk (state S.Store conn.new)
+        → (state S.Store conn.old).now.schema ≡ book_schema l
         → OnOk result (IsSettled (state S.Store conn.new)
         × IsKept (state S.Store conn.old) (state S.Store conn.new)) }
-    ensures told { (l : Layout) → HasCleanDisk (state S.Store conn.new) → (state S.Store conn.old).now.schema ≡ book_schema l
+    ensures told { (l : Layout) → HasCleanDisk (state S.Store conn.new)
+        → (state S.Store conn.old).now.schema ≡ book_schema l
         → IfErr result (λ e. (e ≡ Error.SqliteFailure ErrorCode.OutOfMemory)
         ⊎ HasFailed (state S.Store conn.old) (state S.Store conn.new)) }
-    ensures kept { (l : Layout) → HasCleanDisk (state S.Store conn.new) → (state S.Store conn.old).now.schema ≡ book_schema l
+    ensures kept { (l : Layout) → HasCleanDisk (state S.Store conn.new)
+        → (state S.Store conn.old).now.schema ≡ book_schema l
         → IsTrue (state S.Store conn.new).is_open → IsKept (state S.Store conn.old) (state S.Store conn.new) }
     ensures crash { (l : Layout) → (state S.Store conn.old).now.schema ≡ book_schema l
         → Survives (state S.Store conn.old) (state S.Store conn.new) (λ _. ⊥) }

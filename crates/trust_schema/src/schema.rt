@@ -26,8 +26,8 @@ fn is_moved(schema: &Schema) -> bool
         && schema.views.is_empty()
 }
 
-/// Whether the schema is a book's in this layout, to the last column: names, kinds, NOT NULL, keys, references, indexes,
-/// no view and nothing else, made in this order. Takes no memory.
+/// Whether the schema is a book's in this layout, to the last column: names, kinds, NOT NULL, keys, references,
+/// indexes, no view and nothing else, made in this order. Takes no memory.
 pub fn is_book_schema(schema: &Schema, layout: Layout) -> bool
     ensures sound { IsTrue result → schema.now ≡ book_schema layout }
     ensures complete { schema.now ≡ book_schema layout → IsTrue result }

@@ -18,7 +18,15 @@ pub record Lists : Type 0 where
   pub balances : List Balance
 
 abbrev pub lists_in : Layout → Trees → Lists
-lists_in l db = record { heads = heads_in l db; seats = seats_in l db; entries = entries_in l db; movements = movements_in l db; firm_lines = firm_lines_in l db; exceptions = exceptions_in l db; balances = balances_in l db }
+lists_in l db = record {
+  heads = heads_in l db;
+  seats = seats_in l db;
+  entries = entries_in l db;
+  movements = movements_in l db;
+  firm_lines = firm_lines_in l db;
+  exceptions = exceptions_in l db;
+  balances = balances_in l db;
+}
 
 -- what a statement makes of the lists; a table that counts up gives a row a number of its own
 abbrev pub IsStep : Statement → Lists → Lists → Type 0
@@ -26,10 +34,13 @@ IsStep (statement.Head h) a b = b ≡ record a { heads = put_head (head_given h)
 IsStep (statement.Seat s) a b = b ≡ record a { seats = add_seat (seat_given s) a.seats }
 IsStep (statement.SeatGone s) a b = b ≡ record a { seats = delete_where (is_seat s.matter s.person.now) a.seats }
 IsStep (statement.Entry e) a b = b ≡ record a { entries = put_entry (entry_given e) a.entries }
-IsStep (statement.Movement m) a b = (seq : ℤ) × (b ≡ record a { movements = a.movements ++ record (movement_given m) { seq = seq } ∷ [] })
-IsStep (statement.FirmLine f) a b = (seq : ℤ) × (b ≡ record a { firm_lines = a.firm_lines ++ record (firm_line_given f) { seq = seq } ∷ [] })
+IsStep (statement.Movement m) a b = (seq : ℤ)
+    × (b ≡ record a { movements = a.movements ++ record (movement_given m) { seq = seq } ∷ [] })
+IsStep (statement.FirmLine f) a b = (seq : ℤ)
+    × (b ≡ record a { firm_lines = a.firm_lines ++ record (firm_line_given f) { seq = seq } ∷ [] })
 IsStep (statement.Exception e) a b = b ≡ record a { exceptions = note_exception (exception_given e) a.exceptions }
-IsStep (statement.ExceptionGone e) a b = b ≡ record a { exceptions = delete_where (is_exception (exception_given e)) a.exceptions }
+IsStep (statement.ExceptionGone e) a b =
+    b ≡ record a { exceptions = delete_where (is_exception (exception_given e)) a.exceptions }
 IsStep (statement.Balance b) a c = c ≡ record a { balances = add_balance (balance_given b) a.balances }
 IsStep (statement.SeatsGone m) a b = b ≡ record a { seats = delete_where (is_seat_of m) a.seats }
 IsStep (statement.EntriesGone m) a b = b ≡ record a { entries = delete_where (is_entry_of m) a.entries }

@@ -22,7 +22,8 @@ pub record IsKept (old new : State) : Type 0 where
 abbrev pub LeavesOnly : State → State → (Trees → Type 0) → Type 0
 LeavesOnly old new Commits = (db : Trees) → new.may_leave db → old.may_leave db ⊎ Commits db
 
--- a call that reads changes nothing, whatever the tables are, also for a crash; one that answers leaves the connection open
+-- a call that reads changes nothing, whatever the tables are, also for a crash; one that answers leaves the connection
+-- open
 pub record LeavesAll {T E : Type 0} (result : Result T E) (old new : State) : Type 0 where
   pub same : HasCleanDisk new → IsTrue new.is_open → IsKept old new
   pub serves : HasCleanDisk new → OnOk result (IsTrue new.is_open)
@@ -42,11 +43,14 @@ abbrev pub IsSelect : List ℕ → Type 0
 IsSelect sql = selects (first sql) ≡ true
 
 -- a text was asked outside a transaction; a SELECT changes nothing
-pub record IsAsked {T : Type 0} (result : Result T Error) (items : T → List Row) (sql : List ℕ) (params : Row) (old new : State) : Type 0 where
+pub record IsAsked {T : Type 0} (result : Result T Error) (items : T → List Row)
+    (sql : List ℕ) (params : Row) (old new : State) : Type 0 where
   pub ok : HasCleanDisk new → IfOk result (λ rows. Shown sql params old new (items rows))
   pub left : IsSelect sql → LeavesAll result old new
 
--- where the tables stand in a layout, the rows of that layout are answered; the call changes nothing, also where they do not stand
-pub record IsRead {T : Type 0} (result : Result T Error) (items : T → List Row) (rows : Layout → List Row) (old new : State) : Type 0 where
+-- where the tables stand in a layout, the rows of that layout are answered; the call changes nothing, also where they
+-- do not stand
+pub record IsRead {T : Type 0} (result : Result T Error) (items : T → List Row)
+    (rows : Layout → List Row) (old new : State) : Type 0 where
   pub found : (l : Layout) → HasCleanDisk new → Stands l old.now → IfOk result (λ r. items r ≡ rows l)
   pub left : LeavesAll result old new

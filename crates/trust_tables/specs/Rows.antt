@@ -39,11 +39,13 @@ pub record Head : Type 0 where
 
 -- what its query shows
 abbrev pub head_shown : Head → Row
-head_shown h = Text h.client ∷ Int h.opened ∷ Int h.closed ∷ Int h.last ∷ Int h.entries ∷ Int h.held ∷ Int h.available ∷ Int h.disputed ∷ Int h.fees ∷ Int h.claims ∷ Int h.pending ∷ Int h.purged ∷ []
+head_shown h = Text h.client ∷ Int h.opened ∷ Int h.closed ∷ Int h.last ∷ Int h.entries ∷ Int h.held ∷ Int h.available ∷
+    Int h.disputed ∷ Int h.fees ∷ Int h.claims ∷ Int h.pending ∷ Int h.purged ∷ []
 
 -- what the query for the next head shows
 abbrev pub next_shown : Head → Row
-next_shown h = Text h.client ∷ Int h.opened ∷ Int h.closed ∷ Int h.last ∷ Int h.entries ∷ Int h.held ∷ Int h.available ∷ Int h.disputed ∷ Int h.fees ∷ Int h.claims ∷ Int h.pending ∷ Int h.purged ∷ Int h.no ∷ []
+next_shown h = Text h.client ∷ Int h.opened ∷ Int h.closed ∷ Int h.last ∷ Int h.entries ∷ Int h.held ∷ Int h.available ∷
+    Int h.disputed ∷ Int h.fees ∷ Int h.claims ∷ Int h.pending ∷ Int h.purged ∷ Int h.no ∷ []
 
 abbrev pub head_values : Head → Row
 head_values h = Int h.no ∷ head_shown h
@@ -52,7 +54,21 @@ abbrev pub head_row : Head → Row
 head_row h = Int h.no ∷ Null ∷ head_shown h
 
 abbrev pub head_in : Row → Head
-head_in r = record { no = id_in (column r 0); client = bytes (column r 2); opened = id_in (column r 3); closed = id_in (column r 4); last = id_in (column r 5); entries = id_in (column r 6); held = id_in (column r 7); available = id_in (column r 8); disputed = id_in (column r 9); fees = id_in (column r 10); claims = id_in (column r 11); pending = id_in (column r 12); purged = id_in (column r 13) }
+head_in r = record {
+  no = id_in (column r 0);
+  client = bytes (column r 2);
+  opened = id_in (column r 3);
+  closed = id_in (column r 4);
+  last = id_in (column r 5);
+  entries = id_in (column r 6);
+  held = id_in (column r 7);
+  available = id_in (column r 8);
+  disputed = id_in (column r 9);
+  fees = id_in (column r 10);
+  claims = id_in (column r 11);
+  pending = id_in (column r 12);
+  purged = id_in (column r 13);
+}
 
 abbrev pub heads_in : Layout → Trees → List Head
 heads_in l db = map head_in (db (matter_tree l))
@@ -83,7 +99,12 @@ abbrev pub seat_row : Seat → Row
 seat_row s = Int s.id ∷ seat_values s
 
 abbrev pub seat_in : Row → Seat
-seat_in r = record { id = id_in (column r 0); matter = id_in (column r 1); person = bytes (column r 2); role = id_in (column r 3) }
+seat_in r = record {
+  id = id_in (column r 0);
+  matter = id_in (column r 1);
+  person = bytes (column r 2);
+  role = id_in (column r 3);
+}
 
 abbrev pub seats_in : Layout → Trees → List Seat
 seats_in l db = map seat_in (db (seat_tree l))
@@ -134,7 +155,9 @@ pub record Entry : Type 0 where
 
 -- the columns that its query shows
 abbrev pub entry_shown : Entry → Row
-entry_shown e = Int e.kind ∷ Int e.day ∷ Int e.amount ∷ Int e.state ∷ Int e.fund ∷ Int e.of_no ∷ Text e.text_a ∷ Text e.text_b ∷ Text e.text_c ∷ Int e.day_done ∷ Int e.day_undone ∷ Int e.day_bank ∷ Text e.bank_ref ∷ Int e.part ∷ Int e.left_now ∷ []
+entry_shown e = Int e.kind ∷ Int e.day ∷ Int e.amount ∷ Int e.state ∷ Int e.fund ∷ Int e.of_no ∷ Text e.text_a ∷
+    Text e.text_b ∷ Text e.text_c ∷ Int e.day_done ∷ Int e.day_undone ∷ Int e.day_bank ∷ Text e.bank_ref ∷ Int e.part ∷
+    Int e.left_now ∷ []
 
 -- those that the query for all of a matter shows
 abbrev pub numbered_shown : Entry → Row
@@ -147,7 +170,26 @@ abbrev pub entry_row : Entry → Row
 entry_row e = Int e.id ∷ entry_values e
 
 abbrev pub entry_in : Row → Entry
-entry_in r = record { id = id_in (column r 0); matter = id_in (column r 1); no = id_in (column r 2); kind = id_in (column r 3); day = id_in (column r 4); amount = id_in (column r 5); state = id_in (column r 6); fund = id_in (column r 7); of_no = id_in (column r 8); text_a = bytes (column r 9); text_b = bytes (column r 10); text_c = bytes (column r 11); day_done = id_in (column r 12); day_undone = id_in (column r 13); day_bank = id_in (column r 14); bank_ref = bytes (column r 15); part = id_in (column r 16); left_now = id_in (column r 17) }
+entry_in r = record {
+  id = id_in (column r 0);
+  matter = id_in (column r 1);
+  no = id_in (column r 2);
+  kind = id_in (column r 3);
+  day = id_in (column r 4);
+  amount = id_in (column r 5);
+  state = id_in (column r 6);
+  fund = id_in (column r 7);
+  of_no = id_in (column r 8);
+  text_a = bytes (column r 9);
+  text_b = bytes (column r 10);
+  text_c = bytes (column r 11);
+  day_done = id_in (column r 12);
+  day_undone = id_in (column r 13);
+  day_bank = id_in (column r 14);
+  bank_ref = bytes (column r 15);
+  part = id_in (column r 16);
+  left_now = id_in (column r 17);
+}
 
 abbrev pub entries_in : Layout → Trees → List Entry
 entries_in l db = map entry_in (db (entry_tree l))
@@ -172,7 +214,8 @@ entries_of matter entries = sort_by entry_cmp (filter (is_entry_of matter) entri
 
 -- the entries with this one in place of the one that has its number
 abbrev pub put_entry : Entry → List Entry → List Entry
-put_entry new entries = insert_by (λ (e : Entry). e.id) (delete_where (is_entry new) entries) (record new { id = next_key (λ (e : Entry). e.id) entries })
+put_entry new entries = insert_by (λ (e : Entry). e.id) (delete_where (is_entry new) entries)
+    (record new { id = next_key (λ (e : Entry). e.id) entries })
 
 -- ---- a movement of the journal
 
@@ -190,7 +233,13 @@ abbrev pub movement_row : Movement → Row
 movement_row m = Int m.seq ∷ Null ∷ movement_values m
 
 abbrev pub movement_in : Row → Movement
-movement_in r = record { seq = id_in (column r 0); matter = id_in (column r 2); entry = id_in (column r 3); day = id_in (column r 4); amount = id_in (column r 5) }
+movement_in r = record {
+  seq = id_in (column r 0);
+  matter = id_in (column r 2);
+  entry = id_in (column r 3);
+  day = id_in (column r 4);
+  amount = id_in (column r 5);
+}
 
 abbrev pub movements_in : Layout → Trees → List Movement
 movements_in l db = map movement_in (db (journal_tree l))
@@ -214,7 +263,13 @@ abbrev pub firm_line_row : FirmLine → Row
 firm_line_row f = Int f.seq ∷ Null ∷ firm_line_values f
 
 abbrev pub firm_line_in : Row → FirmLine
-firm_line_in r = record { seq = id_in (column r 0); day = id_in (column r 2); bank_ref = bytes (column r 3); amount = id_in (column r 4); text = bytes (column r 5) }
+firm_line_in r = record {
+  seq = id_in (column r 0);
+  day = id_in (column r 2);
+  bank_ref = bytes (column r 3);
+  amount = id_in (column r 4);
+  text = bytes (column r 5);
+}
 
 abbrev pub firm_lines_in : Layout → Trees → List FirmLine
 firm_lines_in l db = map firm_line_in (db (firm_line_tree l))
@@ -236,23 +291,36 @@ abbrev pub exception_row : Exception → Row
 exception_row e = Int e.id ∷ exception_values e
 
 abbrev pub exception_in : Row → Exception
-exception_in r = record { id = id_in (column r 0); day = id_in (column r 1); reference = bytes (column r 2); bank_ref = bytes (column r 3); amount = id_in (column r 4); text = bytes (column r 5) }
+exception_in r = record {
+  id = id_in (column r 0);
+  day = id_in (column r 1);
+  reference = bytes (column r 2);
+  bank_ref = bytes (column r 3);
+  amount = id_in (column r 4);
+  text = bytes (column r 5);
+}
 
 abbrev pub exceptions_in : Layout → Trees → List Exception
 exceptions_in l db = map exception_in (db (exception_tree l))
 
 -- the same line, rowids aside
 abbrev pub is_exception : Exception → Exception → Bool
-is_exception new e = int_eq e.day new.day && (same_text e.reference new.reference && (same_text e.bank_ref new.bank_ref && (int_eq e.amount new.amount && same_text e.text new.text)))
+is_exception new e = int_eq e.day new.day && (same_text e.reference new.reference
+    && (same_text e.bank_ref new.bank_ref && (int_eq e.amount new.amount && same_text e.text new.text)))
 
 -- by all columns
 abbrev pub exception_cmp : Exception → Exception → Ordering
-exception_cmp a b = then_cmp (on (λ (e : Exception). e.day) int_cmp) (then_cmp (on (λ (e : Exception). e.reference) text_cmp) (then_cmp (on (λ (e : Exception). e.bank_ref) text_cmp)
-    (then_cmp (on (λ (e : Exception). e.amount) int_cmp) (then_cmp (on (λ (e : Exception). e.text) text_cmp) (on (λ (e : Exception). e.id) int_cmp))))) a b
+exception_cmp a b = then_cmp (on (λ (e : Exception). e.day) int_cmp)
+    (then_cmp (on (λ (e : Exception). e.reference) text_cmp)
+    (then_cmp (on (λ (e : Exception). e.bank_ref) text_cmp)
+    (then_cmp (on (λ (e : Exception). e.amount) int_cmp)
+    (then_cmp (on (λ (e : Exception). e.text) text_cmp)
+    (on (λ (e : Exception). e.id) int_cmp))))) a b
 
 -- the exceptions with this one behind the others, where it is not among them
 abbrev pub note_exception : Exception → List Exception → List Exception
-note_exception new noted = if list_any (is_exception new) noted then noted else noted ++ record new { id = next_key (λ (e : Exception). e.id) noted } ∷ []
+note_exception new noted = if list_any (is_exception new) noted then noted
+    else noted ++ record new { id = next_key (λ (e : Exception). e.id) noted } ∷ []
 
 -- ---- a balance that a statement names
 
@@ -269,7 +337,12 @@ abbrev pub balance_row : Balance → Row
 balance_row b = Int b.id ∷ balance_values b
 
 abbrev pub balance_in : Row → Balance
-balance_in r = record { id = id_in (column r 0); kind = id_in (column r 1); day = id_in (column r 2); amount = id_in (column r 3) }
+balance_in r = record {
+  id = id_in (column r 0);
+  kind = id_in (column r 1);
+  day = id_in (column r 2);
+  amount = id_in (column r 3);
+}
 
 abbrev pub balances_in : Layout → Trees → List Balance
 balances_in l db = map balance_in (db (balance_tree l))
@@ -282,7 +355,9 @@ balance_shown b = Int b.amount ∷ []
 
 -- by kind, and then by day
 abbrev pub balance_cmp : Balance → Balance → Ordering
-balance_cmp a b = then_cmp (on (λ (b : Balance). b.kind) int_cmp) (then_cmp (on (λ (b : Balance). b.day) int_cmp) (on (λ (b : Balance). b.id) int_cmp)) a b
+balance_cmp a b = then_cmp (on (λ (b : Balance). b.kind) int_cmp)
+    (then_cmp (on (λ (b : Balance). b.day) int_cmp)
+    (on (λ (b : Balance). b.id) int_cmp)) a b
 
 -- the balances with this one behind the others
 abbrev pub add_balance : Balance → List Balance → List Balance

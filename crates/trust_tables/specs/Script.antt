@@ -32,7 +32,10 @@ call_of (statement.Entry e) = record { text = entry_write_text; params = entry_v
 call_of (statement.Movement m) = record { text = journal_insert_text; params = movement_values (movement_given m) }
 call_of (statement.FirmLine f) = record { text = firm_insert_text; params = firm_line_values (firm_line_given f) }
 call_of (statement.Exception e) = record { text = exception_insert_text; params = exception_values (exception_given e) }
-call_of (statement.ExceptionGone e) = record { text = exception_delete_text; params = exception_values (exception_given e) }
+call_of (statement.ExceptionGone e) = record {
+  text = exception_delete_text;
+  params = exception_values (exception_given e);
+}
 call_of (statement.Balance b) = record { text = balance_insert_text; params = balance_values (balance_given b) }
 call_of (statement.SeatsGone m) = record { text = purge_seats_text; params = Int m ∷ [] }
 call_of (statement.EntriesGone m) = record { text = purge_entries_text; params = Int m ∷ [] }
@@ -48,30 +51,43 @@ IsSettled s = (s.committed ≡ s.now) × ((db : Trees) → s.may_leave db → db
 -- the calls ran in turn, each with success
 abbrev pub RanInside : {S : Type 0} → Ghosts S → List Call → Held S → Held S → Type 0
 RanInside g [] old new = new ≡ old
-RanInside {S} g (call ∷ calls) old new = (mid : Held S) × (count : ℕ) × Executes call.text call.params (state g old) (state g mid) (Ok count) × RanInside g calls mid new
+RanInside {S} g (call ∷ calls) old new = (mid : Held S) × (count : ℕ)
+    × Executes call.text call.params (state g old) (state g mid) (Ok count) × RanInside g calls mid new
 
 -- the calls ran in one transaction, which leaves this
 abbrev pub RanAll : {S : Type 0} → Ghosts S → List Call → Held S → Database → Type 0
-RanAll {S} g calls old db = (last : Held S) × RanInside g calls (record old { in_transaction = true }) last × (db ≡ (state g last).now)
+RanAll {S} g calls old db = (last : Held S) × RanInside g calls (record old { in_transaction = true }) last
+    × (db ≡ (state g last).now)
 
 -- what a statement makes of tables that stand in a layout
 abbrev pub Does : Layout → Statement → Database → Database → Type 0
 Does l (statement.Head h) db = Changed l (matter_tree l) head_row (put_head (head_given h) (heads_in l db.trees)) db
 Does l (statement.Seat s) db = Changed l (seat_tree l) seat_row (add_seat (seat_given s) (seats_in l db.trees)) db
-Does l (statement.SeatGone s) db = Changed l (seat_tree l) seat_row (delete_where (is_seat s.matter s.person.now) (seats_in l db.trees)) db
-Does l (statement.Entry e) db = Changed l (entry_tree l) entry_row (put_entry (entry_given e) (entries_in l db.trees)) db
-Does l (statement.Movement m) db = Counted l (journal_tree l) movement_row (λ (x : Movement). x.seq) (movements_in l db.trees) (λ seq. record (movement_given m) { seq = seq }) db
-Does l (statement.FirmLine f) db = Counted l (firm_line_tree l) firm_line_row (λ (x : FirmLine). x.seq) (firm_lines_in l db.trees) (λ seq. record (firm_line_given f) { seq = seq }) db
-Does l (statement.Exception e) db = Changed l (exception_tree l) exception_row (note_exception (exception_given e) (exceptions_in l db.trees)) db
-Does l (statement.ExceptionGone e) db = Changed l (exception_tree l) exception_row (delete_where (is_exception (exception_given e)) (exceptions_in l db.trees)) db
-Does l (statement.Balance b) db = Changed l (balance_tree l) balance_row (add_balance (balance_given b) (balances_in l db.trees)) db
-Does l (statement.SeatsGone m) db = Changed l (seat_tree l) seat_row (delete_where (is_seat_of m) (seats_in l db.trees)) db
-Does l (statement.EntriesGone m) db = Changed l (entry_tree l) entry_row (delete_where (is_entry_of m) (entries_in l db.trees)) db
-Does l (statement.MovementsGone m) db = Changed l (journal_tree l) movement_row (delete_where (is_movement_of m) (movements_in l db.trees)) db
+Does l (statement.SeatGone s) db = Changed l (seat_tree l) seat_row
+    (delete_where (is_seat s.matter s.person.now) (seats_in l db.trees)) db
+Does l (statement.Entry e) db = Changed l (entry_tree l) entry_row
+    (put_entry (entry_given e) (entries_in l db.trees)) db
+Does l (statement.Movement m) db = Counted l (journal_tree l) movement_row (λ (x : Movement). x.seq)
+    (movements_in l db.trees) (λ seq. record (movement_given m) { seq = seq }) db
+Does l (statement.FirmLine f) db = Counted l (firm_line_tree l) firm_line_row (λ (x : FirmLine). x.seq)
+    (firm_lines_in l db.trees) (λ seq. record (firm_line_given f) { seq = seq }) db
+Does l (statement.Exception e) db = Changed l (exception_tree l) exception_row
+    (note_exception (exception_given e) (exceptions_in l db.trees)) db
+Does l (statement.ExceptionGone e) db = Changed l (exception_tree l) exception_row
+    (delete_where (is_exception (exception_given e)) (exceptions_in l db.trees)) db
+Does l (statement.Balance b) db = Changed l (balance_tree l) balance_row
+    (add_balance (balance_given b) (balances_in l db.trees)) db
+Does l (statement.SeatsGone m) db = Changed l (seat_tree l) seat_row
+    (delete_where (is_seat_of m) (seats_in l db.trees)) db
+Does l (statement.EntriesGone m) db = Changed l (entry_tree l) entry_row
+    (delete_where (is_entry_of m) (entries_in l db.trees)) db
+Does l (statement.MovementsGone m) db = Changed l (journal_tree l) movement_row
+    (delete_where (is_movement_of m) (movements_in l db.trees)) db
 
 -- where the tables stand in a layout, a statement that succeeds in a transaction makes its change
 abbrev pub Changes : Statement → Result ℕ Error → State → State → Type 0
-Changes s result old new = (l : Layout) → HasCleanDisk new → IsTrue old.in_transaction → Stands l old.now → OnOk result (Does l s old.now new.now)
+Changes s result old new = (l : Layout) → HasCleanDisk new → IsTrue old.in_transaction → Stands l old.now
+    → OnOk result (Does l s old.now new.now)
 
 -- the statements, in turn
 abbrev pub DoesAll : Layout → List Statement → Database → Database → Type 0

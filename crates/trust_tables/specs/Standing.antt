@@ -47,16 +47,20 @@ pub record Stands (l : Layout) (db : Database) : Type 0 where
 
 -- every other table is as it was, the database's own counts aside
 abbrev pub KeepsOthers : Layout → ℕ → Database → Database → Type 0
-KeepsOthers l tree db next = AllByRecursion (λ t. t.tree ≢ tree → t.tree ≢ sequence_tree l → next.trees t.tree ≡ db.trees t.tree) (book_schema l).tables
+KeepsOthers l tree db next =
+    AllByRecursion (λ t. t.tree ≢ tree → t.tree ≢ sequence_tree l → next.trees t.tree ≡ db.trees t.tree)
+    (book_schema l).tables
 
 -- one table holds these records now, and nothing else changed
-pub record Changed {X : Type 0} (l : Layout) (tree : ℕ) (to_row : X → Row) (now : List X) (db next : Database) : Type 0 where
+pub record Changed {X : Type 0} (l : Layout) (tree : ℕ) (to_row : X → Row) (now : List X)
+    (db next : Database) : Type 0 where
   pub schema : next.schema ≡ book_schema l
   pub rows : next.trees tree ≡ map to_row now
   pub others : KeepsOthers l tree db next
 
 -- one table holds one record more, under a rowid above all others, and nothing else changed
-pub record Counted {X : Type 0} (l : Layout) (tree : ℕ) (to_row : X → Row) (key : X → ℤ) (was : List X) (new : ℤ → X) (db next : Database) : Type 0 where
+pub record Counted {X : Type 0} (l : Layout) (tree : ℕ) (to_row : X → Row) (key : X → ℤ) (was : List X)
+    (new : ℤ → X) (db next : Database) : Type 0 where
   pub seq : ℤ
   pub changed : Changed l tree to_row (was ++ new seq ∷ []) db next
   pub rise : IsKeyedBy key (was ++ new seq ∷ [])

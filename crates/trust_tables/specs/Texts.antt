@@ -21,7 +21,8 @@ head_read_query l = record {
   from = inner (matter_tree l) end;
   filter = op2 (Compare Eq Binary) (col 1 0) (col 0 0) ∷ [];
   group = None;
-  project = col 1 2 ∷ col 1 3 ∷ col 1 4 ∷ col 1 5 ∷ col 1 6 ∷ col 1 7 ∷ col 1 8 ∷ col 1 9 ∷ col 1 10 ∷ col 1 11 ∷ col 1 12 ∷ col 1 13 ∷ [];
+  project = col 1 2 ∷ col 1 3 ∷ col 1 4 ∷ col 1 5 ∷ col 1 6 ∷ col 1 7 ∷ col 1 8 ∷ col 1 9 ∷ col 1 10 ∷ col 1 11 ∷
+      col 1 12 ∷ col 1 13 ∷ [];
   distinct = false;
   collations = [];
   order = (col 1 0, record { collation = Binary; descending = false }) ∷ [];
@@ -30,7 +31,8 @@ head_read_query l = record {
 }
 
 abbrev pub head_read_names : List (List ℕ)
-head_read_names = codes "client" ∷ codes "opened" ∷ codes "closed" ∷ codes "last" ∷ codes "entries" ∷ codes "held" ∷ codes "available" ∷ codes "disputed" ∷ codes "fees" ∷ codes "claims" ∷ codes "pending" ∷ codes "purged" ∷ []
+head_read_names = codes "client" ∷ codes "opened" ∷ codes "closed" ∷ codes "last" ∷ codes "entries" ∷ codes "held" ∷
+    codes "available" ∷ codes "disputed" ∷ codes "fees" ∷ codes "claims" ∷ codes "pending" ∷ codes "purged" ∷ []
 
 abbrev pub head_read_command : Layout → Command
 head_read_command l = Select (record { lets = []; body = head_read_query l }) head_read_names
@@ -43,7 +45,8 @@ next_head_query l = record {
   from = inner (matter_tree l) end;
   filter = op2 (Compare Gt Binary) (col 1 0) (col 0 0) ∷ [];
   group = None;
-  project = col 1 2 ∷ col 1 3 ∷ col 1 4 ∷ col 1 5 ∷ col 1 6 ∷ col 1 7 ∷ col 1 8 ∷ col 1 9 ∷ col 1 10 ∷ col 1 11 ∷ col 1 12 ∷ col 1 13 ∷ col 1 0 ∷ [];
+  project = col 1 2 ∷ col 1 3 ∷ col 1 4 ∷ col 1 5 ∷ col 1 6 ∷ col 1 7 ∷ col 1 8 ∷ col 1 9 ∷ col 1 10 ∷ col 1 11 ∷
+      col 1 12 ∷ col 1 13 ∷ col 1 0 ∷ [];
   distinct = false;
   collations = [];
   order = (col 1 0, record { collation = Binary; descending = false }) ∷ [];
@@ -52,7 +55,9 @@ next_head_query l = record {
 }
 
 abbrev pub next_head_names : List (List ℕ)
-next_head_names = codes "client" ∷ codes "opened" ∷ codes "closed" ∷ codes "last" ∷ codes "entries" ∷ codes "held" ∷ codes "available" ∷ codes "disputed" ∷ codes "fees" ∷ codes "claims" ∷ codes "pending" ∷ codes "purged" ∷ codes "no" ∷ []
+next_head_names = codes "client" ∷ codes "opened" ∷ codes "closed" ∷ codes "last" ∷ codes "entries" ∷ codes "held" ∷
+    codes "available" ∷ codes "disputed" ∷ codes "fees" ∷ codes "claims" ∷ codes "pending" ∷ codes "purged" ∷
+    codes "no" ∷ []
 
 abbrev pub next_head_command : Layout → Command
 next_head_command l = Select (record { lets = []; body = next_head_query l }) next_head_names
@@ -68,7 +73,8 @@ seats_read_query l = record {
   project = col 1 2 ∷ col 1 3 ∷ [];
   distinct = false;
   collations = [];
-  order = (col 1 2, record { collation = Binary; descending = false }) ∷ (col 1 0, record { collation = Binary; descending = false }) ∷ [];
+  order = (col 1 2, record { collation = Binary; descending = false }) ∷
+      (col 1 0, record { collation = Binary; descending = false }) ∷ [];
   limit = lit (Int (negsuc 0));
   offset = lit (Int (pos 0));
 }
@@ -87,16 +93,20 @@ entries_read_query l = record {
   from = inner (entry_tree l) end;
   filter = op2 (Compare Eq Binary) (col 1 1) (col 0 0) ∷ [];
   group = None;
-  project = col 1 2 ∷ col 1 3 ∷ col 1 4 ∷ col 1 5 ∷ col 1 6 ∷ col 1 7 ∷ col 1 8 ∷ col 1 9 ∷ col 1 10 ∷ col 1 11 ∷ col 1 12 ∷ col 1 13 ∷ col 1 14 ∷ col 1 15 ∷ col 1 16 ∷ col 1 17 ∷ [];
+  project = col 1 2 ∷ col 1 3 ∷ col 1 4 ∷ col 1 5 ∷ col 1 6 ∷ col 1 7 ∷ col 1 8 ∷ col 1 9 ∷ col 1 10 ∷ col 1 11 ∷
+      col 1 12 ∷ col 1 13 ∷ col 1 14 ∷ col 1 15 ∷ col 1 16 ∷ col 1 17 ∷ [];
   distinct = false;
   collations = [];
-  order = (col 1 2, record { collation = Binary; descending = false }) ∷ (col 1 0, record { collation = Binary; descending = false }) ∷ [];
+  order = (col 1 2, record { collation = Binary; descending = false }) ∷
+      (col 1 0, record { collation = Binary; descending = false }) ∷ [];
   limit = lit (Int (negsuc 0));
   offset = lit (Int (pos 0));
 }
 
 abbrev pub entries_read_names : List (List ℕ)
-entries_read_names = codes "no" ∷ codes "kind" ∷ codes "day" ∷ codes "amount" ∷ codes "state" ∷ codes "fund" ∷ codes "of_no" ∷ codes "text_a" ∷ codes "text_b" ∷ codes "text_c" ∷ codes "day_done" ∷ codes "day_undone" ∷ codes "day_bank" ∷ codes "bank_ref" ∷ codes "part" ∷ codes "left_now" ∷ []
+entries_read_names = codes "no" ∷ codes "kind" ∷ codes "day" ∷ codes "amount" ∷ codes "state" ∷ codes "fund" ∷
+    codes "of_no" ∷ codes "text_a" ∷ codes "text_b" ∷ codes "text_c" ∷ codes "day_done" ∷ codes "day_undone" ∷
+    codes "day_bank" ∷ codes "bank_ref" ∷ codes "part" ∷ codes "left_now" ∷ []
 
 abbrev pub entries_read_command : Layout → Command
 entries_read_command l = Select (record { lets = []; body = entries_read_query l }) entries_read_names
@@ -109,7 +119,8 @@ entry_read_query l = record {
   from = inner (entry_tree l) end;
   filter = op2 (Compare Eq Binary) (col 1 1) (col 0 0) ∷ op2 (Compare Eq Binary) (col 1 2) (col 0 1) ∷ [];
   group = None;
-  project = col 1 3 ∷ col 1 4 ∷ col 1 5 ∷ col 1 6 ∷ col 1 7 ∷ col 1 8 ∷ col 1 9 ∷ col 1 10 ∷ col 1 11 ∷ col 1 12 ∷ col 1 13 ∷ col 1 14 ∷ col 1 15 ∷ col 1 16 ∷ col 1 17 ∷ [];
+  project = col 1 3 ∷ col 1 4 ∷ col 1 5 ∷ col 1 6 ∷ col 1 7 ∷ col 1 8 ∷ col 1 9 ∷ col 1 10 ∷ col 1 11 ∷ col 1 12 ∷
+      col 1 13 ∷ col 1 14 ∷ col 1 15 ∷ col 1 16 ∷ col 1 17 ∷ [];
   distinct = false;
   collations = [];
   order = (col 1 0, record { collation = Binary; descending = false }) ∷ [];
@@ -118,7 +129,9 @@ entry_read_query l = record {
 }
 
 abbrev pub entry_read_names : List (List ℕ)
-entry_read_names = codes "kind" ∷ codes "day" ∷ codes "amount" ∷ codes "state" ∷ codes "fund" ∷ codes "of_no" ∷ codes "text_a" ∷ codes "text_b" ∷ codes "text_c" ∷ codes "day_done" ∷ codes "day_undone" ∷ codes "day_bank" ∷ codes "bank_ref" ∷ codes "part" ∷ codes "left_now" ∷ []
+entry_read_names = codes "kind" ∷ codes "day" ∷ codes "amount" ∷ codes "state" ∷ codes "fund" ∷ codes "of_no" ∷
+    codes "text_a" ∷ codes "text_b" ∷ codes "text_c" ∷ codes "day_done" ∷ codes "day_undone" ∷ codes "day_bank" ∷
+    codes "bank_ref" ∷ codes "part" ∷ codes "left_now" ∷ []
 
 abbrev pub entry_read_command : Layout → Command
 entry_read_command l = Select (record { lets = []; body = entry_read_query l }) entry_read_names
@@ -200,7 +213,12 @@ exception_scan_query l = record {
   project = col 1 1 ∷ col 1 2 ∷ col 1 3 ∷ col 1 4 ∷ col 1 5 ∷ [];
   distinct = false;
   collations = [];
-  order = (col 1 1, record { collation = Binary; descending = false }) ∷ (col 1 2, record { collation = Binary; descending = false }) ∷ (col 1 3, record { collation = Binary; descending = false }) ∷ (col 1 4, record { collation = Binary; descending = false }) ∷ (col 1 5, record { collation = Binary; descending = false }) ∷ (col 1 0, record { collation = Binary; descending = false }) ∷ [];
+  order = (col 1 1, record { collation = Binary; descending = false }) ∷
+      (col 1 2, record { collation = Binary; descending = false }) ∷
+      (col 1 3, record { collation = Binary; descending = false }) ∷
+      (col 1 4, record { collation = Binary; descending = false }) ∷
+      (col 1 5, record { collation = Binary; descending = false }) ∷
+      (col 1 0, record { collation = Binary; descending = false }) ∷ [];
   limit = lit (Int (negsuc 0));
   offset = lit (Int (pos 0));
 }
@@ -222,7 +240,9 @@ balance_scan_query l = record {
   project = col 1 1 ∷ col 1 2 ∷ col 1 3 ∷ [];
   distinct = false;
   collations = [];
-  order = (col 1 1, record { collation = Binary; descending = false }) ∷ (col 1 2, record { collation = Binary; descending = false }) ∷ (col 1 0, record { collation = Binary; descending = false }) ∷ [];
+  order = (col 1 1, record { collation = Binary; descending = false }) ∷
+      (col 1 2, record { collation = Binary; descending = false }) ∷
+      (col 1 0, record { collation = Binary; descending = false }) ∷ [];
   limit = lit (Int (negsuc 0));
   offset = lit (Int (pos 0));
 }
@@ -237,7 +257,8 @@ abbrev pub head_write_text : List ℕ
 head_write_text = codes "INSERT OR REPLACE INTO matter_v2 (no, client, opened, closed, last, entries, held, available, disputed, fees, claims, pending, purged) VALUES (?1, ?2, ?3, ?4, ?5, ?6, ?7, ?8, ?9, ?10, ?11, ?12, ?13)"
 
 abbrev pub head_write_terms : List Term
-head_write_terms = col 0 0 ∷ lit Null ∷ col 0 1 ∷ col 0 2 ∷ col 0 3 ∷ col 0 4 ∷ col 0 5 ∷ col 0 6 ∷ col 0 7 ∷ col 0 8 ∷ col 0 9 ∷ col 0 10 ∷ col 0 11 ∷ col 0 12 ∷ []
+head_write_terms = col 0 0 ∷ lit Null ∷ col 0 1 ∷ col 0 2 ∷ col 0 3 ∷ col 0 4 ∷ col 0 5 ∷ col 0 6 ∷ col 0 7 ∷
+    col 0 8 ∷ col 0 9 ∷ col 0 10 ∷ col 0 11 ∷ col 0 12 ∷ []
 
 abbrev pub head_write_command : Layout → Command
 head_write_command l = InsertOr (matter_place l) Replace (Values head_write_terms 14) []
@@ -246,7 +267,8 @@ abbrev pub entry_write_text : List ℕ
 entry_write_text = codes "INSERT OR REPLACE INTO entry_v2 (matter, no, kind, day, amount, state, fund, of_no, text_a, text_b, text_c, day_done, day_undone, day_bank, bank_ref, part, left_now) VALUES (?1, ?2, ?3, ?4, ?5, ?6, ?7, ?8, ?9, ?10, ?11, ?12, ?13, ?14, ?15, ?16, ?17)"
 
 abbrev pub entry_write_terms : List Term
-entry_write_terms = lit Null ∷ col 0 0 ∷ col 0 1 ∷ col 0 2 ∷ col 0 3 ∷ col 0 4 ∷ col 0 5 ∷ col 0 6 ∷ col 0 7 ∷ col 0 8 ∷ col 0 9 ∷ col 0 10 ∷ col 0 11 ∷ col 0 12 ∷ col 0 13 ∷ col 0 14 ∷ col 0 15 ∷ col 0 16 ∷ []
+entry_write_terms = lit Null ∷ col 0 0 ∷ col 0 1 ∷ col 0 2 ∷ col 0 3 ∷ col 0 4 ∷ col 0 5 ∷ col 0 6 ∷ col 0 7 ∷
+    col 0 8 ∷ col 0 9 ∷ col 0 10 ∷ col 0 11 ∷ col 0 12 ∷ col 0 13 ∷ col 0 14 ∷ col 0 15 ∷ col 0 16 ∷ []
 
 abbrev pub entry_write_command : Layout → Command
 entry_write_command l = InsertOr (entry_place l) Replace (Values entry_write_terms 18) []
@@ -312,7 +334,9 @@ exception_delete_text = codes "DELETE FROM exception WHERE day = ?1 AND referenc
 abbrev pub exception_delete_query : Layout → Query
 exception_delete_query l = record {
   from = inner (exception_tree l) end;
-  filter = op2 (Compare Eq Binary) (col 1 1) (col 0 0) ∷ op2 (Compare Eq Binary) (col 1 2) (col 0 1) ∷ op2 (Compare Eq Binary) (col 1 3) (col 0 2) ∷ op2 (Compare Eq Binary) (col 1 4) (col 0 3) ∷ op2 (Compare Eq Binary) (col 1 5) (col 0 4) ∷ [];
+  filter = op2 (Compare Eq Binary) (col 1 1) (col 0 0) ∷ op2 (Compare Eq Binary) (col 1 2) (col 0 1) ∷
+      op2 (Compare Eq Binary) (col 1 3) (col 0 2) ∷ op2 (Compare Eq Binary) (col 1 4) (col 0 3) ∷
+      op2 (Compare Eq Binary) (col 1 5) (col 0 4) ∷ [];
   group = None;
   project = col 1 0 ∷ [];
   distinct = false;

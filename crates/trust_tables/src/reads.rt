@@ -1,8 +1,8 @@
-//! Queries, each the rows of its table that it shows: a value for each column that it names, in that order. Each asks that
-//! no transaction is open, and holds all its rows in memory at once. Where the tables do not stand nothing is said of the
-//! rows. Whatever the tables are, a query changes nothing, also for a crash, and one that answers leaves the connection
-//! open. An error comes where memory is refused, the store fails or a limit on steps is reached; it leaves a connection
-//! that stays open as it was.
+//! Queries, each the rows of its table that it shows: a value for each column that it names, in that order. Each asks
+//! that no transaction is open, and holds all its rows in memory at once. Where the tables do not stand nothing is said
+//! of the rows. Whatever the tables are, a query changes nothing, also for a crash, and one that answers leaves the
+//! connection open. An error comes where memory is refused, the store fails or a limit on steps is reached; it leaves a
+//! connection that stays open as it was.
 
 ghost use Rattle.std.specs.Prelude.{◌≡◌, false, map, filter, take};
 ghost use Rattle.sqlite.specs.Held.{state};

@@ -59,7 +59,8 @@ fn put_head<S: Alter>(tx: &mut Transaction<'_, S>, h: HeadColumns<'_>) -> Result
     ensures same_reference { tx.new.conn.ghost_name ≡ tx.old.conn.ghost_name }
     ensures ran { IsPerformed head_write_text (head_values (head_given h.entry)) result
         (state S.Store tx.old.conn.now) (state S.Store tx.new.conn.now) }
-    ensures changes { Changes (Statement.Head h.entry) result (state S.Store tx.old.conn.now) (state S.Store tx.new.conn.now) }
+    ensures changes { Changes (Statement.Head h.entry) result
+        (state S.Store tx.old.conn.now) (state S.Store tx.new.conn.now) }
 {
     tx.execute(
         "INSERT OR REPLACE INTO matter_v2 (no, client, opened, closed, last, entries, held, \
@@ -87,7 +88,8 @@ fn add_seat<S: Alter>(tx: &mut Transaction<'_, S>, s: SeatColumns<'_>) -> Result
     ensures same_reference { tx.new.conn.ghost_name ≡ tx.old.conn.ghost_name }
     ensures ran { IsPerformed seat_insert_text (seat_values (seat_given s.entry)) result
         (state S.Store tx.old.conn.now) (state S.Store tx.new.conn.now) }
-    ensures changes { Changes (Statement.Seat s.entry) result (state S.Store tx.old.conn.now) (state S.Store tx.new.conn.now) }
+    ensures changes { Changes (Statement.Seat s.entry) result
+        (state S.Store tx.old.conn.now) (state S.Store tx.new.conn.now) }
 {
     tx.execute(
         "INSERT INTO seat_v2 (matter, person, role) VALUES (?1, ?2, ?3)",
@@ -103,7 +105,8 @@ fn remove_seat<S: Alter>(tx: &mut Transaction<'_, S>, s: SeatName<'_>) -> Result
     ensures same_reference { tx.new.conn.ghost_name ≡ tx.old.conn.ghost_name }
     ensures ran { IsPerformed seat_delete_text (Int s.entry.matter ∷ Text s.entry.person.now ∷ []) result
         (state S.Store tx.old.conn.now) (state S.Store tx.new.conn.now) }
-    ensures changes { Changes (Statement.SeatGone s.entry) result (state S.Store tx.old.conn.now) (state S.Store tx.new.conn.now) }
+    ensures changes { Changes (Statement.SeatGone s.entry) result
+        (state S.Store tx.old.conn.now) (state S.Store tx.new.conn.now) }
 {
     tx.execute(
         "DELETE FROM seat_v2 WHERE matter = ?1 AND person = ?2",
@@ -115,7 +118,8 @@ fn put_entry<S: Alter>(tx: &mut Transaction<'_, S>, e: EntryColumns<'_>) -> Resu
     ensures same_reference { tx.new.conn.ghost_name ≡ tx.old.conn.ghost_name }
     ensures ran { IsPerformed entry_write_text (entry_values (entry_given e.entry)) result
         (state S.Store tx.old.conn.now) (state S.Store tx.new.conn.now) }
-    ensures changes { Changes (Statement.Entry e.entry) result (state S.Store tx.old.conn.now) (state S.Store tx.new.conn.now) }
+    ensures changes { Changes (Statement.Entry e.entry) result
+        (state S.Store tx.old.conn.now) (state S.Store tx.new.conn.now) }
 {
     tx.execute(
         "INSERT OR REPLACE INTO entry_v2 (matter, no, kind, day, amount, state, fund, of_no, text_a, \
@@ -147,7 +151,8 @@ fn add_movement<S: Alter>(tx: &mut Transaction<'_, S>, m: MovementColumns) -> Re
     ensures same_reference { tx.new.conn.ghost_name ≡ tx.old.conn.ghost_name }
     ensures ran { IsPerformed journal_insert_text (movement_values (movement_given m)) result
         (state S.Store tx.old.conn.now) (state S.Store tx.new.conn.now) }
-    ensures changes { Changes (Statement.Movement m) result (state S.Store tx.old.conn.now) (state S.Store tx.new.conn.now) }
+    ensures changes { Changes (Statement.Movement m) result
+        (state S.Store tx.old.conn.now) (state S.Store tx.new.conn.now) }
 {
     tx.execute(
         "INSERT INTO journal (matter, entry, day, amount) VALUES (?1, ?2, ?3, ?4)",
@@ -167,7 +172,8 @@ fn add_firm_line<S: Alter>(
     ensures same_reference { tx.new.conn.ghost_name ≡ tx.old.conn.ghost_name }
     ensures ran { IsPerformed firm_insert_text (firm_line_values (firm_line_given f.entry)) result
         (state S.Store tx.old.conn.now) (state S.Store tx.new.conn.now) }
-    ensures changes { Changes (Statement.FirmLine f.entry) result (state S.Store tx.old.conn.now) (state S.Store tx.new.conn.now) }
+    ensures changes { Changes (Statement.FirmLine f.entry) result
+        (state S.Store tx.old.conn.now) (state S.Store tx.new.conn.now) }
 {
     tx.execute(
         "INSERT INTO firm_line (day, bank_ref, amount, text) VALUES (?1, ?2, ?3, ?4)",
@@ -187,7 +193,8 @@ fn note_exception<S: Alter>(
     ensures same_reference { tx.new.conn.ghost_name ≡ tx.old.conn.ghost_name }
     ensures ran { IsPerformed exception_insert_text (exception_values (exception_given e.entry)) result
         (state S.Store tx.old.conn.now) (state S.Store tx.new.conn.now) }
-    ensures changes { Changes (Statement.Exception e.entry) result (state S.Store tx.old.conn.now) (state S.Store tx.new.conn.now) }
+    ensures changes { Changes (Statement.Exception e.entry) result
+        (state S.Store tx.old.conn.now) (state S.Store tx.new.conn.now) }
 {
     tx.execute(
         "INSERT OR IGNORE INTO exception (day, reference, bank_ref, amount, text) VALUES (?1, ?2, ?3, \
@@ -209,7 +216,8 @@ fn remove_exception<S: Alter>(
     ensures same_reference { tx.new.conn.ghost_name ≡ tx.old.conn.ghost_name }
     ensures ran { IsPerformed exception_delete_text (exception_values (exception_given e.entry)) result
         (state S.Store tx.old.conn.now) (state S.Store tx.new.conn.now) }
-    ensures changes { Changes (Statement.ExceptionGone e.entry) result (state S.Store tx.old.conn.now) (state S.Store tx.new.conn.now) }
+    ensures changes { Changes (Statement.ExceptionGone e.entry) result
+        (state S.Store tx.old.conn.now) (state S.Store tx.new.conn.now) }
 {
     tx.execute(
         "DELETE FROM exception WHERE day = ?1 AND reference = ?2 AND bank_ref = ?3 AND amount = ?4 \
@@ -228,7 +236,8 @@ fn add_balance<S: Alter>(tx: &mut Transaction<'_, S>, b: BalanceColumns) -> Resu
     ensures same_reference { tx.new.conn.ghost_name ≡ tx.old.conn.ghost_name }
     ensures ran { IsPerformed balance_insert_text (balance_values (balance_given b)) result
         (state S.Store tx.old.conn.now) (state S.Store tx.new.conn.now) }
-    ensures changes { Changes (Statement.Balance b) result (state S.Store tx.old.conn.now) (state S.Store tx.new.conn.now) }
+    ensures changes { Changes (Statement.Balance b) result
+        (state S.Store tx.old.conn.now) (state S.Store tx.new.conn.now) }
 {
     tx.execute(
         "INSERT INTO balance (kind, day, amount) VALUES (?1, ?2, ?3)",
@@ -244,7 +253,8 @@ fn remove_seats<S: Alter>(tx: &mut Transaction<'_, S>, matter: i64) -> Result<us
     ensures same_reference { tx.new.conn.ghost_name ≡ tx.old.conn.ghost_name }
     ensures ran { IsPerformed purge_seats_text (Int matter ∷ []) result
         (state S.Store tx.old.conn.now) (state S.Store tx.new.conn.now) }
-    ensures changes { Changes (Statement.SeatsGone matter) result (state S.Store tx.old.conn.now) (state S.Store tx.new.conn.now) }
+    ensures changes { Changes (Statement.SeatsGone matter) result
+        (state S.Store tx.old.conn.now) (state S.Store tx.new.conn.now) }
 {
     tx.execute(
         "DELETE FROM seat_v2 WHERE matter = ?1",
@@ -256,7 +266,8 @@ fn remove_entries<S: Alter>(tx: &mut Transaction<'_, S>, matter: i64) -> Result<
     ensures same_reference { tx.new.conn.ghost_name ≡ tx.old.conn.ghost_name }
     ensures ran { IsPerformed purge_entries_text (Int matter ∷ []) result
         (state S.Store tx.old.conn.now) (state S.Store tx.new.conn.now) }
-    ensures changes { Changes (Statement.EntriesGone matter) result (state S.Store tx.old.conn.now) (state S.Store tx.new.conn.now) }
+    ensures changes { Changes (Statement.EntriesGone matter) result
+        (state S.Store tx.old.conn.now) (state S.Store tx.new.conn.now) }
 {
     tx.execute(
         "DELETE FROM entry_v2 WHERE matter = ?1",
@@ -268,7 +279,8 @@ fn remove_movements<S: Alter>(tx: &mut Transaction<'_, S>, matter: i64) -> Resul
     ensures same_reference { tx.new.conn.ghost_name ≡ tx.old.conn.ghost_name }
     ensures ran { IsPerformed purge_journal_text (Int matter ∷ []) result
         (state S.Store tx.old.conn.now) (state S.Store tx.new.conn.now) }
-    ensures changes { Changes (Statement.MovementsGone matter) result (state S.Store tx.old.conn.now) (state S.Store tx.new.conn.now) }
+    ensures changes { Changes (Statement.MovementsGone matter) result
+        (state S.Store tx.old.conn.now) (state S.Store tx.new.conn.now) }
 {
     tx.execute(
         "DELETE FROM journal WHERE matter = ?1",
@@ -345,9 +357,9 @@ fn write_all<S: Alter>(conn: &mut Connection<S>, script: &[Statement<'_>]) -> Re
 }
 
 /// Writes in one transaction, all or nothing, also over a crash: where the tables stand in a layout, on Ok each
-/// statement has made its change in turn, they stand, and a crash leaves nothing else. An Ok leaves the connection open.
-/// The commit is the last call of the store. An error of a connection that stays open changes nothing; one that shuts it may leave the rows before or
-/// those with the change. Asks that no transaction is open.
+/// statement has made its change in turn, they stand, and a crash leaves nothing else. An Ok leaves the connection
+/// open. The commit is the last call of the store. An error of a connection that stays open changes nothing; one that
+/// shuts it may leave the rows before or those with the change. Asks that no transaction is open.
 pub fn write<S: Alter>(conn: &mut Connection<S>, script: &[Statement<'_>]) -> Result<(), Error>
     requires { (state S.Store conn.old).in_transaction ≡ false }
     ensures outside { (state S.Store conn.new).in_transaction ≡ false }
