@@ -37,14 +37,25 @@ entry_column owner.Firm = pos 0
 
 abbrev pub movement_columns : Movement → table.Movement
 movement_columns v = record {
-  seq = pos 0; matter = matter_column v.owner; entry = entry_column v.owner; day = pos v.day; amount = v.amount }
+  seq = pos 0;
+  matter = matter_column v.owner;
+  entry = entry_column v.owner;
+  day = pos v.day;
+  amount = v.amount;
+}
 
 abbrev pub firm_line_columns : FirmLine → table.FirmLine
 firm_line_columns l = record { seq = pos 0; day = pos l.date; bank_ref = l.bank_ref; amount = l.amount; text = l.text }
 
 abbrev pub exception_columns : Line → table.Exception
 exception_columns l = record {
-  id = pos 0; day = pos l.date; reference = l.reference; bank_ref = l.bank_ref; amount = l.amount; text = l.text }
+  id = pos 0;
+  day = pos l.date;
+  reference = l.reference;
+  bank_ref = l.bank_ref;
+  amount = l.amount;
+  text = l.text;
+}
 
 -- a client is 1, a lawyer 2
 abbrev pub role_column : Role → ℤ

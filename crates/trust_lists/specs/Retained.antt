@@ -43,4 +43,4 @@ abbrev pub RetentionIsKept : Type 0
 RetentionIsKept =
     (today : ℕ) (firm : Firm)
     → fold with_row_retained (none_retained today) firm.rows
-      ≡ record { today = today; lines = retention_list today firm }
+    ≡ record { today = today; lines = retention_list today firm }
