@@ -1,6 +1,6 @@
 // The same requests over a book in memory and over one in tables: what is answered is the same to the last byte.
 
-use crate::play::{Step, are_same, ask};
+use crate::play::{Asked, are_same, ask};
 use crate::values::{Wrong, made, taken};
 use sql_book::SqlBook;
 use sqlite::MemStore;
@@ -9,7 +9,7 @@ use trust_desk::Desk;
 use trust_store::PlainBook;
 
 // Each kind of change, and refusals and reading asks between them, on two matters.
-const STEPS: [Step; 88] = [
+const STEPS: [Asked; 88] = [
     ("2024-01-10", "", "show,000001,", 404),
     ("2024-01-10", "", "open,000001,,Ada Chen,lee", 201),
     ("2024-01-10", "", "open,000001,,Ada Chen,lee", 409),
@@ -131,8 +131,8 @@ const STEPS: [Step; 88] = [
     ("2024-01-20", "", "entry,000001,0003", 200),
     ("2024-01-20", "", "entry,000002,0001", 200),
     ("2024-01-20", "", "show,000002,", 200),
-    ("2024-02-01", "", "import,2024-01-31,CLOSE,,194.00,\n", 200),
-    ("2024-02-01", "", "import,2024-01-31,CLOSE,,195.00,\n", 200),
+    ("2024-02-01", "", "lines,2024-01-31,CLOSE,,194.00,\n", 200),
+    ("2024-02-01", "", "lines,2024-01-31,CLOSE,,195.00,\n", 200),
     ("2024-02-01", "", "reconcile,2024-01-31", 200),
     ("2024-02-01", "", "reconcile,2024-02-29", 404),
     ("2024-02-01", "", "exceptions", 200),
@@ -150,7 +150,7 @@ const STEPS: [Step; 88] = [
     (
         "2024-02-02",
         "",
-        "import,2024-02-02,M000001-0011,B14,-120.00,\n",
+        "lines,2024-02-02,M000001-0011,B14,-120.00,\n",
         200,
     ),
     ("2024-02-02", "", "ledger,000001,", 200),
@@ -171,7 +171,7 @@ const STEPS: [Step; 88] = [
     (
         "2024-02-03",
         "",
-        "import,2024-02-03,M000002-0002,B15,70.00,\n",
+        "lines,2024-02-03,M000002-0002,B15,70.00,\n",
         200,
     ),
     ("2024-02-03", "lee", "fee,000002,0003,30.00,advice", 201),
@@ -187,17 +187,17 @@ const STEPS: [Step; 88] = [
     (
         "2029-02-03",
         "",
-        "import,2024-02-02,M000001-0011,B14,-120.00,\n",
+        "lines,2024-02-02,M000001-0011,B14,-120.00,\n",
         200,
     ),
     ("2029-02-03", "", "reconcile,2024-01-31", 409),
-    ("2029-02-03", "", "import,2029-02-02,OPEN,,144.00,\n", 200),
-    ("2029-02-03", "", "import,2029-02-02,CLOSE,,144.00,\n", 200),
+    ("2029-02-03", "", "lines,2029-02-02,OPEN,,144.00,\n", 200),
+    ("2029-02-03", "", "lines,2029-02-02,CLOSE,,144.00,\n", 200),
 ];
 
 // Balances, the firm's own money, money of nobody, deposits that are cleared, one that was cancelled, one of no matter,
 // and a charge that the firm does not cover.
-const FIRST_LINES: &str = "import,2024-01-01,OPEN,,0.00,\n\
+const FIRST_LINES: &str = "lines,2024-01-01,OPEN,,0.00,\n\
         2024-01-05,FIRM,B1,200.00,own money\n\
         2024-01-08,FIRM,B2,-12.00,account fee\n\
         2024-01-09,whose,B3,75.00,unknown\n\
@@ -208,13 +208,13 @@ const FIRST_LINES: &str = "import,2024-01-01,OPEN,,0.00,\n\
         2024-01-12,FIRM,B8,-250.00,cheques\n";
 
 // Payments that are cleared, and a deposit that is taken back.
-const SECOND_LINES: &str = "import,2024-01-15,M000001-0003,B9,-100.00,\n\
+const SECOND_LINES: &str = "lines,2024-01-15,M000001-0003,B9,-100.00,\n\
         2024-01-16,M000001-0008,B10,-180.00,\n\
         2024-01-17,M000001-0010,B11,-100.00,\n\
         2024-01-18,M000002-0001,B12,-300.00,returned\n";
 
 // The reports of the firm, and the matter that is left.
-const REPORTS: [Step; 8] = [
+const REPORTS: [Asked; 8] = [
     ("2029-02-03", "", "exceptions", 200),
     ("2029-02-03", "", "journal", 200),
     ("2029-02-03", "", "trial", 200),
@@ -225,18 +225,18 @@ const REPORTS: [Step; 8] = [
     ("2029-02-03", "", "entry,000002,0003", 200),
 ];
 
-// Asks the same of both books. Fails with the place of the first step that is answered with another status than is
+// Asks the same of both books. Fails with the place of the first request that is answered with another status than is
 // wanted, or not the same by both.
 fn ask_both(
     alloc: Global,
     plain: &mut Desk<PlainBook>,
     tables: &mut Desk<SqlBook<MemStore>>,
-    steps: &[Step],
+    all: &[Asked],
 ) -> Result<(), Wrong> {
-    for (place, step) in steps.iter().enumerate() {
-        let wanted = ask(alloc, plain, step)?;
-        let found = ask(alloc, tables, step)?;
-        if wanted.status != step.3 || !are_same(&wanted, &found) {
+    for (place, asked) in all.iter().enumerate() {
+        let wanted = ask(alloc, plain, asked)?;
+        let found = ask(alloc, tables, asked)?;
+        if wanted.status != asked.3 || !are_same(&wanted, &found) {
             return Err(Wrong::Answer(place));
         }
     }

@@ -1,11 +1,12 @@
 // A statement of the bank that is imported into a book, and what the book then keeps.
 
-use crate::values::{Wrong, day, made, taken};
+use crate::values::{Wrong, made, taken};
 use firm_rows::BalanceKind;
 use std::alloc::Global;
 use trust_base::TrialReader;
 use trust_desk::{Desk, ImportStop};
 use trust_store::Book;
+use worked_steps::day;
 
 const STATEMENT: &str = "date,reference,bank_ref,amount,text\n\
         2024-01-01,OPEN,,0.00,\n\

@@ -13,5 +13,3 @@ mod play;
 mod spoiled;
 #[cfg(test)]
 mod values;
-#[cfg(test)]
-mod words;

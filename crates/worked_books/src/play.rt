@@ -1,32 +1,36 @@
-// Steps at a desk, and what is answered.
+// What is asked at a desk, and what is answered.
 
-use crate::values::{Wrong, day};
-use crate::words::request_of;
+use crate::values::Wrong;
 use std::alloc::Global;
 use trust_base::Refusal;
 use trust_desk::{Body, Desk, Reply};
 use trust_store::Book;
+use worked_steps::{day, request_of};
 
-/// A step: its day, its caller (the cashier where none is named), the record of what is asked, and the status that is
-/// wanted of the answer.
-pub(crate) type Step = (&'static str, &'static str, &'static str, u16);
+/// What is asked: its day, its caller (the cashier where none is named), its record, and the status that is wanted of
+/// the answer.
+pub(crate) type Asked = (&'static str, &'static str, &'static str, u16);
 
-/// The answer to a step.
-pub(crate) fn ask<B: Book>(alloc: Global, desk: &mut Desk<B>, step: &Step) -> Result<Reply, Wrong> {
-    let (today, caller, record, _) = *step;
+/// The answer to what is asked.
+pub(crate) fn ask<B: Book>(
+    alloc: Global,
+    desk: &mut Desk<B>,
+    asked: &Asked,
+) -> Result<Reply, Wrong> {
+    let (today, caller, record, _) = *asked;
     let request = request_of(alloc, caller, record)?;
     Ok(desk.answer(alloc, &request, day(today)?))
 }
 
-/// Asks step by step. Fails with the place of the first step that is answered with another status.
+/// Asks one after the other. Fails with the place of the first that is answered with another status.
 pub(crate) fn ask_all<B: Book>(
     alloc: Global,
     desk: &mut Desk<B>,
-    steps: &[Step],
+    all: &[Asked],
 ) -> Result<(), Wrong> {
-    for (place, step) in steps.iter().enumerate() {
-        let reply = ask(alloc, desk, step)?;
-        if reply.status != step.3 {
+    for (place, asked) in all.iter().enumerate() {
+        let reply = ask(alloc, desk, asked)?;
+        if reply.status != asked.3 {
             return Err(Wrong::Answer(place));
         }
     }

@@ -1,7 +1,7 @@
 // Rows that stand for nothing, or that are no sound matter's, by a statement of SQL: a call that reads such a row is
 // Store, and so is a ledger card of such a matter, and no call changes one.
 
-use crate::play::{Step, are_same, ask, ask_all, is_store};
+use crate::play::{Asked, are_same, ask, ask_all, is_store};
 use crate::values::{Wrong, adopted, made};
 use sql_book::SqlBook;
 use sqlite::{Connection, MemStore, Row};
@@ -12,14 +12,14 @@ use trust_desk::{Desk, Reply};
 // The day after each table has a row.
 const TODAY: &str = "2024-02-02";
 
-const LINES: &str = "import,2024-01-01,OPEN,,0.00,\n\
+const LINES: &str = "lines,2024-01-01,OPEN,,0.00,\n\
         2024-01-05,FIRM,B1,200.00,own money\n\
         2024-01-12,M000001-0001,B2,500.00,\n\
         2024-01-20,whose,B3,75.00,unknown\n\
         2024-01-31,CLOSE,,775.00,\n";
 
 // A matter with a client, a lawyer, a deposit that is cleared and a payment that is issued.
-const SETTING: [Step; 6] = [
+const SETTING: [Asked; 6] = [
     ("2024-01-10", "", "open,000001,,Ada Chen,lee", 201),
     ("2024-01-10", "", "seat,000001,,ada,client", 200),
     (
@@ -39,7 +39,7 @@ const SETTING: [Step; 6] = [
 ];
 
 // A matter with a fee, and with a claim that is settled and paid from.
-const CLAIMED: [Step; 8] = [
+const CLAIMED: [Asked; 8] = [
     ("2024-01-10", "", "open,000001,,Ada Chen,lee", 201),
     (
         "2024-01-10",
@@ -66,7 +66,7 @@ const CLAIMED: [Step; 8] = [
 ];
 
 // What is asked of each spoiled book. The last two write where nothing is spoiled.
-const ASKED: [Step; 12] = [
+const ASKED: [Asked; 12] = [
     (TODAY, "", "show,000001,", 200),
     (TODAY, "", "entry,000001,0001", 200),
     (TODAY, "", "entry,000001,0002", 200),
@@ -126,19 +126,19 @@ fn rows_of(alloc: Global, conn: &mut Connection<MemStore>) -> Result<Vec<u8>, Wr
 }
 
 // A desk over the book of the matter.
-fn set(alloc: Global, setting: &[Step]) -> Result<Desk<SqlBook<MemStore>>, Wrong> {
+fn set(alloc: Global, setting: &[Asked]) -> Result<Desk<SqlBook<MemStore>>, Wrong> {
     let mut desk = Desk::new(made(alloc)?);
     ask_all(alloc, &mut desk, setting)?;
     Ok(desk)
 }
 
 // What is answered where nothing is spoiled.
-fn answers(alloc: Global, setting: &[Step]) -> Result<Vec<Reply>, Wrong> {
+fn answers(alloc: Global, setting: &[Asked]) -> Result<Vec<Reply>, Wrong> {
     let mut desk = set(alloc, setting)?;
     let mut replies = Vec::new(alloc);
-    for step in ASKED.iter().take(READING) {
-        let reply = ask(alloc, &mut desk, step)?;
-        if reply.status != step.3 {
+    for asked in ASKED.iter().take(READING) {
+        let reply = ask(alloc, &mut desk, asked)?;
+        if reply.status != asked.3 {
             return Err(Wrong::Kept);
         }
         replies.push(reply)?;
@@ -159,17 +159,17 @@ fn is_wanted(wanted: u8, before: Option<&Reply>, reply: &Reply) -> bool {
 fn ask_anew(
     alloc: Global,
     conn: Connection<MemStore>,
-    step: &Step,
+    asked: &Asked,
 ) -> Result<(Reply, Connection<MemStore>), Wrong> {
     let mut desk = Desk::new(adopted(alloc, conn)?);
-    let reply = ask(alloc, &mut desk, step)?;
+    let reply = ask(alloc, &mut desk, asked)?;
     Ok((reply, desk.into_book().release()))
 }
 
 // Spoils a book, and asks of it; fails with the place of the first ask that is answered otherwise, or changes a row.
 fn is_refused(
     alloc: Global,
-    setting: &[Step],
+    setting: &[Asked],
     before: &[Reply],
     place: usize,
     spoiling: &Spoiling,
@@ -178,11 +178,11 @@ fn is_refused(
     let mut conn = set(alloc, setting)?.into_book().release();
     conn.execute_batch(sql)?;
     let rows = rows_of(alloc, &mut conn)?;
-    for (at, (wanted, step)) in wanted.as_bytes().iter().zip(ASKED.iter()).enumerate() {
+    for (at, (wanted, asked)) in wanted.as_bytes().iter().zip(ASKED.iter()).enumerate() {
         if *wanted == b'-' {
             continue;
         }
-        let (reply, left) = ask_anew(alloc, conn, step)?;
+        let (reply, left) = ask_anew(alloc, conn, asked)?;
         conn = left;
         let found = rows_of(alloc, &mut conn)?;
         if !is_wanted(*wanted, before.get(at), &reply) || found.as_slice() != rows.as_slice() {
@@ -193,7 +193,7 @@ fn is_refused(
 }
 
 // Fails with the place of the first spoiling at which an ask is answered otherwise, or changes a row.
-fn are_refused(alloc: Global, setting: &[Step], spoilings: &[Spoiling]) -> Result<(), Wrong> {
+fn are_refused(alloc: Global, setting: &[Asked], spoilings: &[Spoiling]) -> Result<(), Wrong> {
     let before = answers(alloc, setting)?;
     for (place, spoiling) in spoilings.iter().enumerate() {
         is_refused(alloc, setting, &before, place, spoiling)?;

@@ -3,13 +3,14 @@
 use sql_book::{OpenFault, SqlBook};
 use sqlite::{Alter, Connection, Error, MemStore};
 use std::alloc::{AllocError, AllocFailed, Global};
-use trust_base::{Day, Refusal, StoreFault};
+use trust_base::StoreFault;
+use worked_steps::StepFault;
 
 /// Why a test fails.
 #[derive(Clone, Copy, Debug)]
 pub(crate) enum Wrong {
-    /// A word stands for no value of its kind.
-    Word,
+    /// A record or a day stands for nothing.
+    Step(StepFault),
     /// A growth was refused.
     Memory,
     /// A book was refused, or not.
@@ -22,7 +23,7 @@ pub(crate) enum Wrong {
     Counts(u64, u64, u64),
     /// A book keeps something else.
     Kept,
-    /// The step of this place, counted from 0, is answered otherwise.
+    /// What is asked in this place, counted from 0, is answered otherwise.
     Answer(usize),
     /// At the spoiling of the first place, counted from 0, the request of the second is answered otherwise, or changes
     /// a row.
@@ -43,12 +44,9 @@ impl<T: Drop> From<AllocFailed<T>> for Wrong {
     }
 }
 
-impl From<Refusal> for Wrong {
-    fn from(refusal: Refusal) -> Wrong {
-        match refusal {
-            Refusal::Memory => Wrong::Memory,
-            _ => Wrong::Word,
-        }
+impl From<StepFault> for Wrong {
+    fn from(fault: StepFault) -> Wrong {
+        Wrong::Step(fault)
     }
 }
 
@@ -62,11 +60,6 @@ impl From<StoreFault> for Wrong {
     fn from(fault: StoreFault) -> Wrong {
         Wrong::Call(fault)
     }
-}
-
-/// A civil day.
-pub(crate) fn day(text: &str) -> Result<Day, Wrong> {
-    Day::read(text.as_bytes()).ok_or(Wrong::Word)
 }
 
 /// A book that was just made in memory.

@@ -5,6 +5,7 @@ use crate::wrong::Wrong;
 use std::alloc::Global;
 use trust_desk::Desk;
 use trust_store::{Book, PlainBook};
+use worked_steps::texts;
 
 /// What is under way as a file stops.
 #[derive(Clone, Copy)]
@@ -19,6 +20,29 @@ pub(crate) struct Work {
     pub(crate) parts: &'static [Asked],
 }
 
+const OPENING_ASKED: Asked = ("", texts::OPEN);
+
+const DEPOSIT_ASKED: Asked = ("", texts::DEPOSIT);
+
+const PROPOSAL_ASKED: Asked = ("", texts::PROPOSE);
+
+const APPROVAL_ASKED: Asked = ("lee", "approve,000001,0002");
+
+// The line that clears the deposit.
+const CLEARING: Asked = ("", "lines,2024-02-01,M000001-0001,B1,500.00,\n");
+
+const OWN_MONEY: Asked = ("", "lines,2024-02-01,FIRM,B2,200.00,own money\n");
+
+const FEE: Asked = ("", "lines,2024-02-01,FIRM,B3,-12.00,account fee\n");
+
+// The three lines in one statement.
+const LINES: Asked = (
+    "",
+    "lines,2024-02-01,FIRM,B2,200.00,own money\n\
+     2024-02-01,FIRM,B3,-12.00,account fee\n\
+     2024-02-01,M000001-0001,B1,500.00,\n",
+);
+
 pub(crate) const MAKING: Work = Work {
     before: &[],
     request: None,
@@ -28,55 +52,45 @@ pub(crate) const MAKING: Work = Work {
 
 pub(crate) const OPENING: Work = Work {
     before: &[],
-    request: Some(Asked::Opening),
+    request: Some(OPENING_ASKED),
     statuses: (201, 409),
-    parts: &[Asked::Opening],
+    parts: &[OPENING_ASKED],
 };
 
 pub(crate) const DEPOSIT: Work = Work {
-    before: &[Asked::Opening],
-    request: Some(Asked::Deposit),
+    before: &[OPENING_ASKED],
+    request: Some(DEPOSIT_ASKED),
     statuses: (201, 200),
-    parts: &[Asked::Deposit],
+    parts: &[DEPOSIT_ASKED],
 };
 
-const CLEARING: Asked = Asked::Lines("2024-02-01,M000001-0001,B1,500.00,\n");
-
 pub(crate) const LINE: Work = Work {
-    before: &[Asked::Opening, Asked::Deposit],
+    before: &[OPENING_ASKED, DEPOSIT_ASKED],
     request: Some(CLEARING),
     statuses: (200, 200),
     parts: &[CLEARING],
 };
 
 pub(crate) const PROPOSAL: Work = Work {
-    before: &[Asked::Opening, Asked::Deposit, CLEARING],
-    request: Some(Asked::Proposal),
+    before: &[OPENING_ASKED, DEPOSIT_ASKED, CLEARING],
+    request: Some(PROPOSAL_ASKED),
     statuses: (201, 200),
-    parts: &[Asked::Proposal],
+    parts: &[PROPOSAL_ASKED],
 };
 
 pub(crate) const APPROVAL: Work = Work {
-    before: &[Asked::Opening, Asked::Deposit, CLEARING, Asked::Proposal],
-    request: Some(Asked::Approval),
+    before: &[OPENING_ASKED, DEPOSIT_ASKED, CLEARING, PROPOSAL_ASKED],
+    request: Some(APPROVAL_ASKED),
     statuses: (200, 409),
-    parts: &[Asked::Approval],
+    parts: &[APPROVAL_ASKED],
 };
 
 /// Three lines: the firm's own money, money of nobody, and a deposit that is cleared.
 pub(crate) const STATEMENT: Work = Work {
-    before: &[Asked::Opening, Asked::Deposit],
-    request: Some(Asked::Lines(
-        "2024-02-01,FIRM,B2,200.00,own money\n\
-         2024-02-01,FIRM,B3,-12.00,account fee\n\
-         2024-02-01,M000001-0001,B1,500.00,\n",
-    )),
+    before: &[OPENING_ASKED, DEPOSIT_ASKED],
+    request: Some(LINES),
     statuses: (200, 200),
-    parts: &[
-        Asked::Lines("2024-02-01,FIRM,B2,200.00,own money\n"),
-        Asked::Lines("2024-02-01,FIRM,B3,-12.00,account fee\n"),
-        CLEARING,
-    ],
+    parts: &[OWN_MONEY, FEE, CLEARING],
 };
 
 /// Asks one after the other. Fails at an answer that refuses.

@@ -3,13 +3,13 @@
 use sql_book::OpenFault;
 use std::alloc::{AllocError, AllocFailed};
 use std::io;
-use trust_base::Refusal;
+use worked_steps::StepFault;
 
 /// Why a test fails.
 #[derive(Clone, Copy, Debug)]
 pub(crate) enum Wrong {
-    /// A word stands for no value of its kind.
-    Word,
+    /// A record or a day stands for nothing.
+    Step(StepFault),
     /// A growth was refused.
     Memory,
     /// A file in memory failed, or a database on files that are not stopped.
@@ -42,12 +42,9 @@ impl<T: Drop> From<AllocFailed<T>> for Wrong {
     }
 }
 
-impl From<Refusal> for Wrong {
-    fn from(refusal: Refusal) -> Wrong {
-        match refusal {
-            Refusal::Memory => Wrong::Memory,
-            _ => Wrong::Word,
-        }
+impl From<StepFault> for Wrong {
+    fn from(fault: StepFault) -> Wrong {
+        Wrong::Step(fault)
     }
 }
 

@@ -2,10 +2,6 @@
 #![tactic(auto)]
 
 #[cfg(test)]
-mod asks;
-#[cfg(test)]
-mod play;
-#[cfg(test)]
 mod reconciliations;
 #[cfg(test)]
 mod reports;

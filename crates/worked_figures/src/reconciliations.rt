@@ -1,13 +1,12 @@
 // Reconciliations: deposits in transit, payments outstanding, exceptions, what the bank had early, payments of one
 // instrument, and openings.
 
-use crate::asks::Wrong;
-use crate::play::plays;
 use crate::steps::{APPROVED, BANKED, DEPOSIT, FEE, JANUARY, OPEN, TOP_UP};
+use worked_steps::{StepFault, answers_are};
 
 // Of two outstanding payments by one instrument both are told.
 #[test]
-fn payments_of_one_instrument(rt: HostRuntime) -> Result<(), Wrong> {
+fn payments_of_one_instrument(rt: HostRuntime) -> Result<(), StepFault> {
     let steps = [
         OPEN,
         DEPOSIT,
@@ -17,14 +16,16 @@ fn payments_of_one_instrument(rt: HostRuntime) -> Result<(), Wrong> {
         APPROVED,
         (
             "2024-01-30",
-            "propose,000001,0004,10.00,Court Clerk,1001",
+            "",
+            "propose,000001,0004,10.00,general,,Court Clerk,filing fee,1001",
             201,
             "",
         ),
-        ("2024-01-30", "approve,000001,0004", 200, ""),
+        ("2024-01-30", "lee", "approve,000001,0004", 200, ""),
         JANUARY,
         (
             "2024-02-01",
+            "",
             "reconcile,2024-01-31",
             200,
             "RECONCILIATION 2024-01-31
@@ -46,73 +47,82 @@ DOUBLE M000001-0004 2024-01-30 -10.00 1001
 ",
         ),
     ];
-    plays(rt.alloc(), &steps)
+    answers_are(rt.alloc(), &steps)
 }
 
 // They are told by instrument, over all matters, the cleared ones too, and not those that are voided by the day.
 #[test]
-fn payments_of_one_instrument_over_two_matters(rt: HostRuntime) -> Result<(), Wrong> {
+fn payments_of_one_instrument_over_two_matters(rt: HostRuntime) -> Result<(), StepFault> {
     let steps = [
         OPEN,
         DEPOSIT,
         BANKED,
-        ("2024-01-12", "open,000002,,Bo Lind,lee", 201, ""),
+        ("2024-01-12", "", "open,000002,,Bo Lind,lee", 201, ""),
         (
             "2024-01-12",
+            "",
             "deposit,000002,0001,80.00,Bo Lind,retainer",
             201,
             "",
         ),
         (
             "2024-01-12",
-            "import,2024-01-12,M000002-0001,B2,80.00,\n",
+            "",
+            "lines,2024-01-12,M000002-0001,B2,80.00,\n",
             200,
             "",
         ),
         (
             "2024-01-12",
-            "propose,000001,0002,10.00,Court Clerk,9",
+            "",
+            "propose,000001,0002,10.00,general,,Court Clerk,filing fee,9",
             201,
             "",
         ),
-        ("2024-01-12", "approve,000001,0002", 200, ""),
+        ("2024-01-12", "lee", "approve,000001,0002", 200, ""),
         (
             "2024-01-12",
-            "propose,000001,0003,20.00,Court Clerk,10",
+            "",
+            "propose,000001,0003,20.00,general,,Court Clerk,filing fee,10",
             201,
             "",
         ),
-        ("2024-01-12", "approve,000001,0003", 200, ""),
+        ("2024-01-12", "lee", "approve,000001,0003", 200, ""),
         (
             "2024-01-12",
-            "propose,000001,0004,30.00,Court Clerk,10",
+            "",
+            "propose,000001,0004,30.00,general,,Court Clerk,filing fee,10",
             201,
             "",
         ),
-        ("2024-01-12", "approve,000001,0004", 200, ""),
-        ("2024-01-12", "void,000001,0004", 200, ""),
+        ("2024-01-12", "lee", "approve,000001,0004", 200, ""),
+        ("2024-01-12", "lee", "void,000001,0004", 200, ""),
         (
             "2024-01-12",
-            "propose,000002,0002,40.00,Court Clerk,10",
+            "",
+            "propose,000002,0002,40.00,general,,Court Clerk,filing fee,10",
             201,
             "",
         ),
-        ("2024-01-12", "approve,000002,0002", 200, ""),
+        ("2024-01-12", "lee", "approve,000002,0002", 200, ""),
         (
             "2024-01-12",
-            "propose,000002,0003,5.00,Court Clerk,9",
+            "",
+            "propose,000002,0003,5.00,general,,Court Clerk,filing fee,9",
             201,
             "",
         ),
-        ("2024-01-12", "approve,000002,0003", 200, ""),
+        ("2024-01-12", "lee", "approve,000002,0003", 200, ""),
         (
             "2024-01-13",
-            "import,2024-01-13,M000001-0003,B3,-20.00,\n2024-01-13,CLOSE,,360.00,\n",
+            "",
+            "lines,2024-01-13,M000001-0003,B3,-20.00,\n2024-01-13,CLOSE,,360.00,\n",
             200,
             "{\"applied\":2,\"exceptions\":0,\"repeated\":0,\"statement\":\"2024-01-13\",\"unreadable\":0}",
         ),
         (
             "2024-01-13",
+            "",
             "reconcile,2024-01-13",
             200,
             "RECONCILIATION 2024-01-13
@@ -136,12 +146,12 @@ DOUBLE M000002-0003 2024-01-12 -5.00 9
 ",
         ),
     ];
-    plays(rt.alloc(), &steps)
+    answers_are(rt.alloc(), &steps)
 }
 
 // A payment that is voided after the day is outstanding on it; a deposit that is cancelled by it is not in transit.
 #[test]
-fn voided_later_and_cancelled(rt: HostRuntime) -> Result<(), Wrong> {
+fn voided_later_and_cancelled(rt: HostRuntime) -> Result<(), StepFault> {
     let steps = [
         OPEN,
         DEPOSIT,
@@ -149,17 +159,19 @@ fn voided_later_and_cancelled(rt: HostRuntime) -> Result<(), Wrong> {
         TOP_UP,
         FEE,
         APPROVED,
-        ("2024-01-31", "cancel,000001,0002", 200, ""),
+        ("2024-01-31", "", "cancel,000001,0002", 200, ""),
         JANUARY,
-        ("2024-02-01", "void,000001,0003", 200, ""),
+        ("2024-02-01", "lee", "void,000001,0003", 200, ""),
         (
             "2024-02-01",
+            "",
             "deposit,000001,0004,7.00,Ada Chen,top up",
             201,
             "",
         ),
         (
             "2024-02-01",
+            "",
             "reconcile,2024-01-31",
             200,
             "RECONCILIATION 2024-01-31
@@ -177,12 +189,12 @@ OUT M000001-0003 2024-01-30 -50.00
 ",
         ),
     ];
-    plays(rt.alloc(), &steps)
+    answers_are(rt.alloc(), &steps)
 }
 
 // An opening of another amount than the closing before it is told, by the day of the opening.
 #[test]
-fn an_opening_that_differs(rt: HostRuntime) -> Result<(), Wrong> {
+fn an_opening_that_differs(rt: HostRuntime) -> Result<(), StepFault> {
     let steps = [
         OPEN,
         DEPOSIT,
@@ -193,12 +205,14 @@ fn an_opening_that_differs(rt: HostRuntime) -> Result<(), Wrong> {
         JANUARY,
         (
             "2024-02-01",
-            "import,2024-02-01,OPEN,,299.00,\n2024-02-01,CLOSE,,300.00,\n",
+            "",
+            "lines,2024-02-01,OPEN,,299.00,\n2024-02-01,CLOSE,,300.00,\n",
             200,
             "{\"applied\":2,\"exceptions\":0,\"repeated\":0,\"statement\":\"2024-02-01\",\"unreadable\":0}",
         ),
         (
             "2024-02-01",
+            "",
             "reconcile,2024-02-01",
             200,
             "RECONCILIATION 2024-02-01
@@ -219,6 +233,7 @@ OPENING 2024-02-01 299.00 AFTER 2024-01-31 300.00
         ),
         (
             "2024-02-01",
+            "",
             "reconcile,2024-01-31",
             200,
             "RECONCILIATION 2024-01-31
@@ -237,28 +252,31 @@ OUT M000001-0003 2024-01-30 -50.00
 ",
         ),
     ];
-    plays(rt.alloc(), &steps)
+    answers_are(rt.alloc(), &steps)
 }
 
 // A line that the bank dates before the deposit was booked.
 #[test]
-fn a_deposit_that_the_bank_had_early(rt: HostRuntime) -> Result<(), Wrong> {
+fn a_deposit_that_the_bank_had_early(rt: HostRuntime) -> Result<(), StepFault> {
     let steps = [
         OPEN,
         (
             "2024-02-02",
+            "",
             "deposit,000001,0001,80.00,Ada Chen,retainer",
             201,
             "",
         ),
         (
             "2024-02-02",
-            "import,2024-01-31,M000001-0001,B1,80.00,\n2024-01-31,CLOSE,,80.00,\n",
+            "",
+            "lines,2024-01-31,M000001-0001,B1,80.00,\n2024-01-31,CLOSE,,80.00,\n",
             200,
             "{\"applied\":2,\"exceptions\":0,\"repeated\":0,\"statement\":\"2024-01-31\",\"unreadable\":0}",
         ),
         (
             "2024-02-02",
+            "",
             "reconcile,2024-01-31",
             200,
             "RECONCILIATION 2024-01-31
@@ -276,28 +294,31 @@ EARLY M000001-0001 2024-01-31 80.00
 ",
         ),
     ];
-    plays(rt.alloc(), &steps)
+    answers_are(rt.alloc(), &steps)
 }
 
 // A line of another amount than the deposit's is an exception, and the deposit is in transit.
 #[test]
-fn a_line_of_another_amount(rt: HostRuntime) -> Result<(), Wrong> {
+fn a_line_of_another_amount(rt: HostRuntime) -> Result<(), StepFault> {
     let steps = [
         OPEN,
         (
             "2024-01-10",
+            "",
             "deposit,000001,0001,500.00,Ada Chen,retainer",
             201,
             "",
         ),
         (
             "2024-01-12",
-            "import,2024-01-12,M000001-0001,B1,499.99,\n",
+            "",
+            "lines,2024-01-12,M000001-0001,B1,499.99,\n",
             200,
             "{\"applied\":0,\"exceptions\":1,\"repeated\":0,\"statement\":null,\"unreadable\":0}",
         ),
         (
             "2024-01-12",
+            "",
             "exceptions",
             200,
             "EXCEPTIONS 2024-01-12
@@ -306,12 +327,14 @@ fn a_line_of_another_amount(rt: HostRuntime) -> Result<(), Wrong> {
         ),
         (
             "2024-01-12",
-            "import,2024-01-12,CLOSE,,499.99,\n",
+            "",
+            "lines,2024-01-12,CLOSE,,499.99,\n",
             200,
             "{\"applied\":1,\"exceptions\":0,\"repeated\":0,\"statement\":\"2024-01-12\",\"unreadable\":0}",
         ),
         (
             "2024-01-12",
+            "",
             "reconcile,2024-01-12",
             200,
             "RECONCILIATION 2024-01-12
@@ -330,35 +353,39 @@ EXCEPTION 2024-01-12 M000001-0001 B1 499.99 -
 ",
         ),
     ];
-    plays(rt.alloc(), &steps)
+    answers_are(rt.alloc(), &steps)
 }
 
 // A deposit that the bank took back has two lines, each with its days: here the books have both, and the bank's second
 // is told as early as of the days between.
 #[test]
-fn a_returned_deposit(rt: HostRuntime) -> Result<(), Wrong> {
+fn a_returned_deposit(rt: HostRuntime) -> Result<(), StepFault> {
     let steps = [
         OPEN,
         (
             "2024-01-10",
+            "",
             "deposit,000001,0001,500.00,Ada Chen,retainer",
             201,
             "",
         ),
         (
             "2024-01-12",
-            "import,2024-01-12,M000001-0001,B1,500.00,\n",
+            "",
+            "lines,2024-01-12,M000001-0001,B1,500.00,\n",
             200,
             "{\"applied\":1,\"exceptions\":0,\"repeated\":0,\"statement\":null,\"unreadable\":0}",
         ),
         (
             "2024-02-01",
-            "import,2024-01-15,M000001-0001,B2,-500.00,returned\n2024-01-31,CLOSE,,0.00,\n",
+            "",
+            "lines,2024-01-15,M000001-0001,B2,-500.00,returned\n2024-01-31,CLOSE,,0.00,\n",
             200,
             "{\"applied\":2,\"exceptions\":0,\"repeated\":0,\"statement\":\"2024-01-31\",\"unreadable\":0}",
         ),
         (
             "2024-02-01",
+            "",
             "reconcile,2024-01-31",
             200,
             "RECONCILIATION 2024-01-31
@@ -376,28 +403,31 @@ EARLY M000001-0001 2024-01-15 -500.00
 ",
         ),
     ];
-    plays(rt.alloc(), &steps)
+    answers_are(rt.alloc(), &steps)
 }
 
 // Both of its lines come before the deposit's day: the clearing is told in front of the return.
 #[test]
-fn a_returned_deposit_that_the_bank_had_early(rt: HostRuntime) -> Result<(), Wrong> {
+fn a_returned_deposit_that_the_bank_had_early(rt: HostRuntime) -> Result<(), StepFault> {
     let steps = [
         OPEN,
         (
             "2024-02-02",
+            "",
             "deposit,000001,0001,80.00,Ada Chen,retainer",
             201,
             "",
         ),
         (
             "2024-02-02",
-            "import,2024-01-30,M000001-0001,B1,80.00,\n2024-01-31,M000001-0001,B2,-80.00,returned\n2024-01-31,CLOSE,,0.00,\n",
+            "",
+            "lines,2024-01-30,M000001-0001,B1,80.00,\n2024-01-31,M000001-0001,B2,-80.00,returned\n2024-01-31,CLOSE,,0.00,\n",
             200,
             "{\"applied\":3,\"exceptions\":0,\"repeated\":0,\"statement\":\"2024-01-31\",\"unreadable\":0}",
         ),
         (
             "2024-02-02",
+            "",
             "reconcile,2024-01-31",
             200,
             "RECONCILIATION 2024-01-31
@@ -416,21 +446,23 @@ EARLY M000001-0001 2024-01-31 -80.00
 ",
         ),
     ];
-    plays(rt.alloc(), &steps)
+    answers_are(rt.alloc(), &steps)
 }
 
 // The firm's own money is in the journal and in the ledgers, and is never early.
 #[test]
-fn money_of_the_firm(rt: HostRuntime) -> Result<(), Wrong> {
+fn money_of_the_firm(rt: HostRuntime) -> Result<(), StepFault> {
     let steps = [
         (
             "2024-01-31",
-            "import,2024-01-30,FIRM,B1,10.00,\n2024-01-31,FIRM,B2,-2.00,\n2024-01-31,CLOSE,,8.00,\n",
+            "",
+            "lines,2024-01-30,FIRM,B1,10.00,\n2024-01-31,FIRM,B2,-2.00,\n2024-01-31,CLOSE,,8.00,\n",
             200,
             "{\"applied\":3,\"exceptions\":0,\"repeated\":0,\"statement\":\"2024-01-31\",\"unreadable\":0}",
         ),
         (
             "2024-01-31",
+            "",
             "reconcile,2024-01-31",
             200,
             "RECONCILIATION 2024-01-31
@@ -447,5 +479,5 @@ GAP                               0.00
 ",
         ),
     ];
-    plays(rt.alloc(), &steps)
+    answers_are(rt.alloc(), &steps)
 }

@@ -1,12 +1,11 @@
 // The firm's reports of a month, as they are told to the cashier, and what they are refused for.
 
-use crate::asks::Wrong;
-use crate::play::plays;
 use crate::steps::{APPROVED, BANKED, DEPOSIT, FEE, JANUARY, OPEN, TOP_UP};
+use worked_steps::{StepFault, answers_are};
 
 // A deposit in transit and a payment outstanding.
 #[test]
-fn a_month(rt: HostRuntime) -> Result<(), Wrong> {
+fn a_month(rt: HostRuntime) -> Result<(), StepFault> {
     let steps = [
         OPEN,
         DEPOSIT,
@@ -17,6 +16,7 @@ fn a_month(rt: HostRuntime) -> Result<(), Wrong> {
         JANUARY,
         (
             "2024-02-01",
+            "",
             "reconcile,2024-01-31",
             200,
             "RECONCILIATION 2024-01-31
@@ -36,6 +36,7 @@ OUT M000001-0003 2024-01-30 -50.00
         ),
         (
             "2024-02-01",
+            "",
             "trial",
             200,
             "TRIAL BALANCE 2024-02-01
@@ -46,6 +47,7 @@ TOTAL                           350.00
         ),
         (
             "2024-02-01",
+            "",
             "journal",
             200,
             "JOURNAL 2024-02-01
@@ -56,6 +58,7 @@ TOTAL                           350.00
         ),
         (
             "2024-02-01",
+            "",
             "exceptions",
             200,
             "EXCEPTIONS 2024-02-01
@@ -63,19 +66,20 @@ TOTAL                           350.00
         ),
         (
             "2024-02-01",
+            "",
             "retention",
             200,
             "RETENTION 2024-02-01
 ",
         ),
     ];
-    plays(rt.alloc(), &steps)
+    answers_are(rt.alloc(), &steps)
 }
 
 // Without a closing balance of the day there is no reconciliation; and who is not the cashier is told of no report,
 // whatever the day.
 #[test]
-fn refused_reports(rt: HostRuntime) -> Result<(), Wrong> {
+fn refused_reports(rt: HostRuntime) -> Result<(), StepFault> {
     let steps = [
         OPEN,
         DEPOSIT,
@@ -86,53 +90,60 @@ fn refused_reports(rt: HostRuntime) -> Result<(), Wrong> {
         JANUARY,
         (
             "2024-02-01",
+            "",
             "reconcile,2024-01-30",
             404,
             "{\"name\":\"NoStatement\",\"refusal\":27}",
         ),
         (
             "2024-02-01",
-            "reconcile,2024-01-30,lee",
+            "lee",
+            "reconcile,2024-01-30",
             403,
             "{\"name\":\"NotAllowed\",\"refusal\":10,\"rule\":\"firm\"}",
         ),
         (
             "2024-02-01",
-            "reconcile,2024-01-31,lee",
+            "lee",
+            "reconcile,2024-01-31",
             403,
             "{\"name\":\"NotAllowed\",\"refusal\":10,\"rule\":\"firm\"}",
         ),
         (
             "2024-02-01",
-            "trial,lee",
+            "lee",
+            "trial",
             403,
             "{\"name\":\"NotAllowed\",\"refusal\":10,\"rule\":\"firm\"}",
         ),
         (
             "2024-02-01",
-            "journal,lee",
+            "lee",
+            "journal",
             403,
             "{\"name\":\"NotAllowed\",\"refusal\":10,\"rule\":\"firm\"}",
         ),
         (
             "2024-02-01",
-            "exceptions,ada",
+            "ada",
+            "exceptions",
             403,
             "{\"name\":\"NotAllowed\",\"refusal\":10,\"rule\":\"firm\"}",
         ),
         (
             "2024-02-01",
-            "retention,bob",
+            "bob",
+            "retention",
             403,
             "{\"name\":\"NotAllowed\",\"refusal\":10,\"rule\":\"firm\"}",
         ),
     ];
-    plays(rt.alloc(), &steps)
+    answers_are(rt.alloc(), &steps)
 }
 
 // A second closing of the day is an exception that no figure counts.
 #[test]
-fn a_second_closing(rt: HostRuntime) -> Result<(), Wrong> {
+fn a_second_closing(rt: HostRuntime) -> Result<(), StepFault> {
     let steps = [
         OPEN,
         DEPOSIT,
@@ -143,12 +154,14 @@ fn a_second_closing(rt: HostRuntime) -> Result<(), Wrong> {
         JANUARY,
         (
             "2024-02-01",
-            "import,2024-01-31,CLOSE,,301.00,\n",
+            "",
+            "lines,2024-01-31,CLOSE,,301.00,\n",
             200,
             "{\"applied\":0,\"exceptions\":1,\"repeated\":0,\"statement\":null,\"unreadable\":0}",
         ),
         (
             "2024-02-01",
+            "",
             "exceptions",
             200,
             "EXCEPTIONS 2024-02-01
@@ -157,6 +170,7 @@ fn a_second_closing(rt: HostRuntime) -> Result<(), Wrong> {
         ),
         (
             "2024-02-01",
+            "",
             "reconcile,2024-01-31",
             200,
             "RECONCILIATION 2024-01-31
@@ -176,38 +190,42 @@ EXCEPTION 2024-01-31 CLOSE - 301.00 -
 ",
         ),
     ];
-    plays(rt.alloc(), &steps)
+    answers_are(rt.alloc(), &steps)
 }
 
 // A line of the firm's of an earlier day that is accepted later stands where it was accepted; a matter that is closed
 // is in the journal and no longer in the trial balance.
 #[test]
-fn in_the_order_of_acceptance(rt: HostRuntime) -> Result<(), Wrong> {
+fn in_the_order_of_acceptance(rt: HostRuntime) -> Result<(), StepFault> {
     let steps = [
         OPEN,
         (
             "2024-01-10",
+            "",
             "journal",
             200,
             "JOURNAL 2024-01-10
 ",
         ),
-        ("2024-01-10", "open,000002,,Bo Lind,lee", 201, ""),
+        ("2024-01-10", "", "open,000002,,Bo Lind,lee", 201, ""),
         (
             "2024-01-30",
+            "",
             "deposit,000002,0001,80.00,Bo Lind,retainer",
             201,
             "",
         ),
         (
             "2024-01-31",
-            "import,2024-01-12,FIRM,B1,10.00,\n",
+            "",
+            "lines,2024-01-12,FIRM,B1,10.00,\n",
             200,
             "{\"applied\":1,\"exceptions\":0,\"repeated\":0,\"statement\":null,\"unreadable\":0}",
         ),
-        ("2024-01-31", "close,000001,", 200, ""),
+        ("2024-01-31", "", "close,000001,", 200, ""),
         (
             "2024-01-31",
+            "",
             "journal",
             200,
             "JOURNAL 2024-01-31
@@ -217,6 +235,7 @@ fn in_the_order_of_acceptance(rt: HostRuntime) -> Result<(), Wrong> {
         ),
         (
             "2024-01-31",
+            "",
             "trial",
             200,
             "TRIAL BALANCE 2024-01-31
@@ -227,6 +246,7 @@ TOTAL                            90.00
         ),
         (
             "2024-01-31",
+            "",
             "retention",
             200,
             "RETENTION 2024-01-31
@@ -234,56 +254,63 @@ TOTAL                            90.00
 ",
         ),
     ];
-    plays(rt.alloc(), &steps)
+    answers_are(rt.alloc(), &steps)
 }
 
 // A matter that was paid out and closed is kept for five years, and may be purged from the day after. Then there is
 // no reconciliation of a day before its close; that of its last day is as it was, until a line of the matter comes
 // again: it is an exception, and negated in the gap.
 #[test]
-fn a_purged_matter(rt: HostRuntime) -> Result<(), Wrong> {
+fn a_purged_matter(rt: HostRuntime) -> Result<(), StepFault> {
     let steps = [
         OPEN,
         (
             "2024-01-10",
+            "",
             "deposit,000001,0001,100.00,Ada Chen,retainer",
             201,
             "",
         ),
         (
             "2024-01-10",
-            "import,2024-01-10,M000001-0001,B1,100.00,\n",
+            "",
+            "lines,2024-01-10,M000001-0001,B1,100.00,\n",
             200,
             "{\"applied\":1,\"exceptions\":0,\"repeated\":0,\"statement\":null,\"unreadable\":0}",
         ),
         (
             "2024-01-10",
-            "propose,000001,0002,100.00,Court Clerk,1001",
+            "",
+            "propose,000001,0002,100.00,general,,Court Clerk,filing fee,1001",
             201,
             "",
         ),
-        ("2024-01-10", "approve,000001,0002", 200, ""),
+        ("2024-01-10", "lee", "approve,000001,0002", 200, ""),
         (
             "2024-01-12",
+            "",
             "close,000001,",
             409,
             "{\"name\":\"NotEmpty\",\"refusal\":25}",
         ),
         (
             "2024-01-12",
-            "import,2024-01-12,M000001-0002,B2,-100.00,\n",
+            "",
+            "lines,2024-01-12,M000001-0002,B2,-100.00,\n",
             200,
             "{\"applied\":1,\"exceptions\":0,\"repeated\":0,\"statement\":null,\"unreadable\":0}",
         ),
-        ("2024-02-29", "close,000001,", 200, ""),
+        ("2024-02-29", "", "close,000001,", 200, ""),
         (
             "2024-02-29",
-            "import,2024-02-28,CLOSE,,0.00,\n2024-02-29,CLOSE,,0.00,\n",
+            "",
+            "lines,2024-02-28,CLOSE,,0.00,\n2024-02-29,CLOSE,,0.00,\n",
             200,
             "{\"applied\":2,\"exceptions\":0,\"repeated\":0,\"statement\":\"2024-02-29\",\"unreadable\":0}",
         ),
         (
             "2029-02-28",
+            "",
             "retention",
             200,
             "RETENTION 2029-02-28
@@ -292,12 +319,14 @@ fn a_purged_matter(rt: HostRuntime) -> Result<(), Wrong> {
         ),
         (
             "2029-02-28",
+            "",
             "purge,000001,",
             409,
             "{\"day\":\"2029-03-01\",\"name\":\"TooEarly\",\"refusal\":26}",
         ),
         (
             "2029-03-01",
+            "",
             "retention",
             200,
             "RETENTION 2029-03-01
@@ -306,6 +335,7 @@ fn a_purged_matter(rt: HostRuntime) -> Result<(), Wrong> {
         ),
         (
             "2029-03-01",
+            "",
             "reconcile,2024-02-28",
             200,
             "RECONCILIATION 2024-02-28
@@ -323,6 +353,7 @@ GAP                               0.00
         ),
         (
             "2029-03-01",
+            "",
             "reconcile,2024-02-29",
             200,
             "RECONCILIATION 2024-02-29
@@ -340,12 +371,14 @@ GAP                               0.00
         ),
         (
             "2029-03-01",
+            "",
             "purge,000001,",
             200,
             "{\"matter\":\"000001\",\"purged\":\"2029-03-01\"}",
         ),
         (
             "2029-03-01",
+            "",
             "retention",
             200,
             "RETENTION 2029-03-01
@@ -353,6 +386,7 @@ GAP                               0.00
         ),
         (
             "2029-03-01",
+            "",
             "journal",
             200,
             "JOURNAL 2029-03-01
@@ -360,6 +394,7 @@ GAP                               0.00
         ),
         (
             "2029-03-01",
+            "",
             "reconcile,2024-02-29",
             200,
             "RECONCILIATION 2024-02-29
@@ -377,30 +412,35 @@ GAP                               0.00
         ),
         (
             "2029-03-01",
-            "reconcile,2024-02-27,lee",
+            "lee",
+            "reconcile,2024-02-27",
             403,
             "{\"name\":\"NotAllowed\",\"refusal\":10,\"rule\":\"firm\"}",
         ),
         (
             "2029-03-01",
+            "",
             "reconcile,2024-02-27",
             404,
             "{\"name\":\"NoStatement\",\"refusal\":27}",
         ),
         (
             "2029-03-01",
+            "",
             "reconcile,2024-02-28",
             409,
             "{\"name\":\"PeriodPurged\",\"refusal\":28}",
         ),
         (
             "2029-03-01",
-            "import,2024-01-10,M000001-0001,B1,100.00,\n",
+            "",
+            "lines,2024-01-10,M000001-0001,B1,100.00,\n",
             200,
             "{\"applied\":0,\"exceptions\":1,\"repeated\":0,\"statement\":null,\"unreadable\":0}",
         ),
         (
             "2029-03-01",
+            "",
             "exceptions",
             200,
             "EXCEPTIONS 2029-03-01
@@ -409,6 +449,7 @@ GAP                               0.00
         ),
         (
             "2029-03-01",
+            "",
             "reconcile,2024-02-29",
             200,
             "RECONCILIATION 2024-02-29
@@ -426,5 +467,5 @@ EXCEPTION 2024-01-10 M000001-0001 B1 100.00 -
 ",
         ),
     ];
-    plays(rt.alloc(), &steps)
+    answers_are(rt.alloc(), &steps)
 }
