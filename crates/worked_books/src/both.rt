@@ -9,7 +9,7 @@ use trust_desk::Desk;
 use trust_store::PlainBook;
 
 // Each kind of change, and refusals and reading asks between them, on two matters.
-const STEPS: [Asked; 88] = [
+const STEPS: &[Asked] = &[
     ("2024-01-10", "", "show,000001,", 404),
     ("2024-01-10", "", "open,000001,,Ada Chen,lee", 201),
     ("2024-01-10", "", "open,000001,,Ada Chen,lee", 409),
@@ -214,7 +214,7 @@ const SECOND_LINES: &str = "lines,2024-01-15,M000001-0003,B9,-100.00,\n\
         2024-01-18,M000002-0001,B12,-300.00,returned\n";
 
 // The reports of the firm, and the matter that is left.
-const REPORTS: [Asked; 8] = [
+const REPORTS: &[Asked] = &[
     ("2029-02-03", "", "exceptions", 200),
     ("2029-02-03", "", "journal", 200),
     ("2029-02-03", "", "trial", 200),
@@ -249,8 +249,8 @@ fn both_books_answer_the_same(rt: HostRuntime) -> Result<(), Wrong> {
     let alloc = rt.alloc();
     let mut plain = Desk::new(PlainBook::new(alloc));
     let mut tables = Desk::new(made(alloc)?);
-    ask_both(alloc, &mut plain, &mut tables, &STEPS)?;
-    ask_both(alloc, &mut plain, &mut tables, &REPORTS)?;
+    ask_both(alloc, &mut plain, &mut tables, STEPS)?;
+    ask_both(alloc, &mut plain, &mut tables, REPORTS)?;
     let mut tables = Desk::new(taken(alloc, tables.into_book())?);
-    ask_both(alloc, &mut plain, &mut tables, &REPORTS)
+    ask_both(alloc, &mut plain, &mut tables, REPORTS)
 }

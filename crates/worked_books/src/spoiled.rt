@@ -19,7 +19,7 @@ const LINES: &str = "lines,2024-01-01,OPEN,,0.00,\n\
         2024-01-31,CLOSE,,775.00,\n";
 
 // A matter with a client, a lawyer, a deposit that is cleared and a payment that is issued.
-const SETTING: [Asked; 6] = [
+const SETTING: &[Asked] = &[
     ("2024-01-10", "", "open,000001,,Ada Chen,lee", 201),
     ("2024-01-10", "", "seat,000001,,ada,client", 200),
     (
@@ -39,7 +39,7 @@ const SETTING: [Asked; 6] = [
 ];
 
 // A matter with a fee, and with a claim that is settled and paid from.
-const CLAIMED: [Asked; 8] = [
+const CLAIMED: &[Asked] = &[
     ("2024-01-10", "", "open,000001,,Ada Chen,lee", 201),
     (
         "2024-01-10",
@@ -66,7 +66,7 @@ const CLAIMED: [Asked; 8] = [
 ];
 
 // What is asked of each spoiled book. The last two write where nothing is spoiled.
-const ASKED: [Asked; 12] = [
+const ASKED: &[Asked] = &[
     (TODAY, "", "show,000001,", 200),
     (TODAY, "", "entry,000001,0001", 200),
     (TODAY, "", "entry,000001,0002", 200),
@@ -88,7 +88,7 @@ const READING: usize = 10;
 // of a value that stands for something else, and with - it is not asked.
 type Spoiling = (&'static str, &'static str);
 
-const TABLES: [&str; 8] = [
+const TABLES: &[&str] = &[
     "SELECT * FROM book ORDER BY rowid",
     "SELECT * FROM matter_v2 ORDER BY rowid",
     "SELECT * FROM seat_v2 ORDER BY rowid",
@@ -202,7 +202,7 @@ fn are_refused(alloc: Global, setting: &[Asked], spoilings: &[Spoiling]) -> Resu
 }
 
 // Columns of heads, and heads of numbers that no matter has.
-const HEADS: [Spoiling; 32] = [
+const HEADS: &[Spoiling] = &[
     ("UPDATE matter_v2 SET client = ''", "SSSSS==SSSSS"),
     ("UPDATE matter_v2 SET client = 'Ada\tChen'", "SSSSS==SSSSS"),
     ("UPDATE matter_v2 SET opened = 0", "SSSSS==SSSSS"),
@@ -276,12 +276,12 @@ const HEADS: [Spoiling; 32] = [
 
 #[test]
 fn heads_that_are_spoiled(rt: HostRuntime) -> Result<(), Wrong> {
-    are_refused(rt.alloc(), &SETTING, &HEADS)
+    are_refused(rt.alloc(), SETTING, HEADS)
 }
 
 // Totals that the entries do not come to, and entries that are missing: an ask that names one is Store, and so is the
 // ledger card. What else reads them takes them as they stand.
-const TOTALS: [Spoiling; 10] = [
+const TOTALS: &[Spoiling] = &[
     (
         "UPDATE matter_v2 SET available = available + 1",
         "o==S======--",
@@ -302,12 +302,12 @@ const TOTALS: [Spoiling; 10] = [
 
 #[test]
 fn totals_that_are_spoiled(rt: HostRuntime) -> Result<(), Wrong> {
-    are_refused(rt.alloc(), &SETTING, &TOTALS)
+    are_refused(rt.alloc(), SETTING, TOTALS)
 }
 
 // Rows that each stand for something, and together for no sound matter: what is left off by a cent, days out of order,
 // money in a closed matter, more paid than was there.
-const MATTERS: [Spoiling; 6] = [
+const MATTERS: &[Spoiling] = &[
     (
         "UPDATE entry_v2 SET left_now = 1 WHERE no = 1",
         "===S======--",
@@ -327,11 +327,11 @@ const MATTERS: [Spoiling; 6] = [
 
 #[test]
 fn matters_that_are_spoiled(rt: HostRuntime) -> Result<(), Wrong> {
-    are_refused(rt.alloc(), &SETTING, &MATTERS)
+    are_refused(rt.alloc(), SETTING, MATTERS)
 }
 
 // What is left of a fee and of a claim off by a cent, and a claim that is paid from before it is settled.
-const CLAIMS: [Spoiling; 3] = [
+const CLAIMS: &[Spoiling] = &[
     (
         "UPDATE entry_v2 SET left_now = left_now + 1 WHERE no = 2",
         "==oS======--",
@@ -348,11 +348,11 @@ const CLAIMS: [Spoiling; 3] = [
 
 #[test]
 fn claims_that_are_spoiled(rt: HostRuntime) -> Result<(), Wrong> {
-    are_refused(rt.alloc(), &CLAIMED, &CLAIMS)
+    are_refused(rt.alloc(), CLAIMED, CLAIMS)
 }
 
 // Columns of seats.
-const SEATS: [Spoiling; 6] = [
+const SEATS: &[Spoiling] = &[
     (
         "UPDATE seat_v2 SET person = '' WHERE person = 'ada'",
         "SSSSS==SSSSS",
@@ -381,11 +381,11 @@ const SEATS: [Spoiling; 6] = [
 
 #[test]
 fn seats_that_are_spoiled(rt: HostRuntime) -> Result<(), Wrong> {
-    are_refused(rt.alloc(), &SETTING, &SEATS)
+    are_refused(rt.alloc(), SETTING, SEATS)
 }
 
 // Columns of a deposit that is cleared.
-const DEPOSITS: [Spoiling; 24] = [
+const DEPOSITS: &[Spoiling] = &[
     ("UPDATE entry_v2 SET kind = 0 WHERE no = 1", "=S=SS==SSS--"),
     ("UPDATE entry_v2 SET kind = 2 WHERE no = 1", "=S=SS==SSS--"),
     ("UPDATE entry_v2 SET day = 0 WHERE no = 1", "=S=SS==SSS--"),
@@ -459,11 +459,11 @@ const DEPOSITS: [Spoiling; 24] = [
 
 #[test]
 fn deposits_that_are_spoiled(rt: HostRuntime) -> Result<(), Wrong> {
-    are_refused(rt.alloc(), &SETTING, &DEPOSITS)
+    are_refused(rt.alloc(), SETTING, DEPOSITS)
 }
 
 // Columns of a payment that is issued.
-const PAYMENTS: [Spoiling; 27] = [
+const PAYMENTS: &[Spoiling] = &[
     ("UPDATE entry_v2 SET kind = 5 WHERE no = 2", "==SSS==SS=-S"),
     ("UPDATE entry_v2 SET kind = -1 WHERE no = 2", "==SSS==SS=-S"),
     ("UPDATE entry_v2 SET kind = 1 WHERE no = 2", "==SSS==SS=-S"),
@@ -540,11 +540,11 @@ const PAYMENTS: [Spoiling; 27] = [
 
 #[test]
 fn payments_that_are_spoiled(rt: HostRuntime) -> Result<(), Wrong> {
-    are_refused(rt.alloc(), &SETTING, &PAYMENTS)
+    are_refused(rt.alloc(), SETTING, PAYMENTS)
 }
 
 // Columns of the journal.
-const MOVEMENTS: [Spoiling; 11] = [
+const MOVEMENTS: &[Spoiling] = &[
     (
         "UPDATE journal SET matter = 0 WHERE seq = 1",
         "=====S=S==--",
@@ -584,11 +584,11 @@ const MOVEMENTS: [Spoiling; 11] = [
 
 #[test]
 fn movements_that_are_spoiled(rt: HostRuntime) -> Result<(), Wrong> {
-    are_refused(rt.alloc(), &SETTING, &MOVEMENTS)
+    are_refused(rt.alloc(), SETTING, MOVEMENTS)
 }
 
 // Columns of the lines of the firm's own.
-const FIRM_LINES: [Spoiling; 7] = [
+const FIRM_LINES: &[Spoiling] = &[
     ("UPDATE firm_line SET day = 0", "====S==S=S--"),
     ("UPDATE firm_line SET day = 20240230", "====S==S=S--"),
     ("UPDATE firm_line SET bank_ref = 'B\t1'", "====S==S=S--"),
@@ -603,11 +603,11 @@ const FIRM_LINES: [Spoiling; 7] = [
 
 #[test]
 fn firm_lines_that_are_spoiled(rt: HostRuntime) -> Result<(), Wrong> {
-    are_refused(rt.alloc(), &SETTING, &FIRM_LINES)
+    are_refused(rt.alloc(), SETTING, FIRM_LINES)
 }
 
 // Columns of the exceptions.
-const EXCEPTIONS: [Spoiling; 6] = [
+const EXCEPTIONS: &[Spoiling] = &[
     ("UPDATE exception SET day = 0", "======SS=---"),
     ("UPDATE exception SET day = 20240230", "======SS=---"),
     ("UPDATE exception SET reference = 'a\tb'", "======SS=---"),
@@ -621,11 +621,11 @@ const EXCEPTIONS: [Spoiling; 6] = [
 
 #[test]
 fn exceptions_that_are_spoiled(rt: HostRuntime) -> Result<(), Wrong> {
-    are_refused(rt.alloc(), &SETTING, &EXCEPTIONS)
+    are_refused(rt.alloc(), SETTING, EXCEPTIONS)
 }
 
 // Columns of the balances.
-const BALANCES: [Spoiling; 6] = [
+const BALANCES: &[Spoiling] = &[
     ("UPDATE balance SET kind = 0 WHERE kind = 1", "=======S=---"),
     ("UPDATE balance SET kind = 3 WHERE kind = 1", "=======S=---"),
     ("UPDATE balance SET day = 0 WHERE kind = 1", "=======S=---"),
@@ -645,5 +645,5 @@ const BALANCES: [Spoiling; 6] = [
 
 #[test]
 fn balances_that_are_spoiled(rt: HostRuntime) -> Result<(), Wrong> {
-    are_refused(rt.alloc(), &SETTING, &BALANCES)
+    are_refused(rt.alloc(), SETTING, BALANCES)
 }

@@ -53,7 +53,7 @@ const OPEN: EntryColumns<'static> = EntryColumns {
 
 #[test]
 fn entries_are_of_their_matter_and_number(rt: HostRuntime) -> Result<(), Fail> {
-    let rows = [
+    const ROWS: &[EntryColumns<'static>] = &[
         HELD,
         PROPOSED,
         FEE,
@@ -72,69 +72,69 @@ fn entries_are_of_their_matter_and_number(rt: HostRuntime) -> Result<(), Fail> {
             ..FEE
         },
     ];
-    assert!(rt; are_read(rt.alloc(), &rows, "rrrrsssssss"));
+    assert!(rt; are_read(rt.alloc(), ROWS, "rrrrsssssss"));
     Ok(())
 }
 
 #[test]
 fn deposits_are_read(rt: HostRuntime) -> Result<(), Fail> {
-    let cleared = EntryColumns {
+    const CLEARED: EntryColumns<'static> = EntryColumns {
         state: 2,
         day_bank: 20_240_112,
         bank_ref: b"B-1",
         ..HELD
     };
-    let cancelled = EntryColumns {
+    const CANCELLED: EntryColumns<'static> = EntryColumns {
         state: 3,
         day_undone: 20_240_113,
         ..HELD
     };
-    let returned = EntryColumns {
+    const RETURNED: EntryColumns<'static> = EntryColumns {
         state: 4,
         day_done: 20_240_115,
         text_c: b"B-2",
         day_undone: 20_240_116,
-        ..cleared
+        ..CLEARED
     };
-    let rows = [
+    const ROWS: &[EntryColumns<'static>] = &[
         HELD,
-        cleared,
+        CLEARED,
         EntryColumns {
             bank_ref: b"",
-            ..cleared
+            ..CLEARED
         },
-        cancelled,
-        returned,
+        CANCELLED,
+        RETURNED,
         EntryColumns { state: 0, ..HELD },
         EntryColumns { state: 5, ..HELD },
         EntryColumns {
             day_bank: NO_DAY,
-            ..cleared
+            ..CLEARED
         },
         EntryColumns {
             bank_ref: b"B\x07",
-            ..cleared
+            ..CLEARED
         },
         EntryColumns {
             day_undone: 0,
-            ..cancelled
+            ..CANCELLED
         },
         EntryColumns {
             day_done: NO_DAY,
-            ..returned
+            ..RETURNED
         },
         EntryColumns {
             text_c: b"\xff",
-            ..returned
+            ..RETURNED
         },
     ];
-    assert!(rt; are_read(rt.alloc(), &rows, "rrrrrsssssss"));
+    assert!(rt; are_read(rt.alloc(), ROWS, "rrrrrsssssss"));
     Ok(())
 }
 
 #[test]
 fn left_over_columns_of_a_deposit_are_store(rt: HostRuntime) -> Result<(), Fail> {
-    let rows = [
+    const ROWS: &[EntryColumns<'static>] = &[
         EntryColumns { fund: 1, ..HELD },
         EntryColumns { of_no: 1, ..HELD },
         EntryColumns {
@@ -159,13 +159,13 @@ fn left_over_columns_of_a_deposit_are_store(rt: HostRuntime) -> Result<(), Fail>
         },
         EntryColumns { part: 1, ..HELD },
     ];
-    assert!(rt; are_read(rt.alloc(), &rows, "ssssssss"));
+    assert!(rt; are_read(rt.alloc(), ROWS, "ssssssss"));
     Ok(())
 }
 
 #[test]
 fn days_amounts_and_labels_are_read(rt: HostRuntime) -> Result<(), Fail> {
-    let rows = [
+    const ROWS: &[EntryColumns<'static>] = &[
         EntryColumns {
             amount: 99_999_999_999,
             ..HELD
@@ -199,38 +199,38 @@ fn days_amounts_and_labels_are_read(rt: HostRuntime) -> Result<(), Fail> {
             ..OPEN
         },
     ];
-    assert!(rt; are_read(rt.alloc(), &rows, "rssssssssss"));
+    assert!(rt; are_read(rt.alloc(), ROWS, "rssssssssss"));
     Ok(())
 }
 
 #[test]
 fn payments_are_read(rt: HostRuntime) -> Result<(), Fail> {
-    let declined = EntryColumns {
+    const DECLINED: EntryColumns<'static> = EntryColumns {
         state: 2,
         ..PROPOSED
     };
-    let issued = EntryColumns {
+    const ISSUED: EntryColumns<'static> = EntryColumns {
         state: 3,
         day_done: 20_240_112,
         ..PROPOSED
     };
-    let cleared = EntryColumns {
+    const CLEARED: EntryColumns<'static> = EntryColumns {
         state: 4,
         day_bank: 20_240_115,
         bank_ref: b"B-3",
-        ..issued
+        ..ISSUED
     };
-    let voided = EntryColumns {
+    const VOIDED: EntryColumns<'static> = EntryColumns {
         state: 5,
         day_undone: 20_240_116,
-        ..issued
+        ..ISSUED
     };
-    let rows = [
+    const ROWS: &[EntryColumns<'static>] = &[
         PROPOSED,
-        declined,
-        issued,
-        cleared,
-        voided,
+        DECLINED,
+        ISSUED,
+        CLEARED,
+        VOIDED,
         EntryColumns {
             state: 0,
             ..PROPOSED
@@ -243,151 +243,151 @@ fn payments_are_read(rt: HostRuntime) -> Result<(), Fail> {
             state: 3,
             ..PROPOSED
         },
-        EntryColumns { state: 2, ..issued },
-        EntryColumns { state: 4, ..issued },
+        EntryColumns { state: 2, ..ISSUED },
+        EntryColumns { state: 4, ..ISSUED },
         EntryColumns {
             day_bank: NO_DAY,
-            ..cleared
+            ..CLEARED
         },
         EntryColumns {
             bank_ref: b"\xff",
-            ..cleared
+            ..CLEARED
         },
         EntryColumns {
             day_undone: NO_DAY,
-            ..voided
+            ..VOIDED
         },
     ];
-    assert!(rt; are_read(rt.alloc(), &rows, "rrrrrssssssss"));
+    assert!(rt; are_read(rt.alloc(), ROWS, "rrrrrssssssss"));
     Ok(())
 }
 
 #[test]
 fn funds_are_read(rt: HostRuntime) -> Result<(), Fail> {
-    let of_fee = EntryColumns {
+    const OF_FEE: EntryColumns<'static> = EntryColumns {
         fund: 1,
         of_no: 3,
         ..PROPOSED
     };
-    let of_claim = EntryColumns {
+    const OF_CLAIM: EntryColumns<'static> = EntryColumns {
         fund: 2,
         of_no: 9_999,
         state: 3,
         day_done: 20_240_112,
         ..PROPOSED
     };
-    let rows = [
-        of_fee,
-        of_claim,
-        EntryColumns { fund: 3, ..of_fee },
-        EntryColumns { fund: 0, ..of_fee },
-        EntryColumns { fund: -1, ..of_fee },
-        EntryColumns { of_no: 0, ..of_fee },
+    const ROWS: &[EntryColumns<'static>] = &[
+        OF_FEE,
+        OF_CLAIM,
+        EntryColumns { fund: 3, ..OF_FEE },
+        EntryColumns { fund: 0, ..OF_FEE },
+        EntryColumns { fund: -1, ..OF_FEE },
+        EntryColumns { of_no: 0, ..OF_FEE },
         EntryColumns {
             of_no: 10_000,
-            ..of_claim
+            ..OF_CLAIM
         },
         EntryColumns {
             of_no: -1,
-            ..of_claim
+            ..OF_CLAIM
         },
         EntryColumns {
             part: 1,
-            ..of_claim
+            ..OF_CLAIM
         },
     ];
-    assert!(rt; are_read(rt.alloc(), &rows, "rrsssssss"));
+    assert!(rt; are_read(rt.alloc(), ROWS, "rrsssssss"));
     Ok(())
 }
 
 #[test]
 fn claims_are_read(rt: HostRuntime) -> Result<(), Fail> {
-    let offered = EntryColumns {
+    const OFFERED: EntryColumns<'static> = EntryColumns {
         state: 2,
         part: 0,
         ..OPEN
     };
-    let settled = EntryColumns {
+    const SETTLED: EntryColumns<'static> = EntryColumns {
         state: 3,
         part: 20_000,
         day_done: 20_240_120,
         ..OPEN
     };
-    let rows = [
+    const ROWS: &[EntryColumns<'static>] = &[
         OPEN,
-        offered,
+        OFFERED,
         EntryColumns {
             part: 99_999_999_999,
-            ..offered
+            ..OFFERED
         },
-        settled,
+        SETTLED,
         EntryColumns { state: 0, ..OPEN },
         EntryColumns { state: 4, ..OPEN },
         EntryColumns { part: 1, ..OPEN },
         EntryColumns {
             part: -1,
-            ..offered
+            ..OFFERED
         },
         EntryColumns {
             part: 100_000_000_000,
-            ..offered
+            ..OFFERED
         },
         EntryColumns {
             day_done: 0,
-            ..settled
+            ..SETTLED
         },
         EntryColumns {
             day_done: NO_DAY,
-            ..settled
+            ..SETTLED
         },
     ];
-    assert!(rt; are_read(rt.alloc(), &rows, "rrrrsssssss"));
+    assert!(rt; are_read(rt.alloc(), ROWS, "rrrrsssssss"));
     Ok(())
 }
 
 #[test]
 fn claims_on_fees_are_read(rt: HostRuntime) -> Result<(), Fail> {
-    let open = EntryColumns {
+    const ON_FEE: EntryColumns<'static> = EntryColumns {
         fund: 1,
         of_no: 7,
         text_a: b"",
         left_now: 0,
         ..OPEN
     };
-    let offered = EntryColumns {
+    const OFFERED: EntryColumns<'static> = EntryColumns {
         state: 2,
         part: 1,
-        ..open
+        ..ON_FEE
     };
-    let settled = EntryColumns {
+    const SETTLED: EntryColumns<'static> = EntryColumns {
         state: 3,
         part: 0,
         day_done: 20_240_120,
-        ..open
+        ..ON_FEE
     };
-    let rows = [
-        open,
-        offered,
-        settled,
+    const ROWS: &[EntryColumns<'static>] = &[
+        ON_FEE,
+        OFFERED,
+        SETTLED,
         EntryColumns {
             text_a: b"Bo Lind",
-            ..open
+            ..ON_FEE
         },
-        EntryColumns { fund: 0, ..open },
-        EntryColumns { fund: 2, ..open },
-        EntryColumns { of_no: 0, ..open },
+        EntryColumns { fund: 0, ..ON_FEE },
+        EntryColumns { fund: 2, ..ON_FEE },
+        EntryColumns { of_no: 0, ..ON_FEE },
         EntryColumns {
             of_no: 10_000,
-            ..open
+            ..ON_FEE
         },
     ];
-    assert!(rt; are_read(rt.alloc(), &rows, "rrrsssss"));
+    assert!(rt; are_read(rt.alloc(), ROWS, "rrrsssss"));
     Ok(())
 }
 
 #[test]
 fn fees_are_read(rt: HostRuntime) -> Result<(), Fail> {
-    let rows = [
+    const ROWS: &[EntryColumns<'static>] = &[
         FEE,
         EntryColumns { left_now: 0, ..FEE },
         EntryColumns { state: 1, ..FEE },
@@ -397,6 +397,6 @@ fn fees_are_read(rt: HostRuntime) -> Result<(), Fail> {
         },
         EntryColumns { of_no: 1, ..FEE },
     ];
-    assert!(rt; are_read(rt.alloc(), &rows, "rrsss"));
+    assert!(rt; are_read(rt.alloc(), ROWS, "rrsss"));
     Ok(())
 }

@@ -6,7 +6,7 @@ use trust_tables::HeadColumns;
 
 #[test]
 fn heads_are_read(rt: HostRuntime) -> Result<(), Fail> {
-    let good = HeadColumns {
+    const GOOD: HeadColumns<'static> = HeadColumns {
         no: 1,
         client: b"Ada Chen",
         opened: 20_240_110,
@@ -21,52 +21,52 @@ fn heads_are_read(rt: HostRuntime) -> Result<(), Fail> {
         pending: 0,
         purged: 0,
     };
-    let purged = HeadColumns {
+    const PURGED: HeadColumns<'static> = HeadColumns {
         client: b"",
         closed: 20_240_112,
         purged: 20_290_113,
-        ..good
+        ..GOOD
     };
-    let rows = [
-        good,
+    const ROWS: &[HeadColumns<'static>] = &[
+        GOOD,
         HeadColumns {
             closed: 20_240_112,
-            ..good
+            ..GOOD
         },
-        purged,
+        PURGED,
         HeadColumns {
             client: b"",
-            ..good
+            ..GOOD
         },
         HeadColumns {
             client: b"Ada\n",
-            ..good
+            ..GOOD
         },
         HeadColumns {
             opened: NO_DAY,
-            ..good
+            ..GOOD
         },
         HeadColumns {
             closed: NO_DAY,
-            ..good
+            ..GOOD
         },
-        HeadColumns { last: 0, ..good },
+        HeadColumns { last: 0, ..GOOD },
         HeadColumns {
             purged: 20_290_113,
-            ..good
+            ..GOOD
         },
         HeadColumns {
             purged: NO_DAY,
-            ..purged
+            ..PURGED
         },
     ];
-    assert!(rt; are_read(rt.alloc(), &rows, "rrrsssssss"));
+    assert!(rt; are_read(rt.alloc(), ROWS, "rrrsssssss"));
     Ok(())
 }
 
 #[test]
 fn totals_are_read(rt: HostRuntime) -> Result<(), Fail> {
-    let good = HeadColumns {
+    const GOOD: HeadColumns<'static> = HeadColumns {
         no: 1,
         client: b"Ada Chen",
         opened: 20_240_110,
@@ -81,54 +81,54 @@ fn totals_are_read(rt: HostRuntime) -> Result<(), Fail> {
         pending: 3,
         purged: 0,
     };
-    let most = 999_899_999_990_001;
-    let rows = [
-        good,
+    const MOST: i64 = 999_899_999_990_001;
+    const ROWS: &[HeadColumns<'static>] = &[
+        GOOD,
         HeadColumns {
             entries: 9_999,
-            held: most,
-            available: most,
-            disputed: most,
-            fees: most,
-            claims: most,
-            pending: most,
-            ..good
+            held: MOST,
+            available: MOST,
+            disputed: MOST,
+            fees: MOST,
+            claims: MOST,
+            pending: MOST,
+            ..GOOD
         },
         HeadColumns {
             entries: 10_000,
-            ..good
+            ..GOOD
         },
         HeadColumns {
             entries: -1,
-            ..good
+            ..GOOD
         },
         HeadColumns {
-            held: most + 1,
-            ..good
+            held: MOST + 1,
+            ..GOOD
         },
-        HeadColumns { held: -1, ..good },
+        HeadColumns { held: -1, ..GOOD },
         HeadColumns {
-            available: most + 1,
-            ..good
+            available: MOST + 1,
+            ..GOOD
         },
         HeadColumns {
             disputed: -1,
-            ..good
+            ..GOOD
         },
         HeadColumns {
-            fees: most + 1,
-            ..good
+            fees: MOST + 1,
+            ..GOOD
         },
-        HeadColumns { claims: -1, ..good },
+        HeadColumns { claims: -1, ..GOOD },
         HeadColumns {
             pending: i64::MAX,
-            ..good
+            ..GOOD
         },
         HeadColumns {
             pending: i64::MIN,
-            ..good
+            ..GOOD
         },
     ];
-    assert!(rt; are_read(rt.alloc(), &rows, "rrssssssssss"));
+    assert!(rt; are_read(rt.alloc(), ROWS, "rrssssssssss"));
     Ok(())
 }

@@ -8,156 +8,156 @@ use trust_tables::{
 
 #[test]
 fn seats_are_read(rt: HostRuntime) -> Result<(), Fail> {
-    let good = SeatColumns {
+    const GOOD: SeatColumns<'static> = SeatColumns {
         matter: 1,
         person: b"ada",
         role: 1,
     };
-    let rows = [
-        good,
-        SeatColumns { role: 2, ..good },
-        SeatColumns { matter: 2, ..good },
+    const ROWS: &[SeatColumns<'static>] = &[
+        GOOD,
+        SeatColumns { role: 2, ..GOOD },
+        SeatColumns { matter: 2, ..GOOD },
         SeatColumns {
             person: b"Ada",
-            ..good
+            ..GOOD
         },
         SeatColumns {
             person: b"",
-            ..good
+            ..GOOD
         },
-        SeatColumns { role: 0, ..good },
-        SeatColumns { role: 3, ..good },
+        SeatColumns { role: 0, ..GOOD },
+        SeatColumns { role: 3, ..GOOD },
     ];
-    assert!(rt; are_read(rt.alloc(), &rows, "rrsssss"));
+    assert!(rt; are_read(rt.alloc(), ROWS, "rrsssss"));
     Ok(())
 }
 
 #[test]
 fn movements_are_read(rt: HostRuntime) -> Result<(), Fail> {
-    let good = MovementColumns {
+    const GOOD: MovementColumns = MovementColumns {
         matter: 1,
         entry: 9_999,
         day: 20_240_110,
         amount: -50_000,
     };
-    let firm = MovementColumns {
+    const FIRM: MovementColumns = MovementColumns {
         matter: 0,
         entry: 0,
-        ..good
+        ..GOOD
     };
-    let rows = [
-        good,
-        firm,
-        MovementColumns { matter: 0, ..good },
-        MovementColumns { matter: -1, ..good },
+    const ROWS: &[MovementColumns] = &[
+        GOOD,
+        FIRM,
+        MovementColumns { matter: 0, ..GOOD },
+        MovementColumns { matter: -1, ..GOOD },
         MovementColumns {
             matter: 1_000_000,
-            ..good
+            ..GOOD
         },
-        MovementColumns { entry: 0, ..good },
+        MovementColumns { entry: 0, ..GOOD },
         MovementColumns {
             entry: 10_000,
-            ..good
+            ..GOOD
         },
         MovementColumns {
             day: NO_DAY,
-            ..good
+            ..GOOD
         },
-        MovementColumns { day: -1, ..firm },
+        MovementColumns { day: -1, ..FIRM },
     ];
-    assert!(rt; are_read(rt.alloc(), &rows, "rrsssssss"));
+    assert!(rt; are_read(rt.alloc(), ROWS, "rrsssssss"));
     Ok(())
 }
 
 #[test]
 fn firm_lines_are_read(rt: HostRuntime) -> Result<(), Fail> {
-    let good = FirmLineColumns {
+    const GOOD: FirmLineColumns<'static> = FirmLineColumns {
         day: 20_240_110,
         bank_ref: b"B-1",
         amount: -125,
         text: b"charges",
     };
-    let rows = [
-        good,
-        FirmLineColumns { text: b"", ..good },
+    const ROWS: &[FirmLineColumns<'static>] = &[
+        GOOD,
+        FirmLineColumns { text: b"", ..GOOD },
         FirmLineColumns {
             day: NO_DAY,
-            ..good
+            ..GOOD
         },
         FirmLineColumns {
             bank_ref: b"B\x07",
-            ..good
+            ..GOOD
         },
         FirmLineColumns {
             amount: i64::MAX,
-            ..good
+            ..GOOD
         },
         FirmLineColumns {
             text: b"\xff",
-            ..good
+            ..GOOD
         },
     ];
-    assert!(rt; are_read(rt.alloc(), &rows, "rrssss"));
+    assert!(rt; are_read(rt.alloc(), ROWS, "rrssss"));
     Ok(())
 }
 
 #[test]
 fn exceptions_are_read(rt: HostRuntime) -> Result<(), Fail> {
-    let good = ExceptionColumns {
+    const GOOD: ExceptionColumns<'static> = ExceptionColumns {
         day: 20_240_110,
         reference: b"M000001-0001",
         bank_ref: b"B-1",
         amount: 50_000,
         text: b"retainer",
     };
-    let rows = [
-        good,
+    const ROWS: &[ExceptionColumns<'static>] = &[
+        GOOD,
         ExceptionColumns {
             day: NO_DAY,
-            ..good
+            ..GOOD
         },
         ExceptionColumns {
             reference: b"M\x07",
-            ..good
+            ..GOOD
         },
         ExceptionColumns {
             bank_ref: b"B\x07",
-            ..good
+            ..GOOD
         },
         ExceptionColumns {
             amount: i64::MIN,
-            ..good
+            ..GOOD
         },
         ExceptionColumns {
             text: b"\xff",
-            ..good
+            ..GOOD
         },
     ];
-    assert!(rt; are_read(rt.alloc(), &rows, "rsssss"));
+    assert!(rt; are_read(rt.alloc(), ROWS, "rsssss"));
     Ok(())
 }
 
 #[test]
 fn balances_are_read(rt: HostRuntime) -> Result<(), Fail> {
-    let good = BalanceColumns {
+    const GOOD: BalanceColumns = BalanceColumns {
         kind: 1,
         day: 20_240_110,
         amount: 50_000,
     };
-    let rows = [
-        good,
-        BalanceColumns { kind: 2, ..good },
-        BalanceColumns { kind: 0, ..good },
-        BalanceColumns { kind: 3, ..good },
+    const ROWS: &[BalanceColumns] = &[
+        GOOD,
+        BalanceColumns { kind: 2, ..GOOD },
+        BalanceColumns { kind: 0, ..GOOD },
+        BalanceColumns { kind: 3, ..GOOD },
         BalanceColumns {
             day: NO_DAY,
-            ..good
+            ..GOOD
         },
         BalanceColumns {
             amount: i64::MIN,
-            ..good
+            ..GOOD
         },
     ];
-    assert!(rt; are_read(rt.alloc(), &rows, "rrssss"));
+    assert!(rt; are_read(rt.alloc(), ROWS, "rrssss"));
     Ok(())
 }

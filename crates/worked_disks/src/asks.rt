@@ -13,7 +13,7 @@ pub(crate) type Asked = (&'static str, &'static str);
 const TODAY: &str = "2024-02-01";
 
 // The requests whose answers show the rows of a book.
-const SHOWING: [Asked; 4] = [
+const SHOWING: &[Asked] = &[
     ("", "show,000001,"),
     ("", "ledger,000001,"),
     ("", "journal"),
@@ -45,7 +45,7 @@ fn tell(reply: &Reply, text: &mut Vec<u8>) -> Result<(), Wrong> {
 pub(crate) fn shown<B: Book>(alloc: Global, desk: &mut Desk<B>) -> Result<Vec<u8>, Wrong> {
     let mut text = Vec::new(alloc);
     for asked in SHOWING {
-        let reply = answer(alloc, desk, asked)?;
+        let reply = answer(alloc, desk, *asked)?;
         tell(&reply, &mut text)?;
     }
     Ok(text)

@@ -2,12 +2,12 @@
 // instrument, and openings.
 
 use crate::steps::{APPROVED, BANKED, DEPOSIT, FEE, JANUARY, OPEN, TOP_UP};
-use worked_steps::{StepFault, answers_are};
+use worked_steps::{Step, StepFault, answers_are};
 
 // Of two outstanding payments by one instrument both are told.
 #[test]
 fn payments_of_one_instrument(rt: HostRuntime) -> Result<(), StepFault> {
-    let steps = [
+    const STEPS: &[Step] = &[
         OPEN,
         DEPOSIT,
         BANKED,
@@ -47,13 +47,13 @@ DOUBLE M000001-0004 2024-01-30 -10.00 1001
 ",
         ),
     ];
-    answers_are(rt.alloc(), &steps)
+    answers_are(rt.alloc(), STEPS)
 }
 
 // They are told by instrument, over all matters, the cleared ones too, and not those that are voided by the day.
 #[test]
 fn payments_of_one_instrument_over_two_matters(rt: HostRuntime) -> Result<(), StepFault> {
-    let steps = [
+    const STEPS: &[Step] = &[
         OPEN,
         DEPOSIT,
         BANKED,
@@ -146,13 +146,13 @@ DOUBLE M000002-0003 2024-01-12 -5.00 9
 ",
         ),
     ];
-    answers_are(rt.alloc(), &steps)
+    answers_are(rt.alloc(), STEPS)
 }
 
 // A payment that is voided after the day is outstanding on it; a deposit that is cancelled by it is not in transit.
 #[test]
 fn voided_later_and_cancelled(rt: HostRuntime) -> Result<(), StepFault> {
-    let steps = [
+    const STEPS: &[Step] = &[
         OPEN,
         DEPOSIT,
         BANKED,
@@ -189,13 +189,13 @@ OUT M000001-0003 2024-01-30 -50.00
 ",
         ),
     ];
-    answers_are(rt.alloc(), &steps)
+    answers_are(rt.alloc(), STEPS)
 }
 
 // An opening of another amount than the closing before it is told, by the day of the opening.
 #[test]
 fn an_opening_that_differs(rt: HostRuntime) -> Result<(), StepFault> {
-    let steps = [
+    const STEPS: &[Step] = &[
         OPEN,
         DEPOSIT,
         BANKED,
@@ -252,13 +252,13 @@ OUT M000001-0003 2024-01-30 -50.00
 ",
         ),
     ];
-    answers_are(rt.alloc(), &steps)
+    answers_are(rt.alloc(), STEPS)
 }
 
 // A line that the bank dates before the deposit was booked.
 #[test]
 fn a_deposit_that_the_bank_had_early(rt: HostRuntime) -> Result<(), StepFault> {
-    let steps = [
+    const STEPS: &[Step] = &[
         OPEN,
         (
             "2024-02-02",
@@ -294,13 +294,13 @@ EARLY M000001-0001 2024-01-31 80.00
 ",
         ),
     ];
-    answers_are(rt.alloc(), &steps)
+    answers_are(rt.alloc(), STEPS)
 }
 
 // A line of another amount than the deposit's is an exception, and the deposit is in transit.
 #[test]
 fn a_line_of_another_amount(rt: HostRuntime) -> Result<(), StepFault> {
-    let steps = [
+    const STEPS: &[Step] = &[
         OPEN,
         (
             "2024-01-10",
@@ -353,14 +353,14 @@ EXCEPTION 2024-01-12 M000001-0001 B1 499.99 -
 ",
         ),
     ];
-    answers_are(rt.alloc(), &steps)
+    answers_are(rt.alloc(), STEPS)
 }
 
 // A deposit that the bank took back has two lines, each with its days: here the books have both, and the bank's second
 // is told as early as of the days between.
 #[test]
 fn a_returned_deposit(rt: HostRuntime) -> Result<(), StepFault> {
-    let steps = [
+    const STEPS: &[Step] = &[
         OPEN,
         (
             "2024-01-10",
@@ -403,13 +403,13 @@ EARLY M000001-0001 2024-01-15 -500.00
 ",
         ),
     ];
-    answers_are(rt.alloc(), &steps)
+    answers_are(rt.alloc(), STEPS)
 }
 
 // Both of its lines come before the deposit's day: the clearing is told in front of the return.
 #[test]
 fn a_returned_deposit_that_the_bank_had_early(rt: HostRuntime) -> Result<(), StepFault> {
-    let steps = [
+    const STEPS: &[Step] = &[
         OPEN,
         (
             "2024-02-02",
@@ -446,13 +446,13 @@ EARLY M000001-0001 2024-01-31 -80.00
 ",
         ),
     ];
-    answers_are(rt.alloc(), &steps)
+    answers_are(rt.alloc(), STEPS)
 }
 
 // The firm's own money is in the journal and in the ledgers, and is never early.
 #[test]
 fn money_of_the_firm(rt: HostRuntime) -> Result<(), StepFault> {
-    let steps = [
+    const STEPS: &[Step] = &[
         (
             "2024-01-31",
             "",
@@ -479,5 +479,5 @@ GAP                               0.00
 ",
         ),
     ];
-    answers_are(rt.alloc(), &steps)
+    answers_are(rt.alloc(), STEPS)
 }

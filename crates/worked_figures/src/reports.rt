@@ -1,12 +1,12 @@
 // The firm's reports of a month, as they are told to the cashier, and what they are refused for.
 
 use crate::steps::{APPROVED, BANKED, DEPOSIT, FEE, JANUARY, OPEN, TOP_UP};
-use worked_steps::{StepFault, answers_are};
+use worked_steps::{Step, StepFault, answers_are};
 
 // A deposit in transit and a payment outstanding.
 #[test]
 fn a_month(rt: HostRuntime) -> Result<(), StepFault> {
-    let steps = [
+    const STEPS: &[Step] = &[
         OPEN,
         DEPOSIT,
         BANKED,
@@ -73,14 +73,14 @@ TOTAL                           350.00
 ",
         ),
     ];
-    answers_are(rt.alloc(), &steps)
+    answers_are(rt.alloc(), STEPS)
 }
 
 // Without a closing balance of the day there is no reconciliation; and who is not the cashier is told of no report,
 // whatever the day.
 #[test]
 fn refused_reports(rt: HostRuntime) -> Result<(), StepFault> {
-    let steps = [
+    const STEPS: &[Step] = &[
         OPEN,
         DEPOSIT,
         BANKED,
@@ -138,13 +138,13 @@ fn refused_reports(rt: HostRuntime) -> Result<(), StepFault> {
             "{\"name\":\"NotAllowed\",\"refusal\":10,\"rule\":\"firm\"}",
         ),
     ];
-    answers_are(rt.alloc(), &steps)
+    answers_are(rt.alloc(), STEPS)
 }
 
 // A second closing of the day is an exception that no figure counts.
 #[test]
 fn a_second_closing(rt: HostRuntime) -> Result<(), StepFault> {
-    let steps = [
+    const STEPS: &[Step] = &[
         OPEN,
         DEPOSIT,
         BANKED,
@@ -190,14 +190,14 @@ EXCEPTION 2024-01-31 CLOSE - 301.00 -
 ",
         ),
     ];
-    answers_are(rt.alloc(), &steps)
+    answers_are(rt.alloc(), STEPS)
 }
 
 // A line of the firm's of an earlier day that is accepted later stands where it was accepted; a matter that is closed
 // is in the journal and no longer in the trial balance.
 #[test]
 fn in_the_order_of_acceptance(rt: HostRuntime) -> Result<(), StepFault> {
-    let steps = [
+    const STEPS: &[Step] = &[
         OPEN,
         (
             "2024-01-10",
@@ -254,7 +254,7 @@ TOTAL                            90.00
 ",
         ),
     ];
-    answers_are(rt.alloc(), &steps)
+    answers_are(rt.alloc(), STEPS)
 }
 
 // A matter that was paid out and closed is kept for five years, and may be purged from the day after. Then there is
@@ -262,7 +262,7 @@ TOTAL                            90.00
 // again: it is an exception, and negated in the gap.
 #[test]
 fn a_purged_matter(rt: HostRuntime) -> Result<(), StepFault> {
-    let steps = [
+    const STEPS: &[Step] = &[
         OPEN,
         (
             "2024-01-10",
@@ -467,5 +467,5 @@ EXCEPTION 2024-01-10 M000001-0001 B1 100.00 -
 ",
         ),
     ];
-    answers_are(rt.alloc(), &steps)
+    answers_are(rt.alloc(), STEPS)
 }

@@ -24,20 +24,20 @@ const OTHER_CLOSING: &str =
 // A statement with both balances comes, and again, and then another closing of its day.
 #[test]
 fn a_month_and_its_balances(rt: HostRuntime) -> Result<(), StepFault> {
-    let told =
+    const TOLD: &str =
         r#"{"applied":2,"exceptions":0,"repeated":1,"statement":"2024-01-31","unreadable":0}"#;
-    let again =
+    const AGAIN: &str =
         r#"{"applied":0,"exceptions":0,"repeated":3,"statement":"2024-01-31","unreadable":0}"#;
-    let steps: [Step; 6] = [
+    const STEPS: &[Step] = &[
         ("2024-01-10", "", OPEN, 201, OPENED),
         ("2024-01-10", "", DEPOSIT, 201, RECEIPT),
         ("2024-01-12", "", BANKED, 200, ONE_APPLIED),
-        ("2024-02-01", "", JANUARY, 200, told),
-        ("2024-02-01", "", JANUARY, 200, again),
+        ("2024-02-01", "", JANUARY, 200, TOLD),
+        ("2024-02-01", "", JANUARY, 200, AGAIN),
         ("2024-02-01", "", OTHER_CLOSING, 200, ONE_EXCEPTION),
     ];
     let left = "2024-01-31,CLOSE,,301.00,\nopening 2024-01-01 0.00\nclosing 2024-01-31 300.00\n";
-    play(rt.alloc(), &steps, left)
+    play(rt.alloc(), STEPS, left)
 }
 
 const CLOSING: &str = "import,date,reference,bank_ref,amount,text\n2024-01-31,CLOSE,,300.00,\n";
@@ -48,11 +48,11 @@ const CLOSING_TOLD: &str =
 // A balance of a later day is an exception until that day has come.
 #[test]
 fn a_balance_of_a_later_day(rt: HostRuntime) -> Result<(), StepFault> {
-    let steps: [Step; 2] = [
+    const STEPS: &[Step] = &[
         ("2024-01-30", "", CLOSING, 200, ONE_EXCEPTION),
         ("2024-01-31", "", CLOSING, 200, CLOSING_TOLD),
     ];
-    play(rt.alloc(), &steps, "closing 2024-01-31 300.00\n")
+    play(rt.alloc(), STEPS, "closing 2024-01-31 300.00\n")
 }
 
 const TWO_MONTHS: &str = "import,date,reference,bank_ref,amount,text\n\
@@ -66,23 +66,23 @@ const TWO_MONTHS: &str = "import,date,reference,bank_ref,amount,text\n\
 // below zero.
 #[test]
 fn the_last_closing_is_told(rt: HostRuntime) -> Result<(), StepFault> {
-    let told =
+    const TOLD: &str =
         r#"{"applied":4,"exceptions":1,"repeated":0,"statement":"2024-01-31","unreadable":0}"#;
-    let steps: [Step; 1] = [("2024-03-01", "", TWO_MONTHS, 200, told)];
+    const STEPS: &[Step] = &[("2024-03-01", "", TWO_MONTHS, 200, TOLD)];
     let left = "2024-02-29,CLOSE,,2.00,\n\
             opening 2024-01-31 300.00\n\
             opening 2024-03-01 2.00\n\
             closing 2024-01-31 300.00\n\
             closing 2024-02-29 -1.00\n";
-    play(rt.alloc(), &steps, left)
+    play(rt.alloc(), STEPS, left)
 }
 
 // The book refuses the write of the balance: nothing is kept, and the same file goes through when it is sent again.
 #[test]
 fn a_refused_balance_is_kept_when_it_is_sent_again(rt: HostRuntime) -> Result<(), StepFault> {
-    let steps: [Step; 2] = [
+    const STEPS: &[Step] = &[
         ("2024-01-31", "", CLOSING, 503, STORE),
         ("2024-01-31", "", CLOSING, 200, CLOSING_TOLD),
     ];
-    play_refused(rt.alloc(), 1, &steps, "closing 2024-01-31 300.00\n")
+    play_refused(rt.alloc(), 1, STEPS, "closing 2024-01-31 300.00\n")
 }

@@ -53,17 +53,17 @@ const SETTLED: &str = concat!(
 
 #[test]
 fn texts_are_escaped(rt: HostRuntime) -> Result<(), StepFault> {
-    let on_fee = r#"dispute,000001,0003,50.00,0002,too "dear" \"#;
-    let by_wu = r#"claim,000001,0004,50.00,Dr. Wu,too "dear" \"#;
-    let seated = concat!(
+    const DISPUTE: &str = r#"dispute,000001,0003,50.00,0002,too "dear" \"#;
+    const CLAIM: &str = r#"claim,000001,0004,50.00,Dr. Wu,too "dear" \"#;
+    const SEATED: &str = concat!(
         r#"{"available":"0.00","claims":"0.00","client":"Ada Chen","closed":null,"disputed":"0.00","entries":1,"#,
         r#""fees":"0.00","held":"500.00","matter":"000001","opened":"2024-01-10","seats":[{"person":"ada","#,
         r#""role":"client"},{"person":"lee","role":"lawyer"}],"total":"0.00"}"#
     );
-    let steps: [Step; 10] = [
+    const STEPS: &[Step] = &[
         ("2024-01-10", "", OPEN, 201, OPENED),
         ("2024-01-10", "", DEPOSIT, 201, RECEIPT),
-        ("2024-01-10", "", "seat,000001,,ada,client", 200, seated),
+        ("2024-01-10", "", "seat,000001,,ada,client", 200, SEATED),
         ("2024-01-10", "", BANKED_AT_ONCE, 200, ONE_APPLIED),
         (
             "2024-01-10",
@@ -72,8 +72,8 @@ fn texts_are_escaped(rt: HostRuntime) -> Result<(), StepFault> {
             201,
             FEE,
         ),
-        ("2024-01-10", "ada", on_fee, 201, ON_FEE),
-        ("2024-01-10", "", by_wu, 201, BY_WU),
+        ("2024-01-10", "ada", DISPUTE, 201, ON_FEE),
+        ("2024-01-10", "", CLAIM, 201, BY_WU),
         ("2024-01-10", "lee", "offer,000001,0003,20.00", 200, OFFERED),
         (
             "2024-01-10",
@@ -84,5 +84,5 @@ fn texts_are_escaped(rt: HostRuntime) -> Result<(), StepFault> {
         ),
         ("2024-01-10", "", "award,000001,0004,0.00", 200, SETTLED),
     ];
-    play(rt.alloc(), &steps, "")
+    play(rt.alloc(), STEPS, "")
 }

@@ -9,7 +9,7 @@ use worked_steps::texts::{
 use worked_steps::{Step, StepFault, Way, ask_all, matter_no, rows_are};
 
 // Matter 000002 is entered, and then matter 000001.
-const BOOKED: [Step; 4] = [
+const BOOKED: &[Step] = &[
     ("2024-01-10", "", OPEN_OTHER, 201, OTHER_OPENED),
     ("2024-01-10", "", DEPOSIT_TO_OTHER, 201, OTHER_RECEIPT),
     ("2024-01-10", "", OPEN, 201, OPENED),
@@ -28,7 +28,7 @@ fn held<B: Book>(book: &mut B, alloc: Global, matter: &str) -> Result<[usize; 3]
 // Fails where a book, once both matters are entered, does not hold them alone, in the order of their numbers.
 fn holds_both<B: Book + Drop>(book: B, alloc: Global) -> Result<(), StepFault> {
     let mut desk = Desk::new(book);
-    ask_all(&mut desk, alloc, Way::Asked, &BOOKED)?;
+    ask_all(&mut desk, alloc, Way::Asked, BOOKED)?;
     let mut book = desk.into_book();
     for (matter, wanted) in [
         ("000001", [1, 1, 1]),

@@ -18,7 +18,7 @@ const OTHER_HELD: &str = concat!(
 );
 
 // Deposits of two matters.
-const BOOKED: [Step; 4] = [
+const BOOKED: &[Step] = &[
     ("2024-01-10", "", OPEN, 201, OPENED),
     ("2024-01-10", "", DEPOSIT, 201, RECEIPT),
     ("2024-01-10", "", OPEN_OTHER, 201, OTHER_OPENED),
@@ -33,7 +33,7 @@ const STATEMENT: &str = "date,reference,bank_ref,amount,text\n\
 // What came of the statement when its reads, a byte each, failed after the first good ones, and when it was sent again.
 fn resent(alloc: Global, good: u64, today: Day) -> Result<[ImportReply; 2], StepFault> {
     let mut desk = Desk::new(PlainBook::new(alloc));
-    ask_all(&mut desk, alloc, Way::Asked, &BOOKED)?;
+    ask_all(&mut desk, alloc, Way::Asked, BOOKED)?;
     let bytes = STATEMENT.as_bytes();
     let first = desk.import(alloc, TrialReader::new(bytes, 1, good), today);
     let again = desk.import(alloc, bytes, today);
@@ -43,15 +43,19 @@ fn resent(alloc: Global, good: u64, today: Day) -> Result<[ImportReply; 2], Step
     }
 }
 
+// Whether both lines were applied, each once, and what was applied at first came again.
+fn are_whole(first: &ImportReply, again: &ImportReply) -> bool {
+    again.repeated == first.applied
+        && first.applied.saturating_add(again.applied) == 2
+        && again.unreadable == 1
+}
+
 #[test]
 fn each_read_fails(rt: HostRuntime) -> Result<(), StepFault> {
     let today = day("2024-01-12")?;
     for good in 0..STATEMENT.len() as u64 + 1 {
         let [first, again] = resent(rt.alloc(), good, today)?;
-        assert_eq!(rt; again.repeated, first.applied, "after {good} reads");
-        let applied = first.applied.saturating_add(again.applied);
-        assert_eq!(rt; applied, 2, "after {good} reads");
-        assert_eq!(rt; again.unreadable, 1, "after {good} reads");
+        assert!(rt; are_whole(&first, &again), "after {good} reads");
     }
     Ok(())
 }
@@ -70,29 +74,40 @@ fn long_statement(alloc: Global) -> Result<Vec<u8>, AllocError> {
     Ok(bytes)
 }
 
-const SHOWN: [Step; 2] = [
+const SHOWN: &[Step] = &[
     ("2024-01-12", "", "entry,000002,0001", 200, OTHER_HELD),
     ("2024-01-12", "", SHOW, 200, CLEARED),
 ];
 
 // What came of a statement whose read fails within its last line.
-fn cut(alloc: Global, bytes: &[u8], today: Day) -> Result<ImportReply, StepFault> {
-    let mut desk = Desk::new(PlainBook::new(alloc));
-    ask_all(&mut desk, alloc, Way::Asked, &BOOKED)?;
+fn cut(
+    desk: &mut Desk<PlainBook>,
+    alloc: Global,
+    bytes: &[u8],
+    today: Day,
+) -> Result<ImportReply, StepFault> {
     let (front, back) = bytes.split_at(bytes.len().saturating_sub(10));
     let ended = desk.import(alloc, front.chain(TrialReader::new(back, 1, 0)), today);
-    let ImportStop::ReadFault = ended.end else {
-        return Err(StepFault::End);
-    };
-    ask_all(&mut desk, alloc, Way::Asked, &SHOWN)?;
-    Ok(ended.reply)
+    match ended.end {
+        ImportStop::ReadFault => Ok(ended.reply),
+        _ => Err(StepFault::End),
+    }
+}
+
+// The same at a desk where the deposits are booked, which then shows what was applied.
+fn cut_after_booking(alloc: Global, bytes: &[u8], today: Day) -> Result<ImportReply, StepFault> {
+    let mut desk = Desk::new(PlainBook::new(alloc));
+    ask_all(&mut desk, alloc, Way::Asked, BOOKED)?;
+    let reply = cut(&mut desk, alloc, bytes, today)?;
+    ask_all(&mut desk, alloc, Way::Asked, SHOWN)?;
+    Ok(reply)
 }
 
 // The lines before the cut one were applied, one after the other.
 #[test]
 fn a_read_fails_in_the_last_line(rt: HostRuntime) -> Result<(), StepFault> {
     let bytes = long_statement(rt.alloc())?;
-    let reply = cut(rt.alloc(), &bytes, day("2024-01-12")?)?;
+    let reply = cut_after_booking(rt.alloc(), &bytes, day("2024-01-12")?)?;
     let counts = [
         reply.applied,
         reply.repeated,

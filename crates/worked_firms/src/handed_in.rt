@@ -33,36 +33,36 @@ pub const CLEARED: &str = concat!(
 
 #[test]
 fn the_cashier_hands_in_a_statement(rt: HostRuntime) -> Result<(), StepFault> {
-    let steps: [Step; 5] = [
+    const STEPS: &[Step] = &[
         ("2024-01-12", "", OPEN, 201, OPENED),
         ("2024-01-12", "", DEPOSIT, 201, RECEIPT),
         ("2024-01-12", "", BANKED, 200, ONE_APPLIED),
         ("2024-01-12", "", BANKED, 200, ONE_REPEATED),
         ("2024-01-12", "", SHOW, 200, CLEARED),
     ];
-    play(rt.alloc(), &steps, "")
+    play(rt.alloc(), STEPS, "")
 }
 
 #[test]
 fn statements_that_are_refused(rt: HostRuntime) -> Result<(), StepFault> {
-    let firm = r#"{"name":"NotAllowed","refusal":10,"rule":"firm"}"#;
-    let header = r#"{"field":"header","name":"BadField","refusal":7}"#;
-    let steps: [Step; 6] = [
+    const FIRM: &str = r#"{"name":"NotAllowed","refusal":10,"rule":"firm"}"#;
+    const HEADER: &str = r#"{"field":"header","name":"BadField","refusal":7}"#;
+    const STEPS: &[Step] = &[
         ("2024-01-12", "", OPEN, 201, OPENED),
         ("2024-01-12", "", DEPOSIT, 201, RECEIPT),
-        ("2024-01-12", "lee", BANKED, 403, firm),
-        ("2024-01-12", "lee", OTHER_HEADER, 422, header),
-        ("2024-01-12", "", OTHER_HEADER, 422, header),
+        ("2024-01-12", "lee", BANKED, 403, FIRM),
+        ("2024-01-12", "lee", OTHER_HEADER, 422, HEADER),
+        ("2024-01-12", "", OTHER_HEADER, 422, HEADER),
         ("2024-01-12", "", SHOW, 200, HELD),
     ];
-    play(rt.alloc(), &steps, "")
+    play(rt.alloc(), STEPS, "")
 }
 
 // The book refuses the write of the line: nothing is applied, and the same statement goes through when it is sent
 // again.
 #[test]
 fn a_refused_line_is_applied_when_it_is_sent_again(rt: HostRuntime) -> Result<(), StepFault> {
-    let steps: [Step; 7] = [
+    const STEPS: &[Step] = &[
         ("2024-01-12", "", OPEN, 201, OPENED),
         ("2024-01-12", "", DEPOSIT, 201, RECEIPT),
         ("2024-01-12", "", SHOW, 200, HELD),
@@ -71,5 +71,5 @@ fn a_refused_line_is_applied_when_it_is_sent_again(rt: HostRuntime) -> Result<()
         ("2024-01-12", "", BANKED, 200, ONE_APPLIED),
         ("2024-01-12", "", SHOW, 200, CLEARED),
     ];
-    play_refused(rt.alloc(), 3, &steps, "")
+    play_refused(rt.alloc(), 3, STEPS, "")
 }

@@ -32,7 +32,7 @@ fn becomes<B: Book>(
     }
 }
 
-const BOOKED: [Step; 2] = [
+const BOOKED: &[Step] = &[
     ("2024-01-10", "", OPEN, 201, OPENED),
     ("2024-01-10", "", DEPOSIT, 201, RECEIPT),
 ];
@@ -49,7 +49,7 @@ fn items_are_applied_one_by_one(rt: HostRuntime) -> Result<(), StepFault> {
     let alloc = rt.alloc();
     let today = day("2024-01-12")?;
     let mut desk = Desk::new(PlainBook::new(alloc));
-    ask_all(&mut desk, alloc, Way::Asked, &BOOKED)?;
+    ask_all(&mut desk, alloc, Way::Asked, BOOKED)?;
     becomes(&mut desk, alloc, today, OF_THE_DEPOSIT, Counted::Applied)?;
     becomes(&mut desk, alloc, today, OF_THE_DEPOSIT, Counted::Repeated)?;
     becomes(&mut desk, alloc, today, OF_NO_ENTRY, Counted::Exception)?;

@@ -66,7 +66,7 @@ const OFFICE: &str = r#"{"name":"NotAllowed","refusal":10,"rule":"office"}"#;
 // deposit, when it comes again after the purging, opens nothing.
 #[test]
 fn a_matter_is_closed_and_purged(rt: HostRuntime) -> Result<(), StepFault> {
-    let steps: [Step; 21] = [
+    const STEPS: &[Step] = &[
         ("2024-01-10", "", OPEN, 201, OPENED),
         ("2024-01-10", "", SEAT, 200, SEATED),
         ("2024-01-10", "", HUNDRED, 201, HUNDRED_BOOKED),
@@ -89,18 +89,18 @@ fn a_matter_is_closed_and_purged(rt: HostRuntime) -> Result<(), StepFault> {
         ("2029-03-01", "", HUNDRED_BANKED, 200, ONE_EXCEPTION),
         ("2029-03-01", "", SHOW, 410, PURGED),
     ];
-    play(rt.alloc(), &steps, "2024-01-10,M000001-0001,B1,100.00,\n")
+    play(rt.alloc(), STEPS, "2024-01-10,M000001-0001,B1,100.00,\n")
 }
 
 #[test]
 fn matters_that_are_not_purged(rt: HostRuntime) -> Result<(), StepFault> {
-    let steps: [Step; 4] = [
+    const STEPS: &[Step] = &[
         ("2029-03-01", "", PURGE, 404, NO_MATTER),
         ("2024-01-10", "", OPEN, 201, OPENED),
         ("2029-03-01", "", PURGE, 409, WRONG_STATE),
         ("2029-03-01", "", SHOW, 200, OPENED),
     ];
-    play(rt.alloc(), &steps, "")
+    play(rt.alloc(), STEPS, "")
 }
 
 const CANCELLED: &str = concat!(
@@ -116,7 +116,7 @@ const CLOSED_AT_ONCE: &str = concat!(
 );
 
 // Two matters, of which the first is closed after its deposit was cancelled, and purged.
-const ONE_OF_TWO: [Step; 7] = [
+const ONE_OF_TWO: &[Step] = &[
     ("2024-01-10", "", OPEN, 201, OPENED),
     ("2024-01-10", "", DEPOSIT, 201, RECEIPT),
     ("2024-01-10", "", "cancel,000001,0001", 200, CANCELLED),
@@ -136,7 +136,7 @@ const LEFT: &str = "head 000001 purged 2029-03-01\n\
 // Fails where a book holds something else after one of two matters was purged.
 fn keeps_the_other<B: Book + Drop>(book: B, alloc: Global) -> Result<(), StepFault> {
     let mut desk = Desk::new(book);
-    ask_all(&mut desk, alloc, Way::Asked, &ONE_OF_TWO)?;
+    ask_all(&mut desk, alloc, Way::Asked, ONE_OF_TWO)?;
     rows_are(desk.into_book(), alloc, LEFT)
 }
 

@@ -5,7 +5,7 @@ use worked_steps::{Step, StepFault, play_refused};
 
 #[test]
 fn a_refused_deposit_changes_nothing(rt: HostRuntime) -> Result<(), StepFault> {
-    let steps: [Step; 6] = [
+    const STEPS: &[Step] = &[
         ("2024-01-10", "", OPEN, 201, OPENED),
         ("2024-01-10", "", SHOW, 200, OPENED),
         ("2024-01-10", "", DEPOSIT, 503, STORE),
@@ -13,5 +13,5 @@ fn a_refused_deposit_changes_nothing(rt: HostRuntime) -> Result<(), StepFault> {
         ("2024-01-10", "", DEPOSIT, 201, RECEIPT),
         ("2024-01-10", "", SHOW, 200, HELD),
     ];
-    play_refused(rt.alloc(), 2, &steps, "")
+    play_refused(rt.alloc(), 2, STEPS, "")
 }

@@ -27,14 +27,14 @@ const SHOWN: &str = concat!(
 
 #[test]
 fn a_matter_alone(rt: HostRuntime) -> Result<(), StepFault> {
-    let steps: [Step; 5] = [
+    const STEPS: &[Step] = &[
         ("2024-01-10", "", OPEN, 201, OPENED),
         ("2024-01-10", "", DEPOSIT, 201, RECEIPT),
         ("2024-01-10", "", TOP_UP, 201, TOPPED_UP),
         ("2024-01-10", "", "cancel,000001,0001", 200, CANCELLED),
         ("2024-01-10", "", SHOW, 200, SHOWN),
     ];
-    play(rt.alloc(), &steps, "")
+    play(rt.alloc(), STEPS, "")
 }
 
 // The bank's line of the deposit of matter 000002.
@@ -44,9 +44,9 @@ const OF_OTHER: &str =
 // The same, with what is asked of matter 000002 before, in between and behind, and a statement that names it alone.
 #[test]
 fn two_matters(rt: HostRuntime) -> Result<(), StepFault> {
-    let more = "deposit,000002,0001,71.00,Ada Chen,retainer";
-    let next = r#"{"name":"WrongNumber","next":"0002","refusal":14}"#;
-    let steps: [Step; 10] = [
+    const MORE: &str = "deposit,000002,0001,71.00,Ada Chen,retainer";
+    const NEXT: &str = r#"{"name":"WrongNumber","next":"0002","refusal":14}"#;
+    const STEPS: &[Step] = &[
         ("2024-01-10", "", OPEN_OTHER, 201, OTHER_OPENED),
         ("2024-01-10", "", OPEN, 201, OPENED),
         ("2024-01-10", "", DEPOSIT, 201, RECEIPT),
@@ -56,7 +56,7 @@ fn two_matters(rt: HostRuntime) -> Result<(), StepFault> {
         ("2024-01-10", "", "cancel,000001,0001", 200, CANCELLED),
         ("2024-01-10", "mallory", "show,000002,", 404, NO_MATTER),
         ("2024-01-10", "", SHOW, 200, SHOWN),
-        ("2024-01-10", "", more, 409, next),
+        ("2024-01-10", "", MORE, 409, NEXT),
     ];
-    play(rt.alloc(), &steps, "")
+    play(rt.alloc(), STEPS, "")
 }

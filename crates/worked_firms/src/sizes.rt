@@ -153,7 +153,7 @@ fn statement_of(alloc: Global, line: &[u8]) -> Result<Vec<u8>, AllocError> {
     Ok(bytes)
 }
 
-const BOOKED: [Step; 2] = [
+const BOOKED: &[Step] = &[
     ("2024-01-10", "", OPEN, 201, OPENED),
     ("2024-01-10", "", DEPOSIT, 201, RECEIPT),
 ];
@@ -163,7 +163,7 @@ const BOOKED: [Step; 2] = [
 fn counts_of(alloc: Global, line: &str, today: Day) -> Result<[u64; 4], StepFault> {
     let statement = statement_of(alloc, line.as_bytes())?;
     let mut desk = Desk::new(PlainBook::new(alloc));
-    ask_all(&mut desk, alloc, Way::Asked, &BOOKED)?;
+    ask_all(&mut desk, alloc, Way::Asked, BOOKED)?;
     let ended = desk.import(alloc, statement.as_slice(), today);
     match ended.end {
         ImportStop::Done => Ok([
@@ -198,22 +198,36 @@ fn too_long(alloc: Global) -> Result<Request, StepFault> {
     })
 }
 
+// The matter is opened, the retainer booked, the statement handed in, and the matter shown.
+fn push_around_too_long(requests: &mut Vec<Request>, alloc: Global) -> Result<(), StepFault> {
+    requests.push(request_of(alloc, "", OPEN)?)?;
+    requests.push(request_of(alloc, "", DEPOSIT)?)?;
+    requests.push(too_long(alloc)?)?;
+    requests.push(request_of(alloc, "", SHOW)?)?;
+    Ok(())
+}
+
+// Whether replies are these, each of its status and text.
+fn are_said(replies: &[Reply], wanted: &[(u16, &str)]) -> bool {
+    for (reply, (status, text)) in replies.iter().zip(wanted) {
+        if !is_said(reply, *status, text) {
+            return false;
+        }
+    }
+    replies.len() == wanted.len()
+}
+
 #[test]
 fn a_statement_that_is_too_long_is_refused(rt: HostRuntime) -> Result<(), StepFault> {
-    let mut requests = Vec::new(rt.alloc());
-    requests.push(request_of(rt.alloc(), "", OPEN)?)?;
-    requests.push(request_of(rt.alloc(), "", DEPOSIT)?)?;
-    requests.push(too_long(rt.alloc())?)?;
-    requests.push(request_of(rt.alloc(), "", SHOW)?)?;
-    let (replies, _) = run(rt.alloc(), &requests)?;
-    let wanted = [
+    const WANTED: &[(u16, &str)] = &[
         (201, OPENED),
         (201, RECEIPT),
         (413, r#"{"name":"TooLarge","refusal":3}"#),
         (200, HELD),
     ];
-    for (reply, (status, text)) in replies.iter().zip(wanted) {
-        assert!(rt; is_said(reply, status, text));
-    }
+    let mut requests = Vec::new(rt.alloc());
+    push_around_too_long(&mut requests, rt.alloc())?;
+    let (replies, _) = run(rt.alloc(), &requests)?;
+    assert!(rt; are_said(&replies, WANTED));
     Ok(())
 }

@@ -16,7 +16,7 @@ const CLEARED_ENTRY: &str = concat!(
 // A deposit is cleared by its line, and the line comes again.
 #[test]
 fn a_line_comes_again(rt: HostRuntime) -> Result<(), StepFault> {
-    let steps: [Step; 6] = [
+    const STEPS: &[Step] = &[
         ("2024-01-10", "", OPEN, 201, OPENED),
         ("2024-01-10", "", DEPOSIT, 201, RECEIPT),
         ("2024-01-12", "", BANKED, 200, ONE_APPLIED),
@@ -24,7 +24,7 @@ fn a_line_comes_again(rt: HostRuntime) -> Result<(), StepFault> {
         ("2024-01-12", "", SHOW, 200, CLEARED),
         ("2024-01-12", "", ENTRY, 200, CLEARED_ENTRY),
     ];
-    play(rt.alloc(), &steps, "")
+    play(rt.alloc(), STEPS, "")
 }
 
 const OTHER_AMOUNT: &str =
@@ -33,13 +33,13 @@ const OTHER_AMOUNT: &str =
 // A line of another amount than the deposit's is an exception.
 #[test]
 fn a_line_of_another_amount_matches_nothing(rt: HostRuntime) -> Result<(), StepFault> {
-    let steps: [Step; 4] = [
+    const STEPS: &[Step] = &[
         ("2024-01-10", "", OPEN, 201, OPENED),
         ("2024-01-10", "", DEPOSIT, 201, RECEIPT),
         ("2024-01-12", "", OTHER_AMOUNT, 200, ONE_EXCEPTION),
         ("2024-01-12", "", ENTRY, 200, HELD_ENTRY),
     ];
-    play(rt.alloc(), &steps, "2024-01-12,M000001-0001,B1,499.99,\n")
+    play(rt.alloc(), STEPS, "2024-01-12,M000001-0001,B1,499.99,\n")
 }
 
 const WITH_GARBAGE: &str = "import,date,reference,bank_ref,amount,text\n\
@@ -59,45 +59,47 @@ const SECOND_CLEARED: &str = concat!(
 
 #[test]
 fn a_record_that_is_no_line_stops_nothing(rt: HostRuntime) -> Result<(), StepFault> {
-    let told = r#"{"applied":2,"exceptions":0,"repeated":0,"statement":null,"unreadable":1}"#;
-    let steps: [Step; 7] = [
+    const TOLD: &str =
+        r#"{"applied":2,"exceptions":0,"repeated":0,"statement":null,"unreadable":1}"#;
+    const STEPS: &[Step] = &[
         ("2024-01-10", "", OPEN, 201, OPENED),
         ("2024-01-10", "", DEPOSIT, 201, RECEIPT),
         ("2024-01-10", "", OPEN_OTHER, 201, OTHER_OPENED),
         ("2024-01-10", "", DEPOSIT_TO_OTHER, 201, OTHER_RECEIPT),
-        ("2024-01-12", "", WITH_GARBAGE, 200, told),
+        ("2024-01-12", "", WITH_GARBAGE, 200, TOLD),
         ("2024-01-12", "", SHOW, 200, CLEARED),
         ("2024-01-12", "", "show,000002,", 200, SECOND_CLEARED),
     ];
-    play(rt.alloc(), &steps, "")
+    play(rt.alloc(), STEPS, "")
 }
 
 #[test]
 fn matters_share_a_reference_of_the_bank(rt: HostRuntime) -> Result<(), StepFault> {
-    let told = r#"{"applied":2,"exceptions":0,"repeated":0,"statement":null,"unreadable":0}"#;
-    let steps: [Step; 7] = [
+    const TOLD: &str =
+        r#"{"applied":2,"exceptions":0,"repeated":0,"statement":null,"unreadable":0}"#;
+    const STEPS: &[Step] = &[
         ("2024-01-10", "", OPEN, 201, OPENED),
         ("2024-01-10", "", DEPOSIT, 201, RECEIPT),
         ("2024-01-10", "", OPEN_OTHER, 201, OTHER_OPENED),
         ("2024-01-10", "", DEPOSIT_TO_OTHER, 201, OTHER_RECEIPT),
-        ("2024-01-12", "", WITH_SAME_REF, 200, told),
+        ("2024-01-12", "", WITH_SAME_REF, 200, TOLD),
         ("2024-01-12", "", SHOW, 200, CLEARED),
         ("2024-01-12", "", "show,000002,", 200, SECOND_CLEARED),
     ];
-    play(rt.alloc(), &steps, "")
+    play(rt.alloc(), STEPS, "")
 }
 
 // A line that comes before its matter is an exception until it comes again.
 #[test]
 fn an_exception_leaves_when_it_is_applied(rt: HostRuntime) -> Result<(), StepFault> {
-    let steps: [Step; 5] = [
+    const STEPS: &[Step] = &[
         ("2024-01-12", "", BANKED, 200, ONE_EXCEPTION),
         ("2024-01-12", "", OPEN, 201, handed_in::OPENED),
         ("2024-01-12", "", DEPOSIT, 201, handed_in::RECEIPT),
         ("2024-01-12", "", BANKED, 200, ONE_APPLIED),
         ("2024-01-12", "", SHOW, 200, handed_in::CLEARED),
     ];
-    play(rt.alloc(), &steps, "")
+    play(rt.alloc(), STEPS, "")
 }
 
 const INTEREST: &str = "import,date,reference,bank_ref,amount,text\n2024-01-12,INTEREST,B9,1.00,\n";
@@ -105,11 +107,11 @@ const INTEREST: &str = "import,date,reference,bank_ref,amount,text\n2024-01-12,I
 // A line that names nothing is an exception, once however often it comes.
 #[test]
 fn a_line_that_names_nothing(rt: HostRuntime) -> Result<(), StepFault> {
-    let steps: [Step; 2] = [
+    const STEPS: &[Step] = &[
         ("2024-01-12", "", INTEREST, 200, ONE_EXCEPTION),
         ("2024-01-12", "", INTEREST, 200, ONE_EXCEPTION),
     ];
-    play(rt.alloc(), &steps, "2024-01-12,INTEREST,B9,1.00,\n")
+    play(rt.alloc(), STEPS, "2024-01-12,INTEREST,B9,1.00,\n")
 }
 
 const TWO_TEXTS: &str = "import,date,reference,bank_ref,amount,text\n\
@@ -122,16 +124,17 @@ const ONE_TEXT: &str =
 // Lines that differ in their text are two exceptions, and only the one that is applied leaves.
 #[test]
 fn an_exception_with_another_text_stays(rt: HostRuntime) -> Result<(), StepFault> {
-    let told = r#"{"applied":0,"exceptions":2,"repeated":0,"statement":null,"unreadable":0}"#;
-    let steps: [Step; 4] = [
-        ("2024-01-09", "", TWO_TEXTS, 200, told),
+    const TOLD: &str =
+        r#"{"applied":0,"exceptions":2,"repeated":0,"statement":null,"unreadable":0}"#;
+    const STEPS: &[Step] = &[
+        ("2024-01-09", "", TWO_TEXTS, 200, TOLD),
         ("2024-01-10", "", OPEN, 201, OPENED),
         ("2024-01-10", "", DEPOSIT, 201, RECEIPT),
         ("2024-01-12", "", ONE_TEXT, 200, ONE_APPLIED),
     ];
     play(
         rt.alloc(),
-        &steps,
+        STEPS,
         "2024-01-12,M000001-0001,B1,500.00,from A. Chen\n",
     )
 }
@@ -144,8 +147,8 @@ const NEVER_CLOSED: &str = "import,date,reference,bank_ref,amount,text\n\
 #[test]
 fn a_quote_is_never_closed(rt: HostRuntime) -> Result<(), StepFault> {
     let left = "2024-01-12,M000001-0001,B1,500.00,from Ada\n2024-01-12,M000001-0001,B1,500.00,\n\n";
-    let steps: [Step; 1] = [("2024-01-12", "", NEVER_CLOSED, 200, ONE_EXCEPTION)];
-    play(rt.alloc(), &steps, left)
+    const STEPS: &[Step] = &[("2024-01-12", "", NEVER_CLOSED, 200, ONE_EXCEPTION)];
+    play(rt.alloc(), STEPS, left)
 }
 
 const OF_THE_FIRM: &str = "import,date,reference,bank_ref,amount,text\n\
@@ -156,9 +159,9 @@ const OF_THE_FIRM: &str = "import,date,reference,bank_ref,amount,text\n\
 // Balances are kept, and a charge is none of theirs: the firm has nothing to pay it from.
 #[test]
 fn balances_and_lines_of_the_firm(rt: HostRuntime) -> Result<(), StepFault> {
-    let told =
+    const TOLD: &str =
         r#"{"applied":2,"exceptions":1,"repeated":0,"statement":"2024-01-31","unreadable":0}"#;
     let left = "2024-01-12,FIRM,B2,-15.00,\nopening 2024-01-01 0.00\nclosing 2024-01-31 0.00\n";
-    let steps: [Step; 1] = [("2024-01-31", "", OF_THE_FIRM, 200, told)];
-    play(rt.alloc(), &steps, left)
+    const STEPS: &[Step] = &[("2024-01-31", "", OF_THE_FIRM, 200, TOLD)];
+    play(rt.alloc(), STEPS, left)
 }

@@ -61,7 +61,7 @@ TOTAL                 250.00
 // Who has no seat is told of no matter, and the card changes nothing.
 #[test]
 fn a_matter_is_accounted_for(rt: HostRuntime) -> Result<(), StepFault> {
-    let steps: [Step; 12] = [
+    const STEPS: &[Step] = &[
         ("2024-01-10", "", LEDGER, 404, NO_MATTER),
         ("2024-01-10", "", OPEN, 201, OPENED),
         ("2024-01-10", "", LEDGER, 200, NEW_CARD),
@@ -75,7 +75,7 @@ fn a_matter_is_accounted_for(rt: HostRuntime) -> Result<(), StepFault> {
         ("2024-01-10", "ada", LEDGER, 404, NO_MATTER),
         ("2024-01-10", "", LEDGER, 200, CARD),
     ];
-    play(rt.alloc(), &steps, "")
+    play(rt.alloc(), STEPS, "")
 }
 
 const CANCELLED: &str = concat!(
@@ -108,7 +108,7 @@ const PURGED: &str = r#"{"name":"Purged","refusal":9}"#;
 // A closed matter is accounted for until it is purged.
 #[test]
 fn no_purged_matter_is_accounted_for(rt: HostRuntime) -> Result<(), StepFault> {
-    let steps: [Step; 8] = [
+    const STEPS: &[Step] = &[
         ("2024-01-10", "", OPEN, 201, OPENED),
         ("2024-01-10", "", DEPOSIT, 201, RECEIPT),
         ("2024-01-10", "", "cancel,000001,0001", 200, CANCELLED),
@@ -118,5 +118,5 @@ fn no_purged_matter_is_accounted_for(rt: HostRuntime) -> Result<(), StepFault> {
         ("2029-03-01", "", LEDGER, 410, PURGED),
         ("2029-03-01", "lee", LEDGER, 404, NO_MATTER),
     ];
-    play(rt.alloc(), &steps, "")
+    play(rt.alloc(), STEPS, "")
 }

@@ -85,22 +85,22 @@ const CLAIM_OPEN: &str = concat!(
 
 #[test]
 fn a_claim_on_a_fee_is_settled(rt: HostRuntime) -> Result<(), StepFault> {
-    let earn = "fee,000001,0002,200.00,advice";
-    let dispute = "dispute,000001,0003,50.00,0002,hours";
-    let pay = "propose,000001,0004,160.00,fee,0002,FIRM,filing fee,1001";
-    let steps: [Step; 22] = [
+    const EARN: &str = "fee,000001,0002,200.00,advice";
+    const DISPUTE: &str = "dispute,000001,0003,50.00,0002,hours";
+    const PAY: &str = "propose,000001,0004,160.00,fee,0002,FIRM,filing fee,1001";
+    const STEPS: &[Step] = &[
         ("2024-01-10", "", OPEN, 201, OPENED),
         ("2024-01-10", "", DEPOSIT, 201, RECEIPT),
         ("2024-01-10", "", SEAT, 200, SEATED),
         ("2024-01-10", "", BANKED_AT_ONCE, 200, ONE_APPLIED),
-        ("2024-01-10", "lee", earn, 201, FEE),
-        ("2024-01-10", "lee", earn, 200, FEE),
+        ("2024-01-10", "lee", EARN, 201, FEE),
+        ("2024-01-10", "lee", EARN, 200, FEE),
         ("2024-01-10", "", SHOW, 200, FEE_EARNED),
-        ("2024-01-10", "ada", dispute, 201, ON_FEE),
-        ("2024-01-10", "ada", dispute, 200, ON_FEE),
+        ("2024-01-10", "ada", DISPUTE, 201, ON_FEE),
+        ("2024-01-10", "ada", DISPUTE, 200, ON_FEE),
         ("2024-01-10", "", "entry,000001,0002", 200, FEE_LEFT),
         ("2024-01-10", "", "entry,000001,0003", 200, CLAIM_OPEN),
-        ("2024-01-10", "", pay, 201, FROM_FEE),
+        ("2024-01-10", "", PAY, 201, FROM_FEE),
         ("2024-01-10", "lee", "approve,000001,0004", 409, SHORT),
         ("2024-01-10", "lee", "offer,000001,0003,20.00", 200, OFFERED),
         (
@@ -122,9 +122,9 @@ fn a_claim_on_a_fee_is_settled(rt: HostRuntime) -> Result<(), StepFault> {
         ("2024-01-10", "", SHOW, 200, AFTER_PAYING),
         ("2024-01-10", "lee", "void,000001,0004", 200, FIRM_UNPAID),
         ("2024-01-10", "", SHOW, 200, AFTER_SETTLING),
-        ("2024-01-10", "", pay, 200, FROM_FEE),
+        ("2024-01-10", "", PAY, 200, FROM_FEE),
     ];
-    play(rt.alloc(), &steps, "")
+    play(rt.alloc(), STEPS, "")
 }
 
 const CLAIM: &str = "claim,000001,0002,120.00,Roof Builders,hours";
@@ -175,9 +175,9 @@ const CLAIM_EMPTY: &str = concat!(
 
 #[test]
 fn a_claimant_is_paid(rt: HostRuntime) -> Result<(), StepFault> {
-    let more = "claim,000001,0004,400.01,Roof Builders,hours";
-    let short = r#"{"left":"400.00","name":"Short","refusal":21}"#;
-    let steps: [Step; 16] = [
+    const MORE: &str = "claim,000001,0004,400.01,Roof Builders,hours";
+    const CENT_SHORT: &str = r#"{"left":"400.00","name":"Short","refusal":21}"#;
+    const STEPS: &[Step] = &[
         ("2024-01-10", "", OPEN, 201, OPENED),
         ("2024-01-10", "", DEPOSIT, 201, RECEIPT),
         ("2024-01-10", "", SEAT, 200, SEATED),
@@ -198,33 +198,33 @@ fn a_claimant_is_paid(rt: HostRuntime) -> Result<(), StepFault> {
             CLAIMANT_PAID,
         ),
         ("2024-01-10", "", SHOW, 200, CLAIM_EMPTY),
-        ("2024-01-10", "", more, 409, short),
+        ("2024-01-10", "", MORE, 409, CENT_SHORT),
         ("2024-01-10", "", SHOW, 200, CLAIM_EMPTY),
     ];
-    play(rt.alloc(), &steps, "")
+    play(rt.alloc(), STEPS, "")
 }
 
 #[test]
 fn claims_that_are_refused(rt: HostRuntime) -> Result<(), StepFault> {
-    let of_deposit = "propose,000001,0002,100.00,claim,0001,Roof Builders,filing fee,1001";
-    let of_nothing = "propose,000001,0002,100.00,claim,0007,Roof Builders,filing fee,1001";
-    let by_cash = "claim,000001,0002,120.00,cash,hours";
-    let on_deposit = "dispute,000001,0002,120.00,0001,hours";
-    let cash = r#"{"name":"PayeeIsCash","refusal":18}"#;
-    let claim = r#"{"name":"NotAllowed","refusal":10,"rule":"claim"}"#;
-    let dispute = r#"{"name":"NotAllowed","refusal":10,"rule":"dispute"}"#;
-    let steps: [Step; 9] = [
+    const OF_DEPOSIT: &str = "propose,000001,0002,100.00,claim,0001,Roof Builders,filing fee,1001";
+    const OF_NOTHING: &str = "propose,000001,0002,100.00,claim,0007,Roof Builders,filing fee,1001";
+    const BY_CASH: &str = "claim,000001,0002,120.00,cash,hours";
+    const ON_DEPOSIT: &str = "dispute,000001,0002,120.00,0001,hours";
+    const CASH: &str = r#"{"name":"PayeeIsCash","refusal":18}"#;
+    const NO_CLAIM: &str = r#"{"name":"NotAllowed","refusal":10,"rule":"claim"}"#;
+    const NO_DISPUTE: &str = r#"{"name":"NotAllowed","refusal":10,"rule":"dispute"}"#;
+    const STEPS: &[Step] = &[
         ("2024-01-10", "", OPEN, 201, OPENED),
         ("2024-01-10", "", DEPOSIT, 201, RECEIPT),
         ("2024-01-10", "", SEAT, 200, SEATED),
         ("2024-01-10", "", BANKED_AT_ONCE, 200, ONE_APPLIED),
-        ("2024-01-10", "", of_deposit, 409, WRONG_KIND),
-        ("2024-01-10", "", of_nothing, 404, NO_ENTRY),
-        ("2024-01-10", "", by_cash, 422, cash),
-        ("2024-01-10", "ada", CLAIM, 403, claim),
-        ("2024-01-10", "", on_deposit, 403, dispute),
+        ("2024-01-10", "", OF_DEPOSIT, 409, WRONG_KIND),
+        ("2024-01-10", "", OF_NOTHING, 404, NO_ENTRY),
+        ("2024-01-10", "", BY_CASH, 422, CASH),
+        ("2024-01-10", "ada", CLAIM, 403, NO_CLAIM),
+        ("2024-01-10", "", ON_DEPOSIT, 403, NO_DISPUTE),
     ];
-    play(rt.alloc(), &steps, "")
+    play(rt.alloc(), STEPS, "")
 }
 
 const FIRM_CLAIMS: &str = concat!(
@@ -246,15 +246,15 @@ const TO_FIRM: &str = concat!(
 // The firm may claim money of the general fund like anybody else, and is paid from its claim alone.
 #[test]
 fn the_firm_is_a_claimant(rt: HostRuntime) -> Result<(), StepFault> {
-    let claim = "claim,000001,0002,120.00,FIRM,hours";
-    let from_general = "propose,000001,0003,100.00,general,,FIRM,filing fee,1001";
-    let from_claim = "propose,000001,0003,100.00,claim,0002,FIRM,filing fee,1001";
-    let steps: [Step; 9] = [
+    const CLAIM_BY_FIRM: &str = "claim,000001,0002,120.00,FIRM,hours";
+    const PAY_FROM_GENERAL: &str = "propose,000001,0003,100.00,general,,FIRM,filing fee,1001";
+    const PAY_FROM_CLAIM: &str = "propose,000001,0003,100.00,claim,0002,FIRM,filing fee,1001";
+    const STEPS: &[Step] = &[
         ("2024-01-10", "", OPEN, 201, OPENED),
         ("2024-01-10", "", DEPOSIT, 201, RECEIPT),
         ("2024-01-10", "", SEAT, 200, SEATED),
         ("2024-01-10", "", BANKED_AT_ONCE, 200, ONE_APPLIED),
-        ("2024-01-10", "", claim, 201, FIRM_CLAIMS),
+        ("2024-01-10", "", CLAIM_BY_FIRM, 201, FIRM_CLAIMS),
         (
             "2024-01-10",
             "",
@@ -262,9 +262,9 @@ fn the_firm_is_a_claimant(rt: HostRuntime) -> Result<(), StepFault> {
             200,
             FIRM_AWARDED,
         ),
-        ("2024-01-10", "", from_general, 422, WRONG_PAYEE),
+        ("2024-01-10", "", PAY_FROM_GENERAL, 422, WRONG_PAYEE),
         ("2024-01-10", "", PAY_CLAIMANT, 422, WRONG_PAYEE),
-        ("2024-01-10", "", from_claim, 201, TO_FIRM),
+        ("2024-01-10", "", PAY_FROM_CLAIM, 201, TO_FIRM),
     ];
-    play(rt.alloc(), &steps, "")
+    play(rt.alloc(), STEPS, "")
 }

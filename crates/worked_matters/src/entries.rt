@@ -1,7 +1,7 @@
 // Rows of a matter of Ada Chen, made by hand: it was opened on 2024-01-10, and its last day is 2024-01-12.
 
 use std::alloc::Global;
-use trust_base::BankText;
+use trust_base::{BankText, Cents, Day, Label};
 use trust_matter::{
     Against, Claim, ClaimState, Clearing, Deposit, DepositState, Entry, Fee, Fund, Head, Holder,
     Payment, PaymentState, Role, Seat,
@@ -33,13 +33,24 @@ pub fn lawyers(alloc: Global, names: &[&str]) -> Result<Vec<Seat>, StepFault> {
     Ok(seats)
 }
 
+// The day that an entry was booked on, and its amount.
+fn booked(amount: &str) -> Result<(Day, Cents), StepFault> {
+    Ok((day("2024-01-10")?, cents(amount)?))
+}
+
+fn labels(alloc: Global, one: &str, other: &str) -> Result<(Label, Label), StepFault> {
+    Ok((label(alloc, one)?, label(alloc, other)?))
+}
+
 /// A retainer of 500.00.
 pub fn retainer(alloc: Global, state: DepositState) -> Result<Entry, StepFault> {
+    let (book, amount) = booked("500.00")?;
+    let (source, description) = labels(alloc, "Ada Chen", "retainer")?;
     Ok(Entry::Deposit(Deposit {
-        book: day("2024-01-10")?,
-        amount: cents("500.00")?,
-        source: label(alloc, "Ada Chen")?,
-        description: label(alloc, "retainer")?,
+        book,
+        amount,
+        source,
+        description,
         state,
     }))
 }
@@ -55,12 +66,14 @@ pub fn cleared_retainer(alloc: Global) -> Result<Entry, StepFault> {
 
 /// A payment of 100.00 to the court's clerk.
 pub fn filing_fee(alloc: Global, fund: Fund, state: PaymentState) -> Result<Entry, StepFault> {
+    let (book, amount) = booked("100.00")?;
+    let (payee, purpose) = labels(alloc, "Court Clerk", "filing fee")?;
     Ok(Entry::Payment(Payment {
-        book: day("2024-01-10")?,
-        amount: cents("100.00")?,
+        book,
+        amount,
         fund,
-        payee: label(alloc, "Court Clerk")?,
-        purpose: label(alloc, "filing fee")?,
+        payee,
+        purpose,
         instrument: label(alloc, "1001")?,
         state,
     }))
@@ -68,28 +81,42 @@ pub fn filing_fee(alloc: Global, fund: Fund, state: PaymentState) -> Result<Entr
 
 /// A fee of 200.00.
 pub fn advice(alloc: Global) -> Result<Entry, StepFault> {
+    let (book, amount) = booked("200.00")?;
     Ok(Entry::Fee(Fee {
-        book: day("2024-01-10")?,
-        amount: cents("200.00")?,
+        book,
+        amount,
         description: label(alloc, "advice")?,
     }))
 }
 
 /// A claim of 50.00.
 pub fn claim(alloc: Global, against: Against, state: ClaimState) -> Result<Entry, StepFault> {
+    let (book, amount) = booked("50.00")?;
     Ok(Entry::Claim(Claim {
-        book: day("2024-01-10")?,
-        amount: cents("50.00")?,
+        book,
+        amount,
         against,
         reason: label(alloc, "too dear")?,
         state,
     }))
 }
 
+// A claim on the second entry, a fee.
+fn disputed(alloc: Global) -> Result<Entry, StepFault> {
+    let against = Against::Fee(entry_no("0002")?);
+    claim(alloc, against, ClaimState::Open)
+}
+
+fn push_each_kind(entries: &mut Vec<Entry>, alloc: Global) -> Result<(), StepFault> {
+    entries.push(cleared_retainer(alloc)?)?;
+    entries.push(advice(alloc)?)?;
+    entries.push(disputed(alloc)?)?;
+    Ok(())
+}
+
 /// A retainer that the bank cleared, a fee, and a claim on the fee.
-pub fn of_each_kind(alloc: Global) -> Result<[Entry; 3], StepFault> {
-    let cleared = cleared_retainer(alloc)?;
-    let earned = advice(alloc)?;
-    let disputed = claim(alloc, Against::Fee(entry_no("0002")?), ClaimState::Open)?;
-    Ok([cleared, earned, disputed])
+pub fn of_each_kind(alloc: Global) -> Result<Vec<Entry>, StepFault> {
+    let mut entries = Vec::new(alloc);
+    push_each_kind(&mut entries, alloc)?;
+    Ok(entries)
 }

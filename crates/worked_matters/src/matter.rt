@@ -2,18 +2,20 @@
 
 use std::alloc::Global;
 use trust_base::{
-    BankAmount, BankText, CivilDay, Day, EntryNo, Line, LineText, Refusal, Rule, StoreFault,
+    BankAmount, BankText, Day, EntryNo, Line, LineText, MatterNo, Refusal, StoreFault,
 };
 use trust_matter::{
     Ask, BankLine, Caller, Change, Edit, LineVerdict, Matter, Reason, decide, decide_line,
     holds_for, holds_for_line,
 };
+use worked_steps::texts::{NO_ENTRY, NO_MATTER, WRONG_STATE};
 use worked_steps::{StepFault, asked, day, entry_no, matter_no};
 
 // What becomes of an ask or a line.
 #[derive(Clone, Copy)]
 enum Wanted {
-    Refused(Refusal),
+    // It is refused, and this JSON tells why.
+    Refused(&'static str),
     // The line matches no entry.
     Unmatched(Reason),
     // Nothing changes.
@@ -84,33 +86,52 @@ fn ask_one(
         Ok(change) if is_wanted(&change, today, wanted) => apply(matter, &change),
         Err(Refusal::Memory) => Err(StepFault::Memory),
         Err(refusal) => match wanted {
-            Wanted::Refused(other) if other == refusal => Ok(()),
+            Wanted::Refused(text) if refusal.json().as_slice() == text.as_bytes() => Ok(()),
             _ => Err(StepFault::Value),
         },
         Ok(_) => Err(StepFault::Value),
     }
 }
 
+// The numbers of the matter and the entry that a reference names.
+fn numbers_of(reference: &str) -> Result<(MatterNo, EntryNo), StepFault> {
+    let numbers = reference.strip_prefix("M").ok_or(StepFault::Value)?;
+    let (matter, entry) = numbers.split_once('-').ok_or(StepFault::Value)?;
+    Ok((matter_no(matter)?, entry_no(entry)?))
+}
+
+fn bank_text(alloc: Global, text: &str) -> Result<BankText, StepFault> {
+    BankText::read(alloc, text.as_bytes())?.ok_or(StepFault::Value)
+}
+
+// A line of these words, with no text of the bank's.
+fn line_of_words(
+    alloc: Global,
+    date: Day,
+    reference: &str,
+    bank_ref: &str,
+    amount: BankAmount,
+) -> Result<Line, StepFault> {
+    Ok(Line {
+        date,
+        reference: bank_text(alloc, reference)?,
+        bank_ref: bank_text(alloc, bank_ref)?,
+        amount,
+        text: LineText::read(alloc, b"")?.ok_or(StepFault::Value)?,
+    })
+}
+
 // The line of the bank of a record.
 fn line_of(alloc: Global, record: &str, date: Day) -> Result<BankLine, StepFault> {
     let (reference, words) = record.split_once(',').ok_or(StepFault::Value)?;
     let (bank_ref, amount) = words.split_once(',').ok_or(StepFault::Value)?;
-    let numbers = reference.strip_prefix("M").ok_or(StepFault::Value)?;
-    let (matter, entry) = numbers.split_once('-').ok_or(StepFault::Value)?;
-    let reference = BankText::read(alloc, reference.as_bytes())?.ok_or(StepFault::Value)?;
-    let bank_ref = BankText::read(alloc, bank_ref.as_bytes())?.ok_or(StepFault::Value)?;
-    let text = LineText::read(alloc, b"")?.ok_or(StepFault::Value)?;
     let amount = BankAmount::read(amount.as_bytes()).ok_or(StepFault::Value)?;
+    let (matter, entry) = numbers_of(reference)?;
+    let line = line_of_words(alloc, date, reference, bank_ref, amount)?;
     Ok(BankLine {
-        matter: matter_no(matter)?,
-        entry: entry_no(entry)?,
-        line: Line {
-            date,
-            reference,
-            bank_ref,
-            amount,
-            text,
-        },
+        matter,
+        entry,
+        line,
     })
 }
 
@@ -143,18 +164,23 @@ fn bank_one(
     }
 }
 
+// Fails where something else becomes of an ask or a line.
+fn step(matter: &mut Matter, alloc: Global, one: &Asked) -> Result<(), StepFault> {
+    let (today, name, record, wanted) = *one;
+    let today = day(today)?;
+    if let Some(record) = record.strip_prefix("bank,") {
+        let line = line_of(alloc, record, today)?;
+        return bank_one(matter, &line, today, wanted);
+    }
+    let (caller, ask) = asked(alloc, name, record)?;
+    ask_one(matter, &caller, &ask, today, wanted)
+}
+
 // The matter after asks.
 fn after(alloc: Global, asks: &[Asked]) -> Result<Matter, StepFault> {
     let mut matter = Matter::unopened(alloc);
-    for (today, name, record, wanted) in asks {
-        let today = day(today)?;
-        if let Some(record) = record.strip_prefix("bank,") {
-            let line = line_of(alloc, record, today)?;
-            bank_one(&mut matter, &line, today, *wanted)?;
-        } else {
-            let (caller, ask) = asked(alloc, name, record)?;
-            ask_one(&mut matter, &caller, &ask, today, *wanted)?;
-        }
+    for one in asks {
+        step(&mut matter, alloc, one)?;
     }
     Ok(matter)
 }
@@ -176,156 +202,158 @@ const DEPOSIT: &str = "deposit,000001,0001,500.00,Ada Chen,retainer";
 
 const CANCEL: &str = "cancel,000001,0001";
 
-const NO_MATTER: Wanted = Wanted::Refused(Refusal::NoMatter);
+const NOT_FOUND: Wanted = Wanted::Refused(NO_MATTER);
 
 #[test]
 fn opening(rt: HostRuntime) -> Result<(), StepFault> {
-    let asks: [Asked; 4] = [
-        ("2024-01-10", "", SHOW, NO_MATTER),
+    const ASKS: &[Asked] = &[
+        ("2024-01-10", "", SHOW, NOT_FOUND),
         ("2024-01-10", "", OPEN, Wanted::Edited),
         (
             "2024-01-10",
             "",
             OPEN,
-            Wanted::Refused(Refusal::AlreadyOpen),
+            Wanted::Refused(r#"{"name":"AlreadyOpen","refusal":11}"#),
         ),
         ("2024-01-10", "", SHOW, Wanted::Nothing),
     ];
-    leads(rt.alloc(), &asks, [0, 0, 0, 1, 20_240_110])
+    leads(rt.alloc(), ASKS, [0, 0, 0, 1, 20_240_110])
 }
 
 #[test]
 fn deposits(rt: HostRuntime) -> Result<(), StepFault> {
-    let more = "deposit,000001,0001,500.01,Ada Chen,retainer";
-    let second = Wanted::Refused(Refusal::WrongNumber(EntryNo::from_number(2)));
-    let office = Wanted::Refused(Refusal::NotAllowed(Rule::Office));
-    let asks: [Asked; 5] = [
+    const MORE: &str = "deposit,000001,0001,500.01,Ada Chen,retainer";
+    const SECOND: Wanted = Wanted::Refused(r#"{"name":"WrongNumber","next":"0002","refusal":14}"#);
+    const OFFICE: Wanted = Wanted::Refused(r#"{"name":"NotAllowed","refusal":10,"rule":"office"}"#);
+    const ASKS: &[Asked] = &[
         ("2024-01-10", "", OPEN, Wanted::Edited),
         ("2024-01-11", "", DEPOSIT, Wanted::Moved(1, 50_000)),
         ("2024-01-12", "", DEPOSIT, Wanted::Nothing),
-        ("2024-01-11", "", more, second),
-        ("2024-01-11", "lee", DEPOSIT, office),
+        ("2024-01-11", "", MORE, SECOND),
+        ("2024-01-11", "lee", DEPOSIT, OFFICE),
     ];
-    leads(rt.alloc(), &asks, [1, 50_000, 0, 1, 20_240_111])
+    leads(rt.alloc(), ASKS, [1, 50_000, 0, 1, 20_240_111])
 }
 
 #[test]
 fn strangers(rt: HostRuntime) -> Result<(), StepFault> {
-    let asks: [Asked; 5] = [
-        ("2024-01-11", "mallory", SHOW, NO_MATTER),
-        ("2024-01-11", "mallory", DEPOSIT, NO_MATTER),
+    const ASKS: &[Asked] = &[
+        ("2024-01-11", "mallory", SHOW, NOT_FOUND),
+        ("2024-01-11", "mallory", DEPOSIT, NOT_FOUND),
         ("2024-01-10", "", OPEN, Wanted::Edited),
-        ("2024-01-11", "mallory", SHOW, NO_MATTER),
-        ("2024-01-11", "mallory", DEPOSIT, NO_MATTER),
+        ("2024-01-11", "mallory", SHOW, NOT_FOUND),
+        ("2024-01-11", "mallory", DEPOSIT, NOT_FOUND),
     ];
-    leads(rt.alloc(), &asks, [0, 0, 0, 1, 20_240_110])
+    leads(rt.alloc(), ASKS, [0, 0, 0, 1, 20_240_110])
 }
 
 #[test]
 fn seats(rt: HostRuntime) -> Result<(), StepFault> {
-    let client = "seat,000001,,ada,client";
-    let lawyer = "seat,000001,,bob,lawyer";
-    let last = Refusal::DateBackwards(day("2024-01-11")?);
-    let asks: [Asked; 9] = [
+    const CLIENT: &str = "seat,000001,,ada,client";
+    const LAWYER: &str = "seat,000001,,bob,lawyer";
+    const LAST: Wanted = Wanted::Refused(
+        r#"{"last":"2024-01-11","name":"DateBackwards","refusal":13}"#,
+    );
+    const ASKS: &[Asked] = &[
         ("2024-01-10", "", OPEN, Wanted::Edited),
         (
             "2024-01-11",
             "",
             "seat,000001,,lee,client",
-            Wanted::Refused(Refusal::SeatTaken),
+            Wanted::Refused(r#"{"name":"SeatTaken","refusal":22}"#),
         ),
         (
             "2024-01-11",
             "",
             "drop,000001,,bob",
-            Wanted::Refused(Refusal::NoSeat),
+            Wanted::Refused(r#"{"name":"NoSeat","refusal":23}"#),
         ),
         (
             "2024-01-11",
             "",
             "drop,000001,,lee",
-            Wanted::Refused(Refusal::LastLawyer),
+            Wanted::Refused(r#"{"name":"LastLawyer","refusal":24}"#),
         ),
-        ("2024-01-11", "", client, Wanted::Edited),
+        ("2024-01-11", "", CLIENT, Wanted::Edited),
         ("2024-01-10", "ada", SHOW, Wanted::Nothing),
-        ("2024-01-10", "", lawyer, Wanted::Refused(last)),
+        ("2024-01-10", "", LAWYER, LAST),
         ("2024-01-11", "", "drop,000001,,ada", Wanted::Edited),
-        (
-            "2024-01-11",
-            "ada",
-            SHOW,
-            Wanted::Refused(Refusal::NoMatter),
-        ),
+        ("2024-01-11", "ada", SHOW, NOT_FOUND),
     ];
-    leads(rt.alloc(), &asks, [0, 0, 0, 1, 20_240_111])
+    leads(rt.alloc(), ASKS, [0, 0, 0, 1, 20_240_111])
 }
 
 #[test]
 fn cancelling(rt: HostRuntime) -> Result<(), StepFault> {
-    let asks: [Asked; 6] = [
+    const ASKS: &[Asked] = &[
         ("2024-01-10", "", OPEN, Wanted::Edited),
-        ("2024-01-12", "", CANCEL, Wanted::Refused(Refusal::NoEntry)),
+        ("2024-01-12", "", CANCEL, Wanted::Refused(NO_ENTRY)),
         ("2024-01-11", "", DEPOSIT, Wanted::Moved(1, 50_000)),
         ("2024-01-12", "", CANCEL, Wanted::Moved(1, -50_000)),
-        (
-            "2024-01-12",
-            "",
-            CANCEL,
-            Wanted::Refused(Refusal::WrongState),
-        ),
+        ("2024-01-12", "", CANCEL, Wanted::Refused(WRONG_STATE)),
         ("2024-01-12", "", DEPOSIT, Wanted::Nothing),
     ];
-    leads(rt.alloc(), &asks, [1, 0, 0, 1, 20_240_112])
+    leads(rt.alloc(), ASKS, [1, 0, 0, 1, 20_240_112])
 }
 
 // A matter is not empty while its last payment is issued. It is closed once the bank has paid that, and its records
 // are kept for five years from a 29 February, to the last day of February.
 #[test]
 fn closing_and_purging(rt: HostRuntime) -> Result<(), StepFault> {
-    let hundred = "deposit,000001,0001,100.00,Ada Chen,retainer";
-    let propose = "propose,000001,0002,100.00,general,,Court Clerk,filing fee,1001";
-    let more = "deposit,000001,0003,1.00,Ada Chen,retainer";
-    let close = "close,000001,";
-    let purge = "purge,000001,";
-    let early = Refusal::TooEarly(CivilDay::from_number(20_290_301).ok_or(StepFault::Value)?);
-    let asks: [Asked; 11] = [
+    const HUNDRED: &str = "deposit,000001,0001,100.00,Ada Chen,retainer";
+    const PROPOSE: &str = "propose,000001,0002,100.00,general,,Court Clerk,filing fee,1001";
+    const MORE: &str = "deposit,000001,0003,1.00,Ada Chen,retainer";
+    const CLOSE: &str = "close,000001,";
+    const PURGE: &str = "purge,000001,";
+    const EARLY: Wanted = Wanted::Refused(r#"{"day":"2029-03-01","name":"TooEarly","refusal":26}"#);
+    const ASKS: &[Asked] = &[
         ("2024-01-10", "", OPEN, Wanted::Edited),
-        ("2024-01-10", "", hundred, Wanted::Moved(1, 10_000)),
+        ("2024-01-10", "", HUNDRED, Wanted::Moved(1, 10_000)),
         (
             "2024-01-10",
             "",
             "bank,M000001-0001,B1,100.00",
             Wanted::Edited,
         ),
-        ("2024-01-10", "", propose, Wanted::Edited),
+        ("2024-01-10", "", PROPOSE, Wanted::Edited),
         (
             "2024-01-10",
             "lee",
             "approve,000001,0002",
             Wanted::Moved(2, -10_000),
         ),
-        ("2024-01-10", "", close, Wanted::Refused(Refusal::NotEmpty)),
+        (
+            "2024-01-10",
+            "",
+            CLOSE,
+            Wanted::Refused(r#"{"name":"NotEmpty","refusal":25}"#),
+        ),
         (
             "2024-01-10",
             "",
             "bank,M000001-0002,B2,-100.00",
             Wanted::Edited,
         ),
-        ("2024-02-29", "", close, Wanted::Edited),
-        ("2024-02-29", "", more, Wanted::Refused(Refusal::Closed)),
-        ("2029-02-28", "", purge, Wanted::Refused(early)),
-        ("2029-03-01", "", purge, Wanted::Edited),
+        ("2024-02-29", "", CLOSE, Wanted::Edited),
+        (
+            "2024-02-29",
+            "",
+            MORE,
+            Wanted::Refused(r#"{"name":"Closed","refusal":12}"#),
+        ),
+        ("2029-02-28", "", PURGE, EARLY),
+        ("2029-03-01", "", PURGE, Wanted::Edited),
     ];
-    leads(rt.alloc(), &asks, [0, 0, 0, 0, 20_290_301])
+    leads(rt.alloc(), ASKS, [0, 0, 0, 0, 20_290_301])
 }
 
 // The bank takes a deposit back only when all of it is available: a cent of it was paid, and is back once it is voided.
 #[test]
 fn returns(rt: HostRuntime) -> Result<(), StepFault> {
-    let propose = "propose,000001,0002,0.01,general,,Court Clerk,filing fee,1001";
-    let back = "bank,M000001-0001,B2,-500.00";
-    let uncovered = Wanted::Unmatched(Reason::Uncovered);
-    let asks: [Asked; 9] = [
+    const PROPOSE: &str = "propose,000001,0002,0.01,general,,Court Clerk,filing fee,1001";
+    const BACK: &str = "bank,M000001-0001,B2,-500.00";
+    const UNCOVERED: Wanted = Wanted::Unmatched(Reason::Uncovered);
+    const ASKS: &[Asked] = &[
         ("2024-01-10", "", OPEN, Wanted::Edited),
         ("2024-01-10", "", DEPOSIT, Wanted::Moved(1, 50_000)),
         (
@@ -334,17 +362,17 @@ fn returns(rt: HostRuntime) -> Result<(), StepFault> {
             "bank,M000001-0001,B1,500.00",
             Wanted::Edited,
         ),
-        ("2024-01-10", "", propose, Wanted::Edited),
+        ("2024-01-10", "", PROPOSE, Wanted::Edited),
         (
             "2024-01-10",
             "lee",
             "approve,000001,0002",
             Wanted::Moved(2, -1),
         ),
-        ("2024-01-15", "", back, uncovered),
+        ("2024-01-15", "", BACK, UNCOVERED),
         ("2024-01-15", "lee", "void,000001,0002", Wanted::Moved(2, 1)),
-        ("2024-01-15", "", back, Wanted::Moved(1, -50_000)),
-        ("2024-01-15", "", back, Wanted::Nothing),
+        ("2024-01-15", "", BACK, Wanted::Moved(1, -50_000)),
+        ("2024-01-15", "", BACK, Wanted::Nothing),
     ];
-    leads(rt.alloc(), &asks, [2, 0, 0, 1, 20_240_115])
+    leads(rt.alloc(), ASKS, [2, 0, 0, 1, 20_240_115])
 }

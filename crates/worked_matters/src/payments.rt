@@ -14,20 +14,20 @@ const NOTHING_CLEARED: &str = concat!(
 
 #[test]
 fn nothing_is_paid_from_what_is_held(rt: HostRuntime) -> Result<(), StepFault> {
-    let other = "propose,000001,0002,100.01,general,,Court Clerk,filing fee,1001";
-    let next = r#"{"name":"WrongNumber","next":"0003","refusal":14}"#;
-    let sign = r#"{"name":"NotAllowed","refusal":10,"rule":"sign"}"#;
-    let steps: [Step; 8] = [
+    const OTHER: &str = "propose,000001,0002,100.01,general,,Court Clerk,filing fee,1001";
+    const NEXT: &str = r#"{"name":"WrongNumber","next":"0003","refusal":14}"#;
+    const SIGN: &str = r#"{"name":"NotAllowed","refusal":10,"rule":"sign"}"#;
+    const STEPS: &[Step] = &[
         ("2024-01-10", "", OPEN, 201, OPENED),
         ("2024-01-10", "", DEPOSIT, 201, RECEIPT),
         ("2024-01-10", "", PROPOSE, 201, PROPOSED),
         ("2024-01-10", "", PROPOSE, 200, PROPOSED),
-        ("2024-01-10", "", other, 409, next),
+        ("2024-01-10", "", OTHER, 409, NEXT),
         ("2024-01-10", "lee", "approve,000001,0002", 409, NONE_LEFT),
-        ("2024-01-10", "", "approve,000001,0002", 403, sign),
+        ("2024-01-10", "", "approve,000001,0002", 403, SIGN),
         ("2024-01-10", "", SHOW, 200, NOTHING_CLEARED),
     ];
-    play(rt.alloc(), &steps, "")
+    play(rt.alloc(), STEPS, "")
 }
 
 const OPEN_OTHER: &str = "open,000002,,Ada Chen,lee";
@@ -47,7 +47,7 @@ const OTHER_OPENED: &str = concat!(
 
 #[test]
 fn no_matter_pays_for_another(rt: HostRuntime) -> Result<(), StepFault> {
-    let steps: [Step; 7] = [
+    const STEPS: &[Step] = &[
         ("2024-01-10", "", OPEN, 201, OPENED),
         ("2024-01-10", "", DEPOSIT, 201, RECEIPT),
         ("2024-01-10", "", BANKED_AT_ONCE, 200, ONE_APPLIED),
@@ -56,7 +56,7 @@ fn no_matter_pays_for_another(rt: HostRuntime) -> Result<(), StepFault> {
         ("2024-01-10", "lee", "approve,000002,0001", 409, NONE_LEFT),
         ("2024-01-10", "", SHOW, 200, CLEARED),
     ];
-    play(rt.alloc(), &steps, "")
+    play(rt.alloc(), STEPS, "")
 }
 
 const ISSUED: &str = concat!(
@@ -86,7 +86,7 @@ const UNPAID: &str = concat!(
 // A payment is proposed before its money has come, signed for afterwards, and voided.
 #[test]
 fn a_payment_is_issued_and_voided(rt: HostRuntime) -> Result<(), StepFault> {
-    let steps: [Step; 11] = [
+    const STEPS: &[Step] = &[
         ("2024-01-10", "", OPEN, 201, OPENED),
         ("2024-01-10", "", DEPOSIT, 201, RECEIPT),
         ("2024-01-10", "", PROPOSE, 201, PROPOSED),
@@ -99,7 +99,7 @@ fn a_payment_is_issued_and_voided(rt: HostRuntime) -> Result<(), StepFault> {
         ("2024-01-12", "", PROPOSE, 200, PROPOSED),
         ("2024-01-12", "", PAID_OUT, 200, ONE_EXCEPTION),
     ];
-    play(rt.alloc(), &steps, "2024-01-12,M000001-0002,B2,-100.00,\n")
+    play(rt.alloc(), STEPS, "2024-01-12,M000001-0002,B2,-100.00,\n")
 }
 
 const DECLINED: &str = concat!(
@@ -111,7 +111,7 @@ const DECLINED: &str = concat!(
 // A payment that a lawyer declines is paid no more, and its proposal is still answered by its receipt.
 #[test]
 fn a_payment_is_declined(rt: HostRuntime) -> Result<(), StepFault> {
-    let steps: [Step; 9] = [
+    const STEPS: &[Step] = &[
         ("2024-01-10", "", OPEN, 201, OPENED),
         ("2024-01-10", "", DEPOSIT, 201, RECEIPT),
         ("2024-01-10", "", BANKED_AT_ONCE, 200, ONE_APPLIED),
@@ -122,7 +122,7 @@ fn a_payment_is_declined(rt: HostRuntime) -> Result<(), StepFault> {
         ("2024-01-10", "", PROPOSE, 200, PROPOSED),
         ("2024-01-10", "", SHOW, 200, UNPAID),
     ];
-    play(rt.alloc(), &steps, "")
+    play(rt.alloc(), STEPS, "")
 }
 
 const PROPOSED_ENTRY: &str = concat!(
@@ -140,21 +140,21 @@ const CLEARED_ENTRY: &str = concat!(
 // Days do not go backwards after a line of the bank, and a payment that was issued is cleared by its line.
 #[test]
 fn a_payment_is_cleared(rt: HostRuntime) -> Result<(), StepFault> {
-    let last = r#"{"last":"2024-01-12","name":"DateBackwards","refusal":13}"#;
-    let steps: [Step; 11] = [
+    const LAST: &str = r#"{"last":"2024-01-12","name":"DateBackwards","refusal":13}"#;
+    const STEPS: &[Step] = &[
         ("2024-01-10", "", OPEN, 201, OPENED),
         ("2024-01-10", "", DEPOSIT, 201, RECEIPT),
         ("2024-01-10", "", PROPOSE, 201, PROPOSED),
         ("2024-01-10", "", "entry,000001,0002", 200, PROPOSED_ENTRY),
         ("2024-01-12", "", BANKED, 200, ONE_APPLIED),
-        ("2024-01-11", "lee", "approve,000001,0002", 409, last),
+        ("2024-01-11", "lee", "approve,000001,0002", 409, LAST),
         ("2024-01-12", "lee", "approve,000001,0002", 200, ISSUED),
         ("2024-01-12", "", PAID_OUT, 200, ONE_APPLIED),
         ("2024-01-12", "", SHOW, 200, PAID),
         ("2024-01-12", "", "entry,000001,0002", 200, CLEARED_ENTRY),
         ("2024-01-12", "lee", "void,000001,0002", 409, WRONG_STATE),
     ];
-    play(rt.alloc(), &steps, "")
+    play(rt.alloc(), STEPS, "")
 }
 
 const TO_CASH_LIMITED: &str = concat!(
@@ -164,19 +164,19 @@ const TO_CASH_LIMITED: &str = concat!(
 
 #[test]
 fn payees_that_are_refused(rt: HostRuntime) -> Result<(), StepFault> {
-    let to_cash = "propose,000001,0002,100.00,general,, Cash ,filing fee,1001";
-    let to_firm = "propose,000001,0002,100.00,general,,FIRM,filing fee,1001";
-    let to_company = "propose,000001,0002,100.00,general,,Cash Ltd,filing fee,1001";
-    let cash = r#"{"name":"PayeeIsCash","refusal":18}"#;
-    let steps: [Step; 6] = [
+    const TO_CASH: &str = "propose,000001,0002,100.00,general,, Cash ,filing fee,1001";
+    const TO_FIRM: &str = "propose,000001,0002,100.00,general,,FIRM,filing fee,1001";
+    const TO_COMPANY: &str = "propose,000001,0002,100.00,general,,Cash Ltd,filing fee,1001";
+    const CASH: &str = r#"{"name":"PayeeIsCash","refusal":18}"#;
+    const STEPS: &[Step] = &[
         ("2024-01-10", "", OPEN, 201, OPENED),
         ("2024-01-10", "", DEPOSIT, 201, RECEIPT),
-        ("2024-01-10", "", to_cash, 422, cash),
-        ("2024-01-10", "", to_firm, 422, WRONG_PAYEE),
-        ("2024-01-10", "", to_company, 201, TO_CASH_LIMITED),
+        ("2024-01-10", "", TO_CASH, 422, CASH),
+        ("2024-01-10", "", TO_FIRM, 422, WRONG_PAYEE),
+        ("2024-01-10", "", TO_COMPANY, 201, TO_CASH_LIMITED),
         ("2024-01-10", "lee", "approve,000001,0002", 409, NONE_LEFT),
     ];
-    play(rt.alloc(), &steps, "")
+    play(rt.alloc(), STEPS, "")
 }
 
 const SEAT: &str = "seat,000001,,ada,client";
@@ -189,12 +189,12 @@ const SEATED: &str = concat!(
 
 #[test]
 fn a_client_proposes_no_payment(rt: HostRuntime) -> Result<(), StepFault> {
-    let propose = r#"{"name":"NotAllowed","refusal":10,"rule":"propose"}"#;
-    let steps: [Step; 4] = [
+    const NO_PROPOSAL: &str = r#"{"name":"NotAllowed","refusal":10,"rule":"propose"}"#;
+    const STEPS: &[Step] = &[
         ("2024-01-10", "", OPEN, 201, OPENED),
         ("2024-01-10", "", SEAT, 200, SEATED),
-        ("2024-01-10", "ada", PROPOSE, 403, propose),
+        ("2024-01-10", "ada", PROPOSE, 403, NO_PROPOSAL),
         ("2024-01-10", "ada", SHOW, 200, SEATED),
     ];
-    play(rt.alloc(), &steps, "")
+    play(rt.alloc(), STEPS, "")
 }

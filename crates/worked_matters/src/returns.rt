@@ -24,22 +24,22 @@ const CLOSED: &str = concat!(
 // A cleared deposit is taken back by the bank, and both of its lines come again; the matter is then closed.
 #[test]
 fn a_deposit_is_taken_back(rt: HostRuntime) -> Result<(), StepFault> {
-    let not_empty = r#"{"name":"NotEmpty","refusal":25}"#;
-    let closed = r#"{"name":"Closed","refusal":12}"#;
-    let steps: [Step; 11] = [
+    const NOT_EMPTY: &str = r#"{"name":"NotEmpty","refusal":25}"#;
+    const CLOSED_ALREADY: &str = r#"{"name":"Closed","refusal":12}"#;
+    const STEPS: &[Step] = &[
         ("2024-01-10", "", OPEN, 201, OPENED),
         ("2024-01-10", "", DEPOSIT, 201, RECEIPT),
         ("2024-01-12", "", BANKED, 200, ONE_APPLIED),
-        ("2024-01-13", "", "close,000001,", 409, not_empty),
+        ("2024-01-13", "", "close,000001,", 409, NOT_EMPTY),
         ("2024-01-13", "", TAKEN_BACK, 200, ONE_APPLIED),
         ("2024-01-13", "", TAKEN_BACK, 200, ONE_REPEATED),
         ("2024-01-13", "", BANKED, 200, ONE_REPEATED),
         ("2024-01-13", "", ENTRY, 200, RETURNED_ENTRY),
         ("2024-01-13", "", "close,000001,", 200, CLOSED),
-        ("2024-01-13", "", "close,000001,", 409, closed),
+        ("2024-01-13", "", "close,000001,", 409, CLOSED_ALREADY),
         ("2024-01-13", "", SHOW, 200, CLOSED),
     ];
-    play(rt.alloc(), &steps, "")
+    play(rt.alloc(), STEPS, "")
 }
 
 const ON_ITS_DAY: &str = concat!(
@@ -61,19 +61,19 @@ const BOTH_AGAIN: &str = "import,date,reference,bank_ref,amount,text\n\
 // The bank takes a cleared deposit back on the line's own day, and both lines come again in one statement.
 #[test]
 fn a_deposit_is_taken_back_on_the_day_of_its_line(rt: HostRuntime) -> Result<(), StepFault> {
-    let two_repeated =
+    const TWO_REPEATED: &str =
         r#"{"applied":0,"exceptions":0,"repeated":2,"statement":null,"unreadable":0}"#;
-    let steps: [Step; 8] = [
+    const STEPS: &[Step] = &[
         ("2024-01-10", "", OPEN, 201, OPENED),
         ("2024-01-10", "", DEPOSIT, 201, RECEIPT),
         ("2024-01-12", "", BANKED, 200, ONE_APPLIED),
         ("2024-01-15", "", RETURN, 200, ONE_APPLIED),
         ("2024-01-15", "", SHOW, 200, EMPTIED),
         ("2024-01-15", "", ENTRY, 200, ON_ITS_DAY),
-        ("2024-01-15", "", BOTH_AGAIN, 200, two_repeated),
+        ("2024-01-15", "", BOTH_AGAIN, 200, TWO_REPEATED),
         ("2024-01-15", "", ENTRY, 200, ON_ITS_DAY),
     ];
-    play(rt.alloc(), &steps, "")
+    play(rt.alloc(), STEPS, "")
 }
 
 const RETURN: &str =
@@ -129,9 +129,9 @@ const BACK: &str = concat!(
 // A cent of the deposit is paid out: the bank's line then matches nothing, and is applied once the cent is back.
 #[test]
 fn a_deposit_that_was_spent_is_not_taken_back(rt: HostRuntime) -> Result<(), StepFault> {
-    let two_repeated =
+    const TWO_REPEATED: &str =
         r#"{"applied":0,"exceptions":0,"repeated":2,"statement":null,"unreadable":0}"#;
-    let steps: [Step; 14] = [
+    const STEPS: &[Step] = &[
         ("2024-01-10", "", OPEN, 201, OPENED),
         ("2024-01-10", "", DEPOSIT, 201, RECEIPT),
         ("2024-01-10", "", BANKED_AT_ONCE, 200, ONE_APPLIED),
@@ -144,8 +144,8 @@ fn a_deposit_that_was_spent_is_not_taken_back(rt: HostRuntime) -> Result<(), Ste
         ("2024-01-15", "lee", "void,000001,0002", 200, CENT_VOIDED),
         ("2024-01-15", "", RETURN, 200, ONE_APPLIED),
         ("2024-01-15", "", SHOW, 200, NOTHING_LEFT),
-        ("2024-01-15", "", BOTH_LINES, 200, two_repeated),
+        ("2024-01-15", "", BOTH_LINES, 200, TWO_REPEATED),
         ("2024-01-15", "", ENTRY, 200, BACK),
     ];
-    play(rt.alloc(), &steps, "")
+    play(rt.alloc(), STEPS, "")
 }

@@ -55,18 +55,45 @@ fn payments_that_are_not_sound_are_refused(rt: HostRuntime) -> Result<(), StepFa
     is_payment_refused(alloc, Fund::General, after_the_last_day)
 }
 
-#[test]
-fn claims_that_are_not_sound_are_refused(rt: HostRuntime) -> Result<(), StepFault> {
-    let alloc = rt.alloc();
-    are_refused(alloc, &[advice(alloc)?])?;
+// Fails unless a fee beside no deposit is refused.
+fn is_fee_refused(alloc: Global) -> Result<(), StepFault> {
+    let fee = advice(alloc)?;
+    are_refused(alloc, &[fee])
+}
+
+// A claim of Dr. Wu that was settled on 2024-01-11.
+fn settled_claim(alloc: Global) -> Result<Entry, StepFault> {
     let settled = ClaimState::Settled(Settlement {
         day: day("2024-01-11")?,
         part: part("0.00")?,
     });
-    let raised = claim(alloc, Against::General(label(alloc, "Dr. Wu")?), settled)?;
+    claim(alloc, Against::General(label(alloc, "Dr. Wu")?), settled)
+}
+
+// A filing fee from the claim that is the second entry, booked before that was settled.
+fn paid_before_settling(alloc: Global) -> Result<Entry, StepFault> {
     let of_claim = Fund::Claim(entry_no("0002")?);
-    let before = filing_fee(alloc, of_claim, PaymentState::Proposed)?;
-    are_refused(alloc, &[cleared_retainer(alloc)?, raised, before])
+    filing_fee(alloc, of_claim, PaymentState::Proposed)
+}
+
+fn push_payment_of_claim(entries: &mut Vec<Entry>, alloc: Global) -> Result<(), StepFault> {
+    entries.push(cleared_retainer(alloc)?)?;
+    entries.push(settled_claim(alloc)?)?;
+    entries.push(paid_before_settling(alloc)?)?;
+    Ok(())
+}
+
+// Fails unless a payment from a claim is refused that was booked before the claim was settled.
+fn is_payment_of_claim_refused(alloc: Global) -> Result<(), StepFault> {
+    let mut entries = Vec::new(alloc);
+    push_payment_of_claim(&mut entries, alloc)?;
+    are_refused(alloc, &entries)
+}
+
+#[test]
+fn claims_that_are_not_sound_are_refused(rt: HostRuntime) -> Result<(), StepFault> {
+    is_fee_refused(rt.alloc())?;
+    is_payment_of_claim_refused(rt.alloc())
 }
 
 // Fails unless lawyers' seats of an open matter are refused.
@@ -93,13 +120,22 @@ fn heads_that_are_not_sound_are_refused(rt: HostRuntime) -> Result<(), StepFault
     is_refused(Matter::of_rows(alloc, None, lawyers(alloc, &[])?, &entries))
 }
 
+// A retainer that was cancelled on 2024-01-11.
+fn cancelled_retainer(alloc: Global) -> Result<Entry, StepFault> {
+    retainer(alloc, DepositState::Cancelled(day("2024-01-11")?))
+}
+
+// The matter of a head that is closed, two lawyers and an entry.
+fn closed_with(alloc: Global, entry: Entry) -> Result<Matter, StepFault> {
+    let closed = head(alloc, Some("2024-01-12"))?;
+    let seats = lawyers(alloc, &["ada", "lee"])?;
+    taken(Matter::of_rows(alloc, Some(closed), seats, &[entry]))
+}
+
 #[test]
 fn closed_rows_at_rest_are_taken(rt: HostRuntime) -> Result<(), StepFault> {
-    let alloc = rt.alloc();
-    let closed = Some(head(alloc, Some("2024-01-12"))?);
-    let cancelled = retainer(alloc, DepositState::Cancelled(day("2024-01-11")?))?;
-    let seats = lawyers(alloc, &["ada", "lee"])?;
-    let matter = taken(Matter::of_rows(alloc, closed, seats, &[cancelled]))?;
+    let cancelled = cancelled_retainer(rt.alloc())?;
+    let matter = closed_with(rt.alloc(), cancelled)?;
     assert_eq!(rt; balances(&matter).held, 0);
     Ok(())
 }
@@ -120,21 +156,40 @@ fn purged(closed: Option<&str>, on: &str) -> Result<Option<Head>, StepFault> {
 
 const CLOSED: Option<&str> = Some("2024-02-29");
 
+// How many entries the matter of a stub has, without seats or entries.
+fn entries_of_stub(alloc: Global) -> Result<u64, StepFault> {
+    let stub = purged(CLOSED, "2029-03-01")?;
+    let matter = taken(Matter::of_rows(alloc, stub, Vec::new(alloc), &[]))?;
+    Ok(matter.figures().entries)
+}
+
+// Fails unless the rows of a matter that was purged on a day are refused.
+fn is_stub_refused(
+    alloc: Global,
+    closed: Option<&str>,
+    on: &str,
+    names: &[&str],
+    entries: &[Entry],
+) -> Result<(), StepFault> {
+    let stub = purged(closed, on)?;
+    is_refused(Matter::of_rows(alloc, stub, lawyers(alloc, names)?, entries))
+}
+
+// Fails unless they are refused beside an entry.
+fn is_stub_with_entry_refused(alloc: Global) -> Result<(), StepFault> {
+    let cancelled = cancelled_retainer(alloc)?;
+    is_stub_refused(alloc, CLOSED, "2029-03-01", &[], &[cancelled])
+}
+
 #[test]
 fn of_a_purged_matter_a_stub_is_taken(rt: HostRuntime) -> Result<(), StepFault> {
     let alloc = rt.alloc();
-    let stub = purged(CLOSED, "2029-03-01")?;
-    let matter = taken(Matter::of_rows(alloc, stub, lawyers(alloc, &[])?, &[]))?;
-    assert_eq!(rt; matter.figures().entries, 0);
-    let never_closed = purged(None, "2029-03-01")?;
-    is_refused(Matter::of_rows(alloc, never_closed, lawyers(alloc, &[])?, &[]))?;
-    let on_another_day = purged(CLOSED, "2029-02-28")?;
-    is_refused(Matter::of_rows(alloc, on_another_day, lawyers(alloc, &[])?, &[]))?;
-    let with_seat = purged(CLOSED, "2029-03-01")?;
-    is_refused(Matter::of_rows(alloc, with_seat, lawyers(alloc, &["lee"])?, &[]))?;
-    let with_entry = purged(CLOSED, "2029-03-01")?;
-    let cancelled = retainer(alloc, DepositState::Cancelled(day("2024-01-11")?))?;
-    is_refused(Matter::of_rows(alloc, with_entry, lawyers(alloc, &[])?, &[cancelled]))
+    assert_eq!(rt; entries_of_stub(alloc)?, 0);
+    // never closed, purged on another day than the last, with a seat, with an entry
+    is_stub_refused(alloc, None, "2029-03-01", &[], &[])?;
+    is_stub_refused(alloc, CLOSED, "2029-02-28", &[], &[])?;
+    is_stub_refused(alloc, CLOSED, "2029-03-01", &["lee"], &[])?;
+    is_stub_with_entry_refused(alloc)
 }
 
 // Figures with this much available, in cents.

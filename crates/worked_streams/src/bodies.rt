@@ -22,7 +22,7 @@ const DEEP: Exchange = (
 // The message behind it is answered as if it had not come.
 #[test]
 fn a_body_of_lists_in_lists(rt: HostRuntime) -> Result<(), Wrong> {
-    let exchanges = [
+    const EXCHANGES: &[Exchange] = &[
         DEEP,
         (
             "2024-01-10",
@@ -33,5 +33,5 @@ fn a_body_of_lists_in_lists(rt: HostRuntime) -> Result<(), Wrong> {
             r#"{"name":"NoMatter","refusal":8}"#,
         ),
     ];
-    serves(rt.alloc(), &exchanges)
+    serves(rt.alloc(), EXCHANGES)
 }

@@ -43,7 +43,7 @@ const TOO_LARGE: &str = concat!(
 );
 
 // Each ends the stream: what is sent behind it is not answered.
-const FAULTS: [Sent; 16] = [
+const FAULTS: &[Sent] = &[
     // two lengths that are equal, and two that are not
     (
         "POST /x HTTP/1.1\r\n",
@@ -150,7 +150,7 @@ const FAULTS: [Sent; 16] = [
 ];
 
 // Each is answered, and so is what is sent behind it.
-const GOOD_ENOUGH: [Sent; 7] = [
+const GOOD_ENOUGH: &[Sent] = &[
     (
         "POST /x HTTP/1.1\r\ncontent-length: ",
         "0",
@@ -223,12 +223,12 @@ fn are_answered(alloc: Global, all: &[Sent], behind: &str, end: StreamEnd) -> Re
 
 #[test]
 fn what_ends_a_stream(rt: HostRuntime) -> Result<(), Wrong> {
-    are_answered(rt.alloc(), &FAULTS, "", StreamEnd::BadFraming)
+    are_answered(rt.alloc(), FAULTS, "", StreamEnd::BadFraming)
 }
 
 #[test]
 fn what_lets_a_stream_go_on(rt: HostRuntime) -> Result<(), Wrong> {
-    are_answered(rt.alloc(), &GOOD_ENOUGH, NO_MATTER, StreamEnd::Ended)
+    are_answered(rt.alloc(), GOOD_ENOUGH, NO_MATTER, StreamEnd::Ended)
 }
 
 // Whether so many bytes end where a message does, or where the first one begins.

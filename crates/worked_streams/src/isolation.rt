@@ -26,9 +26,9 @@ pub(crate) const AMONG_OTHERS: [Piece; 9] = [
 ];
 
 // The same matter is shown behind its messages.
-const SHOWN: [Piece; 3] = [OPEN, DEPOSIT, SHOW];
+const SHOWN: &[Piece] = &[OPEN, DEPOSIT, SHOW];
 
-const SHOWN_AMONG_OTHERS: [Piece; 6] = [
+const SHOWN_AMONG_OTHERS: &[Piece] = &[
     OTHER_OPEN,
     OPEN,
     OTHER_DEPOSIT,
@@ -38,7 +38,7 @@ const SHOWN_AMONG_OTHERS: [Piece; 6] = [
 ];
 
 // Who has no seat on the first matter asks for it, and for one that was never opened.
-const STRANGER: [Piece; 3] = [
+const STRANGER: &[Piece] = &[
     OPEN,
     (
         "GET /matters/000001 HTTP/1.1\r\nx-caller: bob\r\n\r\n",
@@ -51,7 +51,7 @@ const STRANGER: [Piece; 3] = [
 ];
 
 // Messages that are refused before a matter is looked at, and one that is answered all the same.
-const REFUSED: [Piece; 5] = [
+const REFUSED: &[Piece] = &[
     OPEN,
     (
         "PUT /matters/000001 HTTP/1.1\r\nx-caller: lee\r\n\r\n",
@@ -104,15 +104,12 @@ fn a_matter_among_others(rt: HostRuntime) -> Result<(), Wrong> {
 
 #[test]
 fn a_matter_that_is_shown(rt: HostRuntime) -> Result<(), Wrong> {
-    is_answered(rt.alloc(), &(&SHOWN, NOTHING, StreamEnd::Ended))
+    is_answered(rt.alloc(), &(SHOWN, NOTHING, StreamEnd::Ended))
 }
 
 #[test]
 fn a_matter_that_is_shown_among_others(rt: HostRuntime) -> Result<(), Wrong> {
-    is_answered(
-        rt.alloc(),
-        &(&SHOWN_AMONG_OTHERS, NOTHING, StreamEnd::Ended),
-    )
+    is_answered(rt.alloc(), &(SHOWN_AMONG_OTHERS, NOTHING, StreamEnd::Ended))
 }
 
 #[test]
@@ -127,12 +124,12 @@ fn a_cut_body(rt: HostRuntime) -> Result<(), Wrong> {
 
 #[test]
 fn a_stranger(rt: HostRuntime) -> Result<(), Wrong> {
-    is_answered(rt.alloc(), &(&STRANGER, NOTHING, StreamEnd::Ended))
+    is_answered(rt.alloc(), &(STRANGER, NOTHING, StreamEnd::Ended))
 }
 
 #[test]
 fn refused_messages(rt: HostRuntime) -> Result<(), Wrong> {
-    is_answered(rt.alloc(), &(&REFUSED, CHUNKED, StreamEnd::BadFraming))
+    is_answered(rt.alloc(), &(REFUSED, CHUNKED, StreamEnd::BadFraming))
 }
 
 #[test]

@@ -203,7 +203,7 @@ TOTAL                 290.00
 // Every report of a month, each as its text to the byte.
 #[test]
 fn reports_of_a_month(rt: HostRuntime) -> Result<(), Wrong> {
-    let exchanges = [
+    const EXCHANGES: &[Exchange] = &[
         OPEN,
         DEPOSIT,
         BANKED,
@@ -219,14 +219,14 @@ fn reports_of_a_month(rt: HostRuntime) -> Result<(), Wrong> {
         RETENTION,
         CARD,
     ];
-    serves(rt.alloc(), &exchanges)
+    serves(rt.alloc(), EXCHANGES)
 }
 
 // A lawyer is told of the matter and of no report of the firm's; the cashier is told of no reconciliation without a
 // statement, nor of what is no day.
 #[test]
 fn refused_reports(rt: HostRuntime) -> Result<(), Wrong> {
-    let exchanges = [
+    const EXCHANGES: &[Exchange] = &[
         OPEN,
         (
             "2024-01-10",
@@ -277,5 +277,5 @@ TOTAL                   0.00
 ",
         ),
     ];
-    serves(rt.alloc(), &exchanges)
+    serves(rt.alloc(), EXCHANGES)
 }

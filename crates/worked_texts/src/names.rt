@@ -8,45 +8,50 @@ use trust_base::{
 
 #[test]
 fn entries_of_texts(rt: HostRuntime) {
-    for (text, want) in [("0001", 1), ("0042", 42), ("9999", 9_999)] {
+    const VALUES: &[(&str, u16)] = &[("0001", 1), ("0042", 42), ("9999", 9_999)];
+    for (text, want) in VALUES {
         let read = EntryNo::read(text.as_bytes()).map(EntryNo::get);
-        assert_eq!(rt; read, Some(want), "of {text}");
+        assert_eq!(rt; read, Some(*want), "of {text}");
     }
-    for text in ["0000", "001", "00001", "000a", "", "+001", "0001\n", " 001"] {
+    const OTHERS: &[&str] = &["0000", "001", "00001", "000a", "", "+001", "0001\n", " 001"];
+    for text in OTHERS {
         assert!(rt; EntryNo::read(text.as_bytes()).is_none(), "of {text}");
     }
 }
 
 #[test]
 fn sums_of_texts(rt: HostRuntime) {
-    for (text, want) in [
+    const VALUES: &[(&str, u64)] = &[
         ("0.00", 0),
         ("0.01", 1),
         ("20.00", 2_000),
         ("999999999.99", 99_999_999_999),
-    ] {
+    ];
+    for (text, want) in VALUES {
         let read = CentsOrZero::read(text.as_bytes()).map(CentsOrZero::get);
-        assert_eq!(rt; read, Some(want), "of {text}");
+        assert_eq!(rt; read, Some(*want), "of {text}");
     }
-    for text in ["00.00", "0", "0.0", "-0.00", "-1.00", "1000000000.00", ""] {
+    const OTHERS: &[&str] = &["00.00", "0", "0.0", "-0.00", "-1.00", "1000000000.00", ""];
+    for text in OTHERS {
         assert!(rt; CentsOrZero::read(text.as_bytes()).is_none(), "of {text}");
     }
 }
 
 #[test]
 fn bank_amounts_of_texts(rt: HostRuntime) {
-    for (text, want) in [
+    const VALUES: &[(&str, i64)] = &[
         ("0.00", 0),
         ("500.00", 50_000),
         ("-12.00", -1_200),
         ("-0.01", -1),
         ("9999999999999999.99", 999_999_999_999_999_999),
         ("-9999999999999999.99", -999_999_999_999_999_999),
-    ] {
+    ];
+    for (text, want) in VALUES {
         let read = BankAmount::read(text.as_bytes()).map(BankAmount::get);
-        assert_eq!(rt; read, Some(want), "of {text}");
+        assert_eq!(rt; read, Some(*want), "of {text}");
     }
-    for text in [
+    const OTHERS: &[&str] = &[
         "-0.00",
         "--1.00",
         "+1.00",
@@ -57,7 +62,8 @@ fn bank_amounts_of_texts(rt: HostRuntime) {
         "10000000000000000.00",
         "-10000000000000000.00",
         "1.00-",
-    ] {
+    ];
+    for text in OTHERS {
         assert!(rt; BankAmount::read(text.as_bytes()).is_none(), "of {text}");
     }
 }
@@ -80,7 +86,7 @@ fn is_line_text(alloc: Global, text: &[u8]) -> Result<bool, Fail> {
 
 #[test]
 fn persons(rt: HostRuntime) -> Result<(), Fail> {
-    for text in [
+    const TEXTS: &[&str] = &[
         "lee",
         "a",
         "-",
@@ -88,10 +94,11 @@ fn persons(rt: HostRuntime) -> Result<(), Fail> {
         "cashier2",
         "ada.chen-2",
         "abcdefghijklmnopqrstuvwxyz012345",
-    ] {
+    ];
+    for text in TEXTS {
         assert!(rt; is_person(rt.alloc(), text.as_bytes())?, "of {text}");
     }
-    for text in [
+    const OTHERS: &[&str] = &[
         "cashier",
         "",
         "Lee",
@@ -99,7 +106,8 @@ fn persons(rt: HostRuntime) -> Result<(), Fail> {
         "l_e",
         "lée",
         "abcdefghijklmnopqrstuvwxyz0123456",
-    ] {
+    ];
+    for text in OTHERS {
         assert!(rt; !is_person(rt.alloc(), text.as_bytes())?, "of {text}");
     }
     Ok(())
@@ -107,7 +115,7 @@ fn persons(rt: HostRuntime) -> Result<(), Fail> {
 
 #[test]
 fn labels(rt: HostRuntime) -> Result<(), Fail> {
-    for text in [
+    const TEXTS: &[&str] = &[
         "Ada Chen",
         " ",
         "\u{A0}",
@@ -115,12 +123,14 @@ fn labels(rt: HostRuntime) -> Result<(), Fail> {
         "é",
         "\"quoted\" \\",
         "Ā\u{100}",
-    ] {
+    ];
+    for text in TEXTS {
         assert!(rt; is_label(rt.alloc(), text.as_bytes())?, "of {text}");
     }
-    for text in [
+    const OTHERS: &[&str] = &[
         "", "a\tb", "a\nb", "\u{0}", "\u{1F}", "\u{7F}", "\u{80}", "a\u{9F}",
-    ] {
+    ];
+    for text in OTHERS {
         assert!(rt; !is_label(rt.alloc(), text.as_bytes())?, "of {text}");
     }
     assert!(rt; is_label(rt.alloc(), &[b'x'; 80])?);
@@ -132,10 +142,12 @@ fn labels(rt: HostRuntime) -> Result<(), Fail> {
 
 #[test]
 fn texts_of_lines(rt: HostRuntime) -> Result<(), Fail> {
-    for text in ["", " ", "OPEN", "M000001-0001", "~"] {
+    const TEXTS: &[&str] = &["", " ", "OPEN", "M000001-0001", "~"];
+    for text in TEXTS {
         assert!(rt; is_bank_text(rt.alloc(), text.as_bytes())?, "of {text}");
     }
-    for text in ["a\tb", "\u{7F}", "é"] {
+    const OTHERS: &[&str] = &["a\tb", "\u{7F}", "é"];
+    for text in OTHERS {
         assert!(rt; !is_bank_text(rt.alloc(), text.as_bytes())?, "of {text}");
     }
     assert!(rt; is_bank_text(rt.alloc(), &[b'x'; 64])?);
@@ -151,28 +163,44 @@ fn label_of(alloc: Global, text: &str) -> Result<Label, Fail> {
     Ok(Label::read(alloc, text.as_bytes())?.ok_or("a label")?)
 }
 
+fn is_cash(alloc: Global, text: &str) -> Result<bool, Fail> {
+    Ok(label_of(alloc, text)?.is_cash())
+}
+
+fn is_firm(alloc: Global, text: &str) -> Result<bool, Fail> {
+    Ok(label_of(alloc, text)?.is_firm())
+}
+
 #[test]
 fn cash_and_firm(rt: HostRuntime) -> Result<(), Fail> {
-    for text in ["cash", "Cash", " Cash ", "   CASH", "cAsH "] {
-        assert!(rt; label_of(rt.alloc(), text)?.is_cash(), "of {text}");
+    const TEXTS: &[&str] = &["cash", "Cash", " Cash ", "   CASH", "cAsH "];
+    for text in TEXTS {
+        assert!(rt; is_cash(rt.alloc(), text)?, "of {text}");
     }
-    for text in ["Cash Ltd", "\u{A0}cash", "ca sh", " ", "cashh", "FIRM"] {
-        assert!(rt; !label_of(rt.alloc(), text)?.is_cash(), "of {text}");
+    const OTHERS: &[&str] = &["Cash Ltd", "\u{A0}cash", "ca sh", " ", "cashh", "FIRM"];
+    for text in OTHERS {
+        assert!(rt; !is_cash(rt.alloc(), text)?, "of {text}");
     }
-    assert!(rt; label_of(rt.alloc(), "FIRM")?.is_firm());
-    for text in ["Firm", "FIRM ", " FIRM", "firm"] {
-        assert!(rt; !label_of(rt.alloc(), text)?.is_firm(), "of {text}");
+    assert!(rt; is_firm(rt.alloc(), "FIRM")?);
+    const NOT_FIRM: &[&str] = &["Firm", "FIRM ", " FIRM", "firm"];
+    for text in NOT_FIRM {
+        assert!(rt; !is_firm(rt.alloc(), text)?, "of {text}");
+    }
+    Ok(())
+}
+
+fn push_persons(persons: &mut Vec<PersonId>, alloc: Global) -> Result<(), Fail> {
+    const NAMES: &[&str] = &["-a", ".a", "0", "a", "a-", "ab", "b"];
+    for name in NAMES {
+        persons.push(PersonId::read(alloc, name.as_bytes())?.ok_or("a person")?)?;
     }
     Ok(())
 }
 
 #[test]
 fn persons_in_order(rt: HostRuntime) -> Result<(), Fail> {
-    let names = ["-a", ".a", "0", "a", "a-", "ab", "b"];
     let mut persons = Vec::new(rt.alloc());
-    for name in names {
-        persons.push(PersonId::read(rt.alloc(), name.as_bytes())?.ok_or("a person")?)?;
-    }
+    push_persons(&mut persons, rt.alloc())?;
     for (i, one) in persons.iter().enumerate() {
         for (j, other) in persons.iter().enumerate() {
             assert_eq!(rt; one.is_before(other), i < j);
@@ -192,13 +220,24 @@ fn line(alloc: Global, bank_ref: &str) -> Result<Line, Fail> {
     })
 }
 
+fn is_same_as_its_copy(line: &Line) -> Result<bool, Fail> {
+    let copy = line.copied()?;
+    Ok(line.is_same(&copy))
+}
+
+// Whether the text that a copy of a line gives up is this.
+fn is_text_of_copy(line: &Line, wanted: &[u8]) -> Result<bool, Fail> {
+    let copy = line.copied()?;
+    Ok(copy.text.into_vec().as_slice() == wanted)
+}
+
 #[test]
 fn copied_lines(rt: HostRuntime) -> Result<(), Fail> {
     let one = line(rt.alloc(), "B1")?;
-    let same = one.copied()?;
-    assert!(rt; one.is_same(&same));
-    assert!(rt; !one.is_same(&line(rt.alloc(), "B2")?));
-    assert_eq!(rt; same.text.into_vec().as_slice(), b"returned".as_slice());
+    assert!(rt; is_same_as_its_copy(&one)?);
+    let other = line(rt.alloc(), "B2")?;
+    assert!(rt; !one.is_same(&other));
+    assert!(rt; is_text_of_copy(&one, b"returned")?);
     Ok(())
 }
 
@@ -224,10 +263,23 @@ fn printed_sums(rt: HostRuntime) -> Result<(), Fail> {
     let amount = BankAmount::read(b"-12.05").ok_or("an amount")?;
     let text = format!(in rt.alloc(); "{entry} {sum} {amount}")?;
     assert_eq!(rt; text.as_str(), "0042 0.00 -12.05");
+    Ok(())
+}
+
+fn push_sums(out: &mut Vec<u8>) -> Result<(), Fail> {
+    let entry = EntryNo::read(b"0042").ok_or("an entry")?;
+    let sum = CentsOrZero::read(b"0.00").ok_or("a sum")?;
+    let amount = BankAmount::read(b"-12.05").ok_or("an amount")?;
+    entry.write_to(out)?;
+    sum.write_to(out)?;
+    amount.write_to(out)?;
+    Ok(())
+}
+
+#[test]
+fn written_sums(rt: HostRuntime) -> Result<(), Fail> {
     let mut out = Vec::new(rt.alloc());
-    entry.write_to(&mut out)?;
-    sum.write_to(&mut out)?;
-    amount.write_to(&mut out)?;
+    push_sums(&mut out)?;
     assert_eq!(rt; out.as_slice(), b"00420.00-12.05".as_slice());
     Ok(())
 }
