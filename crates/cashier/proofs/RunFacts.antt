@@ -31,14 +31,6 @@ put-line outcome.StoreFault (Err fault) h = h
 put-line outcome.MemoryFault (Err fault) h = h
 put-line outcome.NetworkFault (Err fault) h = h
 
-at_line : (put : Result Unit StoreFault) → put_outcome outcome.CommandLine put ≡ outcome.CommandLine
-at_line (Ok done) = refl
-at_line (Err fault) = refl
-
--- and it is told so
-pub line-put : (ended : Outcome) (put : Result Unit StoreFault) → ended ≡ outcome.CommandLine → put_outcome ended put ≡ outcome.CommandLine
-line-put ended put h = subst (λ e. put_outcome e put ≡ outcome.CommandLine) (sym h) (at_line put)
-
 -- a book in memory begins without rows
 pub in-memory : (before after : Firm) (words : List Text) (input : Option (List ℕ)) (known : Text → Option (List ℕ))
     (opens : Text → Option (Option ℕ) → Type 0) (clients : ℕ → ℕ → Option (List ℕ)) (old new : Option (List ℕ)) (told : Outcome)

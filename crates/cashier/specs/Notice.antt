@@ -3,9 +3,9 @@ use Rattle.std.specs.Prelude.{◌≡◌, ◌⊎◌, ◌++◌, ℕ, List, Option,
 use Rattle.std.specs.Borrow.{Bor}
 use Rattle.std.specs.Fmt.{decimal}
 use Rattle.clap.specs.Words.{Text}
-use Rattle.command_line.specs.Advice.{IsWrong, Names, advice_text}
+use Rattle.command_advice.specs.Advice.{IsWrong, Names, advice_text}
 use Rattle.command_line.specs.Program.{Means, MeansSheet, MeansStream, db_of}
-use Rattle.command_line.specs.declared.advice.Advice.{Advice}
+use Rattle.command_advice.specs.declared.advice.Advice.{Advice}
 use Rattle.command_line.specs.declared.command.Task.TheVariants as task
 use Rattle.cashier.specs.declared.notice.Notice.{Notice}
 use Rattle.cashier.specs.declared.notice.Notice.TheVariants as notice

@@ -6,7 +6,8 @@ ghost use Rattle.cashier.specs.Notice.{IsBookPath, IsServedPort, IsSource, IsTol
 ghost use Rattle.command_line.specs.Program.{words_of};
 
 use crate::outcome::Outcome;
-use command_line::{Advice, Task, advice_of, command_of};
+use command_advice::{Advice, advice_of};
+use command_line::{Task, command_of};
 use std::alloc::Global;
 use std::fmt;
 

@@ -1,6 +1,6 @@
 // One run of the program, from its words to its outcome.
 
-ghost use Rattle.std.specs.Prelude.{◌≡◌, ◌≢◌, ◌⊎◌, ℕ, IfErr, IfOk, map};
+ghost use Rattle.std.specs.Prelude.{◌≡◌, ◌≢◌, ◌⊎◌, ℕ, IfErr, IfOk, List, map};
 ghost use Rattle.std.specs.String.{string_bytes};
 ghost use Rattle.clap.specs.Words.{Text};
 ghost use Rattle.cashier.specs.Calls.{CountsStore, LeavesBook};
@@ -82,6 +82,35 @@ fn serve_input<R: Read, W: Write, B: Book>(
     outcome_of_stream(serve_stream(alloc, reader, writer, desk, today))
 }
 
+// Runs a plan over a desk, whatever book the plan names. What is said of words is of any that mean the plan.
+fn run_plan<R: Read, F: Folder, C: Clock + Drop, N: Network, W: Write, B: Book>(
+    alloc: Global,
+    plan: &Plan<'_>,
+    reader: &mut R,
+    around: Surroundings<'_, F, C, N>,
+    writer: &mut W,
+    desk: &mut Desk<B>,
+) -> Outcome
+    ensures began { result ≢ Outcome.CommandLine }
+    ensures input { (words : List Text) → Means words plan.now.today plan.now.task
+        → MeansSheet words ⊎ (MeansStream words ⊎ (reader.new ≡ reader.old)) }
+    ensures ends { (words : List Text) → Means words plan.now.today plan.now.task → B.clean desk.new → B.stands desk.old
+        → Ran words (R.remaining reader.old) (F.known around.entry.folder.now)
+        (F.opens around.entry.folder.now) (N.clients around.entry.network.now) (B.firm desk.old) (B.firm desk.new)
+        (W.contents writer.old) (W.contents writer.new) result }
+    ensures kept { LeavesBook B.clean B.sure B.stands B.refusals (CountsStore Outcome.StoreFault result)
+        desk.old desk.new }
+{
+    let today = plan.today;
+    match plan.task {
+        Task::Sheet => outcome_of_sheet(run_sheet(alloc, reader, writer, desk, today)),
+        Task::Import(path) => import_file(alloc, around.folder, path, writer, desk, today),
+        Task::Stream => serve_input(alloc, reader, writer, desk, today),
+        Task::Serve { port, count } => run_serve(alloc, around, port, count, writer, desk, today),
+        Task::Report(command) => run_report(alloc, command, writer, desk, today),
+    }
+}
+
 /// Runs what the program's words ask for, its name first among them, over a desk, whatever book `--db` names among
 /// them. Where the command line is at fault nothing is read, run or written; nor where a growth was refused before its
 /// plan was known, and the outcome is `MemoryFault` then. Else the outcome is that of the sheet's, the statement's or
@@ -115,91 +144,82 @@ pub fn run_words<'a, R: Read, F: Folder, C: Clock + Drop, N: Network, W: Write, 
     ensures kept { LeavesBook B.clean B.sure B.stands B.refusals (CountsStore Outcome.StoreFault result)
         desk.old desk.new }
 {
-    let Plan { today, task, db: _ } = match command_of(alloc, words) {
+    let plan = match command_of(alloc, words) {
         Ok(plan) => plan,
         Err(CliFault::Line) => return Outcome::CommandLine,
         Err(CliFault::Memory) => return Outcome::MemoryFault,
     };
-    match task {
-        Task::Sheet => outcome_of_sheet(run_sheet(alloc, reader, writer, desk, today)),
-        Task::Import(path) => import_file(alloc, around.folder, path, writer, desk, today),
-        Task::Stream => serve_input(alloc, reader, writer, desk, today),
-        Task::Serve { port, count } => run_serve(alloc, around, port, count, writer, desk, today),
-        Task::Report(command) => run_report(alloc, command, writer, desk, today),
-    }
+    run_plan(alloc, &plan, reader, around, writer, desk)
 }
 
-// Runs words that mean something over a book that is kept in memory, begins without rows and is given up at the end.
-fn run_in_memory<'a, R: Read, F: Folder, C: Clock + Drop, N: Network, W: Write>(
+// Runs a plan over a book that is kept in memory, begins without rows and is given up at the end.
+fn run_in_memory<R: Read, F: Folder, C: Clock + Drop, N: Network, W: Write>(
     alloc: Global,
-    words: &'a [&'a str],
+    plan: &Plan<'_>,
     reader: &mut R,
     around: Surroundings<'_, F, C, N>,
     writer: &mut W,
 ) -> Outcome
-    ensures began { (today : ℕ) → (task : Task) → Means (words_of words.entry.now) today task
-        → result ≢ Outcome.CommandLine }
-    ensures input { MeansSheet (words_of words.entry.now)
-        ⊎ (MeansStream (words_of words.entry.now) ⊎ (reader.new ≡ reader.old)) }
-    ensures ran { result ≢ Outcome.CommandLine
-        → RanInMemory (λ before after. Ran (words_of words.entry.now) (R.remaining reader.old)
+    ensures began { result ≢ Outcome.CommandLine }
+    ensures input { (words : List Text) → Means words plan.now.today plan.now.task
+        → MeansSheet words ⊎ (MeansStream words ⊎ (reader.new ≡ reader.old)) }
+    ensures ran { (words : List Text) → Means words plan.now.today plan.now.task
+        → RanInMemory (λ before after. Ran words (R.remaining reader.old)
         (F.known around.entry.folder.now) (F.opens around.entry.folder.now) (N.clients around.entry.network.now)
         before after (W.contents writer.old) (W.contents writer.new)) result }
 {
     let mut desk = Desk::new(PlainBook::new(alloc));
-    run_words(alloc, words, reader, around, writer, &mut desk)
+    run_plan(alloc, plan, reader, around, writer, &mut desk)
 }
 
-// Runs words that mean something over a book of a store, and puts the book back.
-fn run_over_book<'a, R: Read, F: Folder, C: Clock + Drop, N: Network, S: Stores, W: Write>(
+// Runs a plan over a book of a store, and puts the book back.
+fn run_over_book<R: Read, F: Folder, C: Clock + Drop, N: Network, S: Stores, W: Write>(
     alloc: Global,
-    words: &'a [&'a str],
+    plan: &Plan<'_>,
     reader: &mut R,
     around: Surroundings<'_, F, C, N>,
     stores: &S,
     book: S::AtPath,
     writer: &mut W,
 ) -> Outcome
-    ensures began { (today : ℕ) → (task : Task) → Means (words_of words.entry.now) today task
-        → result ≢ Outcome.CommandLine }
-    ensures input { MeansSheet (words_of words.entry.now)
-        ⊎ (MeansStream (words_of words.entry.now) ⊎ (reader.new ≡ reader.old)) }
+    ensures began { result ≢ Outcome.CommandLine }
+    ensures input { (words : List Text) → Means words plan.now.today plan.now.task
+        → MeansSheet words ⊎ (MeansStream words ⊎ (reader.new ≡ reader.old)) }
     ensures ran { (path : Text) → (S.AtPath.sure book → S.keeps stores.now path (S.AtPath.firm book))
-        → (S.AtPath.sure book → S.AtPath.clean book) → result ≢ Outcome.CommandLine
+        → (S.AtPath.sure book → S.AtPath.clean book) → (words : List Text) → Means words plan.now.today plan.now.task
         → RanAtPath S.AtPath.clean S.AtPath.sure S.AtPath.stands S.AtPath.firm S.AtPath.refusals
-        (S.keeps stores.now path) (λ before after. Ran (words_of words.entry.now) (R.remaining reader.old)
+        (S.keeps stores.now path) (λ before after. Ran words (R.remaining reader.old)
         (F.known around.entry.folder.now) (F.opens around.entry.folder.now) (N.clients around.entry.network.now)
         before after (W.contents writer.old) (W.contents writer.new)) result }
 {
     let mut desk = Desk::new(book);
-    let ended = run_words(alloc, words, reader, around, writer, &mut desk);
+    let ended = run_plan(alloc, plan, reader, around, writer, &mut desk);
     let put = stores.put_back(desk.into_book());
     outcome_put_back(ended, put)
 }
 
-// Runs words that mean something over the book at a path, where that can be had.
-fn run_at_path<'a, R: Read, F: Folder, C: Clock + Drop, N: Network, S: Stores, W: Write>(
+// Runs a plan over the book at a path, where that can be had.
+fn run_at_path<R: Read, F: Folder, C: Clock + Drop, N: Network, S: Stores, W: Write>(
     alloc: Global,
-    words: &'a [&'a str],
+    plan: &Plan<'_>,
     path: &str,
     reader: &mut R,
     around: Surroundings<'_, F, C, N>,
     stores: &S,
     writer: &mut W,
 ) -> Outcome
-    ensures began { (today : ℕ) → (task : Task) → Means (words_of words.entry.now) today task
-        → result ≢ Outcome.CommandLine }
-    ensures input { MeansSheet (words_of words.entry.now)
-        ⊎ (MeansStream (words_of words.entry.now) ⊎ (reader.new ≡ reader.old)) }
-    ensures ran { result ≢ Outcome.CommandLine
+    ensures began { result ≢ Outcome.CommandLine }
+    ensures input { (words : List Text) → Means words plan.now.today plan.now.task
+        → MeansSheet words ⊎ (MeansStream words ⊎ (reader.new ≡ reader.old)) }
+    ensures ran { (words : List Text) → Means words plan.now.today plan.now.task
         → RanAtPath S.AtPath.clean S.AtPath.sure S.AtPath.stands S.AtPath.firm S.AtPath.refusals
-        (S.keeps stores.now path.now) (λ before after. Ran (words_of words.entry.now) (R.remaining reader.old)
+        (S.keeps stores.now path.now) (λ before after. Ran words (R.remaining reader.old)
         (F.known around.entry.folder.now) (F.opens around.entry.folder.now) (N.clients around.entry.network.now)
         before after (W.contents writer.old) (W.contents writer.new)) result
         ⊎ HadNoBook ((reader.new ≡ reader.old) × (writer.new ≡ writer.old)) result }
 {
     match stores.at(alloc, path) {
-        Ok(book) => run_over_book(alloc, words, reader, around, stores, book, writer),
+        Ok(book) => run_over_book(alloc, plan, reader, around, stores, book, writer),
         Err(fault) => outcome_of_store(fault),
     }
 }
@@ -234,8 +254,8 @@ pub fn run_over_stores<'a, R: Read, F: Folder, C: Clock + Drop, N: Network, S: S
 {
     match command_of(alloc, words) {
         Ok(plan) => match plan.db {
-            Some(path) => run_at_path(alloc, words, path, reader, around, stores, writer),
-            None => run_in_memory(alloc, words, reader, around, writer),
+            Some(path) => run_at_path(alloc, &plan, path, reader, around, stores, writer),
+            None => run_in_memory(alloc, &plan, reader, around, writer),
         },
         Err(CliFault::Line) => Outcome::CommandLine,
         Err(CliFault::Memory) => Outcome::MemoryFault,

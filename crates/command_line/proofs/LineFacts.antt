@@ -1,20 +1,21 @@
 -- What a parse of the program's own command line says.
-use Rattle.std.proofs.Common.{◌≡◌, ◌≢◌, ◌∙◌, inl, inr, ap, sym, refl, subst, false, true, ℕ, List, [], Option, Some, None, IfNone, option_map, option_and_then, codes}
+use Rattle.std.proofs.Common.{◌≡◌, ◌≢◌, ◌∙◌, ◌⊎◌, inl, inr, ap, sym, refl, subst, false, true, ℕ, List, [], Option, Some, None, IfErr, IfNone, Result, Ok, Err, option_map, option_and_then, codes}
 use Rattle.clap.specs.Words.{App, Row, Text, fault_of, first_of, found_of, is_simple, is_simple_and_free, kind_of, matches_of, rows_of, subcommand_name_of, subcommand_of, subcommand_rows_of}
-use Rattle.clap.specs.Kinds.{HasKind, Kinds}
+use Rattle.clap.specs.Kinds.{HasKind, IsAmong, Kinds}
 use Rattle.clap.specs.declared.error.Error.{Error}
-use Rattle.clap.specs.declared.error.kind.ErrorKind.TheVariants.{OutOfMemory}
+use Rattle.clap.specs.declared.error.kind.ErrorKind.{ErrorKind}
+use Rattle.clap.specs.declared.error.kind.ErrorKind.TheVariants as kind
 use Rattle.clap.specs.declared.parser.matches.ArgMatches.{ArgMatches}
 use Rattle.clap.specs.Matches.{first_value}
 use Rattle.clap.specs.declared.parser.matches.Found.{Found}
 use Rattle.clap.proofs.OnLiterals.{clap_on_literals}
 use Rattle.clap.proofs.WalkLemmas.{first_value-rows}
 use Rattle.std.specs.Borrow.{Bor}
+use Rattle.std.specs.Result.{IsErrAnd}
 use Rattle.std.specs.Str.{bytes_eq}
 use Rattle.trust_base.specs.Texts.{day_of, matter_of}
-use Rattle.command_line.specs.Program.{Gives, IsTask, LeavesNoPlan, MeetsTask, Means, MeansNothing, db_of, db_rule, import_app, operand_app, operand_rule, options_app, report_apps, ImportIsNoSheet, ImportIsNoStream, IsReportCommand, ReportReadsNothing, ServeReadsNothing, program, report_name, run_apps, serve_app, sheet_app, stream_app, today_rule}
+use Rattle.command_line.specs.Program.{Gives, IsParse, IsRefused, IsTask, LeavesNoPlan, MeetsTask, Means, MeansNothing, db_of, db_rule, fault_by, import_app, operand_app, operand_rule, options_app, report_apps, ImportIsNoSheet, ImportIsNoStream, IsReportCommand, ReportReadsNothing, ServeReadsNothing, program, report_name, run_apps, serve_app, sheet_app, stream_app, today_rule}
 use Rattle.command_line.specs.declared.command.CliFault.{CliFault}
-use Rattle.command_line.specs.declared.command.CliFault.TheVariants as faults
 use Rattle.command_line.specs.declared.report_command.ReportCommand.{ReportCommand}
 use Rattle.command_line.specs.declared.report_command.ReportCommand.TheVariants as reports
 use Rattle.command_line.specs.declared.command.Task.{Task}
@@ -31,12 +32,16 @@ is_free_program = refl
 pub parses : (a : App) (words : List Text) → a ≡ program → (is_simple_and_free a ≡ true → fault_of a words ≡ []) → fault_of program words ≡ []
 parses a words same kinds = sym (ap (λ (x : App). fault_of x words) same) ∙ kinds (ap is_simple_and_free same ∙ is_free_program)
 
--- an error of the parse that is not want of memory: the command line does not take the words
-pub fails : (a : App) (words : List Text) (e : Error) → a ≡ program → (is_simple_and_free a ≡ true → HasKind (fault_of a words) e) → kind_of e ≢ OutOfMemory
-    → fault_of program words ≡ [] → ⊥
-fails a words e same kinds memory none =
-    let has = subst (λ (x : App). HasKind (fault_of x words) e) same (kinds (ap is_simple_and_free same ∙ is_free_program)) in
-    elim (subst (λ (k : Kinds). HasKind k e) none has) [
+-- the error of a parse: want of memory, or one that the words fail by
+pub refused : (a : App) (words : List Text) (e : Error) (k : ErrorKind) → a ≡ program → (is_simple_and_free a ≡ true → HasKind (fault_of a words) e)
+    → k ≡ kind_of e → IsRefused words k
+refused a words e k same kinds is =
+    rw is (subst (λ (x : App). HasKind (fault_of x words) e) same (kinds (ap is_simple_and_free same ∙ is_free_program)))
+
+-- words that are refused by an error other than want of memory mean nothing
+none-means : (words : List Text) (k : ErrorKind) → k ≢ kind.OutOfMemory → IsRefused words k → MeansNothing words
+none-means words k memory is today task says =
+    elim (subst (λ (f : Kinds). (k ≡ kind.OutOfMemory) ⊎ IsAmong k f) says.parses is) [
       | inl m ↦ memory m
       | inr h ↦ absurd h
     ]
@@ -62,16 +67,17 @@ met m name values n v = pair-parts (subcommand_rows_of m) name values (name_in_r
 abbrev pub HasValues : App → List Text → ArgMatches → Type 0
 HasValues a words m = is_simple a ≡ true → (rows_of (found_of m) ≡ matches_of a words) × (subcommand_rows_of m ≡ subcommand_of a words)
 
-pub rows_are : (a : App) (words : List Text) (m : ArgMatches) → a ≡ program → HasValues a words m → rows_of (found_of m) ≡ matches_of program words
-rows_are a words m same has = (has (ap is_simple same ∙ is_simple_program)).0 ∙ ap (λ (x : App). matches_of x words) same
+pub is-parse : (a : App) (words : List Text) (m : ArgMatches) → a ≡ program → (is_simple_and_free a ≡ true → fault_of a words ≡ []) → HasValues a words m
+    → IsParse words m
+is-parse a words m same kinds has = let here = has (ap is_simple same ∙ is_simple_program) in record {
+  taken = parses a words same kinds;
+  values = here.0 ∙ ap (λ (x : App). matches_of x words) same;
+  met = here.1 ∙ ap (λ (x : App). subcommand_of x words) same;
+}
 
-pub met_is : (a : App) (words : List Text) (m : ArgMatches) → a ≡ program → HasValues a words m → subcommand_rows_of m ≡ subcommand_of program words
-met_is a words m same has = (has (ap is_simple same ∙ is_simple_program)).1 ∙ ap (λ (x : App). subcommand_of x words) same
-
--- and so is the value of `--db`
-pub db-is : (a : App) (words : List Text) (m : ArgMatches) → a ≡ program → HasValues a words m → (db : Option Text) → db ≡ first_of (codes "db") (rows_of (found_of m))
-    → db ≡ db_of words
-db-is a words m same has db is = is ∙ ap (first_of (codes "db")) (rows_are a words m same has)
+-- the value of `--db` of a parse
+pub db-is : (words : List Text) (m : ArgMatches) → IsParse words m → (db : Option Text) → db ≡ first_of (codes "db") (rows_of (found_of m)) → db ≡ db_of words
+db-is words m parse db is = is ∙ ap (first_of (codes "db")) parse.values
 
 given : (rows rows2 : List Row) (met met2 : Option (Text × List Row)) (today : ℕ) (task : Task) → rows ≡ rows2 → met ≡ met2 → Gives rows met today task → Gives rows2 met2 today task
 given rows rows2 met met2 today task r n g = record {
@@ -80,23 +86,42 @@ given rows rows2 met met2 today task r n g = record {
 }
 
 -- what the values of a parse give is what the words mean
-pub means : (a : App) (words : List Text) (m : ArgMatches) → a ≡ program → (is_simple_and_free a ≡ true → fault_of a words ≡ []) → HasValues a words m
-    → (today : ℕ) (task : Task) → Gives (rows_of (found_of m)) (subcommand_rows_of m) today task → Means words today task
-means a words m same kinds has today task g = record {
-  parses = parses a words same kinds;
-  gives = given _ _ _ _ today task (rows_are a words m same has) (met_is a words m same has) g;
+pub means : (words : List Text) (m : ArgMatches) → IsParse words m → (today : ℕ) (task : Task) → Gives (rows_of (found_of m)) (subcommand_rows_of m) today task
+    → Means words today task
+means words m parse today task g = record {
+  parses = parse.taken;
+  gives = given _ _ _ _ today task parse.values parse.met g;
 }
 
 -- and the other way round
-pub gives : (a : App) (words : List Text) (m : ArgMatches) → a ≡ program → HasValues a words m
-    → (today : ℕ) (task : Task) → Means words today task → Gives (rows_of (found_of m)) (subcommand_rows_of m) today task
-gives a words m same has today task says =
-    given _ _ _ _ today task (sym (rows_are a words m same has)) (sym (met_is a words m same has)) says.gives
+pub gives : (words : List Text) (m : ArgMatches) → IsParse words m → (today : ℕ) (task : Task) → Means words today task
+    → Gives (rows_of (found_of m)) (subcommand_rows_of m) today task
+gives words m parse today task says = given _ _ _ _ today task (sym parse.values) (sym parse.met) says.gives
 
--- a fault that is Line only where the words mean nothing
-pub leaves : (words : List Text) (fault : CliFault) → (fault ≡ faults.Line → MeansNothing words) → LeavesNoPlan words fault
-leaves words faults.Line h = h refl
-leaves words faults.Memory h = tt
+-- words that are refused leave no plan
+leaves : (words : List Text) (k : ErrorKind) (fault : CliFault) → IsRefused words k → fault ≡ fault_by k → LeavesNoPlan words fault
+leaves words kind.OutOfMemory fault is e = rw e tt
+leaves words kind.InvalidValue fault is e = rw e (none-means words _ (λ c. cc) is)
+leaves words kind.UnknownArgument fault is e = rw e (none-means words _ (λ c. cc) is)
+leaves words kind.InvalidSubcommand fault is e = rw e (none-means words _ (λ c. cc) is)
+leaves words kind.NoEquals fault is e = rw e (none-means words _ (λ c. cc) is)
+leaves words kind.ValueValidation fault is e = rw e (none-means words _ (λ c. cc) is)
+leaves words kind.TooManyValues fault is e = rw e (none-means words _ (λ c. cc) is)
+leaves words kind.TooFewValues fault is e = rw e (none-means words _ (λ c. cc) is)
+leaves words kind.WrongNumberOfValues fault is e = rw e (none-means words _ (λ c. cc) is)
+leaves words kind.ArgumentConflict fault is e = rw e (none-means words _ (λ c. cc) is)
+leaves words kind.MissingRequiredArgument fault is e = rw e (none-means words _ (λ c. cc) is)
+leaves words kind.MissingSubcommand fault is e = rw e (none-means words _ (λ c. cc) is)
+leaves words kind.DisplayHelp fault is e = rw e (none-means words _ (λ c. cc) is)
+leaves words kind.DisplayHelpOnMissingArgumentOrSubcommand fault is e = rw e (none-means words _ (λ c. cc) is)
+leaves words kind.DisplayVersion fault is e = rw e (none-means words _ (λ c. cc) is)
+leaves words kind.Io fault is e = rw e (none-means words _ (λ c. cc) is)
+leaves words kind.Format fault is e = rw e (none-means words _ (λ c. cc) is)
+
+pub leaves-by : {T : Type 0} (words : List Text) (k : ErrorKind) (r : Result T CliFault) → IsRefused words k → IsErrAnd r (λ fault. fault ≡ fault_by k)
+    → IfErr r (LeavesNoPlan words)
+leaves-by words k (Ok value) is e = tt
+leaves-by words k (Err fault) is e = leaves words k fault is e
 
 -- what holds at any rate
 pub if_none : {X : Type 0} (o : Option X) (P : Type 0) → P → IfNone o P

@@ -1,9 +1,12 @@
 -- The program's command line, as a parser of words sees it, and the plan that words mean.
-use Rattle.std.specs.Prelude.{◌≡◌, ℕ, List, [], ◌∷◌, Option, Some, None, IsSomeAnd, true, codes, map, option_and_then, ⊤}
+use Rattle.std.specs.Prelude.{◌≡◌, ◌⊎◌, ℕ, List, [], ◌∷◌, Option, Some, None, IsSomeAnd, true, codes, map, option_and_then, ⊤}
 use Rattle.std.specs.Borrow.{Bor}
-use Rattle.clap.specs.Words.{App, Row, Rule, Text, fault_of, first_of, matches_of, new_app, new_rule, subcommand_of, with_rule, with_subcommand}
+use Rattle.clap.specs.Words.{App, IsAmong, Row, Rule, Text, fault_of, first_of, found_of, matches_of, new_app, new_rule, rows_of, subcommand_of, subcommand_rows_of, with_rule, with_subcommand}
 use Rattle.clap.specs.Simple.{on_top}
 use Rattle.clap.specs.declared.builder.ArgAction.TheVariants as action
+use Rattle.clap.specs.declared.error.kind.ErrorKind.{ErrorKind}
+use Rattle.clap.specs.declared.error.kind.ErrorKind.TheVariants as kind
+use Rattle.clap.specs.declared.parser.matches.ArgMatches.{ArgMatches}
 use Rattle.trust_base.specs.Texts.{day_of, matter_of}
 use Rattle.command_line.specs.Numerals.{IsCount, IsPort}
 use Rattle.command_line.specs.declared.command.CliFault.{CliFault}
@@ -70,6 +73,24 @@ program =
     on_top (λ s. record s { subcommand_required = true })
     (with_commands (with_commands options_app run_apps) report_apps)
 
+-- the texts of words
+abbrev pub words_of : List (Bor (List ℕ)) → List Text
+words_of = map (λ s. s.now)
+
+-- the command line takes the words, and these are their values and the command that they name
+pub record IsParse (words : List Text) (matches : ArgMatches) : Type 0 where
+  pub taken : fault_of program words ≡ []
+  pub values : rows_of (found_of matches) ≡ matches_of program words
+  pub met : subcommand_rows_of matches ≡ subcommand_of program words
+
+-- the command line refuses the words by an error of this kind
+abbrev pub FailsAs : List Text → ErrorKind → Type 0
+FailsAs words k = IsAmong k (fault_of program words)
+
+-- and so it does, or memory was wanting
+abbrev pub IsRefused : List Text → ErrorKind → Type 0
+IsRefused words k = (k ≡ kind.OutOfMemory) ⊎ FailsAs words k
+
 -- the name of a report's command
 abbrev pub report_name : ReportCommand → Text
 report_name (reports.Reconcile day) = codes "reconcile"
@@ -132,10 +153,6 @@ abbrev pub MeetsTask : Option (Text × List Row) → Task → Type 0
 MeetsTask None task = ⊥
 MeetsTask (Some met) task = IsTask met.0 met.1 task
 
--- the texts of words
-abbrev pub words_of : List (Bor (List ℕ)) → List Text
-words_of = map (λ s. s.now)
-
 -- the matched values and the command that was met give this business day and this task
 pub record Gives (rows : List Row) (met : Option (Text × List Row)) (today : ℕ) (task : Task) : Type 0 where
   -- the value of `--today` is the text of the day
@@ -190,6 +207,11 @@ ServeReadsNothing = (words : List Text) → MeansServe words → (¬ MeansSheet 
 -- the words mean no plan
 abbrev pub MeansNothing : List Text → Type 0
 MeansNothing words = (today : ℕ) → (task : Task) → ¬ Means words today task
+
+-- why words give no plan where a parse ends by this error
+abbrev pub fault_by : ErrorKind → CliFault
+fault_by kind.OutOfMemory = faults.Memory
+fault_by _ = faults.Line
 
 -- what a fault of the command line says of the words
 abbrev pub LeavesNoPlan : List Text → CliFault → Type 0

@@ -1,17 +1,16 @@
-// The command line.
+// The plan of a run that words mean.
 
-ghost use Rattle.std.specs.Prelude.{◌≡◌, ◌≢◌, ℕ, IfErr, IfOk, IfSome, IfNone, codes, false, option_map};
-ghost use Rattle.clap.specs.Words.{app_of, first_of, found_of, kind_of, rows_of, subcommand_rows_of};
-ghost use Rattle.clap.specs.declared.builder.command.Command.TheViews.{out-Command};
-ghost use Rattle.command_line.specs.Program.{Gives, IsTask, LeavesNoPlan, Means, db_of, operand_app, options_app};
-ghost use Rattle.command_line.specs.Program.{program, run_apps, serve_app, with_commands, words_of};
+ghost use Rattle.std.specs.Prelude.{◌≡◌, ℕ, IfErr, IfOk, IfSome, IfNone, codes, option_map};
+ghost use Rattle.clap.specs.Words.{first_of, found_of, rows_of, subcommand_rows_of};
+ghost use Rattle.command_line.specs.Program.{Gives, IsTask, LeavesNoPlan, Means, db_of, fault_by, words_of};
 ghost use Rattle.command_line.specs.declared.command.Task.{Task};
 
+use crate::grammar::parse;
 use crate::operands::{count_operand, day_operand, port_operand};
-use crate::report_command::{ReportCommand, report_command_of, with_reports};
+use crate::report_command::{ReportCommand, report_command_of};
+use clap::ArgMatches;
 use clap::error::ErrorKind;
-use clap::{Arg, ArgAction, ArgMatches, Command, Error};
-use std::alloc::{AllocError, Global};
+use std::alloc::Global;
 use trust_base::Day;
 
 /// What a run is to do.
@@ -55,86 +54,14 @@ pub enum CliFault {
     Memory,
 }
 
-impl From<AllocError> for CliFault {
-    ghost use Rattle.command_line.specs.declared.command.CliFault.TheVariants.{Memory as memory_fault};
+impl From<ErrorKind> for CliFault {
+    ghost from_gives = { λ kind fault. fault ≡ fault_by kind };
 
-    ghost from_gives = { λ _ fault. fault ≡ memory_fault };
-
-    fn from(_: AllocError) -> Self {
-        CliFault::Memory
-    }
-}
-
-/// The program's own command line.
-pub fn command<'a>(alloc: Global) -> Result<Command<'a>, CliFault>
-    ensures ok { IfOk result (λ c. app_of c ≡ program) }
-    ensures err { IfErr result (λ fault. fault ≡ CliFault.Memory) }
-{
-    let with_options = options_command(alloc)?;
-    Ok(with_reports(alloc, with_runs(alloc, with_options)?)?.subcommand_required(true))
-}
-
-// The command line's options.
-fn options_command<'a>(alloc: Global) -> Result<Command<'a>, CliFault>
-    ensures ok { IfOk result (λ c. app_of c ≡ options_app) }
-    ensures err { IfErr result (λ fault. fault ≡ CliFault.Memory) }
-{
-    let today = Arg::new(alloc, "today")
-        .long("today")
-        .required(true)
-        .action(ArgAction::Set);
-    let db = Arg::new(alloc, "db").long("db").action(ArgAction::Set);
-    let with_day = Command::new(alloc, "cashier_cli").arg(today)?;
-    Ok(with_day.arg(db)?)
-}
-
-// A command line with the commands that are no reports behind its own.
-fn with_runs<'a>(alloc: Global, command: Command<'a>) -> Result<Command<'a>, CliFault>
-    ensures ok { IfOk result (λ c. app_of c ≡ with_commands (app_of command.entry) run_apps) }
-    ensures err { IfErr result (λ fault. fault ≡ CliFault.Memory) }
-{
-    let with_input = command
-        .subcommand(Command::new(alloc, "sheet"))?
-        .subcommand(operand_command(alloc, "import", "FILE")?)?
-        .subcommand(Command::new(alloc, "stream"))?;
-    Ok(with_input.subcommand(serve_command(alloc)?)?)
-}
-
-/// A command with one operand, which has to be given.
-pub fn operand_command<'a>(
-    alloc: Global,
-    name: &'a str,
-    operand: &'a str,
-) -> Result<Command<'a>, CliFault>
-    ensures ok { IfOk result (λ c. app_of c ≡ operand_app name.now operand.now) }
-    ensures local { IfOk result (λ c. (out-Command c).has_globals ≡ false) }
-    ensures err { IfErr result (λ fault. fault ≡ CliFault.Memory) }
-{
-    let value = Arg::new(alloc, operand)
-        .required(true)
-        .action(ArgAction::Set);
-    Ok(Command::new(alloc, name).arg(value)?)
-}
-
-// The command that serves connections: its port and their count.
-fn serve_command<'a>(alloc: Global) -> Result<Command<'a>, CliFault>
-    ensures ok { IfOk result (λ c. app_of c ≡ serve_app) }
-    ensures local { IfOk result (λ c. (out-Command c).has_globals ≡ false) }
-    ensures err { IfErr result (λ fault. fault ≡ CliFault.Memory) }
-{
-    let count = Arg::new(alloc, "COUNT")
-        .required(true)
-        .action(ArgAction::Set);
-    Ok(operand_command(alloc, "serve", "PORT")?.arg(count)?)
-}
-
-fn cli_fault(error: &Error) -> CliFault
-    ensures line { result ≡ CliFault.Line → kind_of error.now ≢ ErrorKind.OutOfMemory }
-    ensures memory { result ≡ CliFault.Memory → kind_of error.now ≡ ErrorKind.OutOfMemory }
-{
-    match error.kind() {
-        ErrorKind::OutOfMemory => CliFault::Memory,
-        _ => CliFault::Line,
+    fn from(kind: ErrorKind) -> Self {
+        match kind {
+            ErrorKind::OutOfMemory => CliFault::Memory,
+            _ => CliFault::Line,
+        }
     }
 }
 
@@ -185,18 +112,14 @@ fn plan_of<'a>(matches: &ArgMatches<'a>) -> Option<Plan<'a>>
 /// be it the path of a file or not. `Line` comes only where they mean none: the command line does not take them, asks
 /// for help included, or the word of `--today` or an operand is not of its form.
 ///
-/// `Memory` comes where a growth was refused. That it comes nowhere else can't be said here: by clap's contract a parse
-/// may end by an error of want of memory at any words, and nothing tells whether memory was refused. `cli_fault` tells
-/// that error from every other, and the values of a parse are read without memory.
+/// `Memory` comes where a growth was refused. That it comes nowhere else can't be said here, for `parse`'s reason; the
+/// values of a parse are read without memory.
 pub fn command_of<'a>(alloc: Global, words: &'a [&'a str]) -> Result<Plan<'a>, CliFault>
     ensures plan { IfOk result (λ p. Means (words_of words.entry.now) p.today p.task) }
     ensures none { IfErr result (LeavesNoPlan (words_of words.entry.now)) }
     ensures db { IfOk result (λ p. option_map (λ s. s.now) p.db ≡ db_of (words_of words.entry.now)) }
 {
-    let matches = match command(alloc)?.try_get_matches_from(words) {
-        Ok(matches) => matches,
-        Err(error) => return Err(cli_fault(&error)),
-    };
+    let matches = parse(alloc, words)?;
     match plan_of(&matches) {
         Some(plan) => Ok(plan),
         None => Err(CliFault::Line),

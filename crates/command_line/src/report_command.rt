@@ -1,14 +1,12 @@
 // The commands that print a report.
 
-ghost use Rattle.std.specs.Prelude.{◌≡◌, IfErr, IfNone, IfOk, IfSome};
-ghost use Rattle.clap.specs.Words.{app_of, found_of, rows_of};
-ghost use Rattle.command_line.specs.Program.{IsReportCommand, report_apps, with_commands};
+ghost use Rattle.std.specs.Prelude.{IfNone, IfSome};
+ghost use Rattle.clap.specs.Words.{found_of, rows_of};
+ghost use Rattle.command_line.specs.Program.{IsReportCommand};
 ghost use Rattle.command_line.specs.declared.report_command.ReportCommand.{ReportCommand};
 
-use crate::command::{CliFault, operand_command};
 use crate::operands::{day_operand, matter_operand};
-use clap::{ArgMatches, Command};
-use std::alloc::Global;
+use clap::ArgMatches;
 use trust_base::{Day, MatterNo};
 
 /// A report that is to be printed.
@@ -24,19 +22,6 @@ pub enum ReportCommand {
     Retention,
     /// The ledger card of this matter.
     Ledger(MatterNo),
-}
-
-/// A command line with the commands of reports behind its own.
-pub fn with_reports<'a>(alloc: Global, command: Command<'a>) -> Result<Command<'a>, CliFault>
-    ensures ok { IfOk result (λ c. app_of c ≡ with_commands (app_of command.entry) report_apps) }
-    ensures err { IfErr result (λ fault. fault ≡ CliFault.Memory) }
-{
-    let with_lists = command
-        .subcommand(operand_command(alloc, "reconcile", "DAY")?)?
-        .subcommand(Command::new(alloc, "trial"))?
-        .subcommand(Command::new(alloc, "journal"))?
-        .subcommand(Command::new(alloc, "retention"))?;
-    Ok(with_lists.subcommand(operand_command(alloc, "ledger", "MATTER")?)?)
 }
 
 /// The report of a command, by its name and its values.

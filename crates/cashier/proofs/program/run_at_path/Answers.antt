@@ -3,10 +3,10 @@ use Rattle.cashier.proofs.RunFacts.{store-no-line}
 use Rattle.cashier.proofs.program.run_at_path.Goals as goal
 
 pub returns-in-Ok-clause-ran : goal.returns-in-Ok-clause-ran
-returns-in-Ok-clause-ran g c = λ begun. inl (c.run_over_book.ensures.ran c.args.path.now c.in-Ok.ensures.kept c.in-Ok.ensures.serves begun)
+returns-in-Ok-clause-ran g c = λ words means. inl (c.run_over_book.ensures.ran c.args.path.now c.in-Ok.ensures.kept c.in-Ok.ensures.serves words means)
 
 pub returns-in-Err-clause-began : goal.returns-in-Err-clause-began
-returns-in-Err-clause-began g c = λ today task means ended. store-no-line c.in-Err.fault (sym c.outcome_of_store.ensures ∙ ended)
+returns-in-Err-clause-began g c = λ ended. store-no-line c.in-Err.fault (sym c.outcome_of_store.ensures ∙ ended)
 
 pub returns-in-Err-clause-ran : goal.returns-in-Err-clause-ran
-returns-in-Err-clause-ran g c = λ _. inr (record { fault = c.in-Err.fault; outcome = c.outcome_of_store.ensures; nothing = (refl, refl) })
+returns-in-Err-clause-ran g c = λ _ _. inr (record { fault = c.in-Err.fault; outcome = c.outcome_of_store.ensures; nothing = (refl, refl) })

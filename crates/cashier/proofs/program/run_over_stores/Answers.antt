@@ -5,14 +5,12 @@ use Rattle.cashier.proofs.program.run_over_stores.Goals as goal
 pub returns-in-Some-clause-ran : goal.returns-in-Some-clause-ran
 returns-in-Some-clause-ran g c =
     let means = c.in-Ok.ensures.plan in
-    let begun = c.run_at_path.ensures.began _ _ means in
-    over-path _ _ _ _ _ c.in-Some.path.now begun means (rw c.in-Some.is at (sym c.in-Ok.ensures.db)) (c.run_at_path.ensures.ran begun)
+    over-path _ _ _ _ _ c.in-Some.path.now c.run_at_path.ensures.began means (rw c.in-Some.is at (sym c.in-Ok.ensures.db)) (c.run_at_path.ensures.ran _ means)
 
 pub returns-in-None-clause-ran : goal.returns-in-None-clause-ran
 returns-in-None-clause-ran g c =
     let means = c.in-Ok.ensures.plan in
-    let begun = c.run_in_memory.ensures.began _ _ means in
-    over-memory _ _ _ _ _ begun means (rw c.in-None.is at (sym c.in-Ok.ensures.db)) (c.run_in_memory.ensures.ran begun)
+    over-memory _ _ _ _ _ c.run_in_memory.ensures.began means (rw c.in-None.is at (sym c.in-Ok.ensures.db)) (c.run_in_memory.ensures.ran _ means)
 
 pub returns-in-Err-Line-clause-ran : goal.returns-in-Err-Line-clause-ran
 returns-in-Err-Line-clause-ran g c = by-line _ _ (rw c.in-Err-Line.field-0-is at c.in-Err-Line.ensures.none)

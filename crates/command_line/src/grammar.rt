@@ -1,0 +1,131 @@
+// The program's own command line, as clap's parser takes it, and its parse of words.
+
+ghost use Rattle.std.specs.Prelude.{◌≡◌, IfErr, IfOk, false};
+ghost use Rattle.clap.specs.Words.{app_of, new_app, with_subcommand};
+ghost use Rattle.clap.specs.declared.builder.command.Command.TheViews.{out-Command};
+ghost use Rattle.command_line.specs.Program.{IsParse, IsRefused, operand_app, options_app, program, report_apps};
+ghost use Rattle.command_line.specs.Program.{run_apps, serve_app, with_commands, words_of};
+
+use clap::error::ErrorKind;
+use clap::{Arg, ArgAction, ArgMatches, Command};
+use std::alloc::{AllocError, Global};
+
+// The command line: its options, the commands that are no reports, and those of reports.
+fn program_command<'a>(alloc: Global) -> Result<Command<'a>, AllocError>
+    ensures { IfOk result (λ c. app_of c ≡ program) }
+{
+    let with_runs = with_runs(alloc, options_command(alloc)?)?;
+    Ok(with_reports(alloc, with_runs)?.subcommand_required(true))
+}
+
+// The command line's options.
+fn options_command<'a>(alloc: Global) -> Result<Command<'a>, AllocError>
+    ensures { IfOk result (λ c. app_of c ≡ options_app) }
+{
+    let today = Arg::new(alloc, "today")
+        .long("today")
+        .required(true)
+        .action(ArgAction::Set);
+    let with_day = Command::new(alloc, "cashier_cli").arg(today)?;
+    let db = Arg::new(alloc, "db").long("db").action(ArgAction::Set);
+    with_day.arg(db)
+}
+
+// A command line with the commands that are no reports behind its own.
+fn with_runs<'a>(alloc: Global, command: Command<'a>) -> Result<Command<'a>, AllocError>
+    ensures { IfOk result (λ c. app_of c ≡ with_commands (app_of command.entry) run_apps) }
+{
+    let with_sheet = with_bare(alloc, command, "sheet")?;
+    let with_import = with_operand(alloc, with_sheet, "import", "FILE")?;
+    let with_stream = with_bare(alloc, with_import, "stream")?;
+    with_serve(alloc, with_stream)
+}
+
+// A command line with the commands of reports behind its own.
+fn with_reports<'a>(alloc: Global, command: Command<'a>) -> Result<Command<'a>, AllocError>
+    ensures { IfOk result (λ c. app_of c ≡ with_commands (app_of command.entry) report_apps) }
+{
+    let with_reconcile = with_operand(alloc, command, "reconcile", "DAY")?;
+    let with_trial = with_bare(alloc, with_reconcile, "trial")?;
+    let with_journal = with_bare(alloc, with_trial, "journal")?;
+    let with_retention = with_bare(alloc, with_journal, "retention")?;
+    with_operand(alloc, with_retention, "ledger", "MATTER")
+}
+
+// A command line with a command more that has no operand.
+fn with_bare<'a>(
+    alloc: Global,
+    command: Command<'a>,
+    name: &'a str,
+) -> Result<Command<'a>, AllocError>
+    ensures { IfOk result (λ c. app_of c ≡ with_subcommand (app_of command.entry) (new_app name.now).top) }
+{
+    command.subcommand(Command::new(alloc, name))
+}
+
+// A command line with a command more that has one operand.
+fn with_operand<'a>(
+    alloc: Global,
+    command: Command<'a>,
+    name: &'a str,
+    operand: &'a str,
+) -> Result<Command<'a>, AllocError>
+    ensures { IfOk result
+        (λ c. app_of c ≡ with_subcommand (app_of command.entry) (operand_app name.now operand.now).top) }
+{
+    let behind = operand_command(alloc, name, operand)?;
+    command.subcommand(behind)
+}
+
+// A command line with the command behind it that serves connections.
+fn with_serve<'a>(alloc: Global, command: Command<'a>) -> Result<Command<'a>, AllocError>
+    ensures { IfOk result (λ c. app_of c ≡ with_subcommand (app_of command.entry) serve_app.top) }
+{
+    let behind = serve_command(alloc)?;
+    command.subcommand(behind)
+}
+
+// A command with one operand, which has to be given.
+fn operand_command<'a>(
+    alloc: Global,
+    name: &'a str,
+    operand: &'a str,
+) -> Result<Command<'a>, AllocError>
+    ensures ok { IfOk result (λ c. app_of c ≡ operand_app name.now operand.now) }
+    ensures local { IfOk result (λ c. (out-Command c).has_globals ≡ false) }
+{
+    let value = Arg::new(alloc, operand)
+        .required(true)
+        .action(ArgAction::Set);
+    Command::new(alloc, name).arg(value)
+}
+
+// The command that serves connections: its port and their count.
+fn serve_command<'a>(alloc: Global) -> Result<Command<'a>, AllocError>
+    ensures ok { IfOk result (λ c. app_of c ≡ serve_app) }
+    ensures local { IfOk result (λ c. (out-Command c).has_globals ≡ false) }
+{
+    let with_port = operand_command(alloc, "serve", "PORT")?;
+    let count = Arg::new(alloc, "COUNT")
+        .required(true)
+        .action(ArgAction::Set);
+    with_port.arg(count)
+}
+
+/// The command line's parse of words, the program's name first among them, or the kind of the error that it refuses
+/// them by, help among them.
+///
+/// `OutOfMemory` comes where a growth was refused. That it comes nowhere else can't be said here: by clap's contract a
+/// parse may end by want of memory at any words, and nothing tells whether memory was refused.
+pub fn parse<'a>(alloc: Global, words: &'a [&'a str]) -> Result<ArgMatches<'a>, ErrorKind>
+    ensures ok { IfOk result (IsParse (words_of words.entry.now)) }
+    ensures err { IfErr result (IsRefused (words_of words.entry.now)) }
+{
+    let Ok(command) = program_command(alloc) else {
+        return Err(ErrorKind::OutOfMemory);
+    };
+    match command.try_get_matches_from(words) {
+        Ok(matches) => Ok(matches),
+        Err(error) => Err(error.kind()),
+    }
+}
