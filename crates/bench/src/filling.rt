@@ -54,20 +54,35 @@ fn apply(alloc: Global, desk: &mut Desk<PlainBook>, statement: &str, day: Day) -
     Ok(())
 }
 
-// Books a deposit that the bank clears, and a payment that the lawyer approves.
-fn book_pair(alloc: Global, desk: &mut Desk<PlainBook>, pair: Pair, day: Day) -> Result<()> {
+// Imports the statement by which the bank clears an entry.
+fn clear(
+    alloc: Global,
+    desk: &mut Desk<PlainBook>,
+    matter: u32,
+    entry: u16,
+    amount: &str,
+    day: Day,
+) -> Result<()> {
+    let statement = clearing(alloc, matter, entry, amount)?;
+    apply(alloc, desk, statement.as_str(), day)
+}
+
+// Books a deposit that the bank clears.
+fn book_deposit(alloc: Global, desk: &mut Desk<PlainBook>, pair: Pair, day: Day) -> Result<()> {
     let Pair { matter, entry, .. } = pair;
     accept(alloc, desk, &booking(alloc, matter, entry)?, day)?;
-    let cleared = clearing(alloc, matter, entry, "500.00")?;
-    apply(alloc, desk, cleared.as_str(), day)?;
+    clear(alloc, desk, matter, entry, "500.00", day)
+}
 
-    let payment = entry.saturating_add(1);
+// Books a payment that the lawyer approves, and that the bank clears where it is paid.
+fn book_payment(alloc: Global, desk: &mut Desk<PlainBook>, pair: Pair, day: Day) -> Result<()> {
+    let matter = pair.matter;
+    let payment = pair.entry.saturating_add(1);
     let proposed = proposing(alloc, matter, payment, pair.instrument())?;
     accept(alloc, desk, &proposed, day)?;
     accept(alloc, desk, &approving(alloc, matter, payment)?, day)?;
     if pair.is_paid() {
-        let cleared = clearing(alloc, matter, payment, "-100.00")?;
-        apply(alloc, desk, cleared.as_str(), day)?;
+        clear(alloc, desk, matter, payment, "-100.00", day)?;
     }
     Ok(())
 }
@@ -87,9 +102,22 @@ fn book_round(
             entry: rounds.saturating_mul(2).saturating_add(1),
             before: holders.saturating_mul(rounds as u32).saturating_add(holder),
         };
-        book_pair(alloc, desk, pair, day)?;
+        book_deposit(alloc, desk, pair, day)?;
+        book_payment(alloc, desk, pair, day)?;
     }
     Ok(())
+}
+
+// Fills an empty book of a desk.
+fn fill(alloc: Global, desk: &mut Desk<PlainBook>, load: Load, day: Day) -> Result<()> {
+    for number in 1..=load.matters {
+        accept(alloc, desk, &opening(alloc, number)?, day)?;
+    }
+    for rounds in 0..load.each {
+        book_round(alloc, desk, load.matters, rounds, day)?;
+    }
+    let balances = format!(in alloc; "{HEADER}{BALANCES}")?;
+    apply(alloc, desk, balances.as_str(), day)
 }
 
 /// A book of matters of which every second holds entries, twice as many as the load says, so that there are as many
@@ -98,13 +126,6 @@ fn book_round(
 /// closing one before it, and a closing balance of the day.
 pub fn filled(alloc: Global, load: Load, day: Day) -> Result<PlainBook> {
     let mut desk = Desk::new(PlainBook::new(alloc));
-    for number in 1..=load.matters {
-        accept(alloc, &mut desk, &opening(alloc, number)?, day)?;
-    }
-    for rounds in 0..load.each {
-        book_round(alloc, &mut desk, load.matters, rounds, day)?;
-    }
-    let balances = format!(in alloc; "{HEADER}{BALANCES}")?;
-    apply(alloc, &mut desk, balances.as_str(), day)?;
+    fill(alloc, &mut desk, load, day)?;
     Ok(desk.into_book())
 }

@@ -26,6 +26,7 @@ use statement::imported;
 use std::rt::{Clock, Env};
 use streams::{Asked, ask_desk, ask_stream, handed_in};
 use trust_base::Day;
+use trust_store::PlainBook;
 use words::{Command, USAGE, command_of};
 
 const SMALL: Load = Load {
@@ -86,6 +87,21 @@ fn import(rt: &(impl AllocGlobal + Print), mebibytes: u8, day: Day) -> Result<()
     Ok(())
 }
 
+// Prints what a report of a book takes.
+fn print_report(
+    rt: &(impl AllocGlobal + Clock + Print),
+    book: &mut PlainBook,
+    report: Report,
+    day: Day,
+) -> Result<()> {
+    let measured = reported(rt, rt.alloc(), book, report, day)?;
+    println!(rt;
+        "{report:?}: {} bytes of text, {} ns",
+        measured.bytes, measured.nanoseconds
+    )?;
+    Ok(())
+}
+
 // Fills a book, and prints what a report of it takes.
 fn report(
     rt: &(impl AllocGlobal + Clock + Print),
@@ -93,18 +109,13 @@ fn report(
     report: Option<Report>,
     day: Day,
 ) -> Result<()> {
-    let alloc = rt.alloc();
-    let mut book = filled(alloc, load, day)?;
+    let mut book = filled(rt.alloc(), load, day)?;
     let Load { matters, each } = load;
     println!(rt; "{matters} matters with {each} entries each")?;
-    if let Some(report) = report {
-        let measured = reported(rt, alloc, &mut book, report, day)?;
-        println!(rt;
-            "{report:?}: {} bytes of text, {} ns",
-            measured.bytes, measured.nanoseconds
-        )?;
+    match report {
+        Some(report) => print_report(rt, &mut book, report, day),
+        None => Ok(()),
     }
-    Ok(())
 }
 
 // Prints what an ask takes at the desk and over a stream, and how often the one goes into the other.

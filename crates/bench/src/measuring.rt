@@ -6,7 +6,7 @@ use std::alloc::Global;
 use std::rt::Clock;
 use std::time::Instant;
 use trust_base::Day;
-use trust_desk::{Desk, End, Reply, RunEnd};
+use trust_desk::{Desk, End, Reply, Request, RunEnd};
 use trust_store::PlainBook;
 
 /// The deposits that were booked, and what the run of them took.
@@ -36,26 +36,53 @@ pub fn is_accepted(reply: &Reply) -> bool {
     reply.status < 300
 }
 
-/// Fails where a request of a run was not answered, or refused.
-pub fn all_made(ended: &RunEnd) -> Result<()> {
+// Fails where a request of a run was not answered, or refused.
+fn all_made(ended: &RunEnd) -> Result<()> {
     ensure!(ended.end == End::Done, "memory was refused");
     ensure!(ended.replies.iter().all(is_made), "a request was refused");
     Ok(())
 }
 
-/// Opens the matters of an empty book, and books the deposits by one run, which is measured.
-pub fn booked(rt: &impl Clock, alloc: Global, load: Load, day: Day) -> Result<Measured> {
+/// A desk over a book of matters that hold deposits.
+pub fn desk_with(alloc: Global, load: Load, day: Day) -> Result<Desk<PlainBook>> {
     let mut desk = Desk::new(PlainBook::new(alloc));
-    all_made(&desk.run(alloc, &openings(alloc, load.matters)?, day))?;
-    let requests = bookings(alloc, load)?;
+    run_all(alloc, &mut desk, &openings(alloc, load.matters)?, day)?;
+    run_all(alloc, &mut desk, &bookings(alloc, load)?, day)?;
+    Ok(desk)
+}
+
+// Runs requests that all are made, or fails.
+fn run_all(
+    alloc: Global,
+    desk: &mut Desk<PlainBook>,
+    requests: &[Request],
+    day: Day,
+) -> Result<()> {
+    all_made(&desk.run(alloc, requests, day))
+}
+
+// Runs requests that all are made, which is measured.
+fn run_measured(
+    rt: &impl Clock,
+    alloc: Global,
+    desk: &mut Desk<PlainBook>,
+    requests: &[Request],
+    day: Day,
+) -> Result<Measured> {
     let start = Instant::now(rt)?;
-    let ended = desk.run(alloc, &requests, day);
+    let ended = desk.run(alloc, requests, day);
     let taken = start.elapsed(rt)?;
     all_made(&ended)?;
     Ok(Measured {
         booked: ended.replies.len(),
         nanoseconds: taken.as_nanos(),
     })
+}
+
+/// Opens the matters of an empty book, and books the deposits by one run, which is measured.
+pub fn booked(rt: &impl Clock, alloc: Global, load: Load, day: Day) -> Result<Measured> {
+    let mut desk = desk_with(alloc, Load { each: 0, ..load }, day)?;
+    run_measured(rt, alloc, &mut desk, &bookings(alloc, load)?, day)
 }
 
 /// The middle one of three.

@@ -1,19 +1,19 @@
 // A statement of the bank that repeats one line, made as it is read, and its import.
 
-use crate::deposits::{Load, bookings, openings};
-use crate::measuring::all_made;
+use crate::deposits::Load;
+use crate::measuring::desk_with;
 use crate::payments::HEADER;
 use crate::repeated::Repeated;
 use anyhow::{Result, ensure};
 use std::alloc::{AllocError, Global};
 use trust_base::Day;
-use trust_desk::{Desk, ImportReply, ImportStop};
-use trust_store::PlainBook;
+use trust_desk::{ImportReply, ImportStop};
 
 /// The length of the repeated line, and of its text 900 bytes.
 pub const LINE_LEN: usize = 935;
 
-const ONE_DEPOSIT: Load = Load {
+/// One matter with one deposit.
+pub const ONE_DEPOSIT: Load = Load {
     matters: 1,
     each: 1,
 };
@@ -26,18 +26,10 @@ pub fn line(alloc: Global) -> Result<Vec<u8>, AllocError> {
     Ok(line)
 }
 
-/// A desk over a book of one matter with one deposit.
-pub fn desk_of_one(alloc: Global, day: Day) -> Result<Desk<PlainBook>> {
-    let mut desk = Desk::new(PlainBook::new(alloc));
-    all_made(&desk.run(alloc, &openings(alloc, ONE_DEPOSIT.matters)?, day))?;
-    all_made(&desk.run(alloc, &bookings(alloc, ONE_DEPOSIT)?, day))?;
-    Ok(desk)
-}
-
 /// Imports a statement of whole lines that is at most this many bytes long: the first line clears a deposit, and the
 /// others come again.
 pub fn imported(alloc: Global, len: usize, day: Day) -> Result<ImportReply> {
-    let mut desk = desk_of_one(alloc, day)?;
+    let mut desk = desk_with(alloc, ONE_DEPOSIT, day)?;
     let line = line(alloc)?;
     let lines = len.saturating_sub(HEADER.len()) / LINE_LEN;
     let reader = Repeated::new(HEADER.as_bytes(), &line, lines, 1);

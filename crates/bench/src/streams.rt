@@ -1,10 +1,10 @@
 // Asks over a stream beside the same asks by the desk, and what a stream of large messages holds.
 
-use crate::deposits::{Load, bookings, openings, showing};
-use crate::measuring::{Measured, all_made, is_accepted};
-use crate::messages::{Accepted, depositing, front_of, showing_often};
+use crate::deposits::{Load, bookings, showing};
+use crate::measuring::{Measured, desk_with, is_accepted};
+use crate::messages::{Accepted, Front, depositing, front_of, showing_often};
 use crate::repeated::Repeated;
-use crate::statement::{desk_of_one, line};
+use crate::statement::{ONE_DEPOSIT, line};
 use anyhow::{Result, ensure};
 use portal_http::{StreamEnd, serve_stream};
 use std::alloc::Global;
@@ -23,21 +23,14 @@ pub enum Asked {
     Show,
 }
 
-// A desk over a book of one matter, with so many deposits.
-fn desk_with(alloc: Global, each: u16, day: Day) -> Result<Desk<PlainBook>> {
-    let mut desk = Desk::new(PlainBook::new(alloc));
-    all_made(&desk.run(alloc, &openings(alloc, 1)?, day))?;
-    all_made(&desk.run(alloc, &bookings(alloc, Load { matters: 1, each })?, day))?;
-    Ok(desk)
-}
-
 impl Asked {
     // A desk at which it is asked so many times.
     fn desk(self, alloc: Global, count: u16, day: Day) -> Result<Desk<PlainBook>> {
-        match self {
-            Asked::Deposit => desk_with(alloc, 0, day),
-            Asked::Show => desk_with(alloc, count, day),
-        }
+        let each = match self {
+            Asked::Deposit => 0,
+            Asked::Show => count,
+        };
+        desk_with(alloc, Load { matters: 1, each }, day)
     }
 
     // The requests that ask it.
@@ -80,6 +73,24 @@ fn answer_each(alloc: Global, desk: &mut Desk<PlainBook>, requests: &[Request], 
     accepted
 }
 
+// Answers each request, which is measured.
+fn answers_measured(
+    rt: &impl Clock,
+    alloc: Global,
+    desk: &mut Desk<PlainBook>,
+    requests: &[Request],
+    day: Day,
+) -> Result<Measured> {
+    let start = Instant::now(rt)?;
+    let accepted = answer_each(alloc, desk, requests, day);
+    let taken = start.elapsed(rt)?;
+    ensure!(accepted == requests.len(), "a request was refused");
+    Ok(Measured {
+        booked: accepted,
+        nanoseconds: taken.as_nanos(),
+    })
+}
+
 /// Asks it so many times of the desk itself, and measures that.
 pub fn ask_desk(
     rt: &impl Clock,
@@ -89,13 +100,25 @@ pub fn ask_desk(
     day: Day,
 ) -> Result<Measured> {
     let mut desk = ask.desk(alloc, count, day)?;
-    let requests = ask.requests(alloc, count)?;
+    answers_measured(rt, alloc, &mut desk, &ask.requests(alloc, count)?, day)
+}
+
+// Serves a stream of so many messages, which is measured.
+fn stream_measured(
+    rt: &impl Clock,
+    alloc: Global,
+    desk: &mut Desk<PlainBook>,
+    messages: &str,
+    count: usize,
+    day: Day,
+) -> Result<Measured> {
+    let mut answers = Accepted { count: 0 };
     let start = Instant::now(rt)?;
-    let accepted = answer_each(alloc, &mut desk, &requests, day);
+    let _end = serve_stream(alloc, messages.as_bytes(), &mut answers, desk, day);
     let taken = start.elapsed(rt)?;
-    ensure!(accepted == count as usize, "a request was refused");
+    ensure!(answers.count == count, "a message was refused");
     Ok(Measured {
-        booked: accepted,
+        booked: answers.count,
         nanoseconds: taken.as_nanos(),
     })
 }
@@ -110,15 +133,7 @@ pub fn ask_stream(
 ) -> Result<Measured> {
     let mut desk = ask.desk(alloc, count, day)?;
     let messages = ask.messages(alloc, count)?;
-    let mut answers = Accepted { count: 0 };
-    let start = Instant::now(rt)?;
-    let _end = serve_stream(alloc, messages.as_bytes(), &mut answers, &mut desk, day);
-    let taken = start.elapsed(rt)?;
-    ensure!(answers.count == count as usize, "a message was refused");
-    Ok(Measured {
-        booked: answers.count,
-        nanoseconds: taken.as_nanos(),
-    })
+    stream_measured(rt, alloc, &mut desk, messages.as_str(), count as usize, day)
 }
 
 /// A stream that was served, and the length of each of its messages.
@@ -129,15 +144,18 @@ pub struct Streamed {
     pub end: StreamEnd,
 }
 
-/// Serves a stream of messages that each hand in a statement and are at most so many bytes long. They are made as they
-/// are read, so that the stream alone holds one.
-pub fn handed_in(alloc: Global, size: usize, count: usize, day: Day) -> Result<Streamed> {
-    let mut desk = desk_of_one(alloc, day)?;
-    let front = front_of(alloc, size)?;
-    let line = line(alloc)?;
+// Serves a stream of messages of a front and its lines.
+fn serve_front(
+    alloc: Global,
+    desk: &mut Desk<PlainBook>,
+    front: &Front,
+    line: &[u8],
+    count: usize,
+    day: Day,
+) -> Result<Streamed> {
     let mut answers = Accepted { count: 0 };
-    let reader = Repeated::new(front.text.as_bytes(), &line, front.lines, count);
-    let end = serve_stream(alloc, reader, &mut answers, &mut desk, day);
+    let reader = Repeated::new(front.text.as_bytes(), line, front.lines, count);
+    let end = serve_stream(alloc, reader, &mut answers, desk, day);
     ensure!(answers.count == count, "a message was refused");
     let lines = line.len().saturating_mul(front.lines);
     Ok(Streamed {
@@ -145,4 +163,13 @@ pub fn handed_in(alloc: Global, size: usize, count: usize, day: Day) -> Result<S
         len: lines.saturating_add(front.text.len()),
         end,
     })
+}
+
+/// Serves a stream of messages that each hand in a statement and are at most so many bytes long. They are made as they
+/// are read, so that the stream alone holds one.
+pub fn handed_in(alloc: Global, size: usize, count: usize, day: Day) -> Result<Streamed> {
+    let mut desk = desk_with(alloc, ONE_DEPOSIT, day)?;
+    let front = front_of(alloc, size)?;
+    let line = line(alloc)?;
+    serve_front(alloc, &mut desk, &front, &line, count, day)
 }
