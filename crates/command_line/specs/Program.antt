@@ -87,7 +87,7 @@ pub record IsParse (words : List Text) (matches : ArgMatches) : Type 0 where
 abbrev pub FailsAs : List Text → ErrorKind → Type 0
 FailsAs words k = IsAmong k (fault_of program words)
 
--- and so it does, or memory was wanting
+-- they are refused by an error of this kind; a want of memory may come before what is wrong with them
 abbrev pub IsRefused : List Text → ErrorKind → Type 0
 IsRefused words k = (k ≡ kind.OutOfMemory) ⊎ FailsAs words k
 
