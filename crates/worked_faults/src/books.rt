@@ -11,9 +11,9 @@ use crate::pieces::{
 use crate::sheets::{OPENING, STRAY_LINES, STRAYS};
 use portal_http::{Input, Next, Routes, read_message, request_of, write_reply};
 use std::alloc::Global;
-use trust_base::TrialWriter;
+use trust_base::{Day, TrialWriter};
 use trust_desk::{Desk, Request};
-use trust_store::{PlainBook, RefusingBook};
+use trust_store::{Book, PlainBook, RefusingBook};
 
 // Messages of which each is answered so, over a book that refuses the write of a number, counted from 1.
 type Refused = (&'static str, u64, &'static [Piece]);
@@ -81,13 +81,16 @@ fn new_desk(alloc: Global, nth: u64) -> Desk<RefusingBook<PlainBook>> {
     Desk::new(RefusingBook::new(PlainBook::new(alloc), nth))
 }
 
-// Each message is a stream of its own. Fails with the place of the first that is answered otherwise.
-fn are_served(alloc: Global, nth: u64, messages: &[Piece]) -> Result<(), Wrong> {
-    let day = today()?;
-    let mut desk = new_desk(alloc, nth);
+/// Sends messages to a desk, each as a stream of its own. Fails with the place of the first that is answered otherwise.
+pub(crate) fn serve<B: Book>(
+    alloc: Global,
+    desk: &mut Desk<B>,
+    day: Day,
+    messages: &[Piece],
+) -> Result<(), Wrong> {
     for (place, (message, answer)) in messages.iter().enumerate() {
         let message = message.as_bytes();
-        let told = read_at(alloc, &mut desk, day, Given::Stream, message, 7, (ALL, ALL));
+        let told = read_at(alloc, desk, day, Given::Stream, message, 7, (ALL, ALL));
         if told.end != End::Done {
             return Err(Wrong::End(place as u64, told.end));
         }
@@ -96,6 +99,11 @@ fn are_served(alloc: Global, nth: u64, messages: &[Piece]) -> Result<(), Wrong> 
         }
     }
     Ok(())
+}
+
+fn are_served(alloc: Global, nth: u64, messages: &[Piece]) -> Result<(), Wrong> {
+    let mut desk = new_desk(alloc, nth);
+    serve(alloc, &mut desk, today()?, messages)
 }
 
 #[test]
@@ -158,64 +166,120 @@ fn a_run_goes_on_behind_a_refused_write(rt: HostRuntime) {
     }
 }
 
-// What is given to the cashier's program over a book that refuses the first write, and given again.
-type Again = (Given, &'static str, &'static str, Piece);
+// What is given to the cashier's program over a book that refuses the write of a number, behind messages, and what is
+// given then.
+#[derive(Clone, Copy)]
+struct Again {
+    nth: u64,
+    before: &'static [Piece],
+    given: Given,
+    first: Piece,
+    second: Piece,
+}
 
-const AGAIN: &[Again] = &[
-    (
-        Given::Sheet,
+const REFUSED_LINE: &str = "503 {\"name\":\"Store\",\"refusal\":29}\n";
+
+const SHEET: Again = Again {
+    nth: 1,
+    before: &[],
+    given: Given::Sheet,
+    first: (
         "show,000001,\nopen,000001,,Ada Chen,lee\nshow,000001,\n",
         "404 {\"name\":\"NoMatter\",\"refusal\":8}\n503 {\"name\":\"Store\",\"refusal\":29}\n",
-        OPENING,
+    ),
+    second: OPENING,
+};
+
+const STATEMENT: Again = Again {
+    given: Given::Statement,
+    first: (STRAY_LINES, REFUSED_LINE),
+    second: STRAYS,
+    ..SHEET
+};
+
+const FIRM_STATEMENT: &str = "date,reference,bank_ref,amount,text\n2024-01-10,FIRM,B2,10.00,\n";
+
+const CLOSING_STATEMENT: &str = "date,reference,bank_ref,amount,text\n2024-01-10,CLOSE,,300.00,\n";
+
+const CLEARING_STATEMENT: &str =
+    "date,reference,bank_ref,amount,text\n2024-01-10,M000001-0001,B1,500.00,\n";
+
+const ONE_APPLIED: &str =
+    "200 {\"applied\":1,\"exceptions\":0,\"repeated\":0,\"statement\":null,\"unreadable\":0}\n";
+
+const ONE_CLOSING: &str =
+    "200 {\"applied\":1,\"exceptions\":0,\"repeated\":0,\"statement\":\"2024-01-10\",\"unreadable\":0}\n";
+
+const AGAIN: &[(&str, Again)] = &[
+    ("a sheet", SHEET),
+    ("a statement of strays", STATEMENT),
+    (
+        "a statement of a line of the firm's own",
+        Again {
+            first: (FIRM_STATEMENT, REFUSED_LINE),
+            second: (FIRM_STATEMENT, ONE_APPLIED),
+            ..STATEMENT
+        },
     ),
     (
-        Given::Statement,
-        STRAY_LINES,
-        "503 {\"name\":\"Store\",\"refusal\":29}\n",
-        STRAYS,
+        "a statement of a balance",
+        Again {
+            first: (CLOSING_STATEMENT, REFUSED_LINE),
+            second: (CLOSING_STATEMENT, ONE_CLOSING),
+            ..STATEMENT
+        },
+    ),
+    (
+        "a statement that clears a deposit",
+        Again {
+            nth: 3,
+            before: &[OPEN, DEPOSIT],
+            first: (CLEARING_STATEMENT, REFUSED_LINE),
+            second: (CLEARING_STATEMENT, ONE_APPLIED),
+            ..STATEMENT
+        },
     ),
 ];
 
-// Ends where the store is refused, and goes through when it is given again; so many bytes at a read and at a write.
+// It ends where the store is refused, and goes through when it is given again; so many bytes at a read and at a write.
 fn is_done_again(alloc: Global, again: &Again, most: usize) -> Result<bool, Wrong> {
-    let (given, text, answers, (text_again, answers_again)) = *again;
     let day = today()?;
-    let mut desk = new_desk(alloc, 1);
+    let mut desk = new_desk(alloc, again.nth);
+    serve(alloc, &mut desk, day, again.before)?;
+    let (text, answers) = again.first;
     let first = read_at(
         alloc,
         &mut desk,
         day,
-        given,
+        again.given,
         text.as_bytes(),
         most,
         (ALL, ALL),
     );
+    if first.end != End::Store || first.written.as_slice() != answers.as_bytes() {
+        return Ok(false);
+    }
+    let (text, answers) = again.second;
     let second = read_at(
         alloc,
         &mut desk,
         day,
-        given,
-        text_again.as_bytes(),
+        again.given,
+        text.as_bytes(),
         most,
         (ALL, ALL),
     );
-    Ok(
-        first.end == End::Store
-            && first.written.as_slice() == answers.as_bytes()
-            && second.end == End::Done
-            && second.written.as_slice() == answers_again.as_bytes(),
-    )
+    Ok(second.end == End::Done && second.written.as_slice() == answers.as_bytes())
 }
 
 #[test]
 fn a_sheet_and_a_statement_end_where_the_store_is_refused(rt: HostRuntime) {
-    for again in AGAIN {
-        for most in [1, 7, 8_192] {
+    for (what, again) in AGAIN {
+        for most in [1, 2, 7, 8_192] {
             assert_eq!(rt;
                 is_done_again(rt.alloc(), again, most),
                 Ok(true),
-                "{:?}, {most} bytes",
-                again.0
+                "{what}, {most} bytes"
             );
         }
     }

@@ -1,7 +1,7 @@
 // Statements of which a read fails: what was read before is applied, and the rest when the statement is sent again.
 
+use crate::books::serve;
 use crate::fronts::{Wrong, today};
-use crate::given::{ALL, End, Given, read_at};
 use crate::pieces::{
     DEPOSIT, OPEN, OTHER_DEPOSIT, OTHER_OPEN, Piece, SHOWN_CLEARED, SHOWN_OTHER_HELD,
 };
@@ -10,30 +10,6 @@ use std::io::Read;
 use trust_base::{Day, TrialReader};
 use trust_desk::{Desk, ImportReply, ImportStop};
 use trust_store::PlainBook;
-
-// Fails where messages, each a stream of its own, are not answered so.
-fn serve(
-    alloc: Global,
-    desk: &mut Desk<PlainBook>,
-    day: Day,
-    messages: &[Piece],
-) -> Result<(), Wrong> {
-    for (place, (message, answer)) in messages.iter().enumerate() {
-        let told = read_at(
-            alloc,
-            desk,
-            day,
-            Given::Stream,
-            message.as_bytes(),
-            512,
-            (ALL, ALL),
-        );
-        if told.end != End::Done || told.written.as_slice() != answer.as_bytes() {
-            return Err(Wrong::Written(place as u64, told.written.len()));
-        }
-    }
-    Ok(())
-}
 
 // A desk where deposits of two matters are booked.
 fn booked(alloc: Global, day: Day) -> Result<Desk<PlainBook>, Wrong> {

@@ -100,7 +100,7 @@ fn long_statement(alloc: Global, len: usize) -> Result<Vec<u8>, AllocError> {
 fn reads_of_the_greatest_length(rt: HostRuntime) -> Result<(), Fail> {
     let alloc = rt.alloc();
     let long = long_statement(alloc, MOST_BYTES + 1)?;
-    let whole = &long[..MOST_BYTES];
+    let (whole, _) = long.split_at(long.len().saturating_sub(1));
     // Bytes at a read, and the reads that succeed: no more are made than there are bytes, and one for the end.
     for (bytes, most, good, letters) in [
         (whole, 8_192, 600, *b".."),
