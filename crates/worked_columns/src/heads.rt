@@ -28,66 +28,18 @@ const PURGED: HeadColumns<'static> = HeadColumns {
     ..HEAD
 };
 
+#[rattlefmt::skip]
 const HEADS: &[Row<HeadColumns<'static>>] = &[
     ("an open matter", Read, HEAD),
-    (
-        "a closed matter",
-        Read,
-        HeadColumns {
-            closed: 20_240_112,
-            ..HEAD
-        },
-    ),
+    ("a closed matter", Read, HeadColumns { closed: 20_240_112, ..HEAD }),
     ("a purged matter", Read, PURGED),
-    (
-        "no client",
-        Store,
-        HeadColumns {
-            client: b"",
-            ..HEAD
-        },
-    ),
-    (
-        "a line end in the client",
-        Store,
-        HeadColumns {
-            client: b"Ada\n",
-            ..HEAD
-        },
-    ),
-    (
-        "opened on 30 February",
-        Store,
-        HeadColumns {
-            opened: NO_DAY,
-            ..HEAD
-        },
-    ),
-    (
-        "closed on 30 February",
-        Store,
-        HeadColumns {
-            closed: NO_DAY,
-            ..HEAD
-        },
-    ),
+    ("no client", Store, HeadColumns { client: b"", ..HEAD }),
+    ("a line end in the client", Store, HeadColumns { client: b"Ada\n", ..HEAD }),
+    ("opened on 30 February", Store, HeadColumns { opened: NO_DAY, ..HEAD }),
+    ("closed on 30 February", Store, HeadColumns { closed: NO_DAY, ..HEAD }),
     ("no last day", Store, HeadColumns { last: 0, ..HEAD }),
-    (
-        "purged, with a client",
-        Store,
-        HeadColumns {
-            purged: 20_290_113,
-            ..HEAD
-        },
-    ),
-    (
-        "purged on 30 February",
-        Store,
-        HeadColumns {
-            purged: NO_DAY,
-            ..PURGED
-        },
-    ),
+    ("purged, with a client", Store, HeadColumns { purged: 20_290_113, ..HEAD }),
+    ("purged on 30 February", Store, HeadColumns { purged: NO_DAY, ..PURGED }),
 ];
 
 #[test]
@@ -120,89 +72,20 @@ const AT_THE_MOST: HeadColumns<'static> = HeadColumns {
     ..HEAD
 };
 
+#[rattlefmt::skip]
 const TOTALS: &[Row<HeadColumns<'static>>] = &[
     ("a matter with totals", Read, WITH_TOTALS),
     ("all at their most", Read, AT_THE_MOST),
-    (
-        "an entry too many",
-        Store,
-        HeadColumns {
-            entries: 10_000,
-            ..WITH_TOTALS
-        },
-    ),
-    (
-        "entries below zero",
-        Store,
-        HeadColumns {
-            entries: -1,
-            ..WITH_TOTALS
-        },
-    ),
-    (
-        "a cent too much held",
-        Store,
-        HeadColumns {
-            held: MOST + 1,
-            ..WITH_TOTALS
-        },
-    ),
-    (
-        "held below zero",
-        Store,
-        HeadColumns {
-            held: -1,
-            ..WITH_TOTALS
-        },
-    ),
-    (
-        "a cent too much available",
-        Store,
-        HeadColumns {
-            available: MOST + 1,
-            ..WITH_TOTALS
-        },
-    ),
-    (
-        "disputed below zero",
-        Store,
-        HeadColumns {
-            disputed: -1,
-            ..WITH_TOTALS
-        },
-    ),
-    (
-        "a cent too much of fees",
-        Store,
-        HeadColumns {
-            fees: MOST + 1,
-            ..WITH_TOTALS
-        },
-    ),
-    (
-        "claims below zero",
-        Store,
-        HeadColumns {
-            claims: -1,
-            ..WITH_TOTALS
-        },
-    ),
-    (
-        "the greatest number as pending",
-        Store,
-        HeadColumns {
-            pending: i64::MAX,
-            ..WITH_TOTALS
-        },
-    ),
-    (
-        "the least number as pending",
-        Store,
-        HeadColumns {
-            pending: i64::MIN,
-            ..WITH_TOTALS
-        },
-    ),
+    ("an entry too many", Store, HeadColumns { entries: 10_000, ..WITH_TOTALS }),
+    ("entries below zero", Store, HeadColumns { entries: -1, ..WITH_TOTALS }),
+    ("a cent too much held", Store, HeadColumns { held: MOST + 1, ..WITH_TOTALS }),
+    ("held below zero", Store, HeadColumns { held: -1, ..WITH_TOTALS }),
+    ("a cent too much available", Store, HeadColumns { available: MOST + 1, ..WITH_TOTALS }),
+    ("disputed below zero", Store, HeadColumns { disputed: -1, ..WITH_TOTALS }),
+    ("a cent too much of fees", Store, HeadColumns { fees: MOST + 1, ..WITH_TOTALS }),
+    ("claims below zero", Store, HeadColumns { claims: -1, ..WITH_TOTALS }),
+    ("the greatest number as pending", Store, HeadColumns { pending: i64::MAX, ..WITH_TOTALS }),
+    ("the least number as pending", Store, HeadColumns { pending: i64::MIN, ..WITH_TOTALS }),
 ];
 
 #[test]

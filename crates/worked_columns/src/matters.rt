@@ -99,6 +99,23 @@ const PAYMENT: EntryColumns<'static> = EntryColumns {
     ..PROPOSED
 };
 
+const OF_DEPOSIT: EntryColumns<'static> = EntryColumns {
+    fund: 1,
+    of_no: 1,
+    ..PAYMENT
+};
+
+const ISSUED_EARLY: EntryColumns<'static> = EntryColumns {
+    state: 3,
+    day_done: 20_240_109,
+    ..PAYMENT
+};
+
+const ISSUED_LATE: EntryColumns<'static> = EntryColumns {
+    day_done: 20_240_113,
+    ..ISSUED_EARLY
+};
+
 // A payment of its second entry, a claim that is settled a day after the payment was proposed.
 const PAYMENT_OF_CLAIM: EntryColumns<'static> = EntryColumns {
     no: 3,
@@ -115,6 +132,8 @@ const SETTLED: EntryColumns<'static> = EntryColumns {
     day_done: 20_240_111,
     ..CLAIM
 };
+
+const OF_CLAIM: &[EntryColumns<'static>] = &[CLEARED, SETTLED, PAYMENT_OF_CLAIM];
 
 // Its second entry: a fee of 200.00, of which nothing is left.
 const ADVICE: EntryColumns<'static> = EntryColumns {
@@ -159,6 +178,12 @@ const CLOSED: HeadColumns<'static> = HeadColumns {
     ..HEAD
 };
 
+const AT_REST: Whole = Whole {
+    head: Some(CLOSED),
+    lawyers: &[b"ada", b"lee"],
+    entries: &[CANCELLED_IN_TIME],
+};
+
 const STUB: HeadColumns<'static> = HeadColumns {
     client: b"",
     closed: 20_240_229,
@@ -173,158 +198,25 @@ const PURGED: Whole = Whole {
     entries: &[],
 };
 
+#[rattlefmt::skip]
 const MATTERS: &[Row<Whole>] = &[
     ("open, with an entry of each kind", Read, OPEN),
-    (
-        "a payment of a deposit as of a fee",
-        Store,
-        Whole {
-            entries: &[
-                CLEARED,
-                EntryColumns {
-                    fund: 1,
-                    of_no: 1,
-                    ..PAYMENT
-                },
-            ],
-            ..OPEN
-        },
-    ),
-    (
-        "a payment issued before it was booked",
-        Store,
-        Whole {
-            entries: &[
-                CLEARED,
-                EntryColumns {
-                    state: 3,
-                    day_done: 20_240_109,
-                    ..PAYMENT
-                },
-            ],
-            ..OPEN
-        },
-    ),
-    (
-        "a payment issued after the last day",
-        Store,
-        Whole {
-            entries: &[
-                CLEARED,
-                EntryColumns {
-                    state: 3,
-                    day_done: 20_240_113,
-                    ..PAYMENT
-                },
-            ],
-            ..OPEN
-        },
-    ),
-    (
-        "a fee beside no deposit",
-        Store,
-        Whole {
-            entries: &[EntryColumns { no: 1, ..ADVICE }],
-            ..OPEN
-        },
-    ),
-    (
-        "a payment of a claim before that was settled",
-        Store,
-        Whole {
-            entries: &[CLEARED, SETTLED, PAYMENT_OF_CLAIM],
-            ..OPEN
-        },
-    ),
-    (
-        "a person with two seats",
-        Store,
-        Whole {
-            lawyers: &[b"lee", b"lee"],
-            ..OPEN
-        },
-    ),
-    (
-        "seats out of order",
-        Store,
-        Whole {
-            lawyers: &[b"lee", b"ada"],
-            ..OPEN
-        },
-    ),
-    (
-        "closed with money",
-        Store,
-        Whole {
-            head: Some(CLOSED),
-            ..OPEN
-        },
-    ),
-    (
-        "closed after the last day",
-        Store,
-        Whole {
-            head: Some(HeadColumns {
-                closed: 20_240_113,
-                ..HEAD
-            }),
-            ..EMPTY
-        },
-    ),
-    (
-        "entries without a head",
-        Store,
-        Whole {
-            head: None,
-            lawyers: &[],
-            ..OPEN
-        },
-    ),
-    (
-        "closed, with a deposit that was cancelled",
-        Read,
-        Whole {
-            head: Some(CLOSED),
-            lawyers: &[b"ada", b"lee"],
-            entries: &[CANCELLED_IN_TIME],
-        },
-    ),
+    ("a payment of a deposit as of a fee", Store, Whole { entries: &[CLEARED, OF_DEPOSIT], ..OPEN }),
+    ("a payment issued before it was booked", Store, Whole { entries: &[CLEARED, ISSUED_EARLY], ..OPEN }),
+    ("a payment issued after the last day", Store, Whole { entries: &[CLEARED, ISSUED_LATE], ..OPEN }),
+    ("a fee beside no deposit", Store, Whole { entries: &[EntryColumns { no: 1, ..ADVICE }], ..OPEN }),
+    ("a payment proposed before its claim was settled", Store, Whole { entries: OF_CLAIM, ..OPEN }),
+    ("a person with two seats", Store, Whole { lawyers: &[b"lee", b"lee"], ..OPEN }),
+    ("seats out of order", Store, Whole { lawyers: &[b"lee", b"ada"], ..OPEN }),
+    ("closed with money", Store, Whole { head: Some(CLOSED), ..OPEN }),
+    ("closed after the last day", Store, Whole { head: Some(HeadColumns { closed: 20_240_113, ..HEAD }), ..EMPTY }),
+    ("entries without a head", Store, Whole { head: None, lawyers: &[], ..OPEN }),
+    ("closed, with a deposit that was cancelled", Read, AT_REST),
     ("purged", Read, PURGED),
-    (
-        "purged, never closed",
-        Store,
-        Whole {
-            head: Some(HeadColumns { closed: 0, ..STUB }),
-            ..PURGED
-        },
-    ),
-    (
-        "purged on another day than the last",
-        Store,
-        Whole {
-            head: Some(HeadColumns {
-                purged: 20_290_228,
-                ..STUB
-            }),
-            ..PURGED
-        },
-    ),
-    (
-        "purged, with a seat",
-        Store,
-        Whole {
-            lawyers: &[b"lee"],
-            ..PURGED
-        },
-    ),
-    (
-        "purged, with an entry",
-        Store,
-        Whole {
-            entries: &[CANCELLED_IN_TIME],
-            ..PURGED
-        },
-    ),
+    ("purged, never closed", Store, Whole { head: Some(HeadColumns { closed: 0, ..STUB }), ..PURGED }),
+    ("purged before the last day", Store, Whole { head: Some(HeadColumns { purged: 20_290_228, ..STUB }), ..PURGED }),
+    ("purged, with a seat", Store, Whole { lawyers: &[b"lee"], ..PURGED }),
+    ("purged, with an entry", Store, Whole { entries: &[CANCELLED_IN_TIME], ..PURGED }),
 ];
 
 #[test]
@@ -414,31 +306,11 @@ impl Stored for Part {
     }
 }
 
+#[rattlefmt::skip]
 const PARTS: &[Row<Part>] = &[
-    (
-        "the most is available",
-        Read,
-        Part {
-            available: MOST,
-            left: 0,
-        },
-    ),
-    (
-        "a cent too much is available",
-        Store,
-        Part {
-            available: MOST + 1,
-            left: 0,
-        },
-    ),
-    (
-        "a cent too much is left",
-        Store,
-        Part {
-            available: 0,
-            left: MOST + 1,
-        },
-    ),
+    ("the most is available", Read, Part { available: MOST, left: 0 }),
+    ("a cent too much is available", Store, Part { available: MOST + 1, left: 0 }),
+    ("a cent too much is left", Store, Part { available: 0, left: MOST + 1 }),
 ];
 
 #[test]
