@@ -1,4 +1,5 @@
-//! Worked columns of rows, good ones and spoiled ones, as tests.
+//! Rows as the columns of their tables: good ones are read, and those of which one column is spoiled are Store. Each row
+//! of a table below has the words for what it is.
 #![tactic(auto)]
 
 #[cfg(test)]
@@ -6,6 +7,8 @@ mod entries;
 #[cfg(test)]
 mod heads;
 #[cfg(test)]
-mod spoiled;
+mod lines;
 #[cfg(test)]
-mod stored;
+mod matters;
+#[cfg(test)]
+mod table;

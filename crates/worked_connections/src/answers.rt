@@ -1,6 +1,6 @@
 // Clients that take their answers slowly, and clocks that can't be read.
 
-use crate::cases::{Case, DONE, Wrong, serves};
+use crate::cases::{Case, DONE, serves};
 use crate::clients::{Arrival, Client, GOOD, MESSAGE, QUIET};
 
 // A client that takes nothing.
@@ -9,19 +9,6 @@ const TAKES_NOTHING: Client = Client {
     answered: (0, ""),
     ..GOOD
 };
-
-#[test]
-fn who_takes_nothing_has_a_minute(rt: HostRuntime) -> Result<(), Wrong> {
-    serves(
-        rt.alloc(),
-        &Case {
-            arrivals: &[Arrival::Comes(TAKES_NOTHING), Arrival::Comes(GOOD)],
-            lines: "WriteFault\nEnded\n",
-            passed: 60_000,
-            ..DONE
-        },
-    )
-}
 
 // A client that takes a byte each second.
 const TAKES_BYTES: Client = Client {
@@ -32,19 +19,6 @@ const TAKES_BYTES: Client = Client {
     ),
     ..GOOD
 };
-
-#[test]
-fn a_head_that_is_taken_slowly_has_a_minute(rt: HostRuntime) -> Result<(), Wrong> {
-    serves(
-        rt.alloc(),
-        &Case {
-            arrivals: &[Arrival::Comes(TAKES_BYTES), Arrival::Comes(GOOD)],
-            lines: "WriteFault\nEnded\n",
-            passed: 60_000,
-            ..DONE
-        },
-    )
-}
 
 // A client that sends three messages at once, and takes each head and each body after 59 seconds.
 const TAKES_LATE: Client = Client {
@@ -61,19 +35,6 @@ GET /matters/000001 HTTP/1.1\r\nx-caller: bob\r\n\r\n",
     ..QUIET
 };
 
-#[test]
-fn answers_to_one_read_do_not_share_a_minute(rt: HostRuntime) -> Result<(), Wrong> {
-    serves(
-        rt.alloc(),
-        &Case {
-            arrivals: &[Arrival::Comes(TAKES_LATE)],
-            lines: "Ended\n",
-            passed: 354_000,
-            ..DONE
-        },
-    )
-}
-
 // A client that sends a message in two pieces.
 const IN_TWO: Client = Client {
     sends: &[(1, 0, b"GET /matters/000001 "), (1, 9_000, b"HTTP/1.1\r\n")],
@@ -88,11 +49,37 @@ const UNANSWERED: Client = Client {
     ..QUIET
 };
 
-#[test]
-fn a_clock_that_fails_ends_the_connection(rt: HostRuntime) -> Result<(), Wrong> {
-    serves(
-        rt.alloc(),
-        &Case {
+const CASES: &[(&str, Case<'static>)] = &[
+    (
+        "who takes nothing has a minute",
+        Case {
+            arrivals: &[Arrival::Comes(TAKES_NOTHING), Arrival::Comes(GOOD)],
+            lines: "WriteFault\nEnded\n",
+            passed: 60_000,
+            ..DONE
+        },
+    ),
+    (
+        "a head that is taken slowly has a minute",
+        Case {
+            arrivals: &[Arrival::Comes(TAKES_BYTES), Arrival::Comes(GOOD)],
+            lines: "WriteFault\nEnded\n",
+            passed: 60_000,
+            ..DONE
+        },
+    ),
+    (
+        "answers to one read do not share a minute",
+        Case {
+            arrivals: &[Arrival::Comes(TAKES_LATE)],
+            lines: "Ended\n",
+            passed: 354_000,
+            ..DONE
+        },
+    ),
+    (
+        "a clock that fails ends the connection",
+        Case {
             arrivals: &[
                 Arrival::Comes(GOOD),
                 Arrival::Comes(IN_TWO),
@@ -103,5 +90,12 @@ fn a_clock_that_fails_ends_the_connection(rt: HostRuntime) -> Result<(), Wrong> 
             lines: "Ended\nReadFault\nWriteFault\nEnded\n",
             ..DONE
         },
-    )
+    ),
+];
+
+#[test]
+fn each_slow_answer_has_its_end(rt: HostRuntime) {
+    for (what, case) in CASES {
+        assert_eq!(rt; serves(rt.alloc(), case), Ok(()), "{what}");
+    }
 }

@@ -39,7 +39,7 @@ pub(crate) const DONE: Case<'static> = Case {
 };
 
 /// Why a test fails.
-#[derive(Clone, Copy, Debug)]
+#[derive(Clone, Copy, PartialEq, Eq, Debug)]
 pub(crate) enum Wrong {
     /// A word stands for no day.
     Day,

@@ -1,6 +1,6 @@
 // Clients that are refused in the middle of a message.
 
-use crate::cases::{Case, DONE, Wrong, serves};
+use crate::cases::{Case, DONE, serves};
 use crate::clients::{Arrival, BAD_MESSAGE, Client, GOOD, QUIET};
 
 const TOO_LARGE: &str = "HTTP/1.1 413 Payload Too Large\r\ncontent-type: application/json\r\n\
@@ -18,18 +18,6 @@ const MUCH: Client = Client {
     ..QUIET
 };
 
-#[test]
-fn so_many_bytes_are_dropped(rt: HostRuntime) -> Result<(), Wrong> {
-    serves(
-        rt.alloc(),
-        &Case {
-            arrivals: &[Arrival::Comes(MUCH), Arrival::Comes(GOOD)],
-            lines: "BadFraming\nEnded\n",
-            ..DONE
-        },
-    )
-}
-
 // A client that goes on slowly.
 const SLOWLY: Client = Client {
     sends: &[(1, 0, HEAD), (9, 300, PART)],
@@ -37,19 +25,6 @@ const SLOWLY: Client = Client {
     read: 258,
     ..QUIET
 };
-
-#[test]
-fn a_second_is_what_the_close_takes(rt: HostRuntime) -> Result<(), Wrong> {
-    serves(
-        rt.alloc(),
-        &Case {
-            arrivals: &[Arrival::Comes(SLOWLY), Arrival::Comes(GOOD)],
-            lines: "BadFraming\nEnded\n",
-            passed: 1_000,
-            ..DONE
-        },
-    )
-}
 
 // A client that ends by itself.
 const ENDS: Client = Client {
@@ -62,15 +37,38 @@ const ENDS: Client = Client {
     ..QUIET
 };
 
-#[test]
-fn the_close_ends_with_the_client(rt: HostRuntime) -> Result<(), Wrong> {
-    serves(
-        rt.alloc(),
-        &Case {
+const CASES: &[(&str, Case<'static>)] = &[
+    (
+        "so many bytes are dropped",
+        Case {
+            arrivals: &[Arrival::Comes(MUCH), Arrival::Comes(GOOD)],
+            lines: "BadFraming\nEnded\n",
+            ..DONE
+        },
+    ),
+    (
+        "a second is what the close takes",
+        Case {
+            arrivals: &[Arrival::Comes(SLOWLY), Arrival::Comes(GOOD)],
+            lines: "BadFraming\nEnded\n",
+            passed: 1_000,
+            ..DONE
+        },
+    ),
+    (
+        "the close ends with the client",
+        Case {
             arrivals: &[Arrival::Comes(ENDS), Arrival::Comes(GOOD)],
             lines: "BadFraming\nEnded\n",
             passed: 900,
             ..DONE
         },
-    )
+    ),
+];
+
+#[test]
+fn each_close_has_its_end(rt: HostRuntime) {
+    for (what, case) in CASES {
+        assert_eq!(rt; serves(rt.alloc(), case), Ok(()), "{what}");
+    }
 }

@@ -1,20 +1,8 @@
 // How serving ends, and what the operator is told.
 
-use crate::cases::{Case, DONE, Wrong, serves};
+use crate::cases::{Case, DONE, serves};
 use crate::clients::{Arrival, BAD_MESSAGE, Behind, Client, GOOD, MESSAGE, QUIET};
 use portal_server::ServeEnd;
-
-#[test]
-fn a_message_is_answered(rt: HostRuntime) -> Result<(), Wrong> {
-    serves(
-        rt.alloc(),
-        &Case {
-            arrivals: &[Arrival::Comes(GOOD)],
-            lines: "Ended\n",
-            ..DONE
-        },
-    )
-}
 
 // A client that sends a message and what is none.
 const BAD: Client = Client {
@@ -43,11 +31,18 @@ const TAKES_NOTHING: Client = Client {
     ..GOOD
 };
 
-#[test]
-fn each_end_has_its_line(rt: HostRuntime) -> Result<(), Wrong> {
-    serves(
-        rt.alloc(),
-        &Case {
+const CASES: &[(&str, Case<'static>)] = &[
+    (
+        "a message is answered",
+        Case {
+            arrivals: &[Arrival::Comes(GOOD)],
+            lines: "Ended\n",
+            ..DONE
+        },
+    ),
+    (
+        "each end has its line",
+        Case {
             arrivals: &[
                 Arrival::Comes(QUIET),
                 Arrival::Comes(BAD),
@@ -58,26 +53,18 @@ fn each_end_has_its_line(rt: HostRuntime) -> Result<(), Wrong> {
             lines: "Ended\nBadFraming\nLimit\nReadFault\nWriteFault\n",
             ..DONE
         },
-    )
-}
-
-#[test]
-fn a_client_that_is_gone_counts(rt: HostRuntime) -> Result<(), Wrong> {
-    serves(
-        rt.alloc(),
-        &Case {
+    ),
+    (
+        "a client that is gone counts",
+        Case {
             arrivals: &[Arrival::Aborted, Arrival::Comes(GOOD), Arrival::Aborted],
             lines: "ReadFault\nEnded\nReadFault\n",
             ..DONE
         },
-    )
-}
-
-#[test]
-fn a_refused_accept_ends_serving(rt: HostRuntime) -> Result<(), Wrong> {
-    serves(
-        rt.alloc(),
-        &Case {
+    ),
+    (
+        "a refused accept ends serving",
+        Case {
             arrivals: &[
                 Arrival::Comes(GOOD),
                 Arrival::Refused,
@@ -87,14 +74,10 @@ fn a_refused_accept_ends_serving(rt: HostRuntime) -> Result<(), Wrong> {
             lines: "Ended\n",
             ..DONE
         },
-    )
-}
-
-#[test]
-fn a_line_that_cannot_be_written_ends_serving(rt: HostRuntime) -> Result<(), Wrong> {
-    serves(
-        rt.alloc(),
-        &Case {
+    ),
+    (
+        "a line that cannot be written ends serving",
+        Case {
             arrivals: &[
                 Arrival::Comes(GOOD),
                 Arrival::Comes(BAD),
@@ -105,5 +88,12 @@ fn a_line_that_cannot_be_written_ends_serving(rt: HostRuntime) -> Result<(), Wro
             lines: "Ended\nBadFram",
             ..DONE
         },
-    )
+    ),
+];
+
+#[test]
+fn each_end_has_its_line(rt: HostRuntime) {
+    for (what, case) in CASES {
+        assert_eq!(rt; serves(rt.alloc(), case), Ok(()), "{what}");
+    }
 }

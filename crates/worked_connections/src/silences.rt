@@ -1,6 +1,6 @@
 // Clients that are silent, slow or gone.
 
-use crate::cases::{Case, DONE, Wrong, serves};
+use crate::cases::{Case, DONE, serves};
 use crate::clients::{Arrival, Behind, Client, GOOD, MESSAGE, QUIET};
 
 // A client that says nothing.
@@ -9,39 +9,12 @@ const SILENT: Client = Client {
     ..QUIET
 };
 
-#[test]
-fn who_says_nothing_has_ten_seconds(rt: HostRuntime) -> Result<(), Wrong> {
-    serves(
-        rt.alloc(),
-        &Case {
-            arrivals: &[Arrival::Comes(SILENT), Arrival::Comes(GOOD)],
-            lines: "ReadFault\nEnded\n",
-            passed: 10_000,
-            ..DONE
-        },
-    )
-}
-
 // A client that sends a byte of a head each second.
 const BYTES: Client = Client {
     sends: &[(100, 1_000, b"G")],
     read: 61,
     ..QUIET
 };
-
-// The first byte comes in the silence, and the others have a minute.
-#[test]
-fn a_byte_a_second_has_a_minute(rt: HostRuntime) -> Result<(), Wrong> {
-    serves(
-        rt.alloc(),
-        &Case {
-            arrivals: &[Arrival::Comes(BYTES), Arrival::Comes(GOOD)],
-            lines: "ReadFault\nEnded\n",
-            passed: 61_000,
-            ..DONE
-        },
-    )
-}
 
 // A client that sends all of a head but its end, and its end just too late.
 const LATE: Client = Client {
@@ -62,19 +35,6 @@ const IN_TIME: Client = Client {
     ..GOOD
 };
 
-#[test]
-fn a_message_has_a_minute(rt: HostRuntime) -> Result<(), Wrong> {
-    serves(
-        rt.alloc(),
-        &Case {
-            arrivals: &[Arrival::Comes(LATE), Arrival::Comes(IN_TIME)],
-            lines: "ReadFault\nEnded\n",
-            passed: 120_000,
-            ..DONE
-        },
-    )
-}
-
 // A client that sends a message every nine seconds.
 const OFTEN: Client = Client {
     sends: &[(20, 9_000, MESSAGE)],
@@ -82,19 +42,6 @@ const OFTEN: Client = Client {
     read: 940,
     ..QUIET
 };
-
-#[test]
-fn pauses_between_messages_do_not_add_up(rt: HostRuntime) -> Result<(), Wrong> {
-    serves(
-        rt.alloc(),
-        &Case {
-            arrivals: &[Arrival::Comes(OFTEN)],
-            lines: "Ended\n",
-            passed: 180_000,
-            ..DONE
-        },
-    )
-}
 
 // A client that resets its connection within a head.
 const RESETS: Client = Client {
@@ -104,14 +51,57 @@ const RESETS: Client = Client {
     ..QUIET
 };
 
-#[test]
-fn who_resets_ends_its_own_connection_alone(rt: HostRuntime) -> Result<(), Wrong> {
-    serves(
-        rt.alloc(),
-        &Case {
+const CASES: &[(&str, Case<'static>)] = &[
+    (
+        "who says nothing has ten seconds",
+        Case {
+            arrivals: &[Arrival::Comes(SILENT), Arrival::Comes(GOOD)],
+            lines: "ReadFault\nEnded\n",
+            passed: 10_000,
+            ..DONE
+        },
+    ),
+    // The first byte comes in the silence, and the others have a minute.
+    (
+        "a byte a second has a minute",
+        Case {
+            arrivals: &[Arrival::Comes(BYTES), Arrival::Comes(GOOD)],
+            lines: "ReadFault\nEnded\n",
+            passed: 61_000,
+            ..DONE
+        },
+    ),
+    (
+        "a message has a minute",
+        Case {
+            arrivals: &[Arrival::Comes(LATE), Arrival::Comes(IN_TIME)],
+            lines: "ReadFault\nEnded\n",
+            passed: 120_000,
+            ..DONE
+        },
+    ),
+    (
+        "pauses between messages do not add up",
+        Case {
+            arrivals: &[Arrival::Comes(OFTEN)],
+            lines: "Ended\n",
+            passed: 180_000,
+            ..DONE
+        },
+    ),
+    (
+        "who resets ends its own connection alone",
+        Case {
             arrivals: &[Arrival::Comes(RESETS), Arrival::Comes(GOOD)],
             lines: "ReadFault\nEnded\n",
             ..DONE
         },
-    )
+    ),
+];
+
+#[test]
+fn each_silence_has_its_end(rt: HostRuntime) {
+    for (what, case) in CASES {
+        assert_eq!(rt; serves(rt.alloc(), case), Ok(()), "{what}");
+    }
 }

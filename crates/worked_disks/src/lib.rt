@@ -1,15 +1,17 @@
 //! A stop at each call of a book's two files in memory, as tests: what is found then is the rows before or the rows
-//! after.
+//! after. And a book that is made once in its database.
 #![tactic(auto)]
 
 #[cfg(test)]
-mod asks;
+mod files;
 #[cfg(test)]
-mod disks;
+mod opened;
 #[cfg(test)]
 mod runs;
 #[cfg(test)]
 mod stops;
+#[cfg(test)]
+mod talk;
 #[cfg(test)]
 mod works;
 #[cfg(test)]

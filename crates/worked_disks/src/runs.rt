@@ -1,8 +1,8 @@
 // A run on files that may stop, and one on what is left.
 
-use crate::asks::{answer, shown};
-use crate::disks::{Calls, Image, UNSTOPPED, closed, files_of, image_of, no_bytes, opened};
-use crate::works::{Work, ask_all};
+use crate::files::{Calls, Image, UNSTOPPED, closed, files_of, image_of, no_bytes, opened};
+use crate::talk::{are_answered, shown};
+use crate::works::{ACCEPTED, Work};
 use crate::wrong::Wrong;
 use sql_book::{OpenFault, SqlBook};
 use sqlite::{Alter, Connection};
@@ -11,8 +11,8 @@ use std::alloc::Global;
 use trust_desk::Desk;
 use trust_store::Book;
 
-// A book is made in a connection's database.
-fn made<S: Alter + Drop>(
+/// A book that is made in a connection's database.
+pub(crate) fn made<S: Alter + Drop>(
     alloc: Global,
     conn: Connection<S>,
 ) -> Result<SqlBook<S>, (OpenFault, Connection<S>)> {
@@ -22,8 +22,8 @@ fn made<S: Alter + Drop>(
     SqlBook::make(alloc, conn)
 }
 
-// The book that a connection's database holds.
-fn adopted<S: Alter + Drop>(
+/// The book that a connection's database holds.
+pub(crate) fn adopted<S: Alter + Drop>(
     alloc: Global,
     conn: Connection<S>,
 ) -> Result<SqlBook<S>, (OpenFault, Connection<S>)> {
@@ -33,54 +33,63 @@ fn adopted<S: Alter + Drop>(
     SqlBook::adopt(alloc, conn)
 }
 
-// Sends what is under way to a book; whether it is answered with this status.
-fn sent<B: Book + Drop>(
-    alloc: Global,
-    book: B,
-    work: &Work,
-    status: u16,
-) -> Result<(bool, B), Wrong> {
-    let Some(asked) = work.request else {
-        return Ok((true, book));
-    };
-    let mut desk = Desk::new(book);
-    let reply = answer(alloc, &mut desk, asked)?;
-    Ok((reply.status == status, desk.into_book()))
+// What is done with a book: it is made, or taken, and sent messages of which each is answered so.
+#[derive(Clone, Copy)]
+struct Doing<'a> {
+    is_new: bool,
+    messages: &'a [&'a str],
+    status: &'a str,
 }
 
-// Does what is under way; whether all of it was done.
+// Sends a book its messages; whether all were answered as is wanted.
+fn sent<B: Book + Drop>(alloc: Global, book: B, doing: &Doing<'_>) -> (bool, B) {
+    let mut desk = Desk::new(book);
+    let done = are_answered(alloc, &mut desk, doing.messages, doing.status);
+    (done, desk.into_book())
+}
+
+// Whether all of it was done.
 fn done<S: Alter + Drop>(
     alloc: Global,
     conn: Connection<S>,
-    work: &Work,
-) -> Result<(bool, Connection<S>), Wrong> {
-    let taken = match work.request {
-        Some(_) => adopted(alloc, conn),
-        None => made(alloc, conn),
+    doing: &Doing<'_>,
+) -> (bool, Connection<S>) {
+    let taken = if doing.is_new {
+        made(alloc, conn)
+    } else {
+        adopted(alloc, conn)
     };
     match taken {
         Ok(book) => {
-            let (done, book) = sent(alloc, book, work, work.statuses.0)?;
-            Ok((done, book.release()))
+            let (done, book) = sent(alloc, book, doing);
+            (done, book.release())
         }
-        Err((_, conn)) => Ok((false, conn)),
+        Err((_, conn)) => (false, conn),
     }
 }
 
-// Opens files, does what is under way and closes them; whether no stop was met.
-fn ran<D: Disk + Drop>(
-    alloc: Global,
-    files: Files<D>,
-    work: &Work,
-) -> Result<(bool, Files<D>), Wrong> {
+// Opens files, does it and closes them; whether no stop was met.
+fn ran<D: Disk + Drop>(alloc: Global, files: Files<D>, doing: &Doing<'_>) -> (bool, Files<D>) {
     match opened(alloc, files) {
         Ok(conn) => {
-            let (done, conn) = done(alloc, conn, work)?;
+            let (done, conn) = done(alloc, conn, doing);
             let (closed, files) = closed(conn);
-            Ok((done && closed, files))
+            (done && closed, files)
         }
-        Err(files) => Ok((false, files)),
+        Err(files) => (false, files),
     }
+}
+
+// The same on files of these bytes, each of which stops behind so many calls, and the bytes that are left.
+fn left(
+    alloc: Global,
+    image: &Image,
+    doing: &Doing<'_>,
+    calls: Calls,
+) -> Result<(bool, Image), Wrong> {
+    let files = files_of(alloc, image, calls)?;
+    let (whole, files) = ran(alloc, files, doing);
+    Ok((whole, image_of(alloc, &files)?))
 }
 
 /// A run on files of these bytes, each of which stops behind so many calls: whether no stop was met, and the bytes that
@@ -91,30 +100,27 @@ pub(crate) fn stopped(
     work: &Work,
     calls: Calls,
 ) -> Result<(bool, Image), Wrong> {
-    let files = files_of(alloc, image, calls)?;
-    let (whole, files) = ran(alloc, files, work)?;
-    Ok((whole, image_of(alloc, &files)?))
+    let doing = Doing {
+        is_new: work.message.is_empty(),
+        messages: work.message,
+        status: work.statuses.0,
+    };
+    left(alloc, image, &doing, calls)
 }
 
-// What a book shows, and the book.
-fn looked_at<B: Book + Drop>(alloc: Global, book: B) -> Result<(Vec<u8>, B), Wrong> {
-    let mut desk = Desk::new(book);
-    let shown = shown(alloc, &mut desk)?;
-    Ok((shown, desk.into_book()))
-}
-
-// The book of a connection and what it shows. Where there is none it is made, and nothing is shown.
-fn found<S: Alter + Drop>(
-    alloc: Global,
-    conn: Connection<S>,
-) -> Result<(Vec<u8>, SqlBook<S>), Wrong> {
-    match adopted(alloc, conn) {
-        Ok(book) => looked_at(alloc, book),
-        Err((OpenFault::NotABook, conn)) => match made(alloc, conn) {
-            Ok(book) => Ok((Vec::new(alloc), book)),
-            Err((fault, _)) => Err(Wrong::Opening(fault)),
-        },
-        Err((fault, _)) => Err(Wrong::Opening(fault)),
+/// The bytes of the files before the work.
+pub(crate) fn image_before(alloc: Global, work: &Work) -> Result<Image, Wrong> {
+    if work.message.is_empty() {
+        return Ok(no_bytes(alloc));
+    }
+    let doing = Doing {
+        is_new: true,
+        messages: work.before,
+        status: ACCEPTED,
+    };
+    match left(alloc, &no_bytes(alloc), &doing, UNSTOPPED)? {
+        (true, image) => Ok(image),
+        (false, _) => Err(Wrong::Setup),
     }
 }
 
@@ -130,17 +136,23 @@ pub(crate) fn is_last(pictures: &[Vec<u8>], place: usize) -> bool {
     place == pictures.len().saturating_sub(1)
 }
 
-// Finds the place of what a connection's book shows among the pictures, and sends what was under way again: the book
-// then shows the last.
-fn mended<S: Alter + Drop>(
+// Finds the place among the pictures of what a book shows, which is nothing where it was just made, and sends what was
+// under way again: the book then shows the last.
+fn mended<B: Book + Drop>(
     alloc: Global,
-    conn: Connection<S>,
+    book: B,
+    is_new: bool,
     work: &Work,
     pictures: &[Vec<u8>],
     calls: Calls,
 ) -> Result<usize, Wrong> {
-    let (shown, book) = found(alloc, conn)?;
-    let Some(place) = place_of(pictures, &shown) else {
+    let mut desk = Desk::new(book);
+    let before = if is_new {
+        Vec::new(alloc)
+    } else {
+        shown(alloc, &mut desk)?
+    };
+    let Some(place) = place_of(pictures, &before) else {
         return Err(Wrong::Stopped(calls.0, calls.1));
     };
     let status = if is_last(pictures, place) {
@@ -148,11 +160,29 @@ fn mended<S: Alter + Drop>(
     } else {
         work.statuses.0
     };
-    let (sent, book) = sent(alloc, book, work, status)?;
-    let (shown, _) = looked_at(alloc, book)?;
-    match place_of(pictures, &shown) {
-        Some(end) if sent && is_last(pictures, end) => Ok(place),
+    let is_sent = are_answered(alloc, &mut desk, work.message, status);
+    let after = shown(alloc, &mut desk)?;
+    match place_of(pictures, &after) {
+        Some(end) if is_sent && is_last(pictures, end) => Ok(place),
         _ => Err(Wrong::SentAgain(calls.0, calls.1)),
+    }
+}
+
+// The same of a connection's book. Where there is none it is made.
+fn mended_in<S: Alter + Drop>(
+    alloc: Global,
+    conn: Connection<S>,
+    work: &Work,
+    pictures: &[Vec<u8>],
+    calls: Calls,
+) -> Result<usize, Wrong> {
+    match adopted(alloc, conn) {
+        Ok(book) => mended(alloc, book, false, work, pictures, calls),
+        Err((OpenFault::NotABook, conn)) => match made(alloc, conn) {
+            Ok(book) => mended(alloc, book, true, work, pictures, calls),
+            Err(_) => Err(Wrong::Setup),
+        },
+        Err(_) => Err(Wrong::Setup),
     }
 }
 
@@ -165,7 +195,7 @@ fn mended_on<D: Disk + Drop>(
     calls: Calls,
 ) -> Result<usize, Wrong> {
     match opened(alloc, files) {
-        Ok(conn) => mended(alloc, conn, work, pictures, calls),
+        Ok(conn) => mended_in(alloc, conn, work, pictures, calls),
         Err(_) => Err(Wrong::Stopped(calls.0, calls.1)),
     }
 }
@@ -174,52 +204,11 @@ fn mended_on<D: Disk + Drop>(
 /// Fails where it shows none, or, sent what was under way again, not the last.
 pub(crate) fn recovered(
     alloc: Global,
-    left: &Image,
+    image: &Image,
     work: &Work,
     pictures: &[Vec<u8>],
     calls: Calls,
 ) -> Result<usize, Wrong> {
-    let files = files_of(alloc, left, UNSTOPPED)?;
+    let files = files_of(alloc, image, UNSTOPPED)?;
     mended_on(alloc, files, work, pictures, calls)
-}
-
-// Makes a book and asks it what it is asked before the work.
-fn prepared<S: Alter + Drop>(
-    alloc: Global,
-    conn: Connection<S>,
-    work: &Work,
-) -> Result<Connection<S>, Wrong> {
-    match made(alloc, conn) {
-        Ok(book) => {
-            let mut desk = Desk::new(book);
-            ask_all(alloc, &mut desk, work.before)?;
-            Ok(desk.into_book().release())
-        }
-        Err((fault, _)) => Err(Wrong::Opening(fault)),
-    }
-}
-
-// The same on files, which are closed.
-fn prepared_on<D: Disk + Drop>(
-    alloc: Global,
-    files: Files<D>,
-    work: &Work,
-) -> Result<Files<D>, Wrong> {
-    match opened(alloc, files) {
-        Ok(conn) => {
-            let (closed, files) = closed(prepared(alloc, conn, work)?);
-            if closed { Ok(files) } else { Err(Wrong::Disk) }
-        }
-        Err(_) => Err(Wrong::Disk),
-    }
-}
-
-/// The bytes of the files before the work.
-pub(crate) fn image_before(alloc: Global, work: &Work) -> Result<Image, Wrong> {
-    if work.request.is_none() {
-        return Ok(no_bytes(alloc));
-    }
-    let files = files_of(alloc, &no_bytes(alloc), UNSTOPPED)?;
-    let files = prepared_on(alloc, files, work)?;
-    image_of(alloc, &files)
 }

@@ -1,6 +1,6 @@
 // A stop behind each number of calls, of the log and of the database's file.
 
-use crate::disks::{Calls, Image, UNSTOPPED};
+use crate::files::{Calls, Image, UNSTOPPED};
 use crate::runs::{image_before, is_last, recovered, stopped};
 use crate::works::{
     APPROVAL, DEPOSIT, LINE, MAKING, OPENING, PROPOSAL, STATEMENT, Work, pictures_of,

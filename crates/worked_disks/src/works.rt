@@ -1,111 +1,154 @@
 // What is under way as a file stops, and what a stop may leave.
 
-use crate::asks::{Asked, answer, shown};
+use crate::talk::{are_answered, shown};
 use crate::wrong::Wrong;
 use std::alloc::Global;
 use trust_desk::Desk;
-use trust_store::{Book, PlainBook};
-use worked_steps::texts;
+use trust_store::PlainBook;
 
 /// What is under way as a file stops.
 #[derive(Clone, Copy)]
 pub(crate) struct Work {
-    /// What the book was asked before.
-    pub(crate) before: &'static [Asked],
-    /// What it is asked, or None where it is made.
-    pub(crate) request: Option<Asked>,
-    /// Its answer's status, and that of one sent again when all is done.
-    pub(crate) statuses: (u16, u16),
-    /// Requests that do the same in parts, each of them whole: a stop may come between two.
-    pub(crate) parts: &'static [Asked],
+    /// What the book was sent before.
+    pub(crate) before: &'static [&'static str],
+    /// The one message that it is sent, or none where it is made.
+    pub(crate) message: &'static [&'static str],
+    /// How its answer begins, and that to the same sent again when all is done.
+    pub(crate) statuses: (&'static str, &'static str),
+    /// Messages that do the same in parts, each of them whole: a stop may come between two.
+    pub(crate) parts: &'static [&'static str],
 }
 
-const OPENING_ASKED: Asked = ("", texts::OPEN);
+/// How the answer to what is accepted begins.
+pub(crate) const ACCEPTED: &str = "HTTP/1.1 20";
 
-const DEPOSIT_ASKED: Asked = ("", texts::DEPOSIT);
+const OK: &str = "HTTP/1.1 200 ";
 
-const PROPOSAL_ASKED: Asked = ("", texts::PROPOSE);
+const CREATED: &str = "HTTP/1.1 201 ";
 
-const APPROVAL_ASKED: Asked = ("lee", "approve,000001,0002");
+const CONFLICT: &str = "HTTP/1.1 409 ";
 
-// The line that clears the deposit.
-const CLEARING: Asked = ("", "lines,2024-02-01,M000001-0001,B1,500.00,\n");
+// The cashier opens matter 000001 for Ada Chen with the lawyer lee.
+const OPEN: &str = concat!(
+    "POST /matters/000001/open HTTP/1.1\r\nx-caller: cashier\r\ncontent-length: 36\r\n\r\n",
+    r#"{"client":"Ada Chen","lawyer":"lee"}"#
+);
 
-const OWN_MONEY: Asked = ("", "lines,2024-02-01,FIRM,B2,200.00,own money\n");
+// The cashier books a retainer of 500.00 as its first entry.
+const BOOK: &str = concat!(
+    "POST /matters/000001/entries/0001/deposit HTTP/1.1\r\nx-caller: cashier\r\ncontent-length: 64\r\n\r\n",
+    r#"{"amount":"500.00","source":"Ada Chen","description":"retainer"}"#
+);
 
-const FEE: Asked = ("", "lines,2024-02-01,FIRM,B3,-12.00,account fee\n");
+// The cashier proposes a payment of 100.00 as its second entry.
+const PROPOSE: &str = concat!(
+    "POST /matters/000001/entries/0002/propose HTTP/1.1\r\nx-caller: cashier\r\ncontent-length: 101\r\n\r\n",
+    r#"{"amount":"100.00","from":"general","payee":"Court Clerk","purpose":"filing fee","instrument":"1001"}"#
+);
 
-// The three lines in one statement.
-const LINES: Asked = (
-    "",
-    "lines,2024-02-01,FIRM,B2,200.00,own money\n\
-     2024-02-01,FIRM,B3,-12.00,account fee\n\
-     2024-02-01,M000001-0001,B1,500.00,\n",
+// The lawyer approves it.
+const APPROVE: &str = concat!(
+    "POST /matters/000001/entries/0002/approve HTTP/1.1\r\nx-caller: lee\r\ncontent-length: 2\r\n\r\n",
+    r#"{}"#
+);
+
+// A statement of the firm's own money.
+const OWN_MONEY: &str = concat!(
+    "POST /firm/statements HTTP/1.1\r\nx-caller: cashier\r\ncontent-length: 72\r\n\r\n",
+    "date,reference,bank_ref,amount,text\n",
+    "2024-02-01,FIRM,B2,200.00,own money\n"
+);
+
+// One of a charge of the bank's.
+const CHARGE: &str = concat!(
+    "POST /firm/statements HTTP/1.1\r\nx-caller: cashier\r\ncontent-length: 74\r\n\r\n",
+    "date,reference,bank_ref,amount,text\n",
+    "2024-02-01,FIRM,B3,-12.00,account fee\n"
+);
+
+// One of the line that clears the retainer.
+const CLEAR: &str = concat!(
+    "POST /firm/statements HTTP/1.1\r\nx-caller: cashier\r\ncontent-length: 71\r\n\r\n",
+    "date,reference,bank_ref,amount,text\n",
+    "2024-02-01,M000001-0001,B1,500.00,\n"
+);
+
+// One of the three lines.
+const ALL_LINES: &str = concat!(
+    "POST /firm/statements HTTP/1.1\r\nx-caller: cashier\r\ncontent-length: 145\r\n\r\n",
+    "date,reference,bank_ref,amount,text\n",
+    "2024-02-01,FIRM,B2,200.00,own money\n",
+    "2024-02-01,FIRM,B3,-12.00,account fee\n",
+    "2024-02-01,M000001-0001,B1,500.00,\n"
 );
 
 pub(crate) const MAKING: Work = Work {
     before: &[],
-    request: None,
-    statuses: (0, 0),
+    message: &[],
+    statuses: ("", ""),
     parts: &[],
 };
 
 pub(crate) const OPENING: Work = Work {
     before: &[],
-    request: Some(OPENING_ASKED),
-    statuses: (201, 409),
-    parts: &[OPENING_ASKED],
+    message: &[OPEN],
+    statuses: (CREATED, CONFLICT),
+    parts: &[OPEN],
 };
 
 pub(crate) const DEPOSIT: Work = Work {
-    before: &[OPENING_ASKED],
-    request: Some(DEPOSIT_ASKED),
-    statuses: (201, 200),
-    parts: &[DEPOSIT_ASKED],
+    before: &[OPEN],
+    message: &[BOOK],
+    statuses: (CREATED, OK),
+    parts: &[BOOK],
 };
 
 pub(crate) const LINE: Work = Work {
-    before: &[OPENING_ASKED, DEPOSIT_ASKED],
-    request: Some(CLEARING),
-    statuses: (200, 200),
-    parts: &[CLEARING],
+    before: &[OPEN, BOOK],
+    message: &[CLEAR],
+    statuses: (OK, OK),
+    parts: &[CLEAR],
 };
 
 pub(crate) const PROPOSAL: Work = Work {
-    before: &[OPENING_ASKED, DEPOSIT_ASKED, CLEARING],
-    request: Some(PROPOSAL_ASKED),
-    statuses: (201, 200),
-    parts: &[PROPOSAL_ASKED],
+    before: &[OPEN, BOOK, CLEAR],
+    message: &[PROPOSE],
+    statuses: (CREATED, OK),
+    parts: &[PROPOSE],
 };
 
 pub(crate) const APPROVAL: Work = Work {
-    before: &[OPENING_ASKED, DEPOSIT_ASKED, CLEARING, PROPOSAL_ASKED],
-    request: Some(APPROVAL_ASKED),
-    statuses: (200, 409),
-    parts: &[APPROVAL_ASKED],
+    before: &[OPEN, BOOK, CLEAR, PROPOSE],
+    message: &[APPROVE],
+    statuses: (OK, CONFLICT),
+    parts: &[APPROVE],
 };
 
-/// Three lines: the firm's own money, money of nobody, and a deposit that is cleared.
+/// Three lines: the firm's own money, a charge of the bank's, and a deposit that is cleared.
 pub(crate) const STATEMENT: Work = Work {
-    before: &[OPENING_ASKED, DEPOSIT_ASKED],
-    request: Some(LINES),
-    statuses: (200, 200),
-    parts: &[OWN_MONEY, FEE, CLEARING],
+    before: &[OPEN, BOOK],
+    message: &[ALL_LINES],
+    statuses: (OK, OK),
+    parts: &[OWN_MONEY, CHARGE, CLEAR],
 };
 
-/// Asks one after the other. Fails at an answer that refuses.
-pub(crate) fn ask_all<B: Book>(
-    alloc: Global,
-    desk: &mut Desk<B>,
-    requests: &[Asked],
-) -> Result<(), Wrong> {
-    for asked in requests {
-        let reply = answer(alloc, desk, *asked)?;
-        if reply.status != 200 && reply.status != 201 {
-            return Err(Wrong::Answer(reply.status));
-        }
+fn push(pictures: &mut Vec<Vec<u8>>, picture: Vec<u8>) -> Result<(), Wrong> {
+    match pictures.push(picture) {
+        Ok(()) => Ok(()),
+        Err(_) => Err(Wrong::Setup),
     }
-    Ok(())
+}
+
+// Sends messages, and shows what is left. Fails where one of them is not accepted.
+fn shown_behind(
+    alloc: Global,
+    desk: &mut Desk<PlainBook>,
+    messages: &[&str],
+) -> Result<Vec<u8>, Wrong> {
+    if !are_answered(alloc, desk, messages, ACCEPTED) {
+        return Err(Wrong::Setup);
+    }
+    shown(alloc, desk)
 }
 
 /// What a stop may leave, as a book of lists shows it: the rows before, and those after each part. Before its making a
@@ -113,14 +156,12 @@ pub(crate) fn ask_all<B: Book>(
 pub(crate) fn pictures_of(alloc: Global, work: &Work) -> Result<Vec<Vec<u8>>, Wrong> {
     let mut desk = Desk::new(PlainBook::new(alloc));
     let mut pictures = Vec::new(alloc);
-    if work.request.is_none() {
-        pictures.push(Vec::new(alloc))?;
+    if work.message.is_empty() {
+        push(&mut pictures, Vec::new(alloc))?;
     }
-    ask_all(alloc, &mut desk, work.before)?;
-    pictures.push(shown(alloc, &mut desk)?)?;
+    push(&mut pictures, shown_behind(alloc, &mut desk, work.before)?)?;
     for part in work.parts {
-        ask_all(alloc, &mut desk, &[*part])?;
-        pictures.push(shown(alloc, &mut desk)?)?;
+        push(&mut pictures, shown_behind(alloc, &mut desk, &[*part])?)?;
     }
     Ok(pictures)
 }

@@ -1,23 +1,14 @@
 // Why a test fails.
 
-use sql_book::OpenFault;
-use std::alloc::{AllocError, AllocFailed};
+use std::alloc::AllocError;
 use std::io;
-use worked_steps::StepFault;
 
 /// Why a test fails.
-#[derive(Clone, Copy, Debug)]
+#[derive(Clone, Copy, PartialEq, Eq, Debug)]
 pub(crate) enum Wrong {
-    /// A record or a day stands for nothing.
-    Step(StepFault),
-    /// A growth was refused.
-    Memory,
-    /// A file in memory failed, or a database on files that are not stopped.
-    Disk,
-    /// A book was not made, or not taken.
-    Opening(OpenFault),
-    /// A request is answered with this status.
-    Answer(u16),
+    /// A growth was refused, a file in memory failed that is not stopped, a book on such files was not made or taken, or
+    /// what is asked before the work was refused.
+    Setup,
     /// After a stop behind so many calls of the log and of the database the book holds other rows, or none is there.
     Stopped(u64, u64),
     /// After such a stop what was under way is sent again, and the book holds other rows than without a stop.
@@ -32,24 +23,12 @@ pub(crate) enum Wrong {
 
 impl From<AllocError> for Wrong {
     fn from(_: AllocError) -> Wrong {
-        Wrong::Memory
-    }
-}
-
-impl<T: Drop> From<AllocFailed<T>> for Wrong {
-    fn from(_: AllocFailed<T>) -> Wrong {
-        Wrong::Memory
-    }
-}
-
-impl From<StepFault> for Wrong {
-    fn from(fault: StepFault) -> Wrong {
-        Wrong::Step(fault)
+        Wrong::Setup
     }
 }
 
 impl From<io::Error> for Wrong {
     fn from(_: io::Error) -> Wrong {
-        Wrong::Disk
+        Wrong::Setup
     }
 }

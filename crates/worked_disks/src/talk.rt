@@ -1,0 +1,54 @@
+// Messages to a book, and what it answers.
+
+use crate::wrong::Wrong;
+use portal_http::serve_stream;
+use std::alloc::Global;
+use trust_base::{Day, TrialWriter};
+use trust_desk::Desk;
+use trust_store::Book;
+
+/// The answer to a message on 2024-02-01.
+pub(crate) fn answer<B: Book>(alloc: Global, desk: &mut Desk<B>, message: &str) -> Vec<u8> {
+    let mut writer = TrialWriter::new(alloc, usize::MAX, u64::MAX);
+    if let Some(day) = Day::read(b"2024-02-01") {
+        serve_stream(alloc, message.as_bytes(), &mut writer, desk, day);
+    }
+    writer.written
+}
+
+/// Sends messages; whether the answer to each begins so.
+pub(crate) fn are_answered<B: Book>(
+    alloc: Global,
+    desk: &mut Desk<B>,
+    messages: &[&str],
+    status: &str,
+) -> bool {
+    for message in messages {
+        if !answer(alloc, desk, message).starts_with(status.as_bytes()) {
+            return false;
+        }
+    }
+    true
+}
+
+// The messages whose answers show the rows of a book.
+const SHOWING: &[&str] = &[
+    "GET /matters/000001 HTTP/1.1\r\nx-caller: cashier\r\n\r\n",
+    "GET /matters/000001/accounting HTTP/1.1\r\nx-caller: cashier\r\n\r\n",
+    "GET /firm/journal HTTP/1.1\r\nx-caller: cashier\r\n\r\n",
+    "GET /firm/trial-balance HTTP/1.1\r\nx-caller: cashier\r\n\r\n",
+];
+
+/// What a book shows of its rows: the answers to four messages, one behind the other. Fails where one is a fault of the
+/// store or of memory.
+pub(crate) fn shown<B: Book>(alloc: Global, desk: &mut Desk<B>) -> Result<Vec<u8>, Wrong> {
+    let mut text = Vec::new(alloc);
+    for message in SHOWING {
+        let told = answer(alloc, desk, message);
+        if told.is_empty() || told.starts_with(b"HTTP/1.1 503") {
+            return Err(Wrong::Setup);
+        }
+        text.extend_from_slice(&told)?;
+    }
+    Ok(text)
+}

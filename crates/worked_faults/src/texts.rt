@@ -1,0 +1,47 @@
+// What is read to the end, and what is written whole.
+
+use std::alloc::Global;
+use trust_base::{InputFault, TrialReader, TrialWriter, WriteFault, read_whole, send};
+
+const TEXT: &[u8] = b"take,000001,500.00";
+
+// What reading at most so many bytes tells, of a reader of seven bytes at each call of which so many succeed: whether
+// they are the text's, where they came.
+fn told(alloc: Global, most: usize, good: u64) -> Result<Option<bool>, InputFault> {
+    let mut reader = TrialReader::new(TEXT, 7, good);
+    match read_whole(alloc, &mut reader, most) {
+        Ok(Some(bytes)) => Ok(Some(bytes.as_slice() == TEXT)),
+        Ok(None) => Ok(None),
+        Err(fault) => Err(fault),
+    }
+}
+
+#[test]
+fn whole_inputs(rt: HostRuntime) {
+    assert_eq!(rt; told(rt.alloc(), 18, 100), Ok(Some(true)));
+    assert_eq!(rt; told(rt.alloc(), 17, 100), Ok(None));
+    assert_eq!(rt; told(rt.alloc(), 18, 2), Err(InputFault::Reader));
+}
+
+// Bytes at a write, the writes that succeed, and how many bytes of the text are taken.
+const WRITERS: &[(usize, u64, usize)] = &[(5, 100, 18), (18, 1, 18), (5, 2, 10), (0, 100, 0)];
+
+#[test]
+fn sent_texts(rt: HostRuntime) {
+    for (most, good, count) in WRITERS {
+        let mut writer = TrialWriter::new(rt.alloc(), *most, *good);
+        let sent = send(&mut writer, TEXT);
+        let is_whole = *count == TEXT.len();
+        assert_eq!(rt;
+            sent == Err(WriteFault),
+            !is_whole,
+            "of {most} bytes at each call"
+        );
+        assert_eq!(rt;
+            writer.as_slice().len(),
+            *count,
+            "of {most} bytes at each call"
+        );
+        assert!(rt; TEXT.starts_with(writer.as_slice()));
+    }
+}

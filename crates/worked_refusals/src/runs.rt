@@ -1,0 +1,112 @@
+// Runs of the program as data, and what is wanted of them.
+
+use crate::networks::{NO_NETWORK, StillClock, TrialNetwork};
+use crate::stores::TrialStores;
+use cashier::{Folder, Opened, Outcome, Surroundings, run_over_stores};
+use std::process::Abort;
+use trust_base::{TrialReader, TrialWriter};
+
+/// A folder with one file, or none that can be opened.
+#[derive(Clone, Copy)]
+pub(crate) struct TrialFolder {
+    /// The bytes of the file `bank.csv`, if it can be opened.
+    pub(crate) bytes: Option<&'static [u8]>,
+    /// The length that it tells.
+    pub(crate) length: Option<u64>,
+    /// How many of its reads succeed.
+    pub(crate) good: u64,
+}
+
+impl Folder for TrialFolder {
+    type File = TrialReader<'static>;
+
+    ghost use Rattle.std.specs.Prelude.{None, ⊤};
+
+    ghost known = { λ _ _. None };
+
+    ghost opens = { λ _ _ _. ⊤ };
+
+    fn open(&self, path: &str) -> Option<Opened<TrialReader<'static>>> {
+        if path != "bank.csv" {
+            return None;
+        }
+        let bytes = self.bytes?;
+        Some(Opened {
+            reader: TrialReader::new(bytes, 7, self.good),
+            length: self.length,
+        })
+    }
+}
+
+/// A folder whose file can't be opened.
+pub(crate) const NO_FILE: TrialFolder = TrialFolder {
+    bytes: None,
+    length: None,
+    good: 0,
+};
+
+/// A run of the program.
+#[derive(Clone, Copy)]
+pub(crate) struct Run {
+    /// The words that it is called with, its name first.
+    pub(crate) words: &'static [&'static str],
+    /// Its standard input.
+    pub(crate) input: &'static str,
+    pub(crate) folder: TrialFolder,
+    pub(crate) network: TrialNetwork,
+    /// How many writes to standard output succeed, each of three bytes at most.
+    pub(crate) writes: u64,
+    pub(crate) outcome: Outcome,
+    /// What it prints.
+    pub(crate) lines: &'static str,
+    /// Whether standard input is read.
+    pub(crate) reads: bool,
+}
+
+/// An opening on standard input.
+pub(crate) const OPENING: &str = "open,000001,,Ada Chen,lee\n";
+
+/// A run that ends by a fault before it reads or prints, beside no file and no port.
+pub(crate) const NOTHING: Run = Run {
+    words: &[],
+    input: OPENING,
+    folder: NO_FILE,
+    network: NO_NETWORK,
+    writes: 1_000,
+    outcome: Outcome::StoreFault,
+    lines: "",
+    reads: false,
+};
+
+fn check_one(rt: &(impl Abort + AllocGlobal), stores: &TrialStores, run: &Run) {
+    let around = Surroundings {
+        folder: &run.folder,
+        clock: &StillClock,
+        network: &run.network,
+    };
+    let mut reader = TrialReader::new(run.input.as_bytes(), 7, 100);
+    let mut writer = TrialWriter::new(rt.alloc(), 3, run.writes);
+    let outcome = run_over_stores(
+        rt.alloc(),
+        run.words,
+        &mut reader,
+        around,
+        stores,
+        &mut writer,
+    );
+    assert_eq!(rt; outcome, run.outcome, "{:?}", run.words);
+    assert_eq!(rt; writer.as_slice(), run.lines.as_bytes(), "{:?}", run.words);
+    assert_eq!(rt;
+        reader.rest.len() < run.input.len(),
+        run.reads,
+        "{:?}",
+        run.words
+    );
+}
+
+/// Asserts the outcome of runs beside these stores, one after the other, and what each prints and reads.
+pub(crate) fn check(rt: &(impl Abort + AllocGlobal), stores: &TrialStores, runs: &[Run]) {
+    for run in runs {
+        check_one(rt, stores, run);
+    }
+}
