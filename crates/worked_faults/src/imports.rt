@@ -2,9 +2,7 @@
 
 use crate::books::serve;
 use crate::fronts::{Wrong, today};
-use crate::pieces::{
-    DEPOSIT, OPEN, OTHER_DEPOSIT, OTHER_OPEN, SHOWN_CLEARED, SHOWN_OTHER_HELD,
-};
+use crate::pieces::{DEPOSIT, OPEN, OTHER_DEPOSIT, OTHER_OPEN, SHOWN_CLEARED, SHOWN_OTHER_HELD};
 use std::alloc::Global;
 use std::io::Read;
 use trust_base::{Day, TrialReader};
