@@ -53,20 +53,23 @@ fn whole_within(size: usize) -> usize {
     }
 }
 
+// How the two end where they are cut behind so many bytes.
+fn ending_within(size: usize) -> Ending {
+    if size == 0 || size == ONE || size >= TWO.len() - 2 {
+        Ending::Ended
+    } else {
+        Ending::Framing(Refusal::BadMessage)
+    }
+}
+
 #[test]
 fn cut_at_each_byte(rt: HostRuntime) {
     for size in 0..TWO.len() + 1 {
-        let is_between = size == 0 || size == ONE || size >= TWO.len() - 2;
-        let ending = if is_between {
-            Ending::Ended
-        } else {
-            Ending::Framing(Refusal::BadMessage)
-        };
         for most in [1, 2, 7, 1_000] {
             let found = told(rt.alloc(), &TWO[..size], most, 1_000);
             assert_eq!(rt;
                 found,
-                (whole_within(size), ending, true),
+                (whole_within(size), ending_within(size), true),
                 "cut at {size}, {most} a read"
             );
         }
