@@ -7,9 +7,9 @@ const TEXT: &[u8] = b"take,000001,500.00";
 
 // What reading at most so many bytes tells, of a reader of seven bytes at each call of which so many succeed: whether
 // they are the text's, where they came.
-fn told(alloc: Global, most: usize, good: u64) -> Result<Option<bool>, InputFault> {
+fn told(alloc: Global, most: u32, good: u64) -> Result<Option<bool>, InputFault> {
     let mut reader = TrialReader::new(TEXT, 7, good);
-    match read_whole(alloc, &mut reader, most) {
+    match read_whole(alloc, &mut reader, most as usize) {
         Ok(Some(bytes)) => Ok(Some(bytes.as_slice() == TEXT)),
         Ok(None) => Ok(None),
         Err(fault) => Err(fault),
