@@ -6,3 +6,4 @@ pub mod ServingFacts
 pub mod SheetFacts
 pub mod StatementFacts
 pub mod StreamFacts
+pub mod SheetKept

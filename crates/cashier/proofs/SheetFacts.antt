@@ -159,7 +159,7 @@ goes-refused Store accepted e = cc
 goes-refused Memory accepted e = cc
 goes-refused _ accepted e = (refl, cc)
 
-goes-body : (b : Body) (accepted : Bool) → Ok accepted ≡ ran_by (body_kind b) → (is_fault_body b ≡ false) × (is_accepting b ≡ accepted)
+pub goes-body : (b : Body) (accepted : Bool) → Ok accepted ≡ ran_by (body_kind b) → (is_fault_body b ≡ false) × (is_accepting b ≡ accepted)
 goes-body (Json text) accepted e = (refl, cc)
 goes-body (Text text) accepted e = (refl, cc)
 goes-body (Refused r) accepted e = goes-refused r accepted e
@@ -185,7 +185,7 @@ memory-body (Text text) e = cc
 memory-body (Refused r) e = ap Refused (memory-refused r e)
 
 -- no other end comes of a reply
-ends-other : (k : ReplyKind) (e : SheetEnd) → Err e ≡ ran_by k → (e ≢ end.Store) → (e ≢ end.NoMemory) → ⊥
+pub ends-other : (k : ReplyKind) (e : SheetEnd) → Err e ≡ ran_by k → (e ≢ end.Store) → (e ≢ end.NoMemory) → ⊥
 ends-other kind.Accepted e same s m = cc
 ends-other kind.Refused e same s m = cc
 ends-other kind.Store e same s m = s (err-same e end.Store same)

@@ -18,9 +18,9 @@ stream-no-store stream.WriteFault h = cc
 stream-no-store stream.NoMemory h = cc
 
 -- what was served over a book whose store is clean and stood for a sound firm, said of the firm
-pub stream-ends : {B : Type 0} {clean sure stands : B → Type 0} {leaves : B → Firm → Type 0} {firm : B → Firm} {refusals : B → ℕ} {day : ℕ} {input before after : Option (List ℕ)}
+pub stream-ends : {B : Type 0} {clean sure stands lasts : B → Type 0} {leaves : B → Firm → Type 0} {firm : B → Firm} {refusals : B → ℕ} {day : ℕ} {input before after : Option (List ℕ)}
     {old new : B} {end : StreamEnd}
-    → Served clean sure stands leaves firm refusals day input before old end after new → clean new → stands old
+    → Served clean sure stands lasts leaves firm refusals day input before old end after new → clean new → stands old
     → StreamEnds day (firm old) input (firm new) before after end
 stream-ends h clean stands = record {
   messages = h.messages;

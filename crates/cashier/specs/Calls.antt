@@ -4,13 +4,14 @@ use Rattle.trust_base.specs.declared.refusal.StoreFault.TheVariants as faults
 use Rattle.trust_store.specs.Books.{counted_fault}
 
 -- what its store is sure of now it was sure of before, and where it serves now it served before; where it stood for a
--- sound firm it still does; and its count of faults went as the end of the run tells, where it is sure, also if a
--- fault has shut it before the run or in it, and where it stood if it served
-pub record LeavesBook {B : Type 0} (clean sure stands : B → Type 0) (refusals : B → ℕ)
+-- sound firm it still does; what a crash leaves still lasts, and its count of faults went as the end of the run tells,
+-- both where it is sure, also if a fault has shut it before the run or in it, and where it stood if it served
+pub record LeavesBook {B : Type 0} (clean sure stands lasts : B → Type 0) (refusals : B → ℕ)
     (Goes : ℕ → ℕ → Type 0) (old new : B) : Type 0 where
   pub was_clean : clean new → clean old
   pub was_sure : sure new → sure old
   pub still_stands : clean new → stands old → stands new
+  pub still_lasts : sure new → (clean old → stands old) → lasts old → lasts new
   pub cause : sure new → (clean old → stands old) → Goes (refusals old) (refusals new)
 
 -- no fault was counted

@@ -10,6 +10,7 @@ use Rattle.trust_base.specs.declared.refusal.StoreFault.TheVariants as faults
 use Rattle.command_line.specs.Program.{Means, MeansNothing, db_of}
 use Rattle.cashier.specs.Calls.{CountsStore, LeavesBook}
 use Rattle.cashier.specs.Report.{PrintsReport}
+use Rattle.portal_server.specs.Clients.{Ports}
 use Rattle.cashier.specs.Serving.{PortEnds}
 use Rattle.cashier.specs.Sheet.{Ends}
 use Rattle.cashier.specs.Statement.{StatementEnds}
@@ -156,13 +157,13 @@ pub record RanStream (words : List Text) (input : Option (List ℕ)) (before aft
   pub ends : IsServed today before input after old new told
 
 -- the words mean that clients of a port are served on a day, and that ended with that outcome
-pub record RanServe (words : List Text) (clients : ℕ → ℕ → Option (List ℕ)) (before after : Firm)
+pub record RanServe {W : Type 0} (words : List Text) (ports : Ports W) (before after : Firm)
     (old new : Option (List ℕ)) (told : Outcome) : Type 0 where
   pub today : ℕ
   pub port : ℕ
   pub count : ℕ
   pub means : Means words today (task.Serve port count)
-  pub ends : PortEnds today count (clients port) before after old new told
+  pub ends : PortEnds today count ports port before after old new told
 
 -- the words mean that a report is printed on a day, and that ended with that outcome
 pub record RanReport (words : List Text) (before after : Firm) (old new : Option (List ℕ)) (told : Outcome)
@@ -179,14 +180,15 @@ pub record RanNothing (before after : Firm) (old new : Option (List ℕ)) (told 
   pub firm : after ≡ before
 
 -- what became of the words, the sheet or the stream on standard input, the files of paths, the clients of ports, by
--- what is known of their bytes, a report and the firm
-abbrev pub Ran : List Text → Option (List ℕ) → (Text → Option (List ℕ)) → (Text → Option (Option ℕ) → Type 0)
-    → (ℕ → ℕ → Option (List ℕ)) → Firm → Firm → Option (List ℕ) → Option (List ℕ) → Outcome → Type 0
-Ran words input known opens clients before after old new told =
+-- what is known of them, a report and the firm
+abbrev pub Ran : {W : Type 0} → List Text → Option (List ℕ) → (Text → Option (List ℕ))
+    → (Text → Option (Option ℕ) → Type 0) → Ports W → Firm → Firm → Option (List ℕ) → Option (List ℕ) → Outcome
+    → Type 0
+Ran words input known opens ports before after old new told =
     RanSheet words input before after old new told
     ⊎ (RanImport words known opens before after old new told
     ⊎ (RanStream words input before after old new told
-    ⊎ (RanServe words clients before after old new told
+    ⊎ (RanServe words ports before after old new told
     ⊎ (RanReport words before after old new told ⊎ RanNothing before after old new told))))
 
 -- what became of a run over a book in memory, which begins without rows and is given up at the end: the firm that was
@@ -194,20 +196,23 @@ Ran words input known opens clients before after old new told =
 abbrev pub RanInMemory : (Firm → Firm → Outcome → Type 0) → Outcome → Type 0
 RanInMemory runs told = (after : Firm) × FirmSound after × runs empty_firm after told
 
--- what became of a run over the book that was found at a path, of which the store keeps such firms: it serves, and the
--- run ended so over it; then it was put back, or could not be. What is said of the firm holds where the book's store is
--- clean once all was run, and where it stood for a sound firm as it was found
-pub record RanAtPath {B : Type 0} (clean sure stands : B → Type 0) (firm : B → Firm) (refusals : B → ℕ)
-    (keeps : Firm → Type 0) (runs : Firm → Firm → Outcome → Type 0) (told : Outcome) : Type 0 where
+-- what became of a run over the book that was found at a path, where such books may be found: it serves, and the run
+-- ended so over it; then the book that the run left was put back, or could not be, as that was answered. What is said
+-- of the firm holds where the book's store is clean once all was run, and where it stood for a sound firm as it was
+-- found
+pub record RanAtPath {B : Type 0} (clean sure stands lasts : B → Type 0) (firm : B → Firm) (refusals : B → ℕ)
+    (finds : B → Type 0) (puts : B → Result Unit StoreFault → Type 0) (runs : Firm → Firm → Outcome → Type 0)
+    (told : Outcome) : Type 0 where
   pub before : B
-  pub found : sure before → keeps (firm before)
+  pub found : sure before → finds before
   pub serves : sure before → clean before
   pub after : B
   pub ended : Outcome
-  pub kept : LeavesBook clean sure stands refusals (CountsStore outcome.StoreFault ended) before after
+  pub kept : LeavesBook clean sure stands lasts refusals (CountsStore outcome.StoreFault ended) before after
   pub sound : clean after → stands before → FirmSound (firm after)
   pub ran : clean after → stands before → runs (firm before) (firm after) ended
   pub put : Result Unit StoreFault
+  pub left : puts after put
   pub outcome : told ≡ put_outcome ended put
 
 -- no book could be had, and nothing was done
@@ -218,16 +223,17 @@ pub record HadNoBook (untouched : Type 0) (told : Outcome) : Type 0 where
 
 -- the run of words over a book: it ended at the command line only where they mean nothing; they mean what was begun;
 -- and of any other end, what became of the sheet, the file, the stream, the port or the report, and of the firm: over
--- a book in memory where `--db` names no path, and else over that at its path, of which the store keeps such firms, if
--- that could be had
-pub record HasRun {B : Type 0} (clean sure stands : B → Type 0) (firm : B → Firm) (refusals : B → ℕ)
-    (keeps : Text → Firm → Type 0) (untouched : Type 0) (words : List Text) (input : Option (List ℕ))
-    (known : Text → Option (List ℕ)) (opens : Text → Option (Option ℕ) → Type 0)
-    (clients : ℕ → ℕ → Option (List ℕ)) (old new : Option (List ℕ)) (told : Outcome) : Type 0 where
+-- a book in memory where `--db` names no path, and else over that at its path, where such books may be found, if one
+-- could be had, and which was then put back so
+pub record HasRun {B W : Type 0} (clean sure stands lasts : B → Type 0) (firm : B → Firm) (refusals : B → ℕ)
+    (finds : Text → B → Type 0) (puts : B → Result Unit StoreFault → Type 0) (untouched : Type 0)
+    (words : List Text) (input : Option (List ℕ)) (known : Text → Option (List ℕ))
+    (opens : Text → Option (Option ℕ) → Type 0) (ports : Ports W) (old new : Option (List ℕ)) (told : Outcome)
+    : Type 0 where
   pub line : told ≡ outcome.CommandLine → MeansNothing words
   pub meant : HasBegun told → (today : ℕ) × (task : Task) × Means words today task
   pub in_memory : db_of words ≡ None → told ≢ outcome.CommandLine
-      → RanInMemory (λ before after. Ran words input known opens clients before after old new) told
+      → RanInMemory (λ before after. Ran words input known opens ports before after old new) told
   pub at_path : (path : Text) → db_of words ≡ Some path → told ≢ outcome.CommandLine
-      → RanAtPath clean sure stands firm refusals (keeps path)
-      (λ before after. Ran words input known opens clients before after old new) told ⊎ HadNoBook untouched told
+      → RanAtPath clean sure stands lasts firm refusals (finds path) puts
+      (λ before after. Ran words input known opens ports before after old new) told ⊎ HadNoBook untouched told

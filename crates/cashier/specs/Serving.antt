@@ -1,9 +1,10 @@
 -- How the clients of a port are served, one after the other, and the firm that they leave.
-use Rattle.std.specs.Prelude.{◌≡◌, ◌⊎◌, ℕ, suc, List, [], ◌∷◌, Option}
+use Rattle.std.specs.Prelude.{◌≡◌, ◌⊎◌, ℕ, suc, length, List, [], ◌∷◌, Option}
 use Rattle.std.specs.Io.KnownBytes.{Appends}
 use Rattle.firm_rows.specs.Firm.{Firm}
 use Rattle.portal_server.specs.stream.StreamEnd.{StreamEnd}
 use Rattle.portal_server.specs.stream.StreamEnd.TheVariants as stream
+use Rattle.portal_server.specs.Clients.{Comes, Client, Gone, Refused, Ports}
 use Rattle.portal_server.specs.EndLines.{IsTold}
 use Rattle.portal_server.specs.declared.server.ServeEnd.{ServeEnd}
 use Rattle.portal_server.specs.declared.server.ServeEnd.TheVariants as serving
@@ -17,48 +18,56 @@ serving_outcome serving.Done = outcome.Done
 serving_outcome serving.NetworkFault = outcome.NetworkFault
 serving_outcome serving.WriteFault = outcome.OutputFault
 
--- the stream of a client, whose bytes may be known, was served on a day
-pub record IsAnswered (day : ℕ) (known : Option (List ℕ)) (before : Firm) (end : StreamEnd) (after : Firm)
-    : Type 0 where
-  pub old : Option (List ℕ)
-  pub new : Option (List ℕ)
-  pub ends : StreamEnds day before known after old new end
+module _ {W : Type 0} (contents : W → Option (List ℕ)) where
+  -- the stream of a client that may come was served on a day, and its answers were written to that client
+  pub record IsAnswered (day : ℕ) (comes : Comes W → Type 0) (before : Firm) (end : StreamEnd) (after : Firm)
+      : Type 0 where
+    pub stream : Option (List ℕ)
+    pub writer : W
+    pub left : W
+    pub came : comes (Client stream writer)
+    pub ends : StreamEnds day before stream after (contents writer) (contents left) end
 
--- a client could not be had, since it was gone or the system could not make its connection; nothing was done
-pub record IsGone (before : Firm) (end : StreamEnd) (after : Firm) : Type 0 where
-  pub ended : end ≡ stream.ReadFault
-  pub firm : after ≡ before
+  -- a client could not be had, since it was gone or the system could not make its connection; nothing was done
+  pub record IsGone (comes : Comes W → Type 0) (before : Firm) (end : StreamEnd) (after : Firm) : Type 0 where
+    pub came : comes Gone
+    pub ended : end ≡ stream.ReadFault
+    pub firm : after ≡ before
 
--- what became of a client
-abbrev pub IsMet : ℕ → Option (List ℕ) → Firm → StreamEnd → Firm → Type 0
-IsMet day known before end after = IsAnswered day known before end after ⊎ IsGone before end after
+  -- what became of a client
+  abbrev pub IsMet : ℕ → (Comes W → Type 0) → Firm → StreamEnd → Firm → Type 0
+  IsMet day comes before end after = IsAnswered day comes before end after ⊎ IsGone comes before end after
 
--- clients were served in turn, each over the firm that the one before it left; `known k` is what is known of the bytes
--- of the client behind k others
-abbrev pub AreMetInTurn : ℕ → (ℕ → Option (List ℕ)) → Firm → List StreamEnd → Firm → Type 0
-AreMetInTurn day known before [] after = after ≡ before
-AreMetInTurn day known before (end ∷ ends) after =
-    (mid : Firm) × IsMet day (known 0) before end mid × AreMetInTurn day (λ k. known (suc k)) mid ends after
+  -- clients were served in turn, each over the firm that the one before it left; `comes k` is what may come of the
+  -- accept behind k others
+  abbrev pub AreMetInTurn : ℕ → (ℕ → Comes W → Type 0) → Firm → List StreamEnd → Firm → Type 0
+  AreMetInTurn day comes before [] after = after ≡ before
+  AreMetInTurn day comes before (end ∷ ends) after =
+      (mid : Firm) × IsMet day (comes 0) before end mid × AreMetInTurn day (λ k. comes (suc k)) mid ends after
 
--- clients of a port were served, and that ended with this outcome: how each one's stream ended, in order, and what was
--- told of that
-pub record IsPortServed (day count : ℕ) (known : ℕ → Option (List ℕ)) (before after : Firm)
-    (old new : Option (List ℕ)) (told : Outcome) : Type 0 where
-  pub end : ServeEnd
-  pub outcome : serving_outcome end ≡ told
-  pub ends : List StreamEnd
-  pub met : AreMetInTurn day known before ends after
-  pub lines : IsTold end count ends old new
+  -- clients of a port were served, and that ended with this outcome: how each one's stream ended, in order, what was
+  -- told of that, and that it ended early only where the network refused an accept
+  pub record IsPortServed (day count : ℕ) (comes : ℕ → Comes W → Type 0) (before after : Firm)
+      (old new : Option (List ℕ)) (told : Outcome) : Type 0 where
+    pub end : ServeEnd
+    pub outcome : serving_outcome end ≡ told
+    pub ends : List StreamEnd
+    pub met : AreMetInTurn day comes before ends after
+    pub lines : IsTold end count ends old new
+    pub refused : end ≡ serving.NetworkFault → comes (length ends) Refused
 
 -- a port could not be had, and nothing was done
-pub record IsPortRefused (before after : Firm) (old new : Option (List ℕ)) (told : Outcome) : Type 0 where
+pub record IsPortRefused (refused : Type 0) (before after : Firm) (old new : Option (List ℕ)) (told : Outcome)
+    : Type 0 where
+  pub cause : refused
   pub outcome : told ≡ outcome.NetworkFault
   pub written : Appends old new []
   pub firm : after ≡ before
 
--- what became of a port, of which so many clients were to be served on a day; what is known of their bytes, the firm
+-- what became of a port, of which so many clients were to be served on a day; what may come of its accepts, the firm
 -- before and after, and what a writer was given by then
-abbrev pub PortEnds : ℕ → ℕ → (ℕ → Option (List ℕ)) → Firm → Firm → Option (List ℕ) → Option (List ℕ) → Outcome
+abbrev pub PortEnds : {W : Type 0} → ℕ → ℕ → Ports W → ℕ → Firm → Firm → Option (List ℕ) → Option (List ℕ) → Outcome
     → Type 0
-PortEnds day count known before after old new told =
-    IsPortServed day count known before after old new told ⊎ IsPortRefused before after old new told
+PortEnds day count ports port before after old new told =
+    IsPortServed ports.contents day count (ports.comes port) before after old new told
+    ⊎ IsPortRefused (ports.refuses port) before after old new told

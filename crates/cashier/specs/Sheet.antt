@@ -13,6 +13,8 @@ use Rattle.trust_base.specs.declared.refusal.Refusal.TheVariants.{BadField, TooL
 use Rattle.trust_base.specs.declared.refusal.StoreFault.TheVariants as faults
 use Rattle.firm_rows.specs.Firm.{Firm, of}
 use Rattle.trust_store.specs.Books.{counted_fault}
+use Rattle.trust_store.specs.Crashes.{LeavesAlone}
+use Rattle.trust_desk.specs.Crashes.{IsMade}
 use Rattle.trust_desk.specs.FirmStep.{Stepped, Steps, firm_step}
 use Rattle.trust_desk.specs.Heard.{Asks, Heard, Unread, is_the}
 use Rattle.trust_desk.specs.declared.requests.Body.{Body}
@@ -187,6 +189,55 @@ abbrev pub Ends : ℕ → Firm → List ℕ → Firm → Option (List ℕ) → O
 Ends day before bytes after old new e =
     MatchBool (nat_lt MAX_FILE_BYTES (length bytes)) (LargeEnds before after old new e)
     (RunEnds day before (sheet_records bytes) after old new e)
+
+-- ---- what a crash leaves of a sheet
+
+-- the records of a sheet that are run: all, or none of one above the limit
+abbrev pub records_run : List ℕ → List (List (List ℕ))
+records_run bytes = if nat_lt MAX_FILE_BYTES (length bytes) then [] else sheet_records bytes
+
+-- what may stand behind whole lines: nothing, the line of a refusal, or a proper front of a line
+abbrev pub IsBehindLines : List ℕ → Type 0
+IsBehindLines text =
+    (text ≡ []) ⊎ (((r : Refusal) × (text ≡ refusal_line r))
+    ⊎ ((reply : Reply) × (n : ℕ) × (n < length (reply_line reply)) × (text ≡ take n (reply_line reply))))
+
+-- a line was written whole, and its reply says how the run goes on; or a write failed, and a proper front of it was
+abbrev pub TellsLine : Option (List ℕ) → Option (List ℕ) → Result Bool SheetEnd → Type 0
+TellsLine old new ran =
+    (reply : Reply)
+    × (((ran ≡ ran_by (reply_kind reply)) × Appends old new (reply_line reply))
+    ⊎ ((ran ≡ Err end.WriteFault)
+    × ((n : ℕ) × (n < length (reply_line reply)) × Appends old new (take n (reply_line reply)))))
+
+-- all records were run, and each line was written
+abbrev pub IsWhole : SheetEnd → Type 0
+IsWhole end.Done = ⊤
+IsWhole end.Refused = ⊤
+IsWhole end.ReadFault = ⊥
+IsWhole end.WriteFault = ⊥
+IsWhole end.Store = ⊥
+IsWhole end.NoMemory = ⊥
+
+-- rows that the next of these records makes
+abbrev pub IsNextMade : ℕ → Firm → List (List (List ℕ)) → Firm → Type 0
+IsNextMade day firm [] found = ⊥
+IsNextMade day firm (here ∷ later) found = IsMade day firm (heard_of here) found
+
+-- a run of records ended: the lines of the first of them were written, and no other line of one that was accepted.
+-- Where a crash left the rows before and no others, it leaves those behind these records, or those with the next; and
+-- where all were run, the store serves and none is left
+pub record LinesAreKept {B : Type 0} (clean : B → Type 0) (leaves : B → Firm → Type 0) (day : ℕ) (before : Firm)
+    (all : List (List (List ℕ))) (old : B) (given told : Option (List ℕ)) (ended : SheetEnd) (new : B) : Type 0 where
+  pub past : List (List (List ℕ))
+  pub later : List (List (List ℕ))
+  pub parts : past ++ later ≡ all
+  pub more : List ℕ
+  pub behind : IsBehindLines more
+  pub written : Appends given told (concat (lines_from day before past) ++ more)
+  pub left : LeavesAlone before (leaves old) → (found : Firm) → leaves new found
+      → (found ≡ firm_from day before past) ⊎ IsNextMade day (firm_from day before past) later found
+  pub whole : IsWhole ended → (later ≡ []) × clean new
 
 -- ---- the lines of one matter
 

@@ -1,5 +1,5 @@
 -- What the import of a bank's statement prints, and the firm that it leaves.
-use Rattle.std.specs.Prelude.{◌≡◌, ◌<◌, ◌⊎◌, ℕ, Bool, false, List, [], Option, Some, None, option_map, length, nat_lt, take, MatchBool}
+use Rattle.std.specs.Prelude.{◌≡◌, ◌<◌, ◌⊎◌, ℕ, Bool, false, ⊤, List, [], Option, Some, None, option_map, length, nat_lt, take, MatchBool}
 use Rattle.std.specs.Io.KnownBytes.{Appends}
 use Rattle.statement_csv.specs.Items.{items}
 use Rattle.trust_base.specs.declared.limits.TheConstants.{MAX_FILE_BYTES}
@@ -58,6 +58,15 @@ abbrev pub Answers : ImportEnd → Option (List ℕ) → Option (List ℕ) → S
 Answers ran old new result =
     Sent (stop_text ran.reply ran.end) (stop_end ran.end) old new result
     ⊎ ((ran.end ≡ stop.Done) × Sent (refusal_line Memory) end.NoMemory old new result)
+
+-- neither the store nor memory ended it, and what was to be told of it was written
+abbrev pub EndsByNoFault : StatementEnd → Type 0
+EndsByNoFault end.Done = ⊤
+EndsByNoFault end.Refused = ⊤
+EndsByNoFault end.ReadFault = ⊤
+EndsByNoFault end.WriteFault = ⊥
+EndsByNoFault end.Store = ⊥
+EndsByNoFault end.NoMemory = ⊥
 
 -- ---- what an import has done
 

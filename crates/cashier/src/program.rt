@@ -8,6 +8,7 @@ ghost use Rattle.cashier.specs.Outcome.{FileEnds, HadNoBook, HasBegun, HasRun, I
 ghost use Rattle.cashier.specs.Outcome.{RanAtPath, RanInMemory, words_outcome};
 ghost use Rattle.command_line.specs.Program.{Means, MeansNothing, MeansSheet, MeansStream, words_of};
 ghost use Rattle.command_line.specs.declared.command.Task.{Task};
+ghost use Rattle.portal_server.specs.Clients.{ports_of};
 
 use crate::folder::Folder;
 use crate::outcome::{
@@ -53,7 +54,7 @@ fn import_file<F: Folder, W: Write, B: Book>(
     ensures ends { B.clean desk.new → B.stands desk.old
         → FileEnds today (B.firm desk.old) (F.known folder.now path.now) (F.opens folder.now path.now) (B.firm desk.new)
         (W.contents writer.old) (W.contents writer.new) result }
-    ensures kept { LeavesBook B.clean B.sure B.stands B.refusals (CountsStore Outcome.StoreFault result)
+    ensures kept { LeavesBook B.clean B.sure B.stands B.lasts B.refusals (CountsStore Outcome.StoreFault result)
         desk.old desk.new }
 {
     let Some(file) = folder.open(path) else {
@@ -76,7 +77,7 @@ fn serve_input<R: Read, W: Write, B: Book>(
     ensures ends { B.clean desk.new → B.stands desk.old
         → IsServed today (B.firm desk.old) (R.remaining reader.old) (B.firm desk.new)
         (W.contents writer.old) (W.contents writer.new) result }
-    ensures kept { LeavesBook B.clean B.sure B.stands B.refusals (CountsStore Outcome.StoreFault result)
+    ensures kept { LeavesBook B.clean B.sure B.stands B.lasts B.refusals (CountsStore Outcome.StoreFault result)
         desk.old desk.new }
 {
     outcome_of_stream(serve_stream(alloc, reader, writer, desk, today))
@@ -96,9 +97,11 @@ fn run_plan<R: Read, F: Folder, C: Clock + Drop, N: Network, W: Write, B: Book>(
         → MeansSheet words ⊎ (MeansStream words ⊎ (reader.new ≡ reader.old)) }
     ensures ends { (words : List Text) → Means words plan.now.today plan.now.task → B.clean desk.new → B.stands desk.old
         → Ran words (R.remaining reader.old) (F.known around.entry.folder.now)
-        (F.opens around.entry.folder.now) (N.clients around.entry.network.now) (B.firm desk.old) (B.firm desk.new)
+        (F.opens around.entry.folder.now)
+        (ports_of N.Listener.Writer.contents (N.comes around.entry.network.now)
+        (N.refuses around.entry.network.now)) (B.firm desk.old) (B.firm desk.new)
         (W.contents writer.old) (W.contents writer.new) result }
-    ensures kept { LeavesBook B.clean B.sure B.stands B.refusals (CountsStore Outcome.StoreFault result)
+    ensures kept { LeavesBook B.clean B.sure B.stands B.lasts B.refusals (CountsStore Outcome.StoreFault result)
         desk.old desk.new }
 {
     let today = plan.today;
@@ -139,9 +142,11 @@ pub fn run_words<'a, R: Read, F: Folder, C: Clock + Drop, N: Network, W: Write, 
     ensures meant { HasBegun result → (today : ℕ) × (task : Task) × Means (words_of words.entry.now) today task }
     ensures ends { B.clean desk.new → B.stands desk.old → result ≢ Outcome.CommandLine
         → Ran (words_of words.entry.now) (R.remaining reader.old) (F.known around.entry.folder.now)
-        (F.opens around.entry.folder.now) (N.clients around.entry.network.now) (B.firm desk.old) (B.firm desk.new)
+        (F.opens around.entry.folder.now)
+        (ports_of N.Listener.Writer.contents (N.comes around.entry.network.now)
+        (N.refuses around.entry.network.now)) (B.firm desk.old) (B.firm desk.new)
         (W.contents writer.old) (W.contents writer.new) result }
-    ensures kept { LeavesBook B.clean B.sure B.stands B.refusals (CountsStore Outcome.StoreFault result)
+    ensures kept { LeavesBook B.clean B.sure B.stands B.lasts B.refusals (CountsStore Outcome.StoreFault result)
         desk.old desk.new }
 {
     let plan = match command_of(alloc, words) {
@@ -165,7 +170,9 @@ fn run_in_memory<R: Read, F: Folder, C: Clock + Drop, N: Network, W: Write>(
         → MeansSheet words ⊎ (MeansStream words ⊎ (reader.new ≡ reader.old)) }
     ensures ran { (words : List Text) → Means words plan.now.today plan.now.task
         → RanInMemory (λ before after. Ran words (R.remaining reader.old)
-        (F.known around.entry.folder.now) (F.opens around.entry.folder.now) (N.clients around.entry.network.now)
+        (F.known around.entry.folder.now) (F.opens around.entry.folder.now)
+        (ports_of N.Listener.Writer.contents (N.comes around.entry.network.now)
+        (N.refuses around.entry.network.now))
         before after (W.contents writer.old) (W.contents writer.new)) result }
 {
     let mut desk = Desk::new(PlainBook::new(alloc));
@@ -185,11 +192,13 @@ fn run_over_book<R: Read, F: Folder, C: Clock + Drop, N: Network, S: Stores, W: 
     ensures began { result ≢ Outcome.CommandLine }
     ensures input { (words : List Text) → Means words plan.now.today plan.now.task
         → MeansSheet words ⊎ (MeansStream words ⊎ (reader.new ≡ reader.old)) }
-    ensures ran { (path : Text) → (S.AtPath.sure book → S.keeps stores.now path (S.AtPath.firm book))
+    ensures ran { (path : Text) → (S.AtPath.sure book → S.finds stores.now path book)
         → (S.AtPath.sure book → S.AtPath.clean book) → (words : List Text) → Means words plan.now.today plan.now.task
-        → RanAtPath S.AtPath.clean S.AtPath.sure S.AtPath.stands S.AtPath.firm S.AtPath.refusals
-        (S.keeps stores.now path) (λ before after. Ran words (R.remaining reader.old)
-        (F.known around.entry.folder.now) (F.opens around.entry.folder.now) (N.clients around.entry.network.now)
+        → RanAtPath S.AtPath.clean S.AtPath.sure S.AtPath.stands S.AtPath.lasts S.AtPath.firm S.AtPath.refusals
+        (S.finds stores.now path) (S.puts stores.now) (λ before after. Ran words (R.remaining reader.old)
+        (F.known around.entry.folder.now) (F.opens around.entry.folder.now)
+        (ports_of N.Listener.Writer.contents (N.comes around.entry.network.now)
+        (N.refuses around.entry.network.now))
         before after (W.contents writer.old) (W.contents writer.new)) result }
 {
     let mut desk = Desk::new(book);
@@ -212,9 +221,11 @@ fn run_at_path<R: Read, F: Folder, C: Clock + Drop, N: Network, S: Stores, W: Wr
     ensures input { (words : List Text) → Means words plan.now.today plan.now.task
         → MeansSheet words ⊎ (MeansStream words ⊎ (reader.new ≡ reader.old)) }
     ensures ran { (words : List Text) → Means words plan.now.today plan.now.task
-        → RanAtPath S.AtPath.clean S.AtPath.sure S.AtPath.stands S.AtPath.firm S.AtPath.refusals
-        (S.keeps stores.now path.now) (λ before after. Ran words (R.remaining reader.old)
-        (F.known around.entry.folder.now) (F.opens around.entry.folder.now) (N.clients around.entry.network.now)
+        → RanAtPath S.AtPath.clean S.AtPath.sure S.AtPath.stands S.AtPath.lasts S.AtPath.firm S.AtPath.refusals
+        (S.finds stores.now path.now) (S.puts stores.now) (λ before after. Ran words (R.remaining reader.old)
+        (F.known around.entry.folder.now) (F.opens around.entry.folder.now)
+        (ports_of N.Listener.Writer.contents (N.comes around.entry.network.now)
+        (N.refuses around.entry.network.now))
         before after (W.contents writer.old) (W.contents writer.new)) result
         ⊎ HadNoBook ((reader.new ≡ reader.old) × (writer.new ≡ writer.old)) result }
 {
@@ -242,10 +253,12 @@ pub fn run_over_stores<'a, R: Read, F: Folder, C: Clock + Drop, N: Network, S: S
     stores: &S,
     writer: &mut W,
 ) -> Outcome
-    ensures ran { HasRun S.AtPath.clean S.AtPath.sure S.AtPath.stands S.AtPath.firm S.AtPath.refusals
-        (S.keeps stores.now) ((reader.new ≡ reader.old) × (writer.new ≡ writer.old))
+    ensures ran { HasRun S.AtPath.clean S.AtPath.sure S.AtPath.stands S.AtPath.lasts S.AtPath.firm S.AtPath.refusals
+        (S.finds stores.now) (S.puts stores.now) ((reader.new ≡ reader.old) × (writer.new ≡ writer.old))
         (words_of words.entry.now) (R.remaining reader.old) (F.known around.entry.folder.now)
-        (F.opens around.entry.folder.now) (N.clients around.entry.network.now) (W.contents writer.old)
+        (F.opens around.entry.folder.now)
+        (ports_of N.Listener.Writer.contents (N.comes around.entry.network.now)
+        (N.refuses around.entry.network.now)) (W.contents writer.old)
         (W.contents writer.new) result }
     ensures unread { result ≡ Outcome.CommandLine → reader.new ≡ reader.old }
     ensures unwritten { result ≡ Outcome.CommandLine → writer.new ≡ writer.old }
@@ -275,10 +288,12 @@ pub fn run_called<R: Read, F: Folder, C: Clock + Drop, N: Network, S: Stores, W:
     writer: &mut W,
 ) -> Outcome
     ensures ran { IfOk called.now
-        (λ words. HasRun S.AtPath.clean S.AtPath.sure S.AtPath.stands S.AtPath.firm S.AtPath.refusals
-        (S.keeps stores.now) ((reader.new ≡ reader.old) × (writer.new ≡ writer.old))
+        (λ words. HasRun S.AtPath.clean S.AtPath.sure S.AtPath.stands S.AtPath.lasts S.AtPath.firm S.AtPath.refusals
+        (S.finds stores.now) (S.puts stores.now) ((reader.new ≡ reader.old) × (writer.new ≡ writer.old))
         (map string_bytes words.items) (R.remaining reader.old) (F.known around.entry.folder.now)
-        (F.opens around.entry.folder.now) (N.clients around.entry.network.now) (W.contents writer.old)
+        (F.opens around.entry.folder.now)
+        (ports_of N.Listener.Writer.contents (N.comes around.entry.network.now)
+        (N.refuses around.entry.network.now)) (W.contents writer.old)
         (W.contents writer.new) result) }
     ensures unread { result ≡ Outcome.CommandLine → reader.new ≡ reader.old }
     ensures unwritten { result ≡ Outcome.CommandLine → writer.new ≡ writer.old }

@@ -1,13 +1,15 @@
 // One record of a day sheet.
 
-ghost use Rattle.std.specs.Prelude.{◌≡◌};
+ghost use Rattle.std.specs.Prelude.{◌≡◌, false};
 ghost use Rattle.std.specs.List.{list_all};
 ghost use Rattle.std.specs.Str.{is_utf8};
 ghost use Rattle.csv.specs.Records.{fields_of};
 ghost use Rattle.ask_fields.specs.Fields.{Reads};
 ghost use Rattle.trust_desk.specs.Calls.{KeepsBook};
 ghost use Rattle.trust_desk.specs.Counts.{counted_reply};
-ghost use Rattle.trust_desk.specs.FirmStep.{Steps};
+ghost use Rattle.trust_desk.specs.Crashes.{IsMade, MayLeave};
+ghost use Rattle.trust_desk.specs.FirmStep.{Steps, firm_step};
+ghost use Rattle.trust_desk.specs.Replies.{is_fault_reply};
 ghost use Rattle.cashier.specs.Records as spec;
 ghost use Rattle.cashier.specs.Records.{ask_of, asked_of, verb_in, verb_of};
 ghost use Rattle.cashier.specs.Sheet.{heard_of};
@@ -202,7 +204,13 @@ pub fn answer_record<B: Book>(
         → Steps day (B.firm desk.old) (heard_of (fields_of row.now)) result (B.firm desk.new) }
 
     // It is Store only where a call of the book was.
-    ensures kept { KeepsBook B.clean B.sure B.stands B.refusals (counted_reply result) desk.old desk.new }
+    ensures kept { KeepsBook B.clean B.sure B.stands B.lasts B.refusals (counted_reply result) desk.old desk.new }
+
+    // A crash may leave what it might have left before, or the rows with the record's change.
+    ensures crash { B.sure desk.new → B.clean desk.old → B.stands desk.old
+        → MayLeave B.clean B.leaves (is_fault_reply result ≡ false)
+        (IsMade day (B.firm desk.old) (heard_of (fields_of row.now))) (B.firm desk.old)
+        (firm_step day (B.firm desk.old) (heard_of (fields_of row.now))).firm desk.old desk.new }
 {
     match read_request(alloc, row) {
         Ok(request) => desk.answer(alloc, &request, day),

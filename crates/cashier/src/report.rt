@@ -51,7 +51,7 @@ pub fn run_report<W: Write, B: Book>(
         (W.contents writer.new) result }
 
     // It ends by Store only where a call of the book was refused.
-    ensures kept { LeavesBook B.clean B.sure B.stands B.refusals (CountsStore Outcome.StoreFault result)
+    ensures kept { LeavesBook B.clean B.sure B.stands B.lasts B.refusals (CountsStore Outcome.StoreFault result)
         desk.old desk.new }
 {
     let reply = desk.answer(alloc, &request_for(command), today);

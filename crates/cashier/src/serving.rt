@@ -3,6 +3,7 @@
 ghost use Rattle.std.specs.Prelude.{◌≡◌, ◌≢◌};
 ghost use Rattle.cashier.specs.Calls.{CountsStore, LeavesBook};
 ghost use Rattle.cashier.specs.Serving.{PortEnds};
+ghost use Rattle.portal_server.specs.Clients.{ports_of};
 
 use crate::folder::Folder;
 use crate::outcome::{Outcome, outcome_of_serving};
@@ -34,9 +35,10 @@ pub fn run_serve<F: Folder, C: Clock + Drop, N: Network, W: Write, B: Book>(
     ensures began { result ≢ Outcome.CommandLine }
     ensures store { result ≢ Outcome.StoreFault }
     ensures ends { B.clean desk.new → B.stands desk.old
-        → PortEnds today count (N.clients around.entry.network.now port) (B.firm desk.old) (B.firm desk.new)
+        → PortEnds today count (ports_of N.Listener.Writer.contents (N.comes around.entry.network.now)
+        (N.refuses around.entry.network.now)) port (B.firm desk.old) (B.firm desk.new)
         (W.contents writer.old) (W.contents writer.new) result }
-    ensures kept { LeavesBook B.clean B.sure B.stands B.refusals (CountsStore Outcome.StoreFault result)
+    ensures kept { LeavesBook B.clean B.sure B.stands B.lasts B.refusals (CountsStore Outcome.StoreFault result)
         desk.old desk.new }
 {
     let Some(mut listener) = around.network.listen(port) else {

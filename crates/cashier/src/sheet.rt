@@ -1,11 +1,13 @@
 // A day sheet.
 
-ghost use Rattle.std.specs.Prelude.{◌≡◌, ◌≢◌, IfErr, IfSome, []};
+ghost use Rattle.std.specs.Prelude.{◌≡◌, ◌≢◌, IfErr, IfSome, IsOk, []};
 ghost use Rattle.std.specs.Io.KnownBytes.{Appends};
 ghost use Rattle.csv.specs.Records.{fields_of};
 ghost use Rattle.firm_rows.specs.Firm.{Firm};
 ghost use Rattle.cashier.specs.Calls.{CountsStore, LeavesBook};
-ghost use Rattle.cashier.specs.Sheet.{Ends, IsCounted, LargeEnds, RecordEnds, RunEnds, ran_by, sheet_records};
+ghost use Rattle.cashier.specs.Sheet.{Ends, IsCounted, LargeEnds, LinesAreKept, RecordEnds, RunEnds, TellsLine};
+ghost use Rattle.cashier.specs.Sheet.{heard_of, ran_by, records_run, sheet_records};
+ghost use Rattle.trust_desk.specs.Crashes.{IsMade, MayLeave};
 
 use crate::record::answer_record;
 use crate::reply_kind::{ReplyKind, kind_of_reply};
@@ -61,7 +63,11 @@ fn run_record<W: Write, B: Book>(
         → RecordEnds day (B.firm desk.old) (fields_of row.now) (B.firm desk.new) (W.contents writer.old)
         (W.contents writer.new) result }
     ensures read { IfErr result (λ end. end ≢ SheetEnd.ReadFault) }
-    ensures kept { LeavesBook B.clean B.sure B.stands B.refusals (IsCounted result) desk.old desk.new }
+    ensures kept { LeavesBook B.clean B.sure B.stands B.lasts B.refusals (IsCounted result) desk.old desk.new }
+    ensures told { TellsLine (W.contents writer.old) (W.contents writer.new) result }
+    ensures crash { B.sure desk.new → B.clean desk.old → B.stands desk.old
+        → MayLeave B.clean B.leaves (IsOk result) (IsMade day (B.firm desk.old) (heard_of (fields_of row.now)))
+        (B.firm desk.old) (B.firm desk.new) desk.old desk.new }
 {
     let reply = answer_record(alloc, row, desk, day);
     let Ok(()) = write_reply(writer, &reply) else {
@@ -82,8 +88,11 @@ fn run_records<W: Write, B: Book>(
         → RunEnds day (B.firm desk.old) (sheet_records bytes.now) (B.firm desk.new)
         (W.contents writer.old) (W.contents writer.new) result }
     ensures read { result ≢ SheetEnd.ReadFault }
-    ensures kept { LeavesBook B.clean B.sure B.stands B.refusals (CountsStore SheetEnd.Store result)
+    ensures kept { LeavesBook B.clean B.sure B.stands B.lasts B.refusals (CountsStore SheetEnd.Store result)
         desk.old desk.new }
+    ensures crash { B.sure desk.new → B.clean desk.old → B.stands desk.old
+        → LinesAreKept B.clean B.leaves day (B.firm desk.old) (sheet_records bytes.now) desk.old
+        (W.contents writer.old) (W.contents writer.new) result desk.new }
 {
     let mut refused = false;
     let rdr = ReaderBuilder::new()
@@ -137,8 +146,14 @@ pub fn run_sheet<R: Read, W: Write, B: Book>(
         → Appends (W.contents writer.old) (W.contents writer.new) [] × (desk.new ≡ desk.old) }
 
     // It ends by Store only where a call of the book was refused.
-    ensures kept { LeavesBook B.clean B.sure B.stands B.refusals (CountsStore SheetEnd.Store result)
+    ensures kept { LeavesBook B.clean B.sure B.stands B.lasts B.refusals (CountsStore SheetEnd.Store result)
         desk.old desk.new }
+
+    // Each line that was written as accepted is of a record that a crash leaves done: a line is written once its
+    // change is settled.
+    ensures crash { B.sure desk.new → B.clean desk.old → B.stands desk.old → IfSome (R.remaining reader.old)
+        (λ bytes. LinesAreKept B.clean B.leaves day (B.firm desk.old) (records_run bytes) desk.old
+        (W.contents writer.old) (W.contents writer.new) result desk.new) }
 {
     match read_whole(alloc, reader, MAX_FILE_BYTES) {
         Ok(Some(bytes)) => run_records(alloc, bytes.as_slice(), writer, desk, day),

@@ -1,12 +1,14 @@
 // A bank's statement.
 
-ghost use Rattle.std.specs.Prelude.{◌≡◌, ◌⊎◌};
+ghost use Rattle.std.specs.Prelude.{◌≡◌, ◌⊎◌, option_map};
 ghost use Rattle.std.specs.Io.KnownBytes.{Appends};
 ghost use Rattle.trust_base.specs.declared.refusal.Refusal.TheVariants as refusals;
 ghost use Rattle.cashier.specs.Calls.{CountsStore, LeavesBook};
 ghost use Rattle.cashier.specs.Sheet.{refusal_kind, refusal_line};
 ghost use Rattle.cashier.specs.Statement as spec;
-ghost use Rattle.cashier.specs.Statement.{Answers, Sent, StatementEnds, counts_line, refused_end};
+ghost use Rattle.cashier.specs.Statement.{Answers, EndsByNoFault, Sent, StatementEnds, counts_line, refused_end};
+ghost use Rattle.statement_csv.specs.Items.{items};
+ghost use Rattle.trust_desk.specs.Crashes.{IsAfterFirst, MayLeave};
 
 use crate::reply_kind::{ReplyKind, kind_of_refusal};
 use crate::reply_line::{write_answer_line, write_refusal};
@@ -110,8 +112,15 @@ pub fn run_import<R: Read + Drop, W: Write, B: Book>(
         (W.contents writer.old) (W.contents writer.new) result }
 
     // It ends by Store only where a call of the book was refused.
-    ensures kept { LeavesBook B.clean B.sure B.stands B.refusals (CountsStore StatementEnd.Store result)
+    ensures kept { LeavesBook B.clean B.sure B.stands B.lasts B.refusals (CountsStore StatementEnd.Store result)
         desk.old desk.new }
+
+    // A crash may leave what it might have left before, or the rows after some front of the items; and a settled book
+    // is settled, where neither the store nor memory ended it. The line is written behind that.
+    ensures crash { B.sure desk.new → B.clean desk.old → B.stands desk.old
+        → MayLeave B.clean B.leaves (EndsByNoFault result)
+        (IsAfterFirst today (B.firm desk.old) (option_map items (R.remaining reader)))
+        (B.firm desk.old) (B.firm desk.new) desk.old desk.new }
 {
     if is_told_longer(length) {
         return refuse(writer, &Refusal::TooLarge);

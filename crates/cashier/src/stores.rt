@@ -8,29 +8,32 @@ use trust_store::{Book, PlainBook};
 
 /// Where the books are kept that outlive a run, each at a path.
 pub trait Stores {
-    ghost use Rattle.std.specs.Prelude.{List, ℕ};
-    ghost use Rattle.firm_rows.specs.Firm.{Firm};
+    ghost use Rattle.std.specs.Prelude.{List, Result, ℕ};
+    ghost use Rattle.trust_base.specs.declared.refusal.StoreFault.{StoreFault};
 
     /// A book that is kept at a path.
     type AtPath: Book;
 
-    /// The firms whose rows may be found at a path.
-    ghost keeps: { Self → List ℕ → Firm → Type 0 };
+    /// The books that may be found at a path.
+    ghost finds: { Self → List ℕ → Self.AtPath → Type 0 };
+
+    /// What became of a book that was put back, by what was answered.
+    ghost puts: { Self → Self.AtPath → Result Unit StoreFault → Type 0 };
 
     /// The book at a path, where there is one, else a new one there, without rows.
     ///
     /// Store means that what is there is no book of this version, or could not be opened, read or written, and Memory
     /// that a growth was refused. The rows of a book that is there are not looked at.
     fn at(&self, alloc: Global, path: &str) -> Result<Self::AtPath, StoreFault>
-        ensures kept { IfOk result
-            (λ book. Self.AtPath.sure book → keeps self.now path.now (Self.AtPath.firm book)) }
+        ensures found { IfOk result (λ book. Self.AtPath.sure book → finds self.now path.now book) }
         ensures serves { IfOk result (λ book. Self.AtPath.sure book → Self.AtPath.clean book) };
 
     /// Puts a book back at its path, so that its rows are found there, and in no other file beside it.
     ///
     /// Store means that it could not be written there, and Memory that a growth was refused. What the book has accepted
     /// is kept all the same, but beside the path, where `at` finds it.
-    fn put_back(&self, book: Self::AtPath) -> Result<(), StoreFault>;
+    fn put_back(&self, book: Self::AtPath) -> Result<(), StoreFault>
+        ensures put { puts self.now book result };
 }
 
 /// A store that has no place for a book: each path is a fault of the store.
@@ -38,9 +41,13 @@ pub trait Stores {
 pub struct NoStores;
 
 impl Stores for NoStores {
+    ghost use Rattle.std.specs.Prelude.{⊤};
+
     type AtPath = PlainBook;
 
-    ghost keeps = { λ _ _ _. ⊥ };
+    ghost finds = { λ _ _ _. ⊥ };
+
+    ghost puts = { λ _ _ _. ⊤ };
 
     fn at(&self, _alloc: Global, _path: &str) -> Result<PlainBook, StoreFault> {
         Err(StoreFault::Store)

@@ -19,7 +19,7 @@ pub fn exceptions_report<B: Book>(
 ) -> Result<Vec<u8>, StoreFault>
     ensures told { B.clean book.new → B.stands book.old
         → IfOk result (λ text. text.items ≡ exceptions_report today (B.firm book.old)) }
-    ensures read { IsRead B.firm B.clean B.sure B.stands B.leaves B.refusals result book.old book.new }
+    ensures read { IsRead B.firm B.clean B.sure B.stands B.lasts B.leaves B.refusals result book.old book.new }
 {
     let mut sink = ExceptionsSink::new(alloc, today)?;
     book.each_exception(&mut sink)?;

@@ -29,7 +29,7 @@ pub fn journal_report<B: Book>(
 ) -> Result<Vec<u8>, StoreFault>
     ensures told { B.clean book.new → B.stands book.old
         → IfOk result (λ text. text.items ≡ journal_report today (B.firm book.old)) }
-    ensures read { IsRead B.firm B.clean B.sure B.stands B.leaves B.refusals result book.old book.new }
+    ensures read { IsRead B.firm B.clean B.sure B.stands B.lasts B.leaves B.refusals result book.old book.new }
 {
     let mut sink = JournalSink::new(alloc);
     book.each_movement(&mut sink)?;

@@ -55,7 +55,7 @@ fn rows_kept<B: Book>(
     day: Day,
 ) -> Result<ReconciliationSink, StoreFault>
     ensures kept { B.clean book.new → B.stands book.old → IfOk result (IsKeptOf day (B.firm book.old)) }
-    ensures read { IsRead B.firm B.clean B.sure B.stands B.leaves B.refusals result book.old book.new }
+    ensures read { IsRead B.firm B.clean B.sure B.stands B.lasts B.leaves B.refusals result book.old book.new }
 {
     let mut sink = ReconciliationSink::new(alloc, day);
     book.each_row(&mut sink)?;
@@ -76,7 +76,7 @@ pub fn reconciliation_report<B: Book>(
     day: Day,
 ) -> Result<Reconciled, StoreFault>
     ensures told { B.clean book.new → B.stands book.old → IfOk result (IsReconciled day (B.firm book.old)) }
-    ensures read { IsRead B.firm B.clean B.sure B.stands B.leaves B.refusals result book.old book.new }
+    ensures read { IsRead B.firm B.clean B.sure B.stands B.lasts B.leaves B.refusals result book.old book.new }
 {
     let sink = rows_kept(alloc, book, day)?;
     Ok(answer_of(alloc, day, sink)?)

@@ -27,7 +27,7 @@ fn text_of(alloc: Global, today: Day, balance: &TrialBalance) -> Result<Vec<u8>,
 pub fn trial_report<B: Book>(alloc: Global, book: &mut B, today: Day) -> Result<Vec<u8>, StoreFault>
     ensures told { B.clean book.new → B.stands book.old
         → IfOk result (λ text. text.items ≡ trial_report today (B.firm book.old)) }
-    ensures read { IsRead B.firm B.clean B.sure B.stands B.leaves B.refusals result book.old book.new }
+    ensures read { IsRead B.firm B.clean B.sure B.stands B.lasts B.leaves B.refusals result book.old book.new }
 {
     let mut sink = TrialSink::new(alloc);
     book.each_row(&mut sink)?;

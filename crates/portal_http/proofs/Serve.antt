@@ -97,13 +97,13 @@ keeps-self : (a : Option (List ℕ)) → Keeps a a
 keeps-self None = tt
 keeps-self (Some xs) = refl
 
-module _ {B : Type 0} (clean sure stands : B → Type 0) (leaves : B → Firm → Type 0) (firm : B → Firm) (refusals : B → ℕ) (sound : (b : B) → stands b → FirmSound (firm b)) (day : ℕ) (stream before : Option (List ℕ)) (old : B) where
+module _ {B : Type 0} (clean sure stands lasts : B → Type 0) (leaves : B → Firm → Type 0) (firm : B → Firm) (refusals : B → ℕ) (sound : (b : B) → stands b → FirmSound (firm b)) (day : ℕ) (stream before : Option (List ℕ)) (old : B) where
   -- what is being served, and what was served
   abbrev Serves : ℕ → Option (List ℕ) → Option (List ℕ) → B → Type 0
-  Serves n unread after new = Serving clean sure stands leaves firm refusals day stream before old n unread after new
+  Serves n unread after new = Serving clean sure stands lasts leaves firm refusals day stream before old n unread after new
 
   abbrev WasServed : StreamEnd → Option (List ℕ) → B → Type 0
-  WasServed end after new = Served clean sure stands leaves firm refusals day stream before old end after new
+  WasServed end after new = Served clean sure stands lasts leaves firm refusals day stream before old end after new
 
   pub serving-none : (unread : Option (List ℕ)) → Keeps stream unread → Serves 0 unread before old
   serving-none unread k = record {
@@ -124,7 +124,7 @@ module _ {B : Type 0} (clean sure stands : B → Type 0) (leaves : B → Firm �
 
   -- one more message, and its reply
   module _ (n : ℕ) (unread after : Option (List ℕ)) (mid : B) (s : Serves n unread after mid) (left later : Option (List ℕ)) (next : B) (m : Message) (reply : Reply)
-      (comes : IsNext unread left (nexts.Message m)) (step : clean next → stands mid → Steps day (firm mid) (heard_of m) reply (firm next)) (kept : KeepsBook clean sure stands refusals (counted_reply reply) mid next)
+      (comes : IsNext unread left (nexts.Message m)) (step : clean next → stands mid → Steps day (firm mid) (heard_of m) reply (firm next)) (kept : KeepsBook clean sure stands lasts refusals (counted_reply reply) mid next)
       (may : sure next → clean mid → stands mid → MayLeave clean leaves (is_fault_reply reply ≡ false) (IsMade day (firm mid) (heard_of m)) (firm mid) (firm_step day (firm mid) (heard_of m)).firm mid next) where
     abbrev messages-more : List Message
     messages-more = s.messages ++ m ∷ []
@@ -155,7 +155,7 @@ module _ {B : Type 0} (clean sure stands : B → Type 0) (leaves : B → Firm �
         let was = served-before sure clean stands plain in
         (may sure was (s.kept.still_stands was stands)).serves was fine
 
-    crash-more : sure next → clean old → stands old → AreNoFaultsButLast replies-more → MayLeaveServed clean sure stands leaves firm refusals day old messages-more replies-more next
+    crash-more : sure next → clean old → stands old → AreNoFaultsButLast replies-more → MayLeaveServed clean sure stands lasts leaves firm refusals day old messages-more replies-more next
     crash-more known served standing but_last =
         let plain = none-before s.replies reply but_last in
         let so_far = s.crash (kept.was_sure known) served standing (none-at_all s.replies plain) in
@@ -177,7 +177,7 @@ module _ {B : Type 0} (clean sure stands : B → Type 0) (leaves : B → Firm �
         (λ plain fine. subst (λ (l : List Message). IsFrontRun day (firm old) l replies-more) (append-nil messages-more)
         (front-whole day (firm old) (firm next) messages-more [] replies-more (run-more (served-after sure clean stands plain fine) stands)))
 
-    kept-more : KeepsBook clean sure stands refusals (counted_replies replies-more) old next
+    kept-more : KeepsBook clean sure stands lasts refusals (counted_replies replies-more) old next
     kept-more = kept-as (λ sure stands. sym (counted-push s.replies reply (refusals old))) (kept-then s.kept kept)
 
     read-more : Began stream messages-more left

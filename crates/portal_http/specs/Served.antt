@@ -88,9 +88,9 @@ pub record IsFrontRun (day : ℕ) (firm : Firm) (messages : List Message) (repli
   pub mid : Firm
   pub run : RunsSoundly day firm (map heard_of front) replies mid
 
--- Of a book only these are looked at: when its store is clean, is sure, and stands for a sound firm, what a crash may
--- leave of it, the firm, and how often it failed.
-module _ {B : Type 0} (clean sure stands : B → Type 0) (leaves : B → Firm → Type 0) (firm : B → Firm)
+-- Of a book only these are looked at: when its store is clean, is sure, and stands for a sound firm, when what a crash
+-- leaves of it lasts, what that may be, the firm, and how often it failed.
+module _ {B : Type 0} (clean sure stands lasts : B → Type 0) (leaves : B → Firm → Type 0) (firm : B → Firm)
     (refusals : B → ℕ) where
   -- what a crash may leave after these messages: what it might have left before, or the rows after some front of them,
   -- with a part of the next; where no reply is Store or Memory, a settled book is settled, and a store that served
@@ -118,7 +118,7 @@ module _ {B : Type 0} (clean sure stands : B → Type 0) (leaves : B → Firm �
     -- no ledger is below zero, before, in and after each message and each item of an import
     pub covered : clean new → stands old
         → CoveredRun day (firm old) (map heard_of messages) replies (firm new)
-    pub kept : KeepsBook clean sure stands refusals (counted_replies replies) old new
+    pub kept : KeepsBook clean sure stands lasts refusals (counted_replies replies) old new
     -- where the store served as the stream began, and no reply but the last is Store or Memory
     pub crash : sure new → clean old → stands old → AreNoFaultsButLast replies
         → MayLeaveServed day old messages replies new
@@ -137,7 +137,7 @@ module _ {B : Type 0} (clean sure stands : B → Type 0) (leaves : B → Firm �
     pub read : Began stream messages unread
     pub written : Appends before after (replies_bytes replies)
     pub run : clean new → stands old → RunsSoundly day (firm old) (map heard_of messages) replies (firm new)
-    pub kept : KeepsBook clean sure stands refusals (counted_replies replies) old new
+    pub kept : KeepsBook clean sure stands lasts refusals (counted_replies replies) old new
     pub crash : sure new → clean old → stands old → AreNoFaultsButLast replies
         → MayLeaveServed day old messages replies new
     pub shut : sure new → clean old → stands old → IsFrontRun day (firm old) messages (before_fault replies)

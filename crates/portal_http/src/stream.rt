@@ -48,7 +48,7 @@ fn answer_message<B: Book>(
 ) -> Reply
     ensures step { B.clean desk.new → B.stands desk.old
         → Steps day (B.firm desk.old) (heard_of message.now) result (B.firm desk.new) }
-    ensures kept { KeepsBook B.clean B.sure B.stands B.refusals (counted_reply result) desk.old desk.new }
+    ensures kept { KeepsBook B.clean B.sure B.stands B.lasts B.refusals (counted_reply result) desk.old desk.new }
 
     // A crash may leave what it might have left before, or the rows with the message's change; of an import the rows
     // after some front of its items.
@@ -71,7 +71,7 @@ fn serve_routes<R: Read + Drop, W: Write, B: Book>(
     routes: &Routes,
     day: Day,
 ) -> StreamEnd
-    ensures { Served B.clean B.sure B.stands B.leaves B.firm B.refusals day (R.remaining reader)
+    ensures { Served B.clean B.sure B.stands B.lasts B.leaves B.firm B.refusals day (R.remaining reader)
         (W.contents writer.old) desk.old result (W.contents writer.new) desk.new }
 {
     let mut input = Input::new(alloc, reader);
@@ -120,7 +120,7 @@ pub fn serve_stream<R: Read + Drop, W: Write, B: Book>(
     desk: &mut Desk<B>,
     day: Day,
 ) -> StreamEnd
-    ensures { Served B.clean B.sure B.stands B.leaves B.firm B.refusals day (R.remaining reader)
+    ensures { Served B.clean B.sure B.stands B.lasts B.leaves B.firm B.refusals day (R.remaining reader)
         (W.contents writer.old) desk.old result (W.contents writer.new) desk.new }
 {
     match Routes::new(alloc) {

@@ -5,3 +5,4 @@ pub mod AskFacts
 pub mod Literals
 pub mod PathFacts
 pub mod Least
+pub mod TableFacts

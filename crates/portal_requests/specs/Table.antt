@@ -1,9 +1,9 @@
 -- The routes, and a router that takes routes in order.
-use Rattle.std.specs.Prelude.{ℕ, List, [], ◌∷◌, Result, Ok, Err, codes, map}
+use Rattle.std.specs.Prelude.{◌≡◌, ℕ, List, [], ◌∷◌, None, Result, Ok, Err, codes, map, ⊤}
 use Rattle.std.specs.Borrow.{Bor}
 use Rattle.matchit.specs.Rows.{RowsOf}
 use Rattle.matchit.specs.Order.{placed}
-use Rattle.matchit.specs.Router.{RouteOf, route_from}
+use Rattle.matchit.specs.Router.{RouteOf, nearest, route_from}
 use Rattle.matchit.specs.Route.{Scan, parse_route}
 use Rattle.matchit.specs.declared.error.InsertError.{InsertError}
 use Rattle.portal_requests.specs.declared.place.MatterPlace.TheVariants as matter
@@ -21,6 +21,16 @@ row_in (Err e) place rows = rows
 unfoldable pub route_rows : List (List ℕ × Place) → RowsOf (RouteOf Place) → RowsOf (RouteOf Place)
 route_rows [] rows = rows
 route_rows (p ∷ rest) rows = route_rows rest (row_in (parse_route p.0) p.1 rows)
+
+-- the path is good, and none of the rows conflicts with it
+abbrev pub IsTaken : Result Scan InsertError → RowsOf (RouteOf Place) → Type 0
+IsTaken (Ok s) rows = nearest s.pattern rows ≡ None
+IsTaken (Err e) rows = ⊥
+
+-- each of these routes is taken, when they go in one after another
+unfoldable pub AreTaken : List (List ℕ × Place) → RowsOf (RouteOf Place) → Type 0
+AreTaken [] rows = ⊤
+AreTaken (p ∷ rest) rows = IsTaken (parse_route p.0) rows × AreTaken rest (row_in (parse_route p.0) p.1 rows)
 
 -- the texts and places of a table
 abbrev pub rows_of : List (Bor (List ℕ) × Place) → List (List ℕ × Place)

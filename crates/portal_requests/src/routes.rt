@@ -1,10 +1,10 @@
 // The routes.
 
-ghost use Rattle.std.specs.Prelude.{◌≡◌, [], IfOk, OnOk, option_map};
+ghost use Rattle.std.specs.Prelude.{◌≡◌, [], IfErr, IfOk, OnOk, option_map};
 ghost use Rattle.matchit.specs.Route.{parse_route};
 ghost use Rattle.matchit.specs.Seek.{first};
 ghost use Rattle.portal_requests.specs.Routing.{place_of};
-ghost use Rattle.portal_requests.specs.Table.{row_in, route_rows, rows_of, the_routes};
+ghost use Rattle.portal_requests.specs.Table.{AreTaken, IsTaken, row_in, route_rows, rows_of, the_routes};
 
 use crate::place::{EntryPlace, MatterPlace, Place, ReportPlace};
 use matchit::{InsertError, Router};
@@ -32,14 +32,16 @@ impl Model for Routes {
 }
 
 fn insert_route(router: &mut Router<Place>, text: &str, place: Place) -> Result<(), InsertError>
-    ensures { OnOk result (router.new ≡ row_in (parse_route text.now) place router.old) }
+    ensures placed { OnOk result (router.new ≡ row_in (parse_route text.now) place router.old) }
+    ensures memory { IsTaken (parse_route text.now) router.old → IfErr result (λ e. e ≡ InsertError.OutOfMemory) }
 {
     router.insert(text, place)
 }
 
 // A router of a table's routes.
 fn router_of(alloc: Global, table: &[(&'static str, Place)]) -> Result<Router<Place>, InsertError>
-    ensures { IfOk result (λ r. r ≡ route_rows (rows_of table.now) []) }
+    ensures rows { IfOk result (λ r. r ≡ route_rows (rows_of table.now) []) }
+    ensures memory { AreTaken (rows_of table.now) [] → IfErr result (λ e. e ≡ InsertError.OutOfMemory) }
 {
     let mut router = Router::new(alloc);
     for row in table {
@@ -49,9 +51,11 @@ fn router_of(alloc: Global, table: &[(&'static str, Place)]) -> Result<Router<Pl
 }
 
 impl Routes {
-    /// The routes. The error is want of memory: that the paths are good, and no two of them the same, is tested.
+    /// The routes. The error is want of memory: each path is good, and no two of them conflict.
     #[tactic(auto, unfolding(crate::specs::Table::the_routes, crate::specs::Table::TABLE))]
-    pub fn new(alloc: Global) -> Result<Routes, InsertError> {
+    pub fn new(alloc: Global) -> Result<Routes, InsertError>
+        ensures memory { IfErr result (λ e. e ≡ InsertError.OutOfMemory) }
+    {
         let table = [
             ("/matters/{m}", Place::Matter(MatterPlace::Show)),
             ("/matters/{m}/open", Place::Matter(MatterPlace::Open)),

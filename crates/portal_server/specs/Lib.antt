@@ -1,3 +1,4 @@
+pub mod Clients
 pub mod EndLines
 pub mod ServedAll
 pub use Rattle.portal_http.specs.Requests

@@ -65,8 +65,8 @@ fn serve_paced<C: Clock + Drop, R: Read + OpenStream + Drop, W: Write + OpenStre
     desk: &mut Desk<B>,
     day: Day,
 ) -> Answered<W>
-    ensures { Served B.clean B.sure B.stands B.leaves B.firm B.refusals day (R.remaining reader.old) (W.contents writer)
-        desk.old result.end (W.contents result.writer) desk.new }
+    ensures { Served B.clean B.sure B.stands B.lasts B.leaves B.firm B.refusals day (R.remaining reader.old)
+        (W.contents writer) desk.old result.end (W.contents result.writer) desk.new }
 {
     let messages = PacedReader { pace, half: reader };
     let mut answers = PacedWriter { pace, half: writer };
@@ -87,7 +87,7 @@ pub fn serve_connection<
     W: Write + OpenStream + Drop,
     B: Book,
 >(alloc: Global, clock: &C, client: Connection<R, W>, desk: &mut Desk<B>, day: Day) -> Answered<W>
-    ensures { Served B.clean B.sure B.stands B.leaves B.firm B.refusals day (R.remaining client.reader)
+    ensures { Served B.clean B.sure B.stands B.lasts B.leaves B.firm B.refusals day (R.remaining client.reader)
         (W.contents client.writer) desk.old result.end (W.contents result.writer) desk.new }
 {
     let Connection { mut reader, writer } = client;

@@ -1,7 +1,7 @@
 // Where clients come from.
 
-ghost use Rattle.std.specs.Prelude.{◌≡◌, ◌≢◌, ◌+◌, ℕ, IfOk, IfSome, List, Option};
-ghost use Rattle.std.specs.Io.KnownBytes.{Keeps};
+ghost use Rattle.std.specs.Prelude.{◌+◌, ℕ, IfErr, IfNone, IfOk, IfSome};
+ghost use Rattle.portal_server.specs.Clients.{Client, Comes, comes_of};
 
 use std::io::{Read, Write};
 use std::net::OpenStream;
@@ -27,7 +27,8 @@ pub enum AcceptFault {
 
 /// What clients connect to.
 pub trait ClientListener {
-    ghost use Rattle.std.specs.Prelude.{List, Option, ℕ};
+    ghost use Rattle.std.specs.Prelude.{ℕ};
+    ghost use Rattle.portal_server.specs.Clients.{Comes};
 
     /// The half of a connection that is read.
     type Reader: Read + OpenStream + Drop;
@@ -35,27 +36,34 @@ pub trait ClientListener {
     /// The half of a connection that is written.
     type Writer: Write + OpenStream + Drop;
 
-    /// What a client to come sends, where it is known, by how many come before it.
-    ghost sent: { Self → ℕ → Option (List ℕ) };
+    /// What may come of an accept, by how many come before it.
+    ghost comes: { Self → ℕ → Comes Self.Writer → Type 0 };
 
     /// Waits for the next client.
     fn accept(&mut self) -> Result<Connection<Self::Reader, Self::Writer>, AcceptFault>
-        ensures bytes { IfOk result (λ client. Keeps (sent self.old 0) (Self.Reader.remaining client.reader)) }
-        ensures next { (k : ℕ) → sent self.new k ≡ sent self.old (k + 1) };
+        ensures client { IfOk result
+            (λ client. comes self.old 0 (Client (Self.Reader.remaining client.reader) client.writer)) }
+        ensures fault { IfErr result (λ fault. comes self.old 0 (comes_of fault)) }
+        ensures next { (k : ℕ) (c : Comes Self.Writer) → comes self.new k c → comes self.old (k + 1) c };
 }
 
 /// Where the ports are that a command line names.
 pub trait Network {
-    ghost use Rattle.std.specs.Prelude.{List, Option, ℕ};
+    ghost use Rattle.std.specs.Prelude.{ℕ};
+    ghost use Rattle.portal_server.specs.Clients.{Comes};
 
     /// What clients of a port connect to.
     type Listener: ClientListener + Drop;
 
-    /// What the clients of a port send, where it is known, by how many come before each.
-    ghost clients: { Self → ℕ → ℕ → Option (List ℕ) };
+    /// What may come of each accept of a port, by how many come before it.
+    ghost comes: { Self → ℕ → ℕ → Comes Self.Listener.Writer → Type 0 };
+
+    /// The port can't be had.
+    ghost refuses: { Self → ℕ → Type 0 };
 
     /// Listens for clients at a port of this machine alone; none where the port can't be had.
     fn listen(&self, port: u16) -> Option<Self::Listener>
-        ensures { IfSome result (λ listener. (k : ℕ)
-            → Keeps (clients self.now port k) (Self.Listener.sent listener k)) };
+        ensures some { IfSome result (λ listener. (k : ℕ) (c : Comes Self.Listener.Writer)
+            → Self.Listener.comes listener k c → comes self.now port k c) }
+        ensures none { IfNone result (refuses self.now port) };
 }

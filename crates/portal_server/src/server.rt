@@ -1,6 +1,7 @@
 // Connections, one after the other.
 
 ghost use Rattle.portal_server.specs.ServedAll.{IsClientServed, KeepsStanding, ServedAll};
+ghost use Rattle.portal_server.specs.Clients.{Comes, Refused};
 ghost use Rattle.std.specs.Prelude.{◌≡◌, ◌+◌, ℕ, IfNone, IfSome};
 
 use crate::connection::serve_connection;
@@ -34,10 +35,11 @@ fn serve_next<C: Clock + Drop, L: ClientListener, B: Book>(
     desk: &mut Desk<B>,
     day: Day,
 ) -> Option<StreamEnd>
-    ensures some { IfSome result (λ end. IsClientServed B.clean B.sure B.stands B.leaves B.firm B.refusals day
-        (L.sent listener.old 0) desk.old end desk.new) }
+    ensures some { IfSome result (λ end. IsClientServed B.clean B.sure B.stands B.lasts B.leaves B.firm B.refusals
+        L.Writer.contents day (L.comes listener.old 0) desk.old end desk.new) }
     ensures none { IfNone result (desk.new ≡ desk.old) }
-    ensures next { (k : ℕ) → L.sent listener.new k ≡ L.sent listener.old (k + 1) }
+    ensures refused { IfNone result (L.comes listener.old 0 Refused) }
+    ensures next { (k : ℕ) (c : Comes L.Writer) → L.comes listener.new k c → L.comes listener.old (k + 1) c }
 {
     match listener.accept() {
         Ok(client) => Some(serve_connection(alloc, clock, client, desk, day).end),
@@ -58,10 +60,10 @@ pub fn serve_connections<C: Clock + Drop, L: ClientListener, W: Write, B: Book>(
     desk: &mut Desk<B>,
     day: Day,
 ) -> ServeEnd
-    ensures served { ServedAll B.clean B.sure B.stands B.leaves B.firm B.refusals day count (L.sent listener.old)
-        (W.contents writer.old) desk.old result (W.contents writer.new) desk.new }
+    ensures served { ServedAll B.clean B.sure B.stands B.lasts B.leaves B.firm B.refusals L.Writer.contents day count
+        (L.comes listener.old) (W.contents writer.old) desk.old result (W.contents writer.new) desk.new }
     // The firm that is left is sound where it was, as it is after each message of each client.
-    ensures kept { KeepsStanding B.clean B.sure B.stands desk.old desk.new }
+    ensures kept { KeepsStanding B.clean B.sure B.stands B.lasts desk.old desk.new }
 {
     for _ in 0..count {
         let Some(end) = serve_next(alloc, clock, listener, desk, day) else {

@@ -1,6 +1,6 @@
 // The network of the system.
 
-ghost use Rattle.std.specs.Prelude.{None};
+ghost use Rattle.std.specs.Prelude.{⊤};
 
 use crate::listener::{AcceptFault, ClientListener, Connection, Network};
 use std::io::ErrorKind;
@@ -22,7 +22,9 @@ pub struct SystemListener<L> {
 impl<R: Net> Network for SystemNetwork<'_, R> {
     type Listener = SystemListener<R::Listener>;
 
-    ghost clients = { λ network port k. None };
+    ghost comes = { λ _ _ _ _. ⊤ };
+
+    ghost refuses = { λ _ _. ⊤ };
 
     fn listen(&self, port: u16) -> Option<SystemListener<R::Listener>> {
         match TcpListener::bind(self.rt, (Ipv4Addr::LOCALHOST, port)) {
@@ -40,7 +42,7 @@ where
 
     type Writer = L::Stream;
 
-    ghost sent = { λ listener k. None };
+    ghost comes = { λ _ _ _. ⊤ };
 
     fn accept(&mut self) -> Result<Connection<L::Stream, L::Stream>, AcceptFault> {
         match self.listener.accept() {

@@ -1,1 +1,4 @@
 pub mod BookWrites
+pub mod Openings
+pub mod OneSchema
+pub mod Stops

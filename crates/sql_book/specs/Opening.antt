@@ -7,22 +7,24 @@ use Rattle.trust_store.specs.Crashes.{LeavesAlone}
 use Rattle.trust_tables.specs.Reading.{IsKept}
 use Rattle.tables_meaning.specs.Standing.{StandsSound, firm_in}
 use Rattle.trust_making.specs.Books.{IsBook}
-use Rattle.sql_book.specs.Books.{HeldBook, at, firm_of, IsServing, IsStanding, MayLeave}
+use Rattle.sql_book.specs.Books.{HeldBook, at, firm_of, IsServing, IsStanding, IsLasting, MayLeave}
 
--- it serves, it stands for the firm without rows, and a crash leaves that firm
+-- it serves, it stands for the firm without rows, and a crash leaves that firm, and what lasts
 pub record IsMade {S : Type 0} (g : Ghosts S) (b : HeldBook S) : Type 0 where
   pub serves : IsServing g b
   pub book : IsBook b.layout (at g b).now
   pub stands : IsStanding g b
+  pub lasts : IsLasting g b
   pub empty : firm_of g b ≡ empty_firm
   pub settled : LeavesAlone empty_firm (MayLeave g b)
 
 -- it serves, its tables are those of the connection, which lie in its layout, and a crash leaves them; they stand for
--- the rows of a sound firm where they did, which is not looked at
+-- the rows of a sound firm where they did, which is not looked at, and then what a crash leaves lasts
 pub record IsTaken {S : Type 0} (g : Ghosts S) (conn : Held S) (b : HeldBook S) : Type 0 where
   pub serves : IsServing g b
   pub book : IsBook b.layout (state g conn).now
   pub kept : IsKept (state g conn) (at g b)
   pub firm : firm_of g b ≡ firm_in b.layout (state g conn).now.trees
   pub stands : StandsSound b.layout (state g conn).now → IsStanding g b
+  pub lasts : StandsSound b.layout (state g conn).now → IsLasting g b
   pub settled : LeavesAlone (firm_of g b) (MayLeave g b)

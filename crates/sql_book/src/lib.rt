@@ -3,6 +3,7 @@
 
 mod book;
 mod counting;
+pub mod laws;
 mod opening;
 mod verdicts;
 mod version;

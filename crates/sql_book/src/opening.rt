@@ -27,6 +27,7 @@ impl<S: Alter + Drop> SqlBook<S> {
         requires { conn.in_transaction ≡ false }
         ensures made { IfOk result (λ b. IsSure S.Store b → IsMade S.Store b) }
         ensures none_refused { IfOk result (λ b. b.refusals ≡ 0) }
+        ensures was_open { IfOk result (λ b. IsSure S.Store b → IsTrue (state S.Store conn).is_open) }
         ensures was_empty { IfOk result (λ _. (state S.Store conn).now.schema ≡ no_schema) }
         ensures not_empty { IfErr result (λ e. e.0 ≡ OpenFault.NotABook
             → ((state S.Store conn).now.schema ≢ no_schema) × (e.1 ≡ conn)) }

@@ -1,16 +1,25 @@
-// Taking a book from a connection, or making one there.
+// Taking a book from a connection, or making one there, and giving it back.
 
-ghost use Rattle.std.specs.Prelude.{◌≡◌, false, IfOk};
+ghost use Rattle.std.specs.Prelude.{◌≡◌, ◌↔◌, ◌⊎◌, false, IfErr, IfOk, IsTrue, OnOk};
+ghost use Rattle.sqlite.specs.Effect.{IsDatabase};
+ghost use Rattle.sqlite.specs.Closing.{IsCopied};
+ghost use Rattle.sqlite.specs.Files.{file_state};
+ghost use Rattle.sqlite.specs.Held.{state};
+ghost use Rattle.sqlite.specs.State.{HasCleanDisk};
+ghost use Rattle.sqlite_wal.specs.Reads.{AreClean};
+ghost use Rattle.trust_making.specs.Books.{no_schema};
 ghost use Rattle.sql_book.specs.Books.{IsServing, IsSure};
+ghost use Rattle.sql_book.specs.Opening.{IsMade, IsTaken};
 
 use sql_book::{OpenFault, SqlBook};
-use sqlite::{Alter, Connection};
+use sqlite::{Alter, Connection, Error, FileStore, Files};
+use sqlite_disk::Disk;
 use std::alloc::Global;
 use trust_base::StoreFault;
 
 // A database that holds something else is a fault of the store, as one that failed.
 fn fault_of_book(fault: OpenFault) -> StoreFault
-    ensures { result ≡ StoreFault.Memory → fault ≡ OpenFault.Memory }
+    ensures { result ≡ StoreFault.Memory ↔ fault ≡ OpenFault.Memory }
 {
     match fault {
         OpenFault::Memory => StoreFault::Memory,
@@ -21,7 +30,10 @@ fn fault_of_book(fault: OpenFault) -> StoreFault
 // A book in a database that holds nothing.
 fn made_over<S: Alter + Drop>(alloc: Global, conn: Connection<S>) -> Result<SqlBook<S>, StoreFault>
     requires { conn.in_transaction ≡ false }
-    ensures { IfOk result (λ book. IsSure S.Store book → IsServing S.Store book) }
+    ensures made { IfOk result (λ book. IsSure S.Store book → IsMade S.Store book) }
+    ensures was_empty { IfOk result (λ _. (state S.Store conn).now.schema ≡ no_schema) }
+    ensures was_open { IfOk result (λ book. IsSure S.Store book → IsTrue (state S.Store conn).is_open) }
+    ensures was_sure { IfOk result (λ book. IsSure S.Store book → HasCleanDisk (state S.Store conn)) }
 {
     match SqlBook::make(alloc, conn) {
         Ok(book) => Ok(book),
@@ -29,17 +41,37 @@ fn made_over<S: Alter + Drop>(alloc: Global, conn: Connection<S>) -> Result<SqlB
     }
 }
 
-/// The book that a database holds, or a new one without rows, where it holds nothing. Asks that no transaction is open.
+/// The book that a database holds, or a new one without rows, where it holds no table. Asks that no transaction is
+/// open.
 pub(crate) fn book_over<S: Alter + Drop>(
     alloc: Global,
     conn: Connection<S>,
 ) -> Result<SqlBook<S>, StoreFault>
     requires { conn.in_transaction ≡ false }
-    ensures { IfOk result (λ book. IsSure S.Store book → IsServing S.Store book) }
+    ensures found { IfOk result (λ book. IsSure S.Store book → IsTaken S.Store conn book
+        ⊎ (((state S.Store conn).now.schema ≡ no_schema) × IsMade S.Store book)) }
+    ensures serves { IfOk result (λ book. IsSure S.Store book → IsServing S.Store book) }
+    ensures was_sure { IfOk result (λ book. IsSure S.Store book → HasCleanDisk (state S.Store conn)) }
 {
     match SqlBook::adopt(alloc, conn) {
         Ok(book) => Ok(book),
         Err((OpenFault::NotABook, conn)) => made_over(alloc, conn),
         Err((fault, _)) => Err(fault_of_book(fault)),
+    }
+}
+
+/// Copies the log of a connection into its database file, and gives the files back. Asks that no transaction is open.
+pub(crate) fn copied<D: Disk + Drop>(conn: Connection<FileStore<D>>) -> Result<Files<D>, Error>
+    requires { conn.in_transaction ≡ false }
+    ensures copied { IfOk result (λ files. AreClean D.Disk files.log files.db → IsCopied conn files) }
+    ensures settled { IsTrue (file_state conn).is_open → (file_state conn).now ≡ (file_state conn).committed }
+    ensures listed { IsTrue (file_state conn).is_open → IsDatabase (file_state conn).now }
+{
+    // Outside a transaction what is seen is what was committed, and the schema is that which the trees list.
+    let _settled = conn.is_autocommit();
+    let _listed = conn.schema();
+    match conn.close_files() {
+        Ok(files) => Ok(files),
+        Err((error, _)) => Err(error),
     }
 }

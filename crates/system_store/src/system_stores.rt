@@ -1,23 +1,35 @@
 // The books at the paths of the system.
 
-ghost use Rattle.std.specs.Prelude.{◌≡◌, false, IfOk, ⊤};
+ghost use Rattle.std.specs.Prelude.{◌≡◌, false, IfOk, OnOk};
+ghost use Rattle.sqlite.specs.Files.{IsOpened, file_state, over_files};
+ghost use Rattle.sqlite.specs.Start.{FindsIn};
+ghost use Rattle.sqlite.specs.State.{HasCleanDisk};
+ghost use Rattle.sqlite_wal.specs.Files.{image_at};
+ghost use Rattle.sql_book.specs.Books.{IsServing, IsSure};
+ghost use Rattle.system_store.specs.Runs.{IsFoundIn, IsPutBack, unknown_files};
 
-use crate::opening::book_over;
+use crate::opening::{book_over, copied};
 use cashier::Stores;
 use sql_book::SqlBook;
-use sqlite::{Connection, FileFrom, FileStore, Unknown};
+use sqlite::{Connection, FileFrom, FileStore, Start, Unknown};
 use std::alloc::Global;
 use table_reads::fault_of;
 use trust_base::StoreFault;
 
-/// A database file of the system, with its log, which lies at the same path with `-wal` behind it.
-pub type SystemFile = FileStore<FileFrom<Unknown>>;
+/// A database file of the system, with its log, which lies at the same path with `-wal` behind it. `T` stands for what
+/// the two hold as they are opened.
+pub type FileWith<T> = FileStore<FileFrom<T>>;
 
-/// The books of the system: each in the database file at its path, of which nothing is known.
+/// A database file of the system, of which nothing is known.
+pub type SystemFile = FileWith<Unknown>;
+
+/// The books of the system: each in the database file at its path, by `book_at` and `put`, which promise for whatever
+/// the files hold what `Stores` asks for; of these nothing is known here.
 ///
-/// A file that is missing or empty gets a book without rows. While a book is in use its file is locked: another run
-/// over it has a fault of the store. A book that was put back is in its file alone. One that was not, as where the run
-/// was broken off, is in the file and the log together, and the next run over it finds it there.
+/// A file that is missing or empty gets a book without rows; one that holds a book gives that book. While a book is in
+/// use its file is locked: another run over it has a fault of the store. A book that was put back is in its file alone.
+/// One that was not, as where the run was broken off, is in the file and the log together, and the next run over it
+/// finds it there (`laws`).
 #[derive(Clone, Copy)]
 pub struct SystemStores<'a> {
     /// The system.
@@ -25,29 +37,61 @@ pub struct SystemStores<'a> {
 }
 
 // A connection to the database file at a path, which is made where it is missing.
-fn connection_at(rt: &HostRuntime, path: &str) -> Result<Connection<SystemFile>, StoreFault>
-    ensures { IfOk result (λ conn. conn.in_transaction ≡ false) }
+fn connection_at<T: Start>(
+    rt: &HostRuntime,
+    path: &str,
+    start: T,
+) -> Result<Connection<FileWith<T>>, StoreFault>
+    ensures mode { IfOk result (λ conn. conn.in_transaction ≡ false) }
+    ensures opened { IfOk result (λ conn. HasCleanDisk (file_state conn) → IsOpened conn) }
+    ensures found { IfOk result (λ conn. HasCleanDisk (file_state conn)
+        → FindsIn (image_at T.Start) (file_state conn)) }
 {
-    match Connection::open_from(rt, path, false, Unknown) {
+    match Connection::open_from(rt, path, false, start) {
         Ok(conn) => Ok(conn),
         Err((error, _)) => Err(fault_of(error)),
+    }
+}
+
+/// The book at a path, whose files hold what `start` stands for: the one that they hold, or a new one without rows,
+/// where they hold no table. Store means that what is there is no book of this version, or could not be opened, read or
+/// written, and Memory that a growth was refused.
+pub fn book_at<T: Start>(
+    alloc: Global,
+    rt: &HostRuntime,
+    path: &str,
+    start: T,
+) -> Result<SqlBook<FileWith<T>>, StoreFault>
+    ensures found { IfOk result (λ book. IsSure over_files book → IsFoundIn (image_at T.Start) book) }
+    ensures serves { IfOk result (λ book. IsSure over_files book → IsServing over_files book) }
+{
+    let conn = connection_at(rt, path, start)?;
+    book_over(alloc, conn)
+}
+
+/// Gives a book back to its files: on Ok it is in the database file alone. Store means that it could not be written
+/// there, and Memory that a growth was refused.
+pub fn put<T: Start>(book: SqlBook<FileWith<T>>) -> Result<(), StoreFault>
+    ensures { OnOk result (IsPutBack book) }
+{
+    match copied(book.release()) {
+        Ok(_files) => Ok(()),
+        Err(error) => Err(fault_of(error)),
     }
 }
 
 impl Stores for SystemStores<'_> {
     type AtPath = SqlBook<SystemFile>;
 
-    ghost keeps = { λ _ _ _. ⊤ };
+    ghost finds = { λ _ _ book. IsFoundIn unknown_files book };
+
+    ghost puts = { λ _ book answer. OnOk answer (IsPutBack book) };
 
     fn at(&self, alloc: Global, path: &str) -> Result<SqlBook<SystemFile>, StoreFault> {
-        let conn = connection_at(self.rt, path)?;
-        book_over(alloc, conn)
+        book_at(alloc, self.rt, path, Unknown)
     }
 
     fn put_back(&self, book: SqlBook<SystemFile>) -> Result<(), StoreFault> {
-        match book.release().close() {
-            Ok(()) => Ok(()),
-            Err(error) => Err(fault_of(error)),
-        }
+        put(book)
     }
 }

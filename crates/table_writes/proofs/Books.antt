@@ -8,7 +8,7 @@ use Rattle.trust_store.specs.Books.{counted}
 use Rattle.trust_store.specs.Calls.{IsWrite}
 use Rattle.trust_store.specs.Crashes.{LeavesOr, LeavesAlone}
 use Rattle.trust_schema.specs.declared.layout.Layout.{Layout}
-use Rattle.tables_meaning.specs.Standing.{StandsSound, Leaves, firm_in}
+use Rattle.tables_meaning.specs.Standing.{StandsSound, IsLeftStanding, Lasts, Leaves, firm_in}
 use Rattle.table_writes.proofs.Answered.{when_ok, both_ok, when_err, either_way}
 use Rattle.table_writes.specs.Writes.{FitsServed, StandsAfter, IsFirmWrite}
 
@@ -39,6 +39,20 @@ module _ {T : Type 0} (l : Layout) (change : FirmChange) (result : Result T Stor
       either_way result (made serves.0 stands) (w.kept serves.0 serves.1) (λ m. m.stands)
       (λ k. subst (StandsSound l) (sym k.now) stands)
 
+  still_lasts : HasCleanDisk new → (Serves old → StandsSound l old.now) → Lasts l old → Lasts l new
+  still_lasts clean stands lasts trees may = either (w.opened clean trees may)
+    where
+      written : old.may_leave trees ⊎ ((db : Database) × StandsAfter l change old.now db × (trees ≡ db.trees))
+          → IsLeftStanding l trees
+      written (inl before) = lasts trees before
+      written (inr it) = record { db = it.0; left = it.2; listed = it.1.listed; stands = it.1.stands }
+
+      either : old.may_leave trees ⊎ IsTrue old.is_open → IsLeftStanding l trees
+      either (inl before) = lasts trees before
+      either (inr served) =
+          let stood = stands (w.was_clean clean, served) in
+          written (w.crash l clean stood (fits_served clean stood) trees may)
+
   crash : HasCleanDisk new → StandsSound l old.now
       → LeavesOr (after change (firm_in l old.now.trees)) (Leaves l old) (Leaves l new)
   crash clean stands found left = either (w.crash l clean stands (fits_served clean stands) left.0 left.1)
@@ -63,7 +77,8 @@ pub is_write : {B T : Type 0} (at : B → State) (layout : B → Layout) (refusa
     → FitsFirm (firm_in (layout old) (at old).now.trees) change)
     → refusals new ≡ counted result (refusals old)
     → IsWrite (λ b. firm_in (layout b) (at b).now.trees) (λ b. Serves (at b)) (λ b. HasCleanDisk (at b))
-    (λ b. StandsSound (layout b) (at b).now) (λ b. Leaves (layout b) (at b)) refusals change result old new
+    (λ b. StandsSound (layout b) (at b).now) (λ b. Lasts (layout b) (at b)) (λ b. Leaves (layout b) (at b)) refusals
+    change result old new
 is_write at layout refusals change result old new same w fits count =
     let l = layout old in
     let s = at old in
@@ -80,6 +95,8 @@ is_write at layout refusals change result old new same w fits count =
       was_sure = w.was_clean;
       still_stands = λ serves stands.
           subst (λ k. StandsSound k t.now) (sym same) (still_stands l change result s t w fits serves stands);
+      still_lasts = λ clean stands lasts.
+          subst (λ k. Lasts k t) (sym same) (still_lasts l change result s t w fits clean stands lasts);
       serves = λ clean _. when_ok result (w.serves clean) (λ serves. (clean, serves));
       crash = λ clean stands.
           subst (λ k. LeavesOr firm (Leaves l s) (Leaves k t)) (sym same)

@@ -21,14 +21,18 @@ use Rattle.table_writes.proofs.Scripts.{made_of_steps, keyed}
 -- what was written of a change that fits stands for the firm after it
 stands_after : (l : Layout) (change : FirmChange) (script : List Statement) (db next : Database)
     → IsScriptMeant change → IsTyped change → map step_of script ≡ steps_of change (lists_in l db.trees)
-    → StandsSound l db → FitsFirm (firm_in l db.trees) change → Written l script db next
+    → StandsSound l db → FitsFirm (firm_in l db.trees) change → script ≢ [] → Written l script db next
     → StandsAfter l change db next
-stands_after l change script db next meant typed is stands fits written =
+stands_after l change script db next meant typed is stands fits some written =
     let a = lists_in l db.trees in
     let b = lists_in l next.trees in
     let steps = subst (λ s. AreMade s a b) is (made_of_steps script a b written.steps) in
     let after = meant a b stands.rows (keyed l next written.stands) typed fits steps in
-    record { firm = after.0; stands = record { tables = written.stands; rows = after.1 } }
+    record {
+      firm = after.0;
+      stands = record { tables = written.stands; rows = after.1 };
+      listed = written.listed some;
+    }
 
 -- what the call that writes a script leaves
 pub record Wrote (script : List Statement) (result : Result Unit Error) (old new : State) : Type 0 where
@@ -75,7 +79,7 @@ module _ (change : FirmChange) (script : List Statement) (some : script ≢ []) 
       → (db : Database) → Written l script old.now db → StandsAfter l change old.now db
   left l clean stands fits served db written =
       stands_after l change script old.now db meant typed (is l (w.was_clean clean) stands fits) stands (fits served)
-      written
+      some written
 
   made : (l : Layout) → HasCleanDisk new → StandsSound l old.now → FitsServed l change old
       → OnOk result (StandsAfter l change old.now new.now)

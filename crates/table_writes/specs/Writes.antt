@@ -1,6 +1,6 @@
 -- What a write of a change leaves of the tables for whose firm it is one.
 use Rattle.std.specs.Prelude.{◌≡◌, ℕ, List, [], ◌∷◌, map, Option, Some, None, Result, OnOk, OnErr, IsTrue}
-use Rattle.sqlite.specs.Effect.{Database}
+use Rattle.sqlite.specs.Effect.{Database, IsDatabase}
 use Rattle.sqlite.specs.State.{State, HasCleanDisk}
 use Rattle.trust_base.specs.declared.refusal.StoreFault.{StoreFault}
 use Rattle.matter_parts.specs.declared.kept.Kept.{Kept}
@@ -19,10 +19,11 @@ use Rattle.tables_meaning.specs.Steps.{Step, PutEntry, step_of, steps_of}
 abbrev pub FitsServed : Layout → FirmChange → State → Type 0
 FitsServed l change s = IsTrue s.is_open → FitsFirm (firm_in l s.now.trees) change
 
--- the second tables stand for the firm of the first after the change
+-- the second tables stand for the firm of the first after the change, and their database lists what it holds
 pub record StandsAfter (l : Layout) (change : FirmChange) (db next : Database) : Type 0 where
   pub firm : firm_in l next.trees ≡ after change (firm_in l db.trees)
   pub stands : StandsSound l next
+  pub listed : IsDatabase next
 
 -- a write of a change that fits makes it where it answers Ok, and the connection then serves and a crash leaves what it
 -- sees; an error of a connection that still serves changes nothing; a crash may leave what it might have left before,

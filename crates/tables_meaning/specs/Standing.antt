@@ -1,7 +1,7 @@
 -- Tables that stand for the rows of a sound firm, and what a crash may leave of them.
 use Rattle.std.specs.Prelude.{◌≡◌, ℕ, []}
 use Rattle.sqlite_trees.specs.Tree.{Trees}
-use Rattle.sqlite.specs.Effect.{Database}
+use Rattle.sqlite.specs.Effect.{Database, IsDatabase}
 use Rattle.sqlite.specs.State.{State}
 use Rattle.matter_rows.specs.declared.entry.Entry.{Entry}
 use Rattle.firm_rows.specs.Firm.{Firm, empty_firm}
@@ -23,6 +23,18 @@ pub record StandsSound (l : Layout) (db : Database) : Type 0 where
 -- a crash now may leave tables that stand for this firm
 abbrev pub Leaves : Layout → State → Firm → Type 0
 Leaves l s firm = (db : Trees) × s.may_leave db × (firm ≡ firm_in l db)
+
+-- these trees are those of a database that lists what it holds, and whose tables stand in this layout for the rows of a
+-- sound firm: the schema is a book's and the version that of these tables
+pub record IsLeftStanding (l : Layout) (trees : Trees) : Type 0 where
+  pub db : Database
+  pub left : trees ≡ db.trees
+  pub listed : IsDatabase db
+  pub stands : StandsSound l db
+
+-- whatever a crash leaves now stands so
+abbrev pub Lasts : Layout → State → Type 0
+Lasts l s = (trees : Trees) → s.may_leave trees → IsLeftStanding l trees
 
 -- tables without rows
 abbrev pub no_lists : Lists

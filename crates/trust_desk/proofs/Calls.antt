@@ -17,28 +17,30 @@ use Rattle.trust_desk.specs.Calls.{KeepsBook}
 use Rattle.trust_desk.specs.Counts.{counted_body, counted_refusal, counted_reply}
 use Rattle.trust_desk.specs.Replies.{is_fault_body, is_fault_reply}
 
-pub read-kept : {B T : Type 0} {firm : B → Firm} {clean sure stands : B → Type 0} {leaves : B → Firm → Type 0} {refusals : B → ℕ} {result : Result T StoreFault} {old new : B} → IsRead firm clean sure stands leaves refusals result old new → KeepsBook clean sure stands refusals (counted result) old new
-read-kept read = record { was_clean = read.was_clean; was_sure = read.was_sure; still_stands = read.still_stands; cause = λ sure stands. read.count }
+pub read-kept : {B T : Type 0} {firm : B → Firm} {clean sure stands lasts : B → Type 0} {leaves : B → Firm → Type 0} {refusals : B → ℕ} {result : Result T StoreFault} {old new : B} → IsRead firm clean sure stands lasts leaves refusals result old new → KeepsBook clean sure stands lasts refusals (counted result) old new
+read-kept read = record { was_clean = read.was_clean; was_sure = read.was_sure; still_stands = read.still_stands; still_lasts = λ sure _ lasts. read.still_lasts sure lasts; cause = λ sure stands. read.count }
 
-pub write-kept : {B T : Type 0} {firm : B → Firm} {clean sure stands : B → Type 0} {leaves : B → Firm → Type 0} {refusals : B → ℕ} {change : FirmChange} {result : Result T StoreFault} {old new : B} → IsWrite firm clean sure stands leaves refusals change result old new → KeepsBook clean sure stands refusals (counted result) old new
-write-kept write = record { was_clean = write.was_clean; was_sure = write.was_sure; still_stands = write.still_stands; cause = λ sure stands. write.count }
+pub write-kept : {B T : Type 0} {firm : B → Firm} {clean sure stands lasts : B → Type 0} {leaves : B → Firm → Type 0} {refusals : B → ℕ} {change : FirmChange} {result : Result T StoreFault} {old new : B} → IsWrite firm clean sure stands lasts leaves refusals change result old new → KeepsBook clean sure stands lasts refusals (counted result) old new
+write-kept write = record { was_clean = write.was_clean; was_sure = write.was_sure; still_stands = write.still_stands; still_lasts = write.still_lasts; cause = λ sure stands. write.count }
 
 -- one after the other
-pub kept-then : {B : Type 0} {clean sure stands : B → Type 0} {refusals : B → ℕ} {first next : ℕ → ℕ} {old mid new : B} → KeepsBook clean sure stands refusals first old mid → KeepsBook clean sure stands refusals next mid new → KeepsBook clean sure stands refusals (λ n. next (first n)) old new
+pub kept-then : {B : Type 0} {clean sure stands lasts : B → Type 0} {refusals : B → ℕ} {first next : ℕ → ℕ} {old mid new : B} → KeepsBook clean sure stands lasts refusals first old mid → KeepsBook clean sure stands lasts refusals next mid new → KeepsBook clean sure stands lasts refusals (λ n. next (first n)) old new
 kept-then {next} a b = record {
   was_clean = λ clean. a.was_clean (b.was_clean clean);
   was_sure = λ sure. a.was_sure (b.was_sure sure);
   still_stands = λ clean stands. b.still_stands clean (a.still_stands (b.was_clean clean) stands);
+  still_lasts = λ sure stands lasts.
+      b.still_lasts sure (λ clean. a.still_stands clean (stands (a.was_clean clean))) (a.still_lasts (b.was_sure sure) stands lasts);
   cause = λ sure stands. b.cause sure (λ clean. a.still_stands clean (stands (a.was_clean clean))) ∙ ap next (a.cause (b.was_sure sure) stands);
 }
 
 -- as many faults, told in another way
-pub kept-as : {B : Type 0} {clean sure stands : B → Type 0} {refusals : B → ℕ} {counted told : ℕ → ℕ} {old new : B} → (sure new → (clean old → stands old) → counted (refusals old) ≡ told (refusals old)) → KeepsBook clean sure stands refusals counted old new → KeepsBook clean sure stands refusals told old new
-kept-as same a = record { was_clean = a.was_clean; was_sure = a.was_sure; still_stands = a.still_stands; cause = λ sure stands. a.cause sure stands ∙ same sure stands }
+pub kept-as : {B : Type 0} {clean sure stands lasts : B → Type 0} {refusals : B → ℕ} {counted told : ℕ → ℕ} {old new : B} → (sure new → (clean old → stands old) → counted (refusals old) ≡ told (refusals old)) → KeepsBook clean sure stands lasts refusals counted old new → KeepsBook clean sure stands lasts refusals told old new
+kept-as same a = record { was_clean = a.was_clean; was_sure = a.was_sure; still_stands = a.still_stands; still_lasts = a.still_lasts; cause = λ sure stands. a.cause sure stands ∙ same sure stands }
 
 -- no call at all
-pub kept-still : {B : Type 0} {clean sure stands : B → Type 0} {refusals : B → ℕ} (b : B) → KeepsBook clean sure stands refusals (λ n. n) b b
-kept-still b = record { was_clean = λ clean. clean; was_sure = λ sure. sure; still_stands = λ clean stands. stands; cause = λ sure stands. refl }
+pub kept-still : {B : Type 0} {clean sure stands lasts : B → Type 0} {refusals : B → ℕ} (b : B) → KeepsBook clean sure stands lasts refusals (λ n. n) b b
+kept-still b = record { was_clean = λ clean. clean; was_sure = λ sure. sure; still_stands = λ clean stands. stands; still_lasts = λ _ _ lasts. lasts; cause = λ sure stands. refl }
 
 -- a reply that tells of no fault counts none
 uncounted : (b : Body) → is_fault_body b ≡ false → (n : ℕ) → n ≡ counted_body b n
@@ -50,5 +52,5 @@ uncounted (body.Refused r) plain n = unfaulted r plain n
     unfaulted refusal.Store plain n = absurd (false≢true (sym plain))
     unfaulted r plain n = refl
 
-pub kept-plain : {B : Type 0} {clean sure stands : B → Type 0} {refusals : B → ℕ} {old new : B} (reply : Reply) → is_fault_reply reply ≡ false → KeepsBook clean sure stands refusals (λ n. n) old new → KeepsBook clean sure stands refusals (counted_reply reply) old new
+pub kept-plain : {B : Type 0} {clean sure stands lasts : B → Type 0} {refusals : B → ℕ} {old new : B} (reply : Reply) → is_fault_reply reply ≡ false → KeepsBook clean sure stands lasts refusals (λ n. n) old new → KeepsBook clean sure stands lasts refusals (counted_reply reply) old new
 kept-plain {refusals} {old} reply plain a = kept-as (λ sure stands. uncounted reply.body plain (refusals old)) a

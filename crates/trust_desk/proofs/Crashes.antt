@@ -43,8 +43,8 @@ at-ok (Ok x) p ok = p
 at-ok (Err e) p ok = absurd (cc)
 
 -- a read makes no rows
-pub read-leaves : {B T : Type 0} {firm : B → Firm} {clean sure stands : B → Type 0} {leaves : B → Firm → Type 0} {refusals : B → ℕ} {result : Result T StoreFault} {Makes : Firm → Type 0} {old new : B}
-    → IsRead firm clean sure stands leaves refusals result old new → sure new → stands old
+pub read-leaves : {B T : Type 0} {firm : B → Firm} {clean sure stands lasts : B → Type 0} {leaves : B → Firm → Type 0} {refusals : B → ℕ} {result : Result T StoreFault} {Makes : Firm → Type 0} {old new : B}
+    → IsRead firm clean sure stands lasts leaves refusals result old new → sure new → stands old
     → MayLeave clean leaves (IsOk result) Makes (firm old) (firm old) old new
 read-leaves {result} read sure stands = record {
   crash = λ found may. inl (read.crash sure stands found may);
@@ -53,8 +53,8 @@ read-leaves {result} read sure stands = record {
 }
 
 -- a write makes the rows with its change
-pub write-leaves : {B T : Type 0} {firm : B → Firm} {clean sure stands : B → Type 0} {leaves : B → Firm → Type 0} {refusals : B → ℕ} {change : FirmChange} {result : Result T StoreFault} {old new : B}
-    → IsWrite firm clean sure stands leaves refusals change result old new → sure new → stands old
+pub write-leaves : {B T : Type 0} {firm : B → Firm} {clean sure stands lasts : B → Type 0} {leaves : B → Firm → Type 0} {refusals : B → ℕ} {change : FirmChange} {result : Result T StoreFault} {old new : B}
+    → IsWrite firm clean sure stands lasts leaves refusals change result old new → sure new → stands old
     → MayLeaveChange clean leaves (IsOk result) (firm old) (after change (firm old)) old new
 write-leaves {result} write sure stands = record {
   crash = write.crash sure stands;
@@ -63,8 +63,8 @@ write-leaves {result} write sure stands = record {
 }
 
 -- a write after a read that was answered Ok, where what was read tells what the change makes
-pub written-leaves : {B T U : Type 0} {firm : B → Firm} {clean sure stands : B → Type 0} {leaves : B → Firm → Type 0} {refusals : B → ℕ} {read : T} {change : FirmChange} {result : Result U StoreFault} {made : Firm} {old now new : B}
-    → IsRead firm clean sure stands leaves refusals (Ok read) old now → IsWrite firm clean sure stands leaves refusals change result now new
+pub written-leaves : {B T U : Type 0} {firm : B → Firm} {clean sure stands lasts : B → Type 0} {leaves : B → Firm → Type 0} {refusals : B → ℕ} {read : T} {change : FirmChange} {result : Result U StoreFault} {made : Firm} {old now new : B}
+    → IsRead firm clean sure stands lasts leaves refusals (Ok read) old now → IsWrite firm clean sure stands lasts leaves refusals change result now new
     → (clean now → after change (firm old) ≡ made) → sure new → stands old
     → MayLeaveChange clean leaves (IsOk result) (firm old) made old new
 written-leaves {firm} {leaves} {change} read write tells sure stands =

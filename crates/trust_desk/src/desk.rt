@@ -67,7 +67,7 @@ impl<B: Book> Desk<B> {
             → (m : ℕ) → IsOwn m day (B.firm self.old) (Asks request.now ∷ []) (result ∷ []) (B.firm self.new) }
 
         // It is Store only where a call of the book was.
-        ensures kept { KeepsBook B.clean B.sure B.stands B.refusals (counted_reply result) self.old self.new }
+        ensures kept { KeepsBook B.clean B.sure B.stands B.lasts B.refusals (counted_reply result) self.old self.new }
 
         // A crash may leave what it might have left before, or the rows with the request's change; of an import the
         // rows after some front of its items, where the store served as it began, as that of a book does that has met
@@ -114,7 +114,7 @@ impl<B: Book> Desk<B> {
             → KeepsOthers (B.firm self.old) (Asks _request.now) (B.firm self.new) }
         ensures own { B.clean self.new → B.stands self.old → is_fault_reply result ≡ false
             → (m : ℕ) → IsOwn m day (B.firm self.old) (Asks _request.now ∷ []) (result ∷ []) (B.firm self.new) }
-        ensures kept { KeepsBook B.clean B.sure B.stands B.refusals (counted_reply result) self.old self.new }
+        ensures kept { KeepsBook B.clean B.sure B.stands B.lasts B.refusals (counted_reply result) self.old self.new }
         ensures crash { B.sure self.new → B.stands self.old → MayLeave B.clean B.leaves
             (is_fault_reply result ≡ false)
             (IsMade day (B.firm self.old) (Asks _request.now)) (B.firm self.old)
@@ -135,7 +135,7 @@ impl<B: Book> Desk<B> {
     ) -> Reply
         ensures step { B.clean self.new → B.stands self.old
             → Steps day (B.firm self.old) (Asks (Request.Import caller.now statement.now)) result (B.firm self.new) }
-        ensures kept { KeepsBook B.clean B.sure B.stands B.refusals (counted_reply result) self.old self.new }
+        ensures kept { KeepsBook B.clean B.sure B.stands B.lasts B.refusals (counted_reply result) self.old self.new }
         ensures crash { B.sure self.new → B.clean self.old → B.stands self.old → MayLeave B.clean B.leaves
             (is_fault_reply result ≡ false)
             (IsMade day (B.firm self.old) (Asks (Request.Import caller.now statement.now)))
@@ -158,7 +158,7 @@ impl<B: Book> Desk<B> {
             → Steps day (B.firm self.old) (Asks (Request.Import caller.now bytes.now)) (reply_for result)
             (B.firm self.new) }
         ensures ok { IfOk result (λ reply. is_fault_reply reply ≡ false) }
-        ensures kept { KeepsBook B.clean B.sure B.stands B.refusals (counted_end result) self.old self.new }
+        ensures kept { KeepsBook B.clean B.sure B.stands B.lasts B.refusals (counted_end result) self.old self.new }
         ensures crash { B.sure self.new → B.clean self.old → B.stands self.old → MayLeave B.clean B.leaves
             (is_fault_end result ≡ false)
             (IsMade day (B.firm self.old) (Asks (Request.Import caller.now bytes.now)))
@@ -183,7 +183,7 @@ impl<B: Book> Desk<B> {
         requires header { is_none (items bytes.now) ≡ false }
         ensures end { B.clean self.new → B.stands self.old
             → EndsItems day (B.firm self.old) (items_in bytes.now) (B.firm self.new) result }
-        ensures kept { KeepsBook B.clean B.sure B.stands B.refusals (counted_end result) self.old self.new }
+        ensures kept { KeepsBook B.clean B.sure B.stands B.lasts B.refusals (counted_end result) self.old self.new }
         ensures crash { B.sure self.new → B.clean self.old → B.stands self.old → MayLeave B.clean B.leaves
             (is_fault_end result ≡ false)
             (λ found. (rest : List Item) × IsAfterFront day (B.firm self.old) (items_in bytes.now) rest found)
@@ -208,7 +208,7 @@ impl<B: Book> Desk<B> {
     ) -> Reply
         ensures step { B.clean self.new → B.stands self.old
             → Steps day (B.firm self.old) (Asks (Request.Matter no caller.now ask.now)) result (B.firm self.new) }
-        ensures kept { KeepsBook B.clean B.sure B.stands B.refusals (counted_reply result) self.old self.new }
+        ensures kept { KeepsBook B.clean B.sure B.stands B.lasts B.refusals (counted_reply result) self.old self.new }
         ensures crash { B.sure self.new → B.stands self.old → MayLeaveChange B.clean B.leaves
             (is_fault_reply result ≡ false) (B.firm self.old)
             (after_ask no (asked_on day caller.now ask.now) (B.firm self.old)) self.old self.new }
@@ -230,7 +230,7 @@ impl<B: Book> Desk<B> {
         ensures end { B.clean self.new → B.stands self.old
             → Ends (B.firm self.old) no (asked_on day caller.now ask.now) (B.firm self.new) result }
         ensures ok { IfOk result (λ reply. is_fault_reply reply ≡ false) }
-        ensures kept { KeepsBook B.clean B.sure B.stands B.refusals (counted_end result) self.old self.new }
+        ensures kept { KeepsBook B.clean B.sure B.stands B.lasts B.refusals (counted_end result) self.old self.new }
         ensures crash { B.sure self.new → B.stands self.old → MayLeaveChange B.clean B.leaves
             (is_fault_end result ≡ false) (B.firm self.old)
             (after_ask no (asked_on day caller.now ask.now) (B.firm self.old)) self.old self.new }
@@ -257,7 +257,7 @@ impl<B: Book> Desk<B> {
             (heard (take (length result.replies.items) requests.now)) result.replies.items (B.firm self.new) }
 
         // They are Store only where calls of the book were.
-        ensures kept { KeepsBook B.clean B.sure B.stands B.refusals (counted_replies result.replies.items)
+        ensures kept { KeepsBook B.clean B.sure B.stands B.lasts B.refusals (counted_replies result.replies.items)
             self.old self.new }
 
         // Where the store served as the run began, and no reply but the last is Store or Memory, a crash may leave what

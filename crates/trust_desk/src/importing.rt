@@ -179,7 +179,7 @@ impl<B: Book> Desk<B> {
             → KeepsUnnamed (B.firm self.old) item.now (B.firm self.new) }
 
         // It is Store only where a call of the book was.
-        ensures kept { KeepsBook B.clean B.sure B.stands B.refusals (counted result) self.old self.new }
+        ensures kept { KeepsBook B.clean B.sure B.stands B.lasts B.refusals (counted result) self.old self.new }
 
         // A crash may leave what it might have left before, or the rows with the item's change; and where it answers
         // Ok, of a settled book these alone.
@@ -209,7 +209,7 @@ impl<B: Book> Desk<B> {
         ensures err { B.clean self.new → B.stands self.old → OnErr result (B.firm self.new ≡ B.firm self.old) }
         ensures others { B.clean self.new → B.stands self.old
             → KeepsUnnamed (B.firm self.old) (OfMatter line.now) (B.firm self.new) }
-        ensures kept { KeepsBook B.clean B.sure B.stands B.refusals (counted result) self.old self.new }
+        ensures kept { KeepsBook B.clean B.sure B.stands B.lasts B.refusals (counted result) self.old self.new }
         ensures crash { B.sure self.new → B.stands self.old → MayLeaveChange B.clean B.leaves (IsOk result)
             (B.firm self.old) (after_item day (B.firm self.old) (OfMatter line.now)) self.old self.new }
     {
@@ -234,7 +234,7 @@ impl<B: Book> Desk<B> {
         ensures err { B.clean self.new → B.stands self.old → OnErr result (B.firm self.new ≡ B.firm self.old) }
         ensures others { B.clean self.new → B.stands self.old
             → KeepsUnnamed (B.firm self.old) (OfFirm line.now) (B.firm self.new) }
-        ensures kept { KeepsBook B.clean B.sure B.stands B.refusals (counted result) self.old self.new }
+        ensures kept { KeepsBook B.clean B.sure B.stands B.lasts B.refusals (counted result) self.old self.new }
         ensures crash { B.sure self.new → B.stands self.old → MayLeaveChange B.clean B.leaves (IsOk result)
             (B.firm self.old) (after_item day (B.firm self.old) (OfFirm line.now)) self.old self.new }
     {
@@ -257,7 +257,7 @@ impl<B: Book> Desk<B> {
             × (B.firm self.new ≡ after_balance kind line.now day (B.firm self.old))) }
         ensures err { B.clean self.new → B.stands self.old → OnErr result (B.firm self.new ≡ B.firm self.old) }
         ensures others { B.clean self.new → B.stands self.old → KeepsAll (B.firm self.old) (B.firm self.new) }
-        ensures kept { KeepsBook B.clean B.sure B.stands B.refusals (counted result) self.old self.new }
+        ensures kept { KeepsBook B.clean B.sure B.stands B.lasts B.refusals (counted result) self.old self.new }
         ensures crash { B.sure self.new → B.stands self.old → MayLeaveChange B.clean B.leaves (IsOk result)
             (B.firm self.old) (after_balance kind line.now day (B.firm self.old)) self.old self.new }
     {
@@ -272,7 +272,7 @@ impl<B: Book> Desk<B> {
         ensures step { B.clean self.new → B.stands self.old
             → IfOk result (λ c. (c ≡ Counted.Exception) × (B.firm self.new ≡ after_stray line.now (B.firm self.old))) }
         ensures err { B.clean self.new → B.stands self.old → OnErr result (B.firm self.new ≡ B.firm self.old) }
-        ensures kept { KeepsBook B.clean B.sure B.stands B.refusals (counted result) self.old self.new }
+        ensures kept { KeepsBook B.clean B.sure B.stands B.lasts B.refusals (counted result) self.old self.new }
         ensures crash { B.sure self.new → B.stands self.old → MayLeaveChange B.clean B.leaves (IsOk result)
             (B.firm self.old) (after_stray line.now (B.firm self.old)) self.old self.new }
     {
@@ -300,7 +300,8 @@ impl<B: Book> Desk<B> {
             → KeepsAllUnnamed (option_map items (R.remaining reader)) (B.firm self.old) (B.firm self.new) }
 
         // It ends by Store only where a call of the book did.
-        ensures kept { KeepsBook B.clean B.sure B.stands B.refusals (counted_stop result.end) self.old self.new }
+        ensures kept { KeepsBook B.clean B.sure B.stands B.lasts B.refusals (counted_stop result.end)
+            self.old self.new }
 
         // Where the store served as the import began, a crash may leave what it might have left before, or the rows
         // after some front of the items; and a settled book is settled, where neither the store nor memory ended it.
@@ -331,7 +332,8 @@ impl<B: Book> Desk<B> {
             → LacksHeader (option_map items (R.remaining reader)) }
         ensures limit { result.end ≡ ImportStop.Limit → IsTooLong K.bytes }
         ensures within { result.end ≡ ImportStop.Done → IsWithin K.bytes }
-        ensures kept { KeepsBook B.clean B.sure B.stands B.refusals (counted_stop result.end) self.old self.new }
+        ensures kept { KeepsBook B.clean B.sure B.stands B.lasts B.refusals (counted_stop result.end)
+            self.old self.new }
         ensures crash { B.sure self.new → B.clean self.old → B.stands self.old → MayLeave B.clean B.leaves
             (is_stopped result.end ≡ false)
             (IsAfterFirst day (B.firm self.old) (option_map items (R.remaining reader)))
@@ -373,7 +375,7 @@ impl<B: Book> Desk<B> {
             → LacksHeader lines.old.left }
         ensures limit { result ≡ Some ImportStop.Limit → IsTooLong K.bytes }
         ensures within { result ≡ Some ImportStop.Done → IsWithin K.bytes }
-        ensures kept { KeepsBook B.clean B.sure B.stands B.refusals (counted_if result) self.old self.new }
+        ensures kept { KeepsBook B.clean B.sure B.stands B.lasts B.refusals (counted_if result) self.old self.new }
         ensures crash { B.sure self.new → B.clean self.old → B.stands self.old → MayLeave B.clean B.leaves
             (IsNotStopped result) (IsAfterNext day (B.firm self.old) lines.old.left) (B.firm self.old) (B.firm self.new)
             self.old self.new }
@@ -402,7 +404,7 @@ impl<B: Book> Desk<B> {
             reply.old reply.new) }
         ensures keeps { OnErr result ((reply.new ≡ reply.old)
             × (B.clean self.new → B.stands self.old → B.firm self.new ≡ B.firm self.old)) }
-        ensures kept { KeepsBook B.clean B.sure B.stands B.refusals (counted result) self.old self.new }
+        ensures kept { KeepsBook B.clean B.sure B.stands B.lasts B.refusals (counted result) self.old self.new }
         ensures crash { B.sure self.new → B.clean self.old → B.stands self.old → MayLeave B.clean B.leaves (IsOk result)
             (λ found. found ≡ after_item day (B.firm self.old) item) (B.firm self.old) (B.firm self.new)
             self.old self.new }

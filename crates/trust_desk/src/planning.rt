@@ -37,7 +37,7 @@ pub(crate) fn read_for<B: Book>(
 ) -> Result<Matter, StoreFault>
     ensures found { B.clean book.new → B.stands book.old
         → IfOk result (λ part. IsReadFor (of no (B.firm book.old)) ask.now part) }
-    ensures read { IsRead B.firm B.clean B.sure B.stands B.leaves B.refusals result book.old book.new }
+    ensures read { IsRead B.firm B.clean B.sure B.stands B.lasts B.leaves B.refusals result book.old book.new }
 {
     if ask.is_accounting() {
         book.matter(alloc, no)

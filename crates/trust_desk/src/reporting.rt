@@ -25,7 +25,7 @@ pub(crate) fn find_report<B: Book>(
 ) -> Result<Reconciled, StoreFault>
     ensures told { B.clean book.new → B.stands book.old
         → IfOk result (λ found. found_text found ≡ report_for Caller.Cashier report today (B.firm book.old)) }
-    ensures read { IsRead B.firm B.clean B.sure B.stands B.leaves B.refusals result book.old book.new }
+    ensures read { IsRead B.firm B.clean B.sure B.stands B.lasts B.leaves B.refusals result book.old book.new }
 {
     match report {
         Report::Exceptions => exceptions_report(alloc, book, today).map(Reconciled::Text),

@@ -19,6 +19,7 @@ holds_none to_row of_row key rows none = record { stored = rw none refl; rise = 
 pub new_book_stands : (db : Database) → IsNewBook db → Stands Made db
 new_book_stands db new = record {
   schema = new.schema;
+  version = ap (map (λ (r : Row). column r 1)) new.version;
   heads = holds_none head_row head_in (λ (x : Head). x.no) _ new.others.0;
   seats = holds_none seat_row seat_in (λ (x : Seat). x.id) _ new.others.1.0;
   entries = holds_none entry_row entry_in (λ (x : Entry). x.id) _ new.others.1.1.0;

@@ -77,4 +77,5 @@ adds_version old new count has blank h =
       schema = ap (λ (d : Database). d.schema) now;
       version = ap (λ (t : Trees). t 0) all ∙ applied.rows ∙ rows;
       others = subst (λ (t : Trees). AllByRecursion (λ (x : Table). t x.tree ≡ []) (drop 1 (book_schema Made).tables)) (sym all) none;
+      listed = w.sound;
     }

@@ -28,6 +28,7 @@ fn build<S: Alter>(conn: &mut Connection<S>) -> Result<(), Error>
     ensures serves { HasCleanDisk (state S.Store conn.new) → OnOk result (IsTrue (state S.Store conn.new).is_open) }
     ensures made { HasCleanDisk (state S.Store conn.new) → (state S.Store conn.old).now.schema ≡ no_schema
         → OnOk result (IsNewBook (state S.Store conn.new).now) }
+    ensures was_open { HasCleanDisk (state S.Store conn.new) → OnOk result (IsTrue (state S.Store conn.old).is_open) }
     ensures settled { HasCleanDisk (state S.Store conn.new) → OnOk result (IsSettled (state S.Store conn.new)) }
     ensures neither { HasCleanDisk (state S.Store conn.new) → IsTrue (state S.Store conn.new).is_open
         → OnErr result (IsKept (state S.Store conn.old) (state S.Store conn.new)) }
@@ -52,6 +53,7 @@ pub fn make<S: Alter>(conn: &mut Connection<S>) -> Result<(), OpenFault>
     ensures made { HasCleanDisk (state S.Store conn.new) → OnOk result (IsNewBook (state S.Store conn.new).now) }
     ensures book { HasCleanDisk (state S.Store conn.new) → OnOk result (IsBook Made (state S.Store conn.new).now) }
     ensures stands { HasCleanDisk (state S.Store conn.new) → OnOk result (Stands Made (state S.Store conn.new).now) }
+    ensures was_open { HasCleanDisk (state S.Store conn.new) → OnOk result (IsTrue (state S.Store conn.old).is_open) }
     ensures settled { HasCleanDisk (state S.Store conn.new) → OnOk result (IsSettled (state S.Store conn.new)) }
     ensures empty { OnOk result ((state S.Store conn.old).now.schema ≡ no_schema) }
     ensures not_empty { (state S.Store conn.old).now.schema ≢ no_schema → result ≡ Err OpenFault.NotABook }

@@ -3,6 +3,7 @@
 ghost use Rattle.std.specs.Prelude.{◌≡◌, ◌↔◌, ◌⊎◌, ℤ, false, [], ◌∷◌, Some, map, IfOk, IfErr, OnOk, IsTrue};
 ghost use Rattle.std.specs.List.Sorted.{IsPermutation};
 ghost use Rattle.sqlite_value.specs.declared.value.Value.TheVariants.{Int};
+ghost use Rattle.sqlite.specs.Effect.{IsDatabase};
 ghost use Rattle.sqlite.specs.Held.{state};
 ghost use Rattle.sqlite.specs.State.{HasCleanDisk, Survives};
 ghost use Rattle.trust_making.specs.Books.{versions_in, IsBook, HasFailed};
@@ -124,6 +125,8 @@ pub fn adopt<S: Alter>(conn: &mut Connection<S>) -> Result<Layout, OpenFault>
     ensures taken { HasCleanDisk (state S.Store conn.new)
         → IfOk result (λ l. IsBook l (state S.Store conn.old).now
         × IsSettled (state S.Store conn.new) × IsKept (state S.Store conn.old) (state S.Store conn.new)) }
+    ensures listed { HasCleanDisk (state S.Store conn.new)
+        → IfOk result (λ _. IsDatabase (state S.Store conn.old).now) }
     ensures store { HasCleanDisk (state S.Store conn.new)
         → IfErr result (λ e. e ≡ OpenFault.Store → HasFailed (state S.Store conn.old) (state S.Store conn.new)) }
     ensures refused { HasCleanDisk (state S.Store conn.new)

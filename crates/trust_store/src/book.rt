@@ -38,6 +38,9 @@ pub trait Book {
     /// What the store keeps stands for the rows of a sound firm.
     ghost stands: { Self → Type 0 };
 
+    /// Whatever a crash leaves now is taken as a book again, and stands for the rows of a sound firm.
+    ghost lasts: { Self → Type 0 };
+
     /// The rows that may be found after a crash now.
     ghost leaves: { Self → Firm → Type 0 };
 
@@ -54,7 +57,7 @@ pub trait Book {
     fn matter(&mut self, alloc: Global, matter: MatterNo) -> Result<Matter, StoreFault>
         ensures whole { clean self.new → stands self.old
             → IfOk result (λ part. IsWhole part (of matter (firm self.old))) }
-        ensures read { IsRead firm clean sure stands leaves refusals result self.old self.new };
+        ensures read { IsRead firm clean sure stands lasts leaves refusals result self.old self.new };
 
     /// A matter with its head, seats and totals, the entries that are named, those that these draw on, and no
     /// others.
@@ -67,52 +70,52 @@ pub trait Book {
     ) -> Result<Matter, StoreFault>
         ensures found { clean self.new → stands self.old
             → IfOk result (λ part. IsPartFor (of matter (firm self.old)) entry other part) }
-        ensures read { IsRead firm clean sure stands leaves refusals result self.old self.new };
+        ensures read { IsRead firm clean sure stands lasts leaves refusals result self.old self.new };
 
     /// The firm's own ledger: its lines in the order of acceptance.
     fn firm(&mut self, alloc: Global) -> Result<FirmLedger, StoreFault>
         ensures found { clean self.new → stands self.old → IfOk result (λ ledger. ledger ≡ (firm self.old).firm_lines) }
-        ensures read { IsRead firm clean sure stands leaves refusals result self.old self.new };
+        ensures read { IsRead firm clean sure stands lasts leaves refusals result self.old self.new };
 
     /// The opening or closing balance of a day, in cents, or None where none is kept.
     fn balance(&mut self, kind: BalanceKind, day: Day) -> Result<Option<i64>, StoreFault>
         ensures found { clean self.new → stands self.old
             → IfOk result (λ kept. kept ≡ kept_balance kind day (firm self.old).balances) }
-        ensures read { IsRead firm clean sure stands leaves refusals result self.old self.new };
+        ensures read { IsRead firm clean sure stands lasts leaves refusals result self.old self.new };
 
     /// Hands over each row. They come in order: by matter, and in each the head, the seats by person and the entries by
     /// number. A row for which the sink wants memory ends the call.
     fn each_row<S: RowSink>(&mut self, sink: &mut S) -> Result<(), StoreFault>
         ensures handed { clean self.new → stands self.old
             → AreHanded S.stepped IsRowInRange (firm self.old).rows result sink.old sink.new }
-        ensures read { IsRead firm clean sure stands leaves refusals result self.old self.new };
+        ensures read { IsRead firm clean sure stands lasts leaves refusals result self.old self.new };
 
     /// Hands over each movement, in the order of acceptance. One for which the sink wants memory ends the call.
     fn each_movement<S: RowSink>(&mut self, sink: &mut S) -> Result<(), StoreFault>
         ensures handed { clean self.new → stands self.old
             → AreHanded S.moved IsMovementInRange (firm self.old).movements result sink.old sink.new }
-        ensures read { IsRead firm clean sure stands leaves refusals result self.old self.new };
+        ensures read { IsRead firm clean sure stands lasts leaves refusals result self.old self.new };
 
     /// Hands over each line of the firm's own, in the order of acceptance. One for which the sink wants memory ends the
     /// call.
     fn each_firm_line<S: RowSink>(&mut self, sink: &mut S) -> Result<(), StoreFault>
         ensures handed { clean self.new → stands self.old
             → AreHanded S.lined IsFirmLineInRange (firm self.old).firm_lines result sink.old sink.new }
-        ensures read { IsRead firm clean sure stands leaves refusals result self.old self.new };
+        ensures read { IsRead firm clean sure stands lasts leaves refusals result self.old self.new };
 
     /// Hands over each exception. They come in order: by day, reference, the bank's reference, amount as a number, and
     /// text. A line for which the sink wants memory ends the call.
     fn each_exception<S: RowSink>(&mut self, sink: &mut S) -> Result<(), StoreFault>
         ensures handed { clean self.new → stands self.old
             → AreHanded S.noted IsLineInRange (firm self.old).exceptions result sink.old sink.new }
-        ensures read { IsRead firm clean sure stands leaves refusals result self.old self.new };
+        ensures read { IsRead firm clean sure stands lasts leaves refusals result self.old self.new };
 
     /// Hands over each balance. They come in order: openings before closings, each by day. One for which the sink wants
     /// memory ends the call.
     fn each_balance<S: RowSink>(&mut self, sink: &mut S) -> Result<(), StoreFault>
         ensures handed { clean self.new → stands self.old
             → AreHanded S.balanced IsBalanceInRange (firm self.old).balances result sink.old sink.new }
-        ensures read { IsRead firm clean sure stands leaves refusals result self.old self.new };
+        ensures read { IsRead firm clean sure stands lasts leaves refusals result self.old self.new };
 
     /// Makes one change of a matter, or none where it is refused. The change has to be one of the matter's rows as they
     /// are now. A change that is nothing is never refused.
@@ -123,7 +126,7 @@ pub trait Book {
         change: &Change,
     ) -> Result<(), StoreFault>
         requires { clean self.old → stands self.old → FitsFirm (firm self.old) (OfMatter matter None change.now) }
-        ensures written { IsWrite firm clean sure stands leaves refusals
+        ensures written { IsWrite firm clean sure stands lasts leaves refusals
             (OfMatter matter None change.now) result self.old self.new }
         ensures nothing { change.now.edit ≡ Nothing → IsOk result };
 
@@ -138,7 +141,7 @@ pub trait Book {
         verdict: &LineVerdict,
     ) -> Result<(), StoreFault>
         requires { clean self.old → stands self.old → IsVerdictOn (firm self.old) line.now verdict.now }
-        ensures written { IsWrite firm clean sure stands leaves refusals
+        ensures written { IsWrite firm clean sure stands lasts leaves refusals
             (by_line line.now verdict.now) result self.old self.new };
 
     /// Writes what becomes of a line of the firm's own: one that is applied joins the firm's ledger with what it moved
@@ -146,7 +149,7 @@ pub trait Book {
     /// to be that on this line, by the ledger as it is now. It is one write.
     fn write_firm(&mut self, alloc: Global, line: &Line, verdict: Verdict) -> Result<(), StoreFault>
         requires { clean self.old → stands self.old → IsFirmVerdict (firm self.old) line.now verdict }
-        ensures written { IsWrite firm clean sure stands leaves refusals
+        ensures written { IsWrite firm clean sure stands lasts leaves refusals
             (by_firm_line line.now verdict) result self.old self.new };
 
     /// Writes what becomes of an opening or closing balance: one that is applied is kept and is no exception from then
@@ -160,11 +163,11 @@ pub trait Book {
         verdict: Verdict,
     ) -> Result<(), StoreFault>
         requires { clean self.old → stands self.old → IsBalanceVerdict (firm self.old) kind line.now verdict }
-        ensures written { IsWrite firm clean sure stands leaves refusals
+        ensures written { IsWrite firm clean sure stands lasts leaves refusals
             (by_balance kind line.now verdict) result self.old self.new };
 
     /// Adds a whole line to the exceptions. Where an equal one is there already nothing changes.
     fn write_stray(&mut self, alloc: Global, line: &Line) -> Result<(), StoreFault>
-        ensures written { IsWrite firm clean sure stands leaves refusals
+        ensures written { IsWrite firm clean sure stands lasts leaves refusals
             (Unmatched line.now) result self.old self.new };
 }

@@ -150,6 +150,8 @@ impl Book for PlainBook {
 
     ghost stands = { FirmSound };
 
+    ghost lasts = { λ _. Unit {0} };
+
     ghost leaves = { λ _ _. ⊥ };
 
     ghost sound = { λ _ sound. sound };

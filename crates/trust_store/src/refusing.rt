@@ -40,6 +40,8 @@ impl<B: Book> Book for RefusingBook<B> {
 
     ghost stands = { λ b. B.stands b.inner };
 
+    ghost lasts = { λ b. B.lasts b.inner };
+
     ghost leaves = { λ b. B.leaves b.inner };
 
     ghost sound = { λ b. B.sound b.inner };

@@ -30,7 +30,7 @@ use Rattle.sqlite_keyed.specs.Keyed.{IsKeyedBy, insert_by, next_key}
 use Rattle.sqlite_keyed.specs.Lists.{delete_where}
 use Rattle.sqlite_keyed.proofs.ListLemmas.{map-map, map_same}
 use Rattle.sqlite_typed.proofs.AnswerLemmas.{at_end, last_table, matches_are}
-use Rattle.sqlite.specs.Effect.{Database, value_rows}
+use Rattle.sqlite.specs.Effect.{Database, IsDatabase, value_rows}
 use Rattle.sqlite.specs.Listing.{understood}
 use Rattle.sqlite.specs.Rows.{sequence, stamped, mended}
 use Rattle.sqlite.specs.State.{State, Executes}
@@ -71,13 +71,14 @@ module _ {X : Type 0} (l : Layout) (at : ℕ) (table : Table) (place : slice_get
     pub stored : old.now.trees table.tree ≡ map to_row xs
     pub rise : IsKeyedBy key xs
 
-  changed : (now : List X) (old new : State) (trees : Trees) → new.now ≡ record { schema = book_schema l; trees = trees } → trees table.tree ≡ map to_row now
+  changed : (now : List X) (old new : State) (trees : Trees) → IsDatabase new.now → new.now ≡ record { schema = book_schema l; trees = trees } → trees table.tree ≡ map to_row now
       → AllByRecursion (λ t. t.tree ≢ table.tree → trees t.tree ≡ old.now.trees t.tree) (book_schema l).tables → Changed l table.tree to_row now old.now new.now
-  changed now old new trees is rows others = record {
+  changed now old new trees sound is rows others = record {
     schema = ap (λ (d : Database). d.schema) is;
     rows = ap (λ (d : Database). d.trees table.tree) is ∙ rows;
     others = weaker (λ t. t.tree ≢ table.tree → trees t.tree ≡ old.now.trees t.tree) (λ t. t.tree ≢ table.tree → t.tree ≢ sequence_tree l → new.now.trees t.tree ≡ old.now.trees t.tree)
         (λ t same other apart. ap (λ (d : Database). d.trees t.tree) is ∙ same other) (book_schema l).tables others;
+    listed = sound;
   }
 
   module _ (no_clock : table.stamps.terms ≡ []) (no_formats : table.stamps.formats ≡ []) (old new : State) (xs : List X) (before : Before old xs) (text : List ℕ) (params : Row) (plain : IsPlain (understood (book_schema l) text)) (count : ℕ)
@@ -90,7 +91,7 @@ module _ {X : Type 0} (l : Layout) (at : ℕ) (table : Table) (place : slice_get
         let did = deletes old new (book_schema l) before.schema at table place params _ count q does in
         let gone = removed old.step_limit (book_schema l) table params no_clock no_formats old.now.trees q did.0 still did.1 in
         let are = picked_rows to_row key keyed table.tree tests params p passes old.now.trees xs before.stored before.rise gone.0 (gone.1.answer Null) in
-        changed (delete_where p xs) old new did.0.trees did.2
+        changed (delete_where p xs) old new did.0.trees does.sound did.2
         (gone.2.rows ∙ ap (λ rows. without_all rows (ids_of gone.0)) before.stored ∙ rows_gone key to_row keyed p xs before.rise gone.0 are) gone.2.tables
 
     module _ (terms : List Term) (width : ℕ) (source : Row) (sourced : value_rows (stamped table params) width (length terms / width) terms ≡ source ∷ []) where
@@ -106,7 +107,7 @@ module _ {X : Type 0} (l : Layout) (at : ℕ) (table : Table) (place : slice_get
           let are : AreConflicts None (book_schema l).indexes table (map to_row xs) (to_row n) rep.found =
           subst₂ (λ rows r. AreConflicts None (book_schema l).indexes table rows r rep.found) before.stored new_row rep.conflicts in
           let gone = conflicts_gone key to_row keyed (book_schema l).indexes table (to_row n) p xs before.rise meets rep.found are in
-          changed (insert_by key (delete_where p xs) n) old new did.0.trees did.2
+          changed (insert_by key (delete_where p xs) n) old new did.0.trees does.sound did.2
           (rep.rows ∙ ap (λ r. put_row (cast_row table r) (without_all (old.now.trees table.tree) (ids_of rep.found))) new_row
           ∙ ap₂ put_row again (ap (λ rows. without_all rows (ids_of rep.found)) before.stored ∙ gone)
           ∙ row_put key to_row keyed n (delete_where p xs)) rep.others
@@ -134,7 +135,7 @@ module _ {X : Type 0} (l : Layout) (at : ℕ) (table : Table) (place : slice_get
             let does = runs_as text params old new (book_schema l) before.schema _ is plain count ran in
             let did = inserts old new (book_schema l) before.schema at table place params _ count _ does in
             let put = inserted old.step_limit (book_schema l) table params no_clock no_formats terms width source uncounted sourced old.now.trees did.0 (λ r. quiet r) did.1 in
-            changed (xs ++ last ∷ []) old new did.0.trees did.2 (put.rows ∙ put_last _ last_row) put.others
+            changed (xs ++ last ∷ []) old new did.0.trees does.sound did.2 (put.rows ∙ put_last _ last_row) put.others
 
         -- or nothing happens, where such a row is there
         pub adds_or_not : command_of (understood (book_schema l) text) ≡ InsertOr at Ignore (Values terms width) [] → table.is_counted ≡ false → ((new : Row) → IsIdle (new ∷ []))
@@ -148,19 +149,19 @@ module _ {X : Type 0} (l : Layout) (at : ℕ) (table : Table) (place : slice_get
             (ap (is_present table) last_row ∙ present) (ap (passes_checks table) last_row ∙ fine) (λ r. quiet r) did.1 in
             let are : AreConflicts None (book_schema l).indexes table (map to_row xs) (to_row last) tried.0 =
             subst₂ (λ rows r. AreConflicts None (book_schema l).indexes table rows r tried.0) before.stored last_row tried.1 in
-            go did.0.trees did.2 tried.0 are tried.2
+            go did.0.trees does.sound did.2 tried.0 are tried.2
           where
-            go : (trees : Trees) → new.now ≡ record { schema = book_schema l; trees = trees } → (found : List Row) → AreConflicts None (book_schema l).indexes table (map to_row xs) (to_row last) found
+            go : (trees : Trees) → IsDatabase new.now → new.now ≡ record { schema = book_schema l; trees = trees } → (found : List Row) → AreConflicts None (book_schema l).indexes table (map to_row xs) (to_row last) found
                 → Ignored old.step_limit (book_schema l) table params no_clock no_formats found old.now.trees trees (with_rowid Chosen (old.now.trees table.tree) (cast_row table source))
                 → Changed l table.tree to_row (cond (list_any p xs) xs (xs ++ last ∷ [])) old.now new.now
-            go trees is [] are put =
+            go trees sound is [] are put =
                 let none : list_any p xs ≡ false = none_found to_row (book_schema l).indexes table (to_row last) p xs meets are in
                 subst (λ b. Changed l table.tree to_row (cond b xs (xs ++ last ∷ [])) old.now new.now) (sym none)
-                (changed (xs ++ last ∷ []) old new trees is (put.rows ∙ put_last _ (ap (cast_row table) last_row ∙ again)) put.others)
-            go trees is (x ∷ more) are same =
+                (changed (xs ++ last ∷ []) old new trees sound is (put.rows ∙ put_last _ (ap (cast_row table) last_row ∙ again)) put.others)
+            go trees sound is (x ∷ more) are same =
                 let some : list_any p xs ≡ true = some_found to_row (book_schema l).indexes table (to_row last) p xs meets x more are in
                 subst (λ b. Changed l table.tree to_row (cond b xs (xs ++ last ∷ [])) old.now new.now) (sym some)
-                (changed xs old new trees is (ap (λ (t : Trees). t table.tree) same ∙ before.stored) (unmoved trees same (book_schema l).tables))
+                (changed xs old new trees sound is (ap (λ (t : Trees). t table.tree) same ∙ before.stored) (unmoved trees same (book_schema l).tables))
               where
                 unmoved : (trees : Trees) → trees ≡ old.now.trees → (ts : List Table) → AllByRecursion (λ t. t.tree ≢ table.tree → trees t.tree ≡ old.now.trees t.tree) ts
                 unmoved trees same [] = tt
@@ -187,6 +188,7 @@ module _ {X : Type 0} (l : Layout) (at : ℕ) (table : Table) (place : slice_get
                 rows = ap (λ (d : Database). d.trees table.tree) did.2 ∙ put.1.rows apart ∙ ap₂ put_row new_row before.stored ∙ row_put key to_row keyed n xs ∙ ap (map to_row) (goes_last key xs n below);
                 others = weaker (λ t. t.tree ≢ table.tree → t.tree ≢ sequence_tree l → did.0.trees t.tree ≡ old.now.trees t.tree) (λ t. t.tree ≢ table.tree → t.tree ≢ sequence_tree l → new.now.trees t.tree ≡ old.now.trees t.tree)
                     (λ t same other away. ap (λ (d : Database). d.trees t.tree) did.2 ∙ same other away) (book_schema l).tables put.1.others;
+                listed = does.sound;
               };
               rise = rise_last key xs n before.rise below;
             }

@@ -1,5 +1,6 @@
 -- A change of one table leaves the others standing. Written by tools/book-tables.
-use Rattle.std.proofs.Common.{◌≡◌, List, map, sym, subst, arith}
+use Rattle.std.proofs.Common.{◌≡◌, List, map, sym, ap, subst, ◌∙◌, arith}
+use Rattle.sqlite_value.specs.Order.{Row, column}
 use Rattle.sqlite.specs.Effect.{Database}
 use Rattle.trust_schema.specs.declared.layout.Layout.{Layout}
 use Rattle.trust_schema.specs.declared.layout.Layout.TheVariants.{Made, Moved}
@@ -11,6 +12,7 @@ use Rattle.trust_tables.specs.Lists.{lists_in}
 pub stands_but_heads : (l : Layout) (db next : Database) → Stands l db → next.schema ≡ book_schema l → KeepsOthers l (matter_tree l) db next → HeadsHold (next.trees (matter_tree l)) → Stands l next
 stands_but_heads Made db next s schema o own = record {
   schema = schema;
+  version = ap (map (λ (r : Row). column r 1)) (o.0 (λ e. omega (arith, e)) (λ e. omega (arith, e))) ∙ s.version;
   heads = own;
   seats = subst SeatsHold (sym (o.1.1.0 (λ e. omega (arith, e)) (λ e. omega (arith, e)))) s.seats;
   entries = subst EntriesHold (sym (o.1.1.1.0 (λ e. omega (arith, e)) (λ e. omega (arith, e)))) s.entries;
@@ -21,6 +23,7 @@ stands_but_heads Made db next s schema o own = record {
 }
 stands_but_heads Moved db next s schema o own = record {
   schema = schema;
+  version = ap (map (λ (r : Row). column r 1)) (o.0 (λ e. omega (arith, e)) (λ e. omega (arith, e))) ∙ s.version;
   heads = own;
   seats = subst SeatsHold (sym (o.1.1.1.1.1.1.1.1.1.1.0 (λ e. omega (arith, e)) (λ e. omega (arith, e)))) s.seats;
   entries = subst EntriesHold (sym (o.1.1.1.1.1.1.1.1.1.1.1.0 (λ e. omega (arith, e)) (λ e. omega (arith, e)))) s.entries;
@@ -53,6 +56,7 @@ lists_but_heads Moved db next o now is = λ i. record {
 pub stands_but_seats : (l : Layout) (db next : Database) → Stands l db → next.schema ≡ book_schema l → KeepsOthers l (seat_tree l) db next → SeatsHold (next.trees (seat_tree l)) → Stands l next
 stands_but_seats Made db next s schema o own = record {
   schema = schema;
+  version = ap (map (λ (r : Row). column r 1)) (o.0 (λ e. omega (arith, e)) (λ e. omega (arith, e))) ∙ s.version;
   heads = subst HeadsHold (sym (o.1.0 (λ e. omega (arith, e)) (λ e. omega (arith, e)))) s.heads;
   seats = own;
   entries = subst EntriesHold (sym (o.1.1.1.0 (λ e. omega (arith, e)) (λ e. omega (arith, e)))) s.entries;
@@ -63,6 +67,7 @@ stands_but_seats Made db next s schema o own = record {
 }
 stands_but_seats Moved db next s schema o own = record {
   schema = schema;
+  version = ap (map (λ (r : Row). column r 1)) (o.0 (λ e. omega (arith, e)) (λ e. omega (arith, e))) ∙ s.version;
   heads = subst HeadsHold (sym (o.1.1.1.1.1.1.1.1.1.0 (λ e. omega (arith, e)) (λ e. omega (arith, e)))) s.heads;
   seats = own;
   entries = subst EntriesHold (sym (o.1.1.1.1.1.1.1.1.1.1.1.0 (λ e. omega (arith, e)) (λ e. omega (arith, e)))) s.entries;
@@ -95,6 +100,7 @@ lists_but_seats Moved db next o now is = λ i. record {
 pub stands_but_entries : (l : Layout) (db next : Database) → Stands l db → next.schema ≡ book_schema l → KeepsOthers l (entry_tree l) db next → EntriesHold (next.trees (entry_tree l)) → Stands l next
 stands_but_entries Made db next s schema o own = record {
   schema = schema;
+  version = ap (map (λ (r : Row). column r 1)) (o.0 (λ e. omega (arith, e)) (λ e. omega (arith, e))) ∙ s.version;
   heads = subst HeadsHold (sym (o.1.0 (λ e. omega (arith, e)) (λ e. omega (arith, e)))) s.heads;
   seats = subst SeatsHold (sym (o.1.1.0 (λ e. omega (arith, e)) (λ e. omega (arith, e)))) s.seats;
   entries = own;
@@ -105,6 +111,7 @@ stands_but_entries Made db next s schema o own = record {
 }
 stands_but_entries Moved db next s schema o own = record {
   schema = schema;
+  version = ap (map (λ (r : Row). column r 1)) (o.0 (λ e. omega (arith, e)) (λ e. omega (arith, e))) ∙ s.version;
   heads = subst HeadsHold (sym (o.1.1.1.1.1.1.1.1.1.0 (λ e. omega (arith, e)) (λ e. omega (arith, e)))) s.heads;
   seats = subst SeatsHold (sym (o.1.1.1.1.1.1.1.1.1.1.0 (λ e. omega (arith, e)) (λ e. omega (arith, e)))) s.seats;
   entries = own;
@@ -137,6 +144,7 @@ lists_but_entries Moved db next o now is = λ i. record {
 pub stands_but_movements : (l : Layout) (db next : Database) → Stands l db → next.schema ≡ book_schema l → KeepsOthers l (journal_tree l) db next → MovementsHold (next.trees (journal_tree l)) → Stands l next
 stands_but_movements Made db next s schema o own = record {
   schema = schema;
+  version = ap (map (λ (r : Row). column r 1)) (o.0 (λ e. omega (arith, e)) (λ e. omega (arith, e))) ∙ s.version;
   heads = subst HeadsHold (sym (o.1.0 (λ e. omega (arith, e)) (λ e. omega (arith, e)))) s.heads;
   seats = subst SeatsHold (sym (o.1.1.0 (λ e. omega (arith, e)) (λ e. omega (arith, e)))) s.seats;
   entries = subst EntriesHold (sym (o.1.1.1.0 (λ e. omega (arith, e)) (λ e. omega (arith, e)))) s.entries;
@@ -147,6 +155,7 @@ stands_but_movements Made db next s schema o own = record {
 }
 stands_but_movements Moved db next s schema o own = record {
   schema = schema;
+  version = ap (map (λ (r : Row). column r 1)) (o.0 (λ e. omega (arith, e)) (λ e. omega (arith, e))) ∙ s.version;
   heads = subst HeadsHold (sym (o.1.1.1.1.1.1.1.1.1.0 (λ e. omega (arith, e)) (λ e. omega (arith, e)))) s.heads;
   seats = subst SeatsHold (sym (o.1.1.1.1.1.1.1.1.1.1.0 (λ e. omega (arith, e)) (λ e. omega (arith, e)))) s.seats;
   entries = subst EntriesHold (sym (o.1.1.1.1.1.1.1.1.1.1.1.0 (λ e. omega (arith, e)) (λ e. omega (arith, e)))) s.entries;
@@ -179,6 +188,7 @@ lists_but_movements Moved db next o now is = λ i. record {
 pub stands_but_firm_lines : (l : Layout) (db next : Database) → Stands l db → next.schema ≡ book_schema l → KeepsOthers l (firm_line_tree l) db next → FirmLinesHold (next.trees (firm_line_tree l)) → Stands l next
 stands_but_firm_lines Made db next s schema o own = record {
   schema = schema;
+  version = ap (map (λ (r : Row). column r 1)) (o.0 (λ e. omega (arith, e)) (λ e. omega (arith, e))) ∙ s.version;
   heads = subst HeadsHold (sym (o.1.0 (λ e. omega (arith, e)) (λ e. omega (arith, e)))) s.heads;
   seats = subst SeatsHold (sym (o.1.1.0 (λ e. omega (arith, e)) (λ e. omega (arith, e)))) s.seats;
   entries = subst EntriesHold (sym (o.1.1.1.0 (λ e. omega (arith, e)) (λ e. omega (arith, e)))) s.entries;
@@ -189,6 +199,7 @@ stands_but_firm_lines Made db next s schema o own = record {
 }
 stands_but_firm_lines Moved db next s schema o own = record {
   schema = schema;
+  version = ap (map (λ (r : Row). column r 1)) (o.0 (λ e. omega (arith, e)) (λ e. omega (arith, e))) ∙ s.version;
   heads = subst HeadsHold (sym (o.1.1.1.1.1.1.1.1.1.0 (λ e. omega (arith, e)) (λ e. omega (arith, e)))) s.heads;
   seats = subst SeatsHold (sym (o.1.1.1.1.1.1.1.1.1.1.0 (λ e. omega (arith, e)) (λ e. omega (arith, e)))) s.seats;
   entries = subst EntriesHold (sym (o.1.1.1.1.1.1.1.1.1.1.1.0 (λ e. omega (arith, e)) (λ e. omega (arith, e)))) s.entries;
@@ -221,6 +232,7 @@ lists_but_firm_lines Moved db next o now is = λ i. record {
 pub stands_but_exceptions : (l : Layout) (db next : Database) → Stands l db → next.schema ≡ book_schema l → KeepsOthers l (exception_tree l) db next → ExceptionsHold (next.trees (exception_tree l)) → Stands l next
 stands_but_exceptions Made db next s schema o own = record {
   schema = schema;
+  version = ap (map (λ (r : Row). column r 1)) (o.0 (λ e. omega (arith, e)) (λ e. omega (arith, e))) ∙ s.version;
   heads = subst HeadsHold (sym (o.1.0 (λ e. omega (arith, e)) (λ e. omega (arith, e)))) s.heads;
   seats = subst SeatsHold (sym (o.1.1.0 (λ e. omega (arith, e)) (λ e. omega (arith, e)))) s.seats;
   entries = subst EntriesHold (sym (o.1.1.1.0 (λ e. omega (arith, e)) (λ e. omega (arith, e)))) s.entries;
@@ -231,6 +243,7 @@ stands_but_exceptions Made db next s schema o own = record {
 }
 stands_but_exceptions Moved db next s schema o own = record {
   schema = schema;
+  version = ap (map (λ (r : Row). column r 1)) (o.0 (λ e. omega (arith, e)) (λ e. omega (arith, e))) ∙ s.version;
   heads = subst HeadsHold (sym (o.1.1.1.1.1.1.1.1.1.0 (λ e. omega (arith, e)) (λ e. omega (arith, e)))) s.heads;
   seats = subst SeatsHold (sym (o.1.1.1.1.1.1.1.1.1.1.0 (λ e. omega (arith, e)) (λ e. omega (arith, e)))) s.seats;
   entries = subst EntriesHold (sym (o.1.1.1.1.1.1.1.1.1.1.1.0 (λ e. omega (arith, e)) (λ e. omega (arith, e)))) s.entries;
@@ -263,6 +276,7 @@ lists_but_exceptions Moved db next o now is = λ i. record {
 pub stands_but_balances : (l : Layout) (db next : Database) → Stands l db → next.schema ≡ book_schema l → KeepsOthers l (balance_tree l) db next → BalancesHold (next.trees (balance_tree l)) → Stands l next
 stands_but_balances Made db next s schema o own = record {
   schema = schema;
+  version = ap (map (λ (r : Row). column r 1)) (o.0 (λ e. omega (arith, e)) (λ e. omega (arith, e))) ∙ s.version;
   heads = subst HeadsHold (sym (o.1.0 (λ e. omega (arith, e)) (λ e. omega (arith, e)))) s.heads;
   seats = subst SeatsHold (sym (o.1.1.0 (λ e. omega (arith, e)) (λ e. omega (arith, e)))) s.seats;
   entries = subst EntriesHold (sym (o.1.1.1.0 (λ e. omega (arith, e)) (λ e. omega (arith, e)))) s.entries;
@@ -273,6 +287,7 @@ stands_but_balances Made db next s schema o own = record {
 }
 stands_but_balances Moved db next s schema o own = record {
   schema = schema;
+  version = ap (map (λ (r : Row). column r 1)) (o.0 (λ e. omega (arith, e)) (λ e. omega (arith, e))) ∙ s.version;
   heads = subst HeadsHold (sym (o.1.1.1.1.1.1.1.1.1.0 (λ e. omega (arith, e)) (λ e. omega (arith, e)))) s.heads;
   seats = subst SeatsHold (sym (o.1.1.1.1.1.1.1.1.1.1.0 (λ e. omega (arith, e)) (λ e. omega (arith, e)))) s.seats;
   entries = subst EntriesHold (sym (o.1.1.1.1.1.1.1.1.1.1.1.0 (λ e. omega (arith, e)) (λ e. omega (arith, e)))) s.entries;

@@ -1,5 +1,5 @@
 -- What a list of statements makes of tables that stand.
-use Rattle.std.proofs.Common.{◌≡◌, ℕ, ℤ, ◌+◌, ◌<◌, ◌<ℤ◌, Bool, true, false, cond, List, [], ◌∷◌, ◌++◌, length, map, take, get_or, Result, Ok, Err, OnOk, refl, sym, ap, subst, ◌∙◌}
+use Rattle.std.proofs.Common.{◌≡◌, ◌≢◌, ℕ, ℤ, ◌+◌, ◌<◌, ◌<ℤ◌, Bool, true, false, cond, List, [], ◌∷◌, ◌++◌, length, map, take, get_or, Result, Ok, Err, OnOk, refl, sym, ap, subst, ◌∙◌}
 use Rattle.std.specs.List.{AllByRecursion, list_any}
 use Rattle.std.proofs.lemmas.List.{take_more}
 use Rattle.sqlite_value.specs.Order.{Row}
@@ -8,7 +8,7 @@ use Rattle.sqlite_keyed.specs.Keyed.{IsKeyedBy, next_key}
 use Rattle.sqlite_keyed.specs.Lists.{delete_where}
 use Rattle.sqlite_keyed.proofs.KeyedLemmas.{IsKeyedBy-insert_by, IsKeyedBy-delete_where}
 use Rattle.sqlite_keyed.proofs.ListLemmas.{map_back}
-use Rattle.sqlite.specs.Effect.{Database}
+use Rattle.sqlite.specs.Effect.{Database, IsDatabase}
 use Rattle.sqlite.specs.declared.error.Error.{Error}
 use Rattle.sqlite.specs.State.{State, Executes, ExecutesInside}
 use Rattle.sqlite.specs.Held.{Held, state}
@@ -19,7 +19,7 @@ use Rattle.trust_tables.specs.Given.{head_given, seat_given, entry_given, moveme
 use Rattle.trust_tables.specs.Rows.{Head, head_row, head_in, heads_in, is_head, Seat, seat_row, seat_in, seats_in, is_seat, is_seat_of, Entry, entry_row, entry_in, entries_in, is_entry, is_entry_of, Movement, movement_row, movement_in, movements_in, is_movement_of, FirmLine, firm_line_row, firm_line_in, Exception, exception_row, exception_in, exceptions_in, is_exception, Balance, balance_row, balance_in, balances_in}
 use Rattle.trust_tables.specs.Standing.{Holds, Stands}
 use Rattle.trust_tables.specs.Lists.{lists_in, IsStep}
-use Rattle.trust_tables.specs.Script.{Call, call_of, calls_of, RanInside, RanAll, Does, Written}
+use Rattle.trust_tables.specs.Script.{Call, call_of, calls_of, RanInside, RanAll, Does, DoesAll, Written}
 use Rattle.trust_tables.proofs.Casts.{below_next, rise_last}
 use Rattle.trust_tables.proofs.Tables.{head_written, seat_added, seat_removed, entry_written, movement_added, firm_line_added, exception_noted, exception_removed, balance_added, seats_purged, entries_purged, movements_purged}
 use Rattle.trust_tables.proofs.Others.{stands_but_heads, stands_but_seats, stands_but_entries, stands_but_movements, stands_but_firm_lines, stands_but_exceptions, stands_but_balances, lists_but_heads, lists_but_seats, lists_but_entries, lists_but_movements, lists_but_firm_lines, lists_but_exceptions, lists_but_balances}
@@ -121,6 +121,26 @@ module _ (l : Layout) (db next : Database) (stands : Stands l db) where
       stands_but_movements l db next stands w.schema w.others (now_holds movement_row movement_in key (λ _. refl) _ _ w.rows
       (IsKeyedBy-delete_where key (is_movement_of m) (movements_in l db.trees) stands.movements.rise))
 
+-- what a statement wrote is listed
+listed_by : (l : Layout) (db next : Database) (s : Statement) → Does l s db next → IsDatabase next
+listed_by l db next (statement.Head h) w = w.listed
+listed_by l db next (statement.Seat s) w = w.listed
+listed_by l db next (statement.SeatGone s) w = w.listed
+listed_by l db next (statement.Entry e) w = w.listed
+listed_by l db next (statement.Movement m) w = w.changed.listed
+listed_by l db next (statement.FirmLine f) w = w.changed.listed
+listed_by l db next (statement.Exception e) w = w.listed
+listed_by l db next (statement.ExceptionGone e) w = w.listed
+listed_by l db next (statement.Balance b) w = w.listed
+listed_by l db next (statement.SeatsGone m) w = w.listed
+listed_by l db next (statement.EntriesGone m) w = w.listed
+listed_by l db next (statement.MovementsGone m) w = w.listed
+
+-- and what the last of several wrote
+listed_after : (l : Layout) (script : List Statement) (db next : Database) → IsDatabase db → DoesAll l script db next → IsDatabase next
+listed_after l [] db next listed same = subst IsDatabase (sym same) listed
+listed_after l (s ∷ script) db next listed (mid, did, more) = listed_after l script mid next (listed_by l db mid s did) more
+
 module _ (l : Layout) (db next : Database) where
   -- the list that a table holds now
   read : {X : Type 0} (to_row : X → Row) (of_row : Row → X) (back : (x : X) → of_row (to_row x) ≡ x) (rows : List Row) (xs : List X) → rows ≡ map to_row xs → map of_row rows ≡ xs
@@ -145,6 +165,7 @@ ran_written g l [] old new stands same = record {
   does = ap (λ h. (state g h).now) same;
   steps = ap (λ h. lists_in l (state g h).now.trees) same;
   stands = subst (λ h. Stands l (state g h).now) (sym same) stands;
+  listed = λ some. absurd (some refl);
 }
 ran_written g l (s ∷ script) old new stands ran =
     let did = does l s (state g old) (state g ran.0) ran.1 stands ran.2 in
@@ -153,6 +174,7 @@ ran_written g l (s ∷ script) old new stands ran =
       does = ((state g ran.0).now, did, more.does);
       steps = (lists_in l (state g ran.0).now.trees, step l (state g old).now (state g ran.0).now s did, more.steps);
       stands = more.stands;
+      listed = λ _. listed_after l script (state g ran.0).now (state g new).now (listed_by l (state g old).now (state g ran.0).now s did) more.does;
     }
 
 pub all_written : {S : Type 0} (g : Ghosts S) (l : Layout) (script : List Statement) (old : Held S) (db : Database) → Stands l (state g old).now → RanAll g (calls_of script) old db → Written l script (state g old).now db

@@ -1,11 +1,11 @@
 -- A list of statements that ran in turn in one transaction, and what they make of tables that stand.
-use Rattle.std.specs.Prelude.{◌≡◌, ℕ, true, List, [], ◌∷◌, map, Result, Ok, OnOk, IsTrue}
+use Rattle.std.specs.Prelude.{◌≡◌, ◌≢◌, ℕ, true, List, [], ◌∷◌, map, Result, Ok, OnOk, IsTrue}
 use Rattle.sqlite_value.specs.declared.value.Value.TheVariants.{Int, Text}
 use Rattle.sqlite_value.specs.Order.{Row}
 use Rattle.sqlite_trees.specs.Tree.{Trees}
 use Rattle.sqlite_trees.specs.declared.store.Store.{Ghosts}
 use Rattle.sqlite_keyed.specs.Lists.{delete_where}
-use Rattle.sqlite.specs.Effect.{Database}
+use Rattle.sqlite.specs.Effect.{Database, IsDatabase}
 use Rattle.sqlite.specs.declared.error.Error.{Error}
 use Rattle.sqlite.specs.State.{State, HasCleanDisk, Executes}
 use Rattle.sqlite.specs.Held.{Held, state}
@@ -94,8 +94,10 @@ abbrev pub DoesAll : Layout → List Statement → Database → Database → Typ
 DoesAll l [] db next = next ≡ db
 DoesAll l (s ∷ script) db next = (mid : Database) × Does l s db mid × DoesAll l script mid next
 
--- the tables after the statements, which stand, and what they stand for now
+-- the tables after the statements, which stand, and what they stand for now; where anything was written, the database
+-- lists what it holds
 pub record Written (l : Layout) (script : List Statement) (db next : Database) : Type 0 where
   pub does : DoesAll l script db next
   pub steps : AreSteps script (lists_in l db.trees) (lists_in l next.trees)
   pub stands : Stands l next
+  pub listed : script ≢ [] → IsDatabase next

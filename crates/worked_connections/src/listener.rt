@@ -1,6 +1,6 @@
 // Where the clients of a test come from.
 
-ghost use Rattle.std.specs.Prelude.{None};
+ghost use Rattle.std.specs.Prelude.{⊤};
 
 use crate::clients::Arrival;
 use crate::clock::TrialClock;
@@ -23,7 +23,7 @@ impl<'p> ClientListener for TrialListener<'p> {
 
     type Writer = TrialWriting<'p>;
 
-    ghost sent = { λ listener k. None };
+    ghost comes = { λ _ _ _. ⊤ };
 
     fn accept(&mut self) -> Result<Connection<TrialReading<'p>, TrialWriting<'p>>, AcceptFault> {
         let (Some(arrival), Some(peer)) = (self.arrivals.first(), self.peers.first()) else {

@@ -80,9 +80,9 @@ impl ClientListener for TrialClients {
 
     type Writer = Unseen;
 
-    ghost use Rattle.std.specs.Prelude.{None};
+    ghost use Rattle.std.specs.Prelude.{⊤};
 
-    ghost sent = { λ _ _. None };
+    ghost comes = { λ _ _ _. ⊤ };
 
     fn accept(&mut self) -> Result<Connection<Sent, Unseen>, AcceptFault> {
         let Some(first) = self.rest.first() else {
@@ -112,9 +112,11 @@ pub(crate) struct TrialNetwork {
 impl Network for TrialNetwork {
     type Listener = TrialClients;
 
-    ghost use Rattle.std.specs.Prelude.{None};
+    ghost use Rattle.std.specs.Prelude.{⊤};
 
-    ghost clients = { λ _ _ _. None };
+    ghost comes = { λ _ _ _ _. ⊤ };
+
+    ghost refuses = { λ _ _. ⊤ };
 
     fn listen(&self, port: u16) -> Option<TrialClients> {
         if self.port == Some(port) {

@@ -31,7 +31,9 @@ impl Stores for TrialStores {
 
     ghost use Rattle.std.specs.Prelude.{⊤};
 
-    ghost keeps = { λ _ _ _. ⊤ };
+    ghost finds = { λ _ _ _. ⊤ };
+
+    ghost puts = { λ _ _ _. ⊤ };
 
     fn at(&self, alloc: Global, path: &str) -> Result<PlainBook, StoreFault> {
         self.asked.set(self.asked.get().wrapping_add(1));

@@ -3,7 +3,7 @@ use Rattle.cashier.proofs.RunFacts.{store-no-line}
 use Rattle.cashier.proofs.program.run_at_path.Goals as goal
 
 pub returns-in-Ok-clause-ran : goal.returns-in-Ok-clause-ran
-returns-in-Ok-clause-ran g c = λ words means. inl (c.run_over_book.ensures.ran c.args.path.now c.in-Ok.ensures.kept c.in-Ok.ensures.serves words means)
+returns-in-Ok-clause-ran g c = λ words means. inl (c.run_over_book.ensures.ran c.args.path.now c.in-Ok.ensures.found c.in-Ok.ensures.serves words means)
 
 pub returns-in-Err-clause-began : goal.returns-in-Err-clause-began
 returns-in-Err-clause-began g c = λ ended. store-no-line c.in-Err.fault (sym c.outcome_of_store.ensures ∙ ended)

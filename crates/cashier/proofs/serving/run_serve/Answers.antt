@@ -5,7 +5,7 @@ use Rattle.cashier.proofs.ServingFacts.{met-in-turn, serving-no-store}
 use Rattle.cashier.proofs.serving.run_serve.Goals as goal
 
 pub returns-in_default-clause-ends : goal.returns-in_default-clause-ends
-returns-in_default-clause-ends g c = λ clean stands. inr (record { outcome = refl; written = Appends-nil _; firm = refl })
+returns-in_default-clause-ends g c = λ clean stands. inr (record { cause = c.in_default.ensures.none; outcome = refl; written = Appends-nil _; firm = refl })
 
 pub returns-clause-store : goal.returns-clause-store
 returns-clause-store g c = λ store. serving-no-store _ (sym c.outcome_of_serving.ensures ∙ store)
@@ -19,8 +19,9 @@ returns-clause-ends g c =
       end = c.serve_connections.result;
       outcome = sym c.outcome_of_serving.ensures;
       ends = all.ends;
-      met = met-in-turn B.clean B.sure B.stands B.leaves B.firm B.refusals _ _ _ c.in-Some.ensures _ all.ends _ all.served clean stands;
+      met = met-in-turn B.clean B.sure B.stands B.lasts B.leaves B.firm B.refusals _ _ _ _ c.in-Some.ensures.some _ all.ends _ all.served clean stands;
       lines = all.told;
+      refused = λ e. c.in-Some.ensures.some _ _ (all.refused e);
     })
 
 pub returns-clause-kept : goal.returns-clause-kept

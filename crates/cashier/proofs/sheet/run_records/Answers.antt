@@ -8,6 +8,7 @@ use Rattle.csv.proofs.ReadFacts.{rows-end, rows-more}
 use Rattle.byte_streams.specs.CsvRecords.{rest_records}
 use Rattle.byte_streams.proofs.CsvRecords.{rest-none, rest-reached}
 use Rattle.cashier.proofs.CallFacts.{book-alone, book-then}
+use Rattle.cashier.proofs.SheetKept.{going-more, kept-here, kept-stopped}
 use Rattle.cashier.proofs.SheetFacts.{all-refused, leaves-first, leaves-past, none-refused, past-all, record-goes, record-stops}
 use Rattle.cashier.proofs.sheet.run_records.Goals as goal
 
@@ -39,7 +40,8 @@ loop-row-init g c =
       ready = inr (inr (rw (f, e) at fr.has_headers, fr.headers));
       turns = left;
       config = rw (f, e) at fr.config ∙ c.new.ensures.config;
-      kept = book-alone _ _ _ _ _;
+      kept = book-alone _ _ _ _ _ _;
+      going = λ sure clean stands. (clean, λ alone. alone);
       left = (strip_bom c.args.bytes.now, fr.source, λ _ _. ([], rw fr.state refl, Appends-nil _, refl, refl));
     })
 
@@ -73,6 +75,9 @@ loop-row-preserved g c =
       turns = s.2;
       config = s.0.2 ∙ inv.config;
       kept = book-then inv.kept c.in-Ok-run_record.ensures.kept;
+      going = λ sure clean stands.
+          let so = inv.going (c.in-Ok-run_record.ensures.kept.was_sure sure) clean stands in
+          going-more g.B.Book.firm _ _ _ refl so (c.in-Ok-run_record.ensures.crash sure so.0 (inv.kept.still_stands so.0 stands));
       left = (
         z,
         at_z,
@@ -103,3 +108,43 @@ returns-else-refused-clause-ends g c = λ clean stands.
     let end = rows-end left_of c.loop-row.row-iterator.rdr c.next.new.self.rdr [] default_config y inv.config source s in
     let all = past-all _ past _ parts (rest-none c.loop-row.row-iterator.rdr.state y end) in
     rw (← all) (leaves-past _ _ _ past _ _ _ (written, is, was), none-refused _ (sym c.if-refused.false ∙ was))
+
+-- What a crash leaves.
+
+pub returns-in_default-clause-crash : goal.returns-in_default-clause-crash
+returns-in_default-clause-crash g c = λ sure clean stands.
+    let (y, source, so_far) = c.loop-row.invariant.left in
+    let going = c.loop-row.invariant.going sure clean stands in
+    let (past, parts, written, is, was) = so_far going.0 stands in
+    kept-here g.B.Book.firm _ _ past _ _ _ _ _ _ _ parts (λ w. absurd w) (written, is, was) going
+
+pub returns-in-Err-clause-crash : goal.returns-in-Err-clause-crash
+returns-in-Err-clause-crash g c = λ sure clean stands.
+    let inv = c.loop-row.invariant in
+    let (y, source, so_far) = inv.left in
+    let s = rw (c.in-Some.is, c.in-Ok.is) at ((c.next.ensures.steps inv.turns inv.plain).0 inv.ready) in
+    let (z, at_z, first) = one-more c.loop-row.row-iterator.rdr c.next.new.self.rdr (fields_of c.in-Ok.row) y inv.config source s.0 in
+    let going = inv.going (c.run_record.ensures.kept.was_sure sure) clean stands in
+    let (past, parts, written, is, was) = so_far going.0 stands in
+    let stood = inv.kept.still_stands going.0 stands in
+    kept-stopped g.B.Book.firm _ _ past _ _ _ _ _ _ _ _ _ _ _ parts first (written, is, was) going (c.in-Err.ensures.crash sure going.0 stood) c.in-Err.ensures.told
+
+pub returns-then-refused-clause-crash : goal.returns-then-refused-clause-crash
+returns-then-refused-clause-crash g c = λ sure clean stands.
+    let inv = c.loop-row.invariant in
+    let (y, source, so_far) = inv.left in
+    let going = inv.going sure clean stands in
+    let (past, parts, written, is, was) = so_far going.0 stands in
+    let s = rw c.in-None.is at ((c.next.ensures.steps inv.turns inv.plain).0 inv.ready) in
+    let end = rows-end left_of c.loop-row.row-iterator.rdr c.next.new.self.rdr [] default_config y inv.config source s in
+    kept-here g.B.Book.firm _ _ past _ _ _ _ _ _ _ parts (λ w. rest-none c.loop-row.row-iterator.rdr.state y end) (written, is, was) going
+
+pub returns-else-refused-clause-crash : goal.returns-else-refused-clause-crash
+returns-else-refused-clause-crash g c = λ sure clean stands.
+    let inv = c.loop-row.invariant in
+    let (y, source, so_far) = inv.left in
+    let going = inv.going sure clean stands in
+    let (past, parts, written, is, was) = so_far going.0 stands in
+    let s = rw c.in-None.is at ((c.next.ensures.steps inv.turns inv.plain).0 inv.ready) in
+    let end = rows-end left_of c.loop-row.row-iterator.rdr c.next.new.self.rdr [] default_config y inv.config source s in
+    kept-here g.B.Book.firm _ _ past _ _ _ _ _ _ _ parts (λ w. rest-none c.loop-row.row-iterator.rdr.state y end) (written, is, was) going

@@ -6,6 +6,7 @@ use Rattle.csv.specs.declared.reader.Trim.TheVariants as trim
 use Rattle.byte_streams.specs.CsvRecords.{rest_records}
 use Rattle.cashier.specs.Calls.{IsSame, LeavesBook}
 use Rattle.cashier.specs.Sheet.{all_accepted, firm_from, lines_from, sheet_records}
+use Rattle.cashier.proofs.SheetKept.{IsGoing}
 use Rattle.cashier.proofs.sheet.run_records.Given as goal
 
 abbrev pub invariant-loop-row : goal.invariant-loop-row
@@ -14,7 +15,8 @@ invariant-loop-row g l = record {
   ready : Ready l.row-iterator.rdr;
   turns : 0 < l.row-iterator.left;
   config : l.row-iterator.rdr.config ≡ default_config;
-  kept : LeavesBook g.B.Book.clean g.B.Book.sure g.B.Book.stands g.B.Book.refusals IsSame l.initial.desk l.desk;
+  kept : LeavesBook g.B.Book.clean g.B.Book.sure g.B.Book.stands g.B.Book.lasts g.B.Book.refusals IsSame l.initial.desk l.desk;
+  going : g.B.Book.sure l.desk → g.B.Book.clean l.initial.desk → g.B.Book.stands l.initial.desk → IsGoing g.B.Book.clean g.B.Book.leaves g.B.Book.firm l.initial.desk l.desk;
   left : (y : List ℕ) × (source_of (λ (s : Bor (List ℕ)). Some s.now) l.row-iterator.rdr ≡ Some y)
       × (g.B.Book.clean l.desk → g.B.Book.stands l.initial.desk → (past : List (List (List ℕ)))
       × (past ++ rest_records l.row-iterator.rdr.state y ≡ sheet_records l.fn.bytes)

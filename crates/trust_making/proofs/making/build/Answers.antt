@@ -1,4 +1,4 @@
-use Rattle.std.proofs.Common.{refl, sym, ap, ◌∙◌, arith, rules, IsTrue, OnErr, not}
+use Rattle.std.proofs.Common.{refl, sym, ap, ◌∙◌, arith, rules, IsTrue, OnErr, OnOk, not}
 use Rattle.sqlite.specs.State.{HasCleanDisk}
 use Rattle.sqlite.specs.Held.{state}
 use Rattle.trust_tables.specs.Reading.{IsKept}
@@ -30,4 +30,16 @@ returns-clause-serves g c clean =
     let last = c.commit.new.self.0 in
     let clear : HasCleanDisk (state g.S.Store last) = search rules in
     let here = when_ok c.commit.result (c.commit.ensures.ok clear) (λ it. it.1.is_open) in
+    search rules
+
+pub returns-clause-was_open : goal.returns-clause-was_open
+returns-clause-was_open g c clean =
+    let first = state g.S.Store c.transaction-tx.result.conn.now in
+    let mid = state g.S.Store c.create.new.tx.conn.now in
+    let last = c.commit.new.self.0 in
+    let clear : HasCleanDisk (state g.S.Store last) = search rules in
+    let earlier : HasCleanDisk mid = omega (arith, c.commit.ensures.survives.clean) in
+    let begun : OnOk c.commit.result (IsTrue first.is_open) =
+    when_ok c.commit.result (c.commit.ensures.ok clear) (λ it. (c.create.ensures.kept earlier).was_open it.1.was_open) in
+    let was = rw c.transaction-tx.ensures.begun at begun in
     search rules

@@ -8,6 +8,12 @@ returns-in-Ok-true-clause-taken g c clean =
     let left = c.in-Ok-true.ensures.settled c.in-Some.layout clean has in
     ((c.in-Ok-true.ensures.is c.in-Some.layout clean has).0 c.in-Ok-true.field-0-test, left.0, left.1)
 
+pub returns-in-Ok-true-clause-listed : goal.returns-in-Ok-true-clause-listed
+returns-in-Ok-true-clause-listed g c clean =
+    let has : c.args.conn.now.schema ≡ book_schema c.in-Some.layout = search rules in
+    let kept = (c.in-Ok-true.ensures.settled c.in-Some.layout clean has).1 in
+    (c.schema.ensures.live kept.was_open).0
+
 pub returns-in-Ok-true-clause-kept : goal.returns-in-Ok-true-clause-kept
 returns-in-Ok-true-clause-kept g c clean still =
     let has : c.args.conn.now.schema ≡ book_schema c.in-Some.layout = search rules in

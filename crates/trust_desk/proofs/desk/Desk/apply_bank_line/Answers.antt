@@ -28,7 +28,7 @@ returns-in_err-verdict-clause-kept g c =
     let stood = subst (B.stands) (sym c.self.view_is) (stands (subst (B.clean) c.self.view_is (found.read.was_clean clean))) in
     let decides : LineDecides (of l.matter (firm c.self.inside.book)) l c.args.day (Err fault) = c.in_err-verdict.ensures (of l.matter (firm c.self.inside.book)) ((B.sound c.self.inside.book stood).matters l.matter) (found.found clean stood) in
     decision-uncounted (of l.matter (firm c.self.inside.book)) l c.args.day fault n decides in
-    let read = subst (λ b. KeepsBook (B.clean) (B.sure) (B.stands) (B.refusals) (λ n. n) b c.matter_for.new.self) c.self.view_is (read-kept found.read) in
+    let read = subst (λ b. KeepsBook (B.clean) (B.sure) (B.stands) (B.lasts) (B.refusals) (λ n. n) b c.matter_for.new.self) c.self.view_is (read-kept found.read) in
     let is = kept-as {told = counted {T = Counted} (Err fault)} (λ sure stands. sym (none sure stands)) read in
     let p = err_from_is_err_and c.from_residual-in_err-verdict.result c.from_residual-in_err-verdict.ensures.1 in
     rw (p.1, p.2) is
@@ -83,7 +83,7 @@ returns-clause-others g c =
 pub returns-clause-kept : goal.returns-clause-kept
 returns-clause-kept g c =
     let B = g.B.Book in
-    subst (λ b. KeepsBook (B.clean) (B.sure) (B.stands) (B.refusals) (λ n. n) b c.write_line.new.self) c.self.view_is
+    subst (λ b. KeepsBook (B.clean) (B.sure) (B.stands) (B.lasts) (B.refusals) (λ n. n) b c.write_line.new.self) c.self.view_is
     (kept-then (read-kept c.in_ok-matter.ensures.read) (write-kept c.in_ok-write_line.ensures.written))
 
 pub returns-in_err-verdict-clause-crash : goal.returns-in_err-verdict-clause-crash

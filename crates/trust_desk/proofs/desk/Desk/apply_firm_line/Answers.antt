@@ -49,7 +49,7 @@ returns-clause-others g c =
 pub returns-clause-kept : goal.returns-clause-kept
 returns-clause-kept g c =
     let B = g.B.Book in
-    subst (λ b. KeepsBook (B.clean) (B.sure) (B.stands) (B.refusals) (λ n. n) b c.write_firm.new.self) c.self.view_is
+    subst (λ b. KeepsBook (B.clean) (B.sure) (B.stands) (B.lasts) (B.refusals) (λ n. n) b c.write_firm.new.self) c.self.view_is
     (kept-then (read-kept c.in_ok-ledger.ensures.read) (write-kept c.in_ok-write_firm.ensures.written))
 
 pub returns-clause-crash : goal.returns-clause-crash

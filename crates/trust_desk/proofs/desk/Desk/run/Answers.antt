@@ -99,7 +99,7 @@ loop-request-init g c =
     record {
       run = λ clean stands. subst (λ (rs : List Reply). RunsSoundly c.args.day (firm c.args.self.now) [] rs (firm c.args.self.now)) none run;
       long = subst (λ (rs : List Reply). length rs ≡ 0) none refl;
-      kept = subst (λ (rs : List Reply). KeepsBook B.clean B.sure B.stands B.refusals (counted_replies rs) c.args.self.now c.args.self.now) none (kept-still c.args.self.now);
+      kept = subst (λ (rs : List Reply). KeepsBook B.clean B.sure B.stands B.lasts B.refusals (counted_replies rs) c.args.self.now c.args.self.now) none (kept-still c.args.self.now);
       crash = λ sure clean stands but_last. leave-still (firm c.args.self.now) c.args.self.now;
       shut = λ sure clean stands. subst (λ (rs : List Reply). AreRun c.args.day (firm c.args.self.now) c.args.requests.now (before_fault rs)) none (firm c.args.self.now, run);
     }

@@ -45,7 +45,7 @@ returns-in_err-planned-clause-kept g c =
     let stood = subst (B.stands) (sym c.self.view_is) (stands (subst (B.clean) c.self.view_is (found.read.was_clean clean))) in
     let refuses = at-part (λ (rows : Rows). MayRefuse (refusal rows a) r) (firm c.self.inside.book) c.args.no c.args.ask.now c.in_ok-matter.matter (B.sound c.self.inside.book stood) (found.found clean stood) c.in_err-planned.ensures.step in
     plan-uncounted (refusal (of c.args.no (firm c.self.inside.book)) a) r n refuses in
-    let read = subst (λ b. KeepsBook (B.clean) (B.sure) (B.stands) (B.refusals) (λ n. n) b c.read_for.new.book) c.self.view_is (read-kept found.read) in
+    let read = subst (λ b. KeepsBook (B.clean) (B.sure) (B.stands) (B.lasts) (B.refusals) (λ n. n) b c.read_for.new.book) c.self.view_is (read-kept found.read) in
     let is = kept-as {told = counted_refusal r} (λ sure stands. sym (none sure stands)) read in
     let p = err_from_is_err_and c.from_residual-in_err-planned.result c.from_residual-in_err-planned.ensures.1 in
     rw (p.1, p.2) is
@@ -83,7 +83,7 @@ returns-clause-end g c =
 pub returns-clause-kept : goal.returns-clause-kept
 returns-clause-kept g c =
     let B = g.B.Book in
-    subst (λ b. KeepsBook (B.clean) (B.sure) (B.stands) (B.refusals) (λ n. n) b c.write_change.new.self) c.self.view_is
+    subst (λ b. KeepsBook (B.clean) (B.sure) (B.stands) (B.lasts) (B.refusals) (λ n. n) b c.write_change.new.self) c.self.view_is
     (kept-then (read-kept c.in_ok-matter.ensures.read) (write-kept c.in_ok-write_change.ensures.written))
 
 pub returns-in_err-planned-clause-crash : goal.returns-in_err-planned-clause-crash

@@ -1,0 +1,169 @@
+-- What a crash leaves of a sheet.
+use Rattle.std.proofs.Common.{◌≡◌, ◌∙◌, ◌<◌, ◌≤◌, ◌++◌, ◌∷◌, nat_lt, ℕ, Bool, true, false, List, [], length, take, Option, Some, None, Result, Ok, Err, IfSome, inl, inr, refl, sym, ap, subst, arith}
+use Rattle.std.specs.Prelude.{⊤, IsOk}
+use Rattle.std.proofs.KnownBytes.{Appends-nil, Appends-trans}
+use Rattle.std.proofs.lemmas.Bool.Decides.{nat_tests}
+use Rattle.std.proofs.lemmas.List.{append-nil}
+use Rattle.std.specs.Io.KnownBytes.{Appends}
+use Rattle.std.specs.List.{concat}
+use Rattle.trust_base.specs.declared.limits.TheConstants.{MAX_FILE_BYTES}
+use Rattle.trust_base.specs.declared.refusal.Refusal.{Refusal}
+use Rattle.trust_base.specs.declared.refusal.Refusal.TheVariants.{TooLarge}
+use Rattle.firm_rows.specs.Firm.{Firm}
+use Rattle.trust_store.specs.Crashes.{LeavesAlone}
+use Rattle.trust_desk.specs.Crashes.{IsMade, MayLeave}
+use Rattle.trust_desk.specs.FirmStep.{Steps, firm_step}
+use Rattle.trust_desk.specs.Heard.{Asks, Heard}
+use Rattle.trust_desk.specs.Replies.{is_fault_body, is_fault_reply, refused}
+use Rattle.trust_desk.specs.declared.requests.Body.{Body}
+use Rattle.trust_desk.specs.declared.requests.Body.TheVariants.{Json, Refused, Text}
+use Rattle.trust_desk.specs.declared.requests.Reply.{Reply}
+use Rattle.trust_desk.specs.declared.requests.Request.{Request}
+use Rattle.trust_desk.proofs.Crashes.{leave-as, leave-still}
+use Rattle.trust_desk.proofs.MadeRows.{plain-step}
+use Rattle.ask_fields.specs.Fields.{Reads}
+use Rattle.cashier.specs.Records.{asked_of}
+use Rattle.cashier.specs.Sheet.{IsBehindLines, IsNextMade, IsWhole, LargeEnds, LinesAreKept, TellsLine, body_kind, body_line, firm_from, heard_of, lines_from, ran_by, records_run, refusal_line, reply_kind, reply_line, sheet_records}
+use Rattle.cashier.specs.declared.sheet.SheetEnd.{SheetEnd}
+use Rattle.cashier.specs.declared.sheet.SheetEnd.TheVariants as end
+use Rattle.cashier.proofs.SheetFacts.{SoFar, ends-other, goes-body, heard-read, refused-step}
+
+-- One record.
+
+pub record-asked : {B : Type 0} {clean : B → Type 0} {leaves : B → Firm → Type 0} (day : ℕ) (firm : Firm) (old new : B) (fields : List (List ℕ)) (request : Request) (reply : Reply) → asked_of fields ≡ Ok request
+    → MayLeave clean leaves (is_fault_reply reply ≡ false) (IsMade day firm (Asks request)) firm (firm_step day firm (Asks request)).firm old new
+    → MayLeave clean leaves (is_fault_reply reply ≡ false) (IsMade day firm (heard_of fields)) firm (firm_step day firm (heard_of fields)).firm old new
+record-asked {clean} {leaves} day firm old new fields request reply e may =
+    subst (λ (h : Heard). MayLeave clean leaves (is_fault_reply reply ≡ false) (IsMade day firm h) firm (firm_step day firm h).firm old new) (sym (heard-read fields request e)) may
+
+-- a record that could not be read changes nothing
+pub record-refused : {B : Type 0} {clean : B → Type 0} {leaves : B → Firm → Type 0} (day : ℕ) (firm : Firm) (b : B) (fields : List (List ℕ)) (why : Refusal) (reply : Reply) → Reads (asked_of fields) (Err why) → reply ≡ refused why
+    → MayLeave clean leaves (is_fault_reply reply ≡ false) (IsMade day firm (heard_of fields)) firm (firm_step day firm (heard_of fields)).firm b b
+record-refused day firm b fields why reply unread is =
+    let step = subst (λ (x : Reply). Steps day firm (heard_of fields) x firm) (sym is) (refused-step day firm fields why unread) in
+    leave-as {done = ⊤} (λ fine. tt) (λ found made. made) (λ fine. sym (plain-step day firm firm (heard_of fields) reply fine step)) (leave-still firm b)
+
+-- a record that lets the run go on was answered by no fault
+pub goes-plain : (reply : Reply) (ran : Result Bool SheetEnd) → ran ≡ ran_by (reply_kind reply) → IsOk ran → is_fault_reply reply ≡ false
+goes-plain reply (Ok accepted) goes ok = (goes-body reply.body accepted goes).0
+goes-plain reply (Err e) goes ok = absurd (cc)
+
+-- what is told of a record that lets the run go on
+pub told-as : {B : Type 0} {clean : B → Type 0} {leaves : B → Firm → Type 0} (day : ℕ) (first last : Firm) (old new : B) (h : Heard) (reply : Reply) (ran : Result Bool SheetEnd) → ran ≡ ran_by (reply_kind reply)
+    → clean old → (clean new → Steps day first h reply last)
+    → MayLeave clean leaves (is_fault_reply reply ≡ false) (IsMade day first h) first (firm_step day first h).firm old new
+    → MayLeave clean leaves (IsOk ran) (IsMade day first h) first last old new
+told-as day first last old new h reply ran goes served step may =
+    leave-as (goes-plain reply ran goes) (λ found is. is)
+    (λ ok. let fine = goes-plain reply ran goes ok in plain-step day first last h reply fine (step (may.serves served fine))) may
+
+-- What stands behind whole lines.
+
+behind-body : (reply : Reply) (b : Body) (e : SheetEnd) → reply.body ≡ b → Err e ≡ ran_by (body_kind b) → IsBehindLines (reply_line reply)
+behind-body reply (Json text) e is ended = cc
+behind-body reply (Text text) e is ended = cc
+behind-body reply (Refused r) e is ended = inr (inl (r, ap (body_line reply.status) is))
+
+behind-of : (old new : Option (List ℕ)) (e : SheetEnd) → TellsLine old new (Err e) → (more : List ℕ) × IsBehindLines more × Appends old new more
+behind-of old new e (reply, inl (ended, wrote)) = (reply_line reply, behind-body reply reply.body e refl ended, wrote)
+behind-of old new e (reply, inr (failed, (n, less, wrote))) = (take n (reply_line reply), inr (inr (reply, n, less, refl)), wrote)
+
+-- a record that ends a run was not the last of a whole one
+not-whole : (old new : Option (List ℕ)) (e : SheetEnd) → TellsLine old new (Err e) → IsWhole e → ⊥
+not-whole old new end.Done (reply, inl (ended, wrote)) w = ends-other (reply_kind reply) end.Done ended (λ s. cc) (λ m. cc)
+not-whole old new end.Done (reply, inr (failed, wrote)) w = cc
+not-whole old new end.Refused (reply, inl (ended, wrote)) w = ends-other (reply_kind reply) end.Refused ended (λ s. cc) (λ m. cc)
+not-whole old new end.Refused (reply, inr (failed, wrote)) w = cc
+not-whole old new end.ReadFault told w = w
+not-whole old new end.WriteFault told w = w
+not-whole old new end.Store told w = w
+not-whole old new end.NoMemory told w = w
+
+-- A run of records.
+
+abbrev GoesOn : Result Bool SheetEnd → Type 0
+GoesOn ran = IsOk ran
+
+-- so far the store serves, and a settled book is settled
+abbrev pub IsGoing : {B : Type 0} → (B → Type 0) → (B → Firm → Type 0) → (B → Firm) → B → B → Type 0
+IsGoing clean leaves firm old new = clean new × (LeavesAlone (firm old) (leaves old) → LeavesAlone (firm new) (leaves new))
+
+module _ {B : Type 0} {clean : B → Type 0} {leaves : B → Firm → Type 0} (firm : B → Firm) where
+  pub going-more : {done : Type 0} {Makes : Firm → Type 0} (old mid new : B) → done → IsGoing clean leaves firm old mid
+      → MayLeave clean leaves done Makes (firm mid) (firm new) mid new → IsGoing clean leaves firm old new
+  going-more old mid new is going one = (one.serves going.0 is, λ alone. one.settled is (going.1 alone))
+
+  -- where it ends between two records
+  pub kept-here : (day : ℕ) (all past later : List (List (List ℕ))) (old new : B) (given told : Option (List ℕ)) (off : Bool) (ended : SheetEnd) → past ++ later ≡ all → (IsWhole ended → later ≡ [])
+      → SoFar day (firm old) past (firm new) given told off → IsGoing clean leaves firm old new
+      → LinesAreKept clean leaves day (firm old) all old given told ended new
+  kept-here day all past later old new given told off ended parts none (written, is, was) going = record {
+    past = past;
+    later = later;
+    parts = parts;
+    more = [];
+    behind = inl refl;
+    written = subst (Appends given told) (sym (append-nil (concat (lines_from day (firm old) past)))) written;
+    left = λ alone found may. inl (going.1 alone found may ∙ is);
+    whole = λ w. (none w, going.0);
+  }
+
+  -- where a record ends it
+  pub kept-stopped : (day : ℕ) (all past left rest : List (List (List ℕ))) (r : List (List ℕ)) (old mid new : B) (given so_far told : Option (List ℕ)) (off : Bool) (ended : SheetEnd) → past ++ left ≡ all → left ≡ r ∷ rest
+      → SoFar day (firm old) past (firm mid) given so_far off → IsGoing clean leaves firm old mid
+      → MayLeave clean leaves (GoesOn (Err ended)) (IsMade day (firm mid) (heard_of r)) (firm mid) (firm new) mid new → TellsLine so_far told (Err ended)
+      → LinesAreKept clean leaves day (firm old) all old given told ended new
+  kept-stopped day all past left rest r old mid new given so_far told off ended parts first (written, is, was) going one line =
+      let (more, behind, wrote) = behind-of so_far told ended line in
+      record {
+        past = past;
+        later = r ∷ rest;
+        parts = rw first at parts;
+        more = more;
+        behind = behind;
+        written = Appends-trans given so_far told _ more written wrote;
+        left = λ alone found may. elim (one.crash found may) [
+          | inl before ↦ inl (going.1 alone found before ∙ is)
+          | inr made ↦ inr (subst (λ (f : Firm). IsMade day f (heard_of r) found) is made)
+        ];
+        whole = λ w. absurd (not-whole so_far told ended line w);
+      }
+
+  -- where none was run
+  pub kept-none : (day : ℕ) (all : List (List (List ℕ))) (old : B) (given : Option (List ℕ)) (ended : SheetEnd) → (IsWhole ended → ⊥) → LinesAreKept clean leaves day (firm old) all old given given ended old
+  kept-none day all old given ended never = record {
+    past = [];
+    later = all;
+    parts = refl;
+    more = [];
+    behind = inl refl;
+    written = Appends-nil given;
+    left = λ alone found may. inl (alone found may);
+    whole = λ w. absurd (never w);
+  }
+
+  pub kept-large : (day : ℕ) (old : B) (given told : Option (List ℕ)) (ended : SheetEnd) → clean old → LargeEnds (firm old) (firm old) given told ended → LinesAreKept clean leaves day (firm old) [] old given told ended old
+  kept-large day old given told end.Done served large = absurd large
+  kept-large day old given told end.Refused served (wrote, same) = record { past = []; later = []; parts = refl; more = refusal_line TooLarge; behind = inr (inl (TooLarge, refl)); written = wrote; left = λ alone found may. inl (alone found may); whole = λ w. (refl, served) }
+  kept-large day old given told end.ReadFault served (wrote, same) = record { past = []; later = []; parts = refl; more = []; behind = inl refl; written = wrote; left = λ alone found may. inl (alone found may); whole = λ w. absurd w }
+  kept-large day old given told end.WriteFault served (n, less, wrote, same) = record { past = []; later = []; parts = refl; more = take n (refusal_line TooLarge); behind = inr (inr (refused TooLarge, n, less, refl)); written = wrote; left = λ alone found may. inl (alone found may); whole = λ w. absurd w }
+  kept-large day old given told end.Store served large = absurd large
+  kept-large day old given told end.NoMemory served (wrote, same) = record { past = []; later = []; parts = refl; more = []; behind = inl refl; written = wrote; left = λ alone found may. inl (alone found may); whole = λ w. absurd w }
+
+-- A sheet, of bytes that are known or not.
+
+pub known-run : (known : Option (List ℕ)) (items : List ℕ) (Kept : List (List (List ℕ)) → Type 0) → IfSome known (λ all. (items ≡ all) × (length all ≤ MAX_FILE_BYTES)) → Kept (sheet_records items) → IfSome known (λ bytes. Kept (records_run bytes))
+known-run None items Kept read kept = tt
+known-run (Some bytes) items Kept (same, short) kept =
+    let within : nat_lt MAX_FILE_BYTES (length bytes) ≡ false = grind (arith, nat_tests) in
+    rw within (rw same at kept)
+
+pub known-large : (known : Option (List ℕ)) (Kept : List (List (List ℕ)) → Type 0) → IfSome known (λ all. MAX_FILE_BYTES < length all) → Kept [] → IfSome known (λ bytes. Kept (records_run bytes))
+known-large None Kept long kept = tt
+known-large (Some bytes) Kept long kept =
+    let beyond : nat_lt MAX_FILE_BYTES (length bytes) ≡ true = grind (arith, nat_tests) in
+    rw beyond kept
+
+pub known-none : (known : Option (List ℕ)) (Kept : List (List (List ℕ)) → Type 0) → ((all : List (List (List ℕ))) → Kept all) → IfSome known (λ bytes. Kept (records_run bytes))
+known-none None Kept kept = tt
+known-none (Some bytes) Kept kept = kept (records_run bytes)

@@ -1,0 +1,18 @@
+-- The trees of a database fix its schema.
+use Rattle.std.proofs.Common.{◌≡◌, subst}
+use Rattle.sqlite_trees.specs.Tree.{Trees}
+use Rattle.sqlite_trees.specs.Objects.{catalog_tree}
+use Rattle.sqlite_schema.specs.declared.schema.Schema.{Schema}
+use Rattle.sqlite_catalog.specs.Listing.{IsSound}
+use Rattle.sqlite_catalog.proofs.ReadLemmas.{lists_once}
+use Rattle.sqlite.specs.Effect.{Database, IsDatabase}
+
+-- the list of objects, which is one of the trees, lists one schema at most
+pub one_schema : (s t : Schema) (db : Trees) → IsSound s db → IsSound t db → s ≡ t
+one_schema s t db one other = lists_once (db catalog_tree) s t one.lists other.lists
+
+-- so databases of the same trees are the same
+pub one_database : (a b : Database) → IsDatabase a → IsDatabase b → a.trees ≡ b.trees → a ≡ b
+one_database a b one other same =
+    let schemas = one_schema a.schema b.schema b.trees (subst (IsSound a.schema) same one) other in
+    λ i. record { schema = schemas i; trees = same i }

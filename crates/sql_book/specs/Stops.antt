@@ -1,0 +1,58 @@
+-- What a stop leaves of a book, and the book that the next run takes from it.
+use Rattle.std.specs.Prelude.{◌≡◌}
+use Rattle.sqlite_trees.specs.Tree.{Trees}
+use Rattle.sqlite_trees.specs.declared.store.Store.{Ghosts}
+use Rattle.sqlite.specs.Held.{Held, state}
+use Rattle.sqlite.specs.State.{IsLive, Opens}
+use Rattle.firm_rows.specs.Firm.{empty_firm}
+use Rattle.trust_store.specs.Crashes.{LeavesAlone}
+use Rattle.trust_schema.specs.declared.layout.Layout.TheVariants.{Made}
+use Rattle.tables_meaning.specs.Standing.{StandsSound, firm_in}
+use Rattle.trust_making.specs.Books.{IsBook, AreNewBook}
+use Rattle.sql_book.specs.Books.{HeldBook, at, firm_of, IsStanding, IsLasting, MayLeave}
+use Rattle.sql_book.specs.Opening.{IsTaken}
+
+-- a connection was just opened over these trees: it sees what was committed, in a database that lists what it holds
+pub record IsOpenedOver {S : Type 0} (g : Ghosts S) (trees : Trees) (conn : Held S) : Type 0 where
+  pub opens : Opens (state g conn)
+  pub live : IsLive (state g conn)
+  pub found : (state g conn).committed.trees ≡ trees
+
+module _ {S T : Type 0} (g : Ghosts S) (h : Ghosts T) where
+  -- a connection holds a book, which stands for the rows of a sound firm, and a crash might have left these of another
+  -- book
+  pub record HoldsLeft (before : HeldBook S) (conn : Held T) : Type 0 where
+    pub book : IsBook before.layout (state h conn).now
+    pub stands : StandsSound before.layout (state h conn).now
+    pub firm : MayLeave g before (firm_in before.layout (state h conn).now.trees)
+
+  -- the book of the next run: it stands for the rows of a sound firm, which a crash might have left of the one before,
+  -- a crash now leaves these alone, and what it leaves lasts
+  pub record IsNext (before : HeldBook S) (next : HeldBook T) : Type 0 where
+    pub stands : IsStanding h next
+    pub firm : MayLeave g before (firm_of h next)
+    pub settled : LeavesAlone (firm_of h next) (MayLeave h next)
+    pub lasts : IsLasting h next
+
+  -- whatever a stop leaves of a book that lasts holds a book, which may be taken
+  abbrev pub StopsLeaveBooks : Type 0
+  StopsLeaveBooks =
+      (before : HeldBook S) (trees : Trees) (conn : Held T) → IsLasting g before → (at g before).may_leave trees
+      → IsOpenedOver h trees conn → HoldsLeft before conn
+
+  -- and the book that is taken is that of the next run
+  abbrev pub StopsAreTaken : Type 0
+  StopsAreTaken =
+      (before : HeldBook S) (conn : Held T) (next : HeldBook T) → HoldsLeft before conn → IsTaken h conn next
+      → IsNext before next
+
+-- a connection holds a book that stands for the firm without rows
+pub record HoldsNewBook {T : Type 0} (h : Ghosts T) (conn : Held T) : Type 0 where
+  pub book : IsBook Made (state h conn).now
+  pub stands : StandsSound Made (state h conn).now
+  pub empty : firm_in Made (state h conn).now.trees ≡ empty_firm
+
+-- what a stop leaves of a book that is being made, where it is not what was there before, is a book that may be taken
+abbrev pub StopsInMakingLeaveBooks : {T : Type 0} → Ghosts T → Type 0
+StopsInMakingLeaveBooks {T} h =
+    (trees : Trees) (conn : Held T) → AreNewBook trees → IsOpenedOver h trees conn → HoldsNewBook h conn

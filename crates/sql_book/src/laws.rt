@@ -1,0 +1,27 @@
+//! Laws of what a stop leaves of a book, each the contract of a function with nothing to do.
+
+ghost use Rattle.sql_book.specs.Stops.{StopsAreTaken, StopsInMakingLeaveBooks, StopsLeaveBooks};
+
+use sqlite::Alter;
+use tables_meaning::laws::empty_tables_stand;
+
+/// From a book that stands for a sound firm, over any call, any stop and the files opened again: what is found is a
+/// book, `SqlBook::adopt` does not answer NotABook, and its tables stand for the rows of a sound firm, which are among
+/// those that the call says a crash may leave: those before it or behind it, and behind it alone where it was
+/// acknowledged.
+pub fn stops_leave_books<S: Alter + Drop, T: Alter + Drop>()
+    ensures { StopsLeaveBooks S.Store T.Store }
+{}
+
+/// The book that is taken then stands, lasts and is settled: whatever is said of a call of a book that does holds of
+/// the next run with no premise of its own.
+pub fn stops_are_taken<S: Alter + Drop, T: Alter + Drop>()
+    ensures { StopsAreTaken S.Store T.Store }
+{}
+
+/// A stop in `SqlBook::make` leaves what was there before, or a book without rows, which is taken.
+pub fn stops_in_making_leave_books<T: Alter + Drop>()
+    ensures { StopsInMakingLeaveBooks T.Store }
+{
+    empty_tables_stand();
+}

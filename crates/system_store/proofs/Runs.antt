@@ -1,0 +1,81 @@
+-- The next run finds what the one before left.
+use Rattle.std.proofs.Common.{◌≡◌, ◌⊎◌, inl, inr, length, IsTrue, sym, ap, subst, refl, ◌∙◌, arith}
+use Rattle.std.proofs.Math.Logic.{∥∥₁_map}
+use Rattle.sqlite_disk.specs.declared.Disk as disk
+use Rattle.sqlite_wal.specs.Reads.{AreClean}
+use Rattle.sqlite_wal.specs.Recovery.{Image}
+use Rattle.sqlite_trees.specs.Tree.{Trees}
+use Rattle.sqlite_schema.specs.declared.schema.Schema.{Schema}
+use Rattle.sqlite_catalog.specs.Listing.{IsSound}
+use Rattle.sqlite_store.specs.FileStore.{state, view, recovers}
+use Rattle.sqlite_store.specs.declared.store.FileStore.{FileStore}
+use Rattle.sqlite.specs.Closing.{HoldsAlone}
+use Rattle.sqlite.specs.Effect.{Database}
+use Rattle.sqlite.specs.Files.{HoldsDatabase, file_state, over_files}
+use Rattle.sqlite.specs.Held.{Held, AreDatabases}
+use Rattle.sqlite.proofs.Theorems.{next_run}
+use Rattle.trust_schema.specs.declared.layout.Layout.{Layout}
+use Rattle.trust_schema.specs.declared.layout.Layout.TheVariants.{Made, Moved}
+use Rattle.trust_schema.specs.Schema.{book_schema}
+use Rattle.tables_meaning.specs.Standing.{StandsSound, firm_in}
+use Rattle.trust_making.specs.Books.{no_schema}
+use Rattle.sql_book.specs.Books.{at, IsStanding, IsLasting}
+use Rattle.sql_book.specs.Opening.{IsMade, IsTaken}
+use Rattle.sql_book.specs.Stops.{IsNext, IsOpenedOver}
+use Rattle.sql_book.proofs.OneSchema.{one_database}
+use Rattle.sql_book.proofs.Stops.{one_layout, leaves_book, is_taken}
+use Rattle.system_store.specs.Runs.{BookOf, IsFoundIn, IsPutBack, IsLeftIn, HasSameRows}
+
+-- a book has tables
+no_layout : (l : Layout) → no_schema ≡ book_schema l → ⊥
+no_layout Made same = omega (arith, ap (λ (s : Schema). length s.tables) same)
+no_layout Moved same = omega (arith, ap (λ (s : Schema). length s.tables) same)
+
+-- so none is made where there is one
+taken_there : {E : Type 0} {h : disk.Ghosts E} (l : Layout) (conn : Held (FileStore E h)) (next : BookOf h) → (file_state conn).now.schema ≡ book_schema l
+    → IsTaken over_files conn next ⊎ (((file_state conn).now.schema ≡ no_schema) × IsMade over_files next) → IsTaken over_files conn next
+taken_there l conn next there (inl taken) = taken
+taken_there l conn next there (inr (none, made)) = absurd (no_layout l (sym none ∙ there))
+
+module _ {D E : Type 0} (g : disk.Ghosts D) (h : disk.Ghosts E) where
+  same_rows : (before : BookOf g) (put : IsPutBack before) (image : Image) (next : BookOf h) → IsTrue (at over_files before).is_open → IsStanding over_files before → (found : IsFoundIn image next)
+      → HoldsDatabase image (at over_files before).committed.trees → HasSameRows before next
+  same_rows before put image next is_open stands found holds =
+      let conn = found.conn in
+      let now = (file_state conn).now in
+      let trees : now.trees ≡ (at over_files before).now.trees = ap (λ (d : Database). d.trees) found.opened.0.clean ∙ found.found.holds _ holds ∙ sym (ap (λ (d : Database). d.trees) (put.settled is_open)) in
+      let one : now ≡ (at over_files before).now = one_database now (at over_files before).now (found.opened.1 found.opened.0.is_open).0 (put.listed is_open) trees in
+      let schema : now.schema ≡ book_schema before.layout = ap (λ (d : Database). d.schema) one ∙ stands.tables.schema in
+      let taken = taken_there before.layout conn next schema found.book in
+      let same : before.layout ≡ next.layout = one_layout before.layout next.layout (sym schema ∙ taken.book.schema) in
+      let stood = subst (λ (l : Layout). StandsSound l now) same (subst (StandsSound before.layout) (sym one) stands) in
+      record {
+        rows = taken.firm ∙ ap (λ (l : Layout). firm_in l now.trees) (sym same) ∙ ap (firm_in before.layout) trees;
+        stands = taken.stands stood;
+        settled = taken.settled;
+        lasts = taken.lasts stood;
+      }
+
+  pub put_found : (before : BookOf g) (put : IsPutBack before) (image : Image) (next : BookOf h) → AreClean g put.files.log put.files.db → IsLeftIn g put.files image → IsStanding over_files before
+      → IsFoundIn image next → ∥ HasSameRows before next ∥₁
+  put_found before put image next clean left stands found =
+      let copied = put.copied clean in
+      ∥∥₁_map (there left).both (same_rows before put image next copied.was_open stands found)
+    where
+      there : IsLeftIn g put.files image → HoldsAlone image (file_state before.conn).committed.trees
+      there (inl same) = subst (λ (i : Image). HoldsAlone i (file_state before.conn).committed.trees) (sym same) (put.copied clean).seen
+      there (inr may) = (put.copied clean).left image may
+
+  databases : (before : BookOf g) → IsLasting over_files before → AreDatabases (recovers before.conn.store)
+  databases before lasts db may =
+      let it = lasts db may in
+      (it.db.schema, subst (IsSound it.db.schema) (sym it.left) it.listed)
+
+  pub stopped_found : (before : BookOf g) (image : Image) (next : BookOf h) → IsTrue (view before.conn.store).is_numbered → (state before.conn.store).may_leave image → IsLasting over_files before
+      → IsFoundIn image next → ∥ IsNext over_files over_files before next ∥₁
+  stopped_found before image next numbered may lasts found =
+      let conn = found.conn in
+      ∥∥₁_map (next_run before.conn.store numbered (databases before lasts) image may (file_state conn) found.found) (λ left.
+      let opened : IsOpenedOver over_files (file_state conn).committed.trees conn = record { opens = found.opened.0; live = found.opened.1; found = refl } in
+      let holds = leaves_book over_files over_files before (file_state conn).committed.trees conn lasts left opened in
+      is_taken over_files over_files before conn next holds (taken_there before.layout conn next holds.book.schema found.book))

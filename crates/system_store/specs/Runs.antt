@@ -1,0 +1,69 @@
+-- The book of a run over files, what is left of it there, and the book of the next run.
+use Rattle.std.specs.Prelude.{◌≡◌, ◌⊎◌, [], IsTrue}
+use Rattle.sqlite_disk.specs.declared.Disk as disk
+use Rattle.sqlite_disk.specs.declared.Files.{Files}
+use Rattle.sqlite_wal.specs.Files.{outcomes}
+use Rattle.sqlite_wal.specs.Reads.{AreClean}
+use Rattle.sqlite_wal.specs.Recovery.{Image}
+use Rattle.sqlite_store.specs.FileStore.{state, view}
+use Rattle.sqlite_store.specs.declared.store.FileStore.{FileStore}
+use Rattle.sqlite.specs.Closing.{IsCopied}
+use Rattle.sqlite.specs.Effect.{IsDatabase}
+use Rattle.sqlite.specs.Files.{IsOpened, file_state, image_of, over_files}
+use Rattle.sqlite.specs.Held.{Held}
+use Rattle.sqlite.specs.Start.{FindsIn}
+use Rattle.trust_store.specs.Crashes.{LeavesAlone}
+use Rattle.trust_making.specs.Books.{no_schema}
+use Rattle.sql_book.specs.Books.{HeldBook, at, firm_of, IsSure, IsStanding, IsLasting, MayLeave}
+use Rattle.sql_book.specs.Opening.{IsMade, IsTaken}
+use Rattle.sql_book.specs.Stops.{IsNext}
+
+-- the contents of two files of which nothing is known: those at which the kit's `Unknown` stands
+abbrev pub unknown_files : Image
+unknown_files = record { log = []; db = [] }
+
+-- a book of two files
+abbrev pub BookOf : {D : Type 0} → disk.Ghosts D → Type 0
+BookOf {D} g = HeldBook (FileStore D g)
+
+-- the book was taken from files with these contents, or made there where they held no table
+pub record IsFoundIn {D : Type 0} {g : disk.Ghosts D} (image : Image) (b : BookOf g) : Type 0 where
+  pub conn : Held (FileStore D g)
+  pub opened : IsOpened conn
+  pub found : FindsIn image (file_state conn)
+  pub book : IsTaken over_files conn b ⊎ (((file_state conn).now.schema ≡ no_schema) × IsMade over_files b)
+
+-- the book was given back to its files: what it saw was committed, in a database that lists what it holds, and is in
+-- the database file, as that reads now and after a crash, with its log and alone
+pub record IsPutBack {D : Type 0} {g : disk.Ghosts D} (b : BookOf g) : Type 0 where
+  pub files : Files D
+  pub copied : AreClean g files.log files.db → IsCopied b.conn files
+  pub settled : IsTrue (at over_files b).is_open → (at over_files b).now ≡ (at over_files b).committed
+  pub listed : IsTrue (at over_files b).is_open → IsDatabase (at over_files b).now
+
+-- as two files read now, or after a crash
+abbrev pub IsLeftIn : {D : Type 0} → disk.Ghosts D → Files D → Image → Type 0
+IsLeftIn g files image = (image ≡ image_of g files) ⊎ outcomes g files.log files.db image
+
+-- the book of a run stands, lasts, and has the rows of the one before
+pub record HasSameRows {D E : Type 0} {g : disk.Ghosts D} {h : disk.Ghosts E} (before : BookOf g) (next : BookOf h)
+    : Type 0 where
+  pub rows : firm_of over_files next ≡ firm_of over_files before
+  pub stands : IsStanding over_files next
+  pub settled : LeavesAlone (firm_of over_files next) (MayLeave over_files next)
+  pub lasts : IsLasting over_files next
+
+module _ {D E : Type 0} (g : disk.Ghosts D) (h : disk.Ghosts E) where
+  -- a book that stood and was put back is found again by the next run over its files, with the rows that it had
+  abbrev pub PutBooksAreFound : Type 0
+  PutBooksAreFound =
+      (before : BookOf g) (put : IsPutBack before) (image : Image) (next : BookOf h)
+      → AreClean g put.files.log put.files.db → IsLeftIn g put.files image → IsStanding over_files before
+      → IsFoundIn image next → ∥ HasSameRows before next ∥₁
+
+  -- a book that lasts is found again by the next run over what a stop left of its files
+  abbrev pub StoppedBooksAreFound : Type 0
+  StoppedBooksAreFound =
+      (before : BookOf g) (image : Image) (next : BookOf h) → IsTrue (view before.conn.store).is_numbered
+      → (state before.conn.store).may_leave image → IsLasting over_files before
+      → IsFoundIn image next → ∥ IsNext over_files over_files before next ∥₁

@@ -1,0 +1,18 @@
+//! Laws of one run over files and the next, each the contract of a function with nothing to do.
+
+ghost use Rattle.system_store.specs.Runs.{PutBooksAreFound, StoppedBooksAreFound};
+
+use sqlite_disk::Disk;
+
+/// Two runs over one path: where a run put its book back, the next one over its files, as they read now or after a
+/// crash, finds a book that stands for the same rows. No run makes a new book in their place.
+pub fn put_books_are_found<D: Disk, E: Disk>()
+    ensures { PutBooksAreFound D.Disk E.Disk }
+{}
+
+/// Where a run was broken off, at whatever moment, the next one over what that left of its files finds a book that
+/// stands for the rows of a sound firm, which are among those that a crash may leave then. Its store names the trees of
+/// a file by numbers, as that of each connection does.
+pub fn stopped_books_are_found<D: Disk, E: Disk>()
+    ensures { StoppedBooksAreFound D.Disk E.Disk }
+{}
