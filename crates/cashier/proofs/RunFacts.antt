@@ -11,7 +11,8 @@ use Rattle.firm_rows.proofs.Kept.{empty-sound}
 use Rattle.portal_server.specs.Clients.{Ports}
 use Rattle.command_line.specs.Program.{Means, MeansNothing, db_of}
 use Rattle.command_line.specs.declared.command.Task.{Task}
-use Rattle.cashier.specs.Outcome.{HadNoBook, HasRun, Ran, RanAtPath, RanInMemory, put_outcome, store_outcome}
+use Rattle.cashier.specs.Outcome.{Ran, put_outcome, store_outcome}
+use Rattle.cashier.specs.Runs.{HadNoBook, HasRun, RanAtPath, RanInMemory}
 use Rattle.cashier.specs.declared.outcome.Outcome.{Outcome}
 use Rattle.cashier.specs.declared.outcome.Outcome.TheVariants as outcome
 
@@ -43,12 +44,12 @@ in-memory before after words input known opens ports old new told none sound ran
 pub one-path : (given : Option Text) (path other : Text) (P : Text → Type 0) → given ≡ Some path → given ≡ Some other → P path → P other
 one-path given path other P here there p = subst P (same_Some path other (sym here ∙ there)) p
 
-module _ {B W : Type 0} {clean sure stands lasts : B → Type 0} {firm : B → Firm} {refusals : B → ℕ}
+module _ {B W : Type 0} {clean sure stands lasts : B → Type 0} {leaves : B → Firm → Type 0} {firm : B → Firm} {refusals : B → ℕ}
     {finds : Text → B → Type 0} {puts : B → Result Unit StoreFault → Type 0} {untouched : Type 0} {words : List Text} {input : Option (List ℕ)}
     {known : Text → Option (List ℕ)} {opens : Text → Option (Option ℕ) → Type 0} {ports : Ports W} where
   -- the words mean nothing
   pub by-line : (old new : Option (List ℕ)) → MeansNothing words
-      → HasRun clean sure stands lasts firm refusals finds puts untouched words input known opens ports old new outcome.CommandLine
+      → HasRun clean sure stands lasts leaves firm refusals finds puts untouched words input known opens ports old new outcome.CommandLine
   by-line old new nothing = record {
     line = λ _. nothing;
     meant = λ begun. absurd begun;
@@ -58,7 +59,7 @@ module _ {B W : Type 0} {clean sure stands lasts : B → Type 0} {firm : B → F
 
   -- memory was refused before anything was run
   pub by-want : (given : Option (List ℕ)) → untouched
-      → HasRun clean sure stands lasts firm refusals finds puts untouched words input known opens ports given given outcome.MemoryFault
+      → HasRun clean sure stands lasts leaves firm refusals finds puts untouched words input known opens ports given given outcome.MemoryFault
   by-want given nothing = record {
     line = λ e. cc;
     meant = λ begun. absurd begun;
@@ -70,7 +71,7 @@ module _ {B W : Type 0} {clean sure stands lasts : B → Type 0} {firm : B → F
   pub over-memory : (old new : Option (List ℕ)) (told : Outcome) (today : ℕ) (task : Task) → told ≢ outcome.CommandLine
       → Means words today task → db_of words ≡ None
       → RanInMemory (λ before after. Ran words input known opens ports before after old new) told
-      → HasRun clean sure stands lasts firm refusals finds puts untouched words input known opens ports old new told
+      → HasRun clean sure stands lasts leaves firm refusals finds puts untouched words input known opens ports old new told
   over-memory old new told today task began means none ran = record {
     line = λ e. absurd (began e);
     meant = λ _. (today, task, means);
@@ -81,15 +82,15 @@ module _ {B W : Type 0} {clean sure stands lasts : B → Type 0} {firm : B → F
   -- the words name a path
   pub over-path : (old new : Option (List ℕ)) (told : Outcome) (today : ℕ) (task : Task) (path : Text) → told ≢ outcome.CommandLine
       → Means words today task → db_of words ≡ Some path
-      → RanAtPath clean sure stands lasts firm refusals (finds path) puts (λ before after. Ran words input known opens ports before after old new) told
+      → RanAtPath clean sure stands lasts leaves firm refusals (finds path) puts words input known opens ports old new told
       ⊎ HadNoBook untouched told
-      → HasRun clean sure stands lasts firm refusals finds puts untouched words input known opens ports old new told
+      → HasRun clean sure stands lasts leaves firm refusals finds puts untouched words input known opens ports old new told
   over-path old new told today task path began means named ran = record {
     line = λ e. absurd (began e);
     meant = λ _. (today, task, means);
     in_memory = λ none _. absurd (none-some path (sym none ∙ named));
     at_path = λ other there _. one-path _ path other
-        (λ p. RanAtPath clean sure stands lasts firm refusals (finds p) puts (λ before after. Ran words input known opens ports before after old new) told
+        (λ p. RanAtPath clean sure stands lasts leaves firm refusals (finds p) puts words input known opens ports old new told
         ⊎ HadNoBook untouched told)
         named there ran;
   }

@@ -18,11 +18,11 @@ serving-no-store serving.WriteFault h = cc
 
 module _ {B W : Type 0} (clean sure stands lasts : B → Type 0) (leaves : B → Firm → Type 0) (firm : B → Firm) (refusals : B → ℕ) (contents : W → Option (List ℕ)) where
   -- a client that was served over a book whose store is clean and stood for a sound firm, said of the firm
-  client-met : (day : ℕ) (comes may : Comes W → Type 0) → ((c : Comes W) → comes c → may c) → (old : B) (end : StreamEnd) (new : B)
-      → IsClientServed clean sure stands lasts leaves firm refusals contents day comes old end new → clean new → stands old → IsMet contents day may (firm old) end (firm new)
-  client-met day comes may also old end new (inl client) c s =
-      inl (record { stream = client.stream; writer = client.writer; left = client.left; came = also _ client.came; ends = stream-ends client.served c s })
-  client-met day comes may also old end new (inr gone) c s = inr (record { came = also _ gone.came; ended = gone.ended; firm = ap firm gone.same })
+  client-met : (day : ℕ) (comes : Comes W → Type 0) (old : B) (end : StreamEnd) (new : B)
+      → IsClientServed clean sure stands lasts leaves firm refusals contents day comes old end new → clean new → stands old → IsMet contents day comes (firm old) end (firm new)
+  client-met day comes old end new (inl client) c s =
+      inl (record { stream = client.stream; writer = client.writer; left = client.left; came = client.came; ends = stream-ends client.served c s })
+  client-met day comes old end new (inr gone) c s = inr (record { came = gone.came; ended = gone.ended; firm = ap firm gone.same })
 
   -- a client leaves the book standing
   client-clean : (day : ℕ) (comes : Comes W → Type 0) (old : B) (end : StreamEnd) (new : B)
@@ -42,13 +42,28 @@ module _ {B W : Type 0} (clean sure stands lasts : B → Type 0) (leaves : B →
       client-clean day (comes 0) old end mid client (turn-clean day (λ k. comes (suc k)) mid ends new rest c)
 
   -- all clients, one after the other
-  pub met-in-turn : (day : ℕ) (comes may : ℕ → Comes W → Type 0) → ((k : ℕ) (c : Comes W) → comes k c → may k c) → (old : B) (ends : List StreamEnd) (new : B)
-      → AreServedInTurn clean sure stands lasts leaves firm refusals contents day comes old ends new → clean new → stands old → AreMetInTurn contents day may (firm old) ends (firm new)
-  met-in-turn day comes may also old [] new same c s = ap firm same
-  met-in-turn day comes may also old (end ∷ ends) new (mid, client, rest) c s =
+  pub met-in-turn : (day : ℕ) (comes : ℕ → Comes W → Type 0) (old : B) (ends : List StreamEnd) (new : B)
+      → AreServedInTurn clean sure stands lasts leaves firm refusals contents day comes old ends new → clean new → stands old → AreMetInTurn contents day comes (firm old) ends (firm new)
+  met-in-turn day comes old [] new same c s = ap firm same
+  met-in-turn day comes old (end ∷ ends) new (mid, client, rest) c s =
       let mid_clean = turn-clean day (λ k. comes (suc k)) mid ends new rest c in (
         firm mid,
-        client-met day (comes 0) (may 0) (also 0) old end mid client mid_clean s,
-        met-in-turn day (λ k. comes (suc k)) (λ k. may (suc k)) (λ k. also (suc k)) mid ends new rest c
-            (client-stands day (comes 0) old end mid client mid_clean s),
+        client-met day (comes 0) old end mid client mid_clean s,
+        met-in-turn day (λ k. comes (suc k)) mid ends new rest c (client-stands day (comes 0) old end mid client mid_clean s),
       )
+
+  -- what comes of a listener's accepts may come of its port's
+  client-as : (day : ℕ) (comes may : Comes W → Type 0) → ((c : Comes W) → comes c → may c) → (old : B) (end : StreamEnd) (new : B)
+      → IsClientServed clean sure stands lasts leaves firm refusals contents day comes old end new → IsClientServed clean sure stands lasts leaves firm refusals contents day may old end new
+  client-as day comes may also old end new (inl client) =
+      inl (record { stream = client.stream; writer = client.writer; left = client.left; came = also _ client.came; served = client.served })
+  client-as day comes may also old end new (inr gone) = inr (record { came = also _ gone.came; ended = gone.ended; same = gone.same })
+
+  pub served-as : (day : ℕ) (comes may : ℕ → Comes W → Type 0) → ((k : ℕ) (c : Comes W) → comes k c → may k c) → (old : B) (ends : List StreamEnd) (new : B)
+      → AreServedInTurn clean sure stands lasts leaves firm refusals contents day comes old ends new → AreServedInTurn clean sure stands lasts leaves firm refusals contents day may old ends new
+  served-as day comes may also old [] new same = same
+  served-as day comes may also old (end ∷ ends) new (mid, client, rest) = (
+    mid,
+    client-as day (comes 0) (may 0) (also 0) old end mid client,
+    served-as day (λ k. comes (suc k)) (λ k. may (suc k)) (λ k. also (suc k)) mid ends new rest,
+  )

@@ -26,7 +26,7 @@ use Rattle.trust_matter.specs.declared.ask.Ask.{Ask}
 use Rattle.ask_fields.specs.Fields.{Reads}
 use Rattle.cashier.specs.Records.{ask_of, asked_of, by_cashier, of_matter, of_verb, text_at, verb_in}
 use Rattle.cashier.specs.declared.record.Verb.{Verb}
-use Rattle.cashier.specs.Sheet.{Cut, CutsLine, Ends, LargeEnds, Leaves, RunEnds, sheet_records, all_accepted, body_line, body_kind, firm_from, heard_as, heard_of, is_accepting, lines_from, ran_by, record_step, refusal_kind, refusal_line, reply_kind, reply_line, IsCounted, RecordEnds}
+use Rattle.cashier.specs.Sheet.{Cut, CutsLine, Ends, LargeEnds, Leaves, RunEnds, sheet_records, all_accepted, body_line, body_kind, end_of, firm_from, heard_as, heard_of, is_accepting, lines_from, ran_by, record_step, refusal_kind, refusal_line, reply_kind, reply_line, IsCounted, RecordEnds}
 use Rattle.cashier.specs.declared.sheet.SheetEnd.{SheetEnd}
 use Rattle.cashier.specs.declared.sheet.SheetEnd.TheVariants as end
 use Rattle.cashier.specs.declared.reply_kind.ReplyKind.{ReplyKind}
@@ -142,7 +142,7 @@ steps-fault : (day : ℕ) (firm after : Firm) (fields : List (List ℕ)) (reply 
     → after ≡ firm
 steps-fault day firm after fields reply e steps = let stopped = rw e at steps in stopped-is day firm after (kind_of (heard_of fields)) (record-none fields) stopped.leaves
 
-steps-plain : (day : ℕ) (firm after : Firm) (h : Heard) (reply : Reply) → is_fault_reply reply ≡ false → Steps day firm h reply after
+pub steps-plain : (day : ℕ) (firm after : Firm) (h : Heard) (reply : Reply) → is_fault_reply reply ≡ false → Steps day firm h reply after
     → (reply ≡ (firm_step day firm h).reply) × (after ≡ (firm_step day firm h).firm)
 steps-plain day firm after h reply e steps = rw e at steps
 
@@ -295,13 +295,18 @@ pub past-all : (all past left : List (List (List ℕ))) → past ++ left ≡ all
 past-all all past left e none = sym (append-nil past) ∙ rw none at e
 
 -- whether all was accepted, by what was kept of it
-pub all-refused : (all : Bool) → true ≡ not all → all ≡ false
+all-refused : (all : Bool) → true ≡ not all → all ≡ false
 all-refused true e = cc
 all-refused false e = refl
 
-pub none-refused : (all : Bool) → false ≡ not all → all ≡ true
+none-refused : (all : Bool) → false ≡ not all → all ≡ true
 none-refused true e = refl
 none-refused false e = cc
+
+pub ended-whole : (day : ℕ) (before after : Firm) (all : List (List (List ℕ))) (old new : Option (List ℕ)) (refused : Bool) (e : SheetEnd) → e ≡ end_of refused
+    → Leaves day before all [] after old new → refused ≡ not (all_accepted day before all) → RunEnds day before all after old new e
+ended-whole day before after all old new true e is leaves was = rw is (leaves, all-refused _ was)
+ended-whole day before after all old new false e is leaves was = rw is (leaves, none-refused _ was)
 
 -- ---- a whole sheet, of bytes that are known or not
 

@@ -1,5 +1,5 @@
 -- What a crash leaves of a sheet.
-use Rattle.std.proofs.Common.{◌≡◌, ◌∙◌, ◌<◌, ◌≤◌, ◌++◌, ◌∷◌, nat_lt, ℕ, Bool, true, false, List, [], length, take, Option, Some, None, Result, Ok, Err, IfSome, inl, inr, refl, sym, ap, subst, arith}
+use Rattle.std.proofs.Common.{◌≡◌, ◌∙◌, ◌<◌, ◌≤◌, ◌++◌, ◌∷◌, ◌⊎◌, nat_lt, ℕ, Bool, true, false, List, [], length, take, Option, Some, None, Result, Ok, Err, IfSome, inl, inr, refl, sym, ap, subst, arith}
 use Rattle.std.specs.Prelude.{⊤, IsOk}
 use Rattle.std.proofs.KnownBytes.{Appends-nil, Appends-trans}
 use Rattle.std.proofs.lemmas.Bool.Decides.{nat_tests}
@@ -23,10 +23,11 @@ use Rattle.trust_desk.proofs.Crashes.{leave-as, leave-still}
 use Rattle.trust_desk.proofs.MadeRows.{plain-step}
 use Rattle.ask_fields.specs.Fields.{Reads}
 use Rattle.cashier.specs.Records.{asked_of}
-use Rattle.cashier.specs.Sheet.{IsBehindLines, IsNextMade, IsWhole, LargeEnds, LinesAreKept, TellsLine, body_kind, body_line, firm_from, heard_of, lines_from, ran_by, records_run, refusal_line, reply_kind, reply_line, sheet_records}
+use Rattle.cashier.specs.Sent.{IsSent}
+use Rattle.cashier.specs.Sheet.{IsBehindLines, IsNextMade, IsWhole, LargeEnds, LinesAreKept, TellsLine, body_kind, body_line, firm_from, heard_of, lines_from, ran_by, record_step, records_run, refusal_line, reply_kind, reply_line, sheet_records}
 use Rattle.cashier.specs.declared.sheet.SheetEnd.{SheetEnd}
 use Rattle.cashier.specs.declared.sheet.SheetEnd.TheVariants as end
-use Rattle.cashier.proofs.SheetFacts.{SoFar, ends-other, goes-body, heard-read, refused-step}
+use Rattle.cashier.proofs.SheetFacts.{SoFar, ends-other, goes-body, heard-read, refused-step, steps-plain}
 
 -- One record.
 
@@ -59,25 +60,56 @@ told-as day first last old new h reply ran goes served step may =
 
 -- What stands behind whole lines.
 
-behind-body : (reply : Reply) (b : Body) (e : SheetEnd) → reply.body ≡ b → Err e ≡ ran_by (body_kind b) → IsBehindLines (reply_line reply)
-behind-body reply (Json text) e is ended = cc
-behind-body reply (Text text) e is ended = cc
-behind-body reply (Refused r) e is ended = inr (inl (r, ap (body_line reply.status) is))
+-- a reply that ends a run is a refusal's
+ends-refused : (reply : Reply) (b : Body) (e : SheetEnd) → reply.body ≡ b → Err e ≡ ran_by (body_kind b) → (r : Refusal) × (reply_line reply ≡ refusal_line r)
+ends-refused reply (Json text) e is ended = cc
+ends-refused reply (Text text) e is ended = cc
+ends-refused reply (Refused r) e is ended = (r, ap (body_line reply.status) is)
 
-behind-of : (old new : Option (List ℕ)) (e : SheetEnd) → TellsLine old new (Err e) → (more : List ℕ) × IsBehindLines more × Appends old new more
-behind-of old new e (reply, inl (ended, wrote)) = (reply_line reply, behind-body reply reply.body e refl ended, wrote)
-behind-of old new e (reply, inr (failed, (n, less, wrote))) = (take n (reply_line reply), inr (inr (reply, n, less, refl)), wrote)
+-- and so is one that tells of a fault
+fault-refused : (reply : Reply) (b : Body) → reply.body ≡ b → is_fault_body b ≡ true → (r : Refusal) × (reply_line reply ≡ refusal_line r)
+fault-refused reply (Json text) is fault = absurd (cc)
+fault-refused reply (Text text) is fault = absurd (cc)
+fault-refused reply (Refused r) is fault = (r, ap (body_line reply.status) is)
+
+-- what is behind the lines of the records before one that ended the run
+behind-of : (day : ℕ) (firm : Firm) (here : List (List ℕ)) (rest : List (List (List ℕ))) (old new : Option (List ℕ)) (e : SheetEnd) → TellsLine day firm here old new (Err e)
+    → (more : List ℕ) × IsBehindLines day firm (here ∷ rest) more × Appends old new more
+behind-of day firm here rest old new e told = sent told.reply told.says told.sent
+  where
+    cut : (reply : Reply) (n : ℕ) → n < length (reply_line reply) → (is_fault_reply reply ≡ true) ⊎ (reply ≡ (record_step day firm here).reply) → IsBehindLines day firm (here ∷ rest) (take n (reply_line reply))
+    cut reply n less (inl fault) =
+        let (r, line) = fault-refused reply reply.body refl fault in
+        inr (inl (r, inr (n, subst (λ (text : List ℕ). n < length text) line less, ap (take n) line)))
+    cut reply n less (inr is) = inr (inr (n, subst (λ (x : Reply). n < length (reply_line x)) is less, ap (λ (x : Reply). take n (reply_line x)) is))
+
+    sent : (reply : Reply) → (is_fault_reply reply ≡ true) ⊎ (reply ≡ (record_step day firm here).reply) → IsSent (reply_line reply) (ran_by (reply_kind reply)) (Err end.WriteFault) old new (Err e)
+        → (more : List ℕ) × IsBehindLines day firm (here ∷ rest) more × Appends old new more
+    sent reply says (inl (ended, wrote)) =
+        let (r, line) = ends-refused reply reply.body e refl ended in
+        (reply_line reply, inr (inl (r, inl line)), wrote)
+    sent reply says (inr (failed, (n, less, wrote))) = (take n (reply_line reply), cut reply n less says, wrote)
 
 -- a record that ends a run was not the last of a whole one
-not-whole : (old new : Option (List ℕ)) (e : SheetEnd) → TellsLine old new (Err e) → IsWhole e → ⊥
-not-whole old new end.Done (reply, inl (ended, wrote)) w = ends-other (reply_kind reply) end.Done ended (λ s. cc) (λ m. cc)
-not-whole old new end.Done (reply, inr (failed, wrote)) w = cc
-not-whole old new end.Refused (reply, inl (ended, wrote)) w = ends-other (reply_kind reply) end.Refused ended (λ s. cc) (λ m. cc)
-not-whole old new end.Refused (reply, inr (failed, wrote)) w = cc
-not-whole old new end.ReadFault told w = w
-not-whole old new end.WriteFault told w = w
-not-whole old new end.Store told w = w
-not-whole old new end.NoMemory told w = w
+not-whole : (reply : Reply) (old new : Option (List ℕ)) (e : SheetEnd) → IsSent (reply_line reply) (ran_by (reply_kind reply)) (Err end.WriteFault) old new (Err e) → IsWhole e → ⊥
+not-whole reply old new end.Done (inl (ended, wrote)) w = ends-other (reply_kind reply) end.Done ended (λ s. cc) (λ m. cc)
+not-whole reply old new end.Done (inr (failed, wrote)) w = cc
+not-whole reply old new end.Refused (inl (ended, wrote)) w = ends-other (reply_kind reply) end.Refused ended (λ s. cc) (λ m. cc)
+not-whole reply old new end.Refused (inr (failed, wrote)) w = cc
+not-whole reply old new end.ReadFault sent w = w
+not-whole reply old new end.WriteFault sent w = w
+not-whole reply old new end.Store sent w = w
+not-whole reply old new end.NoMemory sent w = w
+
+-- the reply to a record is that of the firm's step, or tells of a fault
+pub reply-says : {B : Type 0} {clean : B → Type 0} {leaves : B → Firm → Type 0} {Makes : Firm → Type 0} (day : ℕ) (first last : Firm) (old new : B) (h : Heard) (reply : Reply)
+    → clean old → (clean new → Steps day first h reply last) → MayLeave clean leaves (is_fault_reply reply ≡ false) Makes first (firm_step day first h).firm old new
+    → (is_fault_reply reply ≡ true) ⊎ (reply ≡ (firm_step day first h).reply)
+reply-says day first last old new h reply served step may = cases (is_fault_reply reply) refl
+  where
+    cases : (b : Bool) → is_fault_reply reply ≡ b → (is_fault_reply reply ≡ true) ⊎ (reply ≡ (firm_step day first h).reply)
+    cases true fault = inl fault
+    cases false fine = inr (steps-plain day first last h reply fine (step (may.serves served fine))).0
 
 -- A run of records.
 
@@ -111,10 +143,11 @@ module _ {B : Type 0} {clean : B → Type 0} {leaves : B → Firm → Type 0} (f
   -- where a record ends it
   pub kept-stopped : (day : ℕ) (all past left rest : List (List (List ℕ))) (r : List (List ℕ)) (old mid new : B) (given so_far told : Option (List ℕ)) (off : Bool) (ended : SheetEnd) → past ++ left ≡ all → left ≡ r ∷ rest
       → SoFar day (firm old) past (firm mid) given so_far off → IsGoing clean leaves firm old mid
-      → MayLeave clean leaves (GoesOn (Err ended)) (IsMade day (firm mid) (heard_of r)) (firm mid) (firm new) mid new → TellsLine so_far told (Err ended)
+      → MayLeave clean leaves (GoesOn (Err ended)) (IsMade day (firm mid) (heard_of r)) (firm mid) (firm new) mid new → TellsLine day (firm mid) r so_far told (Err ended)
       → LinesAreKept clean leaves day (firm old) all old given told ended new
   kept-stopped day all past left rest r old mid new given so_far told off ended parts first (written, is, was) going one line =
-      let (more, behind, wrote) = behind-of so_far told ended line in
+      let here = subst (λ (f : Firm). TellsLine day f r so_far told (Err ended)) is line in
+      let (more, behind, wrote) = behind-of day (firm_from day (firm old) past) r rest so_far told ended here in
       record {
         past = past;
         later = r ∷ rest;
@@ -126,7 +159,7 @@ module _ {B : Type 0} {clean : B → Type 0} {leaves : B → Firm → Type 0} (f
           | inl before ↦ inl (going.1 alone found before ∙ is)
           | inr made ↦ inr (subst (λ (f : Firm). IsMade day f (heard_of r) found) is made)
         ];
-        whole = λ w. absurd (not-whole so_far told ended line w);
+        whole = λ w. absurd (not-whole line.reply so_far told ended line.sent w);
       }
 
   -- where none was run
@@ -144,9 +177,9 @@ module _ {B : Type 0} {clean : B → Type 0} {leaves : B → Firm → Type 0} (f
 
   pub kept-large : (day : ℕ) (old : B) (given told : Option (List ℕ)) (ended : SheetEnd) → clean old → LargeEnds (firm old) (firm old) given told ended → LinesAreKept clean leaves day (firm old) [] old given told ended old
   kept-large day old given told end.Done served large = absurd large
-  kept-large day old given told end.Refused served (wrote, same) = record { past = []; later = []; parts = refl; more = refusal_line TooLarge; behind = inr (inl (TooLarge, refl)); written = wrote; left = λ alone found may. inl (alone found may); whole = λ w. (refl, served) }
+  kept-large day old given told end.Refused served (wrote, same) = record { past = []; later = []; parts = refl; more = refusal_line TooLarge; behind = inr (inl (TooLarge, inl refl)); written = wrote; left = λ alone found may. inl (alone found may); whole = λ w. (refl, served) }
   kept-large day old given told end.ReadFault served (wrote, same) = record { past = []; later = []; parts = refl; more = []; behind = inl refl; written = wrote; left = λ alone found may. inl (alone found may); whole = λ w. absurd w }
-  kept-large day old given told end.WriteFault served (n, less, wrote, same) = record { past = []; later = []; parts = refl; more = take n (refusal_line TooLarge); behind = inr (inr (refused TooLarge, n, less, refl)); written = wrote; left = λ alone found may. inl (alone found may); whole = λ w. absurd w }
+  kept-large day old given told end.WriteFault served (n, less, wrote, same) = record { past = []; later = []; parts = refl; more = take n (refusal_line TooLarge); behind = inr (inl (TooLarge, inr (n, less, refl))); written = wrote; left = λ alone found may. inl (alone found may); whole = λ w. absurd w }
   kept-large day old given told end.Store served large = absurd large
   kept-large day old given told end.NoMemory served (wrote, same) = record { past = []; later = []; parts = refl; more = []; behind = inl refl; written = wrote; left = λ alone found may. inl (alone found may); whole = λ w. absurd w }
 

@@ -1,8 +1,9 @@
 -- What the import of a statement says of its bytes, where less is known of them.
-use Rattle.std.proofs.Common.{ℕ, Bool, true, false, List, Option, Some, None, MatchBool, option_map}
+use Rattle.std.proofs.Common.{◌⊎◌, inl, inr, ℕ, Bool, true, false, List, Option, Some, None, MatchBool, option_map}
 use Rattle.std.specs.Io.KnownBytes.{Keeps}
 use Rattle.statement_csv.specs.Items.{items}
 use Rattle.firm_rows.specs.Firm.{Firm}
+use Rattle.trust_desk.specs.Crashes.{IsAfterFirst, MayLeave}
 use Rattle.trust_desk.specs.Imports.{Imports}
 use Rattle.trust_desk.specs.declared.importing.ImportEnd.{ImportEnd}
 use Rattle.cashier.specs.Statement.{Imported, Large, Run, StatementEnds, is_told_longer}
@@ -39,3 +40,18 @@ ends-known day before after size known bytes old new e keeps h = by (is_told_lon
         → MatchBool b (Large before after old new e) (Run day before known after old new e)
     by true large = large
     by false run = run-known day before after known bytes old new e keeps run
+
+-- what a crash leaves
+
+first-known : (day : ℕ) (firm found : Firm) (known bytes : Option (List ℕ)) → Keeps known bytes → IsAfterFirst day firm (option_map items bytes) found → IsAfterFirst day firm (option_map items known) found
+first-known day firm found None bytes keeps h = record { front = h.front; first = tt; leaves = h.leaves }
+first-known day firm found (Some x) None keeps h = absurd keeps
+first-known day firm found (Some x) (Some y) keeps h = rw keeps at h
+
+pub leaves-known : {B : Type 0} {clean : B → Type 0} {leaves : B → Firm → Type 0} {done : Type 0} (day : ℕ) (firm after : Firm) (known bytes : Option (List ℕ)) (old new : B) → Keeps known bytes
+    → MayLeave clean leaves done (IsAfterFirst day firm (option_map items bytes)) firm after old new → MayLeave clean leaves done (IsAfterFirst day firm (option_map items known)) firm after old new
+leaves-known day firm after known bytes old new keeps may = record {
+  crash = λ found left. elim (may.crash found left) [ inl was ↦ inl was | inr made ↦ inr (first-known day firm found known bytes keeps made) ];
+  settled = may.settled;
+  serves = may.serves;
+}

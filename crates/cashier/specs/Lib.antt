@@ -1,8 +1,11 @@
 pub mod Calls
+pub mod Crashes
 pub mod Notice
 pub mod Outcome
 pub mod Records
 pub mod Report
+pub mod Runs
+pub mod Sent
 pub mod Serving
 pub mod Sheet
 pub mod Statement

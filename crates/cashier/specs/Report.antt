@@ -1,6 +1,5 @@
 -- What a command that prints a report asks, and what it writes.
-use Rattle.std.specs.Prelude.{◌≡◌, ◌<◌, ◌⊎◌, ℕ, List, Option, length, take}
-use Rattle.std.specs.Io.KnownBytes.{Appends}
+use Rattle.std.specs.Prelude.{ℕ, List, Option}
 use Rattle.trust_matter.specs.declared.ask.Ask.TheVariants.{Accounting}
 use Rattle.trust_matter.specs.declared.ask.Caller.TheVariants.{Cashier}
 use Rattle.firm_rows.specs.Firm.{Firm}
@@ -11,6 +10,7 @@ use Rattle.trust_desk.specs.declared.requests.Request.{Request}
 use Rattle.trust_desk.specs.declared.requests.Request.TheVariants as requests
 use Rattle.command_line.specs.declared.report_command.ReportCommand.{ReportCommand}
 use Rattle.command_line.specs.declared.report_command.ReportCommand.TheVariants as commands
+use Rattle.cashier.specs.Sent.{IsSent}
 use Rattle.cashier.specs.Sheet.{reply_kind, reply_line}
 use Rattle.cashier.specs.declared.outcome.Outcome.{Outcome}
 use Rattle.cashier.specs.declared.outcome.Outcome.TheVariants as outcome
@@ -36,9 +36,7 @@ reply_outcome kind.Memory = outcome.MemoryFault
 -- proper front of it was written
 abbrev pub Prints : Reply → Option (List ℕ) → Option (List ℕ) → Outcome → Type 0
 Prints reply old new told =
-    ((told ≡ reply_outcome (reply_kind reply)) × Appends old new (reply_line reply))
-    ⊎ ((told ≡ outcome.OutputFault)
-    × ((n : ℕ) × (n < length (reply_line reply)) × Appends old new (take n (reply_line reply))))
+    IsSent (reply_line reply) (reply_outcome (reply_kind reply)) outcome.OutputFault old new told
 
 -- the cashier asked for the report on a day, the firm's step gave the reply, and that was printed
 pub record PrintsReport (day : ℕ) (before : Firm) (command : ReportCommand) (after : Firm)

@@ -17,11 +17,13 @@ use Rattle.trust_store.specs.Crashes.{LeavesAlone}
 use Rattle.trust_desk.specs.Crashes.{IsMade}
 use Rattle.trust_desk.specs.FirmStep.{Stepped, Steps, firm_step}
 use Rattle.trust_desk.specs.Heard.{Asks, Heard, Unread, is_the}
+use Rattle.trust_desk.specs.Replies.{is_fault_reply}
 use Rattle.trust_desk.specs.declared.requests.Body.{Body}
 use Rattle.trust_desk.specs.declared.requests.Body.TheVariants.{Json, Refused, Text}
 use Rattle.trust_desk.specs.declared.requests.Reply.{Reply}
 use Rattle.trust_desk.specs.declared.requests.Request.{Request}
 use Rattle.cashier.specs.Records.{asked_of, text_at}
+use Rattle.cashier.specs.Sent.{IsSent}
 use Rattle.cashier.specs.declared.sheet.SheetEnd.{SheetEnd}
 use Rattle.cashier.specs.declared.sheet.SheetEnd.TheVariants as end
 use Rattle.cashier.specs.declared.reply_kind.ReplyKind.{ReplyKind}
@@ -99,6 +101,11 @@ all_accepted day firm [] = true
 all_accepted day firm (r ∷ rest) =
     if is_accepting (record_step day firm r).reply.body then all_accepted day (record_step day firm r).firm rest
     else false
+
+-- how a run ends of which all records were run, by whether one was refused
+abbrev pub end_of : Bool → SheetEnd
+end_of true = end.Refused
+end_of false = end.Done
 
 -- the records of a sheet, as CSV, with a byte order mark taken off
 abbrev pub sheet_records : List ℕ → List (List (List ℕ))
@@ -196,19 +203,30 @@ Ends day before bytes after old new e =
 abbrev pub records_run : List ℕ → List (List (List ℕ))
 records_run bytes = if nat_lt MAX_FILE_BYTES (length bytes) then [] else sheet_records bytes
 
--- what may stand behind whole lines: nothing, the line of a refusal, or a proper front of a line
-abbrev pub IsBehindLines : List ℕ → Type 0
-IsBehindLines text =
-    (text ≡ []) ⊎ (((r : Refusal) × (text ≡ refusal_line r))
-    ⊎ ((reply : Reply) × (n : ℕ) × (n < length (reply_line reply)) × (text ≡ take n (reply_line reply))))
+-- a text is a line that was cut: a proper front of it
+abbrev pub IsCutOff : List ℕ → List ℕ → Type 0
+IsCutOff line text = (n : ℕ) × (n < length line) × (text ≡ take n line)
 
--- a line was written whole, and its reply says how the run goes on; or a write failed, and a proper front of it was
-abbrev pub TellsLine : Option (List ℕ) → Option (List ℕ) → Result Bool SheetEnd → Type 0
-TellsLine old new ran =
-    (reply : Reply)
-    × (((ran ≡ ran_by (reply_kind reply)) × Appends old new (reply_line reply))
-    ⊎ ((ran ≡ Err end.WriteFault)
-    × ((n : ℕ) × (n < length (reply_line reply)) × Appends old new (take n (reply_line reply)))))
+-- the line of a refusal, whole or cut
+abbrev pub IsOfRefusal : List ℕ → Type 0
+IsOfRefusal text = (r : Refusal) × ((text ≡ refusal_line r) ⊎ IsCutOff (refusal_line r) text)
+
+-- the line of the next of these records, as the firm's step answers it, cut
+abbrev pub IsCutNext : ℕ → Firm → List (List (List ℕ)) → List ℕ → Type 0
+IsCutNext day firm [] text = ⊥
+IsCutNext day firm (here ∷ later) text = IsCutOff (reply_line (record_step day firm here).reply) text
+
+-- what may stand behind the lines of the first records: nothing, the line of a refusal, or a part of the next one's
+abbrev pub IsBehindLines : ℕ → Firm → List (List (List ℕ)) → List ℕ → Type 0
+IsBehindLines day firm later text = (text ≡ []) ⊎ (IsOfRefusal text ⊎ IsCutNext day firm later text)
+
+-- a record was run: its reply is that of the firm's step, or tells of a fault. Its line was written whole, and the
+-- reply says how the run goes on; or a write failed
+pub record TellsLine (day : ℕ) (firm : Firm) (here : List (List ℕ)) (old new : Option (List ℕ))
+    (ran : Result Bool SheetEnd) : Type 0 where
+  pub reply : Reply
+  pub says : (is_fault_reply reply ≡ true) ⊎ (reply ≡ (record_step day firm here).reply)
+  pub sent : IsSent (reply_line reply) (ran_by (reply_kind reply)) (Err end.WriteFault) old new ran
 
 -- all records were run, and each line was written
 abbrev pub IsWhole : SheetEnd → Type 0
@@ -224,16 +242,16 @@ abbrev pub IsNextMade : ℕ → Firm → List (List (List ℕ)) → Firm → Typ
 IsNextMade day firm [] found = ⊥
 IsNextMade day firm (here ∷ later) found = IsMade day firm (heard_of here) found
 
--- a run of records ended: the lines of the first of them were written, and no other line of one that was accepted.
--- Where a crash left the rows before and no others, it leaves those behind these records, or those with the next; and
--- where all were run, the store serves and none is left
+-- a run of records ended: the lines of the first of them were written, and behind these no whole line but that of a
+-- refusal. Where a crash left the rows before and no others, it leaves those behind these records, or those with the
+-- next; and where all were run, the store serves and none is left
 pub record LinesAreKept {B : Type 0} (clean : B → Type 0) (leaves : B → Firm → Type 0) (day : ℕ) (before : Firm)
     (all : List (List (List ℕ))) (old : B) (given told : Option (List ℕ)) (ended : SheetEnd) (new : B) : Type 0 where
   pub past : List (List (List ℕ))
   pub later : List (List (List ℕ))
   pub parts : past ++ later ≡ all
   pub more : List ℕ
-  pub behind : IsBehindLines more
+  pub behind : IsBehindLines day (firm_from day before past) later more
   pub written : Appends given told (concat (lines_from day before past) ++ more)
   pub left : LeavesAlone before (leaves old) → (found : Firm) → leaves new found
       → (found ≡ firm_from day before past) ⊎ IsNextMade day (firm_from day before past) later found

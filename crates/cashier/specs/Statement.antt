@@ -1,6 +1,5 @@
 -- What the import of a bank's statement prints, and the firm that it leaves.
-use Rattle.std.specs.Prelude.{◌≡◌, ◌<◌, ◌⊎◌, ℕ, Bool, false, ⊤, List, [], Option, Some, None, option_map, length, nat_lt, take, MatchBool}
-use Rattle.std.specs.Io.KnownBytes.{Appends}
+use Rattle.std.specs.Prelude.{◌≡◌, ◌⊎◌, ℕ, Bool, false, ⊤, List, [], Option, Some, None, option_map, nat_lt, MatchBool}
 use Rattle.statement_csv.specs.Items.{items}
 use Rattle.trust_base.specs.declared.limits.TheConstants.{MAX_FILE_BYTES}
 use Rattle.statement_csv.specs.Limits.{IsTooLong, IsWithin}
@@ -14,6 +13,7 @@ use Rattle.matter_bodies.specs.declared.bodies.ImportReply.{ImportReply}
 use Rattle.trust_desk.specs.declared.importing.ImportEnd.{ImportEnd}
 use Rattle.trust_desk.specs.declared.importing.ImportStop.{ImportStop}
 use Rattle.trust_desk.specs.declared.importing.ImportStop.TheVariants as stop
+use Rattle.cashier.specs.Sent.{IsSent}
 use Rattle.cashier.specs.Sheet.{line_of, refusal_line, refusal_kind}
 use Rattle.cashier.specs.declared.statement.StatementEnd.{StatementEnd}
 use Rattle.cashier.specs.declared.statement.StatementEnd.TheVariants as end
@@ -49,9 +49,7 @@ stop_end stop.ReadFault = end.ReadFault
 
 -- a text was written and the run ended so, or a write failed and a proper front of the text was written
 abbrev pub Sent : List ℕ → StatementEnd → Option (List ℕ) → Option (List ℕ) → StatementEnd → Type 0
-Sent text told old new result =
-    ((result ≡ told) × Appends old new text)
-    ⊎ ((result ≡ end.WriteFault) × ((n : ℕ) × (n < length text) × Appends old new (take n text)))
+Sent text told old new result = IsSent text told end.WriteFault old new result
 
 -- what is told of an import was written; where memory for its counts was refused, that was told in their place
 abbrev pub Answers : ImportEnd → Option (List ℕ) → Option (List ℕ) → StatementEnd → Type 0

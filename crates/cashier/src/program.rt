@@ -4,8 +4,9 @@ ghost use Rattle.std.specs.Prelude.{◌≡◌, ◌≢◌, ◌⊎◌, ℕ, IfErr,
 ghost use Rattle.std.specs.String.{string_bytes};
 ghost use Rattle.clap.specs.Words.{Text};
 ghost use Rattle.cashier.specs.Calls.{CountsStore, LeavesBook};
-ghost use Rattle.cashier.specs.Outcome.{FileEnds, HadNoBook, HasBegun, HasRun, IsServed, Ran};
-ghost use Rattle.cashier.specs.Outcome.{RanAtPath, RanInMemory, words_outcome};
+ghost use Rattle.cashier.specs.Crashes.{LeavesItems, LeavesMessages, LeavesRun};
+ghost use Rattle.cashier.specs.Outcome.{FileEnds, HasBegun, IsServed, Ran, words_outcome};
+ghost use Rattle.cashier.specs.Runs.{HadNoBook, HasRun, RanAtPath, RanInMemory};
 ghost use Rattle.command_line.specs.Program.{Means, MeansNothing, MeansSheet, MeansStream, words_of};
 ghost use Rattle.command_line.specs.declared.command.Task.{Task};
 ghost use Rattle.portal_server.specs.Clients.{ports_of};
@@ -56,6 +57,9 @@ fn import_file<F: Folder, W: Write, B: Book>(
         (W.contents writer.old) (W.contents writer.new) result }
     ensures kept { LeavesBook B.clean B.sure B.stands B.lasts B.refusals (CountsStore Outcome.StoreFault result)
         desk.old desk.new }
+    ensures crash { B.sure desk.new → B.clean desk.old → B.stands desk.old
+        → LeavesItems B.clean B.leaves B.firm today (F.known folder.now path.now) (F.opens folder.now path.now)
+        desk.old result desk.new }
 {
     let Some(file) = folder.open(path) else {
         return Outcome::FileFault;
@@ -79,6 +83,8 @@ fn serve_input<R: Read, W: Write, B: Book>(
         (W.contents writer.old) (W.contents writer.new) result }
     ensures kept { LeavesBook B.clean B.sure B.stands B.lasts B.refusals (CountsStore Outcome.StoreFault result)
         desk.old desk.new }
+    ensures crash { LeavesMessages B.clean B.sure B.stands B.lasts B.leaves B.firm B.refusals today
+        (R.remaining reader.old) desk.old (W.contents writer.old) (W.contents writer.new) result desk.new }
 {
     outcome_of_stream(serve_stream(alloc, reader, writer, desk, today))
 }
@@ -103,6 +109,13 @@ fn run_plan<R: Read, F: Folder, C: Clock + Drop, N: Network, W: Write, B: Book>(
         (W.contents writer.old) (W.contents writer.new) result }
     ensures kept { LeavesBook B.clean B.sure B.stands B.lasts B.refusals (CountsStore Outcome.StoreFault result)
         desk.old desk.new }
+    ensures crash { (words : List Text) → Means words plan.now.today plan.now.task
+        → B.sure desk.new → B.clean desk.old → B.stands desk.old
+        → LeavesRun B.clean B.sure B.stands B.lasts B.leaves B.firm B.refusals words (R.remaining reader.old)
+        (F.known around.entry.folder.now) (F.opens around.entry.folder.now)
+        (ports_of N.Listener.Writer.contents (N.comes around.entry.network.now)
+        (N.refuses around.entry.network.now)) (W.contents writer.old) (W.contents writer.new)
+        desk.old desk.new result }
 {
     let today = plan.today;
     match plan.task {
@@ -148,6 +161,14 @@ pub fn run_words<'a, R: Read, F: Folder, C: Clock + Drop, N: Network, W: Write, 
         (W.contents writer.old) (W.contents writer.new) result }
     ensures kept { LeavesBook B.clean B.sure B.stands B.lasts B.refusals (CountsStore Outcome.StoreFault result)
         desk.old desk.new }
+
+    // What a crash leaves once all that is over: of what was written as accepted, all.
+    ensures crash { B.sure desk.new → B.clean desk.old → B.stands desk.old
+        → LeavesRun B.clean B.sure B.stands B.lasts B.leaves B.firm B.refusals (words_of words.entry.now)
+        (R.remaining reader.old) (F.known around.entry.folder.now) (F.opens around.entry.folder.now)
+        (ports_of N.Listener.Writer.contents (N.comes around.entry.network.now)
+        (N.refuses around.entry.network.now)) (W.contents writer.old) (W.contents writer.new)
+        desk.old desk.new result }
 {
     let plan = match command_of(alloc, words) {
         Ok(plan) => plan,
@@ -194,12 +215,11 @@ fn run_over_book<R: Read, F: Folder, C: Clock + Drop, N: Network, S: Stores, W: 
         → MeansSheet words ⊎ (MeansStream words ⊎ (reader.new ≡ reader.old)) }
     ensures ran { (path : Text) → (S.AtPath.sure book → S.finds stores.now path book)
         → (S.AtPath.sure book → S.AtPath.clean book) → (words : List Text) → Means words plan.now.today plan.now.task
-        → RanAtPath S.AtPath.clean S.AtPath.sure S.AtPath.stands S.AtPath.lasts S.AtPath.firm S.AtPath.refusals
-        (S.finds stores.now path) (S.puts stores.now) (λ before after. Ran words (R.remaining reader.old)
+        → RanAtPath S.AtPath.clean S.AtPath.sure S.AtPath.stands S.AtPath.lasts S.AtPath.leaves S.AtPath.firm
+        S.AtPath.refusals (S.finds stores.now path) (S.puts stores.now) words (R.remaining reader.old)
         (F.known around.entry.folder.now) (F.opens around.entry.folder.now)
         (ports_of N.Listener.Writer.contents (N.comes around.entry.network.now)
-        (N.refuses around.entry.network.now))
-        before after (W.contents writer.old) (W.contents writer.new)) result }
+        (N.refuses around.entry.network.now)) (W.contents writer.old) (W.contents writer.new) result }
 {
     let mut desk = Desk::new(book);
     let ended = run_plan(alloc, plan, reader, around, writer, &mut desk);
@@ -221,12 +241,11 @@ fn run_at_path<R: Read, F: Folder, C: Clock + Drop, N: Network, S: Stores, W: Wr
     ensures input { (words : List Text) → Means words plan.now.today plan.now.task
         → MeansSheet words ⊎ (MeansStream words ⊎ (reader.new ≡ reader.old)) }
     ensures ran { (words : List Text) → Means words plan.now.today plan.now.task
-        → RanAtPath S.AtPath.clean S.AtPath.sure S.AtPath.stands S.AtPath.lasts S.AtPath.firm S.AtPath.refusals
-        (S.finds stores.now path.now) (S.puts stores.now) (λ before after. Ran words (R.remaining reader.old)
+        → RanAtPath S.AtPath.clean S.AtPath.sure S.AtPath.stands S.AtPath.lasts S.AtPath.leaves S.AtPath.firm
+        S.AtPath.refusals (S.finds stores.now path.now) (S.puts stores.now) words (R.remaining reader.old)
         (F.known around.entry.folder.now) (F.opens around.entry.folder.now)
         (ports_of N.Listener.Writer.contents (N.comes around.entry.network.now)
-        (N.refuses around.entry.network.now))
-        before after (W.contents writer.old) (W.contents writer.new)) result
+        (N.refuses around.entry.network.now)) (W.contents writer.old) (W.contents writer.new) result
         ⊎ HadNoBook ((reader.new ≡ reader.old) × (writer.new ≡ writer.old)) result }
 {
     match stores.at(alloc, path) {
@@ -253,8 +272,8 @@ pub fn run_over_stores<'a, R: Read, F: Folder, C: Clock + Drop, N: Network, S: S
     stores: &S,
     writer: &mut W,
 ) -> Outcome
-    ensures ran { HasRun S.AtPath.clean S.AtPath.sure S.AtPath.stands S.AtPath.lasts S.AtPath.firm S.AtPath.refusals
-        (S.finds stores.now) (S.puts stores.now) ((reader.new ≡ reader.old) × (writer.new ≡ writer.old))
+    ensures ran { HasRun S.AtPath.clean S.AtPath.sure S.AtPath.stands S.AtPath.lasts S.AtPath.leaves S.AtPath.firm
+        S.AtPath.refusals (S.finds stores.now) (S.puts stores.now) ((reader.new ≡ reader.old) × (writer.new ≡ writer.old))
         (words_of words.entry.now) (R.remaining reader.old) (F.known around.entry.folder.now)
         (F.opens around.entry.folder.now)
         (ports_of N.Listener.Writer.contents (N.comes around.entry.network.now)
@@ -288,8 +307,8 @@ pub fn run_called<R: Read, F: Folder, C: Clock + Drop, N: Network, S: Stores, W:
     writer: &mut W,
 ) -> Outcome
     ensures ran { IfOk called.now
-        (λ words. HasRun S.AtPath.clean S.AtPath.sure S.AtPath.stands S.AtPath.lasts S.AtPath.firm S.AtPath.refusals
-        (S.finds stores.now) (S.puts stores.now) ((reader.new ≡ reader.old) × (writer.new ≡ writer.old))
+        (λ words. HasRun S.AtPath.clean S.AtPath.sure S.AtPath.stands S.AtPath.lasts S.AtPath.leaves S.AtPath.firm
+        S.AtPath.refusals (S.finds stores.now) (S.puts stores.now) ((reader.new ≡ reader.old) × (writer.new ≡ writer.old))
         (map string_bytes words.items) (R.remaining reader.old) (F.known around.entry.folder.now)
         (F.opens around.entry.folder.now)
         (ports_of N.Listener.Writer.contents (N.comes around.entry.network.now)

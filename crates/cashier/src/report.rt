@@ -3,6 +3,7 @@
 ghost use Rattle.std.specs.Prelude.{◌≡◌, ◌≢◌};
 ghost use Rattle.cashier.specs.Calls.{CountsStore, LeavesBook};
 ghost use Rattle.cashier.specs.Report.{PrintsReport, asked_for};
+ghost use Rattle.trust_store.specs.Crashes.{LeavesOr};
 
 use crate::outcome::{Outcome, outcome_of_reply};
 use crate::reply_kind::kind_of_reply;
@@ -53,6 +54,8 @@ pub fn run_report<W: Write, B: Book>(
     // It ends by Store only where a call of the book was refused.
     ensures kept { LeavesBook B.clean B.sure B.stands B.lasts B.refusals (CountsStore Outcome.StoreFault result)
         desk.old desk.new }
+    ensures crash { B.sure desk.new → B.clean desk.old → B.stands desk.old
+        → LeavesOr (B.firm desk.old) (B.leaves desk.old) (B.leaves desk.new) }
 {
     let reply = desk.answer(alloc, &request_for(command), today);
     let Ok(()) = write_reply(writer, &reply) else {

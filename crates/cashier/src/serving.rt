@@ -2,6 +2,7 @@
 
 ghost use Rattle.std.specs.Prelude.{◌≡◌, ◌≢◌};
 ghost use Rattle.cashier.specs.Calls.{CountsStore, LeavesBook};
+ghost use Rattle.cashier.specs.Crashes.{LeavesClients};
 ghost use Rattle.cashier.specs.Serving.{PortEnds};
 ghost use Rattle.portal_server.specs.Clients.{ports_of};
 
@@ -40,6 +41,11 @@ pub fn run_serve<F: Folder, C: Clock + Drop, N: Network, W: Write, B: Book>(
         (W.contents writer.old) (W.contents writer.new) result }
     ensures kept { LeavesBook B.clean B.sure B.stands B.lasts B.refusals (CountsStore Outcome.StoreFault result)
         desk.old desk.new }
+
+    // Of each client its answers, and what a crash leaves of its messages.
+    ensures crash { LeavesClients B.clean B.sure B.stands B.lasts B.leaves B.firm B.refusals today
+        (ports_of N.Listener.Writer.contents (N.comes around.entry.network.now)
+        (N.refuses around.entry.network.now)) port desk.old desk.new }
 {
     let Some(mut listener) = around.network.listen(port) else {
         return Outcome::NetworkFault;

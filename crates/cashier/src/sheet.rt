@@ -6,7 +6,7 @@ ghost use Rattle.csv.specs.Records.{fields_of};
 ghost use Rattle.firm_rows.specs.Firm.{Firm};
 ghost use Rattle.cashier.specs.Calls.{CountsStore, LeavesBook};
 ghost use Rattle.cashier.specs.Sheet.{Ends, IsCounted, LargeEnds, LinesAreKept, RecordEnds, RunEnds, TellsLine};
-ghost use Rattle.cashier.specs.Sheet.{heard_of, ran_by, records_run, sheet_records};
+ghost use Rattle.cashier.specs.Sheet.{end_of, heard_of, ran_by, records_run, sheet_records};
 ghost use Rattle.trust_desk.specs.Crashes.{IsMade, MayLeave};
 
 use crate::record::answer_record;
@@ -64,7 +64,8 @@ fn run_record<W: Write, B: Book>(
         (W.contents writer.new) result }
     ensures read { IfErr result (λ end. end ≢ SheetEnd.ReadFault) }
     ensures kept { LeavesBook B.clean B.sure B.stands B.lasts B.refusals (IsCounted result) desk.old desk.new }
-    ensures told { TellsLine (W.contents writer.old) (W.contents writer.new) result }
+    ensures told { B.sure desk.new → B.clean desk.old → B.stands desk.old
+        → TellsLine day (B.firm desk.old) (fields_of row.now) (W.contents writer.old) (W.contents writer.new) result }
     ensures crash { B.sure desk.new → B.clean desk.old → B.stands desk.old
         → MayLeave B.clean B.leaves (IsOk result) (IsMade day (B.firm desk.old) (heard_of (fields_of row.now)))
         (B.firm desk.old) (B.firm desk.new) desk.old desk.new }
@@ -74,6 +75,17 @@ fn run_record<W: Write, B: Book>(
         return Err(SheetEnd::WriteFault);
     };
     ran_of(kind_of_reply(&reply))
+}
+
+// How a sheet ended of which all records were run, by whether one was refused.
+fn end_of_all(refused: bool) -> SheetEnd
+    ensures { result ≡ end_of refused }
+{
+    if refused {
+        SheetEnd::Refused
+    } else {
+        SheetEnd::Done
+    }
 }
 
 // Runs the records of a sheet.
@@ -108,11 +120,7 @@ fn run_records<W: Write, B: Book>(
             Err(end) => return end,
         }
     }
-    if refused {
-        SheetEnd::Refused
-    } else {
-        SheetEnd::Done
-    }
+    end_of_all(refused)
 }
 
 // Answers a sheet above the limit.
@@ -149,8 +157,8 @@ pub fn run_sheet<R: Read, W: Write, B: Book>(
     ensures kept { LeavesBook B.clean B.sure B.stands B.lasts B.refusals (CountsStore SheetEnd.Store result)
         desk.old desk.new }
 
-    // Each line that was written as accepted is of a record that a crash leaves done: a line is written once its
-    // change is settled.
+    // Each line that was written as accepted is of a record that a crash leaves done, however the sheet ended: a line
+    // is written once its change is settled.
     ensures crash { B.sure desk.new → B.clean desk.old → B.stands desk.old → IfSome (R.remaining reader.old)
         (λ bytes. LinesAreKept B.clean B.leaves day (B.firm desk.old) (records_run bytes) desk.old
         (W.contents writer.old) (W.contents writer.new) result desk.new) }

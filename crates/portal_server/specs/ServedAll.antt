@@ -40,8 +40,8 @@ module _ {B W : Type 0} (clean sure stands lasts : B → Type 0) (leaves : B →
   AreServedInTurn day comes old (end ∷ ends) new =
       (mid : B) × IsClientServed day (comes 0) old end mid × AreServedInTurn day (λ k. comes (suc k)) mid ends new
 
-  -- so many clients were to be served: how each one's stream ended, in order, what was told of that, and that it ended
-  -- early only where the network refused an accept
+  -- so many clients were to be served: how each one's stream ended, in order, and what was told of that; it ended early
+  -- where a line could not be written, as is told, and else only where the network refused an accept
   pub record ServedAll (day count : ℕ) (comes : ℕ → Comes W → Type 0) (before : Option (List ℕ)) (old : B)
       (end : ServeEnd) (after : Option (List ℕ)) (new : B) : Type 0 where
     pub ends : List StreamEnd

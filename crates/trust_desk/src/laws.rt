@@ -5,6 +5,7 @@ ghost use Rattle.trust_desk.specs.ItemStep.{EveryItemIsCounted};
 ghost use Rattle.trust_desk.specs.FirmStep.{RefusalsHaveTheirStatus, SoundRunsAreRuns};
 ghost use Rattle.trust_desk.specs.NeverBelowZero.{NeverBelowZero, RunsNeverBelowZero};
 ghost use Rattle.trust_desk.specs.OnceOnly.{BalanceOnce, FirmLineOnce, LineOnceOnly, OnceOnly};
+ghost use Rattle.trust_desk.specs.Purging.{PurgingChangesNoFigure};
 
 /// In every run each matter's replies, and its rows afterwards, are those of its own machine.
 pub fn own_machine()
@@ -55,4 +56,10 @@ pub fn balance_once()
 /// Each item of an import is counted, once, as applied, repeated, an exception or unreadable.
 pub fn every_item_is_counted()
     ensures { EveryItemIsCounted }
+{}
+
+/// Purging a matter of a sound firm, as the desk does it, changes no figure and no list of a day whose records are whole
+/// afterwards, no purged matter having been closed after it.
+pub fn purging_changes_no_figure()
+    ensures { PurgingChangesNoFigure }
 {}

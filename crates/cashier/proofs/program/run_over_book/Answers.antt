@@ -16,6 +16,7 @@ returns-clause-ran g c = λ path found serves words means. record {
   kept = c.run_plan-ended.ensures.kept;
   sound = λ clean stands. g.S.AtPath.Book.sound c.run_plan-ended.new.desk (c.run_plan-ended.ensures.kept.still_stands clean stands);
   ran = λ clean stands. c.run_plan-ended.ensures.ends words means clean stands;
+  crash = λ sure stands. c.run_plan-ended.ensures.crash words means sure (rw c.new-desk.ensures serves (c.run_plan-ended.ensures.kept.was_sure sure)) stands;
   put = c.put_back-put.result;
   left = rw c.into_book.ensures at c.put_back-put.ensures.put;
   outcome = c.outcome_put_back.ensures;

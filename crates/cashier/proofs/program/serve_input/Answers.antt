@@ -10,3 +10,6 @@ returns-clause-ends g c = λ clean stands.
 pub returns-clause-kept : goal.returns-clause-kept
 returns-clause-kept g c =
     book-kept (λ before after counted store. absurd (stream-no-store _ (sym c.outcome_of_stream.ensures ∙ store))) c.serve_stream.ensures.kept
+
+pub returns-clause-crash : goal.returns-clause-crash
+returns-clause-crash g c = (c.serve_stream.result, sym c.outcome_of_stream.ensures, c.serve_stream.ensures)

@@ -9,7 +9,7 @@ use Rattle.byte_streams.specs.CsvRecords.{rest_records}
 use Rattle.byte_streams.proofs.CsvRecords.{rest-none, rest-reached}
 use Rattle.cashier.proofs.CallFacts.{book-alone, book-then}
 use Rattle.cashier.proofs.SheetKept.{going-more, kept-here, kept-stopped}
-use Rattle.cashier.proofs.SheetFacts.{all-refused, leaves-first, leaves-past, none-refused, past-all, record-goes, record-stops}
+use Rattle.cashier.proofs.SheetFacts.{ended-whole, leaves-first, leaves-past, past-all, record-goes, record-stops}
 use Rattle.cashier.proofs.sheet.run_records.Goals as goal
 
 -- a slice's bytes are what is left of it
@@ -89,25 +89,16 @@ loop-row-preserved g c =
       );
     }
 
-pub returns-then-refused-clause-ends : goal.returns-then-refused-clause-ends
-returns-then-refused-clause-ends g c = λ clean stands.
+-- all records were read
+pub returns-clause-ends : goal.returns-clause-ends
+returns-clause-ends g c = λ clean stands.
     let inv = c.loop-row.invariant in
     let (y, source, so_far) = inv.left in
     let (past, parts, written, is, was) = so_far clean stands in
     let s = rw c.in-None.is at ((c.next.ensures.steps inv.turns inv.plain).0 inv.ready) in
     let end = rows-end left_of c.loop-row.row-iterator.rdr c.next.new.self.rdr [] default_config y inv.config source s in
     let all = past-all _ past _ parts (rest-none c.loop-row.row-iterator.rdr.state y end) in
-    rw (← all) (leaves-past _ _ _ past _ _ _ (written, is, was), all-refused _ (sym c.if-refused.true ∙ was))
-
-pub returns-else-refused-clause-ends : goal.returns-else-refused-clause-ends
-returns-else-refused-clause-ends g c = λ clean stands.
-    let inv = c.loop-row.invariant in
-    let (y, source, so_far) = inv.left in
-    let (past, parts, written, is, was) = so_far clean stands in
-    let s = rw c.in-None.is at ((c.next.ensures.steps inv.turns inv.plain).0 inv.ready) in
-    let end = rows-end left_of c.loop-row.row-iterator.rdr c.next.new.self.rdr [] default_config y inv.config source s in
-    let all = past-all _ past _ parts (rest-none c.loop-row.row-iterator.rdr.state y end) in
-    rw (← all) (leaves-past _ _ _ past _ _ _ (written, is, was), none-refused _ (sym c.if-refused.false ∙ was))
+    rw (← all) (ended-whole _ _ _ past _ _ _ _ c.end_of_all.ensures (leaves-past _ _ _ past _ _ _ (written, is, was)) was)
 
 -- What a crash leaves.
 
@@ -127,20 +118,10 @@ returns-in-Err-clause-crash g c = λ sure clean stands.
     let going = inv.going (c.run_record.ensures.kept.was_sure sure) clean stands in
     let (past, parts, written, is, was) = so_far going.0 stands in
     let stood = inv.kept.still_stands going.0 stands in
-    kept-stopped g.B.Book.firm _ _ past _ _ _ _ _ _ _ _ _ _ _ parts first (written, is, was) going (c.in-Err.ensures.crash sure going.0 stood) c.in-Err.ensures.told
+    kept-stopped g.B.Book.firm _ _ past _ _ _ _ _ _ _ _ _ _ _ parts first (written, is, was) going (c.in-Err.ensures.crash sure going.0 stood) (c.in-Err.ensures.told sure going.0 stood)
 
-pub returns-then-refused-clause-crash : goal.returns-then-refused-clause-crash
-returns-then-refused-clause-crash g c = λ sure clean stands.
-    let inv = c.loop-row.invariant in
-    let (y, source, so_far) = inv.left in
-    let going = inv.going sure clean stands in
-    let (past, parts, written, is, was) = so_far going.0 stands in
-    let s = rw c.in-None.is at ((c.next.ensures.steps inv.turns inv.plain).0 inv.ready) in
-    let end = rows-end left_of c.loop-row.row-iterator.rdr c.next.new.self.rdr [] default_config y inv.config source s in
-    kept-here g.B.Book.firm _ _ past _ _ _ _ _ _ _ parts (λ w. rest-none c.loop-row.row-iterator.rdr.state y end) (written, is, was) going
-
-pub returns-else-refused-clause-crash : goal.returns-else-refused-clause-crash
-returns-else-refused-clause-crash g c = λ sure clean stands.
+pub returns-clause-crash : goal.returns-clause-crash
+returns-clause-crash g c = λ sure clean stands.
     let inv = c.loop-row.invariant in
     let (y, source, so_far) = inv.left in
     let going = inv.going sure clean stands in

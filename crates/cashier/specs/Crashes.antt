@@ -1,0 +1,93 @@
+-- What a crash leaves after a run of the program.
+use Rattle.std.specs.Prelude.{◌≡◌, ◌⊎◌, ℕ, List, Option, None, IfSome, option_map}
+use Rattle.std.specs.Borrow.{Bor}
+use Rattle.clap.specs.Words.{Text}
+use Rattle.firm_rows.specs.Firm.{Firm}
+use Rattle.trust_store.specs.Crashes.{LeavesOr}
+use Rattle.statement_csv.specs.Items.{items}
+use Rattle.trust_desk.specs.Crashes.{IsAfterFirst, MayLeave}
+use Rattle.portal_server.specs.Clients.{Ports}
+use Rattle.portal_server.specs.Served.{Served}
+use Rattle.portal_server.specs.ServedAll.{AreServedInTurn}
+use Rattle.portal_server.specs.stream.StreamEnd.{StreamEnd}
+use Rattle.command_line.specs.Program.{Means}
+use Rattle.command_line.specs.declared.report_command.ReportCommand.{ReportCommand}
+use Rattle.command_line.specs.declared.command.Task.TheVariants as task
+use Rattle.cashier.specs.Outcome.{sheet_outcome, statement_outcome, stream_outcome}
+use Rattle.cashier.specs.Sheet.{LinesAreKept, records_run}
+use Rattle.cashier.specs.Statement.{EndsByNoFault}
+use Rattle.cashier.specs.declared.outcome.Outcome.{Outcome}
+use Rattle.cashier.specs.declared.sheet.SheetEnd.{SheetEnd}
+use Rattle.cashier.specs.declared.statement.StatementEnd.{StatementEnd}
+
+-- Of a book only these are looked at: when its store is clean, is sure, and stands for a sound firm, when what a crash
+-- leaves of it lasts, what that may be, the firm, and how often it failed.
+module _ {B : Type 0} (clean sure stands lasts : B → Type 0) (leaves : B → Firm → Type 0) (firm : B → Firm)
+    (refusals : B → ℕ) where
+  -- a sheet was run: the lines that were written as accepted are of records that a crash leaves done
+  pub record LeavesSheet (words : List Text) (input : Option (List ℕ)) (old : B) (given written : Option (List ℕ))
+      (told : Outcome) (new : B) : Type 0 where
+    pub today : ℕ
+    pub means : Means words today task.Sheet
+    pub end : SheetEnd
+    pub outcome : sheet_outcome end ≡ told
+    pub lines : IfSome input
+        (λ bytes. LinesAreKept clean leaves today (firm old) (records_run bytes) old given written end new)
+
+  -- a statement of these bytes, where they are known, was imported: a crash leaves its first items applied, or what it
+  -- might have left before; or its file was not opened
+  abbrev pub LeavesItems : ℕ → Option (List ℕ) → (Option (Option ℕ) → Type 0) → B → Outcome → B → Type 0
+  LeavesItems day bytes opens old told new =
+      ((end : StatementEnd) × (statement_outcome end ≡ told)
+      × MayLeave clean leaves (EndsByNoFault end) (IsAfterFirst day (firm old) (option_map items bytes)) (firm old)
+      (firm new) old new)
+      ⊎ (opens None × (new ≡ old))
+
+  pub record LeavesStatement (words : List Text) (known : Text → Option (List ℕ))
+      (opens : Text → Option (Option ℕ) → Type 0) (old : B) (told : Outcome) (new : B) : Type 0 where
+    pub today : ℕ
+    pub path : Bor (List ℕ)
+    pub means : Means words today (task.Import path)
+    pub items : LeavesItems today (known path.now) (opens path.now) old told new
+
+  -- a stream was served: its answers, and with them what a crash leaves of its messages
+  abbrev pub LeavesMessages : ℕ → Option (List ℕ) → B → Option (List ℕ) → Option (List ℕ) → Outcome → B → Type 0
+  LeavesMessages day input old given written told new =
+      (end : StreamEnd) × (stream_outcome end ≡ told)
+      × Served clean sure stands lasts leaves firm refusals day input given old end written new
+
+  pub record LeavesStream (words : List Text) (input : Option (List ℕ)) (old : B) (given written : Option (List ℕ))
+      (told : Outcome) (new : B) : Type 0 where
+    pub today : ℕ
+    pub means : Means words today task.Stream
+    pub messages : LeavesMessages today input old given written told new
+
+  -- clients of a port were served in turn, none where it could not be had: of each its answers, and with them what a
+  -- crash leaves of its messages
+  abbrev pub LeavesClients : {W : Type 0} → ℕ → Ports W → ℕ → B → B → Type 0
+  LeavesClients day ports port old new =
+      (ends : List StreamEnd)
+      × AreServedInTurn clean sure stands lasts leaves firm refusals ports.contents day (ports.comes port) old ends new
+
+  pub record LeavesPort {W : Type 0} (words : List Text) (ports : Ports W) (old new : B) : Type 0 where
+    pub today : ℕ
+    pub port : ℕ
+    pub count : ℕ
+    pub means : Means words today (task.Serve port count)
+    pub clients : LeavesClients today ports port old new
+
+  -- a report was printed: a crash leaves what it might have left before, or these same rows
+  pub record LeavesReport (words : List Text) (old new : B) : Type 0 where
+    pub today : ℕ
+    pub command : ReportCommand
+    pub means : Means words today (task.Report command)
+    pub rows : LeavesOr (firm old) (leaves old) (leaves new)
+
+  -- what a crash leaves of the book once words were run over it; where nothing was run, the book is as it was
+  abbrev pub LeavesRun : {W : Type 0} → List Text → Option (List ℕ) → (Text → Option (List ℕ))
+      → (Text → Option (Option ℕ) → Type 0) → Ports W → Option (List ℕ) → Option (List ℕ) → B → B → Outcome → Type 0
+  LeavesRun words input known opens ports given written old new told =
+      LeavesSheet words input old given written told new
+      ⊎ (LeavesStatement words known opens old told new
+      ⊎ (LeavesStream words input old given written told new
+      ⊎ (LeavesPort words ports old new ⊎ (LeavesReport words old new ⊎ (new ≡ old)))))

@@ -1,0 +1,62 @@
+-- A purge that the firm's step does is a change that purges, so the figures' law speaks of it.
+use Rattle.std.proofs.Common.{◌≡◌, ℕ, false, [], Option, Some, None, refl}
+use Rattle.trust_base.specs.declared.refusal.Refusal.{Refusal}
+use Rattle.matter_rows.specs.Rows.{Rows}
+use Rattle.matter_rows.proofs.Covered.{sound-covered}
+use Rattle.matter_parts.specs.declared.edit.Edit.TheVariants as edit
+use Rattle.matter_parts.specs.Changes.{MatterChange, IsChange, last_after}
+use Rattle.matter_parts.specs.Parts.{no_figures}
+use Rattle.matter_parts.proofs.Moved.{figures-none}
+use Rattle.trust_matter.specs.declared.ask.Caller.{Caller}
+use Rattle.trust_matter.specs.declared.ask.Ask.TheVariants as ask
+use Rattle.trust_matter.specs.Facts.{Asked}
+use Rattle.trust_matter.specs.Step.{refusal}
+use Rattle.trust_matter.proofs.Steps.{step}
+use Rattle.firm_rows.specs.Firm.{Firm, of}
+use Rattle.firm_rows.specs.FirmSound.{FirmSound}
+use Rattle.firm_rows.proofs.Kept.{IsKept}
+use Rattle.trust_figures.specs.Purged.{IsPurge, is_period_purged}
+use Rattle.trust_figures.proofs.PurgedPeriods.{no_figure-left, no_list-left}
+use Rattle.trust_desk.specs.Heard.{asked_on}
+use Rattle.trust_desk.specs.FirmStep.{after_asked}
+use Rattle.trust_desk.specs.Purging.{IsReportedAsBefore, PurgingChangesNoFigure}
+use Rattle.trust_desk.proofs.LineFacts.{kept-by_step}
+
+-- what a purge leaves is the head alone: no entry, so no total, nothing that is left and nothing that moves
+abbrev purge_of : ℕ → ℕ → MatterChange
+purge_of day last = record {
+  edit = edit.Clear day;
+  last = last;
+  moves = record { figures = no_figures; left = 0; other = None };
+  movement = None;
+}
+
+is-change : (rows : Rows) (day last : ℕ) → IsKept rows (edit.Clear day) last → IsChange rows (purge_of day last)
+is-change rows day last kept = record {
+  place = kept.place;
+  sound = kept.sound;
+  not_before = kept.not_before;
+  seen = kept.seen;
+  movement = refl;
+  moved = refl;
+  figures = figures-none;
+  lefts = record { left = refl; other = refl };
+  dated = tt;
+}
+
+pub purging-changes-no_figure : PurgingChangesNoFigure
+purging-changes-no_figure day p m caller firm sound = cases (refusal (of m firm) a) refl
+  where
+    abbrev a : Asked
+    a = asked_on day caller ask.Purge
+
+    cases : (o : Option Refusal) → refusal (of m firm) a ≡ o → is_period_purged p (after_asked o m a firm) ≡ false → IsReportedAsBefore p firm (after_asked o m a firm)
+    cases (Some r) told whole = record { figures = refl; lists = record { transit = refl; out = refl; early = refl; exceptions = refl } }
+    cases None accepted whole =
+        let last : ℕ = last_after (of m firm).head (edit.Clear day) day in
+        let kept : IsKept (of m firm) (edit.Clear day) last = kept-by_step (step (of m firm) a (sound.matters m) tt accepted) in
+        let purge : IsPurge m firm (purge_of day last) = record { fits = is-change (of m firm) day last kept; day = day; clears = refl } in
+        record {
+          figures = no_figure-left sound-covered p m (purge_of day last) firm sound purge whole;
+          lists = no_list-left sound-covered p m (purge_of day last) firm sound purge whole;
+        }

@@ -1,0 +1,27 @@
+-- Purging a matter at the desk takes nothing from what a day is reported as.
+use Rattle.std.specs.Prelude.{◌≡◌, ℕ, false}
+use Rattle.trust_matter.specs.declared.ask.Caller.{Caller}
+use Rattle.trust_matter.specs.declared.ask.Ask.TheVariants as ask
+use Rattle.firm_rows.specs.Firm.{Firm}
+use Rattle.firm_rows.specs.FirmSound.{FirmSound}
+use Rattle.trust_figures.specs.Figures.{figures_on}
+use Rattle.trust_figures.specs.Purged.{AreListsLeft, is_period_purged}
+use Rattle.trust_desk.specs.declared.requests.Request.TheVariants.{Matter}
+use Rattle.trust_desk.specs.Heard.{Asks}
+use Rattle.trust_desk.specs.FirmStep.{firm_step}
+
+-- the firm after a caller asked, on the day, that the matter be purged: whether it was or the ask was refused
+abbrev pub after_purge : ℕ → ℕ → Caller → Firm → Firm
+after_purge day m caller firm = (firm_step day firm (Asks (Matter m caller ask.Purge))).firm
+
+-- the figures and lists of a day are what they were
+pub record IsReportedAsBefore (p : ℕ) (before after : Firm) : Type 0 where
+  pub figures : figures_on p after ≡ figures_on p before
+  pub lists : AreListsLeft p before after
+
+-- so it is of each day whose records are whole afterwards, no purged matter having been closed after it
+abbrev pub PurgingChangesNoFigure : Type 0
+PurgingChangesNoFigure =
+    (day p m : ℕ) (caller : Caller) (firm : Firm) → FirmSound firm
+    → is_period_purged p (after_purge day m caller firm) ≡ false
+    → IsReportedAsBefore p firm (after_purge day m caller firm)
