@@ -1,6 +1,7 @@
 //! Laws of one run over files and the next, each the contract of a function with nothing to do.
 
 ghost use Rattle.system_store.specs.Runs.{PutBooksAreFound, StoppedBooksAreFound};
+ghost use Rattle.system_store.specs.SentAgain.{AsksAreSpentAfterStops, LinesAreOverAfterStops};
 
 use sqlite_disk::Disk;
 
@@ -15,4 +16,12 @@ pub fn put_books_are_found<D: Disk, E: Disk>()
 /// a file by numbers, as that of each connection does.
 pub fn stopped_books_are_found<D: Disk, E: Disk>()
     ensures { StoppedBooksAreFound D.Disk E.Disk }
+{}
+
+/// What was accepted and acknowledged before a stop, and is sent again in a run after it, adds nothing: an ask that makes
+/// an entry is a repeat, and so is a line of the bank that names one, as long as the matter is not purged, whatever was
+/// run between the two. So all that was under way may be sent again.
+pub fn accepted_is_spent_after_stops<D: Disk, E: Disk>()
+    ensures asks { AsksAreSpentAfterStops D.Disk E.Disk }
+    ensures lines { LinesAreOverAfterStops D.Disk E.Disk }
 {}

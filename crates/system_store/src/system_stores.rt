@@ -1,9 +1,10 @@
 // The books at the paths of the system.
 
-ghost use Rattle.std.specs.Prelude.{◌≡◌, false, IfOk, OnOk};
-ghost use Rattle.sqlite.specs.Files.{IsOpened, file_state, over_files};
+ghost use Rattle.std.specs.Prelude.{◌≡◌, false, true, IfOk, OnOk};
+ghost use Rattle.sqlite.specs.Files.{IsBlankAs, IsOpened, file_state, over_files};
 ghost use Rattle.sqlite.specs.Start.{FindsIn};
 ghost use Rattle.sqlite.specs.State.{HasCleanDisk};
+ghost use Rattle.sqlite_store.specs.FileStore.{view};
 ghost use Rattle.sqlite_wal.specs.Files.{image_at};
 ghost use Rattle.sql_book.specs.Books.{IsServing, IsSure};
 ghost use Rattle.system_store.specs.Runs.{IsFoundIn, IsPutBack, unknown_files};
@@ -36,7 +37,8 @@ pub struct SystemStores<'a> {
     pub rt: &'a HostRuntime,
 }
 
-// A connection to the database file at a path, which is made where it is missing.
+// A connection to the database file at a path, which is made where it is missing. A file that is made has sums on its
+// pages, so that one whose bytes were changed between two runs is refused; one without them is taken as it is.
 fn connection_at<T: Start>(
     rt: &HostRuntime,
     path: &str,
@@ -46,8 +48,10 @@ fn connection_at<T: Start>(
     ensures opened { IfOk result (λ conn. HasCleanDisk (file_state conn) → IsOpened conn) }
     ensures found { IfOk result (λ conn. HasCleanDisk (file_state conn)
         → FindsIn (image_at T.Start) (file_state conn)) }
+    ensures sums { IfOk result (λ conn. HasCleanDisk (file_state conn) → IsBlankAs true (image_at T.Start)
+        → (view conn.store).has_sums ≡ true) }
 {
-    match Connection::open_from(rt, path, false, start) {
+    match Connection::open_from(rt, path, true, start) {
         Ok(conn) => Ok(conn),
         Err((error, _)) => Err(fault_of(error)),
     }
