@@ -44,19 +44,21 @@ is-change rows day last kept = record {
   dated = tt;
 }
 
-pub purging-changes-no_figure : PurgingChangesNoFigure
-purging-changes-no_figure day p m caller firm sound = cases (refusal (of m firm) a) refl
-  where
-    abbrev a : Asked
-    a = asked_on day caller ask.Purge
+-- what a caller asks on the day
+abbrev purge_ask : ℕ → Caller → Asked
+purge_ask day caller = asked_on day caller ask.Purge
 
-    cases : (o : Option Refusal) → refusal (of m firm) a ≡ o → is_period_purged p (after_asked o m a firm) ≡ false → IsReportedAsBefore p firm (after_asked o m a firm)
-    cases (Some r) told whole = record { figures = refl; lists = record { transit = refl; out = refl; early = refl; exceptions = refl } }
-    cases None accepted whole =
-        let last : ℕ = last_after (of m firm).head (edit.Clear day) day in
-        let kept : IsKept (of m firm) (edit.Clear day) last = kept-by_step (step (of m firm) a (sound.matters m) tt accepted) in
-        let purge : IsPurge m firm (purge_of day last) = record { fits = is-change (of m firm) day last kept; day = day; clears = refl } in
-        record {
-          figures = no_figure-left sound-covered p m (purge_of day last) firm sound purge whole;
-          lists = no_list-left sound-covered p m (purge_of day last) firm sound purge whole;
-        }
+by-refusal : (day p m : ℕ) (caller : Caller) (firm : Firm) (o : Option Refusal) → FirmSound firm → refusal (of m firm) (purge_ask day caller) ≡ o
+    → is_period_purged p (after_asked o m (purge_ask day caller) firm) ≡ false → IsReportedAsBefore p firm (after_asked o m (purge_ask day caller) firm)
+by-refusal day p m caller firm (Some r) sound told whole = record { figures = refl; lists = record { transit = refl; out = refl; early = refl; exceptions = refl } }
+by-refusal day p m caller firm None sound accepted whole =
+    let last : ℕ = last_after (of m firm).head (edit.Clear day) day in
+    let kept : IsKept (of m firm) (edit.Clear day) last = kept-by_step (step (of m firm) (purge_ask day caller) (sound.matters m) tt accepted) in
+    let purge : IsPurge m firm (purge_of day last) = record { fits = is-change (of m firm) day last kept; day = day; clears = refl } in
+    record {
+      figures = no_figure-left sound-covered p m (purge_of day last) firm sound purge whole;
+      lists = no_list-left sound-covered p m (purge_of day last) firm sound purge whole;
+    }
+
+pub purging-changes-no_figure : PurgingChangesNoFigure
+purging-changes-no_figure day p m caller firm sound whole = by-refusal day p m caller firm (refusal (of m firm) (purge_ask day caller)) sound refl whole
