@@ -1,3 +1,4 @@
+pub mod Purging
 pub mod Refused
 pub mod Items
 pub mod Calls

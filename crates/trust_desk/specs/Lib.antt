@@ -1,3 +1,4 @@
+pub mod Purging
 pub mod Replies
 pub mod ItemStep
 pub mod Imports
