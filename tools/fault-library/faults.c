@@ -6,6 +6,7 @@
 //   growths N       that one and all behind it are
 //   call N HOW      the Nth call of the system; HOW is EIO, ENOSPC, EINTR (it fails so, and does nothing), short (it
 //                   reads or writes half of what it was asked), before, within, behind (the program is killed there)
+//   places          none, and the place of each growth is noted
 //
 // FAULT_NOTES names a file that holds struct notes: it is mapped, so a kill takes nothing of it away. What the loader
 // and the C library call for themselves is never counted: the caller's place tells whose call it is.
@@ -14,6 +15,7 @@
 #include <errno.h>
 #include <fcntl.h>
 #include <link.h>
+#include <malloc.h>
 #include <signal.h>
 #include <stdarg.h>
 #include <stdint.h>
@@ -30,6 +32,7 @@ enum call { READ, PREAD, WRITE, PWRITE, FSYNC, FDATASYNC, FTRUNCATE, OPEN, CLOSE
             FCHOWN, FADVISE, ENTROPY, REALPATH, CLOCK };
 enum how { AS_IS, FAILS, SHORT, BEFORE, WITHIN, BEHIND };
 enum { KEPT = 65536, HANG_SECONDS = 60, NEAREST = 8, STACK_WORDS = 512 };
+enum { LARGE_PAGE = 1 << 21, HEAP = 1 << 24 };
 
 struct notes {
     uint64_t growths;          // so many so far
@@ -37,13 +40,13 @@ struct notes {
     uint64_t written;          // bytes that standard output took
     uint64_t hits;             // how often the fault came
     uint64_t written_at_hit;   // what standard output had taken when it came first
-    uint64_t places[KEPT];     // where each growth was asked for, where no fault was wanted
+    uint64_t places[KEPT];     // where each growth was asked for
     unsigned char kinds[KEPT]; // the enum call of each call
 };
 
 static struct notes unread, *notes = &unread;
 static uint64_t refused_growth, failing_call;
-static int refuses_the_rest, error_number;
+static int refuses_the_rest, error_number, notes_places;
 static enum how how_it_fails;
 static uintptr_t program_begin, program_end;
 
@@ -68,6 +71,7 @@ static int find_program(struct dl_phdr_info *object, size_t size, void *unused)
 static void read_fault(const char *text)
 {
     char how[16] = "";
+    notes_places = !strcmp(text, "places");
     if (sscanf(text, "growth %lu", &refused_growth) == 1 || sscanf(text, "call %lu %15s", &failing_call, how) == 2) {
         how_it_fails = !strcmp(how, "short") ? SHORT : !strcmp(how, "before") ? BEFORE : !strcmp(how, "within") ? WITHIN
             : !strcmp(how, "behind") ? BEHIND : FAILS;
@@ -75,6 +79,15 @@ static void read_fault(const char *text)
     } else if (sscanf(text, "growths %lu", &refused_growth) == 1) {
         refuses_the_rest = 1;
     }
+}
+
+// Takes the heap at once and in large pages: a run then needs half the time.
+static void take_heap(void)
+{
+    mallopt(M_TOP_PAD, HEAP);
+    free(malloc(1));
+    uintptr_t end = (uintptr_t) sbrk(0), begin = (end - HEAP) / LARGE_PAGE * LARGE_PAGE + LARGE_PAGE;
+    madvise((void *) begin, end - begin, MADV_HUGEPAGE);
 }
 
 __attribute__((constructor)) static void begin(void)
@@ -87,6 +100,7 @@ __attribute__((constructor)) static void begin(void)
         close(file);
     }
     if (fault) read_fault(fault);
+    take_heap();
     alarm(HANG_SECONDS);
     dl_iterate_phdr(find_program, NULL);  // from here on calls are counted
 }
@@ -124,7 +138,7 @@ static int is_refused(uintptr_t caller)
 {
     if (!is_own(caller)) return 0;
     uint64_t number = ++notes->growths;
-    if (!refused_growth && !failing_call && number <= KEPT) notes->places[number - 1] = place();
+    if (notes_places && number <= KEPT) notes->places[number - 1] = place();
     if (!refused_growth || number < refused_growth || (number > refused_growth && !refuses_the_rest)) return 0;
     hit();
     errno = ENOMEM;
