@@ -1,0 +1,1 @@
+"""The parts of the command bank-to-statement beside this folder."""

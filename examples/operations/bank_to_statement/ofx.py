@@ -1,0 +1,197 @@
+"""Reads OFX 1 (SGML) and OFX 2 (XML), as .ofx, .qfx and .qbo files have it.
+
+Both are read alike: a value is the text behind its tag, whether the tag is closed or not. A section begins with a tag
+that holds no value itself (a transaction, a balance) and ends with its closing tag or where the next one begins.
+"""
+import re
+from dataclasses import dataclass, field
+
+from .statement import Balance, Line, Statement, checked, total_of
+from .values import NotUnderstood, bank_ref_of, cents_of, day_of, decoded, quoted, with_number, words_of
+
+TOKEN = re.compile(
+    r"<!\[CDATA\[(?P<verbatim>.*?)\]\]>|<!--.*?-->|<\?.*?\?>"
+    r"|<(?P<end>/?)(?P<name>[A-Za-z][A-Za-z0-9._]*)\s*/?>|(?P<text>[^<]+)", re.DOTALL)
+ENTITY = re.compile(r"&(?:(amp|lt|gt|quot|apos|nbsp)|#([0-9]{1,7})|#x([0-9a-fA-F]{1,6}));")
+NAMED = {"amp": "&", "lt": "<", "gt": ">", "quot": '"', "apos": "'", "nbsp": " "}
+TIME = re.compile(r"([0-9]{4})([0-9]{2})([0-9]{2})([0-9]{4}([0-9]{2}([.][0-9]{1,3})?)?)?\s*(\[[^\]]*\])?")
+
+TRANSACTION = "STMTTRN"
+# Transactions that the bank has not booked yet are left out.
+PENDING = "STMTTRNP"
+SECTIONS = {"BANKTRANLIST", "BANKTRANLISTP", TRANSACTION, PENDING, "LEDGERBAL", "AVAILBAL", "BALLIST", "BAL"}
+# The values that a transaction has to have.
+NEEDED = ["DTPOSTED", "TRNAMT", "FITID"]
+CHARGES = {"FEE", "SRVCHG"}
+
+
+@dataclass(frozen=True)
+class Tag:
+    """A tag, and the text that stands behind it."""
+
+    name: str
+    is_end: bool
+    value: str
+
+
+@dataclass(frozen=True)
+class Section:
+    """A part of the file, by the name of its tag, and the texts of the values in it by their names."""
+
+    name: str
+    values: dict[str, list[str]] = field(default_factory=dict)
+
+    def value(self, name: str) -> str:
+        """The value of this name, empty where there is none."""
+        texts = [text for text in self.values.get(name, []) if text]
+        if len(texts) > 1:
+            raise NotUnderstood(f"{self.name} has {name} twice")
+        return texts[0] if texts else ""
+
+    def needed(self, name: str) -> str:
+        """The value of this name, which has to be there."""
+        value = self.value(name)
+        if not value:
+            raise NotUnderstood(f"{self.name} has no {name}")
+        return value
+
+
+def character_of(entity: re.Match[str]) -> str:
+    """The character that an entity stands for; what stands for none is left as it is."""
+    name, decimal, hexadecimal = entity.groups()
+    if name:
+        return NAMED[name]
+    code = int(decimal) if decimal else int(hexadecimal, 16)
+    is_character = code < 0xD800 or 0xE000 <= code <= 0x10FFFF
+    return chr(code) if is_character else entity[0]
+
+
+def tags_of(text: str) -> list[Tag]:
+    """The tags of the file, each with the text behind it."""
+    tags: list[Tag] = []
+    at = 0
+    while at < len(text):
+        token = TOKEN.match(text, at)
+        if not token:
+            raise NotUnderstood(f"no tag of OFX begins with {quoted(text[at:at + 40])}")
+        if token["name"]:
+            tags.append(Tag(token["name"].upper(), bool(token["end"]), ""))
+        else:
+            value = token["verbatim"] or ENTITY.sub(character_of, token["text"] or "")
+            tags[-1] = Tag(tags[-1].name, tags[-1].is_end, tags[-1].value + value)
+        at = token.end()
+    return tags
+
+
+def sections_of(tags: list[Tag]) -> list[Section]:
+    """The sections of the file, in order. What stands in none is in one without a name."""
+    sections = [Section("")]
+    for tag in tags:
+        value = tag.value.strip()
+        if tag.is_end and value:
+            raise NotUnderstood(f"{quoted(value)} stands behind the end of {tag.name}")
+        if tag.name in SECTIONS:
+            sections.append(Section("" if tag.is_end else tag.name))
+        elif not tag.is_end:
+            sections[-1].values.setdefault(tag.name, []).append(value)
+    return sections
+
+
+def check_account(tags: list[Tag]) -> None:
+    """Refuses a file that has not one account, and one that was cut."""
+    accounts = [tag.name for tag in tags if not tag.is_end and tag.name.endswith("STMTRS")]
+    if accounts != ["STMTRS"]:
+        found = ", ".join(accounts) or "none"
+        raise NotUnderstood(f"the file has to have one bank account, STMTRS, and has {found}")
+    if tags[-1].name != "OFX" or not tags[-1].is_end:
+        raise NotUnderstood("the file does not end with </OFX>: it may have been cut")
+
+
+def check_strays(sections: list[Section]) -> None:
+    """Refuses a transaction's value that stands in no transaction."""
+    for section in sections:
+        strays = [name for name in NEEDED if name in section.values]
+        if strays and section.name not in (TRANSACTION, PENDING):
+            raise NotUnderstood(f"{strays[0]} stands outside of any transaction")
+
+
+def only(sections: list[Section], name: str) -> Section:
+    """The only section of this name."""
+    found = [section for section in sections if section.name == name]
+    if len(found) != 1:
+        raise NotUnderstood(f"the file has {len(found)} {name}, not one")
+    return found[0]
+
+
+def day_of_time(text: str) -> str:
+    """The day of a time: its first eight digits, the bank's own, whatever the hour and the zone."""
+    parts = TIME.fullmatch(text)
+    if not parts:
+        raise NotUnderstood(f"{quoted(text)} is no day")
+    return day_of(int(parts[1]), int(parts[2]), int(parts[3]))
+
+
+def text_of(transaction: Section) -> str:
+    """The bank's words of a transaction."""
+    text = with_number(words_of([transaction.value("NAME"), transaction.value("MEMO")]), transaction.value("CHECKNUM"))
+    is_charge = transaction.value("TRNTYPE").upper() in CHARGES
+    if is_charge and not re.search("charge|fee", text, re.IGNORECASE):
+        text = words_of([text, "charge"])
+    return text
+
+
+def line_of(transaction: Section, currency: str) -> Line:
+    """The line of a transaction."""
+    if "CORRECTFITID" in transaction.values:
+        raise NotUnderstood("it corrects another one (CORRECTFITID)")
+    if "CURRENCY" in transaction.values and transaction.value("CURSYM") != currency:
+        raise NotUnderstood(f"it is in {quoted(transaction.value('CURSYM'))}, and the account in {quoted(currency)}")
+    day, amount, reference = map(transaction.needed, NEEDED)
+    return Line(day_of_time(day), bank_ref_of(reference), cents_of(amount), text_of(transaction))
+
+
+def lines_of(sections: list[Section]) -> list[Line]:
+    """The lines of all transactions."""
+    currency = next((section.value("CURDEF") for section in sections if "CURDEF" in section.values), "")
+    lines: list[Line] = []
+    for transaction in (section for section in sections if section.name == TRANSACTION):
+        try:
+            lines.append(line_of(transaction, currency))
+        except NotUnderstood as reason:
+            raise NotUnderstood(f"transaction {len(lines) + 1}: {reason}") from None
+    return lines
+
+
+def closed(lines: list[Line], sections: list[Section], close: str) -> Statement:
+    """The statement up to a day. The file's balance is of the moment of its download, in the midst of a day. So a day
+    before closed with that less the lines since, and the first day opened with the close less the lines up to it."""
+    ledger, period = only(sections, "LEDGERBAL"), only(sections, "BANKTRANLIST")
+    balance = Balance(day_of_time(ledger.needed("DTASOF")), cents_of(ledger.needed("BALAMT")))
+    first, last = day_of_time(period.needed("DTSTART")), day_of_time(period.needed("DTEND"))
+    if last < balance.day:
+        raise NotUnderstood(f"the balance is of {balance.day}, and the lines end on {last}: those between are missing")
+    if not first <= close < balance.day:
+        raise NotUnderstood(f"{close} is no day from {first} to the day before that of the balance, {balance.day}")
+    if any(line.day < first for line in lines):
+        raise NotUnderstood(f"a line is before the file's first day, {first}")
+    kept = [line for line in lines if line.day <= close]
+    at_close = balance.cents - total_of(line for line in lines if line.day > close)
+    return Statement(kept, Balance(first, at_close - total_of(kept)), Balance(close, at_close))
+
+
+def body_of(text: str) -> str:
+    """The file behind its header, in which no tag stands but those of XML's own."""
+    header, begin, body = re.split("(<OFX>)", text, maxsplit=1, flags=re.IGNORECASE)
+    if "<" in re.sub(r"<\?[^<]*\?>", "", header):
+        raise NotUnderstood("a tag stands before <OFX>")
+    return begin + body
+
+
+def read(data: bytes, close: str | None) -> Statement:
+    """The statement of an OFX file. Balances are told where the statement is to close with a day."""
+    tags = tags_of(body_of(decoded(data)))
+    check_account(tags)
+    sections = sections_of(tags)
+    check_strays(sections)
+    lines = checked(lines_of(sections))
+    return closed(lines, sections, close) if close else Statement(lines)
