@@ -9,7 +9,8 @@ from dataclasses import dataclass
 from . import csv_rules
 from .csv_rules import COLUMN, Condition, Pattern, Rules
 from .statement import Line, Statement, checked
-from .values import NotUnderstood, amount_text, bank_ref_of, cents_of, day_of, decoded, quoted, with_number, words_of
+from .values import (NotUnderstood, amount_text, bank_ref_of, cents_of, day_of, decoded, quoted, with_number, within,
+                     words_of)
 
 DAY = re.compile(r"([0-9]{4})[-/.]([0-9]{1,2})[-/.]([0-9]{1,2})")
 # A sign, or parentheses in its place; dollars or no word for them; digits and their marks.
@@ -36,10 +37,10 @@ def rows_of(text: str, rules: Rules) -> list[Row]:
     file = io.StringIO(text, newline="")
     reader = csv.reader(file, delimiter=rules.separator, skipinitialspace=True, strict=True)
     try:
-        rows = [Row(reader.line_num, [cell.strip() for cell in cells]) for cells in reader]
+        rows = [Row(reader.line_num, cells) for cells in reader]
     except csv.Error as reason:
         raise NotUnderstood(f"line {reader.line_num}: {reason}") from None
-    return [row for row in rows if any(row.cells)][rules.skip:]
+    return [row for row in rows if any(map(str.strip, row.cells))][rules.skip:]
 
 
 def fits(row: Row, pattern: Pattern, rules: Rules) -> bool:
@@ -136,11 +137,8 @@ def reference_for(day: str, cents: int, text: str, seen: dict[str, int]) -> str:
     return f"{hashlib.sha256(said.encode()).hexdigest()[:16]}-{seen[said]}"
 
 
-def line_of(row: Row, rules: Rules, seen: dict[str, int]) -> Line | None:
-    """The line of a row, if it is not skipped."""
-    values = assigned(row, rules)
-    if not values:
-        return None
+def line_of(values: dict[str, str], rules: Rules, seen: dict[str, int]) -> Line:
+    """The line of what is assigned to a row's fields."""
     day, cents = day_of_cell(values["date"], rules.date_format), cents_of_row(values, rules)
     text = with_number(words_of([values.get("description")]), values.get("code", ""))
     told = REFERENCE.search(values.get("comment", ""))
@@ -149,22 +147,28 @@ def line_of(row: Row, rules: Rules, seen: dict[str, int]) -> Line | None:
     return Line(day, reference, cents, text)
 
 
+def check_shape(own: tuple[int, str], first: tuple[int, str]) -> None:
+    """Refuses a row with another number of columns, or another currency, than the first one has."""
+    if own[0] != first[0]:
+        raise NotUnderstood(f"it has {own[0]} columns, and the first line {first[0]}")
+    if own[1] != first[1]:
+        raise NotUnderstood(f"it is in {quoted(own[1])}, and the first line in {quoted(first[1])}")
+
+
 def lines_of(rows: list[Row], rules: Rules) -> list[Line]:
-    """The lines of all rows. All that are not skipped have to have as many columns."""
+    """The lines of all rows that are not skipped. All of them have to have as many columns, and one currency."""
     lines: list[Line] = []
     seen: dict[str, int] = {}
-    first: Row | None = None
+    shape: tuple[int, str] | None = None
     for row in rows:
-        try:
-            line = line_of(row, rules, seen)
-        except NotUnderstood as reason:
-            raise NotUnderstood(f"line {row.number}: {reason}") from None
-        if line:
-            first = first or row
-            if len(row.cells) != len(first.cells):
-                raise NotUnderstood(f"line {row.number} has {len(row.cells)} columns, and line {first.number} has "
-                                    f"{len(first.cells)}")
-            lines.append(line)
+        with within(f"line {row.number}"):
+            values = assigned(row, rules)
+            if not values:
+                continue
+            lines.append(line_of(values, rules, seen))
+            own = (len(row.cells), values.get("currency", ""))
+            shape = shape or own
+            check_shape(own, shape)
     return lines
 
 

@@ -5,7 +5,7 @@ from xml.etree import ElementTree
 from xml.etree.ElementTree import Element
 
 from .statement import Balance, Line, Statement, checked, total_of
-from .values import NotUnderstood, amount_text, bank_ref_of, cents_of, day_of, quoted, with_number, words_of
+from .values import NotUnderstood, amount_text, bank_ref_of, cents_of, day_of, quoted, with_number, within, words_of
 
 TIME = re.compile(r"([0-9]{4})-([0-9]{2})-([0-9]{2})(T[0-9:.]+)?(Z|[-+][0-9]{2}:[0-9]{2})?")
 SIGNS = {"CRDT": 1, "DBIT": -1}
@@ -63,8 +63,7 @@ def day_at(element: Element, path: str) -> str:
 
 def is_booked(entry: Element) -> bool:
     """Whether the bank has booked an entry."""
-    status_element = one_of(entry, "Sts")
-    status = text_at(status_element, "Cd", ".")
+    status = text_at(one_of(entry, "Sts"), "Cd", ".")
     if status != BOOKED and status not in NOT_BOOKED:
         raise NotUnderstood(f"the status {quoted(status)} is none of an entry's")
     return status == BOOKED
@@ -118,10 +117,8 @@ def lines_of(statement: Element, currency: str) -> list[Line]:
     """The lines of all entries that are booked."""
     lines: list[Line] = []
     for number, entry in enumerate(statement.findall("Ntry"), 1):
-        try:
+        with within(f"entry {number}"):
             lines += lines_of_entry(entry, currency)
-        except NotUnderstood as reason:
-            raise NotUnderstood(f"entry {number}: {reason}") from None
     return lines
 
 

@@ -5,16 +5,17 @@ with its patterns, assignments and `skip`. What tells of accounts, balances and 
 refused.
 """
 import re
+import warnings
 from dataclasses import dataclass, field
 
-from .values import NotUnderstood, quoted
+from .values import NotUnderstood, quoted, within
 
 # The fields that a line of a statement is made of, by the names that the rules have for them.
-USED = {"date": "date", "description": "description", "code": "code", "comment": "comment",
-        "amount": "amount", "amount-in": "amount-in", "amount-out": "amount-out",
+USED = {"date": "date", "description": "description", "code": "code", "comment": "comment", "currency": "currency",
+        "amount": "amount", "amount-in": "amount-in", "amount-out": "amount-out", "currency1": "currency",
         "amount1": "amount", "amount1-in": "amount-in", "amount1-out": "amount-out"}
-PASSED_OVER = {"account1", "account2", "balance", "balance1", "balance-type", "currency", "currency1", "date2",
-               "intra-day-reversed", "newest-first", "status"}
+PASSED_OVER = {"account1", "account2", "balance", "balance1", "balance-type", "date2", "intra-day-reversed",
+               "newest-first", "status"}
 SEPARATORS = {",": ",", ";": ";", "|": "|", "tab": "\t", "\\t": "\t"}
 
 COMMENT = re.compile(r"\s*([#;*].*)?")
@@ -73,9 +74,12 @@ def pattern_of(text: str) -> Pattern:
     if expression.startswith("!"):
         raise NotUnderstood(f"{quoted(text)} is not taken as a pattern")
     try:
-        return Pattern(column, re.compile(expression, re.IGNORECASE), is_joined)
-    except re.error as reason:
-        raise NotUnderstood(f"{quoted(text)} is no pattern: {reason}") from None
+        # What Python warns of, it may read otherwise than hledger.
+        with warnings.catch_warnings():
+            warnings.simplefilter("error")
+            return Pattern(column, re.compile(expression, re.IGNORECASE), is_joined)
+    except (re.error, OverflowError, Warning):
+        raise NotUnderstood(f"{quoted(text)} is not taken as a pattern") from None
 
 
 class Reader:
@@ -84,6 +88,7 @@ class Reader:
     def __init__(self) -> None:
         self.rules = Rules()
         self.condition: Condition | None = None
+        self.directives: set[str] = set()
 
     def take(self, line: str) -> None:
         """Takes a line of the rules."""
@@ -127,6 +132,9 @@ class Reader:
             self.take_columns(value.split(","))
         else:
             return False
+        if name != "if" and name in self.directives:
+            raise NotUnderstood(f"{name} is given twice")
+        self.directives.add(name)
         return True
 
     def take_columns(self, names: list[str]) -> None:
@@ -162,10 +170,8 @@ def read(text: str) -> Rules:
     """The rules of a file."""
     reader = Reader()
     for number, line in enumerate(text.splitlines(), 1):
-        try:
-            if not COMMENT.fullmatch(line):
+        if not COMMENT.fullmatch(line):
+            with within(f"line {number} of the rules"):
                 reader.take(line)
-        except NotUnderstood as reason:
-            raise NotUnderstood(f"line {number} of the rules: {reason}") from None
     check(reader.rules)
     return reader.rules

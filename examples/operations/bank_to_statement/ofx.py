@@ -7,7 +7,7 @@ import re
 from dataclasses import dataclass, field
 
 from .statement import Balance, Line, Statement, checked, total_of
-from .values import NotUnderstood, bank_ref_of, cents_of, day_of, decoded, quoted, with_number, words_of
+from .values import NotUnderstood, bank_ref_of, cents_of, day_of, decoded, quoted, with_number, within, words_of
 
 TOKEN = re.compile(
     r"<!\[CDATA\[(?P<verbatim>.*?)\]\]>|<!--.*?-->|<\?.*?\?>"
@@ -155,10 +155,8 @@ def lines_of(sections: list[Section]) -> list[Line]:
     currency = next((section.value("CURDEF") for section in sections if "CURDEF" in section.values), "")
     lines: list[Line] = []
     for transaction in (section for section in sections if section.name == TRANSACTION):
-        try:
+        with within(f"transaction {len(lines) + 1}"):
             lines.append(line_of(transaction, currency))
-        except NotUnderstood as reason:
-            raise NotUnderstood(f"transaction {len(lines) + 1}: {reason}") from None
     return lines
 
 

@@ -1,8 +1,9 @@
 """The values of a statement's lines, from the texts of a bank's file: amounts, days, references and words."""
+import contextlib
 import datetime
 import hashlib
 import re
-from collections.abc import Iterable
+from collections.abc import Iterable, Iterator
 
 # What `cashier import` takes at most: cents with 16 digits before the point, years, bytes of a reference and of a text.
 MAX_CENTS = 10**18 - 1
@@ -18,6 +19,15 @@ NUMBER_WORDS = r"\b(check|chk|ck|cheque|slip|id number)[^a-z0-9]*((no|num|number
 
 class NotUnderstood(Exception):
     """What in the bank's file is not understood. Nothing is written then."""
+
+
+@contextlib.contextmanager
+def within(place: str) -> Iterator[None]:
+    """Has what is not understood tell this place of the file."""
+    try:
+        yield
+    except NotUnderstood as reason:
+        raise NotUnderstood(f"{place}: {reason}") from None
 
 
 def decoded(data: bytes) -> str:
