@@ -2,10 +2,14 @@
 
 ghost use Rattle.std.specs.Prelude.{◌≡◌, ◌↔◌, Some, IsTrue};
 ghost use Rattle.trust_schema.specs.declared.layout.Layout.TheVariants.{Made, Moved};
+ghost use Rattle.trust_schema.specs.Old.{old_schema};
 ghost use Rattle.trust_schema.specs.Schema.{book_schema};
 
 use crate::layout::Layout;
-use crate::tables::{has_made_indexes, has_made_tables, has_moved_indexes, has_moved_tables};
+use crate::tables::{
+    has_made_indexes, has_made_tables, has_moved_indexes, has_moved_tables, has_old_indexes,
+    has_old_tables,
+};
 use sqlite_schema::schema::Schema;
 
 fn is_made(schema: &Schema) -> bool
@@ -49,4 +53,15 @@ pub fn layout_of(schema: &Schema) -> Option<Layout>
     } else {
         None
     }
+}
+
+/// Whether the schema is that of version 1, to the last column: three other tables stand for the matters, their seats
+/// and their entries. Takes no memory.
+pub fn is_old_schema(schema: &Schema) -> bool
+    ensures sound { IsTrue result → schema.now ≡ old_schema }
+    ensures complete { schema.now ≡ old_schema → IsTrue result }
+{
+    has_old_tables(schema.tables.as_slice())
+        && has_old_indexes(schema.indexes.as_slice())
+        && schema.views.is_empty()
 }
