@@ -1,8 +1,9 @@
 // A run on files that may stop, and one on what is left.
 
 use crate::files::{Calls, Image, UNSTOPPED, closed, files_of, image_of, no_bytes, opened};
+use crate::old::{make_old, version_in};
 use crate::talk::{are_answered, shown};
-use crate::works::{ACCEPTED, Work};
+use crate::works::{ACCEPTED, Start, Work};
 use crate::wrong::Wrong;
 use sql_book::{OpenFault, SqlBook};
 use sqlite::{Alter, Connection};
@@ -101,18 +102,27 @@ pub(crate) fn stopped(
     calls: Calls,
 ) -> Result<(bool, Image), Wrong> {
     let doing = Doing {
-        is_new: work.message.is_empty(),
+        is_new: matches!(work.start, Start::Empty),
         messages: work.message,
         status: work.statuses.0,
     };
     left(alloc, image, &doing, calls)
 }
 
-/// The bytes of the files before the work.
-pub(crate) fn image_before(alloc: Global, work: &Work) -> Result<Image, Wrong> {
-    if work.message.is_empty() {
-        return Ok(no_bytes(alloc));
-    }
+// The bytes of the files of a database of version 1.
+fn old_image(alloc: Global) -> Result<Image, Wrong> {
+    let files = files_of(alloc, &no_bytes(alloc), UNSTOPPED)?;
+    let Ok(mut conn) = opened(alloc, files) else {
+        return Err(Wrong::Setup);
+    };
+    let made = make_old(&mut conn);
+    let (_, files) = closed(conn);
+    made?;
+    image_of(alloc, &files)
+}
+
+// The bytes of the files of a book that was sent messages.
+fn book_image(alloc: Global, work: &Work) -> Result<Image, Wrong> {
     let doing = Doing {
         is_new: true,
         messages: work.before,
@@ -121,6 +131,15 @@ pub(crate) fn image_before(alloc: Global, work: &Work) -> Result<Image, Wrong> {
     match left(alloc, &no_bytes(alloc), &doing, UNSTOPPED)? {
         (true, image) => Ok(image),
         (false, _) => Err(Wrong::Setup),
+    }
+}
+
+/// The bytes of the files before the work.
+pub(crate) fn image_before(alloc: Global, work: &Work) -> Result<Image, Wrong> {
+    match work.start {
+        Start::Empty => Ok(no_bytes(alloc)),
+        Start::Book => book_image(alloc, work),
+        Start::Old => old_image(alloc),
     }
 }
 
@@ -136,21 +155,21 @@ pub(crate) fn is_last(pictures: &[Vec<u8>], place: usize) -> bool {
     place == pictures.len().saturating_sub(1)
 }
 
-// Finds the place among the pictures of what a book shows, which is nothing where it was just made, and sends what was
-// under way again: the book then shows the last.
+// Finds the place among the pictures of what a book shows, which is nothing where it was just made and its tables said
+// no version before, and sends what was under way again: the book then shows the last.
 fn mended<B: Book + Drop>(
     alloc: Global,
     book: B,
-    is_new: bool,
+    version: u8,
     work: &Work,
     pictures: &[Vec<u8>],
     calls: Calls,
 ) -> Result<usize, Wrong> {
     let mut desk = Desk::new(book);
-    let before = if is_new {
+    let before = if version == 0 {
         Vec::new(alloc)
     } else {
-        shown(alloc, &mut desk)?
+        shown(alloc, &mut desk, version)?
     };
     let Some(place) = place_of(pictures, &before) else {
         return Err(Wrong::Stopped(calls.0, calls.1));
@@ -161,7 +180,7 @@ fn mended<B: Book + Drop>(
         work.statuses.0
     };
     let is_sent = are_answered(alloc, &mut desk, work.message, status);
-    let after = shown(alloc, &mut desk)?;
+    let after = shown(alloc, &mut desk, 2)?;
     match place_of(pictures, &after) {
         Some(end) if is_sent && is_last(pictures, end) => Ok(place),
         _ => Err(Wrong::SentAgain(calls.0, calls.1)),
@@ -176,10 +195,12 @@ fn mended_in<S: Alter + Drop>(
     pictures: &[Vec<u8>],
     calls: Calls,
 ) -> Result<usize, Wrong> {
+    let mut conn = conn;
+    let version = version_in(&mut conn);
     match adopted(alloc, conn) {
-        Ok(book) => mended(alloc, book, false, work, pictures, calls),
+        Ok(book) => mended(alloc, book, version, work, pictures, calls),
         Err((OpenFault::NotABook, conn)) => match made(alloc, conn) {
-            Ok(book) => mended(alloc, book, true, work, pictures, calls),
+            Ok(book) => mended(alloc, book, 0, work, pictures, calls),
             Err(_) => Err(Wrong::Setup),
         },
         Err(_) => Err(Wrong::Setup),

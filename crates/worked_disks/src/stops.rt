@@ -3,7 +3,7 @@
 use crate::files::{Calls, Image, UNSTOPPED};
 use crate::runs::{image_before, is_last, recovered, stopped};
 use crate::works::{
-    APPROVAL, DEPOSIT, LINE, MAKING, OPENING, PROPOSAL, STATEMENT, Work, pictures_of,
+    APPROVAL, DEPOSIT, LINE, MAKING, MOVING, OPENING, PROPOSAL, STATEMENT, Work, pictures_of,
 };
 use crate::wrong::Wrong;
 use std::alloc::Global;
@@ -107,6 +107,11 @@ fn stop_both(alloc: Global, work: &Work) -> Result<(), Wrong> {
 #[test]
 fn a_book_is_made_or_not(rt: HostRuntime) -> Result<(), Wrong> {
     stop_both(rt.alloc(), &MAKING)
+}
+
+#[test]
+fn a_book_of_version_1_is_moved_or_not(rt: HostRuntime) -> Result<(), Wrong> {
+    stop_both(rt.alloc(), &MOVING)
 }
 
 #[test]

@@ -37,12 +37,19 @@ const SHOWING: &[&str] = &[
     "GET /matters/000001/accounting HTTP/1.1\r\nx-caller: cashier\r\n\r\n",
     "GET /firm/journal HTTP/1.1\r\nx-caller: cashier\r\n\r\n",
     "GET /firm/trial-balance HTTP/1.1\r\nx-caller: cashier\r\n\r\n",
+    "GET /firm/exceptions HTTP/1.1\r\nx-caller: cashier\r\n\r\n",
+    "GET /firm/reconciliation/2024-02-01 HTTP/1.1\r\nx-caller: cashier\r\n\r\n",
 ];
 
-/// What a book shows of its rows: the answers to four messages, one behind the other. Fails where one is a fault of the
-/// store or of memory.
-pub(crate) fn shown<B: Book>(alloc: Global, desk: &mut Desk<B>) -> Result<Vec<u8>, Wrong> {
+/// What a book shows of its rows, behind the version that its tables said before it was taken: the answers to six
+/// messages, one behind the other. Fails where one is a fault of the store or of memory.
+pub(crate) fn shown<B: Book>(
+    alloc: Global,
+    desk: &mut Desk<B>,
+    version: u8,
+) -> Result<Vec<u8>, Wrong> {
     let mut text = Vec::new(alloc);
+    text.extend_from_slice(&[version])?;
     for message in SHOWING {
         let told = answer(alloc, desk, message);
         if told.is_empty() || told.starts_with(b"HTTP/1.1 503") {

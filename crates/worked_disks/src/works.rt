@@ -6,12 +6,25 @@ use std::alloc::Global;
 use trust_desk::Desk;
 use trust_store::PlainBook;
 
+/// What the files hold before the work.
+#[derive(Clone, Copy)]
+pub(crate) enum Start {
+    /// Nothing: a book is made.
+    Empty,
+    /// A book.
+    Book,
+    /// A database of version 1, of the rows that `HISTORY` leaves: it is taken.
+    Old,
+}
+
 /// What is under way as a file stops.
 #[derive(Clone, Copy)]
 pub(crate) struct Work {
+    /// What the files hold before.
+    pub(crate) start: Start,
     /// What the book was sent before.
     pub(crate) before: &'static [&'static str],
-    /// The one message that it is sent, or none where it is made.
+    /// The one message that it is sent, or none where it is made or moved.
     pub(crate) message: &'static [&'static str],
     /// How its answer begins, and that to the same sent again when all is done.
     pub(crate) statuses: (&'static str, &'static str),
@@ -82,14 +95,38 @@ const ALL_LINES: &str = concat!(
     "2024-02-01,M000001-0001,B1,500.00,\n"
 );
 
+// One with the balances of a day, and with a line that is nobody's.
+const BALANCES: &str = concat!(
+    "POST /firm/statements HTTP/1.1\r\nx-caller: cashier\r\ncontent-length: 128\r\n\r\n",
+    "date,reference,bank_ref,amount,text\n",
+    "2024-02-01,OPEN,,0.00,\n",
+    "2024-02-01,RENT,B4,-1200.00,standing order\n",
+    "2024-02-01,CLOSE,,688.00,\n"
+);
+
+// What leaves the rows of the database of version 1: a deposit that is cleared, a payment, lines of the firm's own,
+// balances and an exception.
+const HISTORY: &[&str] = &[OPEN, BOOK, ALL_LINES, PROPOSE, APPROVE, BALANCES];
+
 pub(crate) const MAKING: Work = Work {
+    start: Start::Empty,
     before: &[],
     message: &[],
     statuses: ("", ""),
     parts: &[],
 };
 
+/// A database of version 1 is taken.
+pub(crate) const MOVING: Work = Work {
+    start: Start::Old,
+    before: HISTORY,
+    message: &[],
+    statuses: ("", ""),
+    parts: &[],
+};
+
 pub(crate) const OPENING: Work = Work {
+    start: Start::Book,
     before: &[],
     message: &[OPEN],
     statuses: (CREATED, CONFLICT),
@@ -97,6 +134,7 @@ pub(crate) const OPENING: Work = Work {
 };
 
 pub(crate) const DEPOSIT: Work = Work {
+    start: Start::Book,
     before: &[OPEN],
     message: &[BOOK],
     statuses: (CREATED, OK),
@@ -104,6 +142,7 @@ pub(crate) const DEPOSIT: Work = Work {
 };
 
 pub(crate) const LINE: Work = Work {
+    start: Start::Book,
     before: &[OPEN, BOOK],
     message: &[CLEAR],
     statuses: (OK, OK),
@@ -111,6 +150,7 @@ pub(crate) const LINE: Work = Work {
 };
 
 pub(crate) const PROPOSAL: Work = Work {
+    start: Start::Book,
     before: &[OPEN, BOOK, CLEAR],
     message: &[PROPOSE],
     statuses: (CREATED, OK),
@@ -118,6 +158,7 @@ pub(crate) const PROPOSAL: Work = Work {
 };
 
 pub(crate) const APPROVAL: Work = Work {
+    start: Start::Book,
     before: &[OPEN, BOOK, CLEAR, PROPOSE],
     message: &[APPROVE],
     statuses: (OK, CONFLICT),
@@ -126,6 +167,7 @@ pub(crate) const APPROVAL: Work = Work {
 
 /// Three lines: the firm's own money, a charge of the bank's, and a deposit that is cleared.
 pub(crate) const STATEMENT: Work = Work {
+    start: Start::Book,
     before: &[OPEN, BOOK],
     message: &[ALL_LINES],
     statuses: (OK, OK),
@@ -139,7 +181,7 @@ fn push(pictures: &mut Vec<Vec<u8>>, picture: Vec<u8>) -> Result<(), Wrong> {
     }
 }
 
-// Sends messages, and shows what is left. Fails where one of them is not accepted.
+// Sends messages, and shows what is left, as of version 2. Fails where one of them is not accepted.
 fn shown_behind(
     alloc: Global,
     desk: &mut Desk<PlainBook>,
@@ -148,18 +190,21 @@ fn shown_behind(
     if !are_answered(alloc, desk, messages, ACCEPTED) {
         return Err(Wrong::Setup);
     }
-    shown(alloc, desk)
+    shown(alloc, desk, 2)
 }
 
 /// What a stop may leave, as a book of lists shows it: the rows before, and those after each part. Before its making a
-/// book shows nothing.
+/// book shows nothing; one that is moved shows the same rows before, of version 1.
 pub(crate) fn pictures_of(alloc: Global, work: &Work) -> Result<Vec<Vec<u8>>, Wrong> {
     let mut desk = Desk::new(PlainBook::new(alloc));
     let mut pictures = Vec::new(alloc);
-    if work.message.is_empty() {
-        push(&mut pictures, Vec::new(alloc))?;
+    let first = shown_behind(alloc, &mut desk, work.before)?;
+    match work.start {
+        Start::Empty => push(&mut pictures, Vec::new(alloc))?,
+        Start::Book => {}
+        Start::Old => push(&mut pictures, shown(alloc, &mut desk, 1)?)?,
     }
-    push(&mut pictures, shown_behind(alloc, &mut desk, work.before)?)?;
+    push(&mut pictures, first)?;
     for part in work.parts {
         push(&mut pictures, shown_behind(alloc, &mut desk, &[*part])?)?;
     }
