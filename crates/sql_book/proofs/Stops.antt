@@ -1,5 +1,5 @@
 -- What a stop leaves of a book is taken again.
-use Rattle.std.proofs.Common.{◌≡◌, map, length, sym, ap, subst, refl, ◌∙◌, arith}
+use Rattle.std.proofs.Common.{◌≡◌, ◌⊎◌, inl, inr, map, length, sym, ap, subst, refl, ◌∙◌, arith}
 use Rattle.sqlite_schema.specs.declared.schema.Schema.{Schema}
 use Rattle.sqlite_trees.specs.Tree.{Trees}
 use Rattle.sqlite_trees.specs.declared.store.Store.{Ghosts}
@@ -16,10 +16,14 @@ use Rattle.tables_meaning.specs.Meaning.{AreSound, firm_from}
 use Rattle.tables_meaning.specs.Standing.{EmptyTablesStand, StandsSound, firm_in, no_lists}
 use Rattle.trust_making.specs.Books.{IsBook, IsNewBook, AreNewBook}
 use Rattle.trust_making.proofs.NewBook.{is_book, new_book_stands}
-use Rattle.sql_book.specs.Books.{HeldBook, at, firm_of, IsLasting, MayLeave}
-use Rattle.sql_book.specs.Opening.{IsTaken}
-use Rattle.sql_book.specs.Stops.{IsOpenedOver, HoldsLeft, IsNext, HoldsNewBook}
+use Rattle.trust_moving.specs.Then.{IsOldBook}
+use Rattle.trust_moving.proofs.Ends.{never_both}
+use Rattle.sql_book.specs.Books.{HeldBook, at, firm_of, IsStanding, IsLasting, MayLeave}
+use Rattle.sql_book.specs.Opening.{IsKeptBook, IsMovedBook, IsTaken}
+use Rattle.sql_book.specs.Then.{firm_then, StoodSound}
+use Rattle.sql_book.specs.Stops.{IsOpenedOver, HoldsLeft, IsNext, HoldsNewBook, IsOldStanding, IsLeftInMoving, HoldsOldFirm, HoldsFirm, IsOfFirm, BooksAreTaken, StopsInMovingLeaveBooks}
 use Rattle.sql_book.proofs.OneSchema.{one_database}
+use Rattle.sql_book.proofs.Moves.{moved_stands, moved_firm}
 
 -- tables lie in one layout
 pub one_layout : (l k : Layout) → book_schema l ≡ book_schema k → l ≡ k
@@ -33,6 +37,20 @@ sees : {T : Type 0} (h : Ghosts T) (trees : Trees) (conn : Held T) (db : Databas
 sees h trees conn db opened left listed =
     let live = opened.live opened.opens.is_open in
     one_database (state h conn).now db live.0 listed (ap (λ (d : Database). d.trees) opened.opens.clean ∙ opened.found ∙ left)
+
+-- where there are the tables of this version, these are the tables of the book that is taken
+pub kept_there : {T : Type 0} (h : Ghosts T) (l : Layout) (conn : Held T) (next : HeldBook T) → (state h conn).now.schema ≡ book_schema l → IsTaken h conn next → IsKeptBook h conn next
+kept_there h l conn next there taken = elim taken.found [
+  | inl kept ↦ kept
+  | inr moved ↦ absurd (never_both l (sym moved.book.schema ∙ there))
+]
+
+-- and where there are those of version 1, they were moved
+moved_there : {T : Type 0} (h : Ghosts T) (conn : Held T) (next : HeldBook T) → IsOldBook (state h conn).now → IsTaken h conn next → IsMovedBook h conn next
+moved_there h conn next there taken = elim taken.found [
+  | inl kept ↦ absurd (never_both next.layout (sym there.schema ∙ kept.book.schema))
+  | inr moved ↦ moved
+]
 
 module _ {S T : Type 0} (g : Ghosts S) (h : Ghosts T) where
   pub leaves_book : (before : HeldBook S) (trees : Trees) (conn : Held T) → IsLasting g before → (at g before).may_leave trees → IsOpenedOver h trees conn → HoldsLeft g h before conn
@@ -48,13 +66,14 @@ module _ {S T : Type 0} (g : Ghosts S) (h : Ghosts T) where
 
   pub is_taken : (before : HeldBook S) (conn : Held T) (next : HeldBook T) → HoldsLeft g h before conn → IsTaken h conn next → IsNext g h before next
   is_taken before conn next holds taken =
-      let same : before.layout ≡ next.layout = one_layout before.layout next.layout (sym holds.book.schema ∙ taken.book.schema) in
+      let kept = kept_there h before.layout conn next holds.book.schema taken in
+      let same : before.layout ≡ next.layout = one_layout before.layout next.layout (sym holds.book.schema ∙ kept.book.schema) in
       let stood = subst (λ (l : Layout). StandsSound l (state h conn).now) same holds.stands in
       record {
-        stands = taken.stands stood;
-        firm = subst (MayLeave g before) (ap (λ (l : Layout). firm_in l (state h conn).now.trees) same ∙ sym taken.firm) holds.firm;
+        stands = kept.stands stood;
+        firm = subst (MayLeave g before) (ap (λ (l : Layout). firm_in l (state h conn).now.trees) same ∙ sym kept.firm) holds.firm;
         settled = taken.settled;
-        lasts = taken.lasts stood;
+        lasts = kept.lasts stood;
       }
 
 -- tables without rows
@@ -79,3 +98,46 @@ holds_new_book h trees conn empty new opened =
       stands = subst (StandsSound Made) (sym same) (record { tables = new_book_stands db new; rows = subst AreSound (sym none) empty.0 });
       empty = ap (λ (d : Database). firm_in Made d.trees) same ∙ ap firm_from none ∙ empty.1;
     }
+
+module _ {T : Type 0} (h : Ghosts T) where
+  of_firm : (firm : Firm) (next : HeldBook T) → IsStanding h next → firm_of h next ≡ firm → LeavesAlone (firm_of h next) (MayLeave h next) → IsLasting h next → IsOfFirm h firm next
+  of_firm firm next stands same settled lasts = record {
+    stands = stands;
+    same = same;
+    settled = subst (λ f. LeavesAlone f (MayLeave h next)) same settled;
+    lasts = lasts;
+  }
+
+  of_kept : (firm : Firm) (conn : Held T) (next : HeldBook T) → HoldsFirm h firm conn → IsTaken h conn next → IsOfFirm h firm next
+  of_kept firm conn next holds taken =
+      let kept = kept_there h holds.layout conn next holds.book.schema taken in
+      let alike : holds.layout ≡ next.layout = one_layout holds.layout next.layout (sym holds.book.schema ∙ kept.book.schema) in
+      let stood = subst (λ (l : Layout). StandsSound l (state h conn).now) alike holds.stands in
+      of_firm firm next (kept.stands stood) (kept.firm ∙ sym (ap (λ (l : Layout). firm_in l (state h conn).now.trees) alike) ∙ holds.same) taken.settled (kept.lasts stood)
+
+  of_moved : (firm : Firm) (conn : Held T) (next : HeldBook T) → HoldsOldFirm h firm conn → IsTaken h conn next → IsOfFirm h firm next
+  of_moved firm conn next holds taken =
+      let moved = moved_there h conn next holds.book taken in
+      of_firm firm next (moved.stands holds.stood) (moved.firm holds.stood.tables ∙ holds.same) taken.settled (moved.lasts holds.stood)
+
+  pub is_of_firm : (firm : Firm) → BooksAreTaken h firm
+  is_of_firm firm conn next (inl old) taken = of_moved firm conn next old taken
+  is_of_firm firm conn next (inr new) taken = of_kept firm conn next new taken
+
+  pub holds_either : StopsInMovingLeaveBooks h
+  holds_either db trees conn old (inl same) opened =
+      let there = sees h trees conn db opened same old.listed in
+      inl (record {
+        book = subst IsOldBook (sym there) old.book;
+        stood = subst StoodSound (sym there) old.stood;
+        same = ap (λ (d : Database). firm_then d.trees) there;
+      })
+  holds_either db trees conn old (inr moved) opened =
+      let next : Database = record { schema = book_schema Moved; trees = trees } in
+      let there = sees h trees conn next opened refl moved.1.listed in
+      inr (record {
+        layout = Moved;
+        book = subst (IsBook Moved) (sym there) moved.1.book;
+        stands = subst (StandsSound Moved) (sym there) (moved_stands db next moved.1 old.stood);
+        same = ap (λ (d : Database). firm_in Moved d.trees) there ∙ moved_firm db next moved.1 old.stood.tables;
+      })

@@ -1,12 +1,15 @@
 -- A book that was just made in an empty database, and one that was taken from a database that holds it.
-use Rattle.std.specs.Prelude.{◌≡◌}
+use Rattle.std.specs.Prelude.{◌≡◌, ◌⊎◌}
 use Rattle.sqlite_trees.specs.declared.store.Store.{Ghosts}
 use Rattle.sqlite.specs.Held.{Held, state}
 use Rattle.firm_rows.specs.Firm.{empty_firm}
 use Rattle.trust_store.specs.Crashes.{LeavesAlone}
+use Rattle.trust_schema.specs.declared.layout.Layout.TheVariants.{Moved}
 use Rattle.trust_tables.specs.Reading.{IsKept}
 use Rattle.tables_meaning.specs.Standing.{StandsSound, firm_in}
 use Rattle.trust_making.specs.Books.{IsBook}
+use Rattle.trust_moving.specs.Then.{IsOldBook, IsMoved, Stood}
+use Rattle.sql_book.specs.Then.{firm_then, StoodSound}
 use Rattle.sql_book.specs.Books.{HeldBook, at, firm_of, IsServing, IsStanding, IsLasting, MayLeave}
 
 -- it serves, it stands for the firm without rows, and a crash leaves that firm, and what lasts
@@ -18,13 +21,28 @@ pub record IsMade {S : Type 0} (g : Ghosts S) (b : HeldBook S) : Type 0 where
   pub empty : firm_of g b ≡ empty_firm
   pub settled : LeavesAlone empty_firm (MayLeave g b)
 
--- it serves, its tables are those of the connection, which lie in its layout, and a crash leaves them; they stand for
--- the rows of a sound firm where they did, which is not looked at, and then what a crash leaves lasts
-pub record IsTaken {S : Type 0} (g : Ghosts S) (conn : Held S) (b : HeldBook S) : Type 0 where
-  pub serves : IsServing g b
+-- the tables of a book of this version are those of the connection, which lie in its layout; they stand for the rows of
+-- a sound firm where they did, which is not looked at, and then what a crash leaves lasts
+pub record IsKeptBook {S : Type 0} (g : Ghosts S) (conn : Held S) (b : HeldBook S) : Type 0 where
   pub book : IsBook b.layout (state g conn).now
   pub kept : IsKept (state g conn) (at g b)
   pub firm : firm_of g b ≡ firm_in b.layout (state g conn).now.trees
   pub stands : StandsSound b.layout (state g conn).now → IsStanding g b
   pub lasts : StandsSound b.layout (state g conn).now → IsLasting g b
+
+-- the rows of a book of version 1 were moved into tables of this version; these stand for the firm for which those
+-- stood, which is not looked at either, and where it was sound what a crash leaves lasts
+pub record IsMovedBook {S : Type 0} (g : Ghosts S) (conn : Held S) (b : HeldBook S) : Type 0 where
+  pub layout : b.layout ≡ Moved
+  pub book : IsOldBook (state g conn).now
+  pub moved : IsMoved (state g conn).now (at g b).now
+  pub firm : Stood (state g conn).now → firm_of g b ≡ firm_then (state g conn).now.trees
+  pub stands : StoodSound (state g conn).now → IsStanding g b
+  pub lasts : StoodSound (state g conn).now → IsLasting g b
+
+-- it serves, it is a book of this version, which was there or was made of one of version 1, and a crash leaves its firm
+pub record IsTaken {S : Type 0} (g : Ghosts S) (conn : Held S) (b : HeldBook S) : Type 0 where
+  pub serves : IsServing g b
+  pub book : IsBook b.layout (at g b).now
+  pub found : IsKeptBook g conn b ⊎ IsMovedBook g conn b
   pub settled : LeavesAlone (firm_of g b) (MayLeave g b)

@@ -1,14 +1,18 @@
 -- What a stop leaves of a book, and the book that the next run takes from it.
-use Rattle.std.specs.Prelude.{◌≡◌}
+use Rattle.std.specs.Prelude.{◌≡◌, ◌⊎◌}
 use Rattle.sqlite_trees.specs.Tree.{Trees}
 use Rattle.sqlite_trees.specs.declared.store.Store.{Ghosts}
+use Rattle.sqlite.specs.Effect.{Database, IsDatabase}
 use Rattle.sqlite.specs.Held.{Held, state}
 use Rattle.sqlite.specs.State.{IsLive, Opens}
-use Rattle.firm_rows.specs.Firm.{empty_firm}
+use Rattle.firm_rows.specs.Firm.{Firm, empty_firm}
 use Rattle.trust_store.specs.Crashes.{LeavesAlone}
+use Rattle.trust_schema.specs.declared.layout.Layout.{Layout}
 use Rattle.trust_schema.specs.declared.layout.Layout.TheVariants.{Made}
 use Rattle.tables_meaning.specs.Standing.{StandsSound, firm_in}
 use Rattle.trust_making.specs.Books.{IsBook, AreNewBook}
+use Rattle.trust_moving.specs.Then.{IsOldBook, AreMoved}
+use Rattle.sql_book.specs.Then.{firm_then, StoodSound}
 use Rattle.sql_book.specs.Books.{HeldBook, at, firm_of, IsStanding, IsLasting, MayLeave}
 use Rattle.sql_book.specs.Opening.{IsTaken}
 
@@ -56,3 +60,47 @@ pub record HoldsNewBook {T : Type 0} (h : Ghosts T) (conn : Held T) : Type 0 whe
 abbrev pub StopsInMakingLeaveBooks : {T : Type 0} → Ghosts T → Type 0
 StopsInMakingLeaveBooks {T} h =
     (trees : Trees) (conn : Held T) → AreNewBook trees → IsOpenedOver h trees conn → HoldsNewBook h conn
+
+-- a database holds a book of version 1, lists what it holds, and its tables stand for the rows of a sound firm
+pub record IsOldStanding (db : Database) : Type 0 where
+  pub book : IsOldBook db
+  pub listed : IsDatabase db
+  pub stood : StoodSound db
+
+-- what a stop leaves of it while it is being taken, which is what `adopt` says of a crash: it as it was, or moved
+abbrev pub IsLeftInMoving : Database → Trees → Type 0
+IsLeftInMoving db trees = (trees ≡ db.trees) ⊎ (IsOldBook db × AreMoved db trees)
+
+module _ {T : Type 0} (h : Ghosts T) (firm : Firm) where
+  -- a connection holds a book of version 1 that stands for the rows of a sound firm, which is this one
+  pub record HoldsOldFirm (conn : Held T) : Type 0 where
+    pub book : IsOldBook (state h conn).now
+    pub stood : StoodSound (state h conn).now
+    pub same : firm_then (state h conn).now.trees ≡ firm
+
+  -- or one of this version, in some layout
+  pub record HoldsFirm (conn : Held T) : Type 0 where
+    pub layout : Layout
+    pub book : IsBook layout (state h conn).now
+    pub stands : StandsSound layout (state h conn).now
+    pub same : firm_in layout (state h conn).now.trees ≡ firm
+
+  -- a book stands for the rows of this firm, which is sound, a crash now leaves these alone, and what it leaves lasts
+  pub record IsOfFirm (book : HeldBook T) : Type 0 where
+    pub stands : IsStanding h book
+    pub same : firm_of h book ≡ firm
+    pub settled : LeavesAlone firm (MayLeave h book)
+    pub lasts : IsLasting h book
+
+  -- the book that is taken from a connection that holds one of either version stands for the same firm
+  abbrev pub BooksAreTaken : Type 0
+  BooksAreTaken =
+      (conn : Held T) (next : HeldBook T) → HoldsOldFirm conn ⊎ HoldsFirm conn → IsTaken h conn next → IsOfFirm next
+
+-- whatever a stop leaves of a book of version 1 while it is being taken is that book, or one of this version that
+-- stands for the same firm, which may be taken
+abbrev pub StopsInMovingLeaveBooks : {T : Type 0} → Ghosts T → Type 0
+StopsInMovingLeaveBooks {T} h =
+    (db : Database) (trees : Trees) (conn : Held T) → IsOldStanding db → IsLeftInMoving db trees
+    → IsOpenedOver h trees conn
+    → HoldsOldFirm h (firm_then db.trees) conn ⊎ HoldsFirm h (firm_then db.trees) conn

@@ -1,6 +1,7 @@
 //! Laws of what a stop leaves of a book, each the contract of a function with nothing to do.
 
-ghost use Rattle.sql_book.specs.Stops.{StopsAreTaken, StopsInMakingLeaveBooks, StopsLeaveBooks};
+ghost use Rattle.firm_rows.specs.Firm.{Firm};
+ghost use Rattle.sql_book.specs.Stops.{BooksAreTaken, StopsAreTaken, StopsInMakingLeaveBooks, StopsInMovingLeaveBooks, StopsLeaveBooks};
 
 use sqlite::Alter;
 use tables_meaning::laws::empty_tables_stand;
@@ -25,3 +26,16 @@ pub fn stops_in_making_leave_books<T: Alter + Drop>()
 {
     empty_tables_stand();
 }
+
+/// From a database of version 1 whose tables stood for a sound firm, over any stop while it is being taken and the files
+/// opened again: what is found is that database, or a book of this version whose tables stand for the same firm, and
+/// `SqlBook::adopt` does not answer NotABook.
+pub fn stops_in_moving_leave_books<T: Alter + Drop>()
+    ensures { StopsInMovingLeaveBooks T.Store }
+{}
+
+/// The book that is taken from a database of either version whose tables stand for a sound firm stands for that firm,
+/// lasts and is settled: whatever is said of a call of a book that does holds of it with no premise of its own.
+pub fn books_are_taken<T: Alter + Drop>()
+    ensures { (firm : Firm) → BooksAreTaken T.Store firm }
+{}

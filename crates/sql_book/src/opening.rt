@@ -4,6 +4,7 @@ ghost use Rattle.std.specs.Prelude.{◌≡◌, ◌≢◌, false, IfOk, IfErr, Is
 ghost use Rattle.sqlite.specs.Held.{state};
 ghost use Rattle.sqlite.specs.State.{HasCleanDisk, Survives};
 ghost use Rattle.trust_making.specs.Books.{no_schema, IsBook, AreNewBook};
+ghost use Rattle.trust_moving.specs.Then.{IsOldBook, AreMoved};
 ghost use Rattle.trust_schema.specs.declared.layout.Layout.{Layout};
 ghost use Rattle.trust_tables.specs.Reading.{IsKept};
 ghost use Rattle.sql_book.specs.Books.{at, IsSure};
@@ -52,10 +53,10 @@ impl<S: Alter + Drop> SqlBook<S> {
         }
     }
 
-    /// Takes the book that a database holds. NotABook means that it holds no book of this version, Store that the store
-    /// failed or the connection has a limit on steps. Nothing is written, and no row of the firm is read: rows that
-    /// stand for nothing are Store at the call that reads them. The connection of a fault, where it is open, sees what
-    /// it saw. Asks that no transaction is open.
+    /// Takes the book that a database holds: one of this version as it is, and one of version 1 once its rows are moved
+    /// into the tables of this version, in one transaction, all of them or none, also over a crash. NotABook means that
+    /// it holds neither. No row of the firm is looked at: rows that stand for nothing are Store at the call that reads
+    /// them. The connection of a fault, where it is open, sees what it saw. Asks that no transaction is open.
     pub fn adopt(
         alloc: Global,
         conn: Connection<S>,
@@ -64,16 +65,17 @@ impl<S: Alter + Drop> SqlBook<S> {
         ensures taken { IfOk result (λ b. IsSure S.Store b → IsTaken S.Store conn b) }
         ensures none_refused { IfOk result (λ b. b.refusals ≡ 0) }
         ensures not_a_book { IfErr result (λ e. HasCleanDisk (state S.Store e.1) → e.0 ≡ OpenFault.NotABook
-            → (l : Layout) → ¬ IsBook l (state S.Store conn).now) }
+            → (¬ IsOldBook (state S.Store conn).now) × ((l : Layout) → ¬ IsBook l (state S.Store conn).now)) }
         ensures mode { IfErr result (λ e. e.1.in_transaction ≡ false) }
         ensures kept { IfErr result (λ e. HasCleanDisk (state S.Store e.1) → IsTrue (state S.Store e.1).is_open
             → IsKept (state S.Store conn) (state S.Store e.1)) }
-        ensures crash { IfOk result (λ b. Survives (state S.Store conn) (at S.Store b) (λ _. ⊥)) }
-        ensures crash_at_fault { IfErr result (λ e.
-            Survives (state S.Store conn) (state S.Store e.1) (λ _. ⊥)) }
+        ensures crash { IfOk result (λ b. Survives (state S.Store conn) (at S.Store b)
+            (λ trees. IsOldBook (state S.Store conn).now × AreMoved (state S.Store conn).now trees)) }
+        ensures crash_at_fault { IfErr result (λ e. Survives (state S.Store conn) (state S.Store e.1)
+            (λ trees. IsOldBook (state S.Store conn).now × AreMoved (state S.Store conn).now trees)) }
     {
         let mut conn = conn;
-        match trust_making::adopt(&mut conn) {
+        match trust_moving::adopt(&mut conn) {
             Ok(layout) => Ok(SqlBook {
                 conn,
                 layout,
