@@ -34,18 +34,17 @@ pub(crate) fn adopted<S: Alter + Drop>(
     SqlBook::adopt(alloc, conn)
 }
 
-// What is done with a book: it is made, or taken, and sent messages of which each is answered so.
+// What is done with a book: it is made, or taken, and sent messages.
 #[derive(Clone, Copy)]
 struct Doing<'a> {
     is_new: bool,
     messages: &'a [&'a str],
-    status: &'a str,
 }
 
-// Sends a book its messages; whether all were answered as is wanted.
+// Sends a book its messages; whether all were accepted.
 fn sent<B: Book + Drop>(alloc: Global, book: B, doing: &Doing<'_>) -> (bool, B) {
     let mut desk = Desk::new(book);
-    let done = are_answered(alloc, &mut desk, doing.messages, doing.status);
+    let done = are_answered(alloc, &mut desk, doing.messages, ACCEPTED);
     (done, desk.into_book())
 }
 
@@ -103,8 +102,7 @@ pub(crate) fn stopped(
 ) -> Result<(bool, Image), Wrong> {
     let doing = Doing {
         is_new: matches!(work.start, Start::Empty),
-        messages: work.message,
-        status: work.statuses.0,
+        messages: work.messages,
     };
     left(alloc, image, &doing, calls)
 }
@@ -126,7 +124,6 @@ fn book_image(alloc: Global, work: &Work) -> Result<Image, Wrong> {
     let doing = Doing {
         is_new: true,
         messages: work.before,
-        status: ACCEPTED,
     };
     match left(alloc, &no_bytes(alloc), &doing, UNSTOPPED)? {
         (true, image) => Ok(image),
@@ -175,11 +172,11 @@ fn mended<B: Book + Drop>(
         return Err(Wrong::Stopped(calls.0, calls.1));
     };
     let status = if is_last(pictures, place) {
-        work.statuses.1
+        work.again
     } else {
-        work.statuses.0
+        ACCEPTED
     };
-    let is_sent = are_answered(alloc, &mut desk, work.message, status);
+    let is_sent = are_answered(alloc, &mut desk, work.messages, status);
     let after = shown(alloc, &mut desk, 2)?;
     match place_of(pictures, &after) {
         Some(end) if is_sent && is_last(pictures, end) => Ok(place),

@@ -3,7 +3,7 @@
 use crate::files::{Calls, Image, UNSTOPPED};
 use crate::runs::{image_before, is_last, recovered, stopped};
 use crate::works::{
-    APPROVAL, DEPOSIT, LINE, MAKING, MOVING, OPENING, PROPOSAL, STATEMENT, Work, pictures_of,
+    EXCEPTION, MAKING, MONTH, MOVING, OPENING, PAYING, TWO_MATTERS, Work, pictures_of,
 };
 use crate::wrong::Wrong;
 use std::alloc::Global;
@@ -120,26 +120,21 @@ fn a_matter_is_opened_or_not(rt: HostRuntime) -> Result<(), Wrong> {
 }
 
 #[test]
-fn a_deposit_is_booked_or_not(rt: HostRuntime) -> Result<(), Wrong> {
-    stop_both(rt.alloc(), &DEPOSIT)
+fn a_payment_is_issued_to_some_step(rt: HostRuntime) -> Result<(), Wrong> {
+    stop_both(rt.alloc(), &PAYING)
 }
 
 #[test]
-fn a_line_is_applied_or_not(rt: HostRuntime) -> Result<(), Wrong> {
-    stop_both(rt.alloc(), &LINE)
+fn lines_of_two_matters_are_applied_to_some_line(rt: HostRuntime) -> Result<(), Wrong> {
+    stop_both(rt.alloc(), &TWO_MATTERS)
 }
 
 #[test]
-fn a_payment_is_proposed_or_not(rt: HostRuntime) -> Result<(), Wrong> {
-    stop_both(rt.alloc(), &PROPOSAL)
+fn an_exception_joins_and_leaves_or_not(rt: HostRuntime) -> Result<(), Wrong> {
+    stop_both(rt.alloc(), &EXCEPTION)
 }
 
 #[test]
-fn a_payment_is_issued_or_not(rt: HostRuntime) -> Result<(), Wrong> {
-    stop_both(rt.alloc(), &APPROVAL)
-}
-
-#[test]
-fn a_statement_is_applied_to_some_line(rt: HostRuntime) -> Result<(), Wrong> {
-    stop_both(rt.alloc(), &STATEMENT)
+fn a_month_is_told_to_some_line(rt: HostRuntime) -> Result<(), Wrong> {
+    stop_both(rt.alloc(), &MONTH)
 }

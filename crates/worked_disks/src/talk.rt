@@ -1,5 +1,6 @@
 // Messages to a book, and what it answers.
 
+use crate::works::ACCEPTED;
 use crate::wrong::Wrong;
 use portal_http::serve_stream;
 use std::alloc::Global;
@@ -16,19 +17,31 @@ pub(crate) fn answer<B: Book>(alloc: Global, desk: &mut Desk<B>, message: &str) 
     writer.written
 }
 
-/// Sends messages; whether the answer to each begins so.
+fn is_answered<B: Book>(
+    alloc: Global,
+    desk: &mut Desk<B>,
+    message: &str,
+    status: &str,
+) -> bool {
+    answer(alloc, desk, message).starts_with(status.as_bytes())
+}
+
+/// Sends messages; whether each is accepted, and the answer to the last of them begins so.
 pub(crate) fn are_answered<B: Book>(
     alloc: Global,
     desk: &mut Desk<B>,
     messages: &[&str],
     status: &str,
 ) -> bool {
-    for message in messages {
-        if !answer(alloc, desk, message).starts_with(status.as_bytes()) {
+    let Some((last, others)) = messages.split_last() else {
+        return true;
+    };
+    for message in others {
+        if !is_answered(alloc, desk, message, ACCEPTED) {
             return false;
         }
     }
-    true
+    is_answered(alloc, desk, last, status)
 }
 
 // The messages whose answers show the rows of a book.

@@ -24,20 +24,16 @@ pub(crate) struct Work {
     pub(crate) start: Start,
     /// What the book was sent before.
     pub(crate) before: &'static [&'static str],
-    /// The one message that it is sent, or none where it is made or moved.
-    pub(crate) message: &'static [&'static str],
-    /// How its answer begins, and that to the same sent again when all is done.
-    pub(crate) statuses: (&'static str, &'static str),
+    /// What it is sent in one run, each message accepted; nothing where it is made or moved.
+    pub(crate) messages: &'static [&'static str],
+    /// How the answer to the last of them begins where all was done before.
+    pub(crate) again: &'static str,
     /// Messages that do the same in parts, each of them whole: a stop may come between two.
     pub(crate) parts: &'static [&'static str],
 }
 
 /// How the answer to what is accepted begins.
 pub(crate) const ACCEPTED: &str = "HTTP/1.1 20";
-
-const OK: &str = "HTTP/1.1 200 ";
-
-const CREATED: &str = "HTTP/1.1 201 ";
 
 const CONFLICT: &str = "HTTP/1.1 409 ";
 
@@ -65,54 +61,98 @@ const APPROVE: &str = concat!(
     r#"{}"#
 );
 
-// A statement of the firm's own money.
-const OWN_MONEY: &str = concat!(
-    "POST /firm/statements HTTP/1.1\r\nx-caller: cashier\r\ncontent-length: 72\r\n\r\n",
-    "date,reference,bank_ref,amount,text\n",
-    "2024-02-01,FIRM,B2,200.00,own money\n"
+// The same of matter 000002.
+const OPEN_OTHER: &str = concat!(
+    "POST /matters/000002/open HTTP/1.1\r\nx-caller: cashier\r\ncontent-length: 36\r\n\r\n",
+    r#"{"client":"Ben Roth","lawyer":"lee"}"#
 );
 
-// One of a charge of the bank's.
-const CHARGE: &str = concat!(
-    "POST /firm/statements HTTP/1.1\r\nx-caller: cashier\r\ncontent-length: 74\r\n\r\n",
-    "date,reference,bank_ref,amount,text\n",
-    "2024-02-01,FIRM,B3,-12.00,account fee\n"
+const BOOK_OTHER: &str = concat!(
+    "POST /matters/000002/entries/0001/deposit HTTP/1.1\r\nx-caller: cashier\r\ncontent-length: 64\r\n\r\n",
+    r#"{"amount":"200.00","source":"Ben Roth","description":"retainer"}"#
 );
 
-// One of the line that clears the retainer.
+// A statement of the line that clears the retainer.
 const CLEAR: &str = concat!(
     "POST /firm/statements HTTP/1.1\r\nx-caller: cashier\r\ncontent-length: 71\r\n\r\n",
     "date,reference,bank_ref,amount,text\n",
     "2024-02-01,M000001-0001,B1,500.00,\n"
 );
 
-// One of the three lines.
-const ALL_LINES: &str = concat!(
-    "POST /firm/statements HTTP/1.1\r\nx-caller: cashier\r\ncontent-length: 145\r\n\r\n",
+const CLEAR_OTHER: &str = concat!(
+    "POST /firm/statements HTTP/1.1\r\nx-caller: cashier\r\ncontent-length: 71\r\n\r\n",
     "date,reference,bank_ref,amount,text\n",
-    "2024-02-01,FIRM,B2,200.00,own money\n",
-    "2024-02-01,FIRM,B3,-12.00,account fee\n",
-    "2024-02-01,M000001-0001,B1,500.00,\n"
+    "2024-02-01,M000002-0001,B1,200.00,\n"
 );
 
-// One with the balances of a day, and with a line that is nobody's.
-const BALANCES: &str = concat!(
-    "POST /firm/statements HTTP/1.1\r\nx-caller: cashier\r\ncontent-length: 128\r\n\r\n",
+// One of both lines, with a record between them that can't be read.
+const CLEAR_BOTH: &str = concat!(
+    "POST /firm/statements HTTP/1.1\r\nx-caller: cashier\r\ncontent-length: 114\r\n\r\n",
+    "date,reference,bank_ref,amount,text\n",
+    "2024-02-01,M000001-0001,B1,500.00,\n",
+    "garbage\n",
+    "2024-02-01,M000002-0001,B1,200.00,\n"
+);
+
+// One of the firm's own money.
+const OWN_MONEY: &str = concat!(
+    "POST /firm/statements HTTP/1.1\r\nx-caller: cashier\r\ncontent-length: 71\r\n\r\n",
+    "date,reference,bank_ref,amount,text\n",
+    "2024-02-01,FIRM,B2,10.00,own money\n"
+);
+
+// One of a charge of the bank's, which that does not cover.
+const CHARGE: &str = concat!(
+    "POST /firm/statements HTTP/1.1\r\nx-caller: cashier\r\ncontent-length: 74\r\n\r\n",
+    "date,reference,bank_ref,amount,text\n",
+    "2024-02-01,FIRM,B3,-12.00,account fee\n"
+);
+
+// One of what is missing for it.
+const MORE_MONEY: &str = concat!(
+    "POST /firm/statements HTTP/1.1\r\nx-caller: cashier\r\ncontent-length: 70\r\n\r\n",
+    "date,reference,bank_ref,amount,text\n",
+    "2024-02-01,FIRM,B5,2.00,own money\n"
+);
+
+// One of the balance that a day opened with, one of a line that is nobody's, and one of the balance that it closed with.
+const OPENED: &str = concat!(
+    "POST /firm/statements HTTP/1.1\r\nx-caller: cashier\r\ncontent-length: 59\r\n\r\n",
+    "date,reference,bank_ref,amount,text\n",
+    "2024-02-01,OPEN,,0.00,\n"
+);
+
+const NOBODYS: &str = concat!(
+    "POST /firm/statements HTTP/1.1\r\nx-caller: cashier\r\ncontent-length: 79\r\n\r\n",
+    "date,reference,bank_ref,amount,text\n",
+    "2024-02-01,RENT,B4,-1200.00,standing order\n"
+);
+
+const CLOSED: &str = concat!(
+    "POST /firm/statements HTTP/1.1\r\nx-caller: cashier\r\ncontent-length: 62\r\n\r\n",
+    "date,reference,bank_ref,amount,text\n",
+    "2024-02-01,CLOSE,,688.00,\n"
+);
+
+// One of a month: both balances, the firm's own money, and the line that is nobody's.
+const MONTH_LINES: &str = concat!(
+    "POST /firm/statements HTTP/1.1\r\nx-caller: cashier\r\ncontent-length: 163\r\n\r\n",
     "date,reference,bank_ref,amount,text\n",
     "2024-02-01,OPEN,,0.00,\n",
+    "2024-02-01,FIRM,B2,10.00,own money\n",
     "2024-02-01,RENT,B4,-1200.00,standing order\n",
     "2024-02-01,CLOSE,,688.00,\n"
 );
 
 // What leaves the rows of the database of version 1: a deposit that is cleared, a payment, lines of the firm's own,
 // balances and an exception.
-const HISTORY: &[&str] = &[OPEN, BOOK, ALL_LINES, PROPOSE, APPROVE, BALANCES];
+const HISTORY: &[&str] = &[OPEN, BOOK, CLEAR, OWN_MONEY, PROPOSE, APPROVE, MONTH_LINES];
 
 pub(crate) const MAKING: Work = Work {
     start: Start::Empty,
     before: &[],
-    message: &[],
-    statuses: ("", ""),
+    messages: &[],
+    again: "",
     parts: &[],
 };
 
@@ -120,58 +160,53 @@ pub(crate) const MAKING: Work = Work {
 pub(crate) const MOVING: Work = Work {
     start: Start::Old,
     before: HISTORY,
-    message: &[],
-    statuses: ("", ""),
+    messages: &[],
+    again: "",
     parts: &[],
 };
 
 pub(crate) const OPENING: Work = Work {
     start: Start::Book,
     before: &[],
-    message: &[OPEN],
-    statuses: (CREATED, CONFLICT),
+    messages: &[OPEN],
+    again: CONFLICT,
     parts: &[OPEN],
 };
 
-pub(crate) const DEPOSIT: Work = Work {
+/// A deposit, the line that clears it, a proposal and its approval.
+pub(crate) const PAYING: Work = Work {
     start: Start::Book,
     before: &[OPEN],
-    message: &[BOOK],
-    statuses: (CREATED, OK),
-    parts: &[BOOK],
+    messages: &[BOOK, CLEAR, PROPOSE, APPROVE],
+    again: CONFLICT,
+    parts: &[BOOK, CLEAR, PROPOSE, APPROVE],
 };
 
-pub(crate) const LINE: Work = Work {
+/// A statement with lines of two matters.
+pub(crate) const TWO_MATTERS: Work = Work {
     start: Start::Book,
-    before: &[OPEN, BOOK],
-    message: &[CLEAR],
-    statuses: (OK, OK),
-    parts: &[CLEAR],
+    before: &[OPEN, BOOK, OPEN_OTHER, BOOK_OTHER],
+    messages: &[CLEAR_BOTH],
+    again: ACCEPTED,
+    parts: &[CLEAR, CLEAR_OTHER],
 };
 
-pub(crate) const PROPOSAL: Work = Work {
+/// Statements with a line that joins the exceptions, and leaves them when it comes again.
+pub(crate) const EXCEPTION: Work = Work {
+    start: Start::Book,
+    before: &[OPEN],
+    messages: &[OWN_MONEY, CHARGE, MORE_MONEY, CHARGE],
+    again: ACCEPTED,
+    parts: &[OWN_MONEY, CHARGE, MORE_MONEY, CHARGE],
+};
+
+/// A statement with balances and the firm's own money.
+pub(crate) const MONTH: Work = Work {
     start: Start::Book,
     before: &[OPEN, BOOK, CLEAR],
-    message: &[PROPOSE],
-    statuses: (CREATED, OK),
-    parts: &[PROPOSE],
-};
-
-pub(crate) const APPROVAL: Work = Work {
-    start: Start::Book,
-    before: &[OPEN, BOOK, CLEAR, PROPOSE],
-    message: &[APPROVE],
-    statuses: (OK, CONFLICT),
-    parts: &[APPROVE],
-};
-
-/// Three lines: the firm's own money, a charge of the bank's, and a deposit that is cleared.
-pub(crate) const STATEMENT: Work = Work {
-    start: Start::Book,
-    before: &[OPEN, BOOK],
-    message: &[ALL_LINES],
-    statuses: (OK, OK),
-    parts: &[OWN_MONEY, CHARGE, CLEAR],
+    messages: &[MONTH_LINES],
+    again: ACCEPTED,
+    parts: &[OPENED, OWN_MONEY, NOBODYS, CLOSED],
 };
 
 fn push(pictures: &mut Vec<Vec<u8>>, picture: Vec<u8>) -> Result<(), Wrong> {
