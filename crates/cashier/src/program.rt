@@ -16,6 +16,7 @@ use crate::outcome::{
     Outcome, outcome_of_sheet, outcome_of_statement, outcome_of_store, outcome_of_stream,
     outcome_of_words, outcome_put_back,
 };
+use crate::remarks::{Remarks, tell_of_loss};
 use crate::report::run_report;
 use crate::serving::run_serve;
 use crate::sheet::run_sheet;
@@ -90,11 +91,11 @@ fn serve_input<R: Read, W: Write, B: Book>(
 }
 
 // Runs a plan over a desk, whatever book the plan names. What is said of words is of any that mean the plan.
-fn run_plan<R: Read, F: Folder, C: Clock + Drop, N: Network, W: Write, B: Book>(
+fn run_plan<R: Read, F: Folder, C: Clock + Drop, N: Network, M: Remarks, W: Write, B: Book>(
     alloc: Global,
     plan: &Plan<'_>,
     reader: &mut R,
-    around: Surroundings<'_, F, C, N>,
+    around: Surroundings<'_, F, C, N, M>,
     writer: &mut W,
     desk: &mut Desk<B>,
 ) -> Outcome
@@ -119,7 +120,14 @@ fn run_plan<R: Read, F: Folder, C: Clock + Drop, N: Network, W: Write, B: Book>(
 {
     let today = plan.today;
     match plan.task {
-        Task::Sheet => outcome_of_sheet(run_sheet(alloc, reader, writer, desk, today)),
+        Task::Sheet => outcome_of_sheet(run_sheet(
+            alloc,
+            reader,
+            around.remarks,
+            writer,
+            desk,
+            today,
+        )),
         Task::Import(path) => import_file(alloc, around.folder, path, writer, desk, today),
         Task::Stream => serve_input(alloc, reader, writer, desk, today),
         Task::Serve { port, count } => run_serve(alloc, around, port, count, writer, desk, today),
@@ -134,11 +142,20 @@ fn run_plan<R: Read, F: Folder, C: Clock + Drop, N: Network, W: Write, B: Book>(
 /// clients, `NetworkFault` where their port can't be had or an accept was refused. Standard input is read only for a
 /// sheet or a stream. A stream goes by its end alone, and serving clients by its own: neither is ever `StoreFault`,
 /// since what the store refused was answered to its message.
-pub fn run_words<'a, R: Read, F: Folder, C: Clock + Drop, N: Network, W: Write, B: Book>(
+pub fn run_words<
+    'a,
+    R: Read,
+    F: Folder,
+    C: Clock + Drop,
+    N: Network,
+    M: Remarks,
+    W: Write,
+    B: Book,
+>(
     alloc: Global,
     words: &'a [&'a str],
     reader: &mut R,
-    around: Surroundings<'_, F, C, N>,
+    around: Surroundings<'_, F, C, N, M>,
     writer: &mut W,
     desk: &mut Desk<B>,
 ) -> Outcome
@@ -179,11 +196,11 @@ pub fn run_words<'a, R: Read, F: Folder, C: Clock + Drop, N: Network, W: Write, 
 }
 
 // Runs a plan over a book that is kept in memory, begins without rows and is given up at the end.
-fn run_in_memory<R: Read, F: Folder, C: Clock + Drop, N: Network, W: Write>(
+fn run_in_memory<R: Read, F: Folder, C: Clock + Drop, N: Network, M: Remarks, W: Write>(
     alloc: Global,
     plan: &Plan<'_>,
     reader: &mut R,
-    around: Surroundings<'_, F, C, N>,
+    around: Surroundings<'_, F, C, N, M>,
     writer: &mut W,
 ) -> Outcome
     ensures began { result ≢ Outcome.CommandLine }
@@ -196,16 +213,19 @@ fn run_in_memory<R: Read, F: Folder, C: Clock + Drop, N: Network, W: Write>(
         (N.refuses around.entry.network.now))
         before after (W.contents writer.old) (W.contents writer.new)) result }
 {
+    let remarks = around.remarks;
     let mut desk = Desk::new(PlainBook::new(alloc));
-    run_plan(alloc, plan, reader, around, writer, &mut desk)
+    let ended = run_plan(alloc, plan, reader, around, writer, &mut desk);
+    tell_of_loss(remarks, plan.task, desk.into_book());
+    ended
 }
 
 // Runs a plan over a book of a store, and puts the book back.
-fn run_over_book<R: Read, F: Folder, C: Clock + Drop, N: Network, S: Stores, W: Write>(
+fn run_over_book<R: Read, F: Folder, C: Clock + Drop, N: Network, M: Remarks, S: Stores, W: Write>(
     alloc: Global,
     plan: &Plan<'_>,
     reader: &mut R,
-    around: Surroundings<'_, F, C, N>,
+    around: Surroundings<'_, F, C, N, M>,
     stores: &S,
     book: S::AtPath,
     writer: &mut W,
@@ -228,12 +248,12 @@ fn run_over_book<R: Read, F: Folder, C: Clock + Drop, N: Network, S: Stores, W: 
 }
 
 // Runs a plan over the book at a path, where that can be had.
-fn run_at_path<R: Read, F: Folder, C: Clock + Drop, N: Network, S: Stores, W: Write>(
+fn run_at_path<R: Read, F: Folder, C: Clock + Drop, N: Network, M: Remarks, S: Stores, W: Write>(
     alloc: Global,
     plan: &Plan<'_>,
     path: &str,
     reader: &mut R,
-    around: Surroundings<'_, F, C, N>,
+    around: Surroundings<'_, F, C, N, M>,
     stores: &S,
     writer: &mut W,
 ) -> Outcome
@@ -264,11 +284,20 @@ fn run_at_path<R: Read, F: Folder, C: Clock + Drop, N: Network, S: Stores, W: Wr
 /// outcome is `StoreFault` or `MemoryFault` too: what was accepted is kept all the same.
 ///
 /// The firm that is left in memory is sound, as it is after each record, each line of a statement and each message.
-pub fn run_over_stores<'a, R: Read, F: Folder, C: Clock + Drop, N: Network, S: Stores, W: Write>(
+pub fn run_over_stores<
+    'a,
+    R: Read,
+    F: Folder,
+    C: Clock + Drop,
+    N: Network,
+    M: Remarks,
+    S: Stores,
+    W: Write,
+>(
     alloc: Global,
     words: &'a [&'a str],
     reader: &mut R,
-    around: Surroundings<'_, F, C, N>,
+    around: Surroundings<'_, F, C, N, M>,
     stores: &S,
     writer: &mut W,
 ) -> Outcome
@@ -298,11 +327,11 @@ pub fn run_over_stores<'a, R: Read, F: Folder, C: Clock + Drop, N: Network, S: S
 ///
 /// Where the words can't be told, nothing is read, run or written: the outcome is `MemoryFault` where a growth was
 /// refused, and `CommandLine` where a word is no text.
-pub fn run_called<R: Read, F: Folder, C: Clock + Drop, N: Network, S: Stores, W: Write>(
+pub fn run_called<R: Read, F: Folder, C: Clock + Drop, N: Network, M: Remarks, S: Stores, W: Write>(
     alloc: Global,
     called: &Result<Vec<String>, ErrorKind>,
     reader: &mut R,
-    around: Surroundings<'_, F, C, N>,
+    around: Surroundings<'_, F, C, N, M>,
     stores: &S,
     writer: &mut W,
 ) -> Outcome

@@ -53,7 +53,7 @@ pub enum Verb {
     Show,
 }
 
-fn read_verb(name: &[u8]) -> Option<Verb>
+pub(crate) fn read_verb(name: &[u8]) -> Option<Verb>
     ensures { result ≡ verb_of name.now }
 {
     if name == b"open".as_slice() {
@@ -85,8 +85,8 @@ fn read_verb(name: &[u8]) -> Option<Verb>
     }
 }
 
-// How many fields its records have.
-fn count_of(verb: Verb) -> usize
+/// How many fields its records have.
+pub(crate) fn count_of(verb: Verb) -> usize
     ensures { result ≡ spec.count_of verb }
 {
     match verb {
@@ -105,7 +105,7 @@ fn count_of(verb: Verb) -> usize
     }
 }
 
-fn names_entry(verb: Verb) -> bool
+pub(crate) fn names_entry(verb: Verb) -> bool
     ensures { result ≡ spec.names_entry verb }
 {
     match verb {
@@ -124,7 +124,7 @@ fn names_entry(verb: Verb) -> bool
     }
 }
 
-fn is_text(field: &[u8]) -> bool
+pub(crate) fn is_text(field: &[u8]) -> bool
     ensures { result ≡ is_utf8 field.now }
 {
     match str::from_utf8(field) {

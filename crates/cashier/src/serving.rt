@@ -8,6 +8,7 @@ ghost use Rattle.portal_server.specs.Clients.{ports_of};
 
 use crate::folder::Folder;
 use crate::outcome::{Outcome, outcome_of_serving};
+use crate::remarks::Remarks;
 use crate::surroundings::Surroundings;
 use portal_server::{Network, serve_connections};
 use std::alloc::Global;
@@ -24,9 +25,9 @@ use trust_store::Book;
 /// the port can't be had, and then nothing is served or written, or where an accept was refused; `OutputFault` where a
 /// line could not be written, and then a proper front of the lines was. It is never `StoreFault`: what the store
 /// refused was answered to its message.
-pub fn run_serve<F: Folder, C: Clock + Drop, N: Network, W: Write, B: Book>(
+pub fn run_serve<F: Folder, C: Clock + Drop, N: Network, M: Remarks, W: Write, B: Book>(
     alloc: Global,
-    around: Surroundings<'_, F, C, N>,
+    around: Surroundings<'_, F, C, N, M>,
     port: u16,
     count: u32,
     writer: &mut W,

@@ -10,6 +10,7 @@ ghost use Rattle.cashier.specs.Sheet.{end_of, heard_of, ran_by, records_run, she
 ghost use Rattle.trust_desk.specs.Crashes.{IsMade, MayLeave};
 
 use crate::record::answer_record;
+use crate::remarks::{Remark, Remarks, Telling};
 use crate::reply_kind::{ReplyKind, kind_of_reply};
 use crate::reply_line::{write_refusal, write_reply};
 use csv::{ByteRecord, ReaderBuilder};
@@ -52,9 +53,10 @@ fn ran_of(kind: ReplyKind) -> Result<bool, SheetEnd>
 }
 
 // Runs one record and writes its line: whether it was accepted, or the end of the run.
-fn run_record<W: Write, B: Book>(
+fn run_record<W: Write, B: Book, M: Remarks>(
     alloc: Global,
     row: &ByteRecord,
+    telling: &Telling<'_, M>,
     writer: &mut W,
     desk: &mut Desk<B>,
     day: Day,
@@ -71,6 +73,7 @@ fn run_record<W: Write, B: Book>(
         (B.firm desk.old) (B.firm desk.new) desk.old desk.new }
 {
     let reply = answer_record(alloc, row, desk, day);
+    telling.tell(row, &reply);
     let Ok(()) = write_reply(writer, &reply) else {
         return Err(SheetEnd::WriteFault);
     };
@@ -89,9 +92,10 @@ fn end_of_all(refused: bool) -> SheetEnd
 }
 
 // Runs the records of a sheet.
-fn run_records<W: Write, B: Book>(
+fn run_records<W: Write, B: Book, M: Remarks>(
     alloc: Global,
     bytes: &[u8],
+    remarks: &M,
     writer: &mut W,
     desk: &mut Desk<B>,
     day: Day,
@@ -106,6 +110,10 @@ fn run_records<W: Write, B: Book>(
         → LinesAreKept B.clean B.leaves day (B.firm desk.old) (sheet_records bytes.now) desk.old
         (W.contents writer.old) (W.contents writer.new) result desk.new }
 {
+    let telling = Telling {
+        sheet: bytes,
+        remarks,
+    };
     let mut refused = false;
     let rdr = ReaderBuilder::new()
         .has_headers(false)
@@ -115,7 +123,7 @@ fn run_records<W: Write, B: Book>(
         let Ok(row) = row else {
             return SheetEnd::NoMemory;
         };
-        match run_record(alloc, &row, writer, desk, day) {
+        match run_record(alloc, &row, &telling, writer, desk, day) {
             Ok(accepted) => refused |= !accepted,
             Err(end) => return end,
         }
@@ -124,11 +132,12 @@ fn run_records<W: Write, B: Book>(
 }
 
 // Answers a sheet above the limit.
-fn refuse_whole<W: Write>(writer: &mut W) -> SheetEnd
+fn refuse_whole<W: Write, M: Remarks>(remarks: &M, writer: &mut W) -> SheetEnd
     ensures ends { (firm : Firm) → LargeEnds firm firm (W.contents writer.old) (W.contents writer.new) result }
     ensures read { result ≢ SheetEnd.ReadFault }
     ensures stored { result ≢ SheetEnd.Store }
 {
+    remarks.tell(&Remark::SheetTooLarge);
     let Ok(()) = write_refusal(writer, &Refusal::TooLarge) else {
         return SheetEnd::WriteFault;
     };
@@ -136,13 +145,14 @@ fn refuse_whole<W: Write>(writer: &mut W) -> SheetEnd
 }
 
 /// Runs a day sheet over a desk on a business day: reads it whole, and writes a line for each of its records, which
-/// the cashier asks.
+/// the cashier asks. Of each that is not accepted a remark is told, whether or not that can be.
 ///
 /// A sheet above 4,194,304 bytes runs no record and is answered by one line. What is written is a function of the
 /// sheet's bytes, the firm's rows before and the day, however the reads and writes are cut.
-pub fn run_sheet<R: Read, W: Write, B: Book>(
+pub fn run_sheet<R: Read, W: Write, B: Book, M: Remarks>(
     alloc: Global,
     reader: &mut R,
+    remarks: &M,
     writer: &mut W,
     desk: &mut Desk<B>,
     day: Day,
@@ -164,8 +174,8 @@ pub fn run_sheet<R: Read, W: Write, B: Book>(
         (W.contents writer.old) (W.contents writer.new) result desk.new) }
 {
     match read_whole(alloc, reader, MAX_FILE_BYTES) {
-        Ok(Some(bytes)) => run_records(alloc, bytes.as_slice(), writer, desk, day),
-        Ok(None) => refuse_whole(writer),
+        Ok(Some(bytes)) => run_records(alloc, bytes.as_slice(), remarks, writer, desk, day),
+        Ok(None) => refuse_whole(remarks, writer),
         Err(InputFault::Reader) => SheetEnd::ReadFault,
         Err(InputFault::Memory) => SheetEnd::NoMemory,
     }

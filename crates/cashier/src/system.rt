@@ -6,6 +6,7 @@ use crate::folder::{Folder, Opened};
 use crate::notice::{Notice, bare_notice_of, notice_of};
 use crate::outcome::{Outcome, exit_of};
 use crate::program::{run_called, texts_of};
+use crate::remarks::{Remark, Remarks};
 use crate::stores::Stores;
 use crate::surroundings::Surroundings;
 use portal_server::SystemNetwork;
@@ -37,6 +38,18 @@ impl<R: Files> Folder for SystemFiles<'_, R> {
             _ => None,
         };
         Some(Opened { reader, length })
+    }
+}
+
+// The standard error of the system, which is told remarks as they come.
+#[derive(Drop)]
+struct SystemRemarks<'a, R> {
+    rt: &'a R,
+}
+
+impl<R: Eprint> Remarks for SystemRemarks<'_, R> {
+    fn tell(&self, remark: &Remark<'_>) {
+        let _ = eprintln!(self.rt; "cashier: {remark}");
     }
 }
 
@@ -86,6 +99,7 @@ pub fn run_on_system<S: Stores>(
         folder: &SystemFiles { rt },
         clock: rt,
         network: &SystemNetwork { rt },
+        remarks: &SystemRemarks { rt },
     };
     let called = words(rt);
     let outcome = run_called(

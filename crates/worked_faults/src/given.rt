@@ -1,6 +1,6 @@
 // Streams, day sheets and statements, by one name: each is read, and answered in bytes.
 
-use cashier::{SheetEnd, StatementEnd, run_import, run_sheet};
+use cashier::{NoRemarks, SheetEnd, StatementEnd, run_import, run_sheet};
 use portal_http::{StreamEnd, serve_stream};
 use std::alloc::Global;
 use std::io::{Read, Write};
@@ -82,7 +82,7 @@ pub(crate) fn run<R: Read + Drop, W: Write, B: Book>(
 ) -> End {
     match given {
         Given::Stream => of_stream(serve_stream(alloc, reader, writer, desk, day)),
-        Given::Sheet => of_sheet(run_sheet(alloc, &mut reader, writer, desk, day)),
+        Given::Sheet => of_sheet(run_sheet(alloc, &mut reader, &NoRemarks, writer, desk, day)),
         Given::Statement => of_statement(run_import(alloc, reader, None, writer, desk, day)),
     }
 }

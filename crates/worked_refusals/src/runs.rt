@@ -2,7 +2,7 @@
 
 use crate::networks::{NO_NETWORK, StillClock, TrialNetwork};
 use crate::stores::TrialStores;
-use cashier::{Folder, Opened, Outcome, Surroundings, run_over_stores};
+use cashier::{Folder, NoRemarks, Opened, Outcome, Surroundings, run_over_stores};
 use std::process::Abort;
 use trust_base::{TrialReader, TrialWriter};
 
@@ -83,6 +83,7 @@ fn check_one(rt: &(impl Abort + AllocGlobal), stores: &TrialStores, run: &Run) {
         folder: &run.folder,
         clock: &StillClock,
         network: &run.network,
+        remarks: &NoRemarks,
     };
     let mut reader = TrialReader::new(run.input.as_bytes(), 7, 100);
     let mut writer = TrialWriter::new(rt.alloc(), 3, run.writes);

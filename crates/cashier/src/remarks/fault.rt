@@ -1,0 +1,195 @@
+// What is wrong with a record that can't be read.
+
+use crate::fields::field_bytes;
+use crate::record::{Verb, count_of, is_text, names_entry, read_verb};
+use crate::remarks::excerpt::Excerpt;
+use crate::remarks::fields::{form_of as form_of_field, noun_of, place_of, text_at};
+use crate::remarks::verbs::{Asker, VERBS, asker_of, form_of, name_of};
+use csv::ByteRecord;
+use std::fmt;
+use trust_base::Field;
+
+/// What is wrong with a record that can't be read.
+#[derive(Clone, Copy, PartialEq, Eq, Debug)]
+pub enum RecordFault<'a> {
+    /// A field has the end of a line in it, so that the next line belongs to it.
+    OpenQuote,
+    /// No verb is named so.
+    NoVerb(Excerpt<'a>),
+    /// What is named so is asked by messages.
+    OfMessages(&'a str, Asker),
+    /// The verb has fewer fields than so many.
+    TooMany(Verb, usize),
+    /// The verb has fewer fields than so many, of which those above its own are empty.
+    Padded(Verb, usize),
+    /// The verb has more fields than so many.
+    TooFew(Verb, usize),
+    /// The verb names no entry, and one is given.
+    NeedlessEntry(Verb),
+    /// The field of this number, from 1, is not UTF-8.
+    NotText(usize),
+    /// The general fund is of no entry, and one is given.
+    NeedlessFund,
+    /// This is not of the form of the field.
+    BadField(Field, Excerpt<'a>),
+}
+
+fn has_line_end(bytes: &[u8]) -> bool {
+    bytes.iter().any(|byte| *byte == b'\n' || *byte == b'\r')
+}
+
+// Whether a line ends in a field.
+fn has_open_quote(row: &ByteRecord) -> bool {
+    for place in 0..row.len() {
+        if has_line_end(field_bytes(row, place)) {
+            return true;
+        }
+    }
+    false
+}
+
+// Whether each field from a place on is empty.
+fn is_empty_from(row: &ByteRecord, first: usize) -> bool {
+    for place in first..row.len() {
+        if !field_bytes(row, place).is_empty() {
+            return false;
+        }
+    }
+    true
+}
+
+// The number of the first field that is not UTF-8, from 1; 0 where there is none.
+fn first_not_text(row: &ByteRecord) -> usize {
+    for place in 0..row.len() {
+        if !is_text(field_bytes(row, place)) {
+            return place + 1;
+        }
+    }
+    0
+}
+
+// What is wrong with the first field, which names no verb.
+fn fault_of_name(name: &[u8]) -> RecordFault<'_> {
+    let Ok(name) = str::from_utf8(name) else {
+        return RecordFault::NotText(1);
+    };
+    match asker_of(name) {
+        Some(asker) => RecordFault::OfMessages(name, asker),
+        None => RecordFault::NoVerb(Excerpt::new(name)),
+    }
+}
+
+// What is wrong with the count of fields, where something is.
+fn fault_of_count<'a>(verb: Verb, row: &ByteRecord) -> Option<RecordFault<'a>> {
+    let found = row.len();
+    let wanted = count_of(verb);
+    if found < wanted {
+        Some(RecordFault::TooFew(verb, found))
+    } else if found == wanted {
+        None
+    } else if is_empty_from(row, wanted) {
+        Some(RecordFault::Padded(verb, found))
+    } else {
+        Some(RecordFault::TooMany(verb, found))
+    }
+}
+
+// What is wrong with a record as a whole.
+fn fault_of_form(row: &ByteRecord) -> RecordFault<'_> {
+    let name = field_bytes(row, 0);
+    let Some(verb) = read_verb(name) else {
+        return fault_of_name(name);
+    };
+    if let Some(fault) = fault_of_count(verb, row) {
+        return fault;
+    }
+    if !names_entry(verb) && !field_bytes(row, 2).is_empty() {
+        return RecordFault::NeedlessEntry(verb);
+    }
+    RecordFault::NotText(first_not_text(row))
+}
+
+fn fault_of_field(row: &ByteRecord, field: Field) -> RecordFault<'_> {
+    if field == Field::Of && field_bytes(row, place_of(Field::From)) == b"general".as_slice() {
+        return RecordFault::NeedlessFund;
+    }
+    RecordFault::BadField(field, Excerpt::new(text_at(row, place_of(field))))
+}
+
+/// What is wrong with a record of which this field can't be read.
+pub fn fault_of(row: &ByteRecord, field: Field) -> RecordFault<'_> {
+    if has_open_quote(row) {
+        RecordFault::OpenQuote
+    } else if field == Field::Record {
+        fault_of_form(row)
+    } else {
+        fault_of_field(row, field)
+    }
+}
+
+// What is told of a verb whose records have another count of fields.
+fn write_count<W: fmt::Write>(f: &mut fmt::Formatter<W>, verb: Verb, found: usize) -> fmt::Result {
+    let (name, count) = (name_of(verb), count_of(verb));
+    write!(f, "{name} takes {count} fields, {found} are here: ")
+}
+
+// What is told of a field that is not of its form.
+fn write_field<W: fmt::Write>(
+    f: &mut fmt::Formatter<W>,
+    field: Field,
+    text: Excerpt<'_>,
+) -> fmt::Result {
+    let (noun, form) = (noun_of(field), form_of_field(field));
+    if text.is_empty() {
+        write!(f, "the {noun} is empty: write {form}")
+    } else {
+        write!(f, "{text} is no {noun}: write {form}")
+    }
+}
+
+impl fmt::Display for RecordFault<'_> {
+    fn fmt<W: fmt::Write>(&self, f: &mut fmt::Formatter<W>) -> fmt::Result {
+        match *self {
+            RecordFault::OpenQuote => f.write_str(
+                "a double quote is opened here and not closed in its line: close it, or take it away",
+            ),
+            RecordFault::NoVerb(name) => write!(f, "{name} is no verb: {VERBS}"),
+            RecordFault::OfMessages(name, Asker::Client) => {
+                write!(
+                    f,
+                    "\"{name}\" is no verb of a sheet: a client asks it by a message"
+                )
+            }
+            RecordFault::OfMessages(name, Asker::Lawyer) => {
+                write!(
+                    f,
+                    "\"{name}\" is no verb of a sheet: a lawyer asks it by a message"
+                )
+            }
+            RecordFault::TooMany(verb, found) => {
+                write_count(f, verb, found)?;
+                let form = form_of(verb);
+                write!(f, "{form}, and a field with a comma in double quotes")
+            }
+            RecordFault::Padded(verb, found) => {
+                write_count(f, verb, found)?;
+                f.write_str("take the empty ones off its end")
+            }
+            RecordFault::TooFew(verb, found) => {
+                write_count(f, verb, found)?;
+                f.write_str(form_of(verb))
+            }
+            RecordFault::NeedlessEntry(verb) => {
+                let name = name_of(verb);
+                write!(f, "{name} names no entry: its third field stays empty")
+            }
+            RecordFault::NotText(number) => {
+                write!(f, "field {number} is not UTF-8: save the sheet as UTF-8")
+            }
+            RecordFault::NeedlessFund => {
+                f.write_str("general is of no entry: its sixth field stays empty")
+            }
+            RecordFault::BadField(field, text) => write_field(f, field, text),
+        }
+    }
+}

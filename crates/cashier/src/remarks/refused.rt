@@ -1,0 +1,200 @@
+// A record that is refused, and what to do.
+
+use crate::fields::field_bytes;
+use crate::record::{Verb, read_verb};
+use crate::remarks::fields::text_at;
+use csv::ByteRecord;
+use std::fmt;
+use trust_base::{Dollars, EntryNo, Refusal, day_bytes};
+
+/// A record that was read, and refused.
+#[derive(Clone, Copy, PartialEq, Eq, Debug)]
+pub struct RefusedRecord<'a> {
+    refusal: Refusal,
+    verb: Option<Verb>,
+    matter: &'a str,
+    // The entry that it is about or makes.
+    entry: &'a str,
+    // The entry that has to be there: of a payment the fee or claim that it is from.
+    needed: &'a str,
+    // The person, of a record about a seat.
+    person: &'a str,
+}
+
+impl<'a> RefusedRecord<'a> {
+    /// A record that was refused so.
+    pub fn new(row: &'a ByteRecord, refusal: Refusal) -> RefusedRecord<'a> {
+        let verb = read_verb(field_bytes(row, 0));
+        let needed = if verb == Some(Verb::Propose) { 5 } else { 2 };
+        RefusedRecord {
+            refusal,
+            verb,
+            matter: text_at(row, 1),
+            entry: text_at(row, 2),
+            needed: text_at(row, needed),
+            person: text_at(row, 3),
+        }
+    }
+
+    fn write_number<W: fmt::Write>(
+        &self,
+        f: &mut fmt::Formatter<W>,
+        next: Option<EntryNo>,
+    ) -> fmt::Result {
+        let (matter, entry) = (self.matter, self.entry);
+        let Some(next) = next else {
+            return write!(
+                f,
+                "matter {matter} has entry 9999, the last: open another matter"
+            );
+        };
+        match EntryNo::read(entry.as_bytes()) {
+            Some(asked) if asked > next => {
+                write!(f, "entry {entry} leaves a gap: the next free one is {next}")
+            }
+            _ => write!(f, "entry {entry} is taken: the next free one is {next}"),
+        }
+    }
+
+    fn write_kind<W: fmt::Write>(&self, f: &mut fmt::Formatter<W>) -> fmt::Result {
+        let (matter, entry) = (self.matter, self.needed);
+        let wanted = match self.verb {
+            Some(Verb::Cancel) => "no deposit",
+            Some(Verb::Award) => "no claim",
+            _ => "no fund of that kind",
+        };
+        write!(
+            f,
+            "entry {entry} is {wanted}: look at it by entry,{matter},{entry}"
+        )
+    }
+
+    fn write_state<W: fmt::Write>(&self, f: &mut fmt::Formatter<W>) -> fmt::Result {
+        let (matter, entry) = (self.matter, self.needed);
+        match self.verb {
+            Some(Verb::Purge) => write!(f, "matter {matter} is not closed: close it first"),
+            Some(Verb::Propose) => write!(f, "claim {entry} is not settled yet: award it first"),
+            Some(Verb::Award) => {
+                write!(
+                    f,
+                    "claim {entry} is settled: look at it by entry,{matter},{entry}"
+                )
+            }
+            _ => write!(
+                f,
+                "deposit {entry} is not held any more: look at it by entry,{matter},{entry}"
+            ),
+        }
+    }
+
+    fn write_of_money<W: fmt::Write>(&self, f: &mut fmt::Formatter<W>) -> fmt::Result {
+        match self.refusal {
+            Refusal::PayeeIsCash => {
+                f.write_str("nobody is paid in cash from a trust account: name who gets the money")
+            }
+            Refusal::WrongPayee => f.write_str(
+                "this fund does not pay this payee: a fee pays FIRM, a claim its claimant, \
+                and general anybody but FIRM",
+            ),
+            Refusal::BadSplit => {
+                let (matter, entry) = (self.matter, self.entry);
+                write!(
+                    f,
+                    "that is more than the claim: look at it by entry,{matter},{entry}"
+                )
+            }
+            Refusal::Short(left) => {
+                let left = Dollars(left as i128);
+                write!(
+                    f,
+                    "only {left} is left of this fund: take that, or wait until the bank has shown more"
+                )
+            }
+            _ => f.write_str("this is refused: docs/REFUSALS.md tells why"),
+        }
+    }
+
+    fn write_of_seats<W: fmt::Write>(&self, f: &mut fmt::Formatter<W>) -> fmt::Result {
+        let (matter, person) = (self.matter, self.person);
+        match self.refusal {
+            Refusal::SeatTaken => write!(
+                f,
+                "{person} has a seat in matter {matter}: to change the role, drop it first"
+            ),
+            Refusal::NoSeat => {
+                write!(
+                    f,
+                    "{person} has no seat in matter {matter}: look at the name"
+                )
+            }
+            Refusal::LastLawyer => write!(
+                f,
+                "{person} is the only lawyer of matter {matter}: seat the other lawyer first"
+            ),
+            _ => self.write_of_money(f),
+        }
+    }
+
+    fn write_of_entries<W: fmt::Write>(&self, f: &mut fmt::Formatter<W>) -> fmt::Result {
+        match self.refusal {
+            Refusal::WrongNumber(next) => self.write_number(f, next),
+            Refusal::NoEntry => {
+                let (matter, entry) = (self.matter, self.needed);
+                write!(
+                    f,
+                    "matter {matter} has no entry {entry}: look at the number"
+                )
+            }
+            Refusal::WrongKind => self.write_kind(f),
+            Refusal::WrongState => self.write_state(f),
+            _ => self.write_of_seats(f),
+        }
+    }
+}
+
+impl fmt::Display for RefusedRecord<'_> {
+    fn fmt<W: fmt::Write>(&self, f: &mut fmt::Formatter<W>) -> fmt::Result {
+        let matter = self.matter;
+        match self.refusal {
+            Refusal::NoMatter => {
+                write!(
+                    f,
+                    "matter {matter} was never opened: look at the number, or open it"
+                )
+            }
+            Refusal::Purged => {
+                write!(
+                    f,
+                    "matter {matter} was purged: its number is not used again"
+                )
+            }
+            Refusal::AlreadyOpen => write!(
+                f,
+                "matter {matter} was opened before: another matter takes another number"
+            ),
+            Refusal::Closed => {
+                write!(
+                    f,
+                    "matter {matter} is closed: a new matter takes what comes later"
+                )
+            }
+            Refusal::DateBackwards(last) => write!(
+                f,
+                "matter {matter} has work of {last}: --today is that day or a later one"
+            ),
+            Refusal::NotEmpty => write!(
+                f,
+                "matter {matter} holds money, or a payment waits: pay it out, or have it declined"
+            ),
+            Refusal::TooEarly(first) => {
+                let bytes = day_bytes(first.get());
+                let first = str::from_utf8(&bytes).unwrap_or("a later day");
+                write!(
+                    f,
+                    "matter {matter} may be purged from {first} on: wait for that day"
+                )
+            }
+            _ => self.write_of_entries(f),
+        }
+    }
+}

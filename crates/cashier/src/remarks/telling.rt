@@ -1,0 +1,41 @@
+// What is told of the records of a sheet as they are run.
+
+use crate::remarks::record::remark_on;
+use crate::remarks::{Remark, Remarks};
+use csv::ByteRecord;
+use trust_desk::Reply;
+
+/// A sheet that is run, and who is told what becomes of its records.
+#[derive(Drop)]
+pub struct Telling<'a, M> {
+    /// The bytes of the sheet.
+    pub sheet: &'a [u8],
+    /// Who is told.
+    pub remarks: &'a M,
+}
+
+// The line of a sheet in which a record begins, from 1: empty lines before it are passed over.
+fn line_of(sheet: &[u8], row: &ByteRecord) -> u64 {
+    let Some(position) = row.position() else {
+        return 1;
+    };
+    let mut line = position.line();
+    for byte in sheet.get(position.byte() as usize..).unwrap_or(&[]) {
+        match *byte {
+            b'\n' => line = line.saturating_add(1),
+            b'\r' => (),
+            _ => return line,
+        }
+    }
+    line
+}
+
+impl<M: Remarks> Telling<'_, M> {
+    /// Tells what there is to be told of a record that was answered so.
+    pub fn tell(&self, row: &ByteRecord, reply: &Reply) {
+        if let Some(told) = remark_on(row, reply) {
+            let line = line_of(self.sheet, row);
+            self.remarks.tell(&Remark::Record { line, told });
+        }
+    }
+}
