@@ -73,10 +73,10 @@ fn run_record<W: Write, B: Book, M: Remarks>(
         (B.firm desk.old) (B.firm desk.new) desk.old desk.new }
 {
     let reply = answer_record(alloc, row, desk, day);
-    telling.tell(row, &reply);
     let Ok(()) = write_reply(writer, &reply) else {
         return Err(SheetEnd::WriteFault);
     };
+    telling.tell(row, &reply);
     ran_of(kind_of_reply(&reply))
 }
 
@@ -137,15 +137,15 @@ fn refuse_whole<W: Write, M: Remarks>(remarks: &M, writer: &mut W) -> SheetEnd
     ensures read { result ≢ SheetEnd.ReadFault }
     ensures stored { result ≢ SheetEnd.Store }
 {
-    remarks.tell(&Remark::SheetTooLarge);
     let Ok(()) = write_refusal(writer, &Refusal::TooLarge) else {
         return SheetEnd::WriteFault;
     };
+    remarks.tell(&Remark::SheetTooLarge);
     SheetEnd::Refused
 }
 
 /// Runs a day sheet over a desk on a business day: reads it whole, and writes a line for each of its records, which
-/// the cashier asks. Of each that is not accepted a remark is told, whether or not that can be.
+/// the cashier asks. Of each that is not accepted a remark is told, which no clause speaks of.
 ///
 /// A sheet above 4,194,304 bytes runs no record and is answered by one line. What is written is a function of the
 /// sheet's bytes, the firm's rows before and the day, however the reads and writes are cut.

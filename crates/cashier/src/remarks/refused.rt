@@ -5,7 +5,7 @@ use crate::record::{Verb, read_verb};
 use crate::remarks::fields::text_at;
 use csv::ByteRecord;
 use std::fmt;
-use trust_base::{Dollars, EntryNo, Refusal, day_bytes};
+use trust_base::{Dollars, EntryNo, Refusal};
 
 /// A record that was read, and refused.
 #[derive(Clone, Copy, PartialEq, Eq, Debug)]
@@ -25,7 +25,11 @@ impl<'a> RefusedRecord<'a> {
     /// A record that was refused so.
     pub fn new(row: &'a ByteRecord, refusal: Refusal) -> RefusedRecord<'a> {
         let verb = read_verb(field_bytes(row, 0));
-        let needed = if verb == Some(Verb::Propose) { 5 } else { 2 };
+        let needed = if matches!(verb, Some(Verb::Propose)) {
+            5
+        } else {
+            2
+        };
         RefusedRecord {
             refusal,
             verb,
@@ -187,11 +191,11 @@ impl fmt::Display for RefusedRecord<'_> {
                 "matter {matter} holds money, or a payment waits: pay it out, or have it declined"
             ),
             Refusal::TooEarly(first) => {
-                let bytes = day_bytes(first.get());
-                let first = str::from_utf8(&bytes).unwrap_or("a later day");
+                let number = first.get();
+                let (year, month, day) = (number / 10_000, number / 100 % 100, number % 100);
                 write!(
                     f,
-                    "matter {matter} may be purged from {first} on: wait for that day"
+                    "matter {matter} may be purged from {year}-{month:02}-{day:02} on: wait for that day"
                 )
             }
             _ => self.write_of_entries(f),
