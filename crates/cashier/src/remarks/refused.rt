@@ -40,6 +40,7 @@ impl<'a> RefusedRecord<'a> {
         }
     }
 
+    // Of a number that is not the next one, which is told; none behind 9999.
     fn write_number<W: fmt::Write>(
         &self,
         f: &mut fmt::Formatter<W>,
@@ -60,6 +61,7 @@ impl<'a> RefusedRecord<'a> {
         }
     }
 
+    // Of an entry of another kind.
     fn write_kind<W: fmt::Write>(&self, f: &mut fmt::Formatter<W>) -> fmt::Result {
         let (matter, entry) = (self.matter, self.needed);
         let wanted = match self.verb {
@@ -73,6 +75,7 @@ impl<'a> RefusedRecord<'a> {
         )
     }
 
+    // Of an entry, or a matter, that is in another state.
     fn write_state<W: fmt::Write>(&self, f: &mut fmt::Formatter<W>) -> fmt::Result {
         let (matter, entry) = (self.matter, self.needed);
         match self.verb {
@@ -91,6 +94,7 @@ impl<'a> RefusedRecord<'a> {
         }
     }
 
+    // Of who is paid and of how much, and of whatever no other function tells.
     fn write_of_money<W: fmt::Write>(&self, f: &mut fmt::Formatter<W>) -> fmt::Result {
         match self.refusal {
             Refusal::PayeeIsCash => {
@@ -111,13 +115,14 @@ impl<'a> RefusedRecord<'a> {
                 let left = Dollars(left as i128);
                 write!(
                     f,
-                    "only {left} is left of this fund: take that, or wait until the bank has shown more"
+                    "this fund has only {left} left: ask for no more, or wait for the bank's statement"
                 )
             }
             _ => f.write_str("this is refused: docs/REFUSALS.md tells why"),
         }
     }
 
+    // Of seats, and of what comes behind them.
     fn write_of_seats<W: fmt::Write>(&self, f: &mut fmt::Formatter<W>) -> fmt::Result {
         let (matter, person) = (self.matter, self.person);
         match self.refusal {
@@ -139,6 +144,7 @@ impl<'a> RefusedRecord<'a> {
         }
     }
 
+    // Of the entry that is named, and of what comes behind it.
     fn write_of_entries<W: fmt::Write>(&self, f: &mut fmt::Formatter<W>) -> fmt::Result {
         match self.refusal {
             Refusal::WrongNumber(next) => self.write_number(f, next),
