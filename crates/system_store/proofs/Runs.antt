@@ -17,13 +17,15 @@ use Rattle.sqlite.proofs.Theorems.{next_run}
 use Rattle.trust_schema.specs.declared.layout.Layout.{Layout}
 use Rattle.trust_schema.specs.declared.layout.Layout.TheVariants.{Made, Moved}
 use Rattle.trust_schema.specs.Schema.{book_schema}
+use Rattle.trust_schema.specs.Old.{old_schema}
 use Rattle.tables_meaning.specs.Standing.{StandsSound, firm_in}
 use Rattle.trust_making.specs.Books.{no_schema}
 use Rattle.sql_book.specs.Books.{at, IsStanding, IsLasting}
 use Rattle.sql_book.specs.Opening.{IsMade, IsTaken}
-use Rattle.sql_book.specs.Stops.{IsNext, IsOpenedOver}
+use Rattle.sql_book.specs.Stops.{IsNext, IsOpenedOver, IsOldStanding, IsLeftInMoving, HoldsOldFirm, HoldsFirm, IsOfFirm}
+use Rattle.sql_book.specs.Then.{firm_then}
 use Rattle.sql_book.proofs.OneSchema.{one_database}
-use Rattle.sql_book.proofs.Stops.{one_layout, leaves_book, is_taken}
+use Rattle.sql_book.proofs.Stops.{one_layout, kept_there, leaves_book, is_taken, is_of_firm, holds_either}
 use Rattle.system_store.specs.Runs.{BookOf, IsFoundIn, IsPutBack, IsLeftIn, HasSameRows}
 
 -- a book has tables
@@ -31,11 +33,21 @@ no_layout : (l : Layout) → no_schema ≡ book_schema l → ⊥
 no_layout Made same = omega (arith, ap (λ (s : Schema). length s.tables) same)
 no_layout Moved same = omega (arith, ap (λ (s : Schema). length s.tables) same)
 
+no_old_layout : no_schema ≡ old_schema → ⊥
+no_old_layout same = omega (arith, ap (λ (s : Schema). length s.tables) same)
+
 -- so none is made where there is one
 taken_there : {E : Type 0} {h : disk.Ghosts E} (l : Layout) (conn : Held (FileStore E h)) (next : BookOf h) → (file_state conn).now.schema ≡ book_schema l
     → IsTaken over_files conn next ⊎ (((file_state conn).now.schema ≡ no_schema) × IsMade over_files next) → IsTaken over_files conn next
 taken_there l conn next there (inl taken) = taken
 taken_there l conn next there (inr (none, made)) = absurd (no_layout l (sym none ∙ there))
+
+-- nor where there is one of either version
+either_there : {E : Type 0} {h : disk.Ghosts E} (db : Database) (conn : Held (FileStore E h)) (next : BookOf h) → HoldsOldFirm over_files (firm_then db.trees) conn ⊎ HoldsFirm over_files (firm_then db.trees) conn
+    → IsTaken over_files conn next ⊎ (((file_state conn).now.schema ≡ no_schema) × IsMade over_files next) → IsTaken over_files conn next
+either_there db conn next holds (inl taken) = taken
+either_there db conn next (inl old) (inr (none, made)) = absurd (no_old_layout (sym none ∙ old.book.schema))
+either_there db conn next (inr new) (inr (none, made)) = absurd (no_layout new.layout (sym none ∙ new.book.schema))
 
 module _ {D E : Type 0} (g : disk.Ghosts D) (h : disk.Ghosts E) where
   same_rows : (before : BookOf g) (put : IsPutBack before) (image : Image) (next : BookOf h) → IsTrue (at over_files before).is_open → IsStanding over_files before → (found : IsFoundIn image next)
@@ -47,13 +59,14 @@ module _ {D E : Type 0} (g : disk.Ghosts D) (h : disk.Ghosts E) where
       let one : now ≡ (at over_files before).now = one_database now (at over_files before).now (found.opened.1 found.opened.0.is_open).0 (put.listed is_open) trees in
       let schema : now.schema ≡ book_schema before.layout = ap (λ (d : Database). d.schema) one ∙ stands.tables.schema in
       let taken = taken_there before.layout conn next schema found.book in
-      let same : before.layout ≡ next.layout = one_layout before.layout next.layout (sym schema ∙ taken.book.schema) in
+      let kept = kept_there over_files before.layout conn next schema taken in
+      let same : before.layout ≡ next.layout = one_layout before.layout next.layout (sym schema ∙ kept.book.schema) in
       let stood = subst (λ (l : Layout). StandsSound l now) same (subst (StandsSound before.layout) (sym one) stands) in
       record {
-        rows = taken.firm ∙ ap (λ (l : Layout). firm_in l now.trees) (sym same) ∙ ap (firm_in before.layout) trees;
-        stands = taken.stands stood;
+        rows = kept.firm ∙ ap (λ (l : Layout). firm_in l now.trees) (sym same) ∙ ap (firm_in before.layout) trees;
+        stands = kept.stands stood;
         settled = taken.settled;
-        lasts = taken.lasts stood;
+        lasts = kept.lasts stood;
       }
 
   pub put_found : (before : BookOf g) (put : IsPutBack before) (image : Image) (next : BookOf h) → AreClean g put.files.log put.files.db → IsLeftIn g put.files image → IsStanding over_files before
@@ -79,3 +92,19 @@ module _ {D E : Type 0} (g : disk.Ghosts D) (h : disk.Ghosts E) where
       let opened : IsOpenedOver over_files (file_state conn).committed.trees conn = record { opens = found.opened.0; live = found.opened.1; found = refl } in
       let holds = leaves_book over_files over_files before (file_state conn).committed.trees conn lasts left opened in
       is_taken over_files over_files before conn next holds (taken_there before.layout conn next holds.book.schema found.book))
+
+  moving_databases : (db : Database) (before : Held (FileStore D g)) → IsOldStanding db → ((trees : Trees) → (file_state before).may_leave trees → IsLeftInMoving db trees) → AreDatabases (recovers before.store)
+  moving_databases db before old left trees may = elim (left trees may) [
+    | inl same ↦ (db.schema, subst (IsSound db.schema) (sym same) old.listed)
+    | inr moved ↦ (book_schema Moved, moved.1.listed)
+  ]
+
+  pub moves_found : (db : Database) (before : Held (FileStore D g)) (image : Image) (next : BookOf h) → IsTrue (view before.store).is_numbered → (state before.store).may_leave image → IsOldStanding db
+      → ((trees : Trees) → (file_state before).may_leave trees → IsLeftInMoving db trees) → IsFoundIn image next → ∥ IsOfFirm over_files (firm_then db.trees) next ∥₁
+  moves_found db before image next numbered may old left found =
+      let conn = found.conn in
+      let trees = (file_state conn).committed.trees in
+      ∥∥₁_map (next_run before.store numbered (moving_databases db before old left) image may (file_state conn) found.found) (λ recovered.
+      let opened : IsOpenedOver over_files trees conn = record { opens = found.opened.0; live = found.opened.1; found = refl } in
+      let holds = holds_either over_files db trees conn old (left trees recovered) opened in
+      is_of_firm over_files (firm_then db.trees) conn next holds (either_there db conn next holds found.book))

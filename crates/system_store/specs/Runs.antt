@@ -5,10 +5,11 @@ use Rattle.sqlite_disk.specs.declared.Files.{Files}
 use Rattle.sqlite_wal.specs.Files.{outcomes}
 use Rattle.sqlite_wal.specs.Reads.{AreClean}
 use Rattle.sqlite_wal.specs.Recovery.{Image}
+use Rattle.sqlite_trees.specs.Tree.{Trees}
 use Rattle.sqlite_store.specs.FileStore.{state, view}
 use Rattle.sqlite_store.specs.declared.store.FileStore.{FileStore}
 use Rattle.sqlite.specs.Closing.{IsCopied}
-use Rattle.sqlite.specs.Effect.{IsDatabase}
+use Rattle.sqlite.specs.Effect.{Database, IsDatabase}
 use Rattle.sqlite.specs.Files.{IsOpened, file_state, image_of, over_files}
 use Rattle.sqlite.specs.Held.{Held}
 use Rattle.sqlite.specs.Start.{FindsIn}
@@ -16,7 +17,8 @@ use Rattle.trust_store.specs.Crashes.{LeavesAlone}
 use Rattle.trust_making.specs.Books.{no_schema}
 use Rattle.sql_book.specs.Books.{HeldBook, at, firm_of, IsStanding, IsLasting, MayLeave}
 use Rattle.sql_book.specs.Opening.{IsMade, IsTaken}
-use Rattle.sql_book.specs.Stops.{IsNext}
+use Rattle.sql_book.specs.Stops.{IsNext, IsOldStanding, IsLeftInMoving, IsOfFirm}
+use Rattle.sql_book.specs.Then.{firm_then}
 
 -- the contents of two files of which nothing is known: those at which the kit's `Unknown` stands
 abbrev pub unknown_files : Image
@@ -67,3 +69,12 @@ module _ {D E : Type 0} (g : disk.Ghosts D) (h : disk.Ghosts E) where
       (before : BookOf g) (image : Image) (next : BookOf h) → IsTrue (view before.conn.store).is_numbered
       → (state before.conn.store).may_leave image → IsLasting over_files before
       → IsFoundIn image next → ∥ IsNext over_files over_files before next ∥₁
+
+  -- a database of version 1 that was being taken is found again by the next run over what a stop left of its files, and
+  -- the book of that run stands for the same firm
+  abbrev pub StoppedMovesAreFound : Type 0
+  StoppedMovesAreFound =
+      (db : Database) (before : Held (FileStore D g)) (image : Image) (next : BookOf h)
+      → IsTrue (view before.store).is_numbered → (state before.store).may_leave image → IsOldStanding db
+      → ((trees : Trees) → (file_state before).may_leave trees → IsLeftInMoving db trees)
+      → IsFoundIn image next → ∥ IsOfFirm over_files (firm_then db.trees) next ∥₁

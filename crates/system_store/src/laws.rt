@@ -1,6 +1,6 @@
 //! Laws of one run over files and the next, each the contract of a function with nothing to do.
 
-ghost use Rattle.system_store.specs.Runs.{PutBooksAreFound, StoppedBooksAreFound};
+ghost use Rattle.system_store.specs.Runs.{PutBooksAreFound, StoppedBooksAreFound, StoppedMovesAreFound};
 ghost use Rattle.system_store.specs.SentAgain.{AsksAreSpentAfterStops, LinesAreOverAfterStops};
 
 use sqlite_disk::Disk;
@@ -16,6 +16,12 @@ pub fn put_books_are_found<D: Disk, E: Disk>()
 /// a file by numbers, as that of each connection does.
 pub fn stopped_books_are_found<D: Disk, E: Disk>()
     ensures { StoppedBooksAreFound D.Disk E.Disk }
+{}
+
+/// Where a run was broken off while it took a database of version 1 whose tables stood for a sound firm, the next one
+/// over what that left of its files takes a book that stands for the same firm, whether the rows had been moved or not.
+pub fn stopped_moves_are_found<D: Disk, E: Disk>()
+    ensures { StoppedMovesAreFound D.Disk E.Disk }
 {}
 
 /// What was accepted and acknowledged before a stop, and is sent again in a run after it, adds nothing: an ask that makes
