@@ -170,8 +170,9 @@ def closed(lines: list[Line], sections: list[Section], close: str) -> Statement:
         raise NotUnderstood(f"the balance is of {balance.day}, and the lines end on {last}: those between are missing")
     if not first <= close < balance.day:
         raise NotUnderstood(f"{close} is no day from {first} to the day before that of the balance, {balance.day}")
-    if any(line.day < first for line in lines):
-        raise NotUnderstood(f"a line is before the file's first day, {first}")
+    outside = [line.day for line in lines if not first <= line.day <= balance.day]
+    if outside:
+        raise NotUnderstood(f"a line is of {outside[0]}, and the file of {first} to {balance.day}")
     kept = [line for line in lines if line.day <= close]
     at_close = balance.cents - total_of(line for line in lines if line.day > close)
     return Statement(kept, Balance(first, at_close - total_of(kept)), Balance(close, at_close))
