@@ -59,8 +59,8 @@ fn import_file<F: Folder, W: Write, B: Book>(
     ensures kept { LeavesBook B.clean B.sure B.stands B.lasts B.refusals (CountsStore Outcome.StoreFault result)
         desk.old desk.new }
     ensures crash { B.sure desk.new → B.clean desk.old → B.stands desk.old
-        → LeavesItems B.clean B.leaves B.firm today (F.known folder.now path.now) (F.opens folder.now path.now)
-        desk.old result desk.new }
+        → LeavesItems B.clean B.sure B.stands B.lasts B.leaves B.firm B.refusals today
+        (F.known folder.now path.now) (F.opens folder.now path.now) desk.old result desk.new }
 {
     let Some(file) = folder.open(path) else {
         return Outcome::FileFault;
@@ -216,7 +216,7 @@ fn run_in_memory<R: Read, F: Folder, C: Clock + Drop, N: Network, M: Remarks, W:
     let remarks = around.remarks;
     let mut desk = Desk::new(PlainBook::new(alloc));
     let ended = run_plan(alloc, plan, reader, around, writer, &mut desk);
-    tell_of_loss(remarks, plan.task, desk.into_book());
+    tell_of_loss(remarks, plan, desk.into_book());
     ended
 }
 

@@ -30,8 +30,11 @@ pub enum Remark<'a> {
 
 impl fmt::Display for Remark<'_> {
     fn fmt<W: fmt::Write>(&self, f: &mut fmt::Formatter<W>) -> fmt::Result {
-        match *self {
-            Remark::Record { line, told } => write!(f, "line {line}: {told}"),
+        match self {
+            Remark::Record { line, told } => {
+                write!(f, "line {line}: ")?;
+                told.fmt(f)
+            }
             Remark::SheetTooLarge => {
                 f.write_str(
                     "the sheet has more than 4194304 bytes, and no record was run: send it in parts",

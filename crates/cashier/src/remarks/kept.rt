@@ -3,7 +3,7 @@
 ghost use Rattle.std.specs.Prelude.{◌≡◌};
 
 use crate::remarks::{Remark, Remarks};
-use command_line::Task;
+use command_line::{Plan, Task};
 use firm_rows::{FirmLine, Movement, RowSink, StatementRow};
 use std::alloc::AllocError;
 use std::marker::Model;
@@ -90,8 +90,8 @@ fn has_rows(book: &mut PlainBook) -> bool {
 }
 
 /// Tells that what a sheet or a statement brought into a book in memory is lost, if it brought something.
-pub fn tell_of_loss<M: Remarks>(remarks: &M, task: Task<'_>, mut book: PlainBook) {
-    if matches!(task, Task::Sheet | Task::Import(_)) && has_rows(&mut book) {
+pub fn tell_of_loss<M: Remarks>(remarks: &M, plan: &Plan<'_>, mut book: PlainBook) {
+    if matches!(plan.task, Task::Sheet | Task::Import(_)) && has_rows(&mut book) {
         remarks.tell(&Remark::NothingKept);
     }
 }

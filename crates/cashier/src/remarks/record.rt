@@ -37,19 +37,17 @@ pub fn remark_on<'a>(row: &'a ByteRecord, reply: &Reply) -> Option<RecordRemark<
 
 impl fmt::Display for RecordRemark<'_> {
     fn fmt<W: fmt::Write>(&self, f: &mut fmt::Formatter<W>) -> fmt::Result {
-        match *self {
-            RecordRemark::Unreadable(fault) => write!(f, "{fault}"),
-            RecordRemark::Refused(refused) => write!(f, "{refused}"),
-            RecordRemark::NotRun(fault) => {
-                let failed = match fault {
-                    StoreFault::Store => "the store failed",
-                    StoreFault::Memory => "memory ran out",
-                };
-                write!(
-                    f,
-                    "{failed}: this record and those after it were not run; send the whole sheet again"
-                )
-            }
+        match self {
+            RecordRemark::Unreadable(fault) => fault.fmt(f),
+            RecordRemark::Refused(refused) => refused.fmt(f),
+            RecordRemark::NotRun(StoreFault::Store) => f.write_str(concat!(
+                "the store failed: this record and those after it were not run; ",
+                "send the whole sheet again"
+            )),
+            RecordRemark::NotRun(StoreFault::Memory) => f.write_str(concat!(
+                "memory ran out: this record and those after it were not run; ",
+                "send the whole sheet again"
+            )),
         }
     }
 }
