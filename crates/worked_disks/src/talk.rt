@@ -17,12 +17,7 @@ pub(crate) fn answer<B: Book>(alloc: Global, desk: &mut Desk<B>, message: &str) 
     writer.written
 }
 
-fn is_answered<B: Book>(
-    alloc: Global,
-    desk: &mut Desk<B>,
-    message: &str,
-    status: &str,
-) -> bool {
+fn is_answered<B: Book>(alloc: Global, desk: &mut Desk<B>, message: &str, status: &str) -> bool {
     answer(alloc, desk, message).starts_with(status.as_bytes())
 }
 

@@ -10,16 +10,16 @@ pub returns-clause-ran : goal.returns-clause-ran
 returns-clause-ran g c = λ path found serves words means.
     let B = g.S.AtPath.Book in
     let served : B.sure c.new-desk.result → B.clean c.new-desk.result = rw c.new-desk.ensures serves in record {
-  before = c.new-desk.result;
-  found = rw c.new-desk.ensures found;
-  serves = served;
-  after = c.run_plan-ended.new.desk;
-  ended = c.run_plan-ended.result;
-  kept = c.run_plan-ended.ensures.kept;
-  sound = λ clean stands. g.S.AtPath.Book.sound c.run_plan-ended.new.desk (c.run_plan-ended.ensures.kept.still_stands clean stands);
-  ran = λ clean stands. c.run_plan-ended.ensures.ends words means clean stands;
-  crash = λ sure stands. c.run_plan-ended.ensures.crash words means sure (served (c.run_plan-ended.ensures.kept.was_sure sure)) stands;
-  put = c.put_back-put.result;
-  left = rw c.into_book.ensures at c.put_back-put.ensures.put;
-  outcome = c.outcome_put_back.ensures;
-}
+      before = c.new-desk.result;
+      found = rw c.new-desk.ensures found;
+      serves = served;
+      after = c.run_plan-ended.new.desk;
+      ended = c.run_plan-ended.result;
+      kept = c.run_plan-ended.ensures.kept;
+      sound = λ clean stands. g.S.AtPath.Book.sound c.run_plan-ended.new.desk (c.run_plan-ended.ensures.kept.still_stands clean stands);
+      ran = λ clean stands. c.run_plan-ended.ensures.ends words means clean stands;
+      crash = λ sure stands. c.run_plan-ended.ensures.crash words means sure (served (c.run_plan-ended.ensures.kept.was_sure sure)) stands;
+      put = c.put_back-put.result;
+      left = rw c.into_book.ensures at c.put_back-put.ensures.put;
+      outcome = c.outcome_put_back.ensures;
+    }
