@@ -1,0 +1,63 @@
+// What is looked at in a view, in the browser: each function gives a list of what is not as it should be.
+
+function linear(part) {
+    const share = part / 255;
+    return share <= 0.04045 ? share / 12.92 : ((share + 0.055) / 1.055) ** 2.4;
+}
+
+const light = ([red, green, blue]) => 0.2126 * linear(red) + 0.7152 * linear(green) + 0.0722 * linear(blue);
+
+// Nothing for a colour that lets through what is behind it.
+function colour(text) {
+    const parts = text.match(/[\d.]+/g).map(Number);
+    return parts.length < 4 || parts[3] > 0 ? parts.slice(0, 3) : null;
+}
+
+function groundOf(element) {
+    for (let behind = element; behind; behind = behind.parentElement) {
+        const found = colour(getComputedStyle(behind).backgroundColor);
+        if (found) return found;
+    }
+    return [255, 255, 255];
+}
+
+function contrastOf(element) {
+    const style = getComputedStyle(element);
+    const ink = light(colour(element.namespaceURI.endsWith('svg') ? style.fill : style.color));
+    const ground = light(groundOf(element));
+    return (Math.max(ink, ground) + 0.05) / (Math.min(ink, ground) + 0.05);
+}
+
+// Texts with less contrast than 4.5 (WCAG 2.1, 1.4.3).
+function paleTexts() {
+    const pale = [];
+    const texts = document.createTreeWalker(document.body, NodeFilter.SHOW_TEXT);
+    while (texts.nextNode()) {
+        const { parentElement: element, data } = texts.currentNode;
+        const isSeen = data.trim() && element.checkVisibility() && !element.closest('.skip, script');
+        if (isSeen && contrastOf(element) < 4.5) pale.push(data.slice(0, 30));
+    }
+    return pale;
+}
+
+function idsThatStandTwice() {
+    const ids = [...document.querySelectorAll('[id]')].map(({ id }) => id);
+    return ids.filter((id, i) => ids.indexOf(id) !== i);
+}
+
+// What is lower than 24 px, but for links within a text (WCAG 2.2, 2.5.8).
+function smallControls() {
+    const controls = [...document.querySelectorAll('a, button, input, select, summary')];
+    return controls.filter((each) => each.checkVisibility() && each.getBoundingClientRect().height < 24
+        && getComputedStyle(each).display !== 'inline').map((each) => each.textContent);
+}
+
+// By how many pixels the page is wider than the window.
+const widthAside = () => Math.max(0, document.documentElement.scrollWidth - document.documentElement.clientWidth);
+
+// How many rows the list of matters shows.
+function rowsOfMatters() {
+    const tables = [...document.querySelectorAll('table')];
+    const list = tables.find(({ caption }) => caption.textContent.startsWith('Matters'));
+    return list.tBodies[0].querySelectorAll('tr:not([hidden])').length;
+}

@@ -1,0 +1,190 @@
+"""Every view by every role: that it is drawn, can be read and used by everybody, and fits a phone and a sheet."""
+import base64
+import pathlib
+import subprocess
+import typing
+
+from selenium.webdriver.common.keys import Keys
+
+from . import firms
+from .browser import PHONE, WIDE, Browser
+from .checks import Checks
+from .firm import Desk, Firm
+
+DAY = "2026-03-31"
+NARROW = 320  # a page magnified to four times its size has this width
+
+REPORTS = ["#/report/trial-balance", "#/report/journal", "#/report/exceptions", "#/report/retention",
+           "#/reconciliation", "#/reconciliation/2026-03-31"]
+FORMS = {"cashier": ["deposit", "propose", "claim", "seats"], "lee": ["propose", "fee", "claim"], "ada": ["dispute"]}
+
+
+def views_of(person: str, matter: str, entries: range) -> list[str]:
+    """All views that the person has, of one matter."""
+    at = f"#/m/{matter}"
+    own = [at, f"{at}/card", *(f"{at}/{form}" for form in FORMS[person]), *(f"{at}/e/{each:04}" for each in entries)]
+    firm = ["#/open", "#/statement", *REPORTS] if person == "cashier" else []
+    return ["#/", *firm, *own, "#/m/000777", "#/nowhere"]
+
+
+LOOKS = (pathlib.Path(__file__).parent / "looks.js").read_text(encoding="utf-8")
+CONTROLS = ("button", "link", "textbox", "searchbox", "combobox", "Date", "InputTime")
+
+
+def see(browser: Browser, call: str) -> typing.Any:
+    """What a function of looks.js gives."""
+    return browser.run(f"{LOOKS} return {call}")
+
+
+def tree(browser: Browser) -> list[dict[str, typing.Any]]:
+    """What a screen reader is given."""
+    browser.web.execute_cdp_cmd("Accessibility.enable", {})
+    nodes = browser.web.execute_cdp_cmd("Accessibility.getFullAXTree", {})["nodes"]
+    return [node for node in nodes if not node.get("ignored")]
+
+
+def role(node: dict[str, typing.Any]) -> str:
+    return str(node.get("role", {}).get("value", ""))
+
+
+def name(node: dict[str, typing.Any]) -> str:
+    return (node.get("name", {}).get("value") or "").strip()
+
+
+def level(node: dict[str, typing.Any]) -> int:
+    return next(int(each["value"]["value"]) for each in node["properties"] if each["name"] == "level")
+
+
+def look(browser: Browser, at: str, checks: Checks) -> None:
+    """What everybody needs of a view."""
+    nodes = tree(browser)
+    bare = [role(node) for node in nodes if role(node) in CONTROLS and not name(node)]
+    checks.same(f"{at}: the controls without a name", bare, [])
+    heads = [level(node) for node in nodes if role(node) == "heading"]
+    in_order = heads.count(1) == 1 and all(later - one <= 1 for one, later in zip(heads, heads[1:]))
+    checks.so(f"{at}: one first heading, and none is skipped", in_order, heads)
+    for place in ("banner", "navigation", "main"):
+        checks.so(f"{at}: there is a {place}", any(role(node) == place for node in nodes))
+    checks.same(f"{at}: the ids that stand twice", see(browser, "idsThatStandTwice()"), [])
+    checks.same(f"{at}: the texts with less contrast than 4.5", see(browser, "paleTexts()"), [])
+    checks.same(f"{at}: what is lower than 24 px to touch", see(browser, "smallControls()"), [])
+
+
+def look_at_all(firm: Firm, matter: str, entries: range, what: str, checks: Checks) -> None:
+    for person in FORMS:
+        for width in (WIDE, PHONE, NARROW):
+            browser = Browser(person, firm.origin, width)
+            for view in views_of(person, matter, entries):
+                at = f"{what}, {person} {view} at {width} px"
+                browser.to(view)
+                failed = [box.text for box in browser.find(".refused") if "The page failed" in box.text]
+                checks.same(f"{at}: the faults", failed, [])
+                checks.same(f"{at}: what stands aside", see(browser, "widthAside()"), 0)
+                if width == WIDE:
+                    look(browser, at, checks)
+            checks.same(f"{what}, the log of {person} at {width} px", browser.faults(), [])
+            browser.quit()
+
+
+def read_tables_on_a_phone(firm: Firm, checks: Checks) -> None:
+    browser = Browser("ada", firm.origin, PHONE)
+    browser.to("#/m/000001")
+    cells = [node for node in tree(browser) if role(node) in ("row", "cell", "columnheader", "rowheader")]
+    checks.so("on a phone a table is one to a screen reader", len(cells) > 10, len(cells))
+    browser.quit()
+
+
+class Keyboard:
+    """A browser by its keys alone."""
+
+    def __init__(self, browser: Browser) -> None:
+        self.browser = browser
+
+    def type(self, *keys: str) -> None:
+        for each in keys:
+            self.browser.focused().send_keys(each)
+
+    def tab_to(self, words: str) -> None:
+        """To a link or button with these words, or to a field of this name."""
+        for _ in range(80):
+            now = self.browser.focused()
+            if (now.tag_name in ("a", "button") and words in now.text) or words == now.get_attribute("name"):
+                return
+            self.type(Keys.TAB)
+        raise AssertionError(f"no key leads to {words}")
+
+    def enter(self, words: str) -> None:
+        self.tab_to(words)
+        self.type(Keys.ENTER)
+        self.browser.settle()
+
+
+def propose_by_keys(firm: Firm, checks: Checks) -> None:
+    browser = Browser("cashier", firm.origin)
+    keyboard = Keyboard(browser)
+    keyboard.type(Keys.TAB)
+    checks.so("the first key leads to the content", "To the content" in browser.focused().text)
+    keyboard.type(Keys.ENTER)
+    keyboard.enter("000003")
+    checks.same("what has the focus in a new view", browser.focused().tag_name, "h1")
+    keyboard.enter("Propose a payment")
+    keyboard.tab_to("amount")
+    keyboard.type("5", Keys.TAB, "Court Clerk", Keys.TAB, "copies", Keys.TAB, "1010", Keys.ENTER)
+    browser.settle()
+    booked = f"Booked on {DAY}: payment of 5.00 to Court Clerk"
+    checks.so("it is booked by keys alone", booked in browser.text(), browser.text())
+    checks.so("what was done has the focus", "done" in (browser.focused().get_attribute("class") or ""))
+    browser.quit()
+
+
+def print_views(firm: Firm, folder: pathlib.Path, checks: Checks) -> None:
+    browser = Browser("cashier", firm.origin)
+    for view, words in ((f"#/reconciliation/{DAY}", "ADJUSTED BANK"), ("#/m/000001/card", "LEDGER 000001"),
+                        ("#/m/000001", "Clerk of the Superior Court")):
+        browser.to(view)
+        sheet = {"preferCSSPageSize": True, "printBackground": False, "paperWidth": 8.5, "paperHeight": 11}
+        path = folder / "print.pdf"
+        path.write_bytes(base64.b64decode(browser.web.execute_cdp_cmd("Page.printToPDF", sheet)["data"]))
+        done = subprocess.run(["pdftotext", "-layout", str(path), "-"], stdout=subprocess.PIPE, check=True)
+        text = done.stdout.decode()
+        checks.so(f"{view} is printed", words in text and f"Printed by cashier, the desk's day {DAY}" in text, text)
+        left = [word for word in ("Save as text", "Read again", "Overview", "Propose a payment") if word in text]
+        checks.same(f"{view}: the buttons that are printed", left, [])
+    browser.quit()
+
+
+def find_among_many(firm: Firm, checks: Checks) -> None:
+    """The list of two hundred matters has its sums at once, is filled in, and can be searched."""
+    browser = Browser("cashier", firm.origin)
+    browser.to("#/")
+    checks.same("the matters in the list", see(browser, "rowsOfMatters()"), 200)
+    checks.so("each has its client", "Client 200 of the firm" in browser.text())
+    checks.so("ten payments that wait are shown", "Payments that wait for a lawyer: 10 of 50" in browser.text())
+    browser.press("Show all 50")
+    checks.so("and all when asked for", "000200 Client 200 of the firm Court Clerk" in browser.text(), browser.text())
+    for words, count in (("client 17 ", 11), ("0001", 111), ("nobody", 0), ("", 200)):
+        field = browser.find("#find")[0]
+        field.clear()
+        field.send_keys(words or " ")
+        checks.same(f"the matters that have {words!r}", see(browser, "rowsOfMatters()"), count)
+    browser.quit()
+
+
+def play(program: str, folder: pathlib.Path, checks: Checks) -> None:
+    firms.play_month(program, folder / "month.db", until="messages/18-close.http")
+    month = Firm(Desk(program, folder / "month.db", DAY), folder / "month")
+    try:
+        look_at_all(month, "000001", range(1, 6), "three matters", checks)
+        read_tables_on_a_phone(month, checks)
+        propose_by_keys(month, checks)
+        print_views(month, folder, checks)
+    finally:
+        month.end()
+    desk = Desk(program, folder / "many.db", DAY)
+    firms.play_many(desk)
+    many = Firm(desk, folder / "many")
+    try:
+        look_at_all(many, "000001", range(1, 2), "200 matters", checks)
+        find_among_many(many, checks)
+    finally:
+        many.end()

@@ -1,0 +1,41 @@
+// Balances by day: lists of points, a day and the sum behind its last movement, in whole cents.
+
+import { amountOf, cents } from './amounts.js';
+import { readJournal } from './reports.js';
+
+// The account's, by the journal's own sums. The journal stands in the order of booking, and a line of the firm's own
+// money may have a day before the line above it: its sum is then that of the later day.
+export function balanceOfJournal(text) {
+    const points = new Map();
+    let last = '';
+    for (const { day, sum } of readJournal(text)) {
+        last = day > last ? day : last;
+        points.set(last, cents(sum));
+    }
+    return [...points].map(([day, sum]) => ({ day, sum }));
+}
+
+// What an entry moves in its matter's ledger, and when.
+function movementsOf({ kind, day, amount, issued, undone }) {
+    const moved = { deposit: [[day, cents(amount)], [undone, -cents(amount)]],
+        payment: [[issued, -cents(amount)], [undone, cents(amount)]] }[kind] ?? [];
+    return moved.filter(([when]) => when);
+}
+
+// A matter's, by the movements of its entries. They are added up here, so the end has to be what the card itself tells,
+// TOTAL and HELD; else there are no points.
+export function balanceOfCard({ entries, balances }) {
+    const movements = entries.flatMap(movementsOf).sort(([one], [other]) => (one < other ? -1 : Number(one > other)));
+    const points = new Map();
+    let sum = 0n;
+    for (const [day, moved] of movements) {
+        sum += moved;
+        points.set(day, sum);
+    }
+    if (sum !== cents(balances.total) + cents(balances.held)) return [];
+    return [...points].map(([day, at]) => ({ day, sum: at }));
+}
+
+export const sumText = ({ sum }) => amountOf(sum);
+
+export const greatestOf = (points) => points.reduce((most, each) => (each.sum > most.sum ? each : most));

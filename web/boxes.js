@@ -1,0 +1,35 @@
+// Boxes that tell what became of an ask: done, noted, refused.
+
+import { el, p, strong } from './elements.js';
+import { fieldOf, wordsOf } from './refusals.js';
+
+const box = (kind, role, ...inside) => el('div', { class: `box ${kind}`, role, tabindex: '-1' }, ...inside);
+
+export const doneBox = (words, ...more) => box('done', 'status', p(strong(words)), ...more);
+export const noteBox = (...inside) => box('note', 'status', ...inside);
+export const warningBox = (words, ...more) => box('refused', 'status', p(strong(words)), ...more);
+
+// The words of a refusal; its status and name stand small below, for the telephone.
+export function refusedBox(answer, person, ...more) {
+    const { what, next, name } = wordsOf(answer, person);
+    return box('refused', 'alert', p(strong(what)), p(next), name && el('p', { class: 'small' }, name), ...more);
+}
+
+export const failedBox = (fault) => box(
+    'refused',
+    'alert',
+    p(strong('The page failed.')),
+    p('Load it again. If it stays, tell the operator: ', String(fault)),
+);
+
+// Tells a refusal beside the form, at the field that it speaks of. As long as nobody knows whether what was sent was
+// done, the form takes nothing else.
+export function tellRefusal(place, answer, person, ...more) {
+    const told = refusedBox(answer, person, ...more);
+    place.replaceChildren(told);
+    const fields = place.closest('form')?.elements ?? [];
+    for (const each of fields) each.disabled = answer.isUnknown && !place.contains(each);
+    const field = fields[fieldOf(answer)];
+    if (field) field.setAttribute('aria-invalid', 'true');
+    (field || told).focus();
+}

@@ -1,0 +1,102 @@
+// The desk: what is asked of it, and what it answers.
+
+// The desk hears one request after another, so more than a few that wait gain nothing.
+const AT_ONCE = 4;
+
+// Thrown where a view can't be shown, since the desk refused what it reads.
+export class Refused extends Error {
+    constructor(answer) {
+        super(`refused: ${answer.status}`);
+        this.answer = answer;
+    }
+}
+
+// Lets so many go at a time, in the order in which they came.
+class Turns {
+    constructor(free) {
+        this.free = free;
+        this.waiting = [];
+    }
+
+    take() {
+        if (this.free === 0) return new Promise((begin) => this.waiting.push(begin));
+        this.free -= 1;
+        return Promise.resolve();
+    }
+
+    give() {
+        const begin = this.waiting.shift();
+        if (begin) begin();
+        else this.free += 1;
+    }
+}
+
+// `isUnknown`: nobody can say whether what was asked was done. `body` is the object of a JSON answer.
+const answerOf = (reply, text) => ({
+    status: reply.status,
+    isDone: reply.ok,
+    isUnknown: reply.status >= 500 || reply.status === 408,
+    person: reply.status === 401 ? null : reply.headers.get('x-person'),
+    body: reply.headers.get('content-type') === 'application/json' ? JSON.parse(text) : null,
+    text,
+});
+
+const NO_ANSWER = { status: 0, isDone: false, isUnknown: true, person: null, body: null, text: '' };
+
+// An address that was opened with a password in it can't be a base for paths, hence the origin.
+async function ask(method, path, body) {
+    try {
+        const headers = body === undefined ? {} : { 'content-type': 'text/plain' };
+        const options = { method, body, headers, cache: 'no-store', redirect: 'error' };
+        const reply = await fetch(location.origin + path, options);
+        return answerOf(reply, await reply.text());
+    } catch {
+        return NO_ANSWER;
+    }
+}
+
+// Who is signed on is told by the front end, with each answer. This one never reaches the desk.
+export const askWho = () => ask('HEAD', '/');
+
+export class Desk {
+    constructor(person) {
+        this.person = person;
+        this.day = null; // the business day, once an answer has told it
+        this.turns = new Turns(AT_ONCE);
+    }
+
+    // What is read; asked twice where no answer came.
+    async read(path) {
+        const answer = await this.inTurn('GET', path);
+        if (answer.person && answer.person !== this.person) location.reload();
+        return answer.status === 0 ? this.inTurn('GET', path) : answer;
+    }
+
+    // What a view needs: the answer, or the view is the refusal.
+    async get(path) {
+        const answer = await this.read(path);
+        if (!answer.isDone) throw new Refused(answer);
+        return answer;
+    }
+
+    // What changes something. A browser has one password for a site: where somebody else has signed on in another
+    // window meanwhile, nothing is sent under that name.
+    async post(path, body) {
+        const now = await askWho();
+        if (now.person && now.person !== this.person) return { ...NO_ANSWER, isUnknown: false, other: now.person };
+        return this.inTurn('POST', path, body);
+    }
+
+    async inTurn(method, path, body) {
+        await this.turns.take();
+        try {
+            return await ask(method, path, body);
+        } finally {
+            this.turns.give();
+        }
+    }
+}
+
+export const matterPath = (matter) => `/matters/${matter}`;
+export const cardPath = (matter) => `/matters/${matter}/accounting`;
+export const entryPath = (matter, entry) => `/matters/${matter}/entries/${entry}`;

@@ -1,0 +1,145 @@
+// The page before the desk: what stands behind # in the address is the view, which is read anew each time.
+
+import { unanswered } from './asks.js';
+import { failedBox, refusedBox } from './boxes.js';
+import { Desk, Refused, askWho } from './desk.js';
+import { button, el, link, p } from './elements.js';
+import { Shelf } from './shelf.js';
+import { showEntry } from './views/entry.js';
+import { showCard, showMatter } from './views/matter.js';
+import { myMatters } from './views/matters.js';
+import { newEntry } from './views/new-entry.js';
+import { openMatter } from './views/opening.js';
+import { overview } from './views/overview.js';
+import { reconciliation } from './views/reconciliation.js';
+import { report } from './views/report.js';
+import { seats } from './views/seats.js';
+import { statement } from './views/statement.js';
+
+// A view is given the page and what its address names. It returns its title and parts, and may have something to do
+// once it is drawn.
+const VIEWS = [
+    [/^#?\/?$/, (page) => (page.person === 'cashier' ? overview(page) : myMatters(page))],
+    [/^#\/m\/(\d{6})$/, showMatter],
+    [/^#\/m\/(\d{6})\/card$/, showCard],
+    [/^#\/m\/(\d{6})\/seats$/, seats],
+    [/^#\/m\/(\d{6})\/e\/(\d{4})$/, showEntry],
+    [/^#\/m\/(\d{6})\/(deposit|propose|fee|claim|dispute)(?:\/(fee|claim)\/(\d{4}))?$/, newEntry],
+    [/^#\/open$/, openMatter],
+    [/^#\/statement$/, statement],
+    [/^#\/report\/(trial-balance|journal|exceptions|retention)$/, report],
+    [/^#\/reconciliation(?:\/(\d{4}-\d\d-\d\d))?$/, reconciliation],
+];
+
+const PLACES = [
+    ['#/', 'Overview'],
+    ['#/open', 'New matter'],
+    ['#/statement', 'Bank statement'],
+    ['#/reconciliation', 'Reconciliation'],
+    ['#/report/trial-balance', 'Reports'],
+];
+
+const nowhere = () => ({ title: 'No such page', parts: [p(link('#/', 'To the overview'))] });
+
+const byId = (id) => document.getElementById(id);
+
+class Page {
+    constructor(person) {
+        this.person = person;
+        this.desk = new Desk(person);
+        this.shelf = new Shelf(person);
+        this.draws = 0;
+        this.told = null; // what the last change was answered, for the next view
+    }
+
+    say(words) {
+        byId('said').textContent = words;
+    }
+
+    go(address, told = null) {
+        this.told = told;
+        if (location.hash === address) this.draw();
+        else location.hash = address;
+    }
+
+    // A view that was left while it was read is not drawn.
+    async draw() {
+        this.draws += 1;
+        const mine = this.draws;
+        const isStill = () => mine === this.draws;
+        byId('main').setAttribute('aria-busy', 'true');
+        const late = setTimeout(() => this.say('Reading'), 400);
+        const view = await this.viewOf(location.hash);
+        clearTimeout(late);
+        if (!isStill()) return;
+        this.show(view, mine > 1);
+        try {
+            await view.later?.(isStill);
+        } catch (fault) {
+            if (isStill()) this.show(this.failed(fault), true);
+        }
+    }
+
+    async viewOf(address) {
+        const views = VIEWS.map(([form, view]) => [view, form.exec(address)]);
+        const [make, found] = views.find(([, match]) => match) ?? [nowhere, []];
+        try {
+            return await make(this, ...found.slice(1));
+        } catch (fault) {
+            return this.failed(fault);
+        }
+    }
+
+    // What is shown in the place of a view that was refused, or that has a fault.
+    failed(fault) {
+        const isRefused = fault instanceof Refused;
+        if (!isRefused) console.error(fault);
+        const box = isRefused ? refusedBox(fault.answer, this.person) : failedBox(fault);
+        return { title: 'Not shown', parts: [box, p(button('Read again', () => this.draw()))] };
+    }
+
+    // The heading has the focus, or the box that tells what was done.
+    show({ title, parts }, isMoved) {
+        const { told } = this;
+        this.told = null;
+        const head = el('h1', { tabindex: '-1' }, title);
+        const main = byId('main');
+        main.replaceChildren(head, ...[told, unanswered(this), parts].flat(Infinity).filter(Boolean));
+        main.setAttribute('aria-busy', 'false');
+        document.title = `${head.textContent} \u2013 Gekuipo`;
+        this.showPlaces();
+        this.say('');
+        if (isMoved) (told ?? head).focus();
+    }
+
+    showPlaces() {
+        const at = location.hash || '#/';
+        const isHere = (href) => at === href || (href !== '#/' && at.startsWith(href.replace('trial-balance', '')));
+        const places = this.person === 'cashier' ? PLACES : [['#/', 'My matters']];
+        byId('nav').replaceChildren(el('ul', {}, places.map(([href, name]) =>
+            el('li', {}, el('a', { href, 'aria-current': isHere(href) ? 'page' : null }, name)))));
+        const { day } = this.desk;
+        byId('who').replaceChildren(this.person, day ? ` \u00b7 ${day}` : '');
+        byId('printed').textContent = `Printed by ${this.person}${day ? `, the desk's day ${day}` : ''}`;
+    }
+}
+
+function skip(event) {
+    event.preventDefault();
+    byId('main').focus();
+}
+
+async function begin() {
+    const answer = await askWho();
+    if (!answer.isDone || !answer.person) {
+        byId('main').replaceChildren(el('h1', {}, 'Gekuipo'), refusedBox(answer, ''));
+        byId('main').setAttribute('aria-busy', 'false');
+        return;
+    }
+    const page = new Page(answer.person);
+    window.addEventListener('hashchange', () => page.draw());
+    byId('skip').addEventListener('click', skip);
+    await page.draw();
+}
+
+begin();

@@ -1,0 +1,36 @@
+// What the page takes out of the firm's reports. None of these lines has a user's text in it.
+
+const linesOf = (text) => text.trimEnd().split('\n');
+
+// The business day stands at the end of each report's first line.
+export const dayOf = (text) => linesOf(text)[0].slice(-10);
+
+export function readTrial(text) {
+    const rows = linesOf(text).slice(1).map((line) => line.split(/ +/));
+    const isMatter = ([name]) => /^\d{6}$/.test(name);
+    return {
+        matters: rows.filter(isMatter).map(([matter, ledger]) => ({ matter, ledger })),
+        firm: rows.at(-2)[1],
+        total: rows.at(-1)[1],
+    };
+}
+
+export const readRetention = (text) =>
+    linesOf(text).slice(1).map((line) => {
+        const [matter, , closed, , , until] = line.split(' ');
+        return { matter, closed, until, mayGo: line.endsWith(' MAY PURGE') };
+    });
+
+export const readJournal = (text) =>
+    linesOf(text).slice(1).map((line) => {
+        const [day, reference, amount, sum] = line.split(' ');
+        return { day, reference, amount, sum };
+    });
+
+export const countLines = (text) => linesOf(text).length - 1;
+
+// The figures of a reconciliation by their names, which stand in its first lines.
+export function readFigures(text) {
+    const figures = linesOf(text).slice(1, 11).map((line) => /^([A-Z ]+?) +(-?\d+\.\d\d)$/.exec(line));
+    return Object.fromEntries(figures.map(([, name, amount]) => [name, amount]));
+}

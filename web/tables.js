@@ -1,0 +1,42 @@
+// Tables. On a phone each row becomes a card, which takes the elements' own roles away: so the roles are written out.
+
+import { button, el, p } from './elements.js';
+
+// A column: what stands above it, and its kind, which is `right` for amounts and `tight` for what is never broken.
+export const column = (name, kind = null) => ({ name, kind });
+
+const headOf = (columns) => el('thead', { role: 'rowgroup' }, el('tr', { role: 'row' }, columns.map(({ name, kind }) =>
+    el('th', { scope: 'col', role: 'columnheader', class: kind }, name))));
+
+// The element within a cell keeps its contents together where the cell is a grid.
+function cellOf(inside, { name, kind }, isFirst) {
+    const attributes = { 'data-label': name, class: kind };
+    return isFirst
+        ? el('th', { ...attributes, scope: 'row', role: 'rowheader' }, el('span', {}, inside))
+        : el('td', { ...attributes, role: 'cell' }, el('span', {}, inside));
+}
+
+export const rowOf = (columns, cells) =>
+    el('tr', { role: 'row' }, cells.map((inside, i) => cellOf(inside, columns[i], i === 0)));
+
+// Nothing where there are no rows. A row is a list of what stands in its cells, or an element of `rowOf`.
+export function table(caption, columns, rows) {
+    if (!rows.length) return null;
+    const body = rows.map((row) => (Array.isArray(row) ? rowOf(columns, row) : row));
+    return el('table', { role: 'table' }, el('caption', {}, caption), headOf(columns),
+        el('tbody', { role: 'rowgroup' }, body));
+}
+
+// A table that shows so many of its rows, and all of them when asked for. Ten thousand take a browser seconds to draw.
+export function longTable({ caption, columns, items, cells, first }) {
+    if (!items.length) return null;
+    const place = el('div', {});
+    const show = (count) => {
+        const isCut = items.length > count;
+        const words = isCut ? `${caption}: ${count} of ${items.length}` : caption;
+        const more = isCut && p(button(`Show all ${items.length}`, () => show(items.length)));
+        place.replaceChildren(...[table(words, columns, items.slice(0, count).map(cells)), more].filter(Boolean));
+    };
+    show(first);
+    return place;
+}

@@ -1,0 +1,112 @@
+// An entry, and the decision on it. Nothing is decided in a list: the button stands here, and says what it does.
+
+import { grouped, isMore, isNothing } from '../amounts.js';
+import { change } from '../asks.js';
+import { entryPath, matterPath } from '../desk.js';
+import { button, el, label, link, money, p, quiet } from '../elements.js';
+import { entryFacts } from '../entry-facts.js';
+import { form, partField } from '../forms.js';
+import { shown } from '../names.js';
+import { KINDS, fundOf } from '../words.js';
+import { backTo, roleIn } from './matter.js';
+
+const decision = (title, ...inside) =>
+    el('section', { class: 'decide', 'aria-labelledby': 'decide' }, el('h2', { id: 'decide' }, title), ...inside);
+
+// What is asked of the entry: `verb` by a button, or with fields by a form.
+class Decisions {
+    constructor(page, no, number, place) {
+        Object.assign(this, { page, place, path: entryPath(no, number), then: `#/m/${no}/e/${number}` });
+    }
+
+    ask(verb, done, fields, place = this.place) {
+        return change(this.page, { path: `${this.path}/${verb}`, fields, done, then: this.then, place });
+    }
+
+    button(verb, words, done, kind) {
+        return button(words, () => this.ask(verb, done), kind);
+    }
+}
+
+function depositDecision({ entry, role, decisions }) {
+    if (role !== 'cashier' || entry.state !== 'held') return null;
+    const words = `Cancel this deposit of ${grouped(entry.amount)}`;
+    return p(decisions.button('cancel', words, 'The deposit is cancelled.'));
+}
+
+const NOT_ENOUGH = 'That is not enough: as it stands, approving is refused.';
+
+// A lawyer sees what is left of the fund before approving.
+async function proposedDecision({ page, no, matter, entry, decisions }) {
+    const drawn = entry.from === 'general' ? null : await page.desk.get(entryPath(no, entry.of));
+    const left = drawn ? drawn.body.left : matter.available;
+    const what = `${grouped(entry.amount)} to ${shown(entry.payee)}`;
+    return decision('It waits for you',
+        p(`Left of ${fundOf(entry)}: `, money(left)),
+        isMore(entry.amount, left) && el('p', { class: 'warning' }, NOT_ENOUGH),
+        el('div', { class: 'buttons' },
+            decisions.button('approve', `Approve ${what}`, `Approved: ${what}.`, ''),
+            decisions.button('decline', 'Decline it', 'Declined.')));
+}
+
+function paymentDecision(asked) {
+    const { entry, role, decisions } = asked;
+    if (role === 'lawyer' && entry.state === 'proposed') return proposedDecision(asked);
+    if (entry.state === 'proposed') return quiet('A lawyer of the matter has to approve it.');
+    if (role !== 'lawyer' || entry.state !== 'issued') return null;
+    const what = `${grouped(entry.amount)} to ${shown(entry.payee)}`;
+    return p(decisions.button('void', `Void the payment of ${what}`, 'The payment is voided.'));
+}
+
+function feeDecision({ no, entry, role }) {
+    if (isNothing(entry.left)) return null;
+    return p(role === 'client'
+        ? link(`#/m/${no}/dispute/fee/${entry.entry}`, 'Dispute a part of this fee')
+        : link(`#/m/${no}/propose/fee/${entry.entry}`, 'Propose its payment to the firm'));
+}
+
+const SETTLED = 'The claim is settled.';
+
+// The part that is on the screen is sent, so a lawyer who offers another meanwhile is no bargain of the client's.
+function offered({ entry, decisions }) {
+    if (entry.to_client === null) return quiet('Nothing was offered yet.');
+    const { amount, to_client: part } = entry;
+    const accept = () => decisions.ask('accept', SETTLED, { to_client: part });
+    return decision('You were made an offer',
+        p('Of ', money(amount), ', ', money(part), ' stays yours. Accepting settles the claim for good.'),
+        p(button(`Accept ${grouped(part)}`, accept, '')));
+}
+
+const offering = ({ decisions }) => form({
+    title: 'Offer the client a part', fields: [partField('is offered')], action: 'Offer it',
+    submit: (fields, place) => decisions.ask('offer', `Offered: ${grouped(fields.to_client)}.`, fields, place),
+});
+
+const awarding = ({ decisions }) => form({
+    title: 'Settle it by an award', fields: [partField('is given')], action: 'Award it',
+    submit: (fields, place) => decisions.ask('award', SETTLED, fields, place),
+});
+
+function claimDecision(asked) {
+    const { no, entry, role } = asked;
+    if (entry.state === 'open') return { client: offered, lawyer: offering, cashier: awarding }[role](asked);
+    if (entry.on !== 'general' || isNothing(entry.left) || role === 'client') return null;
+    return p(link(`#/m/${no}/propose/claim/${entry.entry}`, 'Propose its payment to the claimant'));
+}
+
+const DECISIONS = { deposit: depositDecision, payment: paymentDecision, fee: feeDecision, claim: claimDecision };
+
+export async function showEntry(page, no, number) {
+    const [{ body: matter }, { body: entry }] =
+        await Promise.all([page.desk.get(matterPath(no)), page.desk.get(entryPath(no, number))]);
+    const place = el('div', {});
+    const decisions = new Decisions(page, no, number, place);
+    const asked = { page, no, matter, entry, role: roleIn(page, matter), decisions };
+    const parts = [
+        entryFacts(entry),
+        place,
+        matter.closed ? null : await DECISIONS[entry.kind](asked),
+        backTo(no),
+    ];
+    return { title: [`${KINDS[entry.kind]} ${number} of matter ${no}, `, label(matter.client)], parts };
+}

@@ -1,0 +1,125 @@
+// A matter: its sums, what whoever looks can do, what waits, and its entries.
+
+import { isNothing } from '../amounts.js';
+import { change } from '../asks.js';
+import { balanceOfCard } from '../balance.js';
+import { readCard } from '../card.js';
+import { chart } from '../chart.js';
+import { cardPath, entryPath, matterPath } from '../desk.js';
+import { button, el, facts, label, link, money, p, printed, readAgain, sums } from '../elements.js';
+import { form } from '../forms.js';
+import { MATTERS } from '../shelf.js';
+import { column, longTable } from '../tables.js';
+import { BALANCES, KINDS } from '../words.js';
+import { entryLink, stateOf, waitingIn } from './cards.js';
+
+const NEWEST = 100;
+
+// What a person is in a matter. The cashier has a seat in none.
+export const roleIn = (page, matter) =>
+    (page.person === 'cashier' ? 'cashier' : matter.seats.find(({ person }) => person === page.person)?.role);
+
+export const hasLeft = ({ kind, left }) => kind === 'fee' && !isNothing(left);
+
+// The head and the card of a matter. A deposit that may have been returned is asked of its entry.
+export async function readMatterWhole(page, no) {
+    const paths = [matterPath(no), cardPath(no)];
+    const [{ body: matter }, { text }] = await Promise.all(paths.map((path) => page.desk.get(path)));
+    const card = readCard(text);
+    await Promise.all(card.entries.filter(({ isDoubtful }) => isDoubtful).map(async (each) => {
+        const { state, undone } = (await page.desk.get(entryPath(no, each.entry))).body;
+        Object.assign(each, { state, undone: undone ?? undefined });
+    }));
+    return { matter, card };
+}
+
+export const backTo = (no) => p(link(`#/m/${no}`, 'Back to the matter'));
+
+const ACTIONS = {
+    deposit: 'Book a deposit',
+    propose: 'Propose a payment',
+    fee: 'Earn a fee',
+    claim: 'Keep a claim apart',
+    dispute: 'Dispute a fee',
+    seats: 'Seats',
+    card: 'Accounting, to print',
+};
+
+const MAY = {
+    cashier: ['deposit', 'propose', 'claim', 'seats'],
+    lawyer: ['propose', 'fee', 'claim'],
+    client: ['dispute'],
+};
+
+function actionsOf(no, role, card) {
+    const may = card.closed ? [] : MAY[role].filter((name) => name !== 'dispute' || card.entries.some(hasLeft));
+    return el('ul', { class: 'actions', 'aria-label': 'What you can do' },
+        [...may, 'card'].map((name) => el('li', {}, link(`#/m/${no}/${name}`, ACTIONS[name]))));
+}
+
+const sumsOf = ({ balances }) =>
+    sums(BALANCES.map(([name, words, means]) => [name, words, money(balances[name]), means]));
+
+const ENTRY_COLUMNS = [column('Entry', 'tight'), column('Day', 'tight'), column('What', 'tight'), column('Words'),
+    column('State'), column('Amount', 'right')];
+
+const entryCells = (no) => (each) => [entryLink({ matter: no, entry: each.entry }), each.day, KINDS[each.kind],
+    label(each.texts), stateOf(each), money(each.amount)];
+
+const entriesOf = ({ matter, entries }) => longTable({
+    caption: 'Entries, newest first',
+    columns: ENTRY_COLUMNS,
+    items: [...entries].reverse(),
+    cells: entryCells(matter),
+    first: NEWEST,
+});
+
+// Purging has the number typed, since nothing brings the records back.
+const purging = (page, no) => form({
+    title: 'Purge the records',
+    fields: [{
+        name: 'again',
+        words: `Type ${no} to purge it`,
+        keys: 'numeric',
+        read: (typed) => (typed.trim() === no ? no : null),
+        hint: 'Seats and entries are taken away for good. Print the accounting first.',
+        wrong: `Type ${no}.`,
+    }],
+    action: 'Purge',
+    submit: (_, place) => change(page,
+        { path: `${matterPath(no)}/purge`, done: `Matter ${no} was purged.`, then: '#/report/retention', place }),
+});
+
+const closing = (page, no, place) => button('Close this matter', () => change(page,
+    { path: `${matterPath(no)}/close`, done: `Matter ${no} is closed.`, then: `#/m/${no}`, place }));
+
+function remember(page, no) {
+    const known = page.shelf.read(MATTERS);
+    if (page.person !== 'cashier' && !known.includes(no)) page.shelf.write(MATTERS, [...known, no].sort());
+}
+
+export async function showMatter(page, no) {
+    const { matter, card } = await readMatterWhole(page, no);
+    remember(page, no);
+    const place = el('div', {});
+    const isCashier = page.person === 'cashier';
+    const seats = matter.seats.map(({ person, role }) => `${person} (${role})`).join(', ');
+    const parts = [
+        sumsOf(card),
+        actionsOf(no, roleIn(page, matter), card),
+        place,
+        await waitingIn(page, [card], true),
+        chart('The ledger by day, held deposits included', balanceOfCard(card), page.desk.day),
+        entriesOf(card),
+        facts([['Opened', matter.opened], ['Closed', matter.closed], ['Seats', seats]]),
+        readAgain(page, isCashier && !card.closed && closing(page, no, place)),
+        isCashier && card.closed && purging(page, no),
+    ];
+    return { title: [`Matter ${no}, `, label(matter.client)], parts };
+}
+
+export async function showCard(page, no) {
+    const { text } = await page.desk.get(cardPath(no));
+    const parts = [printed(text, cardPath(no), `ledger-${no}.txt`), backTo(no)];
+    return { title: `Accounting of matter ${no}`, parts };
+}

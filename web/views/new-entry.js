@@ -1,0 +1,112 @@
+// The forms of new entries. Each says which number its entry will have; that is the number it is sent under.
+
+import { book, isUnanswered, newAsk } from '../asks.js';
+import { grouped, isNothing } from '../amounts.js';
+import { entryPath } from '../desk.js';
+import { label, p, quiet } from '../elements.js';
+import { amountField, choiceField, form, labelField } from '../forms.js';
+import { entryAfter, shown } from '../names.js';
+import { backTo, hasLeft, readMatterWhole } from './matter.js';
+
+const deposit = () => ({
+    title: 'Book a deposit', kind: 'deposit', action: 'Book it',
+    fields: [amountField(), labelField('source', 'Paid in by'), labelField('description', 'What for')],
+    whatOf: ({ amount }) => `deposit of ${grouped(amount)}`,
+});
+
+const upTo = (card) => ({ hint: `At most ${grouped(card.balances.available)}, which is available` });
+
+const fee = ({ card }) => ({
+    title: 'Earn a fee', kind: 'fee', action: 'Earn it',
+    fields: [amountField(upTo(card)), labelField('description', 'For which work')],
+    whatOf: ({ amount }) => `fee of ${grouped(amount)}`,
+});
+
+const claim = ({ card }) => ({
+    title: 'Keep a claim apart', kind: 'claim', action: 'Keep it apart',
+    fields: [amountField(upTo(card)), labelField('claimant', 'Who claims it'), labelField('reason', 'Why')],
+    sentOf: (values) => ({ on: 'general', ...values }),
+    whatOf: ({ amount }) => `claim of ${grouped(amount)}`,
+});
+
+const feeWords = (each) => `${each.entry}, ${each.day}, ${grouped(each.left)} left: ${shown(each.texts)}`;
+
+function dispute({ card, of }) {
+    const fees = card.entries.filter(hasLeft);
+    if (!fees.length) return { title: 'Dispute a fee', none: 'There is no fee left to dispute.' };
+    return {
+        title: 'Dispute a fee', kind: 'claim', action: 'Dispute it',
+        about: 'The part that you dispute stays in the account until it is settled, and the firm is not paid it.',
+        fields: [choiceField('of', 'Fee', fees.map((each) => [each.entry, feeWords(each)]), of),
+            amountField({ words: 'How much of it' }), labelField('reason', 'Why')],
+        sentOf: (values) => ({ on: 'fee', ...values }),
+        whatOf: ({ amount, of: disputed }) => `dispute of ${grouped(amount)} of fee ${disputed}`,
+    };
+}
+
+// The card does not tell what is left of a settled claim, or who claimed it: its entry does.
+async function settledClaims(page, no, card) {
+    const settled = card.entries.filter(({ kind, state, fund }) =>
+        kind === 'claim' && state === 'settled' && fund === 'general');
+    const claims = await Promise.all(settled.map(({ entry }) => page.desk.get(entryPath(no, entry))));
+    return claims.map(({ body }) => body).filter(({ left }) => !isNothing(left));
+}
+
+// What a payment can be drawn on, in words, and whom it pays where that is fixed.
+const fundsOf = (card, claims) => [
+    { value: 'general', words: `The general fund: ${grouped(card.balances.available)} available`, payee: '' },
+    ...card.entries.filter(hasLeft).map(({ entry, left }) =>
+        ({ value: `fee ${entry}`, words: `Fee ${entry}: ${grouped(left)} left, paid to FIRM`, payee: 'FIRM' })),
+    ...claims.map(({ entry, left, claimant: payee }) =>
+        ({ value: `claim ${entry}`, words: `Claim ${entry}: ${grouped(left)} left, paid to ${shown(payee)}`, payee })),
+];
+
+async function propose({ page, no, card, fund, of }) {
+    const funds = fundsOf(card, await settledClaims(page, no, card));
+    const payeeOf = (value) => funds.find((each) => each.value === value)?.payee ?? '';
+    const chosen = fund ? `${fund} ${of}` : 'general';
+    return {
+        title: 'Propose a payment', kind: 'propose', action: 'Propose it',
+        about: 'A lawyer of the matter has to approve it before anything is paid.',
+        fields: [
+            choiceField('from', 'Drawn on', funds.map(({ value, words }) => [value, words]), chosen),
+            amountField(),
+            labelField('payee', 'Payee', { value: payeeOf(chosen) }),
+            labelField('purpose', 'Purpose'),
+            labelField('instrument', 'Check or transfer number'),
+        ],
+        sentOf({ from, ...values }) {
+            const [name, drawn] = from.split(' ');
+            return { from: name, ...(drawn && { of: drawn }), ...values };
+        },
+        whatOf: ({ amount, payee }) => `payment of ${grouped(amount)} to ${shown(payee)}`,
+        prepare(made) {
+            const { from, payee } = made.elements;
+            from.addEventListener('change', () => { payee.value = payeeOf(from.value); });
+        },
+    };
+}
+
+const FORMS = { deposit, propose, fee, claim, dispute };
+
+export async function newEntry(page, no, verb, fund = null, of = null) {
+    const { matter, card } = await readMatterWhole(page, no);
+    if (isUnanswered(page, no)) {
+        const first = p('First send again what was not answered, above: so nothing is booked twice.');
+        return { title: `Matter ${no}`, parts: [first, backTo(no)] };
+    }
+    const entry = entryAfter(matter.entries);
+    const asked = await FORMS[verb]({ page, no, card, fund, of });
+    if (asked.none) return { title: asked.title, parts: [p(asked.none), backTo(no)] };
+    const askOf = (values) => newAsk({
+        matter: no, entry, verb, kind: asked.kind, fields: asked.sentOf?.(values) ?? values, what: asked.whatOf(values),
+    });
+    const made = form({
+        fields: asked.fields,
+        action: asked.action,
+        before: quiet(`This will be entry ${entry} of matter ${no}, `, label(matter.client), '.'),
+        submit: (values, place) => book(page, askOf(values), place),
+    });
+    asked.prepare?.(made);
+    return { title: asked.title, parts: [asked.about && p(asked.about), made, backTo(no)] };
+}

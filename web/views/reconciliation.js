@@ -1,0 +1,60 @@
+// The three-way reconciliation of a day on which a statement ended.
+
+import { grouped, isNothing } from '../amounts.js';
+import { doneBox, noteBox, refusedBox, warningBox } from '../boxes.js';
+import { button, p, printed } from '../elements.js';
+import { form } from '../forms.js';
+import { dayBefore, readDay } from '../names.js';
+import { dayOf, readFigures } from '../reports.js';
+import { STATEMENT } from '../shelf.js';
+
+// The desk has no list of days, so it is asked backwards from today, for so many.
+const DAYS_BACK = 100;
+
+const dayForm = (page, day) => form({
+    fields: [{
+        name: 'day',
+        words: 'The day on which a statement ended',
+        type: 'date',
+        value: day,
+        read: readDay,
+        wrong: 'Choose a day.',
+    }],
+    action: 'Reconcile',
+    submit: (values) => page.go(`#/reconciliation/${values.day}`),
+});
+
+async function search(page) {
+    const today = await page.desk.read('/firm/exceptions');
+    if (!today.isDone) return page.go(location.hash, refusedBox(today, page.person));
+    let day = dayOf(today.text);
+    for (let tries = 0; tries < DAYS_BACK; tries += 1, day = dayBefore(day)) {
+        page.say(`Looking at ${day}`);
+        if ((await page.desk.read(`/firm/reconciliation/${day}`)).isDone) return page.go(`#/reconciliation/${day}`);
+    }
+    return page.go(location.hash, noteBox(p(`No statement ended in the last ${DAYS_BACK} days.`)));
+}
+
+// What the figures say.
+function resultBox(figures) {
+    const { GAP: gap, DIFFERENCE: difference, EXCEPTIONS: exceptions, EARLY: early } = figures;
+    const more = isNothing(difference) ? null : p(`The difference is ${grouped(difference)}; exceptions explain `
+        + `${grouped(exceptions)} of it, and lines that the bank had before the books ${grouped(early)}.`);
+    if (!isNothing(gap)) {
+        return warningBox(`A gap of ${grouped(gap)} is explained by nothing. Find it before the month is filed.`, more);
+    }
+    return doneBox(isNothing(difference) ? 'Bank, journal and ledgers agree.'
+        : 'Bank and journal differ, and what they differ by is explained.', more);
+}
+
+export async function reconciliation(page, day = null) {
+    const asked = dayForm(page, day ?? page.shelf.read(STATEMENT)[0]);
+    if (!day) {
+        const look = p(button('Look for the last statement', () => search(page)));
+        return { title: 'Reconciliation', parts: [asked, look] };
+    }
+    const path = `/firm/reconciliation/${day}`;
+    const { text } = await page.desk.get(path);
+    const parts = [resultBox(readFigures(text)), printed(text, path, `reconciliation-${day}.txt`), asked];
+    return { title: `Reconciliation of ${day}`, parts };
+}
