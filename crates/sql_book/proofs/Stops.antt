@@ -1,11 +1,11 @@
 -- What a stop leaves of a book is taken again.
-use Rattle.std.proofs.Common.{◌≡◌, ◌⊎◌, inl, inr, map, length, sym, ap, subst, refl, ◌∙◌, arith}
+use Rattle.std.proofs.Common.{◌≡◌, inl, inr, map, length, sym, ap, subst, refl, ◌∙◌, arith}
 use Rattle.sqlite_schema.specs.declared.schema.Schema.{Schema}
 use Rattle.sqlite_trees.specs.Tree.{Trees}
 use Rattle.sqlite_trees.specs.declared.store.Store.{Ghosts}
 use Rattle.sqlite.specs.Effect.{Database, IsDatabase}
 use Rattle.sqlite.specs.Held.{Held, state}
-use Rattle.firm_rows.specs.Firm.{Firm, empty_firm}
+use Rattle.firm_rows.specs.Firm.{Firm}
 use Rattle.trust_store.specs.Crashes.{LeavesAlone}
 use Rattle.trust_schema.specs.declared.layout.Layout.{Layout}
 use Rattle.trust_schema.specs.declared.layout.Layout.TheVariants.{Made, Moved}
@@ -21,7 +21,7 @@ use Rattle.trust_moving.proofs.Ends.{never_both}
 use Rattle.sql_book.specs.Books.{HeldBook, at, firm_of, IsStanding, IsLasting, MayLeave}
 use Rattle.sql_book.specs.Opening.{IsKeptBook, IsMovedBook, IsTaken}
 use Rattle.sql_book.specs.Then.{firm_then, StoodSound}
-use Rattle.sql_book.specs.Stops.{IsOpenedOver, HoldsLeft, IsNext, HoldsNewBook, IsOldStanding, IsLeftInMoving, HoldsOldFirm, HoldsFirm, IsOfFirm, BooksAreTaken, StopsInMovingLeaveBooks}
+use Rattle.sql_book.specs.Stops.{IsOpenedOver, HoldsLeft, IsNext, HoldsNewBook, HoldsOldFirm, HoldsFirm, IsOfFirm, BooksAreTaken, StopsInMovingLeaveBooks}
 use Rattle.sql_book.proofs.OneSchema.{one_database}
 use Rattle.sql_book.proofs.Moves.{moved_stands, moved_firm}
 

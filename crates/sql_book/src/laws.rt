@@ -27,9 +27,9 @@ pub fn stops_in_making_leave_books<T: Alter + Drop>()
     empty_tables_stand();
 }
 
-/// From a database of version 1 whose tables stood for a sound firm, over any stop while it is being taken and the files
-/// opened again: what is found is that database, or a book of this version whose tables stand for the same firm, and
-/// `SqlBook::adopt` does not answer NotABook.
+/// From a database of version 1 whose tables stood for a sound firm, over any stop while it is being taken and the
+/// files opened again: what is found is that database, or a book of this version whose tables stand for the same firm,
+/// and `SqlBook::adopt` does not answer NotABook.
 pub fn stops_in_moving_leave_books<T: Alter + Drop>()
     ensures { StopsInMovingLeaveBooks T.Store }
 {}
