@@ -45,9 +45,9 @@ module _ {W : Type 0} (contents : W → Option (List ℕ)) where
   AreMetInTurn day comes before (end ∷ ends) after =
       (mid : Firm) × IsMet day (comes 0) before end mid × AreMetInTurn day (λ k. comes (suc k)) mid ends after
 
-  -- clients of a port were served, and that ended with this outcome: how each one's stream ended, in order, and what was
-  -- told of that; it ended early where a line could not be written, as is told, and else only where the network refused
-  -- an accept
+  -- clients of a port were served, and that ended with this outcome: how each one's stream ended, in order, and what
+  -- was told of that; it ended early where a line could not be written, as is told, and else only where the network
+  -- refused an accept
   pub record IsPortServed (day count : ℕ) (comes : ℕ → Comes W → Type 0) (before after : Firm)
       (old new : Option (List ℕ)) (told : Outcome) : Type 0 where
     pub end : ServeEnd

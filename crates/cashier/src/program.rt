@@ -302,7 +302,8 @@ pub fn run_over_stores<
     writer: &mut W,
 ) -> Outcome
     ensures ran { HasRun S.AtPath.clean S.AtPath.sure S.AtPath.stands S.AtPath.lasts S.AtPath.leaves S.AtPath.firm
-        S.AtPath.refusals (S.finds stores.now) (S.puts stores.now) ((reader.new ≡ reader.old) × (writer.new ≡ writer.old))
+        S.AtPath.refusals (S.finds stores.now) (S.puts stores.now)
+        ((reader.new ≡ reader.old) × (writer.new ≡ writer.old))
         (words_of words.entry.now) (R.remaining reader.old) (F.known around.entry.folder.now)
         (F.opens around.entry.folder.now)
         (ports_of N.Listener.Writer.contents (N.comes around.entry.network.now)
@@ -337,7 +338,8 @@ pub fn run_called<R: Read, F: Folder, C: Clock + Drop, N: Network, M: Remarks, S
 ) -> Outcome
     ensures ran { IfOk called.now
         (λ words. HasRun S.AtPath.clean S.AtPath.sure S.AtPath.stands S.AtPath.lasts S.AtPath.leaves S.AtPath.firm
-        S.AtPath.refusals (S.finds stores.now) (S.puts stores.now) ((reader.new ≡ reader.old) × (writer.new ≡ writer.old))
+        S.AtPath.refusals (S.finds stores.now) (S.puts stores.now)
+        ((reader.new ≡ reader.old) × (writer.new ≡ writer.old))
         (map string_bytes words.items) (R.remaining reader.old) (F.known around.entry.folder.now)
         (F.opens around.entry.folder.now)
         (ports_of N.Listener.Writer.contents (N.comes around.entry.network.now)

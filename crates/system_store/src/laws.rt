@@ -24,9 +24,9 @@ pub fn stopped_moves_are_found<D: Disk, E: Disk>()
     ensures { StoppedMovesAreFound D.Disk E.Disk }
 {}
 
-/// What was accepted and acknowledged before a stop, and is sent again in a run after it, adds nothing: an ask that makes
-/// an entry is a repeat, and so is a line of the bank that names one, as long as the matter is not purged, whatever was
-/// run between the two. So all that was under way may be sent again.
+/// What was accepted and acknowledged before a stop, and is sent again in a run after it, adds nothing: an ask that
+/// makes an entry is a repeat, and so is a line of the bank that names one, as long as the matter is not purged,
+/// whatever was run between the two. So all that was under way may be sent again.
 pub fn accepted_is_spent_after_stops<D: Disk, E: Disk>()
     ensures asks { AsksAreSpentAfterStops D.Disk E.Disk }
     ensures lines { LinesAreOverAfterStops D.Disk E.Disk }

@@ -31,8 +31,8 @@ const ROWS: &str =
          20240201, 50000, 2, 0, 0, 'Ada Chen', 'retainer', '', 0, 0, 20240201, 'B1', 0, 0), (1, 2, 2, \
          20240201, 10000, 3, 0, 0, 'Court Clerk', 'filing fee', '1001', 20240201, 0, 0, '', 0, 0); INSERT \
          INTO journal VALUES (1, 1, 1, 20240201, 50000), (2, 0, 0, 20240201, 1000), (3, 1, 2, 20240201, \
-         -10000); INSERT INTO firm_line VALUES (1, 20240201, 'B2', 1000, 'own money'); INSERT INTO exception VALUES (20240201, \
-         'RENT', 'B4', -120000, 'standing order'); INSERT INTO balance VALUES (1, 20240201, 0), (2, \
+         -10000); INSERT INTO firm_line VALUES (1, 20240201, 'B2', 1000, 'own money'); INSERT INTO exception \
+         VALUES (20240201, 'RENT', 'B4', -120000, 'standing order'); INSERT INTO balance VALUES (1, 20240201, 0), (2, \
          20240201, 68800)";
 
 /// Makes one with the rows that `HISTORY` leaves, in an empty database.

@@ -115,7 +115,8 @@ const MORE_MONEY: &str = concat!(
     "2024-02-01,FIRM,B5,2.00,own money\n"
 );
 
-// One of the balance that a day opened with, one of a line that is nobody's, and one of the balance that it closed with.
+// One of the balance that a day opened with, one of a line that is nobody's, and one of the balance that it closed
+// with.
 const OPENED: &str = concat!(
     "POST /firm/statements HTTP/1.1\r\nx-caller: cashier\r\ncontent-length: 59\r\n\r\n",
     "date,reference,bank_ref,amount,text\n",

@@ -6,8 +6,8 @@ use std::io;
 /// Why a test fails.
 #[derive(Clone, Copy, PartialEq, Eq, Debug)]
 pub(crate) enum Wrong {
-    /// A growth was refused, a file in memory failed that is not stopped, a book on such files was not made or taken, or
-    /// what is asked before the work was refused.
+    /// A growth was refused, a file in memory failed that is not stopped, a book on such files was not made or taken,
+    /// or what is asked before the work was refused.
     Setup,
     /// After a stop behind so many calls of the log and of the database the book holds other rows, or none is there.
     Stopped(u64, u64),
