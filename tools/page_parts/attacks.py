@@ -189,7 +189,7 @@ def try_fields(firm: Firm, checks: Checks) -> None:
         checks.same(f"the status for {what}", front.ask("ada", "GET", path, fields)[0], status)
     for path in ("/", "/page/index.html"):
         checks.same(f"the status of a POST to {path}", front.ask("ada", "POST", path)[0], 403)
-    checks.same("a way out of the folder of files", front.ask("ada", "GET", "/page/../../gekuipo.people")[0], 400)
+    checks.same("a way out of the folder of files", front.ask("ada", "GET", "/page/../../office.people")[0], 400)
     for what, name in (("a wrong password", "cashier"), ("a name with a line end", "x\r\n\r\n<b>told</b>"),
                        ("a name that ends a line", "lee\n"), ("a name with a control character", "\u001b[31m")):
         word = base64.b64encode(f"{name}:wrong".encode()).decode()

@@ -180,24 +180,28 @@ class FrontEnd:
 
     def write(self, behind: int, change: Change) -> None:
         text = CONFIGURATION.read_text(encoding="utf-8")
-        for old, new in (("127.0.0.1:8080;", f"127.0.0.1:{behind};"), ("127.0.0.1:8000;", f"127.0.0.1:{self.port};"),
-                         ("/usr/share/gekuipo;", f"{self.folder}/files;"), ("timeout 300s", f"timeout {LATE}s")):
+        for old, new in (("127.0.0.1:8000;", f"127.0.0.1:{self.port};"), ("/etc/gekuipo/", f"{self.folder}/"),
+                         ("/usr/share/gekuipo;", f"{self.folder}/files;"), ("timeout 300s", f"timeout {LATE}s"),
+                         ("/var/log/gekuipo/requests.log gekuipo;", "access.log asked;")):
             text = text.replace(old, new)
         (self.folder / "gekuipo.conf").write_text(change(text), encoding="utf-8")
+        (self.folder / "nginx").mkdir()
+        (self.folder / "nginx" / "hosts").write_text("127.0.0.1 office;\n", encoding="ascii")
+        (self.folder / "nginx" / "desks").write_text(f"office 127.0.0.1:{behind};\n", encoding="ascii")
         temporary = "".join(f"{kind}_temp_path {kind};" for kind in
                             ("client_body", "proxy", "fastcgi", "uwsgi", "scgi"))
         user = "user root;" if os.getuid() == 0 else ""
         form = "log_format asked '$status $remote_user $request_method $request_uri';"
         (self.folder / "nginx.conf").write_text(
             f"{user} daemon off; pid nginx.pid; error_log nginx.err; events {{}}\n"
-            f"http {{ include /etc/nginx/mime.types; {form} access_log access.log asked; {temporary}\n"
+            f"http {{ include /etc/nginx/mime.types; {form} {temporary}\n"
             "include gekuipo.conf; }\n", encoding="utf-8")
-        (self.folder / "gekuipo.people").touch()
+        (self.folder / "office.people").touch()
         for person in PEOPLE:
             self.admit(person)
 
     def admit(self, person: str) -> None:
-        subprocess.run(["htpasswd", "-bB", str(self.folder / "gekuipo.people"), person, password(person)],
+        subprocess.run(["htpasswd", "-bB", str(self.folder / "office.people"), person, password(person)],
                        check=True, stderr=subprocess.DEVNULL)
 
     def ask(self, person: str, method: str, path: str, fields: dict[str, str] | None = None) -> Answer:

@@ -24,15 +24,19 @@ const dayForm = (page, day) => form({
     submit: (values) => page.go(`#/reconciliation/${values.day}`),
 });
 
+// A search whose view was left moves nobody.
 async function search(page) {
+    const mine = page.draws;
+    const go = (address, told) => mine === page.draws && page.go(address, told);
+    page.say('Looking for the last statement');
     const today = await page.desk.read('/firm/exceptions');
-    if (!today.isDone) return page.go(location.hash, refusedBox(today, page.person));
+    if (!today.isDone) return go(location.hash, refusedBox(today, page.person));
     let day = dayOf(today.text);
-    for (let tries = 0; tries < DAYS_BACK; tries += 1, day = dayBefore(day)) {
+    for (let tries = 0; tries < DAYS_BACK && mine === page.draws; tries += 1, day = dayBefore(day)) {
         page.say(`Looking at ${day}`);
-        if ((await page.desk.read(`/firm/reconciliation/${day}`)).isDone) return page.go(`#/reconciliation/${day}`);
+        if ((await page.desk.read(`/firm/reconciliation/${day}`)).isDone) return go(`#/reconciliation/${day}`);
     }
-    return page.go(location.hash, noteBox(p(`No statement ended in the last ${DAYS_BACK} days.`)));
+    return go(location.hash, noteBox(p(`No statement ended in the last ${DAYS_BACK} days.`)));
 }
 
 // What the figures say.
