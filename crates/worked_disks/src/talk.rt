@@ -43,13 +43,14 @@ pub(crate) fn are_answered<B: Book>(
 const SHOWING: &[&str] = &[
     "GET /matters/000001 HTTP/1.1\r\nx-caller: cashier\r\n\r\n",
     "GET /matters/000001/accounting HTTP/1.1\r\nx-caller: cashier\r\n\r\n",
+    "GET /matters/000002/accounting HTTP/1.1\r\nx-caller: cashier\r\n\r\n",
     "GET /firm/journal HTTP/1.1\r\nx-caller: cashier\r\n\r\n",
     "GET /firm/trial-balance HTTP/1.1\r\nx-caller: cashier\r\n\r\n",
     "GET /firm/exceptions HTTP/1.1\r\nx-caller: cashier\r\n\r\n",
     "GET /firm/reconciliation/2024-02-01 HTTP/1.1\r\nx-caller: cashier\r\n\r\n",
 ];
 
-/// What a book shows of its rows, behind the version that its tables said before it was taken: the answers to six
+/// What a book shows of its rows, behind the version that its tables said before it was taken: the answers to seven
 /// messages, one behind the other. Fails where one is a fault of the store or of memory.
 pub(crate) fn shown<B: Book>(
     alloc: Global,
