@@ -1,0 +1,33 @@
+// Lines of the bank that are in the book.
+
+ghost use Rattle.std.specs.Prelude.{◌≡◌, List};
+ghost use Rattle.statement_match.specs.Bookings.{booking_of, is_beside, is_same_booking};
+
+use trust_base::{BankText, Day, Line};
+
+/// A line of the bank that is in the book: what cleared an entry, what took a deposit back, or a line of the firm's own.
+#[derive(Drop, Debug)]
+pub struct Booking {
+    /// The day on which the bank booked it.
+    pub date: Day,
+    /// The bank's own reference.
+    pub bank_ref: BankText,
+    /// The amount in cents, below zero for money that went out.
+    pub amount: i64,
+}
+
+impl Booking {
+    /// Is it of the date and the bank reference of a line?
+    pub(crate) fn is_beside(&self, line: &Line) -> bool
+        ensures { result ≡ is_beside (booking_of line.now) self.now }
+    {
+        line.date.get() == self.date.get() && line.bank_ref.is_same(&self.bank_ref)
+    }
+
+    /// And of its amount?
+    pub(crate) fn is_same(&self, line: &Line) -> bool
+        ensures { result ≡ is_same_booking (booking_of line.now) self.now }
+    {
+        self.is_beside(line) && line.amount.get() == self.amount
+    }
+}

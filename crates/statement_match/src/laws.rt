@@ -1,0 +1,40 @@
+//! Laws over the definitions, each the contract of a function with nothing to do.
+
+ghost use Rattle.statement_match.specs.Laws.{FillsWhatIsSure, FillsWithWaiting, MoreOnlyTakesAway, NoneIsNamedTwice, OnlyReferencesChange, TwoEntriesAreLeft, TwoLinesAreLeft};
+
+/// A line is filled exactly with the entry of which it is sure: it has no reference, it is neither in the book already
+/// nor an exception under a reference nor doubled, no line of the book is beside it, it fits that entry and no other, no
+/// other open line fits the entry, and no record has the entry's reference.
+pub fn what_is_sure_is_filled()
+    ensures { FillsWhatIsSure }
+{}
+
+/// A line is filled with an entry that waits for the bank, and that it fits: never with `FIRM`, a balance or a return.
+pub fn filled_entries_wait()
+    ensures { FillsWithWaiting }
+{}
+
+/// Two that look alike are never filled: neither a line that two entries fit, nor one that fits an entry which another
+/// open line fits.
+pub fn two_alike_are_left()
+    ensures entries { TwoEntriesAreLeft }
+    ensures lines { TwoLinesAreLeft }
+{}
+
+/// What is written are the lines with a reference, each as it is, and some of those without one, each with a reference
+/// and else as it is; in their order.
+pub fn only_references_change()
+    ensures { OnlyReferencesChange }
+{}
+
+/// Where no two entries have one reference, that with which a line is filled is that of no other line that is written.
+pub fn none_is_named_twice()
+    ensures { NoneIsNamedTwice }
+{}
+
+/// A line that is filled, and fits an entry of some of those that wait, is filled with the same where these alone wait,
+/// where some of the lines that are booked alone are booked, and the exceptions are the same: what others have can only
+/// take a filling away.
+pub fn more_only_takes_away()
+    ensures { MoreOnlyTakesAway }
+{}

@@ -1,0 +1,19 @@
+//! The entries that the lines of a bank's own file are of, where the bank's words are sure.
+#![tactic(auto)]
+
+mod booking;
+mod held;
+pub mod laws;
+mod number;
+mod outcome;
+mod rule;
+mod statement_line;
+mod token;
+mod waiting;
+
+pub use booking::Booking;
+pub use held::Held;
+pub use outcome::Outcome;
+pub use rule::outcomes_of;
+pub use statement_line::StatementLine;
+pub use waiting::WaitingEntry;

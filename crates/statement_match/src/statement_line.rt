@@ -1,0 +1,222 @@
+// Lines of a statement, with what their words show.
+
+ghost use Rattle.std.specs.Prelude.{◌≡◌, IfOk, find, option_copied};
+ghost use Rattle.std.specs.List.{list_any};
+ghost use Rattle.std.specs.Str.{bytes_eq};
+ghost use Rattle.statement_match.specs.Bookings.{booking_of, is_beside, is_same_booking};
+ghost use Rattle.statement_match.specs.Showing.{begins_with_reference as begins_with_reference_text, fits, has_reference as has_reference_text, is_charge as is_charge_word, is_correction as is_correction_word, is_other_business as is_other_line, is_other_word as is_other_word_text, shows};
+ghost use Rattle.statement_match.specs.Numbers.{is_among as is_among_numbers, line_numbers};
+ghost use Rattle.statement_match.specs.Rule.{claimed_reference, is_named_like, is_open, is_open_fit, is_open_like};
+
+use crate::number::{Number, is_among, line_numbers_of};
+use crate::token::{Token, byte_at, is_digit, tokens_of};
+use crate::waiting::WaitingEntry;
+use std::alloc::{AllocError, Global};
+use std::marker::Model;
+use trust_base::{BankText, Day, Line};
+
+/// A line of a statement, with what its words show, which is found once.
+///
+/// Contracts see it as the line.
+#[derive(Drop)]
+pub struct StatementLine {
+    line: Line,
+    numbers: Vec<Number>,
+    is_other_business: bool,
+}
+
+impl Model for StatementLine {
+    ghost use Rattle.std.specs.Prelude.{◌≡◌};
+    ghost use Rattle.trust_base.specs.declared.line.Line.{Line};
+    ghost use Rattle.statement_match.specs.Numbers.{line_numbers};
+    ghost use Rattle.statement_match.specs.Showing.{is_other_business as tells_other_business};
+
+    ghost Value = { Line };
+
+    ghost view = { λ l. l.line };
+
+    ghost invariant = { λ l.
+        (l.numbers.items ≡ line_numbers l.line) × (l.is_other_business ≡ tells_other_business l.line) };
+}
+
+// Does a word tell of a return or of a correction?
+fn is_correction(word: &[u8]) -> bool
+    ensures { result ≡ is_correction_word word.now }
+{
+    word.starts_with(b"return")
+        || word.starts_with(b"rtn")
+        || word.starts_with(b"revers")
+        || word.starts_with(b"nsf")
+        || word.starts_with(b"correct")
+        || word.starts_with(b"adjust")
+}
+
+// Does a word tell of a charge?
+fn is_charge(word: &[u8]) -> bool
+    ensures { result ≡ is_charge_word word.now }
+{
+    word.starts_with(b"fee") || word.starts_with(b"charg") || word.starts_with(b"chg")
+}
+
+// Does a word tell of other business?
+#[tactic(auto, unfolding(crate::specs::Showing::is_other_word))]
+fn is_other_word(went_out: bool, word: &[u8]) -> bool
+    ensures { result ≡ is_other_word_text went_out word.now }
+{
+    is_correction(word) || (went_out && is_charge(word))
+}
+
+// Does a token tell of other business?
+fn has_other_word(went_out: bool, tokens: &[Token]) -> bool
+    ensures { result ≡ list_any (is_other_word_text went_out) tokens.now }
+{
+    tokens
+        .iter()
+        .any(|token| is_other_word(went_out, token.as_slice()))
+}
+
+// Is it the line of other business than an entry's?
+#[tactic(auto, unfolding(crate::specs::Showing::is_other_business))]
+fn is_other_business(alloc: Global, line: &Line) -> Result<bool, AllocError>
+    ensures { IfOk result (λ is. is ≡ is_other_line line.now) }
+{
+    let tokens = tokens_of(alloc, line.text.as_slice())?;
+    Ok(has_other_word(line.amount.get() < 0, &tokens))
+}
+
+// Does the text begin with the reference, with no digit behind it?
+#[tactic(auto, unfolding(crate::specs::Showing::begins_with_reference))]
+fn begins_with_reference(reference: &[u8], text: &[u8]) -> bool
+    ensures { result ≡ begins_with_reference_text reference.now text.now }
+{
+    text.starts_with(reference) && !is_digit(byte_at(text, reference.len()))
+}
+
+// Does the reference stand in the text, with no digit behind it?
+#[tactic(auto, using(crate::proofs::Parting::reference_found, crate::proofs::Parting::reference_later, crate::proofs::Parting::reference_nil, std::proofs::lemmas::List::drop_all))]
+fn has_reference(reference: &[u8], text: &[u8]) -> bool
+    ensures { result ≡ has_reference_text reference.now text.now }
+{
+    for place in 0..text.len() {
+        if begins_with_reference(reference, &text[place..]) {
+            return true;
+        }
+    }
+    false
+}
+
+impl StatementLine {
+    /// The line, with what its words show. Fails only for want of memory.
+    pub fn of(alloc: Global, line: Line) -> Result<StatementLine, AllocError>
+        ensures { IfOk result (λ same. same ≡ line) }
+    {
+        let numbers = line_numbers_of(alloc, &line)?;
+        let is_other_business = is_other_business(alloc, &line)?;
+        Ok(StatementLine {
+            line,
+            numbers,
+            is_other_business,
+        })
+    }
+
+    /// The line.
+    pub fn line(&self) -> &Line
+        ensures { result.now ≡ self.now }
+    {
+        &self.line
+    }
+
+    /// Has it no reference?
+    pub(crate) fn is_open(&self) -> bool
+        ensures { result ≡ is_open self.now }
+    {
+        self.line.reference.as_slice().is_empty()
+    }
+
+    /// Is another of the same date and bank reference?
+    pub(crate) fn is_beside(&self, other: &StatementLine) -> bool
+        ensures { result ≡ is_beside (booking_of self.now) (booking_of other.now) }
+    {
+        self.line.date.get() == other.line.date.get()
+            && self.line.bank_ref.is_same(&other.line.bank_ref)
+    }
+
+    /// Is another an open one of the same date, bank reference and amount?
+    pub(crate) fn is_open_like(&self, other: &StatementLine) -> bool
+        ensures { result ≡ is_open_like self.now other.now }
+    {
+        other.is_open()
+            && (self.is_beside(other) && self.line.amount.get() == other.line.amount.get())
+    }
+
+    /// Is an exception this line but for its reference, and has it one?
+    pub(crate) fn is_named_like(&self, exception: &Line) -> bool
+        ensures { result ≡ is_named_like self.now exception.now }
+    {
+        self.line.date.get() == exception.date.get()
+            && self.line.bank_ref.is_same(&exception.bank_ref)
+            && self.line.amount.get() == exception.amount.get()
+            && self.line.text.is_same(&exception.text)
+            && !exception.reference.as_slice().is_empty()
+    }
+
+    #[tactic(auto, unfolding(crate::specs::Rule::exception_reference))]
+    /// Has the record this reference by itself: its own, or that of its exception?
+    pub(crate) fn claims(&self, exceptions: &[Line], reference: &BankText) -> bool
+        ensures { result ≡ bytes_eq (claimed_reference exceptions.now self.now) reference.now }
+    {
+        if !self.is_open() {
+            return self.line.reference.is_same(reference);
+        }
+        match self.exception_in(exceptions) {
+            Some(exception) => exception.reference.is_same(reference),
+            None => reference.as_slice().is_empty(),
+        }
+    }
+
+    /// The first exception that it is but for its reference.
+    pub(crate) fn exception_in<'a>(&self, exceptions: &'a [Line]) -> Option<&'a Line>
+        ensures { option_copied result ≡ find (is_named_like self.now) exceptions.now }
+    {
+        exceptions
+            .iter()
+            .find(|exception| self.is_named_like(exception))
+    }
+
+    // Has it a number of the entry?
+    fn has_number_of(&self, entry: &WaitingEntry) -> bool
+        ensures { result ≡ list_any (is_among_numbers entry.now.numbers) (line_numbers self.now) }
+    {
+        self.numbers
+            .iter()
+            .any(|number| is_among(&entry.numbers, number))
+    }
+
+    // Does it show the entry?
+    #[tactic(auto, unfolding(crate::specs::Showing::shows))]
+    fn shows(&self, entry: &WaitingEntry) -> bool
+        ensures { result ≡ shows self.now entry.now }
+    {
+        self.has_number_of(entry)
+            || has_reference(entry.reference.as_slice(), self.line.text.as_slice())
+    }
+
+    /// Does it fit the entry, on a business day?
+    #[tactic(auto, unfolding(crate::specs::Showing::fits))]
+    pub(crate) fn fits(&self, today: Day, entry: &WaitingEntry) -> bool
+        ensures { result ≡ fits today self.now entry.now }
+    {
+        self.line.date.get() <= today.get()
+            && self.line.amount.get() == entry.amount
+            && entry.since <= self.line.date.get()
+            && !self.is_other_business
+            && self.shows(entry)
+    }
+
+    /// Is it an open line that fits the entry?
+    pub(crate) fn is_open_fit(&self, today: Day, entry: &WaitingEntry) -> bool
+        ensures { result ≡ is_open_fit today entry.now self.now }
+    {
+        self.is_open() && self.fits(today, entry)
+    }
+}
