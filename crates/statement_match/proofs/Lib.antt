@@ -1,6 +1,9 @@
+pub mod Collected
 pub mod Filling
+pub mod Firms
 pub mod Less
 pub mod Parting
 pub mod Picks
+pub mod References
 pub mod Totals
 pub mod Writing

@@ -1,4 +1,6 @@
 pub mod Bookings
+pub mod Books
+pub mod FirmLaws
 pub mod Laws
 pub mod Numbers
 pub mod Rule

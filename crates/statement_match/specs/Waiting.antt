@@ -1,5 +1,6 @@
 -- An entry that waits for the bank.
-use Rattle.std.specs.Prelude.{ℕ, ℤ, List}
+use Rattle.std.specs.Prelude.{ℕ, ℤ, pos, ◌-ℤ◌, List, ◌++◌}
+use Rattle.statement_match.specs.Numbers.{numbers as numbers_of, telling_numbers}
 
 -- a deposit that is held, or a payment that is issued
 pub record Waiting : Type 0 where
@@ -11,3 +12,21 @@ pub record Waiting : Type 0 where
   pub since : ℕ
   -- the numbers by which it is known
   pub numbers : List (List ℕ)
+
+-- a deposit that is held: it may be booked after the bank had it, and is known by the telling numbers of its texts
+abbrev pub waiting_deposit : List ℕ → ℕ → List ℕ → List ℕ → Waiting
+waiting_deposit reference amount source description = record {
+  reference = reference;
+  amount = pos amount;
+  since = 0;
+  numbers = telling_numbers source ++ telling_numbers description;
+}
+
+-- a payment that was issued on a day: it is known by the numbers of its instrument
+abbrev pub waiting_payment : List ℕ → ℕ → ℕ → List ℕ → Waiting
+waiting_payment reference amount issued instrument = record {
+  reference = reference;
+  amount = pos 0 -ℤ pos amount;
+  since = issued;
+  numbers = numbers_of instrument;
+}

@@ -1,5 +1,6 @@
 //! Laws over the definitions, each the contract of a function with nothing to do.
 
+ghost use Rattle.statement_match.specs.FirmLaws.{FilledWaits, OtherMattersOnlyTakeAway};
 ghost use Rattle.statement_match.specs.Laws.{FillsWhatIsSure, FillsWithWaiting, MoreOnlyTakesAway, NoneIsNamedTwice, OnlyReferencesChange, TwoEntriesAreLeft, TwoLinesAreLeft};
 
 /// A line is filled exactly with the entry of which it is sure: it has no reference, it is neither in the book already
@@ -37,4 +38,16 @@ pub fn none_is_named_twice()
 /// take a filling away.
 pub fn more_only_takes_away()
     ensures { MoreOnlyTakesAway }
+{}
+
+/// The reference with which a line is filled over a firm is that of a deposit that is held or of a payment that is
+/// issued: never `FIRM` or a balance, and never a return.
+pub fn filled_waits()
+    ensures { FilledWaits }
+{}
+
+/// Other matters' rows can only take a filling away: a line that is filled over a firm, and fits an entry of a matter,
+/// is filled with the same over that firm with the rows of some matters alone, if that is one of them.
+pub fn other_matters_only_take_away()
+    ensures { OtherMattersOnlyTakeAway }
 {}

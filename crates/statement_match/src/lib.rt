@@ -2,6 +2,7 @@
 #![tactic(auto)]
 
 mod booking;
+mod collecting;
 mod held;
 pub mod laws;
 mod number;
@@ -12,6 +13,7 @@ mod token;
 mod waiting;
 
 pub use booking::Booking;
+pub use collecting::held_in;
 pub use held::Held;
 pub use outcome::Outcome;
 pub use rule::outcomes_of;

@@ -1,10 +1,12 @@
 // Entries that wait for the bank.
 
-ghost use Rattle.std.specs.Prelude.{◌≡◌};
+ghost use Rattle.std.specs.Prelude.{◌≡◌, IfOk};
+ghost use Rattle.statement_match.specs.Waiting.{waiting_deposit, waiting_payment};
 
-use crate::number::Number;
+use crate::number::{Number, numbers_of, telling_of};
+use std::alloc::{AllocError, Global};
 use std::marker::Model;
-use trust_base::BankText;
+use trust_base::{BankText, Cents, Day};
 
 /// An entry that waits for the bank: a deposit that is held, or a payment that is issued.
 ///
@@ -24,4 +26,46 @@ impl Model for WaitingEntry {
     ghost Value = { Waiting };
 
     ghost view = { λ w. record { reference = w.reference; amount = w.amount; since = w.since; numbers = w.numbers.items } };
+}
+
+impl WaitingEntry {
+    /// A deposit that is held, of this reference, amount, source and description. Fails only for want of memory.
+    pub fn deposit(
+        alloc: Global,
+        reference: BankText,
+        amount: Cents,
+        source: &[u8],
+        description: &[u8],
+    ) -> Result<WaitingEntry, AllocError>
+        ensures { IfOk result (λ w. w ≡ waiting_deposit reference amount source.now description.now) }
+    {
+        let mut numbers = telling_of(alloc, source)?;
+        let mut more = telling_of(alloc, description)?;
+        numbers.append(&mut more)?;
+        Ok(WaitingEntry {
+            reference,
+            amount: amount.get() as i64,
+            since: 0,
+            numbers,
+        })
+    }
+
+    /// A payment that was issued on a day, of this reference, amount and instrument. Fails only for want of memory.
+    pub fn payment(
+        alloc: Global,
+        reference: BankText,
+        amount: Cents,
+        issued: Day,
+        instrument: &[u8],
+    ) -> Result<WaitingEntry, AllocError>
+        ensures { IfOk result (λ w. w ≡ waiting_payment reference amount issued instrument.now) }
+    {
+        let numbers = numbers_of(alloc, instrument)?;
+        Ok(WaitingEntry {
+            reference,
+            amount: -(amount.get() as i64),
+            since: issued.get(),
+            numbers,
+        })
+    }
 }

@@ -1,0 +1,34 @@
+-- The reference of an entry is one of a bank's texts.
+use Rattle.std.proofs.Common.{◌≡◌, ◌∙◌, sym, ap, subst, ℕ, zero, suc, ◌+◌, ◌≤◌, ◌/◌, ◌%◌, Bool, true, ◌&&◌, List, [], ◌∷◌, ◌++◌, length, length-append, refl, arith}
+use Rattle.std.specs.List.{list_all}
+use Rattle.std.proofs.lemmas.Bool.{and_from, le-leb}
+use Rattle.std.proofs.lemmas.List.Folds.{list_all-append}
+use Rattle.byte_streams.specs.Digits.{fixed_digits}
+use Rattle.byte_streams.proofs.FixedFacts.{length-fixed}
+use Rattle.trust_base.specs.BankTexts.{is_bank_text, is_printed_byte}
+use Rattle.trust_base.specs.Texts.{entry_text, matter_text}
+use Rattle.statement_csv.specs.References.{reference_text}
+
+digit_printed : (n : ℕ) → is_printed_byte (48 + n % 10) ≡ true
+digit_printed n =
+    let low : 0x20 ≤ 48 + n % 10 = omega arith in
+    let high : 48 + n % 10 ≤ 0x7E = omega arith in
+    and_from _ _ (le-leb 0x20 (48 + n % 10) low) (le-leb (48 + n % 10) 0x7E high)
+
+digits_printed : (k n : ℕ) → list_all is_printed_byte (fixed_digits k n) ≡ true
+unfolding fixed_digits
+digits_printed zero n = refl
+digits_printed (suc k) n =
+    list_all-append is_printed_byte (fixed_digits k (n / 10)) ((48 + n % 10) ∷ [])
+    ∙ and_from _ _ (digits_printed k (n / 10)) (and_from _ _ (digit_printed n) refl)
+
+pub reference_is_text : (m e : ℕ) → is_bank_text (reference_text m e) ≡ true
+unfolding is_bank_text
+reference_is_text m e =
+    let six = length-fixed 6 m in
+    let four = length-fixed 4 e in
+    let both = length-append (matter_text m) (45 ∷ entry_text e) in
+    let short : length (reference_text m e) ≤ 64 = omega (arith, six, four, both) in
+    let rest = list_all-append is_printed_byte (matter_text m) (45 ∷ entry_text e)
+    ∙ and_from _ _ (digits_printed 6 m) (digits_printed 4 e) in
+    and_from _ _ (le-leb (length (reference_text m e)) 64 short) rest

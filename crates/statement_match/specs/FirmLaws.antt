@@ -1,0 +1,48 @@
+-- What becomes of the lines of a statement over the rows of a firm.
+use Rattle.std.specs.Prelude.{◌≡◌, ◌⊎◌, ℕ, Bool, true, List, Some}
+use Rattle.std.specs.List.{Contains}
+use Rattle.trust_base.specs.declared.line.Line.{Line}
+use Rattle.matter_rows.specs.declared.deposit.DepositState.TheVariants as deposit
+use Rattle.matter_rows.specs.declared.deposit.Deposit.{Deposit}
+use Rattle.matter_rows.specs.declared.payment.PaymentState.TheVariants as payment
+use Rattle.matter_rows.specs.declared.payment.Payment.{Payment}
+use Rattle.matter_rows.specs.declared.entry.Entry.TheVariants as entry
+use Rattle.firm_rows.specs.Firm.{EntryRow, Firm, Row}
+use Rattle.statement_csv.specs.References.{reference_text}
+use Rattle.statement_match.specs.Waiting.{Waiting}
+use Rattle.statement_match.specs.Showing.{fits}
+use Rattle.statement_match.specs.Rule.{becomes}
+use Rattle.statement_match.specs.Books.{held_of, row_waiting, with_matters}
+use Rattle.statement_match.specs.declared.outcome.Outcome.TheVariants as outcome
+
+-- Other matters' rows can only take a filling away: a line that is filled over a firm, and fits an entry of a matter, is
+-- filled with the same over that firm with the rows of some matters alone, if that is one of them.
+abbrev pub OtherMattersOnlyTakeAway : Type 0
+OtherMattersOnlyTakeAway =
+    (today : ℕ) (firm : Firm) (is_kept : ℕ → Bool) (lines : List Line) (line : Line) (reference : List ℕ)
+    (m : ℕ) (row : Row) (w : Waiting)
+    → is_kept m ≡ true → Contains firm.rows (m, row) → Contains (row_waiting (m, row)) w → fits today line w ≡ true
+    → becomes today (held_of firm) lines line ≡ outcome.Filled reference
+    → becomes today (held_of (with_matters is_kept firm)) lines line ≡ outcome.Filled reference
+
+-- the row is of a deposit that is held
+pub record IsHeldRow (row : Row) (n : ℕ) : Type 0 where
+  pub made : Deposit
+  pub is : row ≡ EntryRow n (entry.Deposit made)
+  pub held : made.state ≡ deposit.Held
+
+-- or of a payment that is issued
+pub record IsIssuedRow (row : Row) (n : ℕ) : Type 0 where
+  pub made : Payment
+  pub day : ℕ
+  pub is : row ≡ EntryRow n (entry.Payment made)
+  pub issued : made.state ≡ payment.Issued day
+
+-- the reference with which a line is filled is that of a deposit that is held or a payment that is issued: it is not
+-- FIRM, no balance, and no cleared deposit, whose money would go back
+abbrev pub FilledWaits : Type 0
+FilledWaits =
+    (today : ℕ) (firm : Firm) (lines : List Line) (line : Line) (reference : List ℕ)
+    → becomes today (held_of firm) lines line ≡ outcome.Filled reference
+    → (m : ℕ) × (n : ℕ) × (row : Row) × Contains firm.rows (m, row) × (reference ≡ reference_text m n)
+    × (IsHeldRow row n ⊎ IsIssuedRow row n)
