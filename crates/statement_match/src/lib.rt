@@ -11,6 +11,7 @@ mod rule;
 mod statement_line;
 mod token;
 mod waiting;
+mod written;
 
 pub use booking::Booking;
 pub use collecting::held_in;
@@ -19,3 +20,4 @@ pub use outcome::Outcome;
 pub use rule::outcomes_of;
 pub use statement_line::StatementLine;
 pub use waiting::WaitingEntry;
+pub use written::{match_lines, written_lines};

@@ -176,9 +176,9 @@ fn fill_of(
     }
 }
 
-// What becomes of a line.
+/// What becomes of a line. Fails only for want of memory.
 #[tactic(auto, unfolding(crate::specs::Rule::becomes))]
-fn outcome_of(
+pub(crate) fn outcome_of(
     today: Day,
     held: &Held,
     lines: &[StatementLine],
