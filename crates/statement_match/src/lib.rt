@@ -9,6 +9,8 @@ mod number;
 mod outcome;
 mod rule;
 mod statement_line;
+#[cfg(test)]
+mod tests;
 mod token;
 mod waiting;
 mod written;
