@@ -45,10 +45,17 @@ impl Number {
         })
     }
 
+    /// The digits.
+    pub(crate) fn as_slice(&self) -> &[u8]
+        ensures { result.now ≡ self.now }
+    {
+        self.digits.as_slice()
+    }
+
     fn is_same(&self, other: &Number) -> bool
         ensures { result ≡ bytes_eq self.now other.now }
     {
-        self.digits.as_slice() == other.digits.as_slice()
+        self.as_slice() == other.as_slice()
     }
 }
 

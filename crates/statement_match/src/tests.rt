@@ -2,6 +2,7 @@
 
 use crate::booking::Booking;
 use crate::held::Held;
+use crate::number::{Number, numbers_of, telling_of};
 use crate::outcome::Outcome;
 use crate::rule::outcomes_of;
 use crate::statement_line::StatementLine;
@@ -306,4 +307,134 @@ fn day_of_three_matters(rt: HostRuntime) {
         alloc, &held, LINES,
     ));
     assert_eq!(rt; found, Ok(None));
+}
+
+// An exception under a reference, a reference that a record has, a slip in parts, and lines that are doubled.
+const EXCEPTIONS: &[Record] = &[[
+    "2026-03-05",
+    "M000001-0010",
+    "C1",
+    "2500.00",
+    "DEPOSIT CHECK 2291",
+]];
+
+const IN_PARTS: &[Booked] = &[
+    ("2026-03-06", "C20", "700.00"),
+    ("2026-03-06", "C20", "500.00"),
+    ("2026-03-06", "C22", "60.00"),
+];
+
+const OTHERS: &[(Record, &str)] = &[
+    (
+        ["2026-03-05", "", "C1", "2500.00", "DEPOSIT CHECK 2291"],
+        "M000001-0010",
+    ),
+    (
+        ["2026-03-05", "M000002-0001", "C2", "2500.00", "DEPOSIT"],
+        "as it is",
+    ),
+    (
+        ["2026-03-05", "", "C3", "2500.00", "DEPOSIT SLIP 417"],
+        "left",
+    ),
+    (
+        ["2026-03-06", "", "C20", "1200.00", "DEPOSIT SLIP 418"],
+        "in the book",
+    ),
+    (
+        [
+            "2026-03-06",
+            "",
+            "C21",
+            "700.00",
+            "WIRE M000002-0002, COSTS",
+        ],
+        "M000002-0002",
+    ),
+    (["2026-03-06", "", "C22", "60.00", "ATM DEPOSIT"], "doubled"),
+    (["2026-03-06", "", "C22", "60.00", "ATM DEPOSIT"], "doubled"),
+    (
+        ["2026-03-06", "", "C23", "500.00", "WIRE M000003-00041"],
+        "left",
+    ),
+    (["2026-03-03", "", "C24", "-85.00", "CHECK 1003"], "left"),
+    (
+        ["2026-03-04", "", "C25", "-15.00", "CHECK 1006"],
+        "M000001-0007",
+    ),
+];
+
+#[test]
+fn other_cases(rt: HostRuntime) {
+    let alloc = rt.alloc();
+    let found = held_by(alloc, WAITING, IN_PARTS, EXCEPTIONS).and_then(|held| first_other(
+        alloc, &held, OTHERS,
+    ));
+    assert_eq!(rt; found, Ok(None));
+}
+
+// Texts, and their telling numbers, each with a space before it.
+const TELLING: &[(&str, &str)] = &[
+    ("03/19/2026 2026-03-19 2,500.00 14:12 22-1045 1.2", ""),
+    ("TRN:5310271", " 5310271"),
+    ("CHK1001", " 1001"),
+    ("#0417", ""),
+    ("CHECK # 1001", " 1001"),
+    ("check no. 1001", " 1001"),
+    ("slip num 1001, cheque 2002 ck 003003", " 1001 2002 3003"),
+    ("DEPOSIT ID NUMBER 0417", " 417"),
+    ("ID 0417", ""),
+    ("NO 1001", ""),
+    ("CHECK COPY 1001", ""),
+    ("CHECK 12", ""),
+    ("CHECK 0012", ""),
+    ("CHECK 123", " 123"),
+    ("12345", ""),
+    ("123456", " 123456"),
+    ("0012345", ""),
+    ("1234567,", " 1234567"),
+    ("123456-7", ""),
+    ("CHECK 1001-1002", ""),
+];
+
+fn joined(alloc: Global, numbers: &[Number]) -> Result<Vec<u8>, AllocError> {
+    let mut text = Vec::new(alloc);
+    for number in numbers {
+        text.push(b' ')?;
+        text.extend_from_slice(number.as_slice())?;
+    }
+    Ok(text)
+}
+
+fn telling_joined(alloc: Global, text: &str) -> Result<Vec<u8>, AllocError> {
+    let numbers = telling_of(alloc, text.as_bytes())?;
+    joined(alloc, &numbers)
+}
+
+#[test]
+fn telling_numbers_of_texts(rt: HostRuntime) {
+    for (text, wanted) in TELLING {
+        let found = telling_joined(rt.alloc(), text);
+        assert!(rt;
+            matches!(&found, Ok(bytes) if bytes.as_slice() == wanted.as_bytes()),
+            "{text}"
+        );
+    }
+}
+
+#[test]
+fn numbers_of_instruments(rt: HostRuntime) {
+    for (text, wanted) in [
+        ("1001", " 1001"),
+        ("No. 1001", " 1001"),
+        ("wire 482113377", " 482113377"),
+        ("#0417", " 417"),
+    ] {
+        let found = numbers_of(rt.alloc(), text.as_bytes());
+        let joined = found.and_then(|numbers| joined(rt.alloc(), &numbers));
+        assert!(rt;
+            matches!(&joined, Ok(bytes) if bytes.as_slice() == wanted.as_bytes()),
+            "{text}"
+        );
+    }
 }
