@@ -48,12 +48,11 @@ function readEntry(line) {
 export function readCard(text) {
     const lines = text.split('\n');
     const [, matter, client] = /^LEDGER (\d{6}) (.*)$/su.exec(lines[0]);
-    const [, opened, closed] = /^OPENED (\S+) CLOSED (\S+)$/.exec(lines[1]);
+    const [, closed] = /^OPENED \S+ CLOSED (\S+)$/.exec(lines[1]);
     const sums = lines.slice(-7, -1).map((line, i) => [SUMS[i], line.slice(10).trim()]);
     return {
         matter,
         client,
-        opened,
         closed: closed === '-' ? null : closed,
         balances: Object.fromEntries(sums),
         entries: lines.slice(2, -7).map(readEntry),

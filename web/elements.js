@@ -37,7 +37,21 @@ export const p = (...inside) => el('p', {}, ...inside);
 export const quiet = (...inside) => el('p', { class: 'quiet' }, ...inside);
 export const strong = (...inside) => el('strong', {}, ...inside);
 export const link = (href, ...inside) => el('a', { href }, ...inside);
-export const button = (words, click, kind = 'plain') => el('button', { type: 'button', class: kind, click }, words);
+
+// As long as what a click began is under way, another one does nothing: what is done twice is refused as done already.
+export function button(words, click, kind = 'plain') {
+    let isBusy = false;
+    const once = async (event) => {
+        if (isBusy) return;
+        isBusy = true;
+        try {
+            await click(event);
+        } finally {
+            isBusy = false;
+        }
+    };
+    return el('button', { type: 'button', class: kind, click: once }, words);
+}
 
 export const money = (amount) => el('span', { class: isNothing(amount) ? 'money nothing' : 'money' }, grouped(amount));
 export const number = (text) => el('span', { class: 'number' }, text);

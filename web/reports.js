@@ -23,8 +23,8 @@ export const readRetention = (text) =>
 
 export const readJournal = (text) =>
     linesOf(text).slice(1).map((line) => {
-        const [day, reference, amount, sum] = line.split(' ');
-        return { day, reference, amount, sum };
+        const [day, , , sum] = line.split(' ');
+        return { day, sum };
     });
 
 export const countLines = (text) => linesOf(text).length - 1;

@@ -34,7 +34,9 @@ async function search(page) {
     let day = dayOf(today.text);
     for (let tries = 0; tries < DAYS_BACK && mine === page.draws; tries += 1, day = dayBefore(day)) {
         page.say(`Looking at ${day}`);
-        if ((await page.desk.read(`/firm/reconciliation/${day}`)).isDone) return go(`#/reconciliation/${day}`);
+        const answer = await page.desk.read(`/firm/reconciliation/${day}`);
+        if (answer.isDone) return go(`#/reconciliation/${day}`);
+        if (answer.body?.name !== 'NoStatement') return go(location.hash, refusedBox(answer, page.person));
     }
     return go(location.hash, noteBox(p(`No statement ended in the last ${DAYS_BACK} days.`)));
 }
