@@ -31,17 +31,23 @@ class Turns {
     }
 }
 
-// `isUnknown`: nobody can say whether what was asked was done. `body` is the object of a JSON answer.
-const answerOf = (reply, text) => ({
-    status: reply.status,
-    isDone: reply.ok,
-    isUnknown: reply.status >= 500 || reply.status === 408,
-    person: reply.status === 401 ? null : reply.headers.get('x-person'),
-    body: reply.headers.get('content-type') === 'application/json' ? JSON.parse(text) : null,
-    text,
-});
+// `isUnknown`: nobody can say whether what was asked was done. `body` is the object of a JSON answer, `bytes` are those
+// of any answer.
+function answerOf(reply, bytes) {
+    const text = new TextDecoder().decode(bytes);
+    return {
+        status: reply.status,
+        isDone: reply.ok,
+        isUnknown: reply.status >= 500 || reply.status === 408,
+        person: reply.status === 401 ? null : reply.headers.get('x-person'),
+        body: reply.headers.get('content-type') === 'application/json' ? JSON.parse(text) : null,
+        text,
+        bytes,
+    };
+}
 
-const NO_ANSWER = { status: 0, isDone: false, isUnknown: true, person: null, body: null, text: '' };
+const NO_ANSWER =
+    { status: 0, isDone: false, isUnknown: true, person: null, body: null, text: '', bytes: new Uint8Array() };
 
 // An address that was opened with a password in it can't be a base for paths, hence the origin.
 async function ask(method, path, body) {
@@ -49,7 +55,7 @@ async function ask(method, path, body) {
         const headers = body === undefined ? {} : { 'content-type': 'text/plain' };
         const options = { method, body, headers, cache: 'no-store', redirect: 'error' };
         const reply = await fetch(location.origin + path, options);
-        return answerOf(reply, await reply.text());
+        return answerOf(reply, new Uint8Array(await reply.arrayBuffer()));
     } catch {
         return NO_ANSWER;
     }

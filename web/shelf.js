@@ -1,16 +1,20 @@
-// What the browser keeps for a person: numbers of matters that were looked at, the day of the last statement, and asks
-// that were not answered. Nothing else stays.
+// What the browser keeps for a person: numbers of matters that were looked at, the day of the last statement, asks that
+// were not answered, and a bank's file that is not imported yet. Nothing else stays.
 
 export const ASKS = 'asks';
 export const MATTERS = 'matters';
 export const STATEMENT = 'statement';
+export const FILE = 'file';
+export const TYPED = 'typed';
 
 export class Shelf {
     constructor(person) {
         this.person = person;
+        this.unkept = new Map(); // what the browser did not take: it lasts as long as the page is open
     }
 
     read(name) {
+        if (this.unkept.has(name)) return this.unkept.get(name);
         try {
             return JSON.parse(localStorage.getItem(this.key(name))) ?? [];
         } catch {
@@ -22,8 +26,9 @@ export class Shelf {
         try {
             if (list.length) localStorage.setItem(this.key(name), JSON.stringify(list));
             else localStorage.removeItem(this.key(name));
+            this.unkept.delete(name);
         } catch {
-            // A browser that keeps nothing: the page works, and an ask is kept as long as its form is open.
+            this.unkept.set(name, list); // a browser that keeps nothing, or not so much
         }
     }
 

@@ -6,10 +6,9 @@ import typing
 
 from .browser import Browser
 from .checks import Checks
-from .firm import Desk, Firm
+from .firm import HEAD, Desk, Firm
 
 DAY = "2024-01-31"
-HEAD = "date,reference,bank_ref,amount,text\n"
 MATTERS = 60
 ENTRIES = 12
 SEED = 1

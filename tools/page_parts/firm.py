@@ -20,6 +20,7 @@ CONFIGURATION = ROOT / "examples" / "operations" / "nginx.conf"
 PEOPLE = ["cashier", "lee", "sato", "ada", "bob", "cleo", "eve", "Lee"]
 STARTED = 10_800  # ./cashier may prove and build the program first
 LATE = 2  # seconds until nginx gives up, in the place of the configuration's
+HEAD = "date,reference,bank_ref,amount,text\n"  # the first line of a statement
 
 Answer = tuple[int, str, dict[str, str]]
 Change = typing.Callable[[str], str]  # of the configuration's text
@@ -104,6 +105,7 @@ class Relay(socketserver.ThreadingMixIn, http.server.HTTPServer):
         self.desk = desk
         self.port = self.server_address[1]
         self.faults: list[tuple[re.Pattern[str], Fault]] = []
+        self.imported: list[bytes] = []  # the statements that the desk was handed
         threading.Thread(target=self.serve_forever, daemon=True).start()
 
     def fail(self, pattern: str, fault: Fault, times: int = 1) -> None:
@@ -137,6 +139,8 @@ class Relayed(http.server.BaseHTTPRequestHandler):
     def asked(self) -> tuple[int, str, bytes]:
         """The desk's own answer."""
         body = self.rfile.read(int(self.headers.get("content-length", "0")))
+        if self.path == "/firm/statements":
+            self.server.imported.append(body)
         line = http.client.HTTPConnection("127.0.0.1", self.server.desk.port, timeout=60)
         line.request(self.command, self.path, body or None, {"x-caller": self.headers.get("x-caller", "")})
         reply = line.getresponse()

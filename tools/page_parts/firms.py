@@ -1,17 +1,9 @@
 """Firms to look at: the month of examples/month, and one of two hundred matters."""
 import pathlib
-import subprocess
 
-from .firm import ROOT, Desk
+from .firm import HEAD, ROOT, Desk
 
 MONTH = ROOT / "examples" / "month"
-HEAD = "date,reference,bank_ref,amount,text\n"
-
-
-def run(program: str, book: pathlib.Path, day: str, words: list[str], standard_input: bytes = b"") -> None:
-    """One run of the program over the book; what it prints is compared elsewhere."""
-    subprocess.run([program, "--db", str(book), "--today", day, *words], input=standard_input,
-                   stdout=subprocess.DEVNULL, check=False)
 
 
 def play_month(program: str, book: pathlib.Path, until: str) -> None:
@@ -20,10 +12,11 @@ def play_month(program: str, book: pathlib.Path, until: str) -> None:
         day, command, taken = step.split()
         if taken == until:
             return
+        desk = Desk(program, book, day)
         if command == "import":
-            run(program, book, day, ["import", str(MONTH / taken)])
+            desk.run("import", str(MONTH / taken))
         else:
-            run(program, book, day, [command], (MONTH / taken).read_bytes())
+            desk.run(command, text=(MONTH / taken).read_bytes().decode())
 
 
 def sheet_of_many(matters: int, entries: int) -> str:

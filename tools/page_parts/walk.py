@@ -3,10 +3,9 @@ import pathlib
 
 from .browser import Browser
 from .checks import Checks
-from .firm import Desk, Fault, Firm
+from .firm import HEAD, Desk, Fault, Firm
 
 DAY = "2024-01-10"
-HEAD = "date,reference,bank_ref,amount,text\n"
 STATEMENT = HEAD + """2024-01-02,OPEN,,0.00,Opening balance
 2024-01-03,FIRM,0103-0112,100.00,"Deposit, firm's own, for the bank's charges"
 2024-01-04,M000001-0001,0104-0875,5000.00,"Deposit, check 2291"
@@ -77,7 +76,7 @@ def deposit(walk: Walk, matter: str, amount: str, source: str, description: str)
 
 def book_deposits(walk: Walk) -> None:
     deposit(walk, "000001", "12,5", "", "x")
-    walk.has(walk.cashier, "Write dollars and cents", "Write 1 to 80 letters")
+    walk.has(walk.cashier, "Write dollars and cents", "Write 1 to 80 bytes")
     walk.focus(walk.cashier, "amount")
     deposit(walk, "000001", "5,000", "Ada Chen", "advance on fees and costs")
     walk.has(walk.cashier, f"Booked on {DAY}: deposit of 5,000.00, entry 0001 of matter 000001",

@@ -2,6 +2,7 @@
 
 import { button, el, p, printed } from '../elements.js';
 import { dayOf } from '../reports.js';
+import { dismissal } from './exceptions.js';
 
 // Of a long report the end is shown first.
 const LAST = 1000;
@@ -32,5 +33,6 @@ export async function report(page, name) {
         place.append(p(`The last ${LAST} of ${lines.length - 2} lines.`), p(button('Show all', showAll)),
             ...printed([lines[0], ...lines.slice(-LAST - 1)].join('\n'), path, file));
     }
-    return { title: NAMES[name], parts: [reportsList(name), place] };
+    const more = name === 'exceptions' && dismissal(page, text);
+    return { title: NAMES[name], parts: [reportsList(name), place, more] };
 }

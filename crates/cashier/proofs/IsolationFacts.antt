@@ -1,13 +1,20 @@
 -- The lines of one matter among those of others.
-use Rattle.std.proofs.Common.{◌≡◌, ◌∙◌, ℕ, Bool, true, false, List, [], ◌∷◌, Option, Some, None, Result, Ok, Err, refl, sym, ap}
+use Rattle.std.proofs.Common.{◌≡◌, ◌∙◌, ◌&&◌, ℕ, Bool, true, false, cond, List, [], ◌∷◌, length, Option, Some, None, Result, Ok, Err, refl, sym, ap, arith}
+use Rattle.std.specs.Prelude.{◌==◌}
+use Rattle.std.proofs.lemmas.Bool.Decides.{nat_tests}
 use Rattle.std.specs.List.{filter}
-use Rattle.trust_base.specs.Texts.{matter_of}
+use Rattle.byte_streams.proofs.FixedFacts.{length-fixed}
+use Rattle.trust_base.proofs.ReadFacts.{number-none}
+use Rattle.trust_base.specs.Texts.{matter_of, matter_text}
+use Rattle.statement_csv.specs.Lines.{line_of_texts}
+use Rattle.trust_base.specs.declared.line.Line.{Line}
 use Rattle.trust_base.specs.declared.refusal.Field.{Field}
+use Rattle.trust_base.specs.declared.refusal.Field.TheVariants as field
 use Rattle.trust_matter.specs.declared.ask.Ask.{Ask}
 use Rattle.firm_rows.specs.Firm.{Firm, of}
 use Rattle.trust_desk.specs.Heard.{concerns, is_the, names}
 use Rattle.trust_desk.proofs.Own.{other-rows, same-reply, same-rows}
-use Rattle.cashier.specs.Records.{ask_of, asked_of, by_cashier, of_matter, of_verb, text_at, verb_in}
+use Rattle.cashier.specs.Records.{ask_of, asked_of, by_cashier, dismissing, dismissing_in, is_dismissal, of_matter, of_verb, text_at, verb_in}
 use Rattle.cashier.specs.Sheet.{OwnRecordsAlone, heard_as, heard_of, lines_at, lines_from, names_matter, record_step, reply_line}
 use Rattle.cashier.specs.declared.record.Verb.{Verb}
 
@@ -25,9 +32,34 @@ of_some : (m : ℕ) (verb : Option Verb) (fields : List (List ℕ)) → names m 
 of_some m None fields = refl
 of_some m (Some v) fields = of_read m (matter_of (text_at fields 1)) (ask_of v fields)
 
+-- an empty text is no matter's
+six_is_none : (n : ℕ) → n ≡ 6 → n ≡ 0 → ⊥
+six_is_none n six none = absurd (omega (arith, six, none))
+
+no_text : (m : ℕ) → matter_text m ≡ [] → ⊥
+no_text m e = six_is_none (length (matter_text m)) (length-fixed 6 m) (ap length e)
+
+none_named : matter_of [] ≡ None
+none_named = number-none _ _ _ [] (λ m low high e. no_text m e)
+
+-- a record that dismisses a line names no matter, and its second field is none
+dismissed_named : (m : ℕ) (b : Bool) (line : Option Line) → names m (heard_as (cond b (dismissing line) (Err field.Record)) None) ≡ false
+dismissed_named m true None = refl
+dismissed_named m true (Some line) = refl
+dismissed_named m false line = refl
+
+formed_named : (m : ℕ) (a b : Bool) (second : List ℕ) (line : Option Line) → names m (heard_as (cond (a && (length second == 0) && b) (dismissing line) (Err field.Record)) (matter_of second)) ≡ is_the m (matter_of second)
+formed_named m false b second line = refl
+formed_named m true b [] line = rw none_named (dismissed_named m b line)
+formed_named m true b (x ∷ xs) line = let longer : (length (x ∷ xs) == 0) ≡ false = grind (arith, nat_tests) in rw longer refl
+
 same_matter : (m : ℕ) (fields : List (List ℕ)) → names m (heard_of fields) ≡ names_matter m fields
 unfolding heard_of asked_of
-same_matter m fields = of_some m (verb_in fields) fields
+same_matter m fields = cases (is_dismissal fields)
+  where
+    cases : (b : Bool) → names m (heard_as (cond b (dismissing_in fields) (of_verb (verb_in fields) fields)) (matter_of (text_at fields 1))) ≡ names_matter m fields
+    cases true = formed_named m (length fields == 8) (length (text_at fields 2) == 0) (text_at fields 1) (line_of_texts (text_at fields 3) (text_at fields 4) (text_at fields 5) (text_at fields 6) (text_at fields 7))
+    cases false = of_some m (verb_in fields) fields
 
 -- and so is the matter that it concerns
 concerned_by_cashier : (m n : ℕ) (asked : Result Ask Field) → concerns m (heard_as (by_cashier n asked) (Some n)) ≡ is_the m (Some n)
@@ -42,9 +74,23 @@ concerned_some : (m : ℕ) (verb : Option Verb) (fields : List (List ℕ)) → c
 concerned_some m None fields = refl
 concerned_some m (Some v) fields = concerned_read m (matter_of (text_at fields 1)) (ask_of v fields)
 
+dismissed_concern : (m : ℕ) (b : Bool) (line : Option Line) → concerns m (heard_as (cond b (dismissing line) (Err field.Record)) None) ≡ false
+dismissed_concern m true None = refl
+dismissed_concern m true (Some line) = refl
+dismissed_concern m false line = refl
+
+formed_concern : (m : ℕ) (a b : Bool) (second : List ℕ) (line : Option Line) → concerns m (heard_as (cond (a && (length second == 0) && b) (dismissing line) (Err field.Record)) (matter_of second)) ≡ is_the m (matter_of second)
+formed_concern m false b second line = refl
+formed_concern m true b [] line = rw none_named (dismissed_concern m b line)
+formed_concern m true b (x ∷ xs) line = let longer : (length (x ∷ xs) == 0) ≡ false = grind (arith, nat_tests) in rw longer refl
+
 same_concern : (m : ℕ) (fields : List (List ℕ)) → concerns m (heard_of fields) ≡ names_matter m fields
 unfolding heard_of asked_of
-same_concern m fields = concerned_some m (verb_in fields) fields
+same_concern m fields = cases (is_dismissal fields)
+  where
+    cases : (b : Bool) → concerns m (heard_as (cond b (dismissing_in fields) (of_verb (verb_in fields) fields)) (matter_of (text_at fields 1))) ≡ names_matter m fields
+    cases true = formed_concern m (length fields == 8) (length (text_at fields 2) == 0) (text_at fields 1) (line_of_texts (text_at fields 3) (text_at fields 4) (text_at fields 5) (text_at fields 6) (text_at fields 7))
+    cases false = concerned_some m (verb_in fields) fields
 
 -- ---- one record
 

@@ -1,5 +1,6 @@
 pub mod CallFacts
 pub mod IsolationFacts
+pub mod MatchingFacts
 pub mod ReportFacts
 pub mod RunFacts
 pub mod ServingFacts

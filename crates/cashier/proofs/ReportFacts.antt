@@ -45,7 +45,9 @@ report-makes day firm found (commands.Reconcile of) made = made
 report-makes day firm found commands.Trial made = made
 report-makes day firm found commands.Journal made = made
 report-makes day firm found commands.Retention made = made
+report-makes day firm found commands.Exceptions made = made
 report-makes day firm found (commands.Ledger m) made = made ∙ accounting-same _ day m firm
+report-makes day firm found commands.OwnLedger made = made
 
 pub report-leaves : {B : Type 0} {clean : B → Type 0} {leaves : B → Firm → Type 0} {done : Type 0} (day : ℕ) (firm after : Firm) (command : ReportCommand) (old new : B)
     → MayLeave clean leaves done (IsMade day firm (Asks (asked_for command))) firm after old new → LeavesOr firm (leaves old) (leaves new)

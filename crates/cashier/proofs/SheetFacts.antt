@@ -9,13 +9,16 @@ use Rattle.std.specs.Io.KnownBytes.{Appends}
 use Rattle.std.specs.List.{concat}
 use Rattle.trust_base.specs.Refusals.{is_fault}
 use Rattle.trust_base.specs.Texts.{matter_of}
+use Rattle.statement_csv.specs.Lines.{line_of_texts}
+use Rattle.trust_base.specs.declared.line.Line.{Line}
 use Rattle.trust_base.specs.declared.refusal.Field.{Field}
+use Rattle.trust_base.specs.declared.refusal.Field.TheVariants as field
 use Rattle.trust_base.specs.declared.refusal.Refusal.{Refusal}
 use Rattle.trust_base.specs.declared.refusal.Refusal.TheVariants.{BadField, Store, Memory}
 use Rattle.firm_rows.specs.Firm.{Firm}
 use Rattle.trust_desk.specs.Counts.{counted_body, counted_refusal}
 use Rattle.trust_desk.specs.FirmStep.{KindStopped, Steps, firm_step}
-use Rattle.trust_desk.specs.Heard.{Asks, Heard, Kind, NotRead, OfItems, OfMatter, OnlyTold, Unread, kind_of}
+use Rattle.trust_desk.specs.Heard.{Asks, Dismisses, Heard, Kind, NotRead, OfItems, OfMatter, OnlyTold, Unread, kind_of}
 use Rattle.trust_desk.specs.Replies.{is_fault_body, is_fault_reply, refused}
 use Rattle.trust_desk.specs.declared.requests.Body.{Body}
 use Rattle.trust_desk.specs.declared.requests.Body.TheVariants.{Json, Refused, Text}
@@ -24,7 +27,7 @@ use Rattle.trust_desk.specs.declared.requests.Request.{Request}
 use Rattle.trust_desk.proofs.Steps.{nothing-done, steps-fault as steps-stopped}
 use Rattle.trust_matter.specs.declared.ask.Ask.{Ask}
 use Rattle.ask_fields.specs.Fields.{Reads}
-use Rattle.cashier.specs.Records.{ask_of, asked_of, by_cashier, of_matter, of_verb, text_at, verb_in}
+use Rattle.cashier.specs.Records.{ask_of, asked_of, by_cashier, dismissing, dismissing_in, has_dismissal_form, is_dismissal, of_matter, of_verb, text_at, verb_in}
 use Rattle.cashier.specs.declared.record.Verb.{Verb}
 use Rattle.cashier.specs.Sheet.{Cut, CutsLine, Ends, LargeEnds, Leaves, RunEnds, sheet_records, all_accepted, body_line, body_kind, end_of, firm_from, heard_as, heard_of, is_accepting, lines_from, ran_by, record_step, refusal_kind, refusal_line, reply_kind, reply_line, IsCounted, RecordEnds}
 use Rattle.cashier.specs.declared.sheet.SheetEnd.{SheetEnd}
@@ -104,6 +107,7 @@ heard-bad fields f e = ap (λ (o : Result Request Field). heard_as o (matter_of 
 abbrev IsNoImport : Kind → Type 0
 IsNoImport (OfMatter m caller a) = ⊤
 IsNoImport (OfItems refused items) = ⊥
+IsNoImport (Dismisses caller line) = ⊤
 IsNoImport (OnlyTold text) = ⊤
 IsNoImport (NotRead named r) = ⊤
 
@@ -120,9 +124,21 @@ of_verb-none : (verb : Option Verb) (fields : List (List ℕ)) (named : Option �
 of_verb-none None fields named = tt
 of_verb-none (Some v) fields named = of_matter-none (matter_of (text_at fields 1)) (ask_of v fields) named
 
+dismissing-none : (line : Option Line) (named : Option ℕ) → IsNoImport (kind_of (heard_as (dismissing line) named))
+dismissing-none None named = tt
+dismissing-none (Some line) named = tt
+
+dismissal-none : (b : Bool) (line : Option Line) (named : Option ℕ) → IsNoImport (kind_of (heard_as (cond b (dismissing line) (Err field.Record)) named))
+dismissal-none true line named = dismissing-none line named
+dismissal-none false line named = tt
+
 record-none : (fields : List (List ℕ)) → IsNoImport (kind_of (heard_of fields))
 unfolding heard_of asked_of
-record-none fields = of_verb-none (verb_in fields) fields (matter_of (text_at fields 1))
+record-none fields = cases (is_dismissal fields)
+  where
+    cases : (b : Bool) → IsNoImport (kind_of (heard_as (cond b (dismissing_in fields) (of_verb (verb_in fields) fields)) (matter_of (text_at fields 1))))
+    cases true = dismissal-none (has_dismissal_form fields) (line_of_texts (text_at fields 3) (text_at fields 4) (text_at fields 5) (text_at fields 6) (text_at fields 7)) (matter_of (text_at fields 1))
+    cases false = of_verb-none (verb_in fields) fields (matter_of (text_at fields 1))
 
 -- a record that could not be read is refused, and changes nothing
 pub refused-step : (day : ℕ) (firm : Firm) (fields : List (List ℕ)) (r : Refusal) → Reads (asked_of fields) (Err r) → Steps day firm (heard_of fields) (refused r) firm
@@ -135,6 +151,7 @@ refused-step day firm fields _ h = absurd h
 stopped-is : (day : ℕ) (firm after : Firm) (k : Kind) → IsNoImport k → KindStopped day firm k after → after ≡ firm
 stopped-is day firm after (OfMatter m caller a) none s = s
 stopped-is day firm after (OfItems refused items) none s = absurd none
+stopped-is day firm after (Dismisses caller line) none s = s
 stopped-is day firm after (OnlyTold text) none s = s
 stopped-is day firm after (NotRead named r) none s = s
 

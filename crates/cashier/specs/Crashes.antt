@@ -50,6 +50,13 @@ module _ {B : Type 0} (clean sure stands lasts : B → Type 0) (leaves : B → F
     pub means : Means words today (task.Import path)
     pub items : LeavesItems today (known path.now) (opens path.now) old told new
 
+  -- a statement was matched against the book: a crash leaves what it might have left before, or these same rows
+  pub record LeavesMatch (words : List Text) (old new : B) : Type 0 where
+    pub today : ℕ
+    pub path : Bor (List ℕ)
+    pub means : Means words today (task.Match path)
+    pub rows : LeavesOr (firm old) (leaves old) (leaves new)
+
   -- a stream was served: its answers, and with them what a crash leaves of its messages
   abbrev pub LeavesMessages : ℕ → Option (List ℕ) → B → Option (List ℕ) → Option (List ℕ) → Outcome → B → Type 0
   LeavesMessages day input old given written told new =
@@ -89,5 +96,6 @@ module _ {B : Type 0} (clean sure stands lasts : B → Type 0) (leaves : B → F
   LeavesRun words input known opens ports given written old new told =
       LeavesSheet words input old given written told new
       ⊎ (LeavesStatement words known opens old told new
+      ⊎ (LeavesMatch words old new
       ⊎ (LeavesStream words input old given written told new
-      ⊎ (LeavesPort words ports old new ⊎ (LeavesReport words old new ⊎ (new ≡ old)))))
+      ⊎ (LeavesPort words ports old new ⊎ (LeavesReport words old new ⊎ (new ≡ old))))))

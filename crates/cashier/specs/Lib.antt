@@ -1,5 +1,6 @@
 pub mod Calls
 pub mod Crashes
+pub mod Matching
 pub mod Notice
 pub mod Outcome
 pub mod Records

@@ -56,7 +56,8 @@ pub record IsAdvice (words : List Text) (advice : Advice) : Type 0 where
 
 -- the words mean that this is read
 abbrev pub IsSource : List Text → Source → Type 0
-IsSource words (source.File path) = (today : ℕ) × Means words today (task.Import path)
+IsSource words (source.File path) =
+    ((today : ℕ) × Means words today (task.Import path)) ⊎ ((today : ℕ) × Means words today (task.Match path))
 IsSource words source.Input = MeansSheet words ⊎ MeansStream words
 
 -- the words mean that clients of this port are served

@@ -7,6 +7,7 @@ use Rattle.firm_rows.specs.Firm.{Firm}
 use Rattle.trust_base.specs.declared.refusal.StoreFault.{StoreFault}
 use Rattle.trust_base.specs.declared.refusal.StoreFault.TheVariants as faults
 use Rattle.command_line.specs.Program.{Means}
+use Rattle.cashier.specs.Matching.{MatchEnds}
 use Rattle.cashier.specs.Report.{PrintsReport}
 use Rattle.portal_server.specs.Clients.{Ports}
 use Rattle.cashier.specs.Serving.{PortEnds}
@@ -140,6 +141,29 @@ pub record RanImport (words : List Text) (known : Text → Option (List ℕ))
   pub means : Means words today (task.Import path)
   pub ends : FileEnds today before (known path.now) (opens path.now) after old new told
 
+-- the statement of these bytes, where they are known, was matched against the firm with the length that its folder may
+-- tell, and that ended with this outcome
+pub record IsMatchedFile (day : ℕ) (before : Firm) (bytes : Option (List ℕ)) (opens : Option (Option ℕ) → Type 0)
+    (after : Firm) (old new : Option (List ℕ)) (told : Outcome) : Type 0 where
+  pub size : Option ℕ
+  pub opened : opens (Some size)
+  pub ends : MatchEnds day before size bytes after old new told
+
+-- what became of a file that is to be matched, by its bytes, where they are known, and what opening it may tell
+abbrev pub MatchFileEnds : ℕ → Firm → Option (List ℕ) → (Option (Option ℕ) → Type 0) → Firm → Option (List ℕ)
+    → Option (List ℕ) → Outcome → Type 0
+MatchFileEnds day before bytes opens after old new told =
+    IsMatchedFile day before bytes opens after old new told ⊎ IsUnopened opens before after old new told
+
+-- the words mean that the statement of a path is matched on a day, and that ended with that outcome
+pub record RanMatch (words : List Text) (known : Text → Option (List ℕ))
+    (opens : Text → Option (Option ℕ) → Type 0) (before after : Firm) (old new : Option (List ℕ))
+    (told : Outcome) : Type 0 where
+  pub today : ℕ
+  pub path : Bor (List ℕ)
+  pub means : Means words today (task.Match path)
+  pub ends : MatchFileEnds today before (known path.now) (opens path.now) after old new told
+
 -- a stream was served on a day, and that ended with this outcome
 pub record IsServed (day : ℕ) (before : Firm) (input : Option (List ℕ)) (after : Firm) (old new : Option (List ℕ))
     (told : Outcome) : Type 0 where
@@ -185,6 +209,7 @@ abbrev pub Ran : {W : Type 0} → List Text → Option (List ℕ) → (Text → 
 Ran words input known opens ports before after old new told =
     RanSheet words input before after old new told
     ⊎ (RanImport words known opens before after old new told
+    ⊎ (RanMatch words known opens before after old new told
     ⊎ (RanStream words input before after old new told
     ⊎ (RanServe words ports before after old new told
-    ⊎ (RanReport words before after old new told ⊎ RanNothing before after old new told))))
+    ⊎ (RanReport words before after old new told ⊎ RanNothing before after old new told)))))

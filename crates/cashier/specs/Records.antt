@@ -4,6 +4,8 @@ use Rattle.std.specs.List.{list_all}
 use Rattle.std.specs.Str.{bytes_eq, is_utf8}
 use Rattle.csv.specs.Records.{field_at}
 use Rattle.trust_base.specs.Names.{label_of, person_of}
+use Rattle.trust_base.specs.declared.line.Line.{Line}
+use Rattle.statement_csv.specs.Lines.{line_of_texts}
 use Rattle.trust_base.specs.Texts.{amount_of, amount_or_zero_of, matter_of}
 use Rattle.trust_base.specs.declared.refusal.Field.{Field}
 use Rattle.trust_base.specs.declared.refusal.Field.TheVariants as field
@@ -13,7 +15,7 @@ use Rattle.trust_matter.specs.declared.ask.Caller.TheVariants.{Cashier}
 use Rattle.ask_fields.specs.Asks.{claiming, depositing, dropping, naming, opening, proposing, seating, splitting}
 use Rattle.ask_fields.specs.Fields.{fund_in, of_entry, on_general, role_of}
 use Rattle.trust_desk.specs.declared.requests.Request.{Request}
-use Rattle.trust_desk.specs.declared.requests.Request.TheVariants.{Matter}
+use Rattle.trust_desk.specs.declared.requests.Request.TheVariants.{Dismiss, Matter}
 use Rattle.cashier.specs.declared.record.Verb.{Verb}
 use Rattle.cashier.specs.declared.record.Verb.TheVariants as verb
 
@@ -128,6 +130,29 @@ ask_of verb.Purge fields = Ok ask.Purge
 ask_of verb.Entry fields = naming ask.ShowEntry (text_at fields 2)
 ask_of verb.Show fields = Ok ask.Show
 
+-- ---- a line that is dismissed
+
+-- the record's verb is `dismiss`, which is of no matter
+abbrev pub is_dismissal : List (List ℕ) → Bool
+is_dismissal fields = bytes_eq (text_at fields 0) (codes "dismiss")
+
+-- eight fields: the verb, two empty ones in the places of the matter and the entry, and the five of the line
+abbrev pub has_dismissal_form : List (List ℕ) → Bool
+has_dismissal_form fields =
+    length fields == 8 && length (text_at fields 1) == 0 && length (text_at fields 2) == 0
+
+abbrev pub dismissing : Option Line → Result Request Field
+dismissing None = Err field.Record
+dismissing (Some line) = Ok (Dismiss Cashier line)
+
+-- to dismiss a line from the exceptions, by its five fields
+abbrev pub dismissing_in : List (List ℕ) → Result Request Field
+dismissing_in fields =
+    if has_dismissal_form fields
+    then dismissing
+    (line_of_texts (text_at fields 3) (text_at fields 4) (text_at fields 5) (text_at fields 6) (text_at fields 7))
+    else Err field.Record
+
 -- ---- the request
 
 abbrev pub by_cashier : ℕ → Result Ask Field → Result Request Field
@@ -143,6 +168,6 @@ of_verb None fields = Err field.Record
 of_verb (Some v) fields = of_matter (matter_of (text_at fields 1)) (ask_of v fields)
 
 -- what a record asks of the desk, or the first field that is not of its form; the record as a whole comes first,
--- then the matter, the entry and the verb's own fields
+-- then the matter, the entry and the verb's own fields; of a line that is dismissed the record as a whole alone
 unfoldable pub asked_of : List (List ℕ) → Result Request Field
-asked_of fields = of_verb (verb_in fields) fields
+asked_of fields = if is_dismissal fields then dismissing_in fields else of_verb (verb_in fields) fields

@@ -23,7 +23,9 @@ asked_for (commands.Reconcile day) = requests.Reconcile Cashier day
 asked_for commands.Trial = requests.Trial Cashier
 asked_for commands.Journal = requests.Journal Cashier
 asked_for commands.Retention = requests.Retention Cashier
+asked_for commands.Exceptions = requests.Exceptions Cashier
 asked_for (commands.Ledger matter) = requests.Matter matter Cashier Accounting
+asked_for commands.OwnLedger = requests.OwnLedger Cashier
 
 -- the outcome of a run by what the reply says, once that was written
 abbrev pub reply_outcome : ReplyKind → Outcome

@@ -31,4 +31,9 @@ pub trait Folder {
     fn open(&self, path: &str) -> Option<Opened<Self::File>>
         ensures bytes { IfSome result (λ file. Keeps (known self.now path.now) (Self.File.remaining file.reader)) }
         ensures told { opens self.now path.now (option_map (λ file. file.length) result) };
+
+    /// Whether something is at a path, or may be: what a person is told hangs on it, and nothing else.
+    fn has(&self, _path: &str) -> bool {
+        true
+    }
 }

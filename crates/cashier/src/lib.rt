@@ -1,10 +1,12 @@
-//! The cashier's program: a day sheet or a stream of messages from standard input, a bank's statement from a file, or
-//! a report, to standard output; or the clients of a port, and how the stream of each ended.
+//! The cashier's program: a day sheet or a stream of messages from standard input, a bank's statement from a file, which
+//! is imported or matched, or a report, to standard output; or the clients of a port, and how the stream of each ended.
 #![tactic(auto)]
 
+mod dismissal;
 mod fields;
 mod folder;
 pub mod laws;
+mod matching;
 mod notice;
 mod outcome;
 mod program;
@@ -22,15 +24,20 @@ mod surroundings;
 mod system;
 
 pub use folder::{Folder, Opened};
+pub use matching::run_match;
 pub use notice::{Notice, Source, bare_notice_of, notice_of};
 pub use outcome::{Outcome, exit_of};
 pub use portal_server::{AcceptFault, ClientListener, Connection, Network};
 pub use program::{run_over_stores, run_words};
-pub use remarks::{Excerpt, NoRemarks, RecordFault, RecordRemark, RefusedRecord, Remark, Remarks};
+pub use remarks::{
+    AskedRemarks, EntryFault, EntryLine, ExceptionRemark, Excerpt, HeaderRemark, LineFault,
+    LineRemark, NoRemarks, OwnLine, Place, Plain, RecordFault, RecordRemark, RefusedRecord, Remark,
+    Remarks, UnmatchedLine,
+};
 pub use report::run_report;
 pub use serving::run_serve;
 pub use sheet::{SheetEnd, run_sheet};
 pub use statement::{StatementEnd, run_import};
-pub use stores::{NoStores, Stores};
+pub use stores::{NoBook, NoStores, Stores};
 pub use surroundings::Surroundings;
 pub use system::run_on_system;

@@ -81,6 +81,7 @@ fn source_of<'a>(alloc: Global, words: &'a [&'a str]) -> Option<Source<'a>>
     };
     match plan.task {
         Task::Import(path) => Some(Source::File(path)),
+        Task::Match(path) => Some(Source::File(path)),
         Task::Sheet => Some(Source::Input),
         Task::Stream => Some(Source::Input),
         _ => None,

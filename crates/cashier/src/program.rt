@@ -12,11 +12,15 @@ ghost use Rattle.command_line.specs.declared.command.Task.{Task};
 ghost use Rattle.portal_server.specs.Clients.{ports_of};
 
 use crate::folder::Folder;
+use crate::matching::run_match;
 use crate::outcome::{
     Outcome, outcome_of_sheet, outcome_of_statement, outcome_of_store, outcome_of_stream,
     outcome_of_words, outcome_put_back,
 };
-use crate::remarks::{Remarks, tell_of_loss};
+use crate::remarks::{
+    AskedRemarks, Remarks, StatementTelling, tell_of_day, tell_of_loss, tell_of_new_book,
+    tell_of_no_book,
+};
 use crate::report::run_report;
 use crate::serving::run_serve;
 use crate::sheet::run_sheet;
@@ -44,10 +48,11 @@ pub fn texts_of<'a>(alloc: Global, words: &'a [String]) -> Result<Vec<&'a str>, 
 }
 
 // Imports the statement at a path, where it can be opened.
-fn import_file<F: Folder, W: Write, B: Book>(
+fn import_file<F: Folder, M: Remarks, W: Write, B: Book>(
     alloc: Global,
     folder: &F,
     path: &str,
+    remarks: &M,
     writer: &mut W,
     desk: &mut Desk<B>,
     today: Day,
@@ -65,7 +70,9 @@ fn import_file<F: Folder, W: Write, B: Book>(
     let Some(file) = folder.open(path) else {
         return Outcome::FileFault;
     };
-    outcome_of_statement(run_import(alloc, file.reader, file.length, writer, desk, today))
+    let is_file = file.length.is_some();
+    let told = StatementTelling::new(alloc, folder, path, is_file, today, remarks);
+    outcome_of_statement(run_import(alloc, file.reader, file.length, writer, desk, today, &told))
 }
 
 // Serves the messages of standard input. It never ends by `StoreFault`: what the store refused was answered, and the
@@ -119,19 +126,18 @@ fn run_plan<R: Read, F: Folder, C: Clock + Drop, N: Network, M: Remarks, W: Writ
         desk.old desk.new result }
 {
     let today = plan.today;
+    let asked = AskedRemarks {
+        remarks: around.remarks,
+        is_quiet: plan.is_quiet,
+    };
+    let remarks = &asked;
     match plan.task {
-        Task::Sheet => outcome_of_sheet(run_sheet(
-            alloc,
-            reader,
-            around.remarks,
-            writer,
-            desk,
-            today,
-        )),
-        Task::Import(path) => import_file(alloc, around.folder, path, writer, desk, today),
+        Task::Sheet => outcome_of_sheet(run_sheet(alloc, reader, remarks, writer, desk, today)),
+        Task::Import(path) => import_file(alloc, around.folder, path, remarks, writer, desk, today),
+        Task::Match(path) => run_match(alloc, around.folder, path, remarks, writer, desk, today),
         Task::Stream => serve_input(alloc, reader, writer, desk, today),
         Task::Serve { port, count } => run_serve(alloc, around, port, count, writer, desk, today),
-        Task::Report(command) => run_report(alloc, command, writer, desk, today),
+        Task::Report(command) => run_report(alloc, command, remarks, writer, desk, today),
     }
 }
 
@@ -268,9 +274,16 @@ fn run_at_path<R: Read, F: Folder, C: Clock + Drop, N: Network, M: Remarks, S: S
         (N.refuses around.entry.network.now)) (W.contents writer.old) (W.contents writer.new) result
         ⊎ HadNoBook ((reader.new ≡ reader.old) × (writer.new ≡ writer.old)) result }
 {
+    let was_there = around.folder.has(path);
     match stores.at(alloc, path) {
-        Ok(book) => run_over_book(alloc, plan, reader, around, stores, book, writer),
-        Err(fault) => outcome_of_store(fault),
+        Ok(book) => {
+            tell_of_new_book(around.remarks, plan, path, was_there);
+            run_over_book(alloc, plan, reader, around, stores, book, writer)
+        }
+        Err(fault) => {
+            tell_of_no_book(alloc, around.remarks, plan, stores, path, fault);
+            outcome_of_store(fault)
+        }
     }
 }
 
@@ -278,10 +291,10 @@ fn run_at_path<R: Read, F: Folder, C: Clock + Drop, N: Network, M: Remarks, S: S
 /// over one that is kept in memory, begins without rows and is given up at the end.
 ///
 /// Where the command line is at fault nothing is read, run or written, and no book is asked for; nor is it where a
-/// growth was refused before the plan was known. Where the book can't be had nothing is read or written, and no file or
-/// port is asked for: the outcome is `StoreFault`, or `MemoryFault` where a growth was refused. Else it is that of the
-/// task (`run_words`). Then the book is put back at its path. Where that fails, and the task ended by no fault, the
-/// outcome is `StoreFault` or `MemoryFault` too: what was accepted is kept all the same.
+/// growth was refused before the plan was known. Where the book can't be had nothing is read or written, and no file but
+/// its own and no port is asked for: the outcome is `StoreFault`, or `MemoryFault` where a growth was refused. Else it
+/// is that of the task (`run_words`). Then the book is put back at its path. Where that fails, and the task ended by no
+/// fault, the outcome is `StoreFault` or `MemoryFault` too: what was accepted is kept all the same.
 ///
 /// The firm that is left in memory is sound, as it is after each record, each line of a statement and each message.
 pub fn run_over_stores<
@@ -315,10 +328,13 @@ pub fn run_over_stores<
         ⊎ (MeansStream (words_of words.entry.now) ⊎ (reader.new ≡ reader.old)) }
 {
     match command_of(alloc, words) {
-        Ok(plan) => match plan.db {
-            Some(path) => run_at_path(alloc, &plan, path, reader, around, stores, writer),
-            None => run_in_memory(alloc, &plan, reader, around, writer),
-        },
+        Ok(plan) => {
+            tell_of_day(around.clock, around.remarks, &plan);
+            match plan.db {
+                Some(path) => run_at_path(alloc, &plan, path, reader, around, stores, writer),
+                None => run_in_memory(alloc, &plan, reader, around, writer),
+            }
+        }
         Err(CliFault::Line) => Outcome::CommandLine,
         Err(CliFault::Memory) => Outcome::MemoryFault,
     }

@@ -14,6 +14,7 @@ ghost use Rattle.cashier.specs.Records as spec;
 ghost use Rattle.cashier.specs.Records.{ask_of, asked_of, verb_in, verb_of};
 ghost use Rattle.cashier.specs.Sheet.{heard_of};
 
+use crate::dismissal::{is_dismissal, read_dismissal};
 use crate::fields::field_bytes;
 use crate::record_asks::{read_award, read_claim, read_deposit, read_payment};
 use ask_fields::{bad, read_cancelling, read_dropping, read_opening, read_seating, read_showing};
@@ -179,6 +180,9 @@ fn read_ask(alloc: Global, verb: Verb, row: &ByteRecord) -> Result<Ask, Refusal>
 pub fn read_request(alloc: Global, row: &ByteRecord) -> Result<Request, Refusal>
     ensures { Reads (asked_of (fields_of row.now)) result }
 {
+    if is_dismissal(row) {
+        return read_dismissal(alloc, row);
+    }
     let Some(verb) = verb_of_record(row) else {
         return Err(bad(Field::Record));
     };

@@ -1,21 +1,49 @@
 // What a person is told of a run as it goes, beside what it prints and how it ends.
 
+mod beginning;
+mod day_meant;
+mod entry_line;
+mod exception;
 mod excerpt;
 mod fault;
 mod fields;
+mod header;
 mod kept;
+mod line;
+mod line_fault;
+mod own_line;
+mod place;
+mod plain;
 mod record;
 mod refused;
+mod rereading;
+mod statement;
+mod sum_meant;
 mod telling;
+mod unmatched;
 mod verbs;
 
+use crate::stores::NoBook;
+pub use beginning::{tell_of_day, tell_of_new_book, tell_of_no_book};
+pub use entry_line::{EntryFault, EntryLine};
+use exception::write_end;
+pub use exception::{ExceptionRemark, ExceptionTelling};
 pub use excerpt::Excerpt;
 pub use fault::RecordFault;
+pub use header::HeaderRemark;
 pub use kept::tell_of_loss;
+pub use line::LineRemark;
+pub use line_fault::LineFault;
+pub use own_line::OwnLine;
+pub use place::Place;
+pub use plain::Plain;
 pub use record::RecordRemark;
 pub use refused::RefusedRecord;
+pub use statement::StatementTelling;
 use std::fmt;
 pub use telling::Telling;
+use trust_base::{Day, StoreFault};
+pub use unmatched::{UnmatchedLine, tell_unmatched};
 
 /// What a person is told of a run as it goes.
 #[derive(Clone, Copy, PartialEq, Eq, Debug)]
@@ -24,8 +52,44 @@ pub enum Remark<'a> {
     Record { line: u64, told: RecordRemark<'a> },
     /// A sheet is above its limit.
     SheetTooLarge,
+    /// Of the line of a statement that is at this place.
+    Line { place: Place, told: LineRemark<'a> },
+    /// A statement has another header.
+    Header(HeaderRemark<'a>),
+    /// A statement is above its limit, once so many of its records were taken.
+    StatementTooLarge { taken: u64 },
     /// What was accepted ends with the run.
     NothingKept,
+    /// No book was at this path, and one was begun.
+    NewBook(&'a str),
+    /// There is no book to be had at this path.
+    NoBook { path: &'a str, why: NoBook },
+    /// The business day is far ahead of the machine's clock.
+    FarDay(Day),
+    /// Of the records of a statement that is matched: one to be looked at, or how many there are of each kind.
+    Unmatched(UnmatchedLine<'a>),
+    /// Of an exception: why it is one, or that an import would take it.
+    Exception(ExceptionRemark<'a>),
+    /// The telling of the exceptions ended by this fault.
+    ExceptionsEnd(StoreFault),
+}
+
+// Why there is no book to be had, as it stands behind a path.
+fn words_of(why: NoBook) -> &'static str {
+    match why {
+        NoBook::InUse => "is in use by another run (serve?) or another program: end that first",
+        NoBook::Unopened => {
+            "can't be opened: its folder is missing, or the folder or the file may not be read and written"
+        }
+        NoBook::NoDatabase => {
+            "is no database, or its bytes were changed: put the last backup in its place"
+        }
+        NoBook::OtherTables => {
+            "is a database of something else, or a book of another version of this program"
+        }
+        NoBook::Failed => "could not be read or written: look at the disk",
+        NoBook::Unknown => "could not be had",
+    }
 }
 
 impl fmt::Display for Remark<'_> {
@@ -40,7 +104,30 @@ impl fmt::Display for Remark<'_> {
                     "the sheet has more than 4194304 bytes, and no record was run: send it in parts",
                 )
             }
+            Remark::Line { place, told } => {
+                place.fmt(f)?;
+                told.fmt(f)
+            }
+            Remark::Header(told) => told.fmt(f),
+            Remark::StatementTooLarge { taken: 0 } => f.write_str(
+                "the statement has more than 4194304 bytes, and no line was applied: \
+                import it in parts, each with the first line",
+            ),
+            Remark::StatementTooLarge { taken } => write!(
+                f,
+                "the statement has more than 4194304 bytes, and was read up to record {taken}: \
+                import it in parts, each with the first line"
+            ),
             Remark::NothingKept => f.write_str("nothing was kept: no --db was given"),
+            Remark::NewBook(path) => write!(f, "{path} was not there: a new book was begun"),
+            Remark::NoBook { path, why } => write!(f, "{path} {}", words_of(*why)),
+            Remark::FarDay(day) => write!(
+                f,
+                "{day} is more than 31 days ahead of this machine's clock: look at --today"
+            ),
+            Remark::Unmatched(line) => line.fmt(f),
+            Remark::Exception(told) => told.fmt(f),
+            Remark::ExceptionsEnd(fault) => write_end(f, fault),
         }
     }
 }
@@ -57,4 +144,21 @@ pub struct NoRemarks;
 
 impl Remarks for NoRemarks {
     fn tell(&self, _remark: &Remark<'_>) {}
+}
+
+/// Who is told as a command line asks: nobody where it is quiet.
+#[derive(Drop)]
+pub struct AskedRemarks<'a, M> {
+    /// Who is told else.
+    pub remarks: &'a M,
+    /// Whether nobody is told.
+    pub is_quiet: bool,
+}
+
+impl<M: Remarks> Remarks for AskedRemarks<'_, M> {
+    fn tell(&self, remark: &Remark<'_>) {
+        if !self.is_quiet {
+            self.remarks.tell(remark);
+        }
+    }
 }

@@ -1,11 +1,14 @@
 // The reports that commands print.
 
-ghost use Rattle.std.specs.Prelude.{◌≡◌, ◌≢◌};
+ghost use Rattle.std.specs.Prelude.{◌≡◌, ◌≢◌, Result, true};
+ghost use Rattle.trust_base.specs.declared.refusal.StoreFault.{StoreFault};
 ghost use Rattle.cashier.specs.Calls.{CountsStore, LeavesBook};
 ghost use Rattle.cashier.specs.Report.{PrintsReport, asked_for};
+ghost use Rattle.trust_store.specs.Calls.{IsRead};
 ghost use Rattle.trust_store.specs.Crashes.{LeavesOr};
 
 use crate::outcome::{Outcome, outcome_of_reply};
+use crate::remarks::{ExceptionTelling, Remark, Remarks};
 use crate::reply_kind::kind_of_reply;
 use crate::reply_line::write_reply;
 use command_line::ReportCommand;
@@ -25,23 +28,72 @@ fn request_for(command: ReportCommand) -> Request
         ReportCommand::Trial => Request::Trial(Caller::Cashier),
         ReportCommand::Journal => Request::Journal(Caller::Cashier),
         ReportCommand::Retention => Request::Retention(Caller::Cashier),
+        ReportCommand::Exceptions => Request::Exceptions(Caller::Cashier),
         ReportCommand::Ledger(no) => Request::Matter {
             no,
             caller: Caller::Cashier,
             ask: Ask::Accounting,
         },
+        ReportCommand::OwnLedger => Request::OwnLedger(Caller::Cashier),
+    }
+}
+
+// Prints a report of a desk's book on a business day, or the line of its refusal.
+fn print_report<W: Write, B: Book>(
+    alloc: Global,
+    command: ReportCommand,
+    writer: &mut W,
+    desk: &mut Desk<B>,
+    today: Day,
+) -> Outcome
+    ensures began { result ≢ Outcome.CommandLine }
+    ensures ends { B.clean desk.new → B.stands desk.old
+        → PrintsReport today (B.firm desk.old) command (B.firm desk.new) (W.contents writer.old)
+        (W.contents writer.new) result }
+    ensures kept { LeavesBook B.clean B.sure B.stands B.lasts B.refusals (CountsStore Outcome.StoreFault result)
+        desk.old desk.new }
+    ensures crash { B.sure desk.new → B.clean desk.old → B.stands desk.old
+        → LeavesOr (B.firm desk.old) (B.leaves desk.old) (B.leaves desk.new) }
+    // Where the text was written, the store has met no fault.
+    ensures serves { result ≡ Outcome.Done → B.sure desk.new → B.clean desk.old → B.stands desk.old
+        → B.clean desk.new }
+{
+    let reply = desk.answer(alloc, &request_for(command), today);
+    let Ok(()) = write_reply(writer, &reply) else {
+        return Outcome::OutputFault;
+    };
+    outcome_of_reply(kind_of_reply(&reply))
+}
+
+// Whether the text of a report was written.
+fn is_done(outcome: Outcome) -> bool
+    ensures { result ≡ true → outcome ≡ Outcome.Done }
+{
+    matches!(outcome, Outcome::Done)
+}
+
+// Tells a person why each exception of a desk's book is one on a business day, and what fault ended that, if one did.
+fn tell_reasons<M: Remarks, B: Book>(alloc: Global, remarks: &M, desk: &mut Desk<B>, today: Day)
+    ensures { (told : Result Unit StoreFault)
+        × IsRead B.firm B.clean B.sure B.stands B.lasts B.leaves B.refusals told desk.old desk.new }
+{
+    let telling = ExceptionTelling { today, remarks };
+    if let Err(fault) = desk.tell_exceptions(alloc, today, &telling) {
+        remarks.tell(&Remark::ExceptionsEnd(fault));
     }
 }
 
 /// Prints a report of a desk's book on a business day, which the cashier asks: its text as it is, or the line of its
-/// refusal.
+/// refusal. Behind the exceptions a person is told why each is one, or that an import would take it now, of which no
+/// clause speaks; a fault that ends that is told too, and is no fault of the run.
 ///
 /// The outcome is `Done` where the text was written, and `Refused` where the line of a refusal was; where the store or
 /// memory was refused, that was told by its line, and it is `StoreFault` or `MemoryFault`. Where a write failed it is
 /// `OutputFault`, and a proper front of the text or line was written. Nothing is read.
-pub fn run_report<W: Write, B: Book>(
+pub fn run_report<M: Remarks, W: Write, B: Book>(
     alloc: Global,
     command: ReportCommand,
+    remarks: &M,
     writer: &mut W,
     desk: &mut Desk<B>,
     today: Day,
@@ -57,9 +109,10 @@ pub fn run_report<W: Write, B: Book>(
     ensures crash { B.sure desk.new → B.clean desk.old → B.stands desk.old
         → LeavesOr (B.firm desk.old) (B.leaves desk.old) (B.leaves desk.new) }
 {
-    let reply = desk.answer(alloc, &request_for(command), today);
-    let Ok(()) = write_reply(writer, &reply) else {
-        return Outcome::OutputFault;
-    };
-    outcome_of_reply(kind_of_reply(&reply))
+    let has_reasons = matches!(command, ReportCommand::Exceptions);
+    let outcome = print_report(alloc, command, writer, desk, today);
+    if has_reasons && is_done(outcome) {
+        tell_reasons(alloc, remarks, desk, today);
+    }
+    outcome
 }

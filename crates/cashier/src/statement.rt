@@ -15,7 +15,7 @@ use crate::reply_line::{write_answer_line, write_refusal};
 use std::alloc::Global;
 use std::io::{Read, Write};
 use trust_base::{Day, MAX_FILE_BYTES, Refusal};
-use trust_desk::{Desk, ImportEnd, ImportReply, ImportStop, import_body};
+use trust_desk::{Desk, ImportEnd, ImportReply, ImportStop, ItemWatch, import_body};
 use trust_store::Book;
 
 /// How the import of a statement ended.
@@ -36,8 +36,8 @@ pub enum StatementEnd {
     NoMemory,
 }
 
-// Whether the length is told and above the limit.
-fn is_told_longer(length: Option<u64>) -> bool
+/// Whether the length in bytes is told and above the limit of a file.
+pub fn is_told_longer(length: Option<u64>) -> bool
     ensures { result ≡ spec.is_told_longer length }
 {
     match length {
@@ -99,13 +99,16 @@ fn answer<W: Write>(writer: &mut W, alloc: Global, ran: &ImportEnd) -> Statement
 ///
 /// A statement that tells a length above 4,194,304 bytes is refused, and nothing of it applied. One that tells none is
 /// read until it passes that length; the items before stay applied then, as they do at any fault.
-pub fn run_import<R: Read + Drop, W: Write, B: Book>(
+///
+/// `watch` is told of each item that is not applied, and of the end, of which no clause speaks.
+pub fn run_import<R: Read + Drop, W: Write, B: Book, V: ItemWatch>(
     alloc: Global,
     reader: R,
     length: Option<u64>,
     writer: &mut W,
     desk: &mut Desk<B>,
     today: Day,
+    watch: &V,
 ) -> StatementEnd
     ensures ends { B.clean desk.new → B.stands desk.old
         → StatementEnds today (B.firm desk.old) length (R.remaining reader) (B.firm desk.new)
@@ -123,8 +126,9 @@ pub fn run_import<R: Read + Drop, W: Write, B: Book>(
         (B.firm desk.old) (B.firm desk.new) desk.old desk.new }
 {
     if is_told_longer(length) {
+        watch.ended(0, &ImportStop::Limit);
         return refuse(writer, &Refusal::TooLarge);
     }
-    let ran = desk.import(alloc, reader, today);
+    let ran = desk.import(alloc, reader, today, watch);
     answer(writer, alloc, &ran)
 }

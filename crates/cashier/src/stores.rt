@@ -6,6 +6,23 @@ use std::alloc::Global;
 use trust_base::StoreFault;
 use trust_store::{Book, PlainBook};
 
+/// Why there is no book to be had at a path.
+#[derive(Clone, Copy, PartialEq, Eq, Debug)]
+pub enum NoBook {
+    /// Another run has it, or another program reads or writes it.
+    InUse,
+    /// The path can't be opened: its folder is missing, or the folder or the file may not be read and written.
+    Unopened,
+    /// What is there is no database, or its bytes were changed by no program that writes databases.
+    NoDatabase,
+    /// The database that is there has other tables, or those of another version.
+    OtherTables,
+    /// It could not be read or written.
+    Failed,
+    /// Nobody knows.
+    Unknown,
+}
+
 /// Where the books are kept that outlive a run, each at a path.
 pub trait Stores {
     ghost use Rattle.std.specs.Prelude.{List, Result, ℕ};
@@ -34,6 +51,11 @@ pub trait Stores {
     /// is kept all the same, but beside the path, where `at` finds it.
     fn put_back(&self, book: Self::AtPath) -> Result<(), StoreFault>
         ensures put { puts self.now book result };
+
+    /// Why `at` answered Store a moment ago: what a person is told. Nothing is changed.
+    fn why_none(&self, _alloc: Global, _path: &str) -> NoBook {
+        NoBook::Unknown
+    }
 }
 
 /// A store that has no place for a book: each path is a fault of the store.

@@ -39,6 +39,10 @@ impl<R: Files> Folder for SystemFiles<'_, R> {
         };
         Some(Opened { reader, length })
     }
+
+    fn has(&self, path: &str) -> bool {
+        fs::exists(self.rt, path).unwrap_or(true)
+    }
 }
 
 // The standard error of the system, which is told remarks as they come.

@@ -18,7 +18,7 @@ use Rattle.std.specs.Borrow.{Bor}
 use Rattle.trust_base.specs.Texts.{day_of, matter_of}
 use Rattle.command_advice.specs.Advice.{HasCommand, HasWrongValue, IsFront, IsRepeated, IsStrayed, IsStray, IsTakenSoFar, IsWrong, IsWrongOperand, IsWrongToday, IsWrongValue, LacksValue, LacksValueAt, Names, front_by, last_setting, names_day, setting_named, verb_name}
 use Rattle.command_line.specs.Numerals.{IsCount, IsPort}
-use Rattle.command_line.specs.Program.{FailsAs, IsParse, IsRefused, db_rule, import_app, operand_app, operand_rule, options_app, program, report_apps, run_apps, serve_app, sheet_app, stream_app, today_rule, words_of}
+use Rattle.command_line.specs.Program.{FailsAs, IsParse, IsRefused, db_rule, import_app, match_app, operand_app, operand_rule, options_app, program, quiet_rule, report_apps, run_apps, serve_app, sheet_app, stream_app, today_rule, words_of}
 use Rattle.command_advice.specs.declared.advice.Setting.{Setting}
 use Rattle.command_advice.specs.declared.advice.Verb.{Verb}
 use Rattle.command_advice.specs.declared.advice.Wrong.{Wrong}
@@ -28,7 +28,7 @@ use Rattle.command_advice.specs.declared.faults.Front.TheVariants as fronts
 
 -- without words a command is wanted
 pub none-taken : FailsAs [] kind.MissingSubcommand
-unfolding clap_on_literals program options_app today_rule db_rule sheet_app import_app operand_app operand_rule stream_app serve_app run_apps report_apps
+unfolding clap_on_literals program options_app today_rule db_rule quiet_rule sheet_app import_app match_app operand_app operand_rule stream_app serve_app run_apps report_apps
 none-taken = inl refl
 
 -- a value of the day that is none
@@ -42,8 +42,8 @@ pub wrong-day : (f : Found) (name : Text) (text : Bor (List ℕ)) (w : Wrong) �
 wrong-day f name text w n v is = rw is.0 (n, sym (first_value-rows f (codes "DAY")) ∙ v, is.1)
 
 pub wrong-matter : (f : Found) (name : Text) (text : Bor (List ℕ)) (w : Wrong) → name ≡ codes "ledger" → first_value f (codes "MATTER") ≡ Some text.now
-    → (w ≡ wrong.NoMatter text) × (matter_of text.now ≡ None) → IsWrongOperand name (rows_of f) w
-wrong-matter f name text w n v is = rw is.0 (n, sym (first_value-rows f (codes "MATTER")) ∙ v, is.1)
+    → (w ≡ wrong.NoMatter text) × (text.now ≢ codes "FIRM") × (matter_of text.now ≡ None) → IsWrongOperand name (rows_of f) w
+wrong-matter f name text w n v is = rw is.0 (n, sym (first_value-rows f (codes "MATTER")) ∙ v, is.1, is.2)
 
 pub wrong-port : (f : Found) (name : Text) (text : Bor (List ℕ)) (w : Wrong) → name ≡ codes "serve" → first_value f (codes "PORT") ≡ Some text.now
     → (w ≡ wrong.NoPort text) × ((port : ℕ) → ¬ IsPort text.now port) → IsWrongOperand name (rows_of f) w

@@ -1,5 +1,5 @@
 -- What is told of words that mean nothing: the usage of the command that they name, an example, and what is wrong.
-use Rattle.std.specs.Prelude.{◌≡◌, ◌⊎◌, ◌++◌, ◌+◌, ℕ, Bool, false, List, [], Option, Some, None, codes, fold, if◌then◌else◌, slice_get, take, ⊤}
+use Rattle.std.specs.Prelude.{◌≡◌, ◌≢◌, ◌⊎◌, ◌++◌, ◌+◌, ℕ, Bool, false, List, [], Option, Some, None, codes, fold, if◌then◌else◌, slice_get, take, ⊤}
 use Rattle.std.specs.List.{list_any}
 use Rattle.std.specs.Option.{option_or}
 use Rattle.std.specs.Str.{bytes_eq}
@@ -25,52 +25,60 @@ use Rattle.command_advice.specs.declared.faults.Front.TheVariants as fronts
 abbrev pub verb_name : Verb → Text
 verb_name verbs.Sheet = codes "sheet"
 verb_name verbs.Import = codes "import"
+verb_name verbs.Match = codes "match"
 verb_name verbs.Stream = codes "stream"
 verb_name verbs.Serve = codes "serve"
 verb_name verbs.Reconcile = codes "reconcile"
 verb_name verbs.Trial = codes "trial"
 verb_name verbs.Journal = codes "journal"
 verb_name verbs.Retention = codes "retention"
+verb_name verbs.Exceptions = codes "exceptions"
 verb_name verbs.Ledger = codes "ledger"
 
 -- how a command is written behind the options; all of them, where none is named
 abbrev pub verb_usage : Option Verb → Text
-verb_usage None = codes "(sheet | import FILE | stream | serve PORT COUNT | reconcile DAY | trial | journal | "
-    ++ codes "retention | ledger MATTER)"
+verb_usage None = codes "(sheet | import FILE | match FILE | stream | serve PORT COUNT | reconcile DAY | trial | "
+    ++ codes "journal | retention | exceptions | ledger MATTER|FIRM)"
 verb_usage (Some verbs.Sheet) = codes "sheet"
 verb_usage (Some verbs.Import) = codes "import FILE"
+verb_usage (Some verbs.Match) = codes "match FILE"
 verb_usage (Some verbs.Stream) = codes "stream"
 verb_usage (Some verbs.Serve) = codes "serve PORT COUNT"
 verb_usage (Some verbs.Reconcile) = codes "reconcile DAY"
 verb_usage (Some verbs.Trial) = codes "trial"
 verb_usage (Some verbs.Journal) = codes "journal"
 verb_usage (Some verbs.Retention) = codes "retention"
-verb_usage (Some verbs.Ledger) = codes "ledger MATTER"
+verb_usage (Some verbs.Exceptions) = codes "exceptions"
+verb_usage (Some verbs.Ledger) = codes "ledger MATTER|FIRM"
 
 -- a command as it may be typed
 abbrev pub verb_example : Option Verb → Text
 verb_example None = codes "reconcile 2026-03-31"
 verb_example (Some verbs.Sheet) = codes "sheet < day.csv"
 verb_example (Some verbs.Import) = codes "import statement.csv"
+verb_example (Some verbs.Match) = codes "match bank.csv > statement.csv"
 verb_example (Some verbs.Stream) = codes "stream < messages.http"
 verb_example (Some verbs.Serve) = codes "serve 8080 100"
 verb_example (Some verbs.Reconcile) = codes "reconcile 2026-03-31"
 verb_example (Some verbs.Trial) = codes "trial"
 verb_example (Some verbs.Journal) = codes "journal"
 verb_example (Some verbs.Retention) = codes "retention"
+verb_example (Some verbs.Exceptions) = codes "exceptions"
 verb_example (Some verbs.Ledger) = codes "ledger 000001"
 
 -- what is wrong
 abbrev pub wrong_text : Wrong → Text
 wrong_text (wrong.Word text) = text.now ++ codes " is not taken here"
 wrong_text (wrong.NoDay text) = text.now ++ codes " is no day"
-wrong_text (wrong.NoMatter text) = text.now ++ codes " is no matter's number"
+wrong_text (wrong.NoMatter text) = text.now ++ codes " is neither a matter's number nor FIRM"
 wrong_text (wrong.NoPort text) = text.now ++ codes " is no port from 1024 to 65535"
 wrong_text (wrong.NoCount text) = text.now ++ codes " is no count from 1 to 1000000"
 wrong_text (wrong.Repeated settings.Today) = codes "--today is given twice"
 wrong_text (wrong.Repeated settings.Db) = codes "--db is given twice"
+wrong_text (wrong.Repeated settings.Quiet) = codes "--quiet is given twice"
 wrong_text (wrong.NoValue settings.Today) = codes "--today has no day"
 wrong_text (wrong.NoValue settings.Db) = codes "--db has no path"
+wrong_text (wrong.NoValue settings.Quiet) = codes "--quiet has no value"
 wrong_text wrong.MissingDay = codes "--today DAY is missing"
 wrong_text wrong.MissingCommand = codes "a command is missing"
 wrong_text wrong.MissingWord = codes "a word is missing"
@@ -82,7 +90,7 @@ wrong_line (Some w) = codes "\nwrong: " ++ wrong_text w
 
 -- the lines that are told, without the last one's end
 abbrev pub advice_text : Advice → Text
-advice_text a = codes "usage: cashier_cli [--db PATH] --today DAY " ++ (verb_usage a.verb
+advice_text a = codes "usage: cashier_cli [--db PATH] [--quiet] --today DAY " ++ (verb_usage a.verb
     ++ (codes "\nexample: cashier_cli --today 2026-03-31 " ++ (verb_example a.verb ++ wrong_line a.wrong)))
 
 -- ---- what is true of the words
@@ -143,9 +151,15 @@ names_day word = bytes_eq (take 7 word) (codes "--today")
 abbrev pub names_db : Text → Bool
 names_db word = bytes_eq (take 4 word) (codes "--db")
 
+-- the word begins as the flag of a quiet run does
+abbrev pub names_quiet : Text → Bool
+names_quiet word = bytes_eq (take 7 word) (codes "--quiet")
+
 -- the option that a word begins as
 abbrev pub setting_named : Text → Option Setting
-setting_named word = if names_day word then Some settings.Today else (if names_db word then Some settings.Db else None)
+setting_named word =
+    if names_day word then Some settings.Today
+    else (if names_db word then Some settings.Db else (if names_quiet word then Some settings.Quiet else None))
 
 -- the option that the last of the words that begin as one begins as
 abbrev pub last_setting : List Text → Option Setting
@@ -183,7 +197,8 @@ abbrev pub IsWrongOperand : Text → List Row → Wrong → Type 0
 IsWrongOperand name values (wrong.NoDay text) =
     (name ≡ codes "reconcile") × (first_of (codes "DAY") values ≡ Some text.now) × (day_of text.now ≡ None)
 IsWrongOperand name values (wrong.NoMatter text) =
-    (name ≡ codes "ledger") × (first_of (codes "MATTER") values ≡ Some text.now) × (matter_of text.now ≡ None)
+    (name ≡ codes "ledger") × (first_of (codes "MATTER") values ≡ Some text.now)
+    × (text.now ≢ codes "FIRM") × (matter_of text.now ≡ None)
 IsWrongOperand name values (wrong.NoPort text) = (name ≡ codes "serve")
     × (first_of (codes "PORT") values ≡ Some text.now) × ((port : ℕ) → ¬ IsPort text.now port)
 IsWrongOperand name values (wrong.NoCount text) = (name ≡ codes "serve")

@@ -12,6 +12,8 @@ pub enum Verb {
     Sheet,
     /// Import a statement of the bank.
     Import,
+    /// Match a bank's file against the book.
+    Match,
     /// Serve the messages of standard input.
     Stream,
     /// Serve the clients of a port.
@@ -24,6 +26,8 @@ pub enum Verb {
     Journal,
     /// Print the retention list.
     Retention,
+    /// Print the list of exceptions.
+    Exceptions,
     /// Print a ledger card.
     Ledger,
 }
@@ -35,6 +39,8 @@ pub enum Setting {
     Today,
     /// `--db`, the path of the database that keeps the book.
     Db,
+    /// `--quiet`, by which a person is told nothing of the run as it goes.
+    Quiet,
 }
 
 /// What is wrong with words that mean nothing.
@@ -44,7 +50,7 @@ pub enum Wrong<'a> {
     Word(&'a str),
     /// The value of `--today`, or the operand of `reconcile`, is no day.
     NoDay(&'a str),
-    /// The operand of `ledger` is no matter's number.
+    /// The operand of `ledger` is neither a matter's number nor the word for the firm.
     NoMatter(&'a str),
     /// The first operand of `serve` is no port.
     NoPort(&'a str),
@@ -78,12 +84,14 @@ pub fn verb_of(name: &str) -> Option<Verb>
     match name {
         "sheet" => Some(Verb::Sheet),
         "import" => Some(Verb::Import),
+        "match" => Some(Verb::Match),
         "stream" => Some(Verb::Stream),
         "serve" => Some(Verb::Serve),
         "reconcile" => Some(Verb::Reconcile),
         "trial" => Some(Verb::Trial),
         "journal" => Some(Verb::Journal),
         "retention" => Some(Verb::Retention),
+        "exceptions" => Some(Verb::Exceptions),
         "ledger" => Some(Verb::Ledger),
         _ => None,
     }
@@ -95,17 +103,19 @@ fn usage_of(verb: Option<Verb>) -> &'static str
 {
     match verb {
         None =>
-            "(sheet | import FILE | stream | serve PORT COUNT | reconcile DAY | trial | journal | \
-            retention | ledger MATTER)",
+            "(sheet | import FILE | match FILE | stream | serve PORT COUNT | reconcile DAY | trial | \
+            journal | retention | exceptions | ledger MATTER|FIRM)",
         Some(Verb::Sheet) => "sheet",
         Some(Verb::Import) => "import FILE",
+        Some(Verb::Match) => "match FILE",
         Some(Verb::Stream) => "stream",
         Some(Verb::Serve) => "serve PORT COUNT",
         Some(Verb::Reconcile) => "reconcile DAY",
         Some(Verb::Trial) => "trial",
         Some(Verb::Journal) => "journal",
         Some(Verb::Retention) => "retention",
-        Some(Verb::Ledger) => "ledger MATTER",
+        Some(Verb::Exceptions) => "exceptions",
+        Some(Verb::Ledger) => "ledger MATTER|FIRM",
     }
 }
 
@@ -117,11 +127,13 @@ fn example_of(verb: Option<Verb>) -> &'static str
         None | Some(Verb::Reconcile) => "reconcile 2026-03-31",
         Some(Verb::Sheet) => "sheet < day.csv",
         Some(Verb::Import) => "import statement.csv",
+        Some(Verb::Match) => "match bank.csv > statement.csv",
         Some(Verb::Stream) => "stream < messages.http",
         Some(Verb::Serve) => "serve 8080 100",
         Some(Verb::Trial) => "trial",
         Some(Verb::Journal) => "journal",
         Some(Verb::Retention) => "retention",
+        Some(Verb::Exceptions) => "exceptions",
         Some(Verb::Ledger) => "ledger 000001",
     }
 }
@@ -133,13 +145,15 @@ impl fmt::Display for Wrong<'_> {
         match *self {
             Wrong::Word(text) => write!(f, "{text} is not taken here"),
             Wrong::NoDay(text) => write!(f, "{text} is no day"),
-            Wrong::NoMatter(text) => write!(f, "{text} is no matter's number"),
+            Wrong::NoMatter(text) => write!(f, "{text} is neither a matter's number nor FIRM"),
             Wrong::NoPort(text) => write!(f, "{text} is no port from 1024 to 65535"),
             Wrong::NoCount(text) => write!(f, "{text} is no count from 1 to 1000000"),
             Wrong::Repeated(Setting::Today) => f.write_str("--today is given twice"),
             Wrong::Repeated(Setting::Db) => f.write_str("--db is given twice"),
+            Wrong::Repeated(Setting::Quiet) => f.write_str("--quiet is given twice"),
             Wrong::NoValue(Setting::Today) => f.write_str("--today has no day"),
             Wrong::NoValue(Setting::Db) => f.write_str("--db has no path"),
+            Wrong::NoValue(Setting::Quiet) => f.write_str("--quiet has no value"),
             Wrong::MissingDay => f.write_str("--today DAY is missing"),
             Wrong::MissingCommand => f.write_str("a command is missing"),
             Wrong::MissingWord => f.write_str("a word is missing"),
@@ -156,11 +170,11 @@ impl fmt::Display for Advice<'_> {
         match self.wrong {
             None => write!(
                 f,
-                "usage: cashier_cli [--db PATH] --today DAY {usage}\nexample: cashier_cli --today 2026-03-31 {example}"
+                "usage: cashier_cli [--db PATH] [--quiet] --today DAY {usage}\nexample: cashier_cli --today 2026-03-31 {example}"
             ),
             Some(wrong) => write!(
                 f,
-                "usage: cashier_cli [--db PATH] --today DAY {usage}\n\
+                "usage: cashier_cli [--db PATH] [--quiet] --today DAY {usage}\n\
                 example: cashier_cli --today 2026-03-31 {example}\n\
                 wrong: {wrong}"
             ),

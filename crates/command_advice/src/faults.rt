@@ -1,19 +1,19 @@
 // What is wrong with words that mean nothing, as clap's errors on their fronts tell it.
 
-ghost use Rattle.std.specs.Prelude.{◌≡◌, ◌<◌, ℕ, IfNone, IfSome, None, [], false, length, true};
+ghost use Rattle.std.specs.Prelude.{◌≡◌, ◌≢◌, ◌<◌, ℕ, IfNone, IfSome, None, [], codes, false, length, true};
 ghost use Rattle.std.specs.List.{list_any};
 ghost use Rattle.clap.specs.Words.{fault_of, found_of, rows_of, subcommand_rows_of};
 ghost use Rattle.trust_base.specs.Texts.{day_of, matter_of};
 ghost use Rattle.command_advice.specs.Advice.{IsFront, IsWrong, IsWrongOperand, IsWrongToday, IsWrongValue};
 ghost use Rattle.command_advice.specs.Advice.{LacksValue, LacksValueAt, Names, front_by, last_setting, names_day};
-ghost use Rattle.command_advice.specs.Advice.{names_db, setting_named};
+ghost use Rattle.command_advice.specs.Advice.{names_db, names_quiet, setting_named};
 ghost use Rattle.command_line.specs.Numerals.{IsCount, IsPort};
 ghost use Rattle.command_line.specs.Program.{IsRefused, program, words_of};
 
 use crate::advice::{Advice, Setting, Verb, Wrong, verb_of};
 use clap::ArgMatches;
 use clap::error::ErrorKind;
-use command_line::{count_of, parse, port_of};
+use command_line::{count_of, is_firm, parse, port_of};
 use std::alloc::Global;
 use trust_base::{Day, MatterNo};
 
@@ -145,6 +145,14 @@ fn is_naming_db(word: &str) -> bool
     &bytes[..bytes.len().min(4)] == b"--db".as_slice()
 }
 
+// Whether a word begins as the flag of a quiet run does.
+fn is_naming_quiet(word: &str) -> bool
+    ensures { result ≡ names_quiet word.now }
+{
+    let bytes = word.as_bytes();
+    &bytes[..bytes.len().min(7)] == b"--quiet".as_slice()
+}
+
 // The option that a word begins as.
 fn setting_named(word: &str) -> Option<Setting>
     ensures { result ≡ setting_named word.now }
@@ -153,6 +161,8 @@ fn setting_named(word: &str) -> Option<Setting>
         Some(Setting::Today)
     } else if is_naming_db(word) {
         Some(Setting::Db)
+    } else if is_naming_quiet(word) {
+        Some(Setting::Quiet)
     } else {
         None
     }
@@ -190,10 +200,14 @@ fn no_day<'a>(text: &'a str) -> Option<Wrong<'a>>
     }
 }
 
-// Tells a text that is no matter's number.
-fn no_matter<'a>(text: &'a str) -> Option<Wrong<'a>>
-    ensures { IfSome result (λ wrong. (wrong ≡ Wrong.NoMatter text.entry) × (matter_of text.entry.now ≡ None)) }
+// Tells a text that is neither a matter's number nor the word for the firm.
+fn no_card<'a>(text: &'a str) -> Option<Wrong<'a>>
+    ensures { IfSome result (λ wrong. (wrong ≡ Wrong.NoMatter text.entry)
+        × (text.entry.now ≢ codes "FIRM") × (matter_of text.entry.now ≡ None)) }
 {
+    if is_firm(text) {
+        return None;
+    }
     match MatterNo::read(text.as_bytes()) {
         Some(_) => None,
         None => Some(Wrong::NoMatter(text)),
@@ -228,7 +242,7 @@ fn wrong_operand<'a>(name: &str, values: &ArgMatches<'a>) -> Option<Wrong<'a>>
 {
     match name {
         "reconcile" => no_day(values.get_str("DAY")?),
-        "ledger" => no_matter(values.get_str("MATTER")?),
+        "ledger" => no_card(values.get_str("MATTER")?),
         "serve" => match no_port(values.get_str("PORT")?) {
             Some(wrong) => Some(wrong),
             None => no_count(values.get_str("COUNT")?),

@@ -1,5 +1,5 @@
 -- What a parse of the program's own command line says.
-use Rattle.std.proofs.Common.{◌≡◌, ◌≢◌, ◌∙◌, ◌⊎◌, inl, inr, ap, sym, refl, subst, false, true, ℕ, List, [], Option, Some, None, IfErr, IfNone, Result, Ok, Err, option_map, option_and_then, codes}
+use Rattle.std.proofs.Common.{◌≡◌, ◌≢◌, ◌∙◌, ◌⊎◌, inl, inr, ap, sym, refl, subst, Bool, false, true, ℕ, List, [], Option, Some, None, IfErr, IfNone, Result, Ok, Err, option_map, option_and_then, codes}
 use Rattle.clap.specs.Words.{App, Row, Text, fault_of, first_of, found_of, is_simple, is_simple_and_free, kind_of, matches_of, rows_of, subcommand_name_of, subcommand_of, subcommand_rows_of}
 use Rattle.clap.specs.Kinds.{HasKind, IsAmong, Kinds}
 use Rattle.clap.specs.declared.error.Error.{Error}
@@ -14,7 +14,7 @@ use Rattle.std.specs.Borrow.{Bor}
 use Rattle.std.specs.Result.{IsErrAnd}
 use Rattle.std.specs.Str.{bytes_eq}
 use Rattle.trust_base.specs.Texts.{day_of, matter_of}
-use Rattle.command_line.specs.Program.{Gives, IsParse, IsRefused, IsTask, LeavesNoPlan, MeetsTask, Means, MeansNothing, db_of, db_rule, fault_by, import_app, operand_app, operand_rule, options_app, report_apps, ImportIsNoSheet, ImportIsNoStream, IsReportCommand, ReportReadsNothing, ServeReadsNothing, program, report_name, run_apps, serve_app, sheet_app, stream_app, today_rule}
+use Rattle.command_line.specs.Program.{Gives, IsParse, IsRefused, IsTask, LeavesNoPlan, MatchReadsNothing, MeetsTask, Means, MeansNothing, db_of, db_rule, fault_by, import_app, is_flag_set, match_app, operand_app, operand_rule, options_app, quiet_of, quiet_rule, report_apps, ImportIsNoSheet, ImportIsNoStream, IsReportCommand, ReportReadsNothing, ServeReadsNothing, program, report_name, run_apps, serve_app, sheet_app, stream_app, today_rule}
 use Rattle.command_line.specs.declared.command.CliFault.{CliFault}
 use Rattle.command_line.specs.declared.report_command.ReportCommand.{ReportCommand}
 use Rattle.command_line.specs.declared.report_command.ReportCommand.TheVariants as reports
@@ -22,11 +22,11 @@ use Rattle.command_line.specs.declared.command.Task.{Task}
 use Rattle.command_line.specs.declared.command.Task.TheVariants as tasks
 
 pub is_simple_program : is_simple program ≡ true
-unfolding clap_on_literals program options_app today_rule db_rule sheet_app import_app operand_app operand_rule stream_app serve_app run_apps report_apps
+unfolding clap_on_literals program options_app today_rule db_rule quiet_rule sheet_app import_app match_app operand_app operand_rule stream_app serve_app run_apps report_apps
 is_simple_program = refl
 
 pub is_free_program : is_simple_and_free program ≡ true
-unfolding clap_on_literals program options_app today_rule db_rule sheet_app import_app operand_app operand_rule stream_app serve_app run_apps report_apps
+unfolding clap_on_literals program options_app today_rule db_rule quiet_rule sheet_app import_app match_app operand_app operand_rule stream_app serve_app run_apps report_apps
 is_free_program = refl
 
 pub parses : (a : App) (words : List Text) → a ≡ program → (is_simple_and_free a ≡ true → fault_of a words ≡ []) → fault_of program words ≡ []
@@ -78,6 +78,10 @@ is-parse a words m same kinds has = let here = has (ap is_simple same ∙ is_sim
 -- the value of `--db` of a parse
 pub db-is : (words : List Text) (m : ArgMatches) → IsParse words m → (db : Option Text) → db ≡ first_of (codes "db") (rows_of (found_of m)) → db ≡ db_of words
 db-is words m parse db is = is ∙ ap (first_of (codes "db")) parse.values
+
+-- whether `--quiet` is given in a parse
+pub quiet-is : (words : List Text) (m : ArgMatches) → IsParse words m → (quiet : Bool) → quiet ≡ is_flag_set (codes "quiet") (rows_of (found_of m)) → quiet ≡ quiet_of words
+quiet-is words m parse quiet is = is ∙ ap (is_flag_set (codes "quiet")) parse.values
 
 given : (rows rows2 : List Row) (met met2 : Option (Text × List Row)) (today : ℕ) (task : Task) → rows ≡ rows2 → met ≡ met2 → Gives rows met today task → Gives rows2 met2 today task
 given rows rows2 met met2 today task r n g = record {
@@ -132,6 +136,10 @@ if_none (Some x) P p = tt
 pub imports : (f : Found) (name : Text) (path : Bor (List ℕ)) → name ≡ codes "import" → first_value f (codes "FILE") ≡ Some path.now → IsTask name (rows_of f) (tasks.Import path)
 imports f name path n v = record { named = n; operands = sym (first_value-rows f (codes "FILE")) ∙ v }
 
+-- and the command of a match with a path the match of that path
+pub matches : (f : Found) (name : Text) (path : Bor (List ℕ)) → name ≡ codes "match" → first_value f (codes "FILE") ≡ Some path.now → IsTask name (rows_of f) (tasks.Match path)
+matches f name path n v = record { named = n; operands = sym (first_value-rows f (codes "FILE")) ∙ v }
+
 -- two names of commands that are not the same text
 differ : (a b : Text) → bytes_eq a b ≡ false → bytes_eq b b ≡ true → a ≡ b → ⊥
 differ a b apart same e = let clash = sym apart ∙ ap (λ (x : Text). bytes_eq x b) e ∙ same in cc
@@ -142,21 +150,48 @@ no_import_report (reports.Reconcile day) = differ _ _ refl refl
 no_import_report reports.Trial = differ _ _ refl refl
 no_import_report reports.Journal = differ _ _ refl refl
 no_import_report reports.Retention = differ _ _ refl refl
+no_import_report reports.Exceptions = differ _ _ refl refl
 no_import_report (reports.Ledger m) = differ _ _ refl refl
+no_import_report reports.OwnLedger = differ _ _ refl refl
 
 no_sheet_report : (r : ReportCommand) → codes "sheet" ≡ report_name r → ⊥
 no_sheet_report (reports.Reconcile day) = differ _ _ refl refl
 no_sheet_report reports.Trial = differ _ _ refl refl
 no_sheet_report reports.Journal = differ _ _ refl refl
 no_sheet_report reports.Retention = differ _ _ refl refl
+no_sheet_report reports.Exceptions = differ _ _ refl refl
 no_sheet_report (reports.Ledger m) = differ _ _ refl refl
+no_sheet_report reports.OwnLedger = differ _ _ refl refl
 
 no_stream_report : (r : ReportCommand) → codes "stream" ≡ report_name r → ⊥
 no_stream_report (reports.Reconcile day) = differ _ _ refl refl
 no_stream_report reports.Trial = differ _ _ refl refl
 no_stream_report reports.Journal = differ _ _ refl refl
 no_stream_report reports.Retention = differ _ _ refl refl
+no_stream_report reports.Exceptions = differ _ _ refl refl
 no_stream_report (reports.Ledger m) = differ _ _ refl refl
+no_stream_report reports.OwnLedger = differ _ _ refl refl
+
+no_match_report : (r : ReportCommand) → codes "match" ≡ report_name r → ⊥
+no_match_report (reports.Reconcile day) = differ _ _ refl refl
+no_match_report reports.Trial = differ _ _ refl refl
+no_match_report reports.Journal = differ _ _ refl refl
+no_match_report reports.Retention = differ _ _ refl refl
+no_match_report reports.Exceptions = differ _ _ refl refl
+no_match_report (reports.Ledger m) = differ _ _ refl refl
+no_match_report reports.OwnLedger = differ _ _ refl refl
+
+no_import_match : codes "import" ≡ codes "match" → ⊥
+no_import_match = differ _ _ refl refl
+
+no_match_sheet : codes "match" ≡ codes "sheet" → ⊥
+no_match_sheet = differ _ _ refl refl
+
+no_match_stream : codes "match" ≡ codes "stream" → ⊥
+no_match_stream = differ _ _ refl refl
+
+no_match_serve : codes "match" ≡ codes "serve" → ⊥
+no_match_serve = differ _ _ refl refl
 
 no_import_stream : codes "import" ≡ codes "stream" → ⊥
 no_import_stream = differ _ _ refl refl
@@ -174,9 +209,18 @@ no_stream_serve = differ _ _ refl refl
 pub no_file : (f : Found) (name : Text) (task : Task) → name ≡ codes "import" → first_value f (codes "FILE") ≡ None → IsTask name (rows_of f) task → ⊥
 no_file f name tasks.Sheet n v is = let e = sym n ∙ is.named in cc
 no_file f name (tasks.Import path) n v is = let e = sym v ∙ first_value-rows f (codes "FILE") ∙ is.operands in cc
+no_file f name (tasks.Match path) n v is = no_import_match (sym n ∙ is.named)
 no_file f name tasks.Stream n v is = no_import_stream (sym n ∙ is.named)
 no_file f name (tasks.Serve port count) n v is = no_import_serve (sym n ∙ is.named)
 no_file f name (tasks.Report r) n v is = no_import_report r (sym n ∙ is.named)
+
+pub no_match_file : (f : Found) (name : Text) (task : Task) → name ≡ codes "match" → first_value f (codes "FILE") ≡ None → IsTask name (rows_of f) task → ⊥
+no_match_file f name tasks.Sheet n v is = no_match_sheet (sym n ∙ is.named)
+no_match_file f name (tasks.Import path) n v is = no_import_match (sym is.named ∙ n)
+no_match_file f name (tasks.Match path) n v is = let e = sym v ∙ first_value-rows f (codes "FILE") ∙ is.operands in cc
+no_match_file f name tasks.Stream n v is = no_match_stream (sym n ∙ is.named)
+no_match_file f name (tasks.Serve port count) n v is = no_match_serve (sym n ∙ is.named)
+no_match_file f name (tasks.Report r) n v is = no_match_report r (sym n ∙ is.named)
 
 -- a reconciliation without a day is no report
 pub no_day_report : (name : Text) (values : List Row) (r : ReportCommand) → name ≡ codes "reconcile" → option_and_then day_of (first_of (codes "DAY") values) ≡ None
@@ -185,16 +229,20 @@ no_day_report name values (reports.Reconcile day) n v is = let e = sym v ∙ is.
 no_day_report name values reports.Trial n v is = differ _ _ refl refl (sym n ∙ is.named)
 no_day_report name values reports.Journal n v is = differ _ _ refl refl (sym n ∙ is.named)
 no_day_report name values reports.Retention n v is = differ _ _ refl refl (sym n ∙ is.named)
+no_day_report name values reports.Exceptions n v is = differ _ _ refl refl (sym n ∙ is.named)
 no_day_report name values (reports.Ledger m) n v is = differ _ _ refl refl (sym n ∙ is.named)
+no_day_report name values reports.OwnLedger n v is = differ _ _ refl refl (sym n ∙ is.named)
 
--- nor is a ledger card without a matter
-pub no_matter_report : (name : Text) (values : List Row) (r : ReportCommand) → name ≡ codes "ledger" → option_and_then matter_of (first_of (codes "MATTER") values) ≡ None
-    → IsReportCommand name values r → ⊥
-no_matter_report name values (reports.Reconcile day) n v is = differ _ _ refl refl (sym n ∙ is.named)
-no_matter_report name values reports.Trial n v is = differ _ _ refl refl (sym n ∙ is.named)
-no_matter_report name values reports.Journal n v is = differ _ _ refl refl (sym n ∙ is.named)
-no_matter_report name values reports.Retention n v is = differ _ _ refl refl (sym n ∙ is.named)
-no_matter_report name values (reports.Ledger m) n v is = let e = sym v ∙ is.operands in cc
+-- nor is a ledger card without a matter and without the firm
+pub no_card : (values : List Row) (r : ReportCommand) → option_and_then matter_of (first_of (codes "MATTER") values) ≡ None → first_of (codes "MATTER") values ≢ Some (codes "FIRM")
+    → IsReportCommand (codes "ledger") values r → ⊥
+no_card values (reports.Reconcile day) none other is = differ _ _ refl refl is.named
+no_card values reports.Trial none other is = differ _ _ refl refl is.named
+no_card values reports.Journal none other is = differ _ _ refl refl is.named
+no_card values reports.Retention none other is = differ _ _ refl refl is.named
+no_card values reports.Exceptions none other is = differ _ _ refl refl is.named
+no_card values (reports.Ledger m) none other is = let e = sym none ∙ is.operands in cc
+no_card values reports.OwnLedger none other is = other is.operands
 
 -- the command that was met, and the task that it is
 pub meets : (m : Option (Text × List Row)) (name : Text) (values : List Row) (task : Task) → m ≡ Some (name, values) → IsTask name values task → MeetsTask m task
@@ -215,6 +263,21 @@ import_or_stream (Some command) path a b = no_import_stream (sym a.named ∙ b.n
 
 pub import-no-stream : ImportIsNoStream
 import-no-stream words (today, path, a) (later, b) = import_or_stream (subcommand_of program words) path a.gives.meets b.gives.meets
+
+-- a match is no sheet and no stream
+match_or_sheet : (m : Option (Text × List Row)) (path : Bor (List ℕ)) → MeetsTask m (tasks.Match path) → MeetsTask m tasks.Sheet → ⊥
+match_or_sheet None path a b = a
+match_or_sheet (Some command) path a b = no_match_sheet (sym a.named ∙ b.named)
+
+match_or_stream : (m : Option (Text × List Row)) (path : Bor (List ℕ)) → MeetsTask m (tasks.Match path) → MeetsTask m tasks.Stream → ⊥
+match_or_stream None path a b = a
+match_or_stream (Some command) path a b = no_match_stream (sym a.named ∙ b.named)
+
+pub match-reads-nothing : MatchReadsNothing
+match-reads-nothing words (today, path, a) = (
+  λ (later, b). match_or_sheet (subcommand_of program words) path a.gives.meets b.gives.meets,
+  λ (later, b). match_or_stream (subcommand_of program words) path a.gives.meets b.gives.meets,
+)
 
 -- a report is no sheet and no stream
 report_or_sheet : (m : Option (Text × List Row)) (r : ReportCommand) → MeetsTask m (tasks.Report r) → MeetsTask m tasks.Sheet → ⊥

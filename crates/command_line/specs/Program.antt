@@ -1,6 +1,8 @@
 -- The program's command line, as a parser of words sees it, and the plan that words mean.
-use Rattle.std.specs.Prelude.{◌≡◌, ◌⊎◌, ℕ, List, [], ◌∷◌, Option, Some, None, IsSomeAnd, true, codes, map, option_and_then, ⊤}
+use Rattle.std.specs.Prelude.{◌≡◌, ◌⊎◌, ℕ, Bool, List, [], ◌∷◌, Option, Some, None, IsSomeAnd, false, true, codes, map, option_and_then, ⊤}
 use Rattle.std.specs.Borrow.{Bor}
+use Rattle.std.specs.Option.{option_map_or}
+use Rattle.std.specs.Str.{bytes_eq}
 use Rattle.clap.specs.Words.{App, IsAmong, Row, Rule, Text, fault_of, first_of, found_of, matches_of, new_app, new_rule, rows_of, subcommand_of, subcommand_rows_of, with_rule, with_subcommand}
 use Rattle.clap.specs.Simple.{on_top}
 use Rattle.clap.specs.declared.builder.ArgAction.TheVariants as action
@@ -25,9 +27,15 @@ today_rule =
 unfoldable pub db_rule : Rule
 db_rule = record (new_rule (codes "db")) { long = Some (codes "db"); action = Some action.Set }
 
+-- `--quiet`, a flag
+unfoldable pub quiet_rule : Rule
+quiet_rule =
+    record (new_rule (codes "quiet")) { long = Some (codes "quiet"); action = Some action.SetTrue }
+
 -- the command line's options, without its commands
 unfoldable pub options_app : App
-options_app = with_rule (with_rule (new_app (codes "cashier_cli")) today_rule) db_rule
+options_app =
+    with_rule (with_rule (with_rule (new_app (codes "cashier_cli")) today_rule) db_rule) quiet_rule
 
 unfoldable pub sheet_app : App
 sheet_app = new_app (codes "sheet")
@@ -44,6 +52,10 @@ operand_app name operand = with_rule (new_app name) (operand_rule operand)
 unfoldable pub import_app : App
 import_app = operand_app (codes "import") (codes "FILE")
 
+-- the command `match FILE`
+unfoldable pub match_app : App
+match_app = operand_app (codes "match") (codes "FILE")
+
 unfoldable pub stream_app : App
 stream_app = new_app (codes "stream")
 
@@ -51,23 +63,25 @@ stream_app = new_app (codes "stream")
 unfoldable pub serve_app : App
 serve_app = with_rule (operand_app (codes "serve") (codes "PORT")) (operand_rule (codes "COUNT"))
 
--- the commands that are no reports: `sheet`, `import FILE`, `stream`, `serve PORT COUNT`
+-- the commands that are no reports: `sheet`, `import FILE`, `match FILE`, `stream`, `serve PORT COUNT`
 unfoldable pub run_apps : List App
-run_apps = sheet_app ∷ import_app ∷ stream_app ∷ serve_app ∷ []
+run_apps = sheet_app ∷ import_app ∷ match_app ∷ stream_app ∷ serve_app ∷ []
 
--- the commands of reports: `reconcile DAY`, `trial`, `journal`, `retention`, `ledger MATTER`
+-- the commands of reports: `reconcile DAY`, `trial`, `journal`, `retention`, `exceptions`, `ledger MATTER`; the word FIRM
+-- may stand for a matter's number
 unfoldable pub report_apps : List App
 report_apps =
     operand_app (codes "reconcile") (codes "DAY") ∷ new_app (codes "trial") ∷ new_app (codes "journal")
-    ∷ new_app (codes "retention") ∷ operand_app (codes "ledger") (codes "MATTER") ∷ []
+    ∷ new_app (codes "retention") ∷ new_app (codes "exceptions")
+    ∷ operand_app (codes "ledger") (codes "MATTER") ∷ []
 
 -- a command line with these commands behind its own
 abbrev pub with_commands : App → List App → App
 with_commands app [] = app
 with_commands app (command ∷ rest) = with_commands (with_subcommand app command.top) rest
 
--- the command line: its options, which are `--today DAY` and then `--db PATH`, in any order among the words and each at
--- most once, and a command behind them
+-- the command line: its options, which are `--today DAY`, `--db PATH` and `--quiet`, in any order among the words and
+-- each at most once, and a command behind them
 unfoldable pub program : App
 program =
     on_top (λ s. record s { subcommand_required = true })
@@ -97,17 +111,22 @@ report_name (reports.Reconcile day) = codes "reconcile"
 report_name reports.Trial = codes "trial"
 report_name reports.Journal = codes "journal"
 report_name reports.Retention = codes "retention"
+report_name reports.Exceptions = codes "exceptions"
 report_name (reports.Ledger matter) = codes "ledger"
+report_name reports.OwnLedger = codes "ledger"
 
--- the values of its command are the report's operands: the text of a day, a matter's six digits
+-- the values of its command are the report's operands: the text of a day, a matter's six digits, or the word for
+-- the firm
 abbrev pub HasReportOperands : List Row → ReportCommand → Type 0
 HasReportOperands values (reports.Reconcile day) =
     option_and_then day_of (first_of (codes "DAY") values) ≡ Some day
 HasReportOperands values reports.Trial = ⊤
 HasReportOperands values reports.Journal = ⊤
 HasReportOperands values reports.Retention = ⊤
+HasReportOperands values reports.Exceptions = ⊤
 HasReportOperands values (reports.Ledger matter) =
     option_and_then matter_of (first_of (codes "MATTER") values) ≡ Some matter
+HasReportOperands values reports.OwnLedger = first_of (codes "MATTER") values ≡ Some (codes "FIRM")
 
 -- a command of this name with these values prints the report
 pub record IsReportCommand (name : Text) (values : List Row) (report : ReportCommand) : Type 0 where
@@ -118,6 +137,7 @@ pub record IsReportCommand (name : Text) (values : List Row) (report : ReportCom
 abbrev pub task_text : Task → Text
 task_text tasks.Sheet = codes "sheet"
 task_text (tasks.Import path) = codes "import"
+task_text (tasks.Match path) = codes "match"
 task_text tasks.Stream = codes "stream"
 task_text (tasks.Serve port count) = codes "serve"
 task_text (tasks.Report report) = report_name report
@@ -139,6 +159,7 @@ pub record IsServing (values : List Row) (port count : ℕ) : Type 0 where
 abbrev pub HasOperands : List Row → Task → Type 0
 HasOperands values tasks.Sheet = ⊤
 HasOperands values (tasks.Import path) = first_of (codes "FILE") values ≡ Some path.now
+HasOperands values (tasks.Match path) = first_of (codes "FILE") values ≡ Some path.now
 HasOperands values tasks.Stream = ⊤
 HasOperands values (tasks.Serve port count) = IsServing values port count
 HasOperands values (tasks.Report report) = HasReportOperands values report
@@ -168,6 +189,14 @@ pub record Means (words : List Text) (today : ℕ) (task : Task) : Type 0 where
 abbrev pub db_of : List Text → Option Text
 db_of words = first_of (codes "db") (matches_of program words)
 
+-- the matched values say that a flag is given
+abbrev pub is_flag_set : Text → List Row → Bool
+is_flag_set id rows = option_map_or (λ text. bytes_eq text (codes "true")) (first_of id rows) false
+
+-- `--quiet` is given
+abbrev pub quiet_of : List Text → Bool
+quiet_of words = is_flag_set (codes "quiet") (matches_of program words)
+
 -- the words mean that a sheet is run
 abbrev pub MeansSheet : List Text → Type 0
 MeansSheet words = (today : ℕ) × Means words today tasks.Sheet
@@ -175,6 +204,10 @@ MeansSheet words = (today : ℕ) × Means words today tasks.Sheet
 -- the words mean that a statement is imported
 abbrev pub MeansImport : List Text → Type 0
 MeansImport words = (today : ℕ) × (path : Bor (List ℕ)) × Means words today (tasks.Import path)
+
+-- the words mean that a statement is matched against the book
+abbrev pub MeansMatch : List Text → Type 0
+MeansMatch words = (today : ℕ) × (path : Bor (List ℕ)) × Means words today (tasks.Match path)
 
 -- the words mean that the messages of standard input are served
 abbrev pub MeansStream : List Text → Type 0
@@ -195,6 +228,10 @@ ImportIsNoSheet = (words : List Text) → MeansImport words → ¬ MeansSheet wo
 -- the words of an import mean no stream
 abbrev pub ImportIsNoStream : Type 0
 ImportIsNoStream = (words : List Text) → MeansImport words → ¬ MeansStream words
+
+-- the words of a match mean no sheet and no stream
+abbrev pub MatchReadsNothing : Type 0
+MatchReadsNothing = (words : List Text) → MeansMatch words → (¬ MeansSheet words) × (¬ MeansStream words)
 
 -- the words of a report mean no sheet and no stream
 abbrev pub ReportReadsNothing : Type 0

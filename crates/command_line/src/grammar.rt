@@ -28,7 +28,11 @@ fn options_command<'a>(alloc: Global) -> Result<Command<'a>, AllocError>
         .action(ArgAction::Set);
     let with_day = Command::new(alloc, "cashier_cli").arg(today)?;
     let db = Arg::new(alloc, "db").long("db").action(ArgAction::Set);
-    with_day.arg(db)
+    let with_db = with_day.arg(db)?;
+    let quiet = Arg::new(alloc, "quiet")
+        .long("quiet")
+        .action(ArgAction::SetTrue);
+    with_db.arg(quiet)
 }
 
 // A command line with the commands that are no reports behind its own.
@@ -37,7 +41,8 @@ fn with_runs<'a>(alloc: Global, command: Command<'a>) -> Result<Command<'a>, All
 {
     let with_sheet = with_bare(alloc, command, "sheet")?;
     let with_import = with_operand(alloc, with_sheet, "import", "FILE")?;
-    let with_stream = with_bare(alloc, with_import, "stream")?;
+    let with_match = with_operand(alloc, with_import, "match", "FILE")?;
+    let with_stream = with_bare(alloc, with_match, "stream")?;
     with_serve(alloc, with_stream)
 }
 
@@ -49,7 +54,8 @@ fn with_reports<'a>(alloc: Global, command: Command<'a>) -> Result<Command<'a>, 
     let with_trial = with_bare(alloc, with_reconcile, "trial")?;
     let with_journal = with_bare(alloc, with_trial, "journal")?;
     let with_retention = with_bare(alloc, with_journal, "retention")?;
-    with_operand(alloc, with_retention, "ledger", "MATTER")
+    let with_exceptions = with_bare(alloc, with_retention, "exceptions")?;
+    with_operand(alloc, with_exceptions, "ledger", "MATTER")
 }
 
 // A command line with a command more that has no operand.

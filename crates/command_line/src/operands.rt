@@ -1,9 +1,10 @@
 // The values of the command line.
 
-ghost use Rattle.std.specs.Prelude.{◌≡◌, ℕ, IfNone, IfSome, option_and_then};
+ghost use Rattle.std.specs.Prelude.{◌≡◌, ℕ, IfNone, IfSome, codes, option_and_then};
+ghost use Rattle.std.specs.Str.{bytes_eq};
 ghost use Rattle.clap.specs.Words.{first_of, found_of, rows_of};
 ghost use Rattle.trust_base.specs.Texts.{day_of, matter_of};
-ghost use Rattle.command_line.specs.Program.{IsCountGiven, IsPortGiven};
+ghost use Rattle.command_line.specs.Program.{IsCountGiven, IsPortGiven, is_flag_set};
 
 use crate::numerals::{count_of, port_of};
 use clap::ArgMatches;
@@ -24,6 +25,13 @@ pub fn matter_operand(values: &ArgMatches, id: &str) -> Option<MatterNo>
     MatterNo::read(values.get_str(id)?.as_bytes())
 }
 
+/// Whether a text is the word that stands for the firm where a matter's number may stand.
+pub fn is_firm(text: &str) -> bool
+    ensures { result ≡ bytes_eq text.now (codes "FIRM") }
+{
+    text == "FIRM"
+}
+
 /// The port whose text is the first value of an argument; none where it has no value, or one that is no port's text.
 pub fn port_operand(values: &ArgMatches, id: &str) -> Option<u16>
     ensures some { IfSome result (IsPortGiven (first_of id.now (rows_of (found_of values.now)))) }
@@ -40,4 +48,14 @@ pub fn count_operand(values: &ArgMatches, id: &str) -> Option<u32>
         ((count : ℕ) → ¬ IsCountGiven (first_of id.now (rows_of (found_of values.now))) count) }
 {
     count_of(values.get_str(id)?)
+}
+
+/// Whether a flag is given; not where there is no argument of this name.
+pub fn is_flag_set(values: &ArgMatches, id: &str) -> bool
+    ensures { result ≡ is_flag_set id.now (rows_of (found_of values.now)) }
+{
+    match values.get_str(id) {
+        Some(text) => text == "true",
+        None => false,
+    }
 }

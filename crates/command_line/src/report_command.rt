@@ -1,11 +1,11 @@
 // The commands that print a report.
 
-ghost use Rattle.std.specs.Prelude.{IfNone, IfSome};
+ghost use Rattle.std.specs.Prelude.{IfNone, IfSome, codes};
 ghost use Rattle.clap.specs.Words.{found_of, rows_of};
 ghost use Rattle.command_line.specs.Program.{IsReportCommand};
 ghost use Rattle.command_line.specs.declared.report_command.ReportCommand.{ReportCommand};
 
-use crate::operands::{day_operand, matter_operand};
+use crate::operands::{day_operand, is_firm, matter_operand};
 use clap::ArgMatches;
 use trust_base::{Day, MatterNo};
 
@@ -20,8 +20,24 @@ pub enum ReportCommand {
     Journal,
     /// The retention list.
     Retention,
+    /// The list of exceptions.
+    Exceptions,
     /// The ledger card of this matter.
     Ledger(MatterNo),
+    /// The ledger card of the firm's own money.
+    OwnLedger,
+}
+
+// The ledger card that the operand asks for: the firm's own, or that of a matter.
+fn ledger_of(values: &ArgMatches) -> Option<ReportCommand>
+    ensures some { IfSome result (IsReportCommand (codes "ledger") (rows_of (found_of values.now))) }
+    ensures none { IfNone result
+        ((report : ReportCommand) → ¬ IsReportCommand (codes "ledger") (rows_of (found_of values.now)) report) }
+{
+    if is_firm(values.get_str("MATTER")?) {
+        return Some(ReportCommand::OwnLedger);
+    }
+    Some(ReportCommand::Ledger(matter_operand(values, "MATTER")?))
 }
 
 /// The report of a command, by its name and its values.
@@ -35,7 +51,8 @@ pub fn report_command_of(name: &str, values: &ArgMatches) -> Option<ReportComman
         "trial" => Some(ReportCommand::Trial),
         "journal" => Some(ReportCommand::Journal),
         "retention" => Some(ReportCommand::Retention),
-        "ledger" => Some(ReportCommand::Ledger(matter_operand(values, "MATTER")?)),
+        "exceptions" => Some(ReportCommand::Exceptions),
+        "ledger" => ledger_of(values),
         _ => None,
     }
 }

@@ -7,6 +7,7 @@ pub use Rattle.trust_reports.specs.Purged.{is_period_purged}
 use Rattle.trust_reports.specs.Reconciliations.{ReconciliationTold, reconciliation_on}
 use Rattle.trust_reports.specs.Lists.{journal_list, trial_lines, trial_total}
 use Rattle.trust_reports.specs.Retained.{retention_list}
+use Rattle.trust_reports.specs.TextsOfLedgers.{own_card_text}
 use Rattle.trust_reports.specs.TextsOfLists.{exceptions_text, journal_text, retention_text, trial_text}
 use Rattle.trust_reports.specs.TextsOfReconciliation.{reconciliation_text}
 use Rattle.firm_reports.specs.declared.reconciliation.Reconciled.{Reconciled}
@@ -29,6 +30,10 @@ retention_report today firm = retention_text today (retention_list today firm)
 -- the bank's lines that match nothing
 unfoldable pub exceptions_report : ℕ → Firm → List ℕ
 exceptions_report today firm = exceptions_text today firm.exceptions
+
+-- the lines of the firm's own in the order of acceptance, and what they add up to
+unfoldable pub own_card_report : ℕ → Firm → List ℕ
+own_card_report today firm = own_card_text today firm.firm_lines
 
 -- As of a day.
 

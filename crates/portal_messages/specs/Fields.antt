@@ -1,5 +1,5 @@
 -- What the fields of a head say of the body behind it: its size by Content-Length alone (RFC 9112, 6.2 and 6.3).
-use Rattle.std.specs.Prelude.{◌==◌, ◌&&◌, ℕ, Bool, nat_le, nat_lt, List, [], ◌∷◌, length, map, codes}
+use Rattle.std.specs.Prelude.{◌==◌, ◌&&◌, ◌||◌, ℕ, Bool, nat_le, nat_lt, List, [], ◌∷◌, length, map, codes}
 use Rattle.std.specs.Prelude.{Option, Some, None, Result, Ok, Err, if◌then◌else◌}
 use Rattle.std.specs.List.{list_all}
 use Rattle.std.specs.Char.{is_ascii_digit}
@@ -36,9 +36,15 @@ abbrev pub path_of : List ℕ → List ℕ
 path_of [] = []
 path_of (b ∷ bs) = if b == 63 then [] else b ∷ path_of bs
 
+-- a bank's statement is sent to this path, to be imported or to be matched
+abbrev pub takes_statement : List ℕ → Bool
+takes_statement path =
+    bytes_eq path (codes "/firm/statements")
+    || (bytes_eq path (codes "/firm/statements/match") || bytes_eq path (codes "/firm/statements/unmatched"))
+
 -- a bank's statement is sent in
 abbrev pub is_statement : List ℕ → List ℕ → Bool
-is_statement method target = bytes_eq method (codes "POST") && bytes_eq (path_of target) (codes "/firm/statements")
+is_statement method target = bytes_eq method (codes "POST") && takes_statement (path_of target)
 
 -- the most bytes of a body
 abbrev pub body_limit : List ℕ → List ℕ → ℕ

@@ -3,7 +3,7 @@
 ghost use Rattle.std.specs.Prelude.{◌≡◌, ◌≤◌, [], map, length, take, codes, true, All, IfOk, IfErr, MatchOption};
 ghost use Rattle.std.specs.Str.{bytes_eq, str_eq_ignore_ascii_case};
 ghost use Rattle.httparse.specs.Spans.{IsHeaderWithin, IsRequestWithin, header_bytes, span_bytes};
-ghost use Rattle.portal_messages.specs.Fields.{body_limit, body_size, is_statement, path_of, size_of, size_of_text, values_of};
+ghost use Rattle.portal_messages.specs.Fields.{body_limit, body_size, is_statement, path_of, size_of, size_of_text, takes_statement, values_of};
 ghost use Rattle.portal_messages.specs.FieldPlaces.{IsFirstOf, pairs_from};
 ghost use Rattle.portal_messages.specs.Messages.{is_framing};
 
@@ -94,11 +94,20 @@ pub fn path(target: &[u8]) -> &[u8]
     target
 }
 
+// Whether a bank's statement is sent to this path.
+fn takes_statement(path: &[u8]) -> bool
+    ensures { result ≡ takes_statement path.now }
+{
+    path == b"/firm/statements".as_slice()
+        || path == b"/firm/statements/match".as_slice()
+        || path == b"/firm/statements/unmatched".as_slice()
+}
+
 // The most bytes of a body.
 fn find_limit(method: &[u8], target: &[u8]) -> u64
     ensures { result ≡ body_limit method.now target.now }
 {
-    if method == b"POST".as_slice() && path(target) == b"/firm/statements".as_slice() {
+    if method == b"POST".as_slice() && takes_statement(path(target)) {
         MAX_STATEMENT_BYTES
     } else {
         MAX_BODY_BYTES

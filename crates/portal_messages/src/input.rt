@@ -117,8 +117,9 @@ impl Last {
 /// same answer comes from then on, and nothing is read.
 ///
 /// `Reader` comes where a read failed, and `Memory` where a growth was refused; the bytes then read count for nothing.
-/// A body has up to 65,536 bytes, or 4,194,304 for `POST /firm/statements`. It is held once: the message keeps the
-/// memory that its bytes were read into, whose room is taken as soon as the head tells their number.
+/// A body has up to 65,536 bytes, or 4,194,304 for `POST /firm/statements`, `/match` and `/unmatched` below it. It is
+/// held once: the message keeps the memory that its bytes were read into, whose room is taken as soon as the head tells
+/// their number.
 pub fn read_message<R: Read>(input: &mut Input<R>) -> Result<Next, Stop>
     ensures next { input.old.last ≡ None → IfOk result (IsNext input.old.unread input.new.unread) }
     ensures framing { input.old.last ≡ None → IfOk result IsFramed }

@@ -3,6 +3,7 @@ use Rattle.std.proofs.Common.{◌≡◌, ◌∙◌, ◌<◌, ℕ, Bool, true, fa
 use Rattle.std.specs.Str.{bytes_eq}
 use Rattle.trust_base.specs.Texts.{day_of}
 use Rattle.trust_base.specs.Refusals.{number_of}
+use Rattle.trust_base.specs.declared.line.Line.{Line}
 use Rattle.trust_base.specs.declared.refusal.Field.{Field}
 use Rattle.trust_base.specs.declared.refusal.Field.TheVariants as field
 use Rattle.trust_base.specs.declared.refusal.Refusal.{Refusal}
@@ -17,7 +18,9 @@ use Rattle.portal_requests.specs.declared.place.ReportPlace.TheVariants as repor
 use Rattle.portal_requests.specs.declared.place.Place.{Place}
 use Rattle.portal_requests.specs.declared.place.Place.TheVariants as place
 use Rattle.portal_requests.specs.Asked.{entry_ask, matter_ask}
+use Rattle.portal_requests.specs.Bodies.{body_in}
 use Rattle.portal_requests.specs.Callers.{caller_of}
+use Rattle.portal_requests.specs.Dismissals.{dismissing, line_in, line_keys}
 use Rattle.portal_requests.specs.LeastRefusal.{LeastRefusal, RefusesAt}
 use Rattle.portal_requests.specs.Paths.{day_part, entry_part, named_in}
 use Rattle.portal_requests.specs.Places.{method_of}
@@ -55,11 +58,16 @@ report-field report.Journal caller path r e = absurd (cc)
 report-field report.Reconciliation caller path r e = day-field caller (day_of (day_part path)) r e
 report-field report.Retention caller path r e = absurd (cc)
 
+line-field : (caller : Caller) (o : Option Line) (r : Refusal) → dismissing caller o ≡ Err r → IsOfField r
+line-field caller None r e = (field.Body, err-same (BadField field.Body) r e)
+line-field caller (Some line) r e = absurd (cc)
+
 of-field : (p : Place) (caller : Caller) (path body : List ℕ) (r : Refusal) → asked_at p caller path body ≡ Err r → IsOfField r
 of-field (place.Matter p) caller path body r e = matter-field caller (named_in path) (matter_ask p body) r e
 of-field (place.Entry p) caller path body r e = matter-field caller (named_in path) (entry_ask p (entry_part path) body) r e
 of-field (place.Report p) caller path body r e = report-field p caller path r e
-of-field place.Statements caller path body r e = absurd (cc)
+of-field (place.Statement p) caller path body r e = absurd (cc)
+of-field place.Dismissal caller path body r e = line-field caller (line_in (body_in line_keys body)) r e
 
 -- The least refusal, by a place and a caller.
 

@@ -8,6 +8,7 @@ use Rattle.matchit.specs.Router.{RouteOf, route_from}
 use Rattle.matchit.specs.Rows.{RowsOf}
 use Rattle.matchit.specs.Seek.{first}
 use Rattle.matchit.specs.declared.error.InsertError.{InsertError}
+use Rattle.trust_base.specs.declared.line.Line.{Line}
 use Rattle.trust_base.specs.Texts.{day_of, matter_of}
 use Rattle.trust_base.specs.declared.refusal.Field.{Field}
 use Rattle.trust_base.specs.declared.refusal.Refusal.TheVariants.{BadMethod}
@@ -18,14 +19,18 @@ use Rattle.portal_messages.specs.declared.message.Message.{Message}
 use Rattle.portal_messages.specs.Fields.{path_of}
 use Rattle.portal_requests.specs.declared.place.ReportPlace.{ReportPlace}
 use Rattle.portal_requests.specs.declared.place.ReportPlace.TheVariants as report
+use Rattle.portal_requests.specs.declared.place.StatementPlace.{StatementPlace}
+use Rattle.portal_requests.specs.declared.place.StatementPlace.TheVariants as statement
 use Rattle.portal_requests.specs.declared.place.Place.{Place}
 use Rattle.portal_requests.specs.declared.place.Place.TheVariants as place
 use Rattle.portal_requests.specs.Asked.{entry_ask, matter_ask}
+use Rattle.portal_requests.specs.Bodies.{body_in}
 use Rattle.portal_requests.specs.Callers.{caller_of}
+use Rattle.portal_requests.specs.Dismissals.{dismissing, dismissing_in, line_in, line_keys}
 use Rattle.portal_requests.specs.NamedByPath.{NamedByPath}
 use Rattle.portal_requests.specs.Paths.{day_part, entry_part, has_matter, named_in}
 use Rattle.portal_requests.specs.Places.{method_of}
-use Rattle.portal_requests.specs.Requests.{as_of, asked_at, called, heard_as, heard_of, of_matter, placed, reported, request, routed}
+use Rattle.portal_requests.specs.Requests.{as_of, asked_at, called, heard_as, heard_of, of_matter, placed, reported, request, routed, with_statement}
 use Rattle.portal_requests.specs.Routing.{place_of}
 use Rattle.portal_requests.specs.Table.{TABLE, route_rows, row_in, the_routes}
 use Rattle.portal_requests.proofs.Literals.{AllRows, Starts, first-starts, placed-rows}
@@ -38,7 +43,8 @@ abbrev pub is_of_firm : Place → Bool
 is_of_firm (place.Matter p) = false
 is_of_firm (place.Entry p) = false
 is_of_firm (place.Report p) = true
-is_of_firm place.Statements = true
+is_of_firm (place.Statement p) = true
+is_of_firm place.Dismissal = true
 
 -- a route that leads there
 abbrev pub LeadsToFirm : RouteOf Place → Type 0
@@ -72,7 +78,7 @@ rows-more (p ∷ rest) rows texts all = rows-more rest (row_in (parse_route p.0)
 table-texts : AllTexts TABLE
 unfolding TABLE matchit_on_literals
 table-texts =
-    ((λ e. absurd (cc)), ((λ e. absurd (cc)), ((λ e. absurd (cc)), ((λ e. absurd (cc)), ((λ e. absurd (cc)), ((λ e. absurd (cc)), ((λ e. absurd (cc)), ((λ e. absurd (cc)), ((λ e. absurd (cc)), ((λ e. absurd (cc)), ((λ e. absurd (cc)), ((λ e. absurd (cc)), ((λ e. absurd (cc)), ((λ e. absurd (cc)), ((λ e. absurd (cc)), ((λ e. absurd (cc)), ((λ e. absurd (cc)), ((λ e. absurd (cc)), ((λ e. absurd (cc)), ((λ e. (refl, (refl, (refl, (refl, (refl, (refl, tt))))))), ((λ e. (refl, (refl, (refl, (refl, (refl, (refl, tt))))))), ((λ e. (refl, (refl, (refl, (refl, (refl, (refl, tt))))))), ((λ e. (refl, (refl, (refl, (refl, (refl, (refl, tt))))))), ((λ e. (refl, (refl, (refl, (refl, (refl, (refl, tt))))))), ((λ e. (refl, (refl, (refl, (refl, (refl, (refl, tt))))))), tt)))))))))))))))))))))))))
+    ((λ e. absurd (cc)), ((λ e. absurd (cc)), ((λ e. absurd (cc)), ((λ e. absurd (cc)), ((λ e. absurd (cc)), ((λ e. absurd (cc)), ((λ e. absurd (cc)), ((λ e. absurd (cc)), ((λ e. absurd (cc)), ((λ e. absurd (cc)), ((λ e. absurd (cc)), ((λ e. absurd (cc)), ((λ e. absurd (cc)), ((λ e. absurd (cc)), ((λ e. absurd (cc)), ((λ e. absurd (cc)), ((λ e. absurd (cc)), ((λ e. absurd (cc)), ((λ e. absurd (cc)), ((λ e. (refl, (refl, (refl, (refl, (refl, (refl, tt))))))), ((λ e. (refl, (refl, (refl, (refl, (refl, (refl, tt))))))), ((λ e. (refl, (refl, (refl, (refl, (refl, (refl, tt))))))), ((λ e. (refl, (refl, (refl, (refl, (refl, (refl, tt))))))), ((λ e. (refl, (refl, (refl, (refl, (refl, (refl, tt))))))), ((λ e. (refl, (refl, (refl, (refl, (refl, (refl, tt))))))), ((λ e. (refl, (refl, (refl, (refl, (refl, (refl, tt))))))), ((λ e. (refl, (refl, (refl, (refl, (refl, (refl, tt))))))), ((λ e. (refl, (refl, (refl, (refl, (refl, (refl, tt))))))), tt))))))))))))))))))))))))))))
 
 the-rows : AllRows LeadsToFirm OfFirm the_routes
 unfolding the_routes
@@ -123,11 +129,21 @@ report-named n report.Reconciliation caller path = cases (day_of (day_part path)
     cases (Some day) = refl
 report-named n report.Retention caller path = refl
 
+statement-named : (n : ℕ) (p : StatementPlace) (caller : Caller) (o : Option ℕ) (body : List ℕ) → names n (heard_as o (Ok (with_statement p caller body))) ≡ false
+statement-named n statement.Import caller o body = refl
+statement-named n statement.Match caller o body = refl
+statement-named n statement.Unmatched caller o body = refl
+
+dismissal-named : (n : ℕ) (caller : Caller) (o : Option Line) → names n (heard_as None (dismissing caller o)) ≡ false
+dismissal-named n caller None = refl
+dismissal-named n caller (Some line) = refl
+
 at-named : (n : ℕ) (p : Place) (caller : Caller) (path body : List ℕ) → place_of path ≡ Some p → names n (heard_as (named_in path) (asked_at p caller path body)) ≡ is_the n (named_in path)
 at-named n (place.Matter p) caller path body e = of-named n caller (named_in path) (matter_ask p body)
 at-named n (place.Entry p) caller path body e = of-named n caller (named_in path) (entry_ask p (entry_part path) body)
 at-named n (place.Report p) caller path body e = subst (λ (o : Option ℕ). names n (heard_as o (reported p caller path)) ≡ is_the n o) (sym (firm-unnamed path (place.Report p) refl e)) (report-named n p caller path)
-at-named n place.Statements caller path body e = sym (ap (is_the n) (firm-unnamed path place.Statements refl e))
+at-named n place.Dismissal caller path body e = subst (λ (o : Option ℕ). names n (heard_as o (dismissing_in caller body)) ≡ is_the n o) (sym (firm-unnamed path place.Dismissal refl e)) (dismissal-named n caller (line_in (body_in line_keys body)))
+at-named n (place.Statement p) caller path body e = statement-named n p caller (named_in path) body ∙ sym (ap (is_the n) (firm-unnamed path (place.Statement p) refl e))
 
 called-named : (n : ℕ) (p : Place) (o : Option Caller) (path body : List ℕ) → place_of path ≡ Some p → names n (heard_as (named_in path) (called p o path body)) ≡ is_the n (named_in path)
 called-named n p None path body e = refl

@@ -5,6 +5,7 @@ pub mod Routing
 pub mod Callers
 pub mod Bodies
 pub mod Asked
+pub mod Dismissals
 pub mod Requests
 pub mod Answers
 pub mod NamedByPath

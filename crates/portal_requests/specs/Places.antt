@@ -7,7 +7,7 @@ use Rattle.portal_requests.specs.declared.place.EntryPlace.{EntryPlace}
 use Rattle.portal_requests.specs.declared.place.Place.TheVariants as place
 use Rattle.portal_requests.specs.declared.place.Place.{Place}
 
--- the method of a place: what only reads is got, and all else is posted
+-- the method of a place: what only reads is got; what changes something, or comes with a statement, is posted
 abbrev pub matter_method : MatterPlace → List ℕ
 matter_method matter.Show = codes "GET"
 matter_method matter.Open = codes "POST"
@@ -35,4 +35,5 @@ abbrev pub method_of : Place → List ℕ
 method_of (place.Matter p) = matter_method p
 method_of (place.Entry p) = entry_method p
 method_of (place.Report p) = codes "GET"
-method_of place.Statements = codes "POST"
+method_of (place.Statement p) = codes "POST"
+method_of place.Dismissal = codes "POST"

@@ -15,11 +15,14 @@ use Rattle.portal_messages.specs.declared.message.Message.{Message}
 use Rattle.portal_messages.specs.Fields.{path_of}
 use Rattle.portal_requests.specs.declared.place.ReportPlace.{ReportPlace}
 use Rattle.portal_requests.specs.declared.place.ReportPlace.TheVariants as report
+use Rattle.portal_requests.specs.declared.place.StatementPlace.{StatementPlace}
+use Rattle.portal_requests.specs.declared.place.StatementPlace.TheVariants as statement
 use Rattle.portal_requests.specs.declared.place.Place.{Place}
 use Rattle.portal_requests.specs.declared.place.Place.TheVariants as place
 use Rattle.portal_requests.specs.Asked.{entry_ask, matter_ask}
 use Rattle.portal_requests.specs.Callers.{caller_of}
 use Rattle.portal_requests.specs.Paths.{day_part, entry_part, named_in}
+use Rattle.portal_requests.specs.Dismissals.{dismissing_in}
 use Rattle.portal_requests.specs.Places.{method_of}
 use Rattle.portal_requests.specs.Routing.{place_of}
 
@@ -41,12 +44,19 @@ reported report.Journal caller path = Ok (requests.Journal caller)
 reported report.Reconciliation caller path = as_of caller (day_of (day_part path))
 reported report.Retention caller path = Ok (requests.Retention caller)
 
+-- what is asked of the bank's statement that a body is
+abbrev pub with_statement : StatementPlace → Caller → List ℕ → Request
+with_statement statement.Import caller body = requests.Import caller body
+with_statement statement.Match caller body = requests.Match caller body
+with_statement statement.Unmatched caller body = requests.Unmatched caller body
+
 abbrev pub asked_at : Place → Caller → List ℕ → List ℕ → Result Request Refusal
 asked_at (place.Matter p) caller path body = of_matter caller (named_in path) (matter_ask p body)
 asked_at (place.Entry p) caller path body =
     of_matter caller (named_in path) (entry_ask p (entry_part path) body)
 asked_at (place.Report p) caller path body = reported p caller path
-asked_at place.Statements caller path body = Ok (requests.Import caller body)
+asked_at (place.Statement p) caller path body = Ok (with_statement p caller body)
+asked_at place.Dismissal caller path body = dismissing_in caller body
 
 abbrev pub called : Place → Option Caller → List ℕ → List ℕ → Result Request Refusal
 called p None path body = Err NoCaller

@@ -9,8 +9,9 @@ use Rattle.matchit.specs.declared.error.InsertError.{InsertError}
 use Rattle.portal_requests.specs.declared.place.MatterPlace.TheVariants as matter
 use Rattle.portal_requests.specs.declared.place.EntryPlace.TheVariants as entry
 use Rattle.portal_requests.specs.declared.place.ReportPlace.TheVariants as report
+use Rattle.portal_requests.specs.declared.place.StatementPlace.TheVariants as statement
 use Rattle.portal_requests.specs.declared.place.Place.{Place}
-use Rattle.portal_requests.specs.declared.place.Place.TheVariants.{Matter, Entry, Report, Statements}
+use Rattle.portal_requests.specs.declared.place.Place.TheVariants.{Dismissal, Matter, Entry, Report, Statement}
 
 -- the rows with one more route
 abbrev pub row_in : Result Scan InsertError → Place → RowsOf (RouteOf Place) → RowsOf (RouteOf Place)
@@ -57,8 +58,11 @@ TABLE = (codes "/matters/{m}", Matter matter.Show)
     ∷ (codes "/matters/{m}/entries/{e}/offer", Entry entry.Offer)
     ∷ (codes "/matters/{m}/entries/{e}/accept", Entry entry.Accept)
     ∷ (codes "/matters/{m}/entries/{e}/award", Entry entry.Award)
-    ∷ (codes "/firm/statements", Statements)
+    ∷ (codes "/firm/statements", Statement statement.Import)
+    ∷ (codes "/firm/statements/match", Statement statement.Match)
+    ∷ (codes "/firm/statements/unmatched", Statement statement.Unmatched)
     ∷ (codes "/firm/exceptions", Report report.Exceptions)
+    ∷ (codes "/firm/exceptions/dismiss", Dismissal)
     ∷ (codes "/firm/trial-balance", Report report.TrialBalance)
     ∷ (codes "/firm/journal", Report report.Journal)
     ∷ (codes "/firm/reconciliation/{day}", Report report.Reconciliation)

@@ -3,6 +3,7 @@
 
 mod body;
 mod caller;
+mod dismissal;
 mod entry_asks;
 pub mod laws;
 mod matter_asks;

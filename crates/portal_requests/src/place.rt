@@ -42,6 +42,14 @@ pub(crate) enum ReportPlace {
     Retention,
 }
 
+/// What a route does with a statement of the bank.
+#[derive(Clone, Copy, PartialEq, Eq, Debug)]
+pub(crate) enum StatementPlace {
+    Import,
+    Match,
+    Unmatched,
+}
+
 /// Where a route leads.
 #[derive(Clone, Copy, PartialEq, Eq, Debug)]
 pub(crate) enum Place {
@@ -51,8 +59,10 @@ pub(crate) enum Place {
     Entry(EntryPlace),
     /// To a report on the firm.
     Report(ReportPlace),
-    /// To a statement of the bank.
-    Statements,
+    /// To what is done with a statement of the bank.
+    Statement(StatementPlace),
+    /// To a line that is dismissed from the exceptions.
+    Dismissal,
 }
 
 /// The method of a place, the only one.
@@ -63,6 +73,6 @@ pub(crate) fn method(place: Place) -> &'static [u8]
         Place::Matter(MatterPlace::Show | MatterPlace::Accounting)
         | Place::Entry(EntryPlace::Show)
         | Place::Report(_) => b"GET",
-        Place::Matter(_) | Place::Entry(_) | Place::Statements => b"POST",
+        Place::Matter(_) | Place::Entry(_) | Place::Statement(_) | Place::Dismissal => b"POST",
     }
 }

@@ -1,16 +1,18 @@
 // The request of a message.
 
+ghost use Rattle.std.specs.Prelude.{Ok};
 ghost use Rattle.portal_requests.specs.Answers.{Answers};
 ghost use Rattle.portal_requests.specs.Asked.{entry_ask, matter_ask};
 ghost use Rattle.portal_requests.specs.Paths.{entry_part, named_in};
-ghost use Rattle.portal_requests.specs.Requests.{asked_at, of_matter, reported, request};
+ghost use Rattle.portal_requests.specs.Requests.{asked_at, of_matter, reported, request, with_statement};
 
 use crate::caller::caller;
+use crate::dismissal::read_dismissal;
 use crate::entry_asks::read_entry_ask;
 use crate::matter_asks::read_matter_ask;
 use crate::named::named_matter;
 use crate::parts::{day_part, entry_part};
-use crate::place::{EntryPlace, MatterPlace, Place, ReportPlace, method};
+use crate::place::{EntryPlace, MatterPlace, Place, ReportPlace, StatementPlace, method};
 use crate::routes::Routes;
 use portal_messages::{Message, path};
 use std::alloc::Global;
@@ -73,6 +75,23 @@ fn read_report_at(place: ReportPlace, caller: Caller, path: &[u8]) -> Result<Req
     }
 }
 
+// What is asked of the bank's statement that a body is.
+fn read_statement_at(
+    alloc: Global,
+    place: StatementPlace,
+    caller: Caller,
+    body: &[u8],
+) -> Result<Request, Refusal>
+    ensures { Answers (Ok (with_statement place caller body.now)) result }
+{
+    let statement = OwnedBytes::new(Vec::from_slice(alloc, body)?);
+    Ok(match place {
+        StatementPlace::Import => Request::Import { caller, statement },
+        StatementPlace::Match => Request::Match { caller, statement },
+        StatementPlace::Unmatched => Request::Unmatched { caller, statement },
+    })
+}
+
 fn read_at(
     alloc: Global,
     place: Place,
@@ -86,10 +105,8 @@ fn read_at(
         Place::Matter(place) => read_matter_at(alloc, place, caller, path, body),
         Place::Entry(place) => read_entry_at(alloc, place, caller, path, body),
         Place::Report(place) => read_report_at(place, caller, path),
-        Place::Statements => Ok(Request::Import {
-            caller,
-            statement: OwnedBytes::new(Vec::from_slice(alloc, body)?),
-        }),
+        Place::Statement(place) => read_statement_at(alloc, place, caller, body),
+        Place::Dismissal => read_dismissal(alloc, caller, body),
     }
 }
 

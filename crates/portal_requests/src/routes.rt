@@ -6,7 +6,7 @@ ghost use Rattle.matchit.specs.Seek.{first};
 ghost use Rattle.portal_requests.specs.Routing.{place_of};
 ghost use Rattle.portal_requests.specs.Table.{AreTaken, IsTaken, row_in, route_rows, rows_of, the_routes};
 
-use crate::place::{EntryPlace, MatterPlace, Place, ReportPlace};
+use crate::place::{EntryPlace, MatterPlace, Place, ReportPlace, StatementPlace};
 use matchit::{InsertError, Router};
 use std::alloc::Global;
 use std::marker::Model;
@@ -115,8 +115,17 @@ impl Routes {
                 "/matters/{m}/entries/{e}/award",
                 Place::Entry(EntryPlace::Award),
             ),
-            ("/firm/statements", Place::Statements),
+            ("/firm/statements", Place::Statement(StatementPlace::Import)),
+            (
+                "/firm/statements/match",
+                Place::Statement(StatementPlace::Match),
+            ),
+            (
+                "/firm/statements/unmatched",
+                Place::Statement(StatementPlace::Unmatched),
+            ),
             ("/firm/exceptions", Place::Report(ReportPlace::Exceptions)),
+            ("/firm/exceptions/dismiss", Place::Dismissal),
             (
                 "/firm/trial-balance",
                 Place::Report(ReportPlace::TrialBalance),

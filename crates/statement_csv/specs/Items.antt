@@ -31,6 +31,15 @@ item_of_line number line = item_by number line (owner_of line.reference)
 unfoldable pub item_of : ℕ → List (List ℕ) → Item
 item_of number fields = unwrap_or (option_map (item_of_line number) (line_of fields)) (item.Unreadable number)
 
+-- the line that an item is
+abbrev pub line_in : Item → Option Line
+line_in (item.Opening line) = Some line
+line_in (item.Closing line) = Some line
+line_in (item.OfMatter named) = Some named.line
+line_in (item.OfFirm line) = Some line
+line_in (item.Stray line) = Some line
+line_in (item.Unreadable number) = None
+
 -- the items of records, the first of which has this number
 unfoldable pub items_from : ℕ → List (List (List ℕ)) → List Item
 items_from number [] = []

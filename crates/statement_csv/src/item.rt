@@ -2,7 +2,7 @@
 
 ghost use Rattle.std.specs.Prelude.{◌≡◌, IfOk};
 ghost use Rattle.csv.specs.Records.{fields_of};
-ghost use Rattle.statement_csv.specs.Items.{item_of, item_of_line};
+ghost use Rattle.statement_csv.specs.Items.{item_of, item_of_line, line_in};
 
 use crate::line::read_line;
 use crate::owner::{LineOwner, NamedEntry, read_owner};
@@ -42,6 +42,20 @@ impl Drop for Item {
     }
 }
 
+impl Item {
+    /// The line that it is, and none of a record that is no line.
+    pub fn into_line(self) -> Option<Line>
+        ensures { result ≡ line_in self }
+    {
+        match self {
+            Item::Opening(line) | Item::Closing(line) => Some(line),
+            Item::OfMatter(named) => Some(named.line),
+            Item::OfFirm(line) | Item::Stray(line) => Some(line),
+            Item::Unreadable(_) => None,
+        }
+    }
+}
+
 // The item of a line, which stands in the record with this number.
 fn item_by_owner(line: Line, number: u64) -> Item
     ensures { result ≡ item_of_line number line }
@@ -60,9 +74,9 @@ fn item_by_owner(line: Line, number: u64) -> Item
     }
 }
 
-/// The item of the record with this number.
+/// The item of the record with this number. Fails only for want of memory.
 #[tactic(auto, unfolding(crate::specs::Items::item_of))]
-pub(crate) fn read_item(alloc: Global, row: &ByteRecord, number: u64) -> Result<Item, AllocError>
+pub fn read_item(alloc: Global, row: &ByteRecord, number: u64) -> Result<Item, AllocError>
     ensures { IfOk result (λ item. item ≡ item_of number (fields_of row.now)) }
 {
     match read_line(alloc, row)? {

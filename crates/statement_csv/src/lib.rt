@@ -11,6 +11,7 @@ mod lines;
 mod owner;
 
 pub use fault::ReadFault;
-pub use item::Item;
+pub use item::{Item, read_item};
 pub use limited::Whole;
+pub use line::line_of_texts;
 pub use lines::Lines;

@@ -2,7 +2,7 @@
 
 ghost use Rattle.std.specs.Prelude.{◌≡◌, IfOk, [], get_or};
 ghost use Rattle.csv.specs.Records.{fields_of};
-ghost use Rattle.statement_csv.specs.Lines.{line_of, line_of_texts};
+ghost use Rattle.statement_csv.specs.Lines.{line_of, line_of_texts as line_in_texts};
 
 use csv::ByteRecord;
 use std::alloc::{AllocError, Global};
@@ -15,9 +15,9 @@ fn field(row: &ByteRecord, place: usize) -> &[u8]
     row.get(place).unwrap_or(&[])
 }
 
-// The line of the texts of its fields, where each is a text of its kind.
+/// The line of the texts of its five fields, where each is a text of its kind. The error is want of memory.
 #[tactic(auto, unfolding(crate::specs::Lines::line_of_texts))]
-fn line_of_fields(
+pub fn line_of_texts(
     alloc: Global,
     date: &[u8],
     reference: &[u8],
@@ -25,7 +25,7 @@ fn line_of_fields(
     amount: &[u8],
     text: &[u8],
 ) -> Result<Option<Line>, AllocError>
-    ensures { IfOk result (λ line. line ≡ line_of_texts date.now reference.now bank_ref.now amount.now text.now) }
+    ensures { IfOk result (λ line. line ≡ line_in_texts date.now reference.now bank_ref.now amount.now text.now) }
 {
     let Some(date) = Day::read(date) else {
         return Ok(None);
@@ -58,7 +58,7 @@ pub(crate) fn read_line(alloc: Global, row: &ByteRecord) -> Result<Option<Line>,
     if row.len() != 5 {
         return Ok(None);
     }
-    line_of_fields(
+    line_of_texts(
         alloc,
         field(row, 0),
         field(row, 1),

@@ -1,12 +1,11 @@
 -- When a line is filled.
-use Rattle.std.proofs.Common.{◌≡◌, ◌∙◌, sym, ap, subst, ℕ, ◌+◌, ◌<◌, ◌≤◌, ◌==◌, Bool, true, false, not, cond, ◌&&◌, List, [], ◌∷◌, length, get_or, Option, Some, None, refl, inl, inr, ◌⊎◌, ◌↔◌, arith}
-use Rattle.std.specs.List.{Contains, count_by, find, list_any}
-use Rattle.std.specs.Str.{bytes_eq}
-use Rattle.std.proofs.lemmas.Bool.{and_parts, and_from, cond-true, cond-false, eqb-true, eq-eqb, false_from_ne_true, not_from_false}
+use Rattle.std.proofs.Common.{◌≡◌, ◌∙◌, sym, ap, ℕ, ◌==◌, Bool, true, false, not, cond, ◌&&◌, List, Option, Some, None, refl, arith}
+use Rattle.std.specs.List.{count_by, find}
+use Rattle.std.proofs.lemmas.Bool.{and_parts, and_from, cond-true, cond-false, eqb-true, eq-eqb, not_from_false}
 use Rattle.trust_base.specs.declared.line.Line.{Line}
 use Rattle.statement_match.specs.Waiting.{Waiting}
 use Rattle.statement_match.specs.Showing.{fits}
-use Rattle.statement_match.specs.Rule.{Held, becomes, claimed_reference, exception_reference, fill, filled_with, is_beside_booked, is_claimed, is_doubled, is_fitted_once, is_in_book, is_open, is_open_fit, unless_exception}
+use Rattle.statement_match.specs.Rule.{Held, becomes, exception_reference, fill, filled_with, is_beside_booked, is_claimed, is_doubled, is_fitted_once, is_in_book, is_open, is_open_fit, unless_exception}
 use Rattle.statement_match.specs.declared.outcome.Outcome.{Outcome}
 use Rattle.statement_match.specs.declared.outcome.Outcome.TheVariants as outcome
 use Rattle.statement_match.specs.Laws.{IsSure, FillsWhatIsSure, FillsWithWaiting, TwoEntriesAreLeft, TwoLinesAreLeft}

@@ -1,25 +1,22 @@
 -- What a firm has, matter by matter.
-use Rattle.std.proofs.Common.{◌≡◌, ◌∙◌, sym, ap, subst, ℕ, zero, suc, ◌+◌, ◌<◌, Bool, true, false, cond, List, [], ◌∷◌, ◌++◌, length, map, refl, inl, inr, ◌⊎◌, arith}
+use Rattle.std.proofs.Common.{◌≡◌, ◌∙◌, sym, ap, ℕ, zero, suc, Bool, true, false, cond, List, [], ◌∷◌, ◌++◌, map, refl, inl, inr, ◌⊎◌, arith}
 use Rattle.std.specs.List.{Contains, filter, flat_map}
-use Rattle.std.proofs.lemmas.List.Elements.{Contains-append_cases, Contains-append_left, Contains-append_right}
-use Rattle.trust_base.specs.declared.line.Line.{Line}
 use Rattle.matter_rows.specs.declared.deposit.Deposit.{Deposit}
 use Rattle.matter_rows.specs.declared.deposit.DepositState.{DepositState}
 use Rattle.matter_rows.specs.declared.deposit.DepositState.TheVariants as deposit
 use Rattle.matter_rows.specs.declared.payment.Payment.{Payment}
 use Rattle.matter_rows.specs.declared.payment.PaymentState.{PaymentState}
 use Rattle.matter_rows.specs.declared.payment.PaymentState.TheVariants as payment
-use Rattle.matter_rows.specs.declared.entry.Entry.{Entry}
 use Rattle.matter_rows.specs.declared.entry.Entry.TheVariants as entry
 use Rattle.firm_rows.specs.Firm.{EntryRow, Firm, HeadRow, Row, SeatRow}
 use Rattle.statement_csv.specs.References.{reference_text}
 use Rattle.statement_match.specs.Waiting.{Waiting}
-use Rattle.statement_match.specs.Rule.{becomes}
-use Rattle.statement_match.specs.Books.{deposit_waiting, entry_waiting, held_of, own_booking, payment_waiting, row_bookings, row_waiting, with_matters}
+use Rattle.statement_match.specs.Books.{deposit_waiting, held_of, own_booking, payment_waiting, row_bookings, row_waiting, with_matters}
 use Rattle.statement_match.specs.Laws.{HasLess, IsPart, NoneOf, With, Without}
 use Rattle.statement_match.specs.FirmLaws.{FilledWaits, IsHeldRow, IsIssuedRow, OtherMattersOnlyTakeAway}
 use Rattle.statement_match.proofs.Filling.{fills_with_waiting}
-use Rattle.statement_match.proofs.Less.{later, more_only_takes_away}
+use Rattle.statement_match.proofs.Less.{more_only_takes_away}
+use Rattle.statement_match.proofs.Members.{filter_has, flat_map_from, flat_map_has}
 
 -- Parts of lists.
 
@@ -49,40 +46,6 @@ part_of_filter : {A B : Type 0} (f : A → List B) (p : A → Bool) (xs : List A
     → IsPart (flat_map f (filter p xs)) (flat_map f xs)
 part_of_filter f p [] = NoneOf
 part_of_filter f p (x ∷ xs) = part_of_picked f (p x) x (filter p xs) xs (part_of_filter f p xs)
-
--- What is there.
-
-there_if_picked : {A : Type 0} (b : Bool) (x y : A) (xs : List A) → Contains xs y → Contains (cond b (x ∷ xs) xs) y
-there_if_picked true x y xs h = later x y xs h
-there_if_picked false x y xs h = h
-
-filter_has : {A : Type 0} (p : A → Bool) (xs : List A) (y : A) → p y ≡ true → Contains xs y
-    → Contains (filter p xs) y
-filter_has p [] y hit (k, lt, is) = absurd (omega arith)
-filter_has p (x ∷ xs) y hit (zero, lt, is) =
-    let T = λ (b : Bool). Contains (cond b (x ∷ filter p xs) (filter p xs)) y in
-    subst T (sym (ap p is ∙ hit)) (zero, omega arith, is)
-filter_has p (x ∷ xs) y hit (suc k, lt, is) =
-    there_if_picked (p x) x y (filter p xs) (filter_has p xs y hit (k, omega arith, is))
-
-flat_map_has : {A B : Type 0} (f : A → List B) (xs : List A) (y : A) (z : B) → Contains xs y → Contains (f y) z
-    → Contains (flat_map f xs) z
-flat_map_has f [] y z (k, lt, is) there = absurd (omega arith)
-flat_map_has {A} f (x ∷ xs) y z (zero, lt, is) there =
-    let T = λ (v : A). Contains (f v) z in
-    Contains-append_left (f x) (flat_map f xs) z (subst T (sym is) there)
-flat_map_has f (x ∷ xs) y z (suc k, lt, is) there =
-    Contains-append_right (f x) (flat_map f xs) z (flat_map_has f xs y z (k, omega arith, is) there)
-
-flat_map_from : {A B : Type 0} (f : A → List B) (xs : List A) (z : B) → Contains (flat_map f xs) z
-    → (y : A) × Contains xs y × Contains (f y) z
-flat_map_from f [] z (k, lt, is) = absurd (omega arith)
-flat_map_from f (x ∷ xs) z there =
-    elim (Contains-append_cases (f x) (flat_map f xs) z there) [
-      | inl here ↦ (x, (zero, omega arith, refl), here)
-      | inr more ↦
-          let found = flat_map_from f xs z more in (found.0, later x found.0 xs found.1, found.2)
-    ]
 
 -- Other matters' rows.
 

@@ -1,12 +1,11 @@
 -- What becomes of a line where less is held.
-use Rattle.std.proofs.Common.{◌≡◌, ◌∙◌, sym, ap, subst, ℕ, zero, suc, ◌+◌, ◌<◌, ◌≤◌, ◌==◌, Bool, true, false, cond, ◌&&◌, ◌||◌, List, [], ◌∷◌, length, get_or, Option, Some, None, refl, arith}
-use Rattle.std.specs.Prelude.{nat_le, nat_lt}
+use Rattle.std.proofs.Common.{◌≡◌, ◌∙◌, sym, ap, subst, ℕ, zero, suc, ◌<◌, ◌≤◌, ◌==◌, Bool, true, false, cond, ◌&&◌, ◌||◌, List, [], ◌∷◌, length, Some, refl, arith}
+use Rattle.std.specs.Prelude.{nat_lt}
 use Rattle.std.specs.List.{Contains, count_by, filter, find, list_any}
 use Rattle.std.specs.Ordering.{int_eq}
 use Rattle.std.proofs.lemmas.Bool.{and_left, and_right, cond-false, leb-false, lt-leb, or_from, or_parts}
 use Rattle.std.proofs.lemmas.List.Sums.{length-filter}
 use Rattle.trust_base.specs.declared.line.Line.{Line}
-use Rattle.statement_match.specs.declared.booking.Booking.{Booking}
 use Rattle.statement_match.specs.Bookings.{booking_of, is_beside, is_same_booking, total_of}
 use Rattle.statement_match.specs.Waiting.{Waiting}
 use Rattle.statement_match.specs.Showing.{fits}
@@ -15,6 +14,7 @@ use Rattle.statement_match.specs.declared.outcome.Outcome.TheVariants as outcome
 use Rattle.statement_match.specs.Laws.{HasLess, IsPart, IsSure, MoreOnlyTakesAway, NoneOf, With, Without}
 use Rattle.statement_match.proofs.Filling.{filled_if_sure, sure_of}
 use Rattle.statement_match.proofs.Picks.{found_is_there, found_passes, is_the_one, length_filter-cons, one_passes}
+use Rattle.statement_match.proofs.Members.{later}
 
 -- A part of a list.
 
@@ -43,9 +43,6 @@ part_any p _ _ (With x some all rest) e =
     or_from (p x) (list_any p some) parts.0 (part_any p some all rest parts.1)
 part_any p _ _ (Without x some all rest) e =
     part_any p some all rest (or_parts (p x) (list_any p all) e).1
-
-pub later : {A : Type 0} (x y : A) (xs : List A) → Contains xs y → Contains (x ∷ xs) y
-later x y xs (k, lt, is) = (suc k, omega arith, is)
 
 pub part_has : {A : Type 0} (some all : List A) (y : A) → IsPart some all → Contains some y → Contains all y
 part_has _ _ y NoneOf there = there

@@ -1,6 +1,6 @@
 -- What is written of the lines of a statement.
 use Rattle.std.proofs.Common.{◌≡◌, ◌≢◌, ◌∙◌, sym, ap, subst, ℕ, zero, suc, ◌+◌, ◌<◌, ◌≤◌, ◌==◌, Bool, true, false, not, cond, ◌&&◌, List, [], ◌∷◌, ◌++◌, length, get_or, drop, append_assoc, append-nil, Option, Some, None, refl, inl, inr, arith}
-use Rattle.std.specs.List.{Contains, count_by, find, list_any}
+use Rattle.std.specs.List.{Contains, count_by, find}
 use Rattle.std.specs.Option.{unwrap_or}
 use Rattle.std.specs.Str.{bytes_eq}
 use Rattle.std.proofs.lemmas.Bool.{and_from, cases_order}
@@ -14,7 +14,7 @@ use Rattle.statement_match.specs.Rule.{Held, becomes, claimed_reference, excepti
 use Rattle.statement_match.specs.declared.outcome.Outcome.{Outcome}
 use Rattle.statement_match.specs.declared.outcome.Outcome.TheVariants as outcome
 use Rattle.statement_match.specs.Laws.{AreWritten, None_left, Kept, Named, LeftOut, AreNamedApart, IsSure, NoneIsNamedTwice, OnlyReferencesChange, with_reference, written_as, written_of}
-use Rattle.statement_match.proofs.Filling.{becomes-is, fill-is, second_gave, sure_of, true_from_not}
+use Rattle.statement_match.proofs.Filling.{becomes-is, fill-is, second_gave, sure_of}
 use Rattle.statement_match.proofs.Picks.{found_is_there, found_passes, two_pass}
 
 -- What holds of both choices holds of the one that is taken.
@@ -33,7 +33,7 @@ IsOfOpen outcome.Doubled = Unit {0}
 IsOfOpen (outcome.Filled r) = Unit {0}
 IsOfOpen outcome.Left = Unit {0}
 
-abbrev HasOpenness : Line → Outcome → Type 0
+abbrev pub HasOpenness : Line → Outcome → Type 0
 HasOpenness line outcome.AsItIs = is_open line ≡ false
 HasOpenness line outcome.InBook = is_open line ≡ true
 HasOpenness line (outcome.Retried r) = is_open line ≡ true
@@ -92,7 +92,7 @@ openness_from : (line : Line) (o : Outcome) (b : Bool) → is_open line ≡ b �
 openness_from line o true e h = openness_by line o h e
 openness_from line o false e h = e
 
-openness : (today : ℕ) (held : Held) (lines : List Line) (line : Line)
+pub openness : (today : ℕ) (held : Held) (lines : List Line) (line : Line)
     → HasOpenness line (becomes today held lines line)
 unfolding open_outcome
 openness today held lines line =
@@ -167,7 +167,7 @@ retried_by None other reference h e = absurd (subst IsNoRetry e h)
 retried_by (Some r) other reference h e = cc
 
 -- the exception of a line that is written again
-retried_of : (today : ℕ) (held : Held) (lines : List Line) (line : Line) (reference : List ℕ)
+pub retried_of : (today : ℕ) (held : Held) (lines : List Line) (line : Line) (reference : List ℕ)
     → becomes today held lines line ≡ outcome.Retried reference
     → exception_reference held.exceptions line ≡ Some reference
 retried_of today held lines line reference e =

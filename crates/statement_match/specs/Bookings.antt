@@ -1,5 +1,5 @@
 -- What the bank booked, by its date, its reference and its amount.
-use Rattle.std.specs.Prelude.{ℕ, ℤ, pos, Bool, ◌&&◌, ◌==◌, ◌+ℤ◌, cond, List, [], ◌∷◌}
+use Rattle.std.specs.Prelude.{ℤ, pos, Bool, ◌&&◌, ◌==◌, ◌+ℤ◌, cond, List, [], ◌∷◌}
 use Rattle.std.specs.Ordering.{int_eq}
 use Rattle.std.specs.Str.{bytes_eq}
 use Rattle.trust_base.specs.declared.line.Line.{Line}

@@ -1,6 +1,7 @@
 -- What becomes of the lines of a statement over the rows of a firm.
-use Rattle.std.specs.Prelude.{◌≡◌, ◌⊎◌, ℕ, Bool, true, List, Some}
+use Rattle.std.specs.Prelude.{◌≡◌, ◌≢◌, ◌⊎◌, ℕ, ◌<◌, Bool, true, List, length, slice_index_or}
 use Rattle.std.specs.List.{Contains}
+use Rattle.trust_base.specs.Limits.{IsMatterNo}
 use Rattle.trust_base.specs.declared.line.Line.{Line}
 use Rattle.matter_rows.specs.declared.deposit.DepositState.TheVariants as deposit
 use Rattle.matter_rows.specs.declared.deposit.Deposit.{Deposit}
@@ -8,11 +9,13 @@ use Rattle.matter_rows.specs.declared.payment.PaymentState.TheVariants as paymen
 use Rattle.matter_rows.specs.declared.payment.Payment.{Payment}
 use Rattle.matter_rows.specs.declared.entry.Entry.TheVariants as entry
 use Rattle.firm_rows.specs.Firm.{EntryRow, Firm, Row}
+use Rattle.firm_rows.specs.FirmSound.{FirmSound}
 use Rattle.statement_csv.specs.References.{reference_text}
 use Rattle.statement_match.specs.Waiting.{Waiting}
 use Rattle.statement_match.specs.Showing.{fits}
 use Rattle.statement_match.specs.Rule.{becomes}
 use Rattle.statement_match.specs.Books.{held_of, row_waiting, with_matters}
+use Rattle.statement_match.specs.Laws.{AreNamedApart, written_as}
 use Rattle.statement_match.specs.declared.outcome.Outcome.TheVariants as outcome
 
 -- Other matters' rows can only take a filling away: a line that is filled over a firm, and fits an entry of a matter, is
@@ -46,3 +49,23 @@ FilledWaits =
     → becomes today (held_of firm) lines line ≡ outcome.Filled reference
     → (m : ℕ) × (n : ℕ) × (row : Row) × Contains firm.rows (m, row) × (reference ≡ reference_text m n)
     × (IsHeldRow row n ⊎ IsIssuedRow row n)
+
+-- No entry is named twice.
+
+-- the number of each row's matter is one that a matter may have
+abbrev pub HasMatterNumbers : Firm → Type 0
+HasMatterNumbers firm = (m : ℕ) (row : Row) → Contains firm.rows (m, row) → IsMatterNo m
+
+-- no two entries that wait in a sound firm have one reference
+abbrev pub WaitApart : Type 0
+WaitApart = (firm : Firm) → FirmSound firm → HasMatterNumbers firm → AreNamedApart (held_of firm).waiting
+
+-- the reference with which a line is filled over a sound firm is that of no other line that is written
+abbrev pub NoneIsNamedTwiceByFirms : Type 0
+NoneIsNamedTwiceByFirms =
+    (today : ℕ) (firm : Firm) (lines : List Line) (i k : ℕ) (d x : Line) (reference : List ℕ)
+    → FirmSound firm → HasMatterNumbers firm → i < length lines → k < length lines → i ≢ k
+    → becomes today (held_of firm) lines (slice_index_or lines i d) ≡ outcome.Filled reference
+    → Contains
+    (written_as (slice_index_or lines k d) (becomes today (held_of firm) lines (slice_index_or lines k d))) x
+    → x.reference ≢ reference

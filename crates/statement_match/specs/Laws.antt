@@ -1,5 +1,5 @@
 -- What holds of what becomes of the lines of a statement.
-use Rattle.std.specs.Prelude.{◌≡◌, ◌≢◌, ◌↔◌, ℕ, ◌<◌, ◌≤◌, Bool, true, false, List, [], ◌∷◌, ◌++◌, length, slice_index_or, Option, Some, None, find}
+use Rattle.std.specs.Prelude.{◌≡◌, ◌≢◌, ◌↔◌, ℕ, ◌<◌, ◌≤◌, true, false, List, [], ◌∷◌, ◌++◌, length, slice_index_or, Some, None, find}
 use Rattle.std.specs.List.{Contains, count_by}
 use Rattle.trust_base.specs.declared.line.Line.{Line}
 use Rattle.statement_match.specs.Waiting.{Waiting}

@@ -2,7 +2,9 @@
 
 ghost use Rattle.std.specs.Prelude.{◌≡◌, List};
 ghost use Rattle.statement_match.specs.Bookings.{booking_of, is_beside, is_same_booking};
+ghost use Rattle.statement_match.specs.Keys.{booking_key};
 
+use crate::key::text_key;
 use trust_base::{BankText, Day, Line};
 
 /// A line of the bank that is in the book: what cleared an entry, what took a deposit back, or a line of the firm's own.
@@ -17,6 +19,13 @@ pub struct Booking {
 }
 
 impl Booking {
+    /// The number by which it is looked up: that of its date and bank reference.
+    pub(crate) fn key(&self) -> u64
+        ensures { result ≡ booking_key self.now }
+    {
+        text_key(u64::from(self.date.get()), self.bank_ref.as_slice())
+    }
+
     /// Is it of the date and the bank reference of a line?
     pub(crate) fn is_beside(&self, line: &Line) -> bool
         ensures { result ≡ is_beside (booking_of line.now) self.now }

@@ -28,8 +28,12 @@ fn reference_bytes(alloc: Global, matter: MatterNo, entry: EntryNo) -> Result<Ve
     Ok(bytes)
 }
 
-// The reference that names an entry.
-fn reference_of(alloc: Global, matter: MatterNo, entry: EntryNo) -> Result<BankText, AllocError>
+/// The reference that names an entry.
+pub(crate) fn reference_of(
+    alloc: Global,
+    matter: MatterNo,
+    entry: EntryNo,
+) -> Result<BankText, AllocError>
     ensures { IfOk result (λ reference. reference ≡ reference_text matter entry) }
 {
     let bytes = reference_bytes(alloc, matter, entry)?;
@@ -119,7 +123,7 @@ fn bookings_of(alloc: Global, entry: &Entry) -> Result<Vec<Booking>, AllocError>
 ///
 /// Contracts see it as what it has kept.
 #[derive(Drop)]
-struct Collector {
+pub(crate) struct Collector {
     alloc: Global,
     waiting: Vec<WaitingEntry>,
     bookings: Vec<Booking>,
@@ -135,7 +139,7 @@ impl Model for Collector {
 }
 
 impl Collector {
-    fn new(alloc: Global) -> Collector
+    pub(crate) fn new(alloc: Global) -> Collector
         ensures { result ≡ none_held }
     {
         Collector {
@@ -166,7 +170,7 @@ impl Collector {
         Ok(())
     }
 
-    fn add_entry(
+    pub(crate) fn add_entry(
         &mut self,
         matter: MatterNo,
         number: EntryNo,
@@ -180,8 +184,8 @@ impl Collector {
         self.add(waiting, bookings)
     }
 
-    // What was kept.
-    fn finish(self) -> Held
+    /// What was kept.
+    pub(crate) fn finish(self) -> Held
         ensures { result ≡ self }
     {
         Held::new(self.waiting, self.bookings, self.exceptions)

@@ -1,59 +1,133 @@
 // What becomes of the lines of a statement.
 
-ghost use Rattle.std.specs.Prelude.{◌≡◌, ◌++◌, ◌≤ℤ◌, List, ℕ, IfOk, IfSome, OnSome, find, map, option_copied};
+ghost use Rattle.std.specs.Prelude.{◌≡◌, ◌==◌, IfOk, find, nat_le, nat_lt, option_copied, option_map};
 ghost use Rattle.std.specs.List.{count_by, filter, list_any};
-ghost use Rattle.std.specs.Str.{bytes_eq};
 ghost use Rattle.statement_match.specs.Bookings.{amount_if, booking_of, is_beside, is_same_booking, total_of};
+ghost use Rattle.statement_match.specs.Lookups.{elements};
 ghost use Rattle.statement_match.specs.Showing.{fits};
-ghost use Rattle.statement_match.specs.Rule.{becomes, claimed_reference, exception_reference, fill, filled_with, is_beside_booked as has_beside, is_booked as is_booked_line, is_booked_in_parts as is_split_line, is_claimed as is_claimed_reference, is_doubled as is_doubled_line, is_fitted_once as is_entry_fitted_once, is_in_book as is_booked_already, is_named_like, is_open_fit, is_open_like, outcomes};
+ghost use Rattle.statement_match.specs.Rule.{becomes, exception_reference, fill, is_booked as is_booked_line, is_booked_in_parts as is_split_line, is_doubled as is_doubled_line, is_fitted_once as is_entry_fitted_once, is_in_book as is_booked_already, is_open_fit, is_open_like, outcomes};
 
 use crate::booking::Booking;
 use crate::held::Held;
+use crate::index::Index;
 use crate::outcome::Outcome;
 use crate::statement_line::StatementLine;
 use crate::waiting::WaitingEntry;
 use std::alloc::{AllocError, Global};
 use trust_base::{BankText, Day, Line};
 
-// How many open lines have the date, bank reference and amount of a line.
-fn open_like(lines: &[StatementLine], line: &StatementLine) -> usize
-    ensures { result ≡ count_by (is_open_like line.now) lines.now }
+// Have at most so many open ones of the lines found the date, bank reference and amount of a line?
+fn are_at_most_among(found: &[(u64, &StatementLine)], line: &StatementLine, most: usize) -> bool
+    ensures { result ≡ nat_le (count_by (λ e. is_open_like line.now e.1.now) found.now) most }
 {
-    lines
+    found
         .iter()
-        .filter(|other| line.is_open_like(other))
+        .filter(|entry| line.is_open_like(entry.1))
+        .nth(most)
+        .is_none()
+}
+
+// Have at most so many open lines the date, bank reference and amount of a line?
+fn are_at_most(index: &Index, line: &StatementLine, most: usize) -> bool
+    ensures { result ≡ nat_le (count_by (is_open_like line.now) index.now.lines) most }
+{
+    are_at_most_among(index.lines_of(line.line()), line, most)
+}
+
+// How many open ones of the lines found have the date, bank reference and amount of a line.
+fn count_open_like_among(found: &[(u64, &StatementLine)], line: &StatementLine) -> usize
+    ensures { result ≡ count_by (λ e. is_open_like line.now e.1.now) found.now }
+{
+    found
+        .iter()
+        .filter(|entry| line.is_open_like(entry.1))
         .count()
 }
 
-// How many lines of the book have them.
-fn booked_like(bookings: &[Booking], line: &Line) -> usize
-    ensures { result ≡ count_by (is_same_booking (booking_of line.now)) bookings.now }
+/// How many open lines have the date, bank reference and amount of a line.
+pub(crate) fn count_open_like(index: &Index, line: &StatementLine) -> usize
+    ensures { result ≡ count_by (is_open_like line.now) index.now.lines }
 {
-    bookings
+    count_open_like_among(index.lines_of(line.line()), line)
+}
+
+// Have several open ones of the lines found them?
+fn are_several_among(found: &[(u64, &StatementLine)], line: &StatementLine) -> bool
+    ensures { result ≡ nat_lt 1 (count_by (λ e. is_open_like line.now e.1.now) found.now) }
+{
+    1 < found
         .iter()
-        .filter(|booking| booking.is_same(line))
+        .filter(|entry| line.is_open_like(entry.1))
+        .take(2)
         .count()
 }
 
-// How many lines of the statement have the date and the bank reference of a line.
-fn beside(lines: &[StatementLine], line: &StatementLine) -> usize
-    ensures { result ≡ count_by (λ x. is_beside (booking_of line.now) (booking_of x)) lines.now }
+// Have several open lines them?
+fn are_several(index: &Index, line: &StatementLine) -> bool
+    ensures { result ≡ nat_lt 1 (count_by (is_open_like line.now) index.now.lines) }
 {
-    lines.iter().filter(|other| line.is_beside(other)).count()
+    are_several_among(index.lines_of(line.line()), line)
 }
 
-// Have lines of the book the date and the bank reference of a line?
-fn is_beside_booked(bookings: &[Booking], line: &Line) -> bool
-    ensures { result ≡ list_any (is_beside (booking_of line.now)) bookings.now }
+// How many of the lines of the book found have them.
+fn booked_like_among(found: &[(u64, &Booking)], line: &Line) -> usize
+    ensures { result ≡ count_by (λ e. is_same_booking (booking_of line.now) e.1.now) found.now }
 {
-    bookings.iter().any(|booking| booking.is_beside(line))
+    found.iter().filter(|entry| entry.1.is_same(line)).count()
+}
+
+/// How many lines of the book have them.
+pub(crate) fn booked_like(index: &Index, line: &Line) -> usize
+    ensures { result ≡ count_by (is_same_booking (booking_of line.now)) index.now.held.bookings }
+{
+    booked_like_among(index.bookings_of(line), line)
+}
+
+// Has one alone of the lines found the date and the bank reference of a line?
+fn is_single_among(found: &[(u64, &StatementLine)], line: &StatementLine) -> bool
+    ensures { result ≡ (count_by (λ e. is_beside (booking_of line.now) (booking_of e.1.now)) found.now == 1) }
+{
+    found
+        .iter()
+        .filter(|entry| line.is_beside(entry.1))
+        .take(2)
+        .count()
+        == 1
+}
+
+// Has one line of the statement alone the date and the bank reference of a line?
+fn is_single(index: &Index, line: &StatementLine) -> bool
+    ensures { result ≡ (count_by (λ x. is_beside (booking_of line.now) (booking_of x)) index.now.lines == 1) }
+{
+    is_single_among(index.lines_of(line.line()), line)
+}
+
+// Have some of the lines of the book found the date and the bank reference of a line?
+fn is_beside_among(found: &[(u64, &Booking)], line: &Line) -> bool
+    ensures { result ≡ list_any (λ e. is_beside (booking_of line.now) e.1.now) found.now }
+{
+    found.iter().any(|entry| entry.1.is_beside(line))
+}
+
+/// Have lines of the book the date and the bank reference of a line?
+pub(crate) fn is_beside_booked(index: &Index, line: &Line) -> bool
+    ensures { result ≡ list_any (is_beside (booking_of line.now)) index.now.held.bookings }
+{
+    is_beside_among(index.bookings_of(line), line)
+}
+
+// Has one of the lines of the book found the date, bank reference and amount of a line?
+fn is_same_among(found: &[(u64, &Booking)], line: &Line) -> bool
+    ensures { result ≡ list_any (λ e. is_same_booking (booking_of line.now) e.1.now) found.now }
+{
+    found.iter().any(|entry| entry.1.is_same(line))
 }
 
 // Has a line of the book the date, bank reference and amount of a line?
-fn has_booked_like(bookings: &[Booking], line: &Line) -> bool
-    ensures { result ≡ list_any (is_same_booking (booking_of line.now)) bookings.now }
+fn has_booked_like(index: &Index, line: &Line) -> bool
+    ensures { result ≡ list_any (is_same_booking (booking_of line.now)) index.now.held.bookings }
 {
-    bookings.iter().any(|booking| booking.is_same(line))
+    is_same_among(index.bookings_of(line), line)
 }
 
 // What a line of the book adds to the sum of those that have them, in cents.
@@ -67,40 +141,58 @@ fn amount_beside(booking: &Booking, line: &Line) -> i64
     }
 }
 
-// What the lines of the book that have them add up to, in cents.
-fn total_beside(bookings: &[Booking], line: &Line) -> i128
-    ensures { result ≡ total_of (filter (is_beside (booking_of line.now)) bookings.now) }
+// What those of some lines of the book that have them add up to, in cents.
+fn sum_beside(bookings: &[(u64, &Booking)], line: &Line) -> i128
+    ensures { result ≡ total_of (filter (is_beside (booking_of line.now)) (elements bookings.now)) }
 {
     let mut total = 0i128;
-    for booking in bookings {
-        total += amount_beside(booking, line) as i128;
+    for entry in bookings {
+        total += amount_beside(entry.1, line) as i128;
     }
     total
 }
 
-// Is a line in the book already?
-#[tactic(auto, unfolding(crate::specs::Rule::is_in_book))]
-fn is_in_book(held: &Held, lines: &[StatementLine], line: &StatementLine) -> bool
-    ensures { result ≡ is_booked_already held.now lines.now line.now }
+// What the lines of the book that have them add up to, in cents.
+fn total_beside(index: &Index, line: &Line) -> i128
+    ensures { result ≡ total_of (filter (is_beside (booking_of line.now)) index.now.held.bookings) }
+{
+    sum_beside(index.bookings_of(line), line)
+}
+
+// Has the book as many lines of the date, bank reference and amount of a line as the statement has open ones?
+fn is_booked(index: &Index, line: &StatementLine) -> bool
+    ensures { result ≡ is_booked_line index.now.held index.now.lines line.now }
+{
+    are_at_most(index, line, booked_like(index, line.line()))
+}
+
+// Is it alone with its date and bank reference, and do the book's lines of these make its amount?
+fn is_booked_in_parts(index: &Index, line: &StatementLine) -> bool
+    ensures { result ≡ is_split_line index.now.held index.now.lines line.now }
 {
     let whole = line.line();
-    if open_like(lines, line) <= booked_like(&held.bookings, whole) {
-        return true;
-    }
-    beside(lines, line) == 1
-        && is_beside_booked(&held.bookings, whole)
-        && total_beside(&held.bookings, whole) == whole.amount.get() as i128
+    is_single(index, line)
+        && is_beside_booked(index, whole)
+        && total_beside(index, whole) == whole.amount.get() as i128
+}
+
+// Is a line in the book already?
+#[tactic(auto, unfolding(crate::specs::Rule::is_in_book))]
+fn is_in_book(index: &Index, line: &StatementLine) -> bool
+    ensures { result ≡ is_booked_already index.now.held index.now.lines line.now }
+{
+    is_booked(index, line) || is_booked_in_parts(index, line)
 }
 
 // The reference under which an open line is an exception.
 #[tactic(auto, unfolding(crate::specs::Rule::exception_reference))]
 fn exception_reference_of(
-    exceptions: &[Line],
+    index: &Index,
     line: &StatementLine,
 ) -> Result<Option<BankText>, AllocError>
-    ensures { IfOk result (λ found. found ≡ exception_reference exceptions.now line.now) }
+    ensures { IfOk result (λ found. found ≡ exception_reference index.now.held.exceptions line.now) }
 {
-    match line.exception_in(exceptions) {
+    match index.exceptions().named_like(line) {
         Some(exception) => Ok(Some(exception.reference.copied()?)),
         None => Ok(None),
     }
@@ -108,70 +200,82 @@ fn exception_reference_of(
 
 // Has another open line, or a line of the book, its date, bank reference and amount?
 #[tactic(auto, unfolding(crate::specs::Rule::is_doubled))]
-fn is_doubled(held: &Held, lines: &[StatementLine], line: &StatementLine) -> bool
-    ensures { result ≡ is_doubled_line held.now lines.now line.now }
+fn is_doubled(index: &Index, line: &StatementLine) -> bool
+    ensures { result ≡ is_doubled_line index.now.held index.now.lines line.now }
 {
-    1 < open_like(lines, line) || has_booked_like(&held.bookings, line.line())
+    are_several(index, line) || has_booked_like(index, line.line())
 }
 
-// Has a record this reference by itself?
-fn is_claimed(exceptions: &[Line], lines: &[StatementLine], reference: &BankText) -> bool
-    ensures { result ≡ is_claimed_reference exceptions.now lines.now reference.now }
+// Does a line fit one alone of the entries found?
+fn fits_one_among(today: Day, found: &[(u64, &WaitingEntry)], line: &StatementLine) -> bool
+    ensures { result ≡ (count_by (λ e. fits today line.now e.1.now) found.now == 1) }
 {
-    lines.iter().any(|line| line.claims(exceptions, reference))
-}
-
-// How many entries a line fits.
-fn fit_count(today: Day, line: &StatementLine, waiting: &[WaitingEntry]) -> usize
-    ensures { result ≡ count_by (fits today line.now) waiting.now }
-{
-    waiting
+    found
         .iter()
-        .filter(|entry| line.fits(today, entry))
-        .count()
-}
-
-// The first entry that a line fits.
-fn first_fit<'a>(
-    today: Day,
-    line: &StatementLine,
-    waiting: &'a [WaitingEntry],
-) -> Option<&'a WaitingEntry>
-    ensures { option_copied result ≡ find (fits today line.now) waiting.now }
-{
-    waiting.iter().find(|entry| line.fits(today, entry))
-}
-
-// Does one open line alone fit the entry?
-fn is_fitted_once(today: Day, lines: &[StatementLine], entry: &WaitingEntry) -> bool
-    ensures { result ≡ is_entry_fitted_once today lines.now entry.now }
-{
-    lines
-        .iter()
-        .filter(|line| line.is_open_fit(today, entry))
+        .filter(|entry| line.fits(today, entry.1))
+        .take(2)
         .count()
         == 1
 }
 
+// Does a line fit one entry alone?
+fn fits_one(today: Day, index: &Index, line: &StatementLine) -> bool
+    ensures { result ≡ (count_by (fits today line.now) index.now.held.waiting == 1) }
+{
+    fits_one_among(today, index.waiting_of(line.line()), line)
+}
+
+// The first of the entries found that a line fits.
+fn first_fit_among<'a>(
+    today: Day,
+    found: &[(u64, &'a WaitingEntry)],
+    line: &StatementLine,
+) -> Option<&'a WaitingEntry>
+    ensures { option_copied result ≡ option_map (λ e. e.1.now) (find (λ e. fits today line.now e.1.now) found.now) }
+{
+    found
+        .iter()
+        .find(|entry| line.fits(today, entry.1))
+        .map(|entry| entry.1)
+}
+
+// The first entry that a line fits.
+fn first_fit<'a>(today: Day, index: &Index<'a>, line: &StatementLine) -> Option<&'a WaitingEntry>
+    ensures { option_copied result ≡ find (fits today line.now) index.now.held.waiting }
+{
+    first_fit_among(today, index.waiting_of(line.line()), line)
+}
+
+// Does one open line alone of those found fit the entry?
+fn is_fitted_once_among(today: Day, found: &[(u64, &StatementLine)], entry: &WaitingEntry) -> bool
+    ensures { result ≡ (count_by (λ e. is_open_fit today entry.now e.1.now) found.now == 1) }
+{
+    found
+        .iter()
+        .filter(|line| line.1.is_open_fit(today, entry))
+        .take(2)
+        .count()
+        == 1
+}
+
+// Does one open line alone fit the entry?
+fn is_fitted_once(today: Day, index: &Index, entry: &WaitingEntry) -> bool
+    ensures { result ≡ is_entry_fitted_once today index.now.lines entry.now }
+{
+    is_fitted_once_among(today, index.lines_of_amount(entry), entry)
+}
+
 // Fills a line, or leaves it.
 #[tactic(auto, unfolding(crate::specs::Rule::fill))]
-fn fill_of(
-    today: Day,
-    held: &Held,
-    lines: &[StatementLine],
-    line: &StatementLine,
-) -> Result<Outcome, AllocError>
-    ensures { IfOk result (λ outcome. outcome ≡ fill today held.now lines.now line.now) }
+fn fill_of(today: Day, index: &Index, line: &StatementLine) -> Result<Outcome, AllocError>
+    ensures { IfOk result (λ outcome. outcome ≡ fill today index.now.held index.now.lines line.now) }
 {
-    if is_beside_booked(&held.bookings, line.line()) || fit_count(today, line, &held.waiting) != 1 {
+    if is_beside_booked(index, line.line()) || !fits_one(today, index, line) {
         return Ok(Outcome::Left);
     }
-    match first_fit(today, line, &held.waiting) {
-        Some(entry)
-            if is_fitted_once(today, lines, entry)
-                && !is_claimed(&held.exceptions, lines, &entry.reference) => {
-            Ok(Outcome::Filled(entry.reference.copied()?))
-        }
+    match first_fit(today, index, line) {
+        Some(entry) if is_fitted_once(today, index, entry) && !index.is_claimed(&entry.reference) =>
+            { Ok(Outcome::Filled(entry.reference.copied()?)) }
         _ => Ok(Outcome::Left),
     }
 }
@@ -180,25 +284,39 @@ fn fill_of(
 #[tactic(auto, unfolding(crate::specs::Rule::becomes))]
 pub(crate) fn outcome_of(
     today: Day,
-    held: &Held,
-    lines: &[StatementLine],
+    index: &Index,
     line: &StatementLine,
 ) -> Result<Outcome, AllocError>
-    ensures { IfOk result (λ outcome. outcome ≡ becomes today held.now lines.now line.now) }
+    ensures { IfOk result (λ outcome. outcome ≡ becomes today index.now.held index.now.lines line.now) }
 {
     if !line.is_open() {
         return Ok(Outcome::AsItIs);
     }
-    if is_in_book(held, lines, line) {
+    if is_in_book(index, line) {
         return Ok(Outcome::InBook);
     }
-    if let Some(reference) = exception_reference_of(&held.exceptions, line)? {
+    if let Some(reference) = exception_reference_of(index, line)? {
         return Ok(Outcome::Retried(reference));
     }
-    if is_doubled(held, lines, line) {
+    if is_doubled(index, line) {
         return Ok(Outcome::Doubled);
     }
-    fill_of(today, held, lines, line)
+    fill_of(today, index, line)
+}
+
+/// What becomes of each line of a statement on a business day, by what is looked up. Fails only for want of memory.
+pub(crate) fn outcomes_by(
+    alloc: Global,
+    today: Day,
+    index: &Index,
+) -> Result<Vec<Outcome>, AllocError>
+    ensures { IfOk result (λ found. found.items ≡ outcomes today index.now.held index.now.lines) }
+{
+    let mut found = Vec::new(alloc);
+    for line in index.lines() {
+        found.push(outcome_of(today, index, line)?)?;
+    }
+    Ok(found)
 }
 
 /// What becomes of each line of a statement on a business day, by what a book has. Fails only for want of memory.
@@ -210,9 +328,6 @@ pub fn outcomes_of(
 ) -> Result<Vec<Outcome>, AllocError>
     ensures { IfOk result (λ found. found.items ≡ outcomes today held.now lines.now) }
 {
-    let mut found = Vec::new(alloc);
-    for line in lines {
-        found.push(outcome_of(today, held, lines, line)?)?;
-    }
-    Ok(found)
+    let index = Index::of(alloc, held, lines)?;
+    outcomes_by(alloc, today, &index)
 }

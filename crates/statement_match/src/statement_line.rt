@@ -1,19 +1,18 @@
 // Lines of a statement, with what their words show.
 
-ghost use Rattle.std.specs.Prelude.{◌≡◌, IfOk, find, option_copied};
+ghost use Rattle.std.specs.Prelude.{◌≡◌, IfOk};
 ghost use Rattle.std.specs.List.{list_any};
-ghost use Rattle.std.specs.Str.{bytes_eq};
 ghost use Rattle.statement_match.specs.Bookings.{booking_of, is_beside, is_same_booking};
 ghost use Rattle.statement_match.specs.Showing.{begins_with_reference as begins_with_reference_text, fits, has_reference as has_reference_text, is_charge as is_charge_word, is_correction as is_correction_word, is_other_business as is_other_line, is_other_word as is_other_word_text, shows};
 ghost use Rattle.statement_match.specs.Numbers.{is_among as is_among_numbers, line_numbers};
-ghost use Rattle.statement_match.specs.Rule.{claimed_reference, is_named_like, is_open, is_open_fit, is_open_like};
+ghost use Rattle.statement_match.specs.Rule.{is_named_like, is_open, is_open_fit, is_open_like};
 
 use crate::number::{Number, is_among, line_numbers_of};
 use crate::token::{Token, byte_at, is_digit, tokens_of};
 use crate::waiting::WaitingEntry;
 use std::alloc::{AllocError, Global};
 use std::marker::Model;
-use trust_base::{BankText, Day, Line};
+use trust_base::{Day, Line};
 
 /// A line of a statement, with what its words show, which is found once.
 ///
@@ -160,27 +159,18 @@ impl StatementLine {
             && !exception.reference.as_slice().is_empty()
     }
 
-    #[tactic(auto, unfolding(crate::specs::Rule::exception_reference))]
-    /// Has the record this reference by itself: its own, or that of its exception?
-    pub(crate) fn claims(&self, exceptions: &[Line], reference: &BankText) -> bool
-        ensures { result ≡ bytes_eq (claimed_reference exceptions.now self.now) reference.now }
+    /// The telling numbers of its text that repeat neither its dollars nor its date.
+    pub(crate) fn numbers(&self) -> &[Number]
+        ensures { result.now ≡ line_numbers self.now }
     {
-        if !self.is_open() {
-            return self.line.reference.is_same(reference);
-        }
-        match self.exception_in(exceptions) {
-            Some(exception) => exception.reference.is_same(reference),
-            None => reference.as_slice().is_empty(),
-        }
+        &self.numbers
     }
 
-    /// The first exception that it is but for its reference.
-    pub(crate) fn exception_in<'a>(&self, exceptions: &'a [Line]) -> Option<&'a Line>
-        ensures { option_copied result ≡ find (is_named_like self.now) exceptions.now }
+    /// Do its words tell of other business than an entry's?
+    pub(crate) fn is_of_other_business(&self) -> bool
+        ensures { result ≡ is_other_line self.now }
     {
-        exceptions
-            .iter()
-            .find(|exception| self.is_named_like(exception))
+        self.is_other_business
     }
 
     // Has it a number of the entry?
@@ -192,9 +182,9 @@ impl StatementLine {
             .any(|number| is_among(&entry.numbers, number))
     }
 
-    // Does it show the entry?
+    /// Does it show the entry?
     #[tactic(auto, unfolding(crate::specs::Showing::shows))]
-    fn shows(&self, entry: &WaitingEntry) -> bool
+    pub(crate) fn shows(&self, entry: &WaitingEntry) -> bool
         ensures { result ≡ shows self.now entry.now }
     {
         self.has_number_of(entry)

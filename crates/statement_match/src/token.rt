@@ -127,8 +127,8 @@ fn token_of(alloc: Global, text: &[u8]) -> Result<Token, AllocError>
     Ok(Token { bytes })
 }
 
-#[tactic(auto, using(crate::proofs::Parting::tokens_more, crate::proofs::Parting::tokens_none, crate::proofs::Parting::tokens_done))]
 /// The tokens of a text, in order. Fails only for want of memory.
+#[tactic(auto, using(crate::proofs::Parting::tokens_more, crate::proofs::Parting::tokens_none, crate::proofs::Parting::tokens_done))]
 pub(crate) fn tokens_of(alloc: Global, text: &[u8]) -> Result<Vec<Token>, AllocError>
     ensures { IfOk result (λ found. found.items ≡ tokens text.now) }
 {

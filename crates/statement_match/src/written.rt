@@ -8,6 +8,7 @@ ghost use Rattle.statement_match.specs.Rule.{outcomes};
 
 use crate::collecting::held_in;
 use crate::held::Held;
+use crate::index::Index;
 use crate::outcome::Outcome;
 use crate::rule::{outcome_of, outcomes_of};
 use crate::statement_line::StatementLine;
@@ -44,10 +45,10 @@ fn add_written(out: &mut Vec<Line>, line: &Line, outcome: Outcome) -> Result<(),
     Ok(())
 }
 
-#[tactic(auto, using(crate::proofs::Writing::written_more, crate::proofs::Writing::written_done))]
 /// What is written of the lines of a statement on a business day, by what a book has: those with a reference as they
 /// are, and those without one that are filled, or are an exception under a reference, with that. Fails only for want of
 /// memory.
+#[tactic(auto, using(crate::proofs::Writing::written_more, crate::proofs::Writing::written_done))]
 pub fn written_lines(
     alloc: Global,
     today: Day,
@@ -56,9 +57,10 @@ pub fn written_lines(
 ) -> Result<Vec<Line>, AllocError>
     ensures { IfOk result (λ out. out.items ≡ written today held.now lines.now) }
 {
+    let index = Index::of(alloc, held, lines)?;
     let mut out = Vec::new(alloc);
     for line in lines {
-        let outcome = outcome_of(today, held, lines, line)?;
+        let outcome = outcome_of(today, &index, line)?;
         add_written(&mut out, line.line(), outcome)?;
     }
     Ok(out)

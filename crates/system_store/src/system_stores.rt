@@ -10,9 +10,9 @@ ghost use Rattle.sql_book.specs.Books.{IsServing, IsSure};
 ghost use Rattle.system_store.specs.Runs.{IsFoundIn, IsPutBack, unknown_files};
 
 use crate::opening::{book_over, copied};
-use cashier::Stores;
-use sql_book::SqlBook;
-use sqlite::{Connection, FileFrom, FileStore, Start, Unknown};
+use cashier::{NoBook, Stores};
+use sql_book::{OpenFault, SqlBook};
+use sqlite::{Connection, Error, ErrorCode, FileFrom, FileStore, Start, Unknown};
 use std::alloc::Global;
 use table_reads::fault_of;
 use trust_base::StoreFault;
@@ -84,6 +84,28 @@ pub fn put<T: Start>(book: SqlBook<FileWith<T>>) -> Result<(), StoreFault>
     }
 }
 
+// Why a database file could not be opened.
+fn why_unopened(error: Error) -> NoBook {
+    match error {
+        Error::SqliteFailure(ErrorCode::DatabaseBusy) => NoBook::InUse,
+        Error::SqliteFailure(ErrorCode::CannotOpen) => NoBook::Unopened,
+        Error::SqliteFailure(ErrorCode::NotADatabase | ErrorCode::DatabaseCorrupt) => {
+            NoBook::NoDatabase
+        }
+        Error::SqliteFailure(ErrorCode::OutOfMemory) => NoBook::Unknown,
+        _ => NoBook::Failed,
+    }
+}
+
+// Why no book can be taken from a database that was opened.
+fn why_untaken(fault: OpenFault) -> NoBook {
+    match fault {
+        OpenFault::NotABook => NoBook::OtherTables,
+        OpenFault::Store => NoBook::Failed,
+        OpenFault::Memory => NoBook::Unknown,
+    }
+}
+
 impl Stores for SystemStores<'_> {
     type AtPath = SqlBook<SystemFile>;
 
@@ -97,5 +119,15 @@ impl Stores for SystemStores<'_> {
 
     fn put_back(&self, book: SqlBook<SystemFile>) -> Result<(), StoreFault> {
         put(book)
+    }
+
+    fn why_none(&self, alloc: Global, path: &str) -> NoBook {
+        match Connection::open_from(self.rt, path, true, Unknown) {
+            Ok(conn) => match SqlBook::adopt(alloc, conn) {
+                Ok(_book) => NoBook::Unknown,
+                Err((fault, _)) => why_untaken(fault),
+            },
+            Err((error, _)) => why_unopened(error),
+        }
     }
 }

@@ -23,8 +23,9 @@ use Rattle.firm_rows.proofs.Lines.{match-sound, stray-stays-sound}
 use Rattle.statement_csv.specs.declared.item.Item.{Item}
 use Rattle.statement_csv.specs.declared.item.Item.TheVariants as item
 use Rattle.trust_desk.specs.ItemStep.{after_told, after_item, after_items, balance_on, firm_line_on}
-use Rattle.trust_desk.specs.Heard.{Heard, Kind, OfMatter, OfItems, OnlyTold, NotRead, kind_of, asked_on}
+use Rattle.trust_desk.specs.Heard.{Heard, Kind, OfMatter, OfItems, Dismisses, OnlyTold, NotRead, kind_of, asked_on}
 use Rattle.trust_desk.specs.FirmStep.{after_asked, after_ask, firm_step, kind_step}
+use Rattle.trust_desk.specs.Dismissing.{dismiss_refusal, dismissed_unless}
 use Rattle.trust_desk.specs.Imports.{AlwaysSound}
 use Rattle.trust_desk.specs.NeverBelowZero.{HasAmounts, KindHasAmounts, IsCovered, AlwaysCoveredBy, KindIsCovered, NeverBelowZero, RunsNeverBelowZero}
 use Rattle.trust_desk.proofs.LineFacts.{kept-by_step, line-fits}
@@ -72,9 +73,14 @@ always-sound day firm (it ∷ items) sound = (sound, always-sound day (after_ite
 
 -- Steps.
 
+sound-dismissed : (o : Option Refusal) (line : Line) (firm : Firm) → FirmSound firm → FirmSound (dismissed_unless o line firm)
+sound-dismissed None line firm sound = match-sound line firm sound
+sound-dismissed (Some r) line firm sound = sound
+
 sound-kind_step : (day : ℕ) (firm : Firm) (k : Kind) → KindHasAmounts k → FirmSound firm → FirmSound (kind_step day firm k).firm
 sound-kind_step day firm (OfMatter m caller ask) amount sound = sound-after_ask m (asked_on day caller ask) firm amount sound
 sound-kind_step day firm (OfItems refused items) amount sound = sound-after_items day firm items sound
+sound-kind_step day firm (Dismisses caller line) amount sound = sound-dismissed (dismiss_refusal caller line firm) line firm sound
 sound-kind_step day firm (OnlyTold text) amount sound = sound
 sound-kind_step day firm (NotRead n r) amount sound = sound
 
@@ -91,6 +97,7 @@ covered-by day firm (it ∷ items) sound = (covered firm sound, covered-by day (
 covered-in : (day : ℕ) (firm : Firm) (k : Kind) → FirmSound firm → KindIsCovered day firm k
 covered-in day firm (OfMatter m caller ask) sound = covered firm sound
 covered-in day firm (OfItems refused items) sound = covered-by day firm items sound
+covered-in day firm (Dismisses caller line) sound = covered firm sound
 covered-in day firm (OnlyTold text) sound = covered firm sound
 covered-in day firm (NotRead n r) sound = covered firm sound
 

@@ -1,4 +1,5 @@
 pub mod Purging
+pub mod DismissedLines
 pub mod Refused
 pub mod Items
 pub mod Calls
@@ -18,3 +19,8 @@ pub mod OnceBank
 pub mod OnceRuns
 pub mod OfRows
 pub mod Statuses
+pub mod Awaiting
+pub mod FilledLines
+pub mod MatchedAgain
+pub mod Gathered
+pub mod SecondMatch

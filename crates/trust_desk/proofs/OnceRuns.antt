@@ -20,7 +20,8 @@ use Rattle.statement_csv.specs.declared.item.Item.{Item}
 use Rattle.statement_csv.specs.declared.item.Item.TheVariants as item
 use Rattle.trust_desk.specs.declared.requests.Reply.{Reply}
 use Rattle.trust_desk.specs.ItemStep.{after_told, after_item, after_items, after_balance, balance_on, firm_line_on}
-use Rattle.trust_desk.specs.Heard.{Heard, Kind, OfMatter, OfItems, OnlyTold, NotRead, kind_of, asked_on}
+use Rattle.trust_desk.specs.Heard.{Heard, Kind, OfMatter, OfItems, Dismisses, OnlyTold, NotRead, kind_of, asked_on}
+use Rattle.trust_desk.specs.Dismissing.{dismiss_refusal, dismissed_unless}
 use Rattle.trust_desk.specs.Replies.{is_fault_reply}
 use Rattle.trust_desk.specs.FirmStep.{after_asked, firm_step, kind_step, IsStopped, KindStopped, Steps, Runs}
 use Rattle.trust_desk.specs.OnceOnly.{DayRun, RunsOn}
@@ -38,6 +39,7 @@ module _ (P : Firm → Type 0) (item-keeps : (day : ℕ) (firm : Firm) (it : Ite
   stopped-keeps : (day : ℕ) (firm new : Firm) (k : Kind) → KindStopped day firm k new → P firm → P new
   stopped-keeps day firm new (OfMatter n caller ask) stop is = subst P (sym stop) is
   stopped-keeps day firm new (OfItems refused items) stop is = subst P (sym stop.1.leaves) (items-keep P item-keeps day firm stop.1.front is)
+  stopped-keeps day firm new (Dismisses caller line) stop is = subst P (sym stop) is
   stopped-keeps day firm new (OnlyTold text) stop is = subst P (sym stop) is
   stopped-keeps day firm new (NotRead n r) stop is = subst P (sym stop) is
 
@@ -93,9 +95,14 @@ module _ (P : Firm → Type 0) (change-keeps : (change : FirmChange) (firm : Fir
   asked-keeps None m a firm is = edit-keeps m (edit_on (of m firm) a) (last_after (of m firm).head (edit_on (of m firm) a) a.day) firm is
   asked-keeps (Some r) m a firm is = is
 
+  dismissed-keeps : (o : Option Refusal) (line : Line) (firm : Firm) → P firm → P (dismissed_unless o line firm)
+  dismissed-keeps None line firm is = change-keeps (Repeated line) firm tt is
+  dismissed-keeps (Some r) line firm is = is
+
   each-kind : (day : ℕ) (firm : Firm) (k : Kind) → P firm → P (kind_step day firm k).firm
   each-kind day firm (OfMatter m caller ask) is = asked-keeps (refusal (of m firm) (asked_on day caller ask)) m (asked_on day caller ask) firm is
   each-kind day firm (OfItems refused items) is = items-keep P each-item day firm items is
+  each-kind day firm (Dismisses caller line) is = dismissed-keeps (dismiss_refusal caller line firm) line firm is
   each-kind day firm (OnlyTold text) is = is
   each-kind day firm (NotRead n r) is = is
 

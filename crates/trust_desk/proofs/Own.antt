@@ -3,6 +3,7 @@ use Rattle.std.proofs.Common.{◌≡◌, ◌≢◌, ℕ, Bool, true, false, cond
 use Rattle.std.specs.Prelude.{MatchBool, ◌==◌}
 use Rattle.std.specs.List.{list_any}
 use Rattle.std.proofs.lemmas.Bool.Decides.{nat_tests}
+use Rattle.trust_base.specs.declared.line.Line.{Line}
 use Rattle.trust_base.specs.declared.refusal.Refusal.{Refusal}
 use Rattle.trust_matter.specs.Facts.{Asked}
 use Rattle.matter_parts.specs.Changes.{last_after}
@@ -12,7 +13,8 @@ use Rattle.firm_rows.proofs.Changed.{of-after_edit, of_other-after_edit}
 use Rattle.trust_desk.specs.declared.requests.Request.{Request}
 use Rattle.trust_desk.specs.declared.requests.Reply.{Reply}
 use Rattle.trust_desk.specs.ItemStep.{names_item}
-use Rattle.trust_desk.specs.Heard.{Heard, Kind, OfMatter, OfItems, OnlyTold, NotRead, kind_of, OwnAsk, OwnRefusal, heard, names, kind_names, concerns, kind_concerns, own_if, own_of, kind_own, project, told, asked_on, is_the}
+use Rattle.trust_desk.specs.Heard.{Heard, Kind, OfMatter, OfItems, Dismisses, OnlyTold, NotRead, kind_of, OwnAsk, OwnRefusal, heard, names, kind_names, concerns, kind_concerns, own_if, own_of, kind_own, project, told, asked_on, is_the}
+use Rattle.trust_desk.specs.Dismissing.{dismiss_refusal, dismissed_unless}
 use Rattle.trust_desk.specs.Replies.{is_fault_reply, reply_of, refused}
 use Rattle.trust_desk.specs.FirmStep.{after_asked, after_ask, firm_step, kind_step, KindStopped, IsStopped, Steps, Runs, IsUnstopped}
 use Rattle.trust_desk.specs.Solo.{solo_rows, solo_replies}
@@ -46,6 +48,11 @@ pub record IsOwnStep (m day : ℕ) (firm : Firm) (h : Heard) (reply : Reply) (ne
   pub answers : reply_if (names m h) reply ≡ solo_replies m (of m firm) (own_of m day h)
   pub rows : of m new ≡ solo_rows (of m firm) (own_of m day h)
 
+-- dismissing a line leaves the rows of every matter
+dismissed-rows : (m : ℕ) (o : Option Refusal) (line : Line) (firm : Firm) → of m (dismissed_unless o line firm) ≡ of m firm
+dismissed-rows m None line firm = refl
+dismissed-rows m (Some r) line firm = refl
+
 kind-rows : (m day : ℕ) (firm : Firm) (k : Kind) → of m (kind_step day firm k).firm ≡ solo_rows (of m firm) (kind_own m day k)
 kind-rows m day firm (OfMatter n caller ask) = cases (n == m) refl
   where
@@ -56,6 +63,7 @@ kind-rows m day firm (OfMatter n caller ask) = cases (n == m) refl
     cases true same_test = let same : n ≡ m = grind (arith, nat_tests) in subst (λ (k : ℕ). of k (after_ask n a firm) ≡ rows_after (of k firm) a) same (of-after_ask n a firm)
     cases false other_test = of_other-after_ask m n a firm (λ same. absurd (grind (arith, nat_tests)))
 kind-rows m day firm (OfItems refused items) = of-after_items m day firm items
+kind-rows m day firm (Dismisses caller line) = dismissed-rows m (dismiss_refusal caller line firm) line firm
 kind-rows m day firm (OnlyTold text) = refl
 kind-rows m day firm (NotRead n r) = cases (is_the m n)
   where
@@ -76,6 +84,7 @@ kind-reply m day firm (OfMatter n caller ask) = cases (n == m) refl
     cases true same_test = let same : n ≡ m = grind (arith, nat_tests) in ap (λ k. reply_of k (of k firm) a ∷ []) same
     cases false other_test = refl
 kind-reply m day firm (OfItems refused items) = sym (silent-items m day (of m firm) items)
+kind-reply m day firm (Dismisses caller line) = refl
 kind-reply m day firm (OnlyTold text) = refl
 kind-reply m day firm (NotRead n r) = cases (is_the m n)
   where
@@ -103,6 +112,7 @@ same-reply m day f g h named same = cases (names m h) named (own-reply m day f h
 kind-other : (m day : ℕ) (firm : Firm) (k : Kind) → kind_concerns m k ≡ false → of m (kind_step day firm k).firm ≡ of m firm
 kind-other m day firm (OfMatter n caller ask) other = of_other-after_ask m n (asked_on day caller ask) firm (λ same. absurd (grind (arith, nat_tests)))
 kind-other m day firm (OfItems refused items) other = unnamed-items m day firm items other
+kind-other m day firm (Dismisses caller line) other = dismissed-rows m (dismiss_refusal caller line firm) line firm
 kind-other m day firm (OnlyTold text) other = refl
 kind-other m day firm (NotRead n r) other = refl
 
@@ -112,6 +122,7 @@ other-rows m day firm h other = kind-other m day firm (kind_of h) other
 unnamed : (m : ℕ) (k : Kind) → kind_concerns m k ≡ false → kind_names m k ≡ false
 unnamed m (OfMatter n caller ask) other = other
 unnamed m (OfItems refused items) other = refl
+unnamed m (Dismisses caller line) other = refl
 unnamed m (OnlyTold text) other = refl
 unnamed m (NotRead n r) other = other
 
@@ -121,6 +132,7 @@ stopped-rows m day firm new (OfItems refused items) is other =
     let left = is.1 in
     let whole : list_any (names_item m) (left.front ++ is.0) ≡ false = ap (list_any (names_item m)) left.parts ∙ other in
     ap (of m) left.leaves ∙ unnamed-items m day firm left.front (none-front m left.front is.0 whole)
+stopped-rows m day firm new (Dismisses caller line) is other = ap (of m) is
 stopped-rows m day firm new (OnlyTold text) is other = ap (of m) is
 stopped-rows m day firm new (NotRead n r) is other = ap (of m) is
 

@@ -5,12 +5,13 @@ use Rattle.trust_base.specs.Refusals.{status_of}
 use Rattle.trust_base.specs.declared.refusal.Refusal.{Refusal}
 use Rattle.trust_matter.specs.Facts.{Asked}
 use Rattle.trust_matter.specs.Conditions.{is_accounting}
+use Rattle.trust_desk.specs.Dismissing.{dismiss_refusal, dismiss_reply}
 use Rattle.trust_desk.specs.declared.requests.Body.TheVariants.{Json, Refused, Text}
 use Rattle.matter_rows.specs.Rows.{Rows}
 use Rattle.trust_matter.specs.Step.{refusal}
 use Rattle.firm_rows.specs.Firm.{Firm, of}
 use Rattle.matter_bodies.specs.declared.bodies.ImportReply.{ImportReply}
-use Rattle.trust_desk.specs.Heard.{Kind, OfMatter, OfItems, OnlyTold, NotRead, kind_of, asked_on}
+use Rattle.trust_desk.specs.Heard.{Kind, OfMatter, OfItems, Dismisses, OnlyTold, NotRead, kind_of, asked_on}
 use Rattle.trust_desk.specs.ImportStep.{import_reply}
 use Rattle.trust_desk.specs.ItemStep.{counts_after, none_counted}
 use Rattle.trust_desk.specs.Replies.{is_fault_reply, refused, replied, text_reply}
@@ -31,6 +32,10 @@ import-status : (o : Option Refusal) (counts : ImportReply) → HasItsStatus (im
 import-status None counts = λ s is. absurd (cc)
 import-status (Some r) counts = refused-status r
 
+dismiss-status : (o : Option Refusal) → HasItsStatus (dismiss_reply o)
+dismiss-status None = λ s is. absurd (cc)
+dismiss-status (Some r) = refused-status r
+
 text-status : (told : Result (List ℕ) Refusal) → HasItsStatus (text_reply told)
 text-status (Ok text) = λ s is. absurd (cc)
 text-status (Err r) = refused-status r
@@ -39,6 +44,7 @@ step-status : (day : ℕ) (firm : Firm) (k : Kind) → HasItsStatus (kind_step d
 step-status day firm (OfMatter m caller ask) =
     let a = asked_on day caller ask in replied-status (refusal (of m firm) a) m (of m firm) a
 step-status day firm (OfItems refused items) = import-status refused (counts_after day firm items none_counted)
+step-status day firm (Dismisses caller line) = dismiss-status (dismiss_refusal caller line firm)
 step-status day firm (OnlyTold text) = text-status (text day firm)
 step-status day firm (NotRead named r) = refused-status r
 

@@ -6,13 +6,14 @@ use Rattle.trust_base.specs.declared.refusal.Refusal.{Refusal}
 use Rattle.trust_base.specs.declared.refusal.Refusal.TheVariants as refusals
 use Rattle.firm_rows.specs.Firm.{Firm}
 use Rattle.trust_desk.specs.declared.requests.Reply.{Reply}
-use Rattle.trust_desk.specs.Heard.{Heard, Kind, OfMatter, OfItems, OnlyTold, NotRead, kind_of}
+use Rattle.trust_desk.specs.Heard.{Heard, Kind, OfMatter, OfItems, Dismisses, OnlyTold, NotRead, kind_of}
 use Rattle.trust_desk.specs.Replies.{is_fault_reply, refused}
 use Rattle.trust_desk.specs.FirmStep.{IsFaultReply, IsStopped, KindStopped, Stopped, Steps, firm_step}
 
 kind-not_done : (day : ℕ) (firm : Firm) (k : Kind) → KindStopped day firm k firm
 kind-not_done day firm (OfMatter m caller ask) = refl
 kind-not_done day firm (OfItems refused items) = (items, record { front = []; parts = refl; leaves = refl })
+kind-not_done day firm (Dismisses caller line) = refl
 kind-not_done day firm (OnlyTold text) = refl
 kind-not_done day firm (NotRead named r) = refl
 

@@ -11,10 +11,11 @@ use Rattle.firm_rows.specs.FirmSound.{FirmSound}
 use Rattle.statement_csv.specs.declared.item.Item.{Item}
 use Rattle.trust_desk.specs.declared.requests.Body.TheVariants.{Refused}
 use Rattle.trust_desk.specs.declared.requests.Reply.{Reply}
-use Rattle.trust_desk.specs.Heard.{Heard, Kind, OfMatter, OfItems, OnlyTold, NotRead, kind_of, asked_on, concerns}
+use Rattle.trust_desk.specs.Heard.{Heard, Kind, OfMatter, OfItems, Dismisses, OnlyTold, NotRead, kind_of, asked_on, concerns}
 use Rattle.trust_desk.specs.Replies.{refused, reply_of, text_reply, is_fault_reply}
 use Rattle.trust_desk.specs.ItemStep.{after_items, counts_after, none_counted}
 use Rattle.trust_desk.specs.ImportStep.{IsAfterFront, import_reply}
+use Rattle.trust_desk.specs.Dismissing.{after_dismissing, dismiss_refusal, dismiss_reply}
 
 abbrev pub after_asked : Option Refusal → ℕ → Asked → Firm → Firm
 after_asked None m a firm =
@@ -38,6 +39,10 @@ kind_step day firm (OfItems refused items) = record {
   firm = after_items day firm items;
   reply = import_reply refused (counts_after day firm items none_counted);
 }
+kind_step day firm (Dismisses caller line) = record {
+  firm = after_dismissing caller line firm;
+  reply = dismiss_reply (dismiss_refusal caller line firm);
+}
 kind_step day firm (OnlyTold text) = record { firm = firm; reply = text_reply (text day firm) }
 kind_step day firm (NotRead named r) = record { firm = firm; reply = refused r }
 
@@ -52,6 +57,7 @@ IsFaultReply reply = (reply ≡ refused Store) ⊎ (reply ≡ refused Memory)
 abbrev pub KindStopped : ℕ → Firm → Kind → Firm → Type 0
 KindStopped day firm (OfMatter m caller ask) new = new ≡ firm
 KindStopped day firm (OfItems refused items) new = (rest : List Item) × IsAfterFront day firm items rest new
+KindStopped day firm (Dismisses caller line) new = new ≡ firm
 KindStopped day firm (OnlyTold text) new = new ≡ firm
 KindStopped day firm (NotRead named r) new = new ≡ firm
 

@@ -1,6 +1,7 @@
 -- What the desk hears, of which kind it is, and what of it comes to a matter.
 use Rattle.std.specs.Prelude.{ℕ, Bool, false, ◌==◌, List, [], ◌∷◌, ◌++◌, map, Option, Some, None, if◌then◌else◌, Result}
 use Rattle.std.specs.List.{list_any}
+use Rattle.trust_base.specs.declared.line.Line.{Line}
 use Rattle.trust_base.specs.declared.refusal.Refusal.{Refusal}
 use Rattle.trust_matter.specs.declared.ask.Caller.{Caller}
 use Rattle.trust_matter.specs.declared.ask.Ask.{Ask}
@@ -10,12 +11,14 @@ use Rattle.firm_rows.specs.Firm.{Firm}
 use Rattle.statement_csv.specs.declared.item.Item.{Item}
 use Rattle.statement_csv.specs.declared.item.Item.TheVariants as item
 use Rattle.trust_desk.specs.declared.requests.Request.{Request}
-use Rattle.trust_desk.specs.declared.requests.Request.TheVariants.{Matter, Import, Exceptions, Trial, Journal, Reconcile, Retention}
+use Rattle.trust_desk.specs.declared.requests.Request.TheVariants.{Matter, Import, Match, Unmatched, Dismiss, Exceptions, Trial, Journal, Reconcile, Retention, OwnLedger}
 use Rattle.trust_desk.specs.declared.requests.Report.TheVariants as report
+use Rattle.trust_desk.specs.declared.requests.MatchText.TheVariants as texts
 use Rattle.trust_desk.specs.declared.requests.Reply.{Reply}
 use Rattle.trust_desk.specs.ItemStep.{names_item}
 use Rattle.trust_desk.specs.ImportStep.{import_refusal, imported}
 use Rattle.trust_desk.specs.ReportStep.{report_for}
+use Rattle.trust_desk.specs.MatchStep.{match_text}
 
 -- a request; or a message that was refused before it became one, and that names a matter or none
 pub data Heard : Type 0 where
@@ -38,6 +41,8 @@ pub data Kind : Type 0 where
   OfMatter : (m : ℕ) (caller : Caller) (ask : Ask) → Kind
   -- the items that a statement brings, and what it is refused for
   OfItems : (refused : Option Refusal) (items : List Item) → Kind
+  -- a caller dismisses a line from the exceptions
+  Dismisses : (caller : Caller) (line : Line) → Kind
   -- nothing changes: a text is told by the day and the firm's rows, or why it is refused
   OnlyTold : (text : ℕ → Firm → Result (List ℕ) Refusal) → Kind
   -- a message that was refused before it became a request
@@ -46,11 +51,15 @@ pub data Kind : Type 0 where
 abbrev pub kind_of : Heard → Kind
 kind_of (Asks (Matter m caller ask)) = OfMatter m caller ask
 kind_of (Asks (Import caller statement)) = OfItems (import_refusal caller statement) (imported caller statement)
+kind_of (Asks (Dismiss caller line)) = Dismisses caller line
+kind_of (Asks (Match caller statement)) = OnlyTold (match_text texts.Statement caller statement)
+kind_of (Asks (Unmatched caller statement)) = OnlyTold (match_text texts.Unmatched caller statement)
 kind_of (Asks (Exceptions caller)) = OnlyTold (report_for caller report.Exceptions)
 kind_of (Asks (Trial caller)) = OnlyTold (report_for caller report.Trial)
 kind_of (Asks (Journal caller)) = OnlyTold (report_for caller report.Journal)
 kind_of (Asks (Reconcile caller day)) = OnlyTold (report_for caller (report.Reconciliation day))
 kind_of (Asks (Retention caller)) = OnlyTold (report_for caller report.Retention)
+kind_of (Asks (OwnLedger caller)) = OnlyTold (report_for caller report.OwnLedger)
 kind_of (Unread named refusal) = NotRead named refusal
 
 -- What names a matter, and is replied to.
@@ -62,6 +71,7 @@ is_the m (Some n) = n == m
 abbrev pub kind_names : ℕ → Kind → Bool
 kind_names m (OfMatter n caller ask) = n == m
 kind_names m (OfItems refused items) = false
+kind_names m (Dismisses caller line) = false
 kind_names m (OnlyTold text) = false
 kind_names m (NotRead named refusal) = is_the m named
 
@@ -103,6 +113,7 @@ own_of_items m day (it ∷ items) = own_of_item m day it ++ own_of_items m day i
 abbrev pub kind_own : ℕ → ℕ → Kind → List Own
 kind_own m day (OfMatter n caller ask) = own_if (n == m) (OwnAsk (asked_on day caller ask))
 kind_own m day (OfItems refused items) = own_of_items m day items
+kind_own m day (Dismisses caller line) = []
 kind_own m day (OnlyTold text) = []
 kind_own m day (NotRead named refusal) = own_if (is_the m named) (OwnRefusal refusal)
 
@@ -118,6 +129,7 @@ project m day (h ∷ hs) = own_of m day h ++ project m day hs
 abbrev pub kind_concerns : ℕ → Kind → Bool
 kind_concerns m (OfMatter n caller ask) = n == m
 kind_concerns m (OfItems refused items) = list_any (names_item m) items
+kind_concerns m (Dismisses caller line) = false
 kind_concerns m (OnlyTold text) = false
 kind_concerns m (NotRead named refusal) = is_the m named
 

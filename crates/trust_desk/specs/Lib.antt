@@ -4,6 +4,9 @@ pub mod ItemStep
 pub mod Imports
 pub mod ImportStep
 pub mod ReportStep
+pub mod Dismissing
+pub mod Dismissed
+pub mod MatchStep
 pub mod Heard
 pub mod FirmStep
 pub mod Solo
@@ -14,3 +17,4 @@ pub mod Counts
 pub mod Plan
 pub mod Calls
 pub mod Crashes
+pub mod Matching

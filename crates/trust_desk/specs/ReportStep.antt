@@ -8,11 +8,11 @@ use Rattle.trust_base.specs.Refusals.{refused_by}
 use Rattle.trust_matter.specs.declared.ask.Caller.{Caller}
 use Rattle.trust_matter.specs.Step.{first}
 use Rattle.firm_rows.specs.Firm.{Firm}
-use Rattle.firm_reports.specs.Reports.{exceptions_report, has_no_statement, is_period_purged, journal_report, reconciliation_report, retention_report, trial_report}
+use Rattle.firm_reports.specs.Reports.{exceptions_report, has_no_statement, is_period_purged, journal_report, own_card_report, reconciliation_report, retention_report, trial_report}
 use Rattle.firm_reports.specs.declared.reconciliation.Reconciled.{Reconciled}
 use Rattle.firm_reports.specs.declared.reconciliation.Reconciled.TheVariants as found
 use Rattle.trust_desk.specs.declared.requests.Report.{Report}
-use Rattle.trust_desk.specs.declared.requests.Report.TheVariants.{Exceptions, Trial, Journal, Reconciliation, Retention}
+use Rattle.trust_desk.specs.declared.requests.Report.TheVariants.{Exceptions, Trial, Journal, Reconciliation, Retention, OwnLedger}
 use Rattle.trust_desk.specs.declared.requests.Reply.{Reply}
 use Rattle.trust_desk.specs.ImportStep.{is_not_of_firm}
 use Rattle.trust_desk.specs.Replies.{refused, text_reply}
@@ -42,6 +42,7 @@ report_text Trial today firm = trial_report today firm
 report_text Journal today firm = journal_report today firm
 report_text (Reconciliation day) today firm = reconciliation_report day firm
 report_text Retention today firm = retention_report today firm
+report_text OwnLedger today firm = own_card_report today firm
 
 abbrev pub text_unless : Option Refusal → List ℕ → Result (List ℕ) Refusal
 text_unless None text = Ok text

@@ -3,6 +3,7 @@
 ghost use Rattle.std.specs.Prelude.{◌≡◌, ℕ, List, IfOk, length, take, ◌<◌, ◌∷◌, [], false, is_none};
 ghost use Rattle.statement_csv.specs.Items.{items};
 ghost use Rattle.statement_csv.specs.declared.item.Item.{Item};
+ghost use Rattle.trust_desk.specs.Dismissing.{after_dismissing};
 ghost use Rattle.trust_desk.specs.Heard.{Asks, OnlyTold, asked_on, heard, kind_of};
 ghost use Rattle.trust_desk.specs.Replies.{is_fault_reply, reply_for};
 ghost use Rattle.firm_rows.specs.Firm.{Firm};
@@ -16,15 +17,17 @@ ghost use Rattle.trust_desk.specs.Plan.{Ends};
 ghost use Rattle.trust_desk.specs.ReportStep.{report_for};
 
 use crate::callers::is_not_of_firm;
+use crate::dismissing::dismiss;
 use crate::import_checks::check_import;
 use crate::importing::{ImportEnd, ImportStop};
 use crate::planning::{plan, read_for};
 use crate::reporting::{find_report, found_reply};
-use crate::requests::{Body, End, Reply, Report, Request, RunEnd};
+use crate::requests::{Body, End, MatchText, Reply, Report, Request, RunEnd};
+use crate::watching::NoWatch;
 use matter_bodies::{ImportReply, import_body};
 use std::alloc::Global;
 use std::marker::Model;
-use trust_base::{Day, MatterNo, OwnedBytes, Refusal, Rule};
+use trust_base::{Day, Line, MatterNo, OwnedBytes, Refusal, Rule};
 use trust_matter::{Ask, Caller};
 use trust_store::Book;
 
@@ -82,6 +85,13 @@ impl<B: Book> Desk<B> {
             Request::Import { caller, statement } => {
                 self.answer_import(alloc, caller, statement, day)
             }
+            Request::Dismiss { caller, line } => self.answer_dismiss(alloc, caller, line, day),
+            Request::Match { caller, statement } => {
+                self.answer_match(alloc, request, caller, statement, MatchText::Statement, day)
+            }
+            Request::Unmatched { caller, statement } => {
+                self.answer_match(alloc, request, caller, statement, MatchText::Unmatched, day)
+            }
             Request::Exceptions(caller) => {
                 self.answer_told(alloc, request, caller, Report::Exceptions, day)
             }
@@ -94,6 +104,9 @@ impl<B: Book> Desk<B> {
             }
             Request::Retention(caller) => {
                 self.answer_told(alloc, request, caller, Report::Retention, day)
+            }
+            Request::OwnLedger(caller) => {
+                self.answer_told(alloc, request, caller, Report::OwnLedger, day)
             }
         }
     }
@@ -124,6 +137,21 @@ impl<B: Book> Desk<B> {
             return Reply::refused(Refusal::NotAllowed(Rule::Firm));
         }
         found_reply(find_report(alloc, &mut self.book, report, day))
+    }
+
+    // Dismisses a line from the exceptions. The day is named for the contract alone.
+    fn answer_dismiss(&mut self, alloc: Global, caller: &Caller, line: &Line, _day: Day) -> Reply
+        ensures step { B.clean self.new → B.stands self.old
+            → Steps _day (B.firm self.old) (Asks (Request.Dismiss caller.now line.now)) result (B.firm self.new) }
+        ensures kept { KeepsBook B.clean B.sure B.stands B.lasts B.refusals (counted_reply result) self.old self.new }
+        ensures crash { B.sure self.new → B.stands self.old → MayLeaveChange B.clean B.leaves
+            (is_fault_reply result ≡ false) (B.firm self.old)
+            (after_dismissing caller.now line.now (B.firm self.old)) self.old self.new }
+    {
+        match dismiss(alloc, &mut self.book, caller, line) {
+            Ok(reply) => reply,
+            Err(why) => Reply::refused(why),
+        }
     }
 
     fn answer_import(
@@ -189,7 +217,7 @@ impl<B: Book> Desk<B> {
             (λ found. (rest : List Item) × IsAfterFront day (B.firm self.old) (items_in bytes.now) rest found)
             (B.firm self.old) (B.firm self.new) self.old self.new }
     {
-        let ImportEnd { reply, end } = self.import(alloc, bytes, day);
+        let ImportEnd { reply, end } = self.import(alloc, bytes, day, &NoWatch);
         match end {
             ImportStop::Done => Ok(reply),
             ImportStop::Refused(refusal) => Err(refusal),

@@ -22,7 +22,8 @@ ghost use Rattle.trust_desk.specs.Imports.{AreBelow, CountsOne, Imports, IsStop,
 ghost use Rattle.trust_desk.specs.ItemStep.{KeepsAll, KeepsUnnamed, after_balance, after_item, balance_on, count_item, count_one, counted_by, counted_of, counted_verdict, none_counted};
 
 use crate::desk::Desk;
-use firm_rows::{BalanceKind, Verdict, decide_balance, decide_firm_line};
+use crate::watching::{At, ItemWatch, NotApplied};
+use firm_rows::{BalanceKind, FirmLedger, Verdict, decide_balance, decide_firm_line};
 use matter_bodies::ImportReply;
 use statement_csv::{Item, Lines, ReadFault, Whole};
 use std::alloc::Global;
@@ -90,6 +91,13 @@ fn none_counted() -> ImportReply
     }
 }
 
+// How many items are counted.
+fn taken(reply: &ImportReply) -> u64 {
+    let done = reply.applied.saturating_add(reply.repeated);
+    done.saturating_add(reply.exceptions)
+        .saturating_add(reply.unreadable)
+}
+
 // Counts one item more.
 fn count_one(reply: &mut ImportReply, counted: Counted)
     requires { AreBelow (2 ^ 64 - 1) reply.old }
@@ -103,8 +111,12 @@ fn count_one(reply: &mut ImportReply, counted: Counted)
     }
 }
 
-// Decides on a line by what was read of its matter for its entry. That is held; where it is not, it is answered Store.
-fn line_verdict(matter: &Matter, line: &BankLine, day: Day) -> Result<LineVerdict, StoreFault>
+/// Decides on a line by what was read of its matter for its entry. That is held; where it is not, it is answered Store.
+pub(crate) fn line_verdict(
+    matter: &Matter,
+    line: &BankLine,
+    day: Day,
+) -> Result<LineVerdict, StoreFault>
     ensures { (rows : Rows) → Sound rows → IsPartFor rows (Some line.now.entry) None matter.now
         → LineDecides rows line.now day result }
 {
@@ -136,8 +148,8 @@ fn count_item(reply: &mut ImportReply, item: &Item, counted: Counted)
     }
 }
 
-// What a line of the firm, or a balance, with this verdict is counted as.
-fn counted_by(verdict: Verdict) -> Counted
+/// What a line of the firm, or a balance, with this verdict is counted as.
+pub(crate) fn counted_by(verdict: Verdict) -> Counted
     ensures { result ≡ counted_by verdict }
 {
     match verdict {
@@ -147,8 +159,8 @@ fn counted_by(verdict: Verdict) -> Counted
     }
 }
 
-// What a line with this verdict is counted as.
-fn counted_verdict(verdict: &LineVerdict) -> Counted
+/// What a line with this verdict is counted as.
+pub(crate) fn counted_verdict(verdict: &LineVerdict) -> Counted
     ensures { result ≡ counted_verdict verdict.now }
 {
     match verdict {
@@ -158,15 +170,58 @@ fn counted_verdict(verdict: &LineVerdict) -> Counted
     }
 }
 
+/// Tells of a line that names an entry, where it is an exception.
+pub(crate) fn tell_of_line<V: ItemWatch>(
+    at: &At<'_, V>,
+    line: &BankLine,
+    matter: &Matter,
+    verdict: &LineVerdict,
+) {
+    if let LineVerdict::Unmatched(reason) = verdict {
+        at.tell(&NotApplied::OfMatter {
+            line,
+            matter,
+            reason: *reason,
+        });
+    }
+}
+
+/// Tells of a line of the firm's own, where it is an exception.
+pub(crate) fn tell_of_firm_line<V: ItemWatch>(
+    at: &At<'_, V>,
+    line: &Line,
+    ledger: &FirmLedger,
+    verdict: Verdict,
+) {
+    if let Verdict::Unmatched = verdict {
+        at.tell(&NotApplied::OfFirm { line, ledger });
+    }
+}
+
+/// Tells of a balance, where it is an exception.
+pub(crate) fn tell_of_balance<V: ItemWatch>(
+    at: &At<'_, V>,
+    kind: BalanceKind,
+    line: &Line,
+    kept: Option<i64>,
+    verdict: Verdict,
+) {
+    if let Verdict::Unmatched = verdict {
+        at.tell(&NotApplied::OfBalance { kind, line, kept });
+    }
+}
+
 impl<B: Book> Desk<B> {
     /// Applies one item of a statement on a business day: a line that names an entry clears it, one of the firm's own
     /// joins its ledger, and a balance is kept, or it comes again, or is an exception from then on, as a stray line
-    /// always is; a record that is no line changes nothing. With an error nothing has changed.
-    pub fn apply_line(
+    /// always is; a record that is no line changes nothing. With an error nothing has changed. Of an exception, and of
+    /// a record that is no line, the watcher is told behind that.
+    pub fn apply_line<V: ItemWatch>(
         &mut self,
         alloc: Global,
         item: &Item,
         day: Day,
+        at: &At<'_, V>,
     ) -> Result<Counted, StoreFault>
         ensures step { B.clean self.new → B.stands self.old
             → IfOk result (λ c. (c ≡ counted_of day (B.firm self.old) item.now)
@@ -187,21 +242,25 @@ impl<B: Book> Desk<B> {
             (B.firm self.old) (after_item day (B.firm self.old) item.now) self.old self.new }
     {
         match item {
-            Item::Opening(line) => self.apply_balance(alloc, BalanceKind::Opening, line, day),
-            Item::Closing(line) => self.apply_balance(alloc, BalanceKind::Closing, line, day),
-            Item::OfMatter(line) => self.apply_bank_line(alloc, line, day),
-            Item::OfFirm(line) => self.apply_firm_line(alloc, line, day),
-            Item::Stray(line) => self.apply_stray(alloc, line),
-            Item::Unreadable(_) => Ok(Counted::Unreadable),
+            Item::Opening(line) => self.apply_balance(alloc, BalanceKind::Opening, line, day, at),
+            Item::Closing(line) => self.apply_balance(alloc, BalanceKind::Closing, line, day, at),
+            Item::OfMatter(line) => self.apply_bank_line(alloc, line, day, at),
+            Item::OfFirm(line) => self.apply_firm_line(alloc, line, day, at),
+            Item::Stray(line) => self.apply_stray(alloc, line, at),
+            Item::Unreadable(_) => {
+                at.tell(&NotApplied::Unreadable);
+                Ok(Counted::Unreadable)
+            }
         }
     }
 
     // A line that names an entry.
-    fn apply_bank_line(
+    fn apply_bank_line<V: ItemWatch>(
         &mut self,
         alloc: Global,
         line: &BankLine,
         day: Day,
+        at: &At<'_, V>,
     ) -> Result<Counted, StoreFault>
         ensures step { B.clean self.new → B.stands self.old
             → IfOk result (λ c. (c ≡ counted_of day (B.firm self.old) (OfMatter line.now))
@@ -218,15 +277,17 @@ impl<B: Book> Desk<B> {
             .matter_for(alloc, line.matter, Some(line.entry), None)?;
         let verdict = line_verdict(&matter, line, day)?;
         self.book.write_line(alloc, line, &verdict)?;
+        tell_of_line(at, line, &matter, &verdict);
         Ok(counted_verdict(&verdict))
     }
 
     // A line of the firm's own.
-    fn apply_firm_line(
+    fn apply_firm_line<V: ItemWatch>(
         &mut self,
         alloc: Global,
         line: &Line,
         day: Day,
+        at: &At<'_, V>,
     ) -> Result<Counted, StoreFault>
         ensures step { B.clean self.new → B.stands self.old
             → IfOk result (λ c. (c ≡ counted_of day (B.firm self.old) (OfFirm line.now))
@@ -241,16 +302,18 @@ impl<B: Book> Desk<B> {
         let ledger = self.book.firm(alloc)?;
         let verdict = decide_firm_line(&ledger, line, day);
         self.book.write_firm(alloc, line, verdict)?;
+        tell_of_firm_line(at, line, &ledger, verdict);
         Ok(counted_by(verdict))
     }
 
     // An opening or a closing balance.
-    fn apply_balance(
+    fn apply_balance<V: ItemWatch>(
         &mut self,
         alloc: Global,
         kind: BalanceKind,
         line: &Line,
         day: Day,
+        at: &At<'_, V>,
     ) -> Result<Counted, StoreFault>
         ensures step { B.clean self.new → B.stands self.old
             → IfOk result (λ c. (c ≡ counted_by (balance_on (B.firm self.old) kind line.now day))
@@ -264,11 +327,17 @@ impl<B: Book> Desk<B> {
         let kept = self.book.balance(kind, line.date)?;
         let verdict = decide_balance(kept, line, day);
         self.book.write_balance(alloc, kind, line, verdict)?;
+        tell_of_balance(at, kind, line, kept, verdict);
         Ok(counted_by(verdict))
     }
 
     // A line that names nothing.
-    fn apply_stray(&mut self, alloc: Global, line: &Line) -> Result<Counted, StoreFault>
+    fn apply_stray<V: ItemWatch>(
+        &mut self,
+        alloc: Global,
+        line: &Line,
+        at: &At<'_, V>,
+    ) -> Result<Counted, StoreFault>
         ensures step { B.clean self.new → B.stands self.old
             → IfOk result (λ c. (c ≡ Counted.Exception) × (B.firm self.new ≡ after_stray line.now (B.firm self.old))) }
         ensures err { B.clean self.new → B.stands self.old → OnErr result (B.firm self.new ≡ B.firm self.old) }
@@ -277,15 +346,23 @@ impl<B: Book> Desk<B> {
             (B.firm self.old) (after_stray line.now (B.firm self.old)) self.old self.new }
     {
         self.book.write_stray(alloc, line)?;
+        at.tell(&NotApplied::Stray { line });
         Ok(Counted::Exception)
     }
 
     /// Applies the items of a statement on a business day, each before the next is read, until the statement ends or a
-    /// fault comes. The items so far stay applied then, and no other is begun.
+    /// fault comes. The items so far stay applied then, and no other is begun. `watch` is told of each item that is
+    /// an exception or no line, and of the end, of which no clause speaks.
     ///
     /// No clause says that `ReadFault` and `Memory` come only where a read failed and a growth was refused: `csv` tells
     /// nothing of its reader after an error.
-    pub fn import<R: Read + Drop>(&mut self, alloc: Global, reader: R, day: Day) -> ImportEnd
+    pub fn import<R: Read + Drop, V: ItemWatch>(
+        &mut self,
+        alloc: Global,
+        reader: R,
+        day: Day,
+        watch: &V,
+    ) -> ImportEnd
 
         // One front of the items is applied and counted; the firm is sound after each; and each matter hears of them
         // the lines that name it alone.
@@ -314,15 +391,18 @@ impl<B: Book> Desk<B> {
         ensures shut { B.sure self.new → B.clean self.old → B.stands self.old → (mid : Firm)
             × Imports day (B.firm self.old) (option_map items (R.remaining reader)) result mid }
     {
-        self.import_whole::<R, Brand>(alloc, reader, day)
+        let ended = self.import_whole::<R, V, Brand>(alloc, reader, day, watch);
+        watch.ended(taken(&ended.reply), &ended.end);
+        ended
     }
 
     // The same, where a proof names the statement's bytes by `K`.
-    fn import_whole<R: Read + Drop, K: Whole>(
+    fn import_whole<R: Read + Drop, V: ItemWatch, K: Whole>(
         &mut self,
         alloc: Global,
         reader: R,
         day: Day,
+        watch: &V,
     ) -> ImportEnd
         requires whole { Keeps K.bytes (R.remaining reader) }
         ensures front { B.clean self.new → B.stands self.old
@@ -344,8 +424,10 @@ impl<B: Book> Desk<B> {
         let mut lines = Lines::<R, K>::of_whole(alloc, reader);
         let mut reply = none_counted();
         // No statement has so many items; the bound gives the counts room.
-        for _turn in 0..u64::MAX {
-            if let Some(end) = self.import_next(alloc, &mut lines, day, &mut reply) {
+        for turn in 0..u64::MAX {
+            let number = turn.saturating_add(1);
+            let at = At { number, watch };
+            if let Some(end) = self.import_next(alloc, &mut lines, day, &at, &mut reply) {
                 return ImportEnd { reply, end };
             }
         }
@@ -356,11 +438,12 @@ impl<B: Book> Desk<B> {
     }
 
     // Applies and counts the next item of a statement, or tells how the import ends.
-    fn import_next<R: Read, K: Whole>(
+    fn import_next<R: Read, V: ItemWatch, K: Whole>(
         &mut self,
         alloc: Global,
         lines: &mut Lines<R, K>,
         day: Day,
+        at: &At<'_, V>,
         reply: &mut ImportReply,
     ) -> Option<ImportStop>
         requires room { AreBelow (2 ^ 64 - 1) reply.old }
@@ -381,7 +464,7 @@ impl<B: Book> Desk<B> {
             self.old self.new }
     {
         match lines.next() {
-            Ok(Some(item)) => match self.import_item(alloc, item, day, reply) {
+            Ok(Some(item)) => match self.import_item(alloc, item, day, at, reply) {
                 Ok(()) => None,
                 Err(fault) => Some(ImportStop::Refused(fault.into())),
             },
@@ -391,11 +474,12 @@ impl<B: Book> Desk<B> {
     }
 
     // Applies an item and counts it. With an error nothing has changed.
-    fn import_item(
+    fn import_item<V: ItemWatch>(
         &mut self,
         alloc: Global,
         item: Item,
         day: Day,
+        at: &At<'_, V>,
         reply: &mut ImportReply,
     ) -> Result<(), StoreFault>
         requires room { AreBelow (2 ^ 64 - 1) reply.old }
@@ -409,7 +493,7 @@ impl<B: Book> Desk<B> {
             (λ found. found ≡ after_item day (B.firm self.old) item) (B.firm self.old) (B.firm self.new)
             self.old self.new }
     {
-        let counted = self.apply_line(alloc, &item, day)?;
+        let counted = self.apply_line(alloc, &item, day, at)?;
         count_item(reply, &item, counted);
         Ok(())
     }

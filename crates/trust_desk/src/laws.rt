@@ -3,7 +3,9 @@
 ghost use Rattle.trust_desk.specs.Isolation.{EachMatterOwn, SameForTheMatter};
 ghost use Rattle.trust_desk.specs.ItemStep.{EveryItemIsCounted};
 ghost use Rattle.trust_desk.specs.FirmStep.{RefusalsHaveTheirStatus, SoundRunsAreRuns};
+ghost use Rattle.trust_desk.specs.Matching.{FilledLinesAreApplied, FilledLinesAreInBook, SecondMatchFillsNothing};
 ghost use Rattle.trust_desk.specs.NeverBelowZero.{NeverBelowZero, RunsNeverBelowZero};
+ghost use Rattle.trust_desk.specs.Dismissed.{DismissedOnce, DismissingMovesNothing};
 ghost use Rattle.trust_desk.specs.OnceOnly.{BalanceOnce, FirmLineOnce, LineOnceOnly, OnceOnly};
 ghost use Rattle.trust_desk.specs.Purging.{PurgingChangesNoFigure};
 
@@ -62,4 +64,33 @@ pub fn every_item_is_counted()
 /// afterwards, no purged matter having been closed after it.
 pub fn purging_changes_no_figure()
     ensures { PurgingChangesNoFigure }
+{}
+
+/// Whoever dismisses a line from the exceptions moves nothing by it: the rows of all matters, the journal, the firm's
+/// own lines and the balances stay as they are, whether it is dismissed or refused.
+pub fn dismissing_moves_nothing()
+    ensures { DismissingMovesNothing }
+{}
+
+/// A line that was dismissed is no exception from then on: dismissed again, it is refused.
+pub fn dismissed_once()
+    ensures { DismissedOnce }
+{}
+
+/// Each line that a match fills is applied when what is written is imported on the same day into the sound firm over
+/// which it was filled: whatever was written before it, and became of that.
+pub fn filled_lines_are_applied()
+    ensures { FilledLinesAreApplied }
+{}
+
+/// A line that a match fills is in the book already when the same lines are matched again behind that import, on any
+/// day: it is neither filled nor written a second time.
+pub fn filled_lines_are_in_book()
+    ensures { FilledLinesAreInBook }
+{}
+
+/// Where no line has a reference or is an exception under one, a second match of the same lines behind that import, on
+/// the same day, fills nothing.
+pub fn second_match_fills_nothing()
+    ensures { SecondMatchFillsNothing }
 {}

@@ -6,8 +6,8 @@ ghost use Rattle.trust_desk.specs.ReportStep.{found_reply, found_text, report_fo
 
 use crate::requests::{Body, Reply, Report};
 use firm_reports::{
-    Reconciled, exceptions_report, journal_report, reconciliation_report, retention_report,
-    trial_report,
+    Reconciled, exceptions_report, journal_report, own_card_report, reconciliation_report,
+    retention_report, trial_report,
 };
 use std::alloc::Global;
 use trust_base::{Day, OwnedBytes, Refusal, StoreFault};
@@ -33,6 +33,7 @@ pub(crate) fn find_report<B: Book>(
         Report::Journal => journal_report(alloc, book, today).map(Reconciled::Text),
         Report::Reconciliation(as_of) => reconciliation_report(alloc, book, as_of),
         Report::Retention => retention_report(alloc, book, today).map(Reconciled::Text),
+        Report::OwnLedger => own_card_report(alloc, book, today).map(Reconciled::Text),
     }
 }
 

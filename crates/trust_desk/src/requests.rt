@@ -2,7 +2,7 @@
 
 ghost use Rattle.std.specs.Prelude.{◌≡◌};
 
-use trust_base::{Day, MatterNo, OwnedBytes, Refusal};
+use trust_base::{Day, Line, MatterNo, OwnedBytes, Refusal};
 use trust_matter::{Ask, Caller};
 
 /// What is asked of the desk.
@@ -18,6 +18,21 @@ pub enum Request {
         caller: Caller,
         statement: OwnedBytes,
     },
+    /// A caller takes a line back that stands unmatched, since the bank has no such line.
+    Dismiss {
+        caller: Caller,
+        line: Line,
+    },
+    /// A caller hands in a statement whose references may be empty, and asks for the one that an import takes.
+    Match {
+        caller: Caller,
+        statement: OwnedBytes,
+    },
+    /// A caller hands in such a statement, and asks what of it a person has to look at.
+    Unmatched {
+        caller: Caller,
+        statement: OwnedBytes,
+    },
     /// A caller asks for the bank's lines that stand unmatched.
     Exceptions(Caller),
     /// A caller asks for the trial balance: the ledger of each open matter, the firm's own, and their sum.
@@ -28,6 +43,8 @@ pub enum Request {
     Reconcile(Caller, Day),
     /// A caller asks until when the records of each closed matter are kept.
     Retention(Caller),
+    /// A caller asks for the ledger card of the firm's own money.
+    OwnLedger(Caller),
 }
 
 impl Drop for Request {
@@ -41,12 +58,25 @@ impl Drop for Request {
             Request::Import {
                 caller: _caller,
                 statement: _statement,
+            }
+            | Request::Match {
+                caller: _caller,
+                statement: _statement,
+            }
+            | Request::Unmatched {
+                caller: _caller,
+                statement: _statement,
+            } => (),
+            Request::Dismiss {
+                caller: _caller,
+                line: _line,
             } => (),
             Request::Exceptions(_caller)
             | Request::Trial(_caller)
             | Request::Journal(_caller)
             | Request::Reconcile(_caller, _)
-            | Request::Retention(_caller) => (),
+            | Request::Retention(_caller)
+            | Request::OwnLedger(_caller) => (),
         }
     }
 }
@@ -64,6 +94,17 @@ pub(crate) enum Report {
     Reconciliation(Day),
     /// The retention list.
     Retention,
+    /// The ledger card of the firm's own money.
+    OwnLedger,
+}
+
+/// One of the two texts that a statement becomes, whose references may be empty.
+#[derive(Clone, Copy)]
+pub(crate) enum MatchText {
+    /// The statement that an import takes.
+    Statement,
+    /// What a person has to look at, and the counts.
+    Unmatched,
 }
 
 /// What an answer says.

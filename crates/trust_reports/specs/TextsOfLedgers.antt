@@ -1,4 +1,4 @@
--- A client's ledger card: the matter, each entry as it stands, and the balances.
+-- A client's ledger card: the matter, each entry as it stands, and the balances; and the firm's own.
 use Rattle.std.specs.Prelude.{◌≡◌, ℕ, ◌+◌, ℤ, pos, List, [], ◌∷◌, ◌++◌, codes, flat_map, Option, Some, None}
 use Rattle.trust_base.specs.Texts.{amount_text, day_text, entry_text, matter_text, signed_text}
 use Rattle.matter_rows.specs.declared.head.Head.{Head}
@@ -27,7 +27,9 @@ use Rattle.matter_rows.specs.Sound.{Sound}
 use Rattle.matter_parts.specs.declared.figures.Figures.{Figures}
 use Rattle.matter_parts.specs.declared.kept.Kept.{Kept}
 use Rattle.matter_parts.specs.Parts.{IsWhole, Part, total_kept}
-use Rattle.trust_reports.specs.Texts.{column, line}
+use Rattle.firm_rows.specs.declared.ledger.FirmLine.{FirmLine}
+use Rattle.firm_rows.specs.FirmLines.{balance_of}
+use Rattle.trust_reports.specs.Texts.{column, heading, line, or_dash, words_shown}
 
 -- The heading.
 
@@ -170,3 +172,15 @@ abbrev pub WholeCardIsOfRows : Type 0
 WholeCardIsOfRows =
     (m : ℕ) (matter : Part) (rows : Rows) → Sound rows → IsWhole matter rows
     → ledger_card m matter ≡ ledger_card_of m rows
+
+-- The firm's own card.
+
+-- a line of the firm's own: its day, the bank's reference, its signed amount and the bank's words
+abbrev pub own_line : FirmLine → List ℕ
+own_line l = line (day_text l.date) (or_dash l.bank_ref ∷ signed_text l.amount ∷ words_shown l.text ∷ [])
+
+-- on a business day: the lines in the order of acceptance, and what they add up to
+abbrev pub own_card_text : ℕ → List FirmLine → List ℕ
+own_card_text today lines =
+    heading (codes "LEDGER FIRM") today
+    ++ (flat_map own_line lines ++ balance_line (codes "TOTAL") (balance_of lines))

@@ -5,7 +5,7 @@ ghost use Rattle.matter_parts.specs.declared.edit.Edit.TheVariants.{Nothing};
 ghost use Rattle.matter_parts.specs.Parts.{IsWhole};
 ghost use Rattle.firm_rows.specs.Countable.{IsRowInRange, IsMovementInRange, IsFirmLineInRange, IsLineInRange, IsBalanceInRange};
 ghost use Rattle.firm_rows.specs.Firm.{Firm, of};
-ghost use Rattle.firm_rows.specs.FirmChange.{OfMatter, Unmatched, FitsFirm, by_line, by_firm_line, by_balance};
+ghost use Rattle.firm_rows.specs.FirmChange.{OfMatter, Repeated, Unmatched, FitsFirm, by_line, by_firm_line, by_balance};
 ghost use Rattle.firm_rows.specs.FirmLines.{kept_balance};
 ghost use Rattle.firm_rows.specs.FirmSound.{IsVerdictOn, IsFirmVerdict, IsBalanceVerdict};
 ghost use Rattle.trust_store.specs.Calls.{IsRead, IsWrite, AreHanded};
@@ -21,6 +21,13 @@ use trust_matter::{BankLine, Change, LineVerdict, Matter};
 /// What is said of them holds where the store that keeps them is clean as the call ends, so that what it read was what
 /// had been written, and where it stood for a sound firm as the call began. A call answers Store where the store
 /// refused or held a row that stands for nothing, and Memory where a growth was refused; it has then changed nothing.
+///
+/// A line of the bank that matches nothing, kept and taken back:
+///
+///     let mut book = PlainBook::new(alloc);
+///     book.write_stray(alloc, &line)?;    // it is an exception
+///     book.each_exception(&mut list)?;    // and the list is handed it
+///     book.dismiss(alloc, &line)?;        // now it is none
 pub trait Book {
     ghost use Rattle.std.specs.Prelude.{ℕ};
     ghost use Rattle.firm_rows.specs.Firm.{Firm};
@@ -170,4 +177,10 @@ pub trait Book {
     fn write_stray(&mut self, alloc: Global, line: &Line) -> Result<(), StoreFault>
         ensures written { IsWrite firm clean sure stands lasts leaves refusals
             (Unmatched line.now) result self.old self.new };
+
+    /// Takes a whole line out of the exceptions, and changes nothing else; where it is none of them nothing changes. It
+    /// is one write.
+    fn dismiss(&mut self, alloc: Global, line: &Line) -> Result<(), StoreFault>
+        ensures written { IsWrite firm clean sure stands lasts leaves refusals
+            (Repeated line.now) result self.old self.new };
 }

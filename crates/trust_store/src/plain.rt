@@ -274,6 +274,13 @@ impl Book for PlainBook {
         self.is_sound();
         Ok(())
     }
+
+    fn dismiss(&mut self, _alloc: Global, line: &Line) -> Result<(), StoreFault> {
+        self.is_sound();
+        self.settle(line);
+        self.is_sound();
+        Ok(())
+    }
 }
 
 // The place of a matter, or where it would stand.

@@ -192,6 +192,16 @@ impl<B: Book> Book for RefusingBook<B> {
             Err(fault) => Err(told(&mut self.refusals, fault)),
         }
     }
+
+    fn dismiss(&mut self, alloc: Global, line: &Line) -> Result<(), StoreFault> {
+        if is_refused(&mut self.writes_left) {
+            return Err(told(&mut self.refusals, StoreFault::Store));
+        }
+        match self.inner.dismiss(alloc, line) {
+            Ok(()) => Ok(()),
+            Err(fault) => Err(told(&mut self.refusals, fault)),
+        }
+    }
 }
 
 // Whether a write is the one to be refused, where so many are left up to that one.

@@ -5,7 +5,7 @@ use portal_http::{StreamEnd, serve_stream};
 use std::alloc::Global;
 use std::io::{Read, Write};
 use trust_base::{Day, TrialReader, TrialWriter};
-use trust_desk::Desk;
+use trust_desk::{Desk, NoWatch};
 use trust_store::{Book, PlainBook};
 
 /// What is given to be read.
@@ -83,7 +83,9 @@ pub(crate) fn run<R: Read + Drop, W: Write, B: Book>(
     match given {
         Given::Stream => of_stream(serve_stream(alloc, reader, writer, desk, day)),
         Given::Sheet => of_sheet(run_sheet(alloc, &mut reader, &NoRemarks, writer, desk, day)),
-        Given::Statement => of_statement(run_import(alloc, reader, None, writer, desk, day)),
+        Given::Statement => of_statement(run_import(
+            alloc, reader, None, writer, desk, day, &NoWatch,
+        )),
     }
 }
 

@@ -6,7 +6,7 @@ use crate::pieces::{DEPOSIT, OPEN, OTHER_DEPOSIT, OTHER_OPEN, SHOWN_CLEARED, SHO
 use std::alloc::Global;
 use std::io::Read;
 use trust_base::{Day, TrialReader};
-use trust_desk::{Desk, ImportReply, ImportStop};
+use trust_desk::{Desk, ImportReply, ImportStop, NoWatch};
 use trust_store::PlainBook;
 
 // A desk where deposits of two matters are booked.
@@ -37,8 +37,8 @@ fn are_whole(first: &ImportReply, again: &ImportReply) -> bool {
 fn is_whole_again(alloc: Global, good: u64) -> Result<bool, Wrong> {
     let day = today()?;
     let mut desk = booked(alloc, day)?;
-    let first = desk.import(alloc, TrialReader::new(STATEMENT, 1, good), day);
-    let again = desk.import(alloc, STATEMENT, day);
+    let first = desk.import(alloc, TrialReader::new(STATEMENT, 1, good), day, &NoWatch);
+    let again = desk.import(alloc, STATEMENT, day, &NoWatch);
     Ok(
         matches!(first.end, ImportStop::ReadFault)
             && matches!(again.end, ImportStop::Done)
@@ -77,7 +77,12 @@ fn is_cut_in_the_last_line(alloc: Global) -> Result<bool, Wrong> {
     let mut desk = booked(alloc, day)?;
     let bytes = long_statement(alloc)?;
     let (front, back) = bytes.split_at(bytes.len().saturating_sub(10));
-    let ended = desk.import(alloc, front.chain(TrialReader::new(back, 1, 0)), day);
+    let ended = desk.import(
+        alloc,
+        front.chain(TrialReader::new(back, 1, 0)),
+        day,
+        &NoWatch,
+    );
     serve(alloc, &mut desk, day, &[SHOWN_OTHER_HELD, SHOWN_CLEARED])?;
     let reply = &ended.reply;
     Ok(

@@ -26,6 +26,15 @@ impl<'a> Excerpt<'a> {
     pub fn is_empty(&self) -> bool {
         self.front.is_empty()
     }
+
+    /// Writes it without quotes.
+    pub fn write_bare<W: fmt::Write>(&self, f: &mut fmt::Formatter<W>) -> fmt::Result {
+        f.write_str(self.front)?;
+        if self.is_cut {
+            f.write_str("..")?;
+        }
+        Ok(())
+    }
 }
 
 impl fmt::Display for Excerpt<'_> {

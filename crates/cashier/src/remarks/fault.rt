@@ -1,5 +1,6 @@
 // What is wrong with a record that can't be read.
 
+use crate::dismissal::is_dismissal;
 use crate::fields::field_bytes;
 use crate::record::{Verb, count_of, is_text, names_entry, read_verb};
 use crate::remarks::excerpt::Excerpt;
@@ -26,6 +27,8 @@ pub enum RecordFault<'a> {
     TooFew(Verb, usize),
     /// The verb names no entry, and one is given.
     NeedlessEntry(Verb),
+    /// What is dismissed is no line of a statement.
+    NoLine,
     /// The field of this number, from 1, is not UTF-8.
     NotText(usize),
     /// The general fund is of no entry, and one is given.
@@ -34,7 +37,8 @@ pub enum RecordFault<'a> {
     BadField(Field, Excerpt<'a>),
 }
 
-fn has_line_end(bytes: &[u8]) -> bool {
+/// Whether a line ends in a field.
+pub fn has_line_end(bytes: &[u8]) -> bool {
     bytes.iter().any(|byte| *byte == b'\n' || *byte == b'\r')
 }
 
@@ -58,8 +62,8 @@ fn is_empty_from(row: &ByteRecord, first: usize) -> bool {
     true
 }
 
-// The number of the first field that is not UTF-8, from 1; 0 where there is none.
-fn first_not_text(row: &ByteRecord) -> usize {
+/// The number of the first field that is not UTF-8, from 1; 0 where there is none.
+pub fn first_not_text(row: &ByteRecord) -> usize {
     for place in 0..row.len() {
         if !is_text(field_bytes(row, place)) {
             return place + 1;
@@ -96,6 +100,9 @@ fn fault_of_count<'a>(verb: Verb, row: &ByteRecord) -> Option<RecordFault<'a>> {
 
 // What is wrong with a record as a whole.
 fn fault_of_form(row: &ByteRecord) -> RecordFault<'_> {
+    if is_dismissal(row) {
+        return RecordFault::NoLine;
+    }
     let name = field_bytes(row, 0);
     let Some(verb) = read_verb(name) else {
         return fault_of_name(name);
@@ -183,6 +190,9 @@ impl fmt::Display for RecordFault<'_> {
                 let name = name_of(verb);
                 write!(f, "{name} names no entry: its third field stays empty")
             }
+            RecordFault::NoLine => f.write_str(
+                "a line is dismissed as the list of exceptions has it: dismiss,,,DATE,REFERENCE,BANK_REF,AMOUNT,TEXT",
+            ),
             RecordFault::NotText(number) => {
                 write!(f, "field {number} is not UTF-8: save the sheet as UTF-8")
             }

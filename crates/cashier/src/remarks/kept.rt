@@ -89,8 +89,12 @@ fn has_rows(book: &mut PlainBook) -> bool {
     seen.has_come
 }
 
-/// Tells that what a sheet or a statement brought into a book in memory is lost, if it brought something.
+/// Tells that what a sheet or a statement brought into a book in memory is lost, if it brought something and the plan is
+/// not quiet.
 pub fn tell_of_loss<M: Remarks>(remarks: &M, plan: &Plan<'_>, mut book: PlainBook) {
+    if plan.is_quiet {
+        return;
+    }
     if matches!(plan.task, Task::Sheet | Task::Import(_)) && has_rows(&mut book) {
         remarks.tell(&Remark::NothingKept);
     }

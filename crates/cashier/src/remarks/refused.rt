@@ -1,5 +1,6 @@
 // A record that is refused, and what to do.
 
+use crate::dismissal::is_dismissal;
 use crate::fields::field_bytes;
 use crate::record::{Verb, read_verb};
 use crate::remarks::fields::text_at;
@@ -19,6 +20,7 @@ pub struct RefusedRecord<'a> {
     needed: &'a str,
     // The person, of a record about a seat.
     person: &'a str,
+    is_dismissal: bool,
 }
 
 impl<'a> RefusedRecord<'a> {
@@ -37,6 +39,7 @@ impl<'a> RefusedRecord<'a> {
             entry: text_at(row, 2),
             needed: text_at(row, needed),
             person: text_at(row, 3),
+            is_dismissal: is_dismissal(row),
         }
     }
 
@@ -148,6 +151,9 @@ impl<'a> RefusedRecord<'a> {
     fn write_of_entries<W: fmt::Write>(&self, f: &mut fmt::Formatter<W>) -> fmt::Result {
         match self.refusal {
             Refusal::WrongNumber(next) => self.write_number(f, next),
+            Refusal::NoEntry if self.is_dismissal => f.write_str(
+                "no exception is this line, in all five fields: look at the list of exceptions",
+            ),
             Refusal::NoEntry => {
                 let (matter, entry) = (self.matter, self.needed);
                 write!(

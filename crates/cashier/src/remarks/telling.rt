@@ -14,27 +14,31 @@ pub struct Telling<'a, M> {
     pub remarks: &'a M,
 }
 
-// The line of a sheet in which a record begins, from 1: empty lines before it are passed over.
-fn line_of(sheet: &[u8], row: &ByteRecord) -> u64 {
+/// The line of a file in which a record begins, from 1, and the rest of the file from there: empty lines before it are
+/// passed over.
+pub fn line_of<'a>(file: &'a [u8], row: &ByteRecord) -> (u64, &'a [u8]) {
     let Some(position) = row.position() else {
-        return 1;
+        return (1, file);
     };
     let mut line = position.line();
-    for byte in sheet.get(position.byte() as usize..).unwrap_or(&[]) {
+    let rest = file.get(position.byte() as usize..).unwrap_or(&[]);
+    let mut empty = 0usize;
+    for byte in rest {
         match *byte {
             b'\n' => line = line.saturating_add(1),
             b'\r' => (),
-            _ => return line,
+            _ => break,
         }
+        empty = empty.saturating_add(1);
     }
-    line
+    (line, rest.get(empty..).unwrap_or(&[]))
 }
 
 impl<M: Remarks> Telling<'_, M> {
     /// Tells what there is to be told of a record that was answered so.
     pub fn tell(&self, row: &ByteRecord, reply: &Reply) {
         if let Some(told) = remark_on(row, reply) {
-            let line = line_of(self.sheet, row);
+            let (line, _) = line_of(self.sheet, row);
             self.remarks.tell(&Remark::Record { line, told });
         }
     }

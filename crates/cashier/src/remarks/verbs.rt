@@ -4,7 +4,7 @@ use crate::record::Verb;
 
 /// All verbs of a sheet.
 pub const VERBS: &str =
-    "open, seat, drop, deposit, cancel, propose, claim, award, close, purge, entry, show";
+    "open, seat, drop, deposit, cancel, propose, claim, award, close, purge, entry, show, dismiss";
 
 /// The name of a verb.
 pub fn name_of(verb: Verb) -> &'static str {

@@ -10,7 +10,7 @@ returns-in_ok-get_str-in-reconcile c =
 
 pub returns-in_ok-get_str-in-ledger : goal.returns-in_ok-get_str-in-ledger
 returns-in_ok-get_str-in-ledger c =
-    IfSome_then c.no_matter.result c.no_matter.ensures (λ w is. wrong-matter (found_of c.args.values.now) _ _ w c.in-ledger.is (sym c.in_ok-get_str-in-ledger.ensures) is)
+    IfSome_then c.no_card.result c.no_card.ensures (λ w is. wrong-matter (found_of c.args.values.now) _ _ w c.in-ledger.is (sym c.in_ok-get_str-in-ledger.ensures) is)
 
 pub returns-in-Some : goal.returns-in-Some
 returns-in-Some c = wrong-port (found_of c.args.values.now) _ _ _ c.in-serve.is (sym c.in_ok-get_str-in-serve.ensures) c.in-Some.ensures

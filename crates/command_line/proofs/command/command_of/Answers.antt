@@ -1,4 +1,4 @@
-use Rattle.command_line.proofs.LineFacts.{db-is, gives, leaves-by, means}
+use Rattle.command_line.proofs.LineFacts.{db-is, gives, leaves-by, means, quiet-is}
 use Rattle.command_line.proofs.command.command_of.Goals as goal
 
 pub returns-in_err-matches-clause-none : goal.returns-in_err-matches-clause-none
@@ -9,6 +9,9 @@ returns-in-Some-clause-plan c = means _ c.in_ok-matches.matches c.in_ok-matches.
 
 pub returns-in-Some-clause-db : goal.returns-in-Some-clause-db
 returns-in-Some-clause-db c = db-is _ c.in_ok-matches.matches c.in_ok-matches.ensures.ok _ c.in-Some.ensures.db
+
+pub returns-in-Some-clause-quiet : goal.returns-in-Some-clause-quiet
+returns-in-Some-clause-quiet c = quiet-is _ c.in_ok-matches.matches c.in_ok-matches.ensures.ok _ c.in-Some.ensures.quiet
 
 pub returns-clause-none : goal.returns-clause-none
 returns-clause-none c =

@@ -11,5 +11,6 @@ returns c =
     let trial_is = c.in_ok-with_trial.ensures ∙ ap (behind (new_app (codes "trial"))) c.in_ok-with_reconcile.ensures in
     let journal_is = c.in_ok-with_journal.ensures ∙ ap (behind (new_app (codes "journal"))) trial_is in
     let retention_is = c.in_ok-with_retention.ensures ∙ ap (behind (new_app (codes "retention"))) journal_is in
+    let exceptions_is = c.in_ok-with_exceptions.ensures ∙ ap (behind (new_app (codes "exceptions"))) retention_is in
     IfOk-weaker c.with_operand-2.result _ _
-    (λ command is. is ∙ ap (behind (operand_app (codes "ledger") (codes "MATTER"))) retention_is) c.with_operand-2.ensures
+    (λ command is. is ∙ ap (behind (operand_app (codes "ledger") (codes "MATTER"))) exceptions_is) c.with_operand-2.ensures

@@ -2,7 +2,7 @@ use Rattle.std.proofs.Common.{sym}
 use Rattle.clap.specs.Words.{found_of, rows_of}
 use Rattle.command_line.specs.Program.{IsReportCommand}
 use Rattle.command_line.specs.declared.report_command.ReportCommand.{ReportCommand}
-use Rattle.command_line.proofs.LineFacts.{if_none, no_day_report, no_matter_report}
+use Rattle.command_line.proofs.LineFacts.{if_none, no_day_report}
 use Rattle.command_line.proofs.report_command.report_command_of.Goals as goal
 
 pub returns-in_err-day_operand-in-reconcile-clause-none : goal.returns-in_err-day_operand-in-reconcile-clause-none
@@ -13,12 +13,3 @@ returns-in_err-day_operand-in-reconcile-clause-none c =
 
 pub returns-in_ok-day_operand-in-reconcile-clause-some : goal.returns-in_ok-day_operand-in-reconcile-clause-some
 returns-in_ok-day_operand-in-reconcile-clause-some c = record { named = c.in-reconcile.is; operands = sym c.in_ok-day_operand-in-reconcile.ensures }
-
-pub returns-in_err-matter_operand-in-ledger-clause-none : goal.returns-in_err-matter_operand-in-ledger-clause-none
-returns-in_err-matter_operand-in-ledger-clause-none c =
-    let none : (r : ReportCommand) → ¬ IsReportCommand c.args.name.now (rows_of (found_of c.args.values.now)) r =
-    λ r. no_matter_report _ _ r c.in-ledger.is (sym c.in_err-matter_operand-in-ledger.ensures) in
-    if_none _ _ none
-
-pub returns-in_ok-matter_operand-in-ledger-clause-some : goal.returns-in_ok-matter_operand-in-ledger-clause-some
-returns-in_ok-matter_operand-in-ledger-clause-some c = record { named = c.in-ledger.is; operands = sym c.in_ok-matter_operand-in-ledger.ensures }

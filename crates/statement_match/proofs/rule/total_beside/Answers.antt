@@ -1,18 +1,15 @@
-use Rattle.std.proofs.Common.{◌<◌, length, arith}
+use Rattle.std.proofs.Common.{ap, ◌==◌, arith}
 use Rattle.std.proofs.lemmas.Int.{ints, to_z-of_z}
-use Rattle.statement_match.specs.Bookings.{booking_of, is_beside}
-use Rattle.statement_match.proofs.Totals.{total_more}
+use Rattle.statement_match.specs.Bookings.{booking_of, is_beside, total_of}
+use Rattle.statement_match.specs.Keys.{booking_key, line_key}
+use Rattle.statement_match.proofs.Alike.{beside_narrows}
+use Rattle.statement_match.proofs.Found.{filtered}
 use Rattle.statement_match.proofs.rule.total_beside.Goals as goal
 
-pub loop-booking-preserved : goal.loop-booking-preserved
-loop-booking-preserved c =
-    let within : c.loop-booking.booking-index < length c.args.bookings.now = omega arith in
-    let more = total_more (is_beside (booking_of c.args.line.now)) c.args.bookings.now c.loop-booking.booking-index
-    c.booking-item.result within c.booking-item.is in
-    let told = c.amount_beside.ensures in
-    let so_far = c.loop-booking.invariant.sum in
-    record {
-      sum = grind (arith, ints, to_z-of_z, more, told, so_far);
-      low = omega (arith, ints);
-      high = omega (arith, ints);
-    }
+pub returns : goal.returns
+returns c =
+    let line = c.args.line.now in
+    let told = c.sum_beside.ensures in
+    let same = ap total_of (filtered (is_beside (booking_of line)) (λ x. booking_key x == line_key line)
+    (beside_narrows line) c.bookings_of.result.now c.args.index.now.held.bookings c.bookings_of.ensures) in
+    grind (arith, ints, to_z-of_z, told, same)

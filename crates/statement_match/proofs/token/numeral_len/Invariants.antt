@@ -1,4 +1,4 @@
-use Rattle.std.proofs.Common.{◌≡◌, ℕ, ◌+◌, drop}
+use Rattle.std.proofs.Common.{◌≡◌, ◌+◌, drop}
 use Rattle.statement_match.specs.Tokens.{numeral_len as numeral_length}
 use Rattle.statement_match.proofs.token.numeral_len.Given as goal
 

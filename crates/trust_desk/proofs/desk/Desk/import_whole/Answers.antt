@@ -29,7 +29,7 @@ loop-turn-preserved g c =
     let takes = next.takes in
     record {
       amid = amid-more c.args.day (B.clean c.loop-turn.self × B.stands c.args.self.now) (B.clean c.import_next.new.self × B.stands c.args.self.now) (firm c.args.self.now) (firm c.loop-turn.self) (firm c.import_next.new.self) (option_map items (g.R.Read.remaining c.args.reader)) c.loop-turn.lines.left c.import_next.new.lines.left c.loop-turn.reply c.import_next.new.reply (λ p. (next.kept.was_clean p.0, p.1)) i.amid (takes-where (λ (p : B.clean c.import_next.new.self × B.stands c.args.self.now). (p.0, i.kept.still_stands (next.kept.was_clean p.0) p.1)) takes);
-      room = below-more (c.loop-turn._turn + 1) (c.loop-turn._turn + 1 + 1) takes.item takes.counted.kind c.loop-turn.reply c.import_next.new.reply i.room takes.counted.counts (omega arith);
+      room = below-more (c.loop-turn.turn + 1) (c.loop-turn.turn + 1 + 1) takes.item takes.counted.kind c.loop-turn.reply c.import_next.new.reply i.room takes.counted.counts (omega arith);
       kept = kept-then i.kept next.kept;
       crash = λ sure clean stands.
           let so_far = i.crash (next.kept.was_sure sure) clean stands in

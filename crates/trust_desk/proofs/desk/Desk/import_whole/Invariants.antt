@@ -13,7 +13,7 @@ invariant-loop-turn g l =
     let B = g.B.Book in
     record {
       amid : IsAmid l.fn.day (B.clean l.self × B.stands l.fn.self) (firm l.fn.self) (firm l.self) (option_map items (g.R.Read.remaining l.fn.reader)) l.lines.left l.reply;
-      room : AreBelow (l._turn + 1) l.reply;
+      room : AreBelow (l.turn + 1) l.reply;
       kept : KeepsBook B.clean B.sure B.stands B.lasts B.refusals (λ n. n) l.fn.self l.self;
       crash : B.sure l.self → B.clean l.fn.self → B.stands l.fn.self → MayLeave B.clean B.leaves ⊤ (IsAfterFirst l.fn.day (firm l.fn.self) (option_map items (g.R.Read.remaining l.fn.reader))) (firm l.fn.self) (firm l.self) l.fn.self l.self;
       day : l.day ≡ l.fn.day;

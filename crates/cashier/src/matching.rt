@@ -1,0 +1,148 @@
+// The match of a bank's file against the book.
+
+ghost use Rattle.std.specs.Prelude.{◌≡◌, ◌≢◌, Err, IfSome, Some};
+ghost use Rattle.trust_base.specs.declared.refusal.Refusal.TheVariants as refusals;
+ghost use Rattle.trust_store.specs.Crashes.{LeavesOr};
+ghost use Rattle.cashier.specs.Calls.{CountsStore, LeavesBook};
+ghost use Rattle.cashier.specs.Matching.{IsFound, MatchEnds, PrintsFound, left_outcome};
+ghost use Rattle.cashier.specs.Outcome.{MatchFileEnds};
+
+use crate::folder::{Folder, Opened};
+use crate::outcome::{Outcome, outcome_of_reply};
+use crate::remarks::{Remarks, tell_unmatched};
+use crate::reply_kind::kind_of_refusal;
+use crate::reply_line::write_refusal;
+use crate::statement::is_told_longer;
+use std::alloc::Global;
+use std::io::{Read, Write};
+use trust_base::{Day, InputFault, MAX_FILE_BYTES, Refusal, read_whole, send};
+use trust_desk::{Desk, Matched};
+use trust_matter::Caller;
+use trust_store::Book;
+
+// What the statement in a file becomes, as the cashier asks it, or why it does not. None where a read failed. Nothing
+// is asked of the book where the file is above 4,194,304 bytes.
+fn found_in<R: Read + Drop, B: Book>(
+    alloc: Global,
+    file: Opened<R>,
+    desk: &mut Desk<B>,
+    today: Day,
+) -> Option<Result<Matched, Refusal>>
+    ensures found { B.clean desk.new → B.stands desk.old
+        → IfSome result (IsFound today (B.firm desk.old) file.length (R.remaining file.reader)) }
+    ensures same { B.clean desk.new → B.stands desk.old → B.firm desk.new ≡ B.firm desk.old }
+    ensures kept { LeavesBook B.clean B.sure B.stands B.lasts B.refusals (CountsStore (Some (Err refusals.Store)) result)
+        desk.old desk.new }
+    ensures crash { B.sure desk.new → B.clean desk.old → B.stands desk.old
+        → LeavesOr (B.firm desk.old) (B.leaves desk.old) (B.leaves desk.new) }
+{
+    let Opened { mut reader, length } = file;
+    if is_told_longer(length) {
+        return Some(Err(Refusal::TooLarge));
+    }
+    match read_whole(alloc, &mut reader, MAX_FILE_BYTES) {
+        Ok(Some(bytes)) => {
+            Some(desk.match_statement(alloc, &Caller::Cashier, bytes.as_slice(), today))
+        }
+        Ok(None) => Some(Err(Refusal::TooLarge)),
+        Err(InputFault::Reader) => None,
+        Err(InputFault::Memory) => Some(Err(Refusal::Memory)),
+    }
+}
+
+// How a match ends by whether a record has to be looked at.
+fn outcome_by(is_left: bool) -> Outcome
+    ensures { result ≡ left_outcome is_left }
+{
+    if is_left {
+        Outcome::Refused
+    } else {
+        Outcome::Done
+    }
+}
+
+// Prints what a statement becomes, and tells a person what of it has to be looked at; or prints the line of its refusal.
+fn print_found<W: Write, M: Remarks>(
+    remarks: &M,
+    writer: &mut W,
+    found: &Result<Matched, Refusal>,
+) -> Outcome
+    ensures began { result ≢ Outcome.CommandLine }
+    ensures prints { PrintsFound found.now (W.contents writer.old) (W.contents writer.new) result }
+    ensures store { result ≡ Outcome.StoreFault → found.now ≡ Err refusals.Store }
+{
+    match found {
+        Ok(matched) => {
+            let Ok(()) = send(writer, matched.statement.as_slice()) else {
+                return Outcome::OutputFault;
+            };
+            tell_unmatched(remarks, matched.unmatched.as_slice());
+            outcome_by(matched.is_left)
+        }
+        Err(refusal) => {
+            let Ok(()) = write_refusal(writer, refusal) else {
+                return Outcome::OutputFault;
+            };
+            outcome_of_reply(kind_of_refusal(refusal))
+        }
+    }
+}
+
+// Matches the statement in a file, and prints what it becomes.
+fn match_in<R: Read + Drop, M: Remarks, W: Write, B: Book>(
+    alloc: Global,
+    file: Opened<R>,
+    remarks: &M,
+    writer: &mut W,
+    desk: &mut Desk<B>,
+    today: Day,
+) -> Outcome
+    ensures began { result ≢ Outcome.CommandLine }
+    ensures ends { B.clean desk.new → B.stands desk.old
+        → MatchEnds today (B.firm desk.old) file.length (R.remaining file.reader) (B.firm desk.new)
+        (W.contents writer.old) (W.contents writer.new) result }
+    ensures kept { LeavesBook B.clean B.sure B.stands B.lasts B.refusals (CountsStore Outcome.StoreFault result)
+        desk.old desk.new }
+    ensures crash { B.sure desk.new → B.clean desk.old → B.stands desk.old
+        → LeavesOr (B.firm desk.old) (B.leaves desk.old) (B.leaves desk.new) }
+{
+    match found_in(alloc, file, desk, today) {
+        Some(found) => print_found(remarks, writer, &found),
+        None => Outcome::FileFault,
+    }
+}
+
+/// Matches the bank's statement at a path, whose references may be empty, against a desk's book on a business day:
+/// prints the statement that an import takes, and tells a person line by line what of it has to be looked at, of which
+/// no clause speaks; or prints the line of its refusal. The book stays as it is.
+///
+/// The outcome is `Done` where no record has to be looked at, and `Refused` where one has, or where the line of a
+/// refusal was written: of another header, or of more than 4,194,304 bytes. Where the store or memory was refused, that
+/// was told by its line, and it is `StoreFault` or `MemoryFault`. Where the file can't be opened or a read failed it is
+/// `FileFault`, and nothing was printed; where a write failed it is `OutputFault`, and a proper front of the text or
+/// line was.
+pub fn run_match<F: Folder, M: Remarks, W: Write, B: Book>(
+    alloc: Global,
+    folder: &F,
+    path: &str,
+    remarks: &M,
+    writer: &mut W,
+    desk: &mut Desk<B>,
+    today: Day,
+) -> Outcome
+    ensures began { result ≢ Outcome.CommandLine }
+    ensures ends { B.clean desk.new → B.stands desk.old
+        → MatchFileEnds today (B.firm desk.old) (F.known folder.now path.now) (F.opens folder.now path.now)
+        (B.firm desk.new) (W.contents writer.old) (W.contents writer.new) result }
+
+    // It ends by Store only where a call of the book was refused.
+    ensures kept { LeavesBook B.clean B.sure B.stands B.lasts B.refusals (CountsStore Outcome.StoreFault result)
+        desk.old desk.new }
+    ensures crash { B.sure desk.new → B.clean desk.old → B.stands desk.old
+        → LeavesOr (B.firm desk.old) (B.leaves desk.old) (B.leaves desk.new) }
+{
+    let Some(file) = folder.open(path) else {
+        return Outcome::FileFault;
+    };
+    match_in(alloc, file, remarks, writer, desk, today)
+}

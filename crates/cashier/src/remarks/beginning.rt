@@ -1,0 +1,65 @@
+// What a person is told as a run begins.
+
+use crate::remarks::{Remark, Remarks};
+use crate::stores::{NoBook, Stores};
+use command_line::Plan;
+use std::alloc::Global;
+use std::rt::Clock;
+use trust_base::{Day, StoreFault};
+
+// How far the business day may be ahead of the machine's clock, in days.
+const DAYS_AHEAD: u64 = 31;
+
+const SECONDS_OF_A_DAY: u64 = 86_400;
+
+// How many days a day of the calendar is behind 1970-01-01, counted by years that begin with March.
+fn days_since_1970(day: Day) -> u64 {
+    let number = day.get() as u64;
+    let (year, month) = (number / 10_000, number / 100 % 100);
+    let (year, month) = if month < 3 {
+        (year.saturating_sub(1), month + 9)
+    } else {
+        (year, month - 3)
+    };
+    let days = 365 * year + year / 4 - year / 100 + year / 400 + (153 * month + 2) / 5;
+    (days + number % 100).saturating_sub(719_469)
+}
+
+/// Tells of a business day that is more than 31 days ahead of the machine's clock. What is booked on it locks its
+/// matters until then.
+pub fn tell_of_day<C: Clock, M: Remarks>(clock: &C, remarks: &M, plan: &Plan<'_>) {
+    if plan.is_quiet {
+        return;
+    }
+    let Ok(now) = clock.since_1970() else {
+        return;
+    };
+    if days_since_1970(plan.today) > now.as_secs() / SECONDS_OF_A_DAY + DAYS_AHEAD {
+        remarks.tell(&Remark::FarDay(plan.today));
+    }
+}
+
+/// Tells that the book at a path was begun, where none was there: the path may be mistyped.
+pub fn tell_of_new_book<M: Remarks>(remarks: &M, plan: &Plan<'_>, path: &str, was_there: bool) {
+    if !was_there && !plan.is_quiet {
+        remarks.tell(&Remark::NewBook(path));
+    }
+}
+
+/// Tells why no book could be had at a path, where the store was at fault.
+pub fn tell_of_no_book<M: Remarks, S: Stores>(
+    alloc: Global,
+    remarks: &M,
+    plan: &Plan<'_>,
+    stores: &S,
+    path: &str,
+    fault: StoreFault,
+) {
+    if plan.is_quiet || fault == StoreFault::Memory {
+        return;
+    }
+    match stores.why_none(alloc, path) {
+        NoBook::Unknown => (),
+        why => remarks.tell(&Remark::NoBook { path, why }),
+    }
+}

@@ -1,0 +1,129 @@
+// What is told of a line of a statement that was not applied, or of an exception.
+
+use crate::remarks::entry_line::EntryLine;
+use crate::remarks::line_fault::{LineFault, fault_of_line};
+use crate::remarks::own_line::OwnLine;
+use crate::remarks::plain::Plain;
+use csv::ByteRecord;
+use std::fmt;
+use trust_base::{Day, StoreFault};
+use trust_desk::NotApplied;
+
+/// What is told of a line of a statement that was not applied, or of an exception.
+#[derive(Clone, Copy, PartialEq, Eq, Debug)]
+pub enum LineRemark<'a> {
+    /// It names an entry.
+    OfMatter(EntryLine<'a>),
+    /// It is the firm's own, or a balance.
+    Own(OwnLine),
+    /// Its reference, which may be empty, names nothing.
+    Stray(Plain<'a>),
+    /// It can't be read.
+    Unreadable(LineFault<'a>),
+    /// It and those behind it were not applied, by this fault.
+    NotRun(StoreFault),
+    /// It is an exception that an import would apply.
+    WouldApply,
+    /// It is an exception that an import would take for a line that came again.
+    WouldRepeat,
+}
+
+// What is wrong with a record that is no line, where it could be read again.
+fn fault_of<'a>(row: Option<&'a ByteRecord>) -> LineFault<'a> {
+    match row {
+        Some(row) => fault_of_line(row),
+        None => LineFault::Unseen,
+    }
+}
+
+/// What is told on a business day of an item that was not applied, by its record where that could be read again, or of
+/// an exception.
+pub fn remark_on_item<'a>(
+    told: &NotApplied<'a>,
+    row: Option<&'a ByteRecord>,
+    today: Day,
+) -> LineRemark<'a> {
+    match *told {
+        NotApplied::OfMatter {
+            line,
+            matter,
+            reason,
+        } => LineRemark::OfMatter(EntryLine::new(line, matter, reason, today)),
+        NotApplied::OfFirm { line, ledger } => {
+            LineRemark::Own(OwnLine::of_firm(line, ledger, today))
+        }
+        NotApplied::OfBalance { kind, line, kept } => {
+            LineRemark::Own(OwnLine::of_balance(kind, line, kept, today))
+        }
+        NotApplied::Stray { line } => LineRemark::Stray(Plain::new(line.reference.as_slice())),
+        NotApplied::Unreadable => LineRemark::Unreadable(fault_of(row)),
+        NotApplied::WouldApply { line: _ } => LineRemark::WouldApply,
+        NotApplied::WouldRepeat { line: _ } => LineRemark::WouldRepeat,
+    }
+}
+
+// Of a reference that names nothing.
+fn write_stray<W: fmt::Write>(f: &mut fmt::Formatter<W>, reference: &Plain<'_>) -> fmt::Result {
+    f.write_str(if reference.is_empty() {
+        "it has no reference"
+    } else {
+        "no reference of an entry: write M and six digits, - and four, or FIRM, OPEN, CLOSE"
+    })
+}
+
+// Of a fault that stopped an import.
+fn write_fault<W: fmt::Write>(f: &mut fmt::Formatter<W>, fault: &StoreFault) -> fmt::Result {
+    f.write_str(match fault {
+        StoreFault::Store => concat!(
+            "the store failed: this line and those after it were not applied; ",
+            "import the whole file again"
+        ),
+        StoreFault::Memory => concat!(
+            "memory ran out: this line and those after it were not applied; ",
+            "import the whole file again"
+        ),
+    })
+}
+
+impl LineRemark<'_> {
+    // Writes the reference, behind a comma, where it is known and not empty.
+    fn write_reference<W: fmt::Write>(&self, f: &mut fmt::Formatter<W>) -> fmt::Result {
+        match self {
+            LineRemark::OfMatter(line) => {
+                let (matter, entry) = (line.matter, line.entry);
+                write!(f, ", M{matter}-{entry}")
+            }
+            LineRemark::Own(line) => {
+                let reference = line.reference();
+                write!(f, ", {reference}")
+            }
+            LineRemark::Stray(reference) if !reference.is_empty() => write!(f, ", {reference}"),
+            _ => Ok(()),
+        }
+    }
+
+    /// Writes why alone, without the reference.
+    pub(crate) fn write_reason<W: fmt::Write>(&self, f: &mut fmt::Formatter<W>) -> fmt::Result {
+        match self {
+            LineRemark::OfMatter(line) => write!(f, "{line}"),
+            LineRemark::Own(line) => write!(f, "{line}"),
+            LineRemark::Stray(reference) => write_stray(f, reference),
+            LineRemark::Unreadable(fault) => write!(f, "{fault}"),
+            LineRemark::NotRun(fault) => write_fault(f, fault),
+            LineRemark::WouldApply => {
+                f.write_str("it would be applied now: import the statement again")
+            }
+            LineRemark::WouldRepeat => f.write_str(
+                "it is in the book already: import the statement again, and it is no exception any more",
+            ),
+        }
+    }
+}
+
+impl fmt::Display for LineRemark<'_> {
+    fn fmt<W: fmt::Write>(&self, f: &mut fmt::Formatter<W>) -> fmt::Result {
+        self.write_reference(f)?;
+        f.write_str(": ")?;
+        self.write_reason(f)
+    }
+}

@@ -1,0 +1,160 @@
+// What is wrong with a record of a statement that is no line.
+
+use crate::fields::field_bytes;
+use crate::remarks::day_meant::day_meant;
+use crate::remarks::excerpt::Excerpt;
+use crate::remarks::fault::{first_not_text, has_line_end};
+use crate::remarks::fields::text_at;
+use crate::remarks::sum_meant::sum_meant;
+use csv::ByteRecord;
+use std::fmt;
+use trust_base::{BankAmount, Day, MAX_BANK_TEXT, MAX_LINE_TEXT};
+
+/// The header of a statement.
+pub const HEADER: &str = "date,reference,bank_ref,amount,text";
+
+/// What is wrong with a record of a statement that is no line.
+#[derive(Clone, Copy, PartialEq, Eq, Debug)]
+pub enum LineFault<'a> {
+    /// The record can't be read again.
+    Unseen,
+    /// A field before the text has the end of a line in it, so that the next line belongs to it.
+    OpenQuote,
+    /// It has so many fields, and not five.
+    Count(usize),
+    /// The field of this number, from 1, is not UTF-8.
+    NotText(usize),
+    /// The first field is no day; the day that is meant, if that is clear.
+    NoDay(Excerpt<'a>, Option<Day>),
+    /// The fourth field is no amount; the amount that is meant, if that is clear.
+    NoAmount(Excerpt<'a>, Option<BankAmount>),
+    /// A reference is not of its form: which, and what stands there.
+    NoReference(&'static str, Excerpt<'a>),
+    /// The bank's reference is missing.
+    NoBankReference,
+    /// The text is too long.
+    LongText,
+}
+
+// Whether a double quote was opened in front of the text, or in a text that is too long for one, and not closed in its
+// line.
+fn has_open_quote(row: &ByteRecord) -> bool {
+    has_line_end(field_bytes(row, 0))
+        || has_line_end(field_bytes(row, 1))
+        || has_line_end(field_bytes(row, 2))
+        || has_line_end(field_bytes(row, 3))
+        || field_bytes(row, 4).len() > MAX_LINE_TEXT && has_line_end(field_bytes(row, 4))
+}
+
+// Whether a field may be a reference: printed ASCII, and not too long.
+fn is_reference(field: &[u8]) -> bool {
+    field.len() <= MAX_BANK_TEXT && field.iter().all(|byte| 0x20 <= *byte && *byte <= 0x7E)
+}
+
+// What is wrong with a record whose day and amount are good.
+fn fault_of_texts(row: &ByteRecord) -> LineFault<'_> {
+    if !is_reference(field_bytes(row, 1)) {
+        LineFault::NoReference("reference", Excerpt::new(text_at(row, 1)))
+    } else if !is_reference(field_bytes(row, 2)) {
+        LineFault::NoReference("reference of the bank", Excerpt::new(text_at(row, 2)))
+    } else if field_bytes(row, 4).len() > MAX_LINE_TEXT {
+        LineFault::LongText
+    } else {
+        LineFault::NoBankReference
+    }
+}
+
+// What is wrong with the fields of a record, which are five texts.
+fn fault_of_fields(row: &ByteRecord) -> LineFault<'_> {
+    let (date, amount) = (text_at(row, 0), text_at(row, 3));
+    if Day::read(date.as_bytes()).is_none() {
+        LineFault::NoDay(Excerpt::new(date), day_meant(date))
+    } else if BankAmount::read(amount.as_bytes()).is_none() {
+        LineFault::NoAmount(Excerpt::new(amount), sum_meant(amount))
+    } else {
+        fault_of_texts(row)
+    }
+}
+
+/// What is wrong with a record that is no line: the first that is.
+pub fn fault_of_line(row: &ByteRecord) -> LineFault<'_> {
+    if has_open_quote(row) {
+        return LineFault::OpenQuote;
+    }
+    if row.len() != 5 {
+        return LineFault::Count(row.len());
+    }
+    match first_not_text(row) {
+        0 => fault_of_fields(row),
+        number => LineFault::NotText(number),
+    }
+}
+
+// Of a field that is no day.
+fn write_day<W: fmt::Write>(
+    f: &mut fmt::Formatter<W>,
+    text: Excerpt<'_>,
+    meant: Option<Day>,
+) -> fmt::Result {
+    if text.is_empty() {
+        return f.write_str("the day is empty: write it as 2026-03-16");
+    }
+    match meant {
+        Some(day) => write!(f, "{text} is no day: write {day}"),
+        None => write!(
+            f,
+            "{text} is no day: write year, month and day as 2026-03-16"
+        ),
+    }
+}
+
+// Of a field that is no amount.
+fn write_amount<W: fmt::Write>(
+    f: &mut fmt::Formatter<W>,
+    text: Excerpt<'_>,
+    meant: Option<BankAmount>,
+) -> fmt::Result {
+    if text.is_empty() {
+        return f.write_str("the amount is empty: write dollars and cents as 1234.50");
+    }
+    match meant {
+        Some(amount) => write!(f, "{text} is no amount: write {amount}, no $ and no comma"),
+        None => write!(
+            f,
+            "{text} is no amount: write dollars and cents as 1234.50, no $ and no comma"
+        ),
+    }
+}
+
+impl fmt::Display for LineFault<'_> {
+    fn fmt<W: fmt::Write>(&self, f: &mut fmt::Formatter<W>) -> fmt::Result {
+        match *self {
+            LineFault::Unseen => write!(f, "it is no line of a statement: {HEADER}"),
+            LineFault::OpenQuote => f.write_str(
+                "a double quote is opened here and not closed in its line: close it, or take it away",
+            ),
+            LineFault::Count(1) => {
+                write!(f, "it has 1 field, a line of a statement has 5: {HEADER}")
+            }
+            LineFault::Count(count) => {
+                write!(
+                    f,
+                    "it has {count} fields, a line of a statement has 5: {HEADER}"
+                )
+            }
+            LineFault::NotText(number) => {
+                write!(f, "field {number} is not UTF-8: save the file as UTF-8")
+            }
+            LineFault::NoDay(text, meant) => write_day(f, text, meant),
+            LineFault::NoAmount(text, meant) => write_amount(f, text, meant),
+            LineFault::NoReference(noun, text) => write!(
+                f,
+                "{text} is no {noun}: write at most 64 printed characters of ASCII"
+            ),
+            LineFault::NoBankReference => f.write_str(
+                "the bank_ref is empty: write the bank's own reference of the line, as each but OPEN and CLOSE has one",
+            ),
+            LineFault::LongText => { f.write_str("the text has more than 1000 bytes: shorten it") }
+        }
+    }
+}

@@ -1,0 +1,106 @@
+// A line of the firm's own, or a balance, that is not taken.
+
+use firm_rows::{BalanceKind, FirmLedger};
+use std::fmt;
+use trust_base::{BankAmount, Day, Dollars, Line};
+
+/// A line of the firm's own, or a balance, that is not taken, and why.
+#[derive(Clone, Copy, PartialEq, Eq, Debug)]
+pub enum OwnLine {
+    /// A line of the firm's own that is dated after the business day, which is this one.
+    AfterToday(Day),
+    /// A line of the firm's own that moves nothing.
+    Nothing,
+    /// A line of the firm's own with which its money would be this.
+    Beyond(Dollars),
+    /// A balance that is dated after the business day, which is this one.
+    BalanceAfterToday(BalanceKind, Day),
+    /// A balance of a day for which another is kept.
+    OtherBalance {
+        kind: BalanceKind,
+        day: Day,
+        there: Dollars,
+        here: BankAmount,
+    },
+}
+
+// The reference of a balance.
+fn reference_of(kind: BalanceKind) -> &'static str {
+    match kind {
+        BalanceKind::Opening => "OPEN",
+        BalanceKind::Closing => "CLOSE",
+    }
+}
+
+// What a balance is called.
+fn name_of(kind: BalanceKind) -> &'static str {
+    match kind {
+        BalanceKind::Opening => "opening",
+        BalanceKind::Closing => "closing",
+    }
+}
+
+impl OwnLine {
+    /// A line of the firm's own that does not fit the ledger on a business day.
+    pub fn of_firm(line: &Line, ledger: &FirmLedger, today: Day) -> OwnLine {
+        let amount = line.amount.get();
+        if line.date > today {
+            OwnLine::AfterToday(today)
+        } else if amount == 0 {
+            OwnLine::Nothing
+        } else {
+            OwnLine::Beyond(Dollars(ledger.balance() as i128 + amount as i128))
+        }
+    }
+
+    /// A balance that does not fit the one that is kept for its day, if one is, on a business day.
+    pub fn of_balance(kind: BalanceKind, line: &Line, kept: Option<i64>, today: Day) -> OwnLine {
+        match kept {
+            Some(amount) => OwnLine::OtherBalance {
+                kind,
+                day: line.date,
+                there: Dollars(amount as i128),
+                here: line.amount,
+            },
+            None => OwnLine::BalanceAfterToday(kind, today),
+        }
+    }
+
+    /// The reference of the line.
+    pub(crate) fn reference(&self) -> &'static str {
+        match self {
+            OwnLine::AfterToday(_) | OwnLine::Nothing | OwnLine::Beyond(_) => "FIRM",
+            OwnLine::BalanceAfterToday(kind, _) | OwnLine::OtherBalance { kind, .. } => {
+                reference_of(*kind)
+            }
+        }
+    }
+}
+
+// Why alone, without the reference.
+impl fmt::Display for OwnLine {
+    fn fmt<W: fmt::Write>(&self, f: &mut fmt::Formatter<W>) -> fmt::Result {
+        match self {
+            OwnLine::AfterToday(today) | OwnLine::BalanceAfterToday(_, today) => {
+                write!(f, "dated after today, {today}")
+            }
+            OwnLine::Nothing => f.write_str("an amount of 0.00 moves nothing"),
+            OwnLine::Beyond(sum) => write!(
+                f,
+                "the firm's own money would be {sum} with it, and stays from 0.00 to 500.00"
+            ),
+            OwnLine::OtherBalance {
+                kind,
+                day,
+                there,
+                here,
+            } => {
+                let name = name_of(*kind);
+                write!(
+                    f,
+                    "another {name} balance is kept for {day}: {there} there, and {here} here"
+                )
+            }
+        }
+    }
+}

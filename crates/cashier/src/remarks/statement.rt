@@ -1,0 +1,171 @@
+// What is told of a statement as it is imported.
+
+use crate::folder::Folder;
+use crate::remarks::header::HeaderRemark;
+use crate::remarks::line::{LineRemark, remark_on_item};
+use crate::remarks::place::Place;
+use crate::remarks::plain::Plain;
+use crate::remarks::rereading::{Found, Rereading};
+use crate::remarks::{Remark, Remarks};
+use csv::ByteRecord;
+use std::alloc::Global;
+use std::cell::RefCell;
+use trust_base::{Day, Field, Refusal, StoreFault};
+use trust_desk::{ImportStop, ItemWatch, NotApplied};
+
+// The file, which is read again once something is to be told of it.
+#[derive(Drop)]
+enum Again {
+    Unopened,
+    Open(Rereading),
+    // It can't be read again.
+    Lost,
+}
+
+/// A statement that is imported on a business day, and who is told what becomes of its lines.
+#[derive(Drop)]
+pub struct StatementTelling<'a, F, M> {
+    alloc: Global,
+    folder: &'a F,
+    path: &'a str,
+    today: Day,
+    remarks: &'a M,
+    again: RefCell<Again>,
+}
+
+// The bytes up to the end of their line.
+fn first_line(rest: &[u8]) -> &[u8] {
+    let mut length = 0usize;
+    for byte in rest {
+        if *byte == b'\n' || *byte == b'\r' {
+            break;
+        }
+        length = length.saturating_add(1);
+    }
+    rest.get(..length).unwrap_or(rest)
+}
+
+impl<'a, F: Folder, M: Remarks> StatementTelling<'a, F, M> {
+    /// The statement at a path, whose file can be opened again where it is no pipe.
+    pub fn new(
+        alloc: Global,
+        folder: &'a F,
+        path: &'a str,
+        is_file: bool,
+        today: Day,
+        remarks: &'a M,
+    ) -> StatementTelling<'a, F, M> {
+        StatementTelling {
+            alloc,
+            folder,
+            path,
+            today,
+            remarks,
+            again: RefCell::new(if is_file {
+                Again::Unopened
+            } else {
+                Again::Lost
+            }),
+        }
+    }
+
+    // Reads the file again up to the record with this number, the header being 0, and tells whether it is there.
+    fn has_read(&self, again: &mut Again, number: u64) -> bool {
+        if matches!(again, Again::Unopened) {
+            *again = match Rereading::open(self.alloc, self.folder, self.path) {
+                Some(records) => Again::Open(records),
+                None => Again::Lost,
+            };
+        }
+        match again {
+            Again::Open(records) => records.has_read(number),
+            Again::Unopened | Again::Lost => false,
+        }
+    }
+
+    // Tells of a record that the store or memory stopped.
+    fn tell_not_run(&self, number: u64, fault: StoreFault) {
+        let Ok(mut again) = self.again.try_borrow_mut() else {
+            return;
+        };
+        let is_there = self.has_read(&mut again, number);
+        self.remarks.tell(&Remark::Line {
+            place: place_of(found_in(&again, is_there), number),
+            told: LineRemark::NotRun(fault),
+        });
+    }
+
+    // Tells of a header that is another.
+    fn tell_header(&self) {
+        let Ok(mut again) = self.again.try_borrow_mut() else {
+            return;
+        };
+        let is_there = self.has_read(&mut again, 0);
+        let told = header_remark(&again, is_there);
+        self.remarks.tell(&Remark::Header(told));
+    }
+}
+
+// The record that was read last, where it is the one that is looked for.
+fn found_in(again: &Again, is_there: bool) -> Option<Found<'_>> {
+    match again {
+        Again::Open(records) if is_there => Some(records.found()),
+        _ => None,
+    }
+}
+
+// What is told of a first record that was read again, if it is there.
+fn header_remark(again: &Again, is_there: bool) -> HeaderRemark<'_> {
+    match again {
+        Again::Open(records) if is_there => {
+            let found = records.found();
+            HeaderRemark::Other {
+                line: found.line,
+                here: Plain::new(first_line(found.rest)),
+            }
+        }
+        Again::Open(_) => HeaderRemark::Empty,
+        Again::Unopened | Again::Lost => HeaderRemark::Unseen,
+    }
+}
+
+// Where the record with a number is.
+fn place_of(found: Option<Found<'_>>, number: u64) -> Place {
+    match found {
+        Some(found) => Place::Line(found.line),
+        None => Place::Record(number),
+    }
+}
+
+// The fields of a record that was found.
+fn row_of<'a>(found: Option<Found<'a>>) -> Option<&'a ByteRecord> {
+    match found {
+        Some(found) => Some(found.row),
+        None => None,
+    }
+}
+
+impl<F: Folder, M: Remarks> ItemWatch for StatementTelling<'_, F, M> {
+    fn not_applied(&self, number: u64, told: &NotApplied<'_>) {
+        let Ok(mut again) = self.again.try_borrow_mut() else {
+            return;
+        };
+        let is_there = self.has_read(&mut again, number);
+        let found = found_in(&again, is_there);
+        self.remarks.tell(&Remark::Line {
+            place: place_of(found, number),
+            told: remark_on_item(told, row_of(found), self.today),
+        });
+    }
+
+    fn ended(&self, taken: u64, end: &ImportStop) {
+        let next = taken.saturating_add(1);
+        match end {
+            ImportStop::Limit => self.remarks.tell(&Remark::StatementTooLarge { taken }),
+            ImportStop::Refused(Refusal::BadField(Field::Header)) => self.tell_header(),
+            ImportStop::Refused(Refusal::Store) => self.tell_not_run(next, StoreFault::Store),
+            ImportStop::Refused(Refusal::Memory) => self.tell_not_run(next, StoreFault::Memory),
+            ImportStop::Refused(_) | ImportStop::Done | ImportStop::ReadFault => (),
+        }
+    }
+}

@@ -1,0 +1,30 @@
+-- The line that a body has, to be dismissed from the exceptions.
+use Rattle.std.specs.Prelude.{ℕ, List, [], ◌∷◌, codes, Option, Some, None, Result, Ok, Err}
+use Rattle.serde_json.specs.Data.{Data}
+use Rattle.trust_base.specs.declared.line.Line.{Line}
+use Rattle.trust_base.specs.declared.refusal.Field.TheVariants as field
+use Rattle.trust_base.specs.declared.refusal.Refusal.{Refusal}
+use Rattle.trust_base.specs.declared.refusal.Refusal.TheVariants.{BadField}
+use Rattle.trust_matter.specs.declared.ask.Caller.{Caller}
+use Rattle.statement_csv.specs.Lines.{line_of_texts}
+use Rattle.trust_desk.specs.declared.requests.Request.{Request}
+use Rattle.trust_desk.specs.declared.requests.Request.TheVariants.{Dismiss}
+use Rattle.portal_requests.specs.Bodies.{body_in, text_at}
+
+abbrev pub line_keys : List (List ℕ)
+line_keys = codes "date" ∷ codes "reference" ∷ codes "bank_ref" ∷ codes "amount" ∷ codes "text" ∷ []
+
+-- the line of an object's fields; one that is missing is empty
+abbrev pub line_in : Option Data → Option Line
+line_in None = None
+line_in (Some d) =
+    line_of_texts (text_at (codes "date") d) (text_at (codes "reference") d) (text_at (codes "bank_ref") d)
+    (text_at (codes "amount") d) (text_at (codes "text") d)
+
+abbrev pub dismissing : Caller → Option Line → Result Request Refusal
+dismissing caller None = Err (BadField field.Body)
+dismissing caller (Some line) = Ok (Dismiss caller line)
+
+-- to dismiss the line that a body is
+abbrev pub dismissing_in : Caller → List ℕ → Result Request Refusal
+dismissing_in caller body = dismissing caller (line_in (body_in line_keys body))

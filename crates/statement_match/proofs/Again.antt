@@ -1,0 +1,50 @@
+-- A line that was filled, once the book has it.
+use Rattle.std.proofs.Common.{◌≡◌, ◌∙◌, ap, ℕ, ◌≤◌, Bool, true, false, not, List, arith}
+use Rattle.std.specs.Prelude.{nat_lt}
+use Rattle.std.specs.List.{Contains, count_by}
+use Rattle.std.proofs.lemmas.Bool.{cond-false, cond-true, le-leb, or_left, or_parts}
+use Rattle.std.proofs.lemmas.Bool.Decides.{nat_tests}
+use Rattle.std.proofs.lemmas.List.Sums.{length-filter}
+use Rattle.trust_base.specs.declared.line.Line.{Line}
+use Rattle.statement_match.specs.declared.booking.Booking.{Booking}
+use Rattle.statement_match.specs.Bookings.{booking_of, is_same_booking}
+use Rattle.statement_match.specs.Rule.{Held, becomes, is_booked, is_booked_in_parts, is_doubled, is_in_book, is_open, is_open_like}
+use Rattle.statement_match.specs.declared.outcome.Outcome.TheVariants as outcome
+use Rattle.statement_match.proofs.Filling.{becomes-is, sure_of}
+use Rattle.statement_match.proofs.Picks.{one_passes}
+
+-- a booking that passes is counted
+counted : (p : Booking → Bool) (bookings : List Booking) (b : Booking) → Contains bookings b → p b ≡ true
+    → 1 ≤ count_by p bookings
+counted p bookings b (k, lt, is) hit =
+    let long = length-filter p bookings in
+    let some = one_passes p bookings k b lt (ap p is ∙ hit) in omega (arith, long, some)
+
+-- a line that is not doubled is open once
+open_once : (held : Held) (lines : List Line) (line : Line) → is_doubled held lines line ≡ false
+    → count_by (is_open_like line) lines ≤ 1
+unfolding is_doubled
+open_once held lines line single =
+    let many = (or_parts (nat_lt 1 (count_by (is_open_like line) lines)) _ single).0 in
+    grind (arith, nat_tests)
+
+in_book : (held : Held) (lines : List Line) (line : Line) (b : Booking) → count_by (is_open_like line) lines ≤ 1
+    → Contains held.bookings b → is_same_booking (booking_of line) b ≡ true → is_in_book held lines line ≡ true
+unfolding is_in_book
+in_book held lines line b few there same =
+    let some = counted (is_same_booking (booking_of line)) held.bookings b there same in
+    let enough : count_by (is_open_like line) lines ≤ count_by (is_same_booking (booking_of line)) held.bookings =
+    omega (arith, few, some) in
+    or_left (is_booked held lines line) (is_booked_in_parts held lines line)
+    (le-leb (count_by (is_open_like line) lines) (count_by (is_same_booking (booking_of line)) held.bookings) enough)
+
+-- a line that was filled is in the book of which a booking is that of the line
+pub filled_is_booked : (today later : ℕ) (held new : Held) (lines : List Line) (line : Line) (reference : List ℕ)
+    (b : Booking) → becomes today held lines line ≡ outcome.Filled reference → Contains new.bookings b
+    → is_same_booking (booking_of line) b ≡ true → becomes later new lines line ≡ outcome.InBook
+filled_is_booked today later held new lines line reference b filled there same =
+    let sure = (sure_of today held lines line reference filled).1 in
+    let once = open_once held lines line sure.single in
+    becomes-is later new lines line
+    ∙ cond-false (not (is_open line)) _ _ (ap not sure.nameless)
+    ∙ cond-true (is_in_book new lines line) _ _ (in_book new lines line b once there same)

@@ -1,0 +1,212 @@
+-- No two entries that wait in a sound firm have one reference.
+use Rattle.std.proofs.Common.{◌≡◌, ◌∙◌, sym, ap, subst, ℕ, zero, suc, ◌+◌, ◌<◌, true, List, [], ◌∷◌, length, get_or, Option, Some, None, inl, inr, arith}
+use Rattle.std.specs.Prelude.{◌==◌}
+use Rattle.std.specs.List.{Contains}
+use Rattle.std.proofs.lemmas.Bool.Decides.{nat_tests}
+use Rattle.std.proofs.lemmas.List.Elements.{Contains-append_cases}
+use Rattle.trust_base.specs.Limits.{IsEntryNo, IsMatterNo}
+use Rattle.matter_rows.specs.Rows.{Rows, entry_at}
+use Rattle.matter_rows.specs.declared.deposit.Deposit.{Deposit}
+use Rattle.matter_rows.specs.declared.deposit.DepositState.{DepositState}
+use Rattle.matter_rows.specs.declared.deposit.DepositState.TheVariants as deposit
+use Rattle.matter_rows.specs.declared.payment.Payment.{Payment}
+use Rattle.matter_rows.specs.declared.payment.PaymentState.{PaymentState}
+use Rattle.matter_rows.specs.declared.payment.PaymentState.TheVariants as payment
+use Rattle.matter_rows.specs.declared.entry.Entry.{Entry}
+use Rattle.matter_rows.specs.declared.entry.Entry.TheVariants as entry
+use Rattle.matter_rows.specs.declared.head.Head.{Head}
+use Rattle.matter_rows.specs.declared.seat.Seat.{Seat}
+use Rattle.matter_rows.proofs.Collected.{entry-at-place}
+use Rattle.matter_rows.proofs.Entries.{within}
+use Rattle.firm_rows.specs.Firm.{EntryRow, Firm, HeadRow, Row, SeatRow, entry_pairs, head_pairs, of, pairs, put, seat_pairs}
+use Rattle.firm_rows.specs.FirmSound.{FirmSound}
+use Rattle.firm_rows.proofs.Joined.{own-put}
+use Rattle.statement_csv.specs.References.{entry_named, named, reference_text}
+use Rattle.statement_csv.proofs.NamedFacts.{named-found}
+use Rattle.statement_match.specs.Waiting.{Waiting}
+use Rattle.statement_match.specs.Books.{deposit_waiting, entry_waiting, held_of, payment_waiting, row_waiting}
+use Rattle.statement_match.specs.FirmLaws.{HasMatterNumbers, NoneIsNamedTwiceByFirms, WaitApart}
+use Rattle.statement_match.proofs.Members.{filter_has, flat_map_from}
+use Rattle.statement_match.proofs.Writing.{none_is_named_twice}
+
+-- The rows of a matter.
+
+no_head : (m n : ℕ) (e : Entry) (head : Option Head) → Contains (head_pairs m head) (m, EntryRow n e) → ⊥
+no_head m n e None (k, lt, is) = omega arith
+no_head m n e (Some head) (zero, lt, is) =
+    let row : HeadRow head ≡ EntryRow n e = ap (λ (p : ℕ × Row). p.1) is in cc
+no_head m n e (Some head) (suc k, lt, is) = omega arith
+
+no_seat : (m n : ℕ) (e : Entry) (seats : List Seat) → Contains (seat_pairs m seats) (m, EntryRow n e) → ⊥
+no_seat m n e [] (k, lt, is) = omega arith
+no_seat m n e (seat ∷ seats) (zero, lt, is) =
+    let row : SeatRow seat ≡ EntryRow n e = ap (λ (p : ℕ × Row). p.1) is in cc
+no_seat m n e (seat ∷ seats) (suc k, lt, is) = no_seat m n e seats (k, omega arith, is)
+
+-- the place of an entry's row among the rows of entries, which are numbered from a number on
+entry_place : (m first n : ℕ) (e : Entry) (es : List Entry) → Contains (entry_pairs m first es) (m, EntryRow n e)
+    → (i : ℕ) × (first + i ≡ n) × (i < length es) × (e ≡ get_or es i e)
+entry_place m first n e [] (k, lt, is) = absurd (omega arith)
+entry_place m first n e (x ∷ es) (zero, lt, is) =
+    let row : EntryRow first x ≡ EntryRow n e = ap (λ (p : ℕ × Row). p.1) is in
+    let number : first ≡ n = cc in
+    let same : e ≡ x = cc in
+    (0, omega (arith, number), omega arith, same)
+entry_place m first n e (x ∷ es) (suc k, lt, is) =
+    let more = entry_place m (first + 1) n e es (k, omega arith, is) in
+    let number = more.1 in
+    let below = more.2 in
+    (suc more.0, omega (arith, number), omega (arith, below), more.3)
+
+in_pairs : (m n : ℕ) (e : Entry) (rows : Rows) → Contains (pairs m rows) (m, EntryRow n e)
+    → entry_at rows.entries n ≡ Some e
+in_pairs m n e rows there =
+    elim (Contains-append_cases (head_pairs m rows.head) _ (m, EntryRow n e) there) [
+      | inl h ↦ absurd (no_head m n e rows.head h)
+      | inr h ↦ elim (Contains-append_cases (seat_pairs m rows.seats) _ (m, EntryRow n e) h) [
+        | inl g ↦ absurd (no_seat m n e rows.seats g)
+        | inr g ↦
+            let place = entry_place m 1 n e rows.entries g in
+            let start = place.1 in
+            let number : place.0 + 1 ≡ n = omega (arith, start) in
+            ap (entry_at rows.entries) (sym number) ∙ entry-at-place rows.entries place.0 e place.2 place.3
+      ]
+    ]
+
+row_of : (firm : Firm) (w : Waiting) → Contains (held_of firm).waiting w
+    → (p : ℕ × Row) × Contains firm.rows p × Contains (row_waiting p) w
+unfolding held_of
+row_of firm w there = flat_map_from row_waiting firm.rows w there
+
+-- The entry of a row.
+
+-- the entry of a row of a sound firm is the one with its number among the matter's
+pub entry_of_row : (firm : Firm) (m n : ℕ) (e : Entry) → FirmSound firm → Contains firm.rows (m, EntryRow n e)
+    → entry_at (of m firm).entries n ≡ Some e
+entry_of_row firm m n e sound there =
+    let Has = λ (rows : List (ℕ × Row)). Contains rows (m, EntryRow n e) in
+    let own : (m == m) ≡ true = grind (arith, nat_tests) in
+    let placed = subst Has (sym (sound.in_order.rows m)) there in
+    let kept = filter_has (λ (p : ℕ × Row). p.0 == m) (put m (of m firm) firm.rows) (m, EntryRow n e) own placed in
+    in_pairs m n e (of m firm) (subst Has (own-put m (of m firm) firm.rows) kept)
+
+-- and its number is one that an entry may have
+entry_number : (firm : Firm) (m n : ℕ) (e : Entry) → FirmSound firm → entry_at (of m firm).entries n ≡ Some e
+    → IsEntryNo n
+entry_number firm m n e sound at =
+    let inside = within (of m firm).entries n e at in
+    let low = inside.0 in
+    let high = inside.1 in
+    let few = (sound.matters m).backed.few in
+    (omega (arith, low), omega (arith, high, few))
+
+-- The entry that waits.
+
+none_there : {A : Type 0} (x : A) → Contains [] x → ⊥
+none_there x (k, lt, is) = omega arith
+
+the_one : {A : Type 0} (y x : A) → Contains (y ∷ []) x → y ≡ x
+the_one y x (zero, lt, is) = is
+the_one y x (suc k, lt, is) = absurd (omega arith)
+
+two_are_one : {A : Type 0} (y w v : A) → Contains (y ∷ []) w → Contains (y ∷ []) v → w ≡ v
+two_are_one y w v first second = sym (the_one y w first) ∙ the_one y v second
+
+deposit_once : (m n : ℕ) (d : Deposit) (s : DepositState) (w v : Waiting) → Contains (deposit_waiting m n d s) w
+    → Contains (deposit_waiting m n d s) v → (w ≡ v) × (w.reference ≡ reference_text m n)
+deposit_once m n d deposit.Held w v first second =
+    (two_are_one _ w v first second, sym (ap (λ (x : Waiting). x.reference) (the_one _ w first)))
+deposit_once m n d (deposit.Cleared c) w v first second = absurd (none_there w first)
+deposit_once m n d (deposit.Cancelled day) w v first second = absurd (none_there w first)
+deposit_once m n d (deposit.Returned r) w v first second = absurd (none_there w first)
+
+payment_once : (m n : ℕ) (p : Payment) (s : PaymentState) (w v : Waiting) → Contains (payment_waiting m n p s) w
+    → Contains (payment_waiting m n p s) v → (w ≡ v) × (w.reference ≡ reference_text m n)
+payment_once m n p payment.Proposed w v first second = absurd (none_there w first)
+payment_once m n p payment.Declined w v first second = absurd (none_there w first)
+payment_once m n p (payment.Issued day) w v first second =
+    (two_are_one _ w v first second, sym (ap (λ (x : Waiting). x.reference) (the_one _ w first)))
+payment_once m n p (payment.Cleared c) w v first second = absurd (none_there w first)
+payment_once m n p (payment.Voided x) w v first second = absurd (none_there w first)
+
+-- an entry waits once, under its reference
+pub entry_once : (m n : ℕ) (e : Entry) (w v : Waiting) → Contains (entry_waiting m n e) w
+    → Contains (entry_waiting m n e) v → (w ≡ v) × (w.reference ≡ reference_text m n)
+entry_once m n (entry.Deposit d) w v first second = deposit_once m n d d.state w v first second
+entry_once m n (entry.Payment p) w v first second = payment_once m n p p.state w v first second
+entry_once m n (entry.Fee f) w v first second = absurd (none_there w first)
+entry_once m n (entry.Claim c) w v first second = absurd (none_there w first)
+
+-- the entry that waits, of a matter under its number
+pub record IsOfEntry (firm : Firm) (w : Waiting) : Type 0 where
+  pub matter : ℕ
+  pub number : ℕ
+  pub made : Entry
+  pub is_matter : IsMatterNo matter
+  pub is_number : IsEntryNo number
+  pub there : entry_at (of matter firm).entries number ≡ Some made
+  pub waits : Contains (entry_waiting matter number made) w
+  pub is : w.reference ≡ reference_text matter number
+
+of_row : (firm : Firm) (m : ℕ) (row : Row) (w : Waiting) → FirmSound firm → IsMatterNo m
+    → Contains firm.rows (m, row) → Contains (row_waiting (m, row)) w → IsOfEntry firm w
+of_row firm m (HeadRow head) w sound is_matter there waits = absurd (none_there w waits)
+of_row firm m (SeatRow seat) w sound is_matter there waits = absurd (none_there w waits)
+of_row firm m (EntryRow n e) w sound is_matter there waits =
+    let at = entry_of_row firm m n e sound there in
+    record {
+      matter = m;
+      number = n;
+      made = e;
+      is_matter = is_matter;
+      is_number = entry_number firm m n e sound at;
+      there = at;
+      waits = waits;
+      is = (entry_once m n e w w waits waits).1;
+    }
+
+pub of_entry : (firm : Firm) (w : Waiting) → FirmSound firm → HasMatterNumbers firm
+    → Contains (held_of firm).waiting w → IsOfEntry firm w
+of_entry firm w sound numbers there =
+    let found = row_of firm w there in
+    of_row firm found.0.0 found.0.1 w sound (numbers found.0.0 found.0.1 found.1) found.1 found.2
+
+-- No two have one reference.
+
+-- one reference names one entry
+pub same_named : (m n k j : ℕ) → IsMatterNo m → IsEntryNo n → IsMatterNo k → IsEntryNo j
+    → reference_text m n ≡ reference_text k j → (m ≡ k) × (n ≡ j)
+same_named m n k j m_is n_is k_is j_is same =
+    let both : Some (named m n) ≡ Some (named k j) =
+    sym (named-found m n m_is n_is) ∙ ap entry_named same ∙ named-found k j k_is j_is in
+    let names : named m n ≡ named k j = cc in
+    (ap (λ x. x.matter) names, ap (λ x. x.entry) names)
+
+same_entry : (firm : Firm) (m n k j : ℕ) (e f : Entry) → m ≡ k → n ≡ j
+    → entry_at (of m firm).entries n ≡ Some e → entry_at (of k firm).entries j ≡ Some f → e ≡ f
+same_entry firm m n k j e f matter number first second =
+    let both : Some e ≡ Some f =
+    sym first ∙ (λ i. entry_at (of (matter i) firm).entries (number i)) ∙ second in cc
+
+same_waiting : (m n k j : ℕ) (e f : Entry) (w v : Waiting) → m ≡ k → n ≡ j → e ≡ f
+    → Contains (entry_waiting m n e) w → Contains (entry_waiting k j f) v → w ≡ v
+same_waiting m n k j e f w v matter number made first second =
+    let moved : Contains (entry_waiting k j f) w =
+    subst (λ (x : Entry). Contains (entry_waiting k j x) w) made
+    (subst (λ (x : ℕ). Contains (entry_waiting k x e) w) number
+    (subst (λ (x : ℕ). Contains (entry_waiting x n e) w) matter first)) in
+    (entry_once k j f w v moved second).0
+
+pub wait_apart : WaitApart
+wait_apart firm sound numbers w v w_there v_there same =
+    let a = of_entry firm w sound numbers w_there in
+    let b = of_entry firm v sound numbers v_there in
+    let names = same_named a.matter a.number b.matter b.number a.is_matter a.is_number b.is_matter b.is_number
+    (sym a.is ∙ same ∙ b.is) in
+    let made = same_entry firm a.matter a.number b.matter b.number a.made b.made names.0 names.1 a.there b.there in
+    same_waiting a.matter a.number b.matter b.number a.made b.made w v names.0 names.1 made a.waits b.waits
+
+pub none_is_named_twice_by_firms : NoneIsNamedTwiceByFirms
+none_is_named_twice_by_firms today firm lines i k d x reference sound numbers li lk differ filled there is =
+    none_is_named_twice today (held_of firm) lines i k d x reference (wait_apart firm sound numbers) li lk differ filled
+    there is

@@ -1,0 +1,157 @@
+-- All entries that stand in some way to a line are among those of its amount, those of its reference, or those that it
+-- shows.
+use Rattle.std.proofs.Common.{◌≡◌, ◌∙◌, sym, ap, subst, ℕ, zero, suc, ℤ, pos, negsuc, ◌==◌, true, not, ◌&&◌, neg_ℤ, List, refl, inl, inr, ◌⊎◌}
+use Rattle.std.specs.Prelude.{nat_lt, unsigned_abs}
+use Rattle.std.specs.List.{filter}
+use Rattle.std.specs.Ordering.{int_eq}
+use Rattle.std.proofs.lemmas.Bool.{and_parts, eq-eqb}
+use Rattle.std.proofs.lemmas.Bool.Decides.{Decides-int_eq}
+use Rattle.std.proofs.lemmas.Slice.Eq.{bytes_eq-Decides}
+use Rattle.trust_base.specs.declared.line.Line.{Line}
+use Rattle.statement_match.specs.Keys.{amount_key, entry_key, reference_key, text_key}
+use Rattle.statement_match.specs.Lookups.{elements}
+use Rattle.statement_match.specs.Marks.{is_shown}
+use Rattle.statement_match.specs.Relations.{has_amount_back, has_its_amount, is_cleared, is_of_no_amount, is_waiting, names, stands}
+use Rattle.statement_match.specs.Showing.{fits, is_out, shows}
+use Rattle.statement_match.specs.declared.book_entry.BookEntry.{BookEntry}
+use Rattle.statement_match.specs.declared.relation.Relation.{Relation}
+use Rattle.statement_match.specs.declared.relation.Relation.TheVariants as relation
+use Rattle.statement_match.proofs.Alike.{fits_narrows}
+use Rattle.statement_match.proofs.Found.{Narrows, filtered, filtered_kept}
+use denote.Ref.{Bor}
+
+-- Of its amount.
+
+unsigned_abs-neg : (x : ℤ) → unsigned_abs (neg_ℤ x) ≡ unsigned_abs x
+unsigned_abs-neg (pos zero) = refl
+unsigned_abs-neg (pos (suc n)) = refl
+unsigned_abs-neg (negsuc n) = refl
+
+its_amount : (line : Line) (e : BookEntry) → has_its_amount line e ≡ true → (entry_key e == amount_key line) ≡ true
+its_amount line e is =
+    eq-eqb (entry_key e) (amount_key line) (ap unsigned_abs (sym ((Decides-int_eq line.amount e.entry.amount).0 is)))
+
+back_amount : (line : Line) (e : BookEntry) → has_amount_back line e ≡ true → (entry_key e == amount_key line) ≡ true
+back_amount line e is =
+    let parts = and_parts (is_out line.amount) (int_eq (neg_ℤ line.amount) e.entry.amount) is in
+    eq-eqb (entry_key e) (amount_key line)
+    (ap unsigned_abs (sym ((Decides-int_eq (neg_ℤ line.amount) e.entry.amount).0 parts.1))
+    ∙ unsigned_abs-neg line.amount)
+
+pub fitted_narrows : (today : ℕ) (line : Line)
+    → Narrows (stands relation.Fitted today line) (λ e. entry_key e == amount_key line)
+unfolding stands
+fitted_narrows today line e is =
+    fits_narrows today line e.entry (and_parts (is_waiting e.state) (fits today line e.entry) is).1
+
+pub not_waiting_narrows : (today : ℕ) (line : Line)
+    → Narrows (stands relation.NotWaiting today line) (λ e. entry_key e == amount_key line)
+unfolding stands
+not_waiting_narrows today line e is =
+    let own = and_parts (not (is_waiting e.state) && has_its_amount line e) (shows line e.entry) is in
+    its_amount line e (and_parts (not (is_waiting e.state)) (has_its_amount line e) own.0).1
+
+pub issued_after_narrows : (today : ℕ) (line : Line)
+    → Narrows (stands relation.IssuedAfter today line) (λ e. entry_key e == amount_key line)
+unfolding stands
+issued_after_narrows today line e is =
+    let shown = and_parts (is_waiting e.state && has_its_amount line e && nat_lt line.date e.entry.since)
+    (shows line e.entry) is in
+    let own = and_parts (is_waiting e.state && has_its_amount line e) (nat_lt line.date e.entry.since) shown.0 in
+    its_amount line e (and_parts (is_waiting e.state) (has_its_amount line e) own.0).1
+
+pub of_its_amount_narrows : (today : ℕ) (line : Line)
+    → Narrows (stands relation.OfItsAmount today line) (λ e. entry_key e == amount_key line)
+unfolding stands
+of_its_amount_narrows today line e is =
+    its_amount line e (and_parts (is_waiting e.state) (has_its_amount line e) is).1
+
+pub returned_narrows : (today : ℕ) (line : Line)
+    → Narrows (stands relation.MaybeReturned today line) (λ e. entry_key e == amount_key line)
+unfolding stands
+returned_narrows today line e is =
+    back_amount line e (and_parts (has_amount_back line e) (is_cleared e.state) is).0
+
+-- Of its reference.
+
+named_alike : (line : Line) (e : BookEntry) → names line e ≡ true
+    → (reference_key e == text_key 0 line.reference) ≡ true
+named_alike line e is =
+    eq-eqb (reference_key e) (text_key 0 line.reference)
+    (ap (text_key 0) (sym ((bytes_eq-Decides line.reference e.entry.reference).0 is)))
+
+pub named_narrows : (today : ℕ) (line : Line)
+    → Narrows (stands relation.Named today line) (λ e. reference_key e == text_key 0 line.reference)
+unfolding stands
+named_narrows today line e is = named_alike line e is
+
+pub named_other_narrows : (today : ℕ) (line : Line)
+    → Narrows (stands relation.NamedOfAnotherAmount today line) (λ e. reference_key e == text_key 0 line.reference)
+unfolding stands
+named_other_narrows today line e is =
+    named_alike line e (and_parts (names line e) (is_of_no_amount line e) is).0
+
+-- Shown.
+
+pub other_amount_narrows : (today : ℕ) (line : Line)
+    → Narrows (stands relation.OfAnotherAmount today line) (is_shown line)
+unfolding stands
+other_amount_narrows today line e is =
+    let own = and_parts (is_waiting e.state && not (has_its_amount line e)) (shows line e.entry) is in
+    let waits = and_parts (is_waiting e.state) (not (has_its_amount line e)) own.0 in
+    rw waits.0 own.1
+
+-- The entries found.
+
+pub amount_kept : (r : Relation) (today : ℕ) (line : Line) (entries : List BookEntry) (found : List (ℕ × Bor BookEntry))
+    → (r ≡ relation.Fitted) ⊎ ((r ≡ relation.NotWaiting) ⊎ ((r ≡ relation.IssuedAfter)
+    ⊎ ((r ≡ relation.OfItsAmount) ⊎ (r ≡ relation.MaybeReturned))))
+    → elements found ≡ filter (λ e. entry_key e == amount_key line) entries
+    → filter (stands r today line) (elements found) ≡ filter (stands r today line) entries
+amount_kept r today line entries found is same =
+    filtered (stands r today line) (λ e. entry_key e == amount_key line) narrows found entries same
+  where
+    Of : Relation → Type 0
+    Of s = Narrows (stands s today line) (λ e. entry_key e == amount_key line)
+
+    narrows : Of r
+    narrows =
+        elim is [
+          | inl a ↦ subst Of (sym a) (fitted_narrows today line)
+          | inr b ↦ elim b [
+            | inl a ↦ subst Of (sym a) (not_waiting_narrows today line)
+            | inr c ↦ elim c [
+              | inl a ↦ subst Of (sym a) (issued_after_narrows today line)
+              | inr d ↦ elim d [
+                | inl a ↦ subst Of (sym a) (of_its_amount_narrows today line)
+                | inr a ↦ subst Of (sym a) (returned_narrows today line)
+              ]
+            ]
+          ]
+        ]
+
+pub named_kept : (r : Relation) (today : ℕ) (line : Line) (entries : List BookEntry) (found : List (ℕ × Bor BookEntry))
+    → (r ≡ relation.Named) ⊎ (r ≡ relation.NamedOfAnotherAmount)
+    → elements found ≡ filter (λ e. reference_key e == text_key 0 line.reference) entries
+    → filter (stands r today line) (elements found) ≡ filter (stands r today line) entries
+named_kept r today line entries found is same =
+    filtered (stands r today line) (λ e. reference_key e == text_key 0 line.reference) narrows found entries same
+  where
+    Of : Relation → Type 0
+    Of s = Narrows (stands s today line) (λ e. reference_key e == text_key 0 line.reference)
+
+    narrows : Of r
+    narrows =
+        elim is [
+          | inl a ↦ subst Of (sym a) (named_narrows today line)
+          | inr a ↦ subst Of (sym a) (named_other_narrows today line)
+        ]
+
+pub shown_kept : (r : Relation) (today : ℕ) (line : Line) (entries : List BookEntry) (found : List (ℕ × Bor BookEntry))
+    → r ≡ relation.OfAnotherAmount
+    → filter (is_shown line) (elements found) ≡ filter (is_shown line) entries
+    → filter (stands r today line) (elements found) ≡ filter (stands r today line) entries
+shown_kept r today line entries found is same =
+    subst (λ (s : Relation). filter (stands s today line) (elements found) ≡ filter (stands s today line) entries) (sym is)
+    (filtered_kept (stands relation.OfAnotherAmount today line) (is_shown line) (other_amount_narrows today line) found
+    entries same)

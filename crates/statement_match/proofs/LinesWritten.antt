@@ -1,0 +1,147 @@
+-- The lines of the records that are written are what is written of the lines.
+use Rattle.std.proofs.Common.{◌≡◌, ◌∙◌, ap, subst, ℕ, ℤ, ◌+◌, true, List, [], ◌∷◌, ◌++◌, drop, Option, Some, None, option_and_then, option_map, option_to_list, refl}
+use Rattle.std.specs.List.{find}
+use Rattle.std.specs.Prelude.{unwrap_or}
+use Rattle.trust_base.specs.BankTexts.{bank_text_of, line_text_of}
+use Rattle.trust_base.specs.Texts.{bank_amount_of, day_of}
+use Rattle.trust_base.specs.declared.line.Line.{Line}
+use Rattle.statement_csv.specs.Items.{item_of, item_of_line, items_from, line_in}
+use Rattle.statement_csv.specs.Lines.{line_of, line_of_texts, line_with}
+use Rattle.statement_csv.specs.declared.item.Item.TheVariants as item
+use Rattle.statement_csv.proofs.ItemFacts.{known_line, open_line, same_line}
+use Rattle.statement_match.specs.Laws.{with_reference, written_as, written_of}
+use Rattle.statement_match.specs.Records.{Rows, line_at, lines_from, records_of, rows_of}
+use Rattle.statement_match.specs.Rule.{Held, becomes, exception_reference, is_named_like, is_open}
+use Rattle.statement_match.specs.StatementLaws.{HasLinesWritten, HasReferences, IsReference}
+use Rattle.statement_match.specs.Statements.{named_row, row_as, rows_by}
+use Rattle.statement_match.specs.declared.outcome.Outcome.{Outcome}
+use Rattle.statement_match.specs.declared.outcome.Outcome.TheVariants as outcome
+use Rattle.statement_match.proofs.Filling.{fills_with_waiting}
+use Rattle.statement_match.proofs.Picks.{found_is_there}
+use Rattle.statement_match.proofs.ReadBack.{reads_back}
+use Rattle.statement_match.proofs.Writing.{HasOpenness, openness, retried_of}
+
+-- A line with another reference.
+
+-- the texts of a line with another reference
+texts_with : (date reference bank_ref amount text other : List ℕ) (l : Line) → IsReference other
+    → line_of_texts date reference bank_ref amount text ≡ Some l
+    → line_of_texts date other bank_ref amount text ≡ Some (with_reference other l)
+unfolding line_of_texts
+texts_with date reference bank_ref amount text other l is e =
+    by (day_of date) (bank_amount_of amount) (bank_text_of reference) (bank_text_of bank_ref) (line_text_of text)
+    (bank_text_of other) is e
+  where
+    line_by : Option ℕ → Option ℤ → Option (List ℕ) → Option (List ℕ) → Option (List ℕ) → Option Line
+    line_by d a r b t =
+        option_and_then (λ d. option_and_then (λ a. option_and_then (λ r. option_and_then (λ b. option_and_then (λ t.
+        Some (line_with d a r b t)) t) b) r) a) d
+
+    by : (d : Option ℕ) (a : Option ℤ) (r b t o : Option (List ℕ)) → o ≡ Some other → line_by d a r b t ≡ Some l
+        → line_by d a o b t ≡ Some (with_reference other l)
+    by None a r b t o same e = cc
+    by (Some d) None r b t o same e = cc
+    by (Some d) (Some a) None b t o same e = cc
+    by (Some d) (Some a) (Some r) None t o same e = cc
+    by (Some d) (Some a) (Some r) (Some b) None o same e = cc
+    by (Some d) (Some a) (Some r) (Some b) (Some t) o same e =
+        let whole : line_with d a r b t ≡ l = cc in
+        rw same (ap (λ (x : Line). Some (with_reference other x)) whole)
+
+-- the record of a line with another reference is that line
+named_line : (fields : List (List ℕ)) (other : List ℕ) (l : Line) → IsReference other → line_of fields ≡ Some l
+    → line_of (named_row other fields) ≡ Some (with_reference other l)
+named_line [] other l is e = cc
+named_line (a ∷ []) other l is e = cc
+named_line (a ∷ b ∷ []) other l is e = cc
+named_line (a ∷ b ∷ c ∷ []) other l is e = cc
+named_line (a ∷ b ∷ c ∷ d ∷ []) other l is e = cc
+named_line (date ∷ reference ∷ bank_ref ∷ amount ∷ text ∷ []) other l is e =
+    texts_with date reference bank_ref amount text other l is e
+named_line (a ∷ b ∷ c ∷ d ∷ e ∷ f ∷ rest) other l is same = cc
+
+-- the record of an open line with a reference is that line with it
+named_at : (n m : ℕ) (fields : List (List ℕ)) (line : Line) (other : List ℕ) → IsReference other
+    → line_at n fields ≡ Some line → is_open line ≡ true
+    → line_at m (named_row other fields) ≡ Some (with_reference other line)
+unfolding item_of
+named_at n m fields line other is e opened = by (line_of fields) refl e
+  where
+    by : (o : Option Line) → line_of fields ≡ o
+        → line_in (unwrap_or (option_map (item_of_line n) o) (item.Unreadable n)) ≡ Some line
+        → line_in (unwrap_or (option_map (item_of_line m) (line_of (named_row other fields))) (item.Unreadable m))
+        ≡ Some (with_reference other line)
+    by None from e = cc
+    by (Some l) from e =
+        let (same, has) = open_line n l line e opened in
+        rw (named_line fields other l is from) (
+        known_line m (with_reference other l) has ∙ ap (λ (x : Line). Some (with_reference other x)) same
+        )
+
+-- What is written.
+
+-- the references under which lines are written are those of a record
+retried_reference : (today : ℕ) (held : Held) (all : List Line) (line : Line) (r : List ℕ) → HasReferences held
+    → becomes today held all line ≡ outcome.Retried r → IsReference r
+unfolding exception_reference
+retried_reference today held all line r ok e =
+    by (find (is_named_like line) held.exceptions) refl (retried_of today held all line r e)
+  where
+    by : (o : Option Line) → find (is_named_like line) held.exceptions ≡ o
+        → option_map (λ (x : Line). x.reference) o ≡ Some r → IsReference r
+    by None found is = cc
+    by (Some x) found is =
+        let same : x.reference ≡ r = cc in
+        subst IsReference same (ok.exceptions x (found_is_there (is_named_like line) held.exceptions x found))
+
+filled_reference : (today : ℕ) (held : Held) (all : List Line) (line : Line) (r : List ℕ) → HasReferences held
+    → becomes today held all line ≡ outcome.Filled r → IsReference r
+filled_reference today held all line r ok e =
+    let (w, there, fit, same) = fills_with_waiting today held all line r e in
+    subst IsReference same (ok.waiting w there)
+
+-- the lines of what is written of a record, and of the records behind it
+one_written : (m : ℕ) (fields : List (List ℕ)) (line : Line) (o : Outcome) (rows : Rows) (out : List Line)
+    → line_at m fields ≡ Some line
+    → ((r : List ℕ) → o ≡ outcome.Retried r → line_at m (named_row r fields) ≡ Some (with_reference r line))
+    → ((r : List ℕ) → o ≡ outcome.Filled r → line_at m (named_row r fields) ≡ Some (with_reference r line))
+    → ((k : ℕ) → lines_from k rows ≡ out)
+    → lines_from m (row_as fields (Some o) ++ rows) ≡ written_as line o ++ out
+unfolding items_from
+one_written m fields line outcome.AsItIs rows out is retried filled rest = rw (is, rest (m + 1)) refl
+one_written m fields line outcome.InBook rows out is retried filled rest = rest m
+one_written m fields line (outcome.Retried r) rows out is retried filled rest = rw (retried r refl, rest (m + 1)) refl
+one_written m fields line outcome.Doubled rows out is retried filled rest = rest m
+one_written m fields line (outcome.Filled r) rows out is retried filled rest = rw (filled r refl, rest (m + 1)) refl
+one_written m fields line outcome.Left rows out is retried filled rest = rest m
+
+lines_written : (today : ℕ) (held : Held) (all : List Line) → HasReferences held → (n m : ℕ) (rows : Rows)
+    → lines_from m (rows_by (becomes today held all) n rows) ≡ written_of today held all (lines_from n rows)
+unfolding rows_by items_from
+lines_written today held all ok n m [] = refl
+lines_written today held all ok n m (fields ∷ rest) =
+    by (line_at n fields) refl (λ k. lines_written today held all ok (n + 1) k rest)
+  where
+    rows : Rows
+    rows = rows_by (becomes today held all) (n + 1) rest
+
+    out : List Line
+    out = written_of today held all (lines_from (n + 1) rest)
+
+    by : (found : Option Line) → line_at n fields ≡ found → ((k : ℕ) → lines_from k rows ≡ out)
+        → lines_from m (row_as fields (option_map (becomes today held all) (line_at n fields)) ++ rows)
+        ≡ written_of today held all (option_to_list (line_at n fields) ++ lines_from (n + 1) rest)
+    by None is more = rw (is, same_line m n fields ∙ is) (more (m + 1))
+    by (Some line) is more =
+        rw is (one_written m fields line (becomes today held all line) rows out (same_line m n fields ∙ is)
+        (λ r e. named_at n m fields line r (retried_reference today held all line r ok e) is
+        (subst (HasOpenness line) e (openness today held all line)))
+        (λ r e. named_at n m fields line r (filled_reference today held all line r ok e) is
+        (subst (HasOpenness line) e (openness today held all line)))
+        more)
+
+pub has_lines_written : HasLinesWritten
+unfolding records_of
+has_lines_written today held bytes ok =
+    ap (λ (all : Rows). lines_from 1 (drop 1 all)) (reads_back today held bytes)
+    ∙ lines_written today held (lines_from 1 (rows_of bytes)) ok 1 1 (rows_of bytes)

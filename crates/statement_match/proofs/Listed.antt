@@ -1,0 +1,58 @@
+-- The steps of the loops that list entries and records.
+use Rattle.std.proofs.Common.{◌≡◌, ◌∙◌, sym, ap, ℕ, zero, suc, ◌+◌, ◌<◌, ◌≤◌, Bool, true, false, cond, List, [], ◌∷◌, ◌++◌, length, length-append, get_or, take, map, append-nil, refl, arith}
+use Rattle.std.specs.List.{filter}
+use Rattle.std.proofs.lemmas.List.{map-append, take-append-le, take_all}
+use Rattle.std.proofs.lemmas.List.Elements.{filter_more}
+use Rattle.trust_base.specs.declared.line.Line.{Line}
+use Rattle.statement_match.specs.Waiting.{Waiting}
+use Rattle.statement_match.specs.Rule.{is_open_fit}
+use Rattle.statement_match.specs.ReasonTexts.{fit_numbers}
+
+pub fit_numbers-cons : (today : ℕ) (w : Waiting) (numbers : List ℕ) (place : ℕ) (line : Line) (lines : List Line)
+    → fit_numbers today w numbers place (line ∷ lines)
+    ≡ cond (is_open_fit today w line) (get_or numbers place 0 ∷ fit_numbers today w numbers (place + 1) lines)
+    (fit_numbers today w numbers (place + 1) lines)
+unfolding fit_numbers
+fit_numbers-cons today w numbers place line lines = refl
+
+pub fit_numbers-nil : (today : ℕ) (w : Waiting) (numbers : List ℕ) (place : ℕ) → fit_numbers today w numbers place [] ≡ []
+unfolding fit_numbers
+fit_numbers-nil today w numbers place = refl
+
+-- The first texts of what passes a test.
+
+take_through : {X : Type 0} (n : ℕ) (xs ys : List X) → take n (take n xs ++ ys) ≡ take n (xs ++ ys)
+take_through zero xs ys = refl
+take_through (suc n) [] ys = refl
+take_through (suc n) (x ∷ xs) ys = ap (λ zs. x ∷ zs) (take_through n xs ys)
+
+map_picked : {X Y : Type 0} (f : X → Y) (b : Bool) (xs : List X) (x : X)
+    → map f (xs ++ cond b (x ∷ []) []) ≡ map f xs ++ cond b (f x ∷ []) []
+map_picked f true xs x = map-append f xs (x ∷ [])
+map_picked f false xs x = map-append f xs []
+
+pub listed_more : {X Y : Type 0} (f : X → Y) (p : X → Bool) (n : ℕ) (xs : List X) (i : ℕ) (d : X) → i < length xs
+    → take n (take n (map f (filter p (take i xs))) ++ cond (p (get_or xs i d)) (f (get_or xs i d) ∷ []) [])
+    ≡ take n (map f (filter p (take (i + 1) xs)))
+listed_more f p n xs i d lt =
+    take_through n (map f (filter p (take i xs))) (cond (p (get_or xs i d)) (f (get_or xs i d) ∷ []) [])
+    ∙ ap (take n)
+    (sym (map_picked f (p (get_or xs i d)) (filter p (take i xs)) (get_or xs i d))
+    ∙ ap (map f) (sym (filter_more p xs i d lt)))
+
+-- a list that has no room, and one that has, for a text that is told or not
+
+pub has_no_room : {X : Type 0} (n : ℕ) (xs ys : List X) → n ≤ length xs → length xs ≤ n → take n (xs ++ ys) ≡ xs
+has_no_room n xs ys within all = take-append-le n xs ys within ∙ take_all n xs all
+
+pub is_not_told : {X : Type 0} (n : ℕ) (b : Bool) (xs : List X) (x : X) → b ≡ false → length xs ≤ n
+    → take n (xs ++ cond b (x ∷ []) []) ≡ xs
+is_not_told n b xs x miss short =
+    ap (λ v. take n (xs ++ cond v (x ∷ []) [])) miss ∙ ap (take n) (append-nil xs) ∙ take_all n xs short
+
+pub is_told : {X : Type 0} (n : ℕ) (b : Bool) (xs : List X) (x : X) → b ≡ true → length xs < n
+    → take n (xs ++ cond b (x ∷ []) []) ≡ xs ++ x ∷ []
+is_told n b xs x hit short =
+    let e = length-append xs (x ∷ []) in
+    let all : length (xs ++ x ∷ []) ≤ n = omega (arith, e, short) in
+    ap (λ v. take n (xs ++ cond v (x ∷ []) [])) hit ∙ take_all n (xs ++ x ∷ []) all

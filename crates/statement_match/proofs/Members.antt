@@ -1,0 +1,45 @@
+-- What is among the elements of lists that are made of others.
+use Rattle.std.proofs.Common.{◌≡◌, ◌∙◌, sym, ap, subst, zero, suc, Bool, true, false, cond, List, [], ◌∷◌, map, refl, inl, inr, arith}
+use Rattle.std.specs.List.{Contains, filter, flat_map}
+use Rattle.std.proofs.lemmas.List.Elements.{Contains-append_cases, Contains-append_left, Contains-append_right}
+
+pub later : {A : Type 0} (x y : A) (xs : List A) → Contains xs y → Contains (x ∷ xs) y
+later x y xs (k, lt, is) = (suc k, omega arith, is)
+
+there_if_picked : {A : Type 0} (b : Bool) (x y : A) (xs : List A) → Contains xs y → Contains (cond b (x ∷ xs) xs) y
+there_if_picked true x y xs h = later x y xs h
+there_if_picked false x y xs h = h
+
+pub filter_has : {A : Type 0} (p : A → Bool) (xs : List A) (y : A) → p y ≡ true → Contains xs y
+    → Contains (filter p xs) y
+filter_has p [] y hit (k, lt, is) = absurd (omega arith)
+filter_has p (x ∷ xs) y hit (zero, lt, is) =
+    let T = λ (b : Bool). Contains (cond b (x ∷ filter p xs) (filter p xs)) y in
+    subst T (sym (ap p is ∙ hit)) (zero, omega arith, is)
+filter_has p (x ∷ xs) y hit (suc k, lt, is) =
+    there_if_picked (p x) x y (filter p xs) (filter_has p xs y hit (k, omega arith, is))
+
+pub map_has : {A B : Type 0} (f : A → B) (xs : List A) (y : A) → Contains xs y → Contains (map f xs) (f y)
+map_has f [] y (k, lt, is) = absurd (omega arith)
+map_has f (x ∷ xs) y (zero, lt, is) = (zero, omega arith, ap f is)
+map_has f (x ∷ xs) y (suc k, lt, is) = later (f x) (f y) (map f xs) (map_has f xs y (k, omega arith, is))
+
+pub flat_map_has : {A B : Type 0} (f : A → List B) (xs : List A) (y : A) (z : B) → Contains xs y → Contains (f y) z
+    → Contains (flat_map f xs) z
+flat_map_has f [] y z (k, lt, is) there = absurd (omega arith)
+flat_map_has {A} f (x ∷ xs) y z (zero, lt, is) there =
+    let T = λ (v : A). Contains (f v) z in
+    Contains-append_left (f x) (flat_map f xs) z (subst T (sym is) there)
+flat_map_has f (x ∷ xs) y z (suc k, lt, is) there =
+    Contains-append_right (f x) (flat_map f xs) z (flat_map_has f xs y z (k, omega arith, is) there)
+
+-- what is among the lists of elements is in that of one
+pub flat_map_from : {A B : Type 0} (f : A → List B) (xs : List A) (z : B) → Contains (flat_map f xs) z
+    → (y : A) × Contains xs y × Contains (f y) z
+flat_map_from f [] z (k, lt, is) = absurd (omega arith)
+flat_map_from f (x ∷ xs) z there =
+    elim (Contains-append_cases (f x) (flat_map f xs) z there) [
+      | inl here ↦ (x, (zero, omega arith, refl), here)
+      | inr more ↦
+          let found = flat_map_from f xs z more in (found.0, later x found.0 xs found.1, found.2)
+    ]

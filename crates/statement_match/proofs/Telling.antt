@@ -1,0 +1,101 @@
+-- The steps of the loops over the records of a statement.
+use Rattle.std.proofs.Common.{◌≡◌, ◌∙◌, sym, ap, ℕ, suc, ◌+◌, ◌-◌, ◌<◌, ◌≤◌, List, [], ◌∷◌, ◌++◌, length, get_or, drop, append_assoc, append-nil, refl, arith}
+use Rattle.std.proofs.lemmas.List.{at_drop_more, drop_all, get_or-map}
+use Rattle.trust_base.specs.declared.line.Line.{Line}
+use Rattle.statement_match.specs.Rule.{becomes, outcomes}
+use Rattle.statement_match.specs.Records.{Records}
+use Rattle.statement_match.specs.Known.{Known}
+use Rattle.statement_match.specs.Reasons.{reason_for}
+use Rattle.statement_match.specs.declared.outcome.Outcome.{Outcome}
+use Rattle.statement_match.specs.Unmatched.{told_by, told_from, told_of_line, told_unreadable, unreadable_line}
+
+-- Unreadable records.
+
+told_unreadable-suc : (before k : ℕ)
+    → told_unreadable before (suc k) ≡ unreadable_line (before + 1) ∷ told_unreadable (before + 1) k
+unfolding told_unreadable
+told_unreadable-suc before k = refl
+
+told_unreadable-zero : (before : ℕ) → told_unreadable before 0 ≡ []
+unfolding told_unreadable
+told_unreadable-zero before = refl
+
+pub unreadable_more : (before last : ℕ) (told : List (List ℕ)) → before < last
+    → told ++ told_unreadable before (last - before)
+    ≡ (told ++ unreadable_line (before + 1) ∷ []) ++ told_unreadable (before + 1) (last - (before + 1))
+unreadable_more before last told lt =
+    let e : last - before ≡ suc (last - (before + 1)) = omega arith in
+    ap (λ k. told ++ told_unreadable before k) e
+    ∙ ap (λ ts. told ++ ts) (told_unreadable-suc before (last - (before + 1)))
+    ∙ sym (append_assoc told (unreadable_line (before + 1) ∷ []) (told_unreadable (before + 1) (last - (before + 1))))
+
+pub unreadable_done : (before last : ℕ) (told : List (List ℕ)) → last ≤ before
+    → told ++ told_unreadable before (last - before) ≡ told
+unreadable_done before last told past =
+    let e : last - before ≡ 0 = omega arith in
+    ap (λ k. told ++ told_unreadable before k) e ∙ ap (λ ts. told ++ ts) (told_unreadable-zero before) ∙ append-nil told
+
+-- The records.
+
+told_from-cons : (today : ℕ) (known : Known) (records : Records) (before place : ℕ) (line : Line) (lines : List Line)
+    → told_from today known records before place (line ∷ lines)
+    ≡ told_unreadable before (get_or records.numbers place 0 - 1 - before)
+    ++ (told_of_line today known records (get_or records.numbers place 0) line
+    ++ told_from today known records (get_or records.numbers place 0) (place + 1) lines)
+unfolding told_from
+told_from-cons today known records before place line lines = refl
+
+told_from-nil : (today : ℕ) (known : Known) (records : Records) (before place : ℕ)
+    → told_from today known records before place [] ≡ told_unreadable before (records.count - before)
+unfolding told_from
+told_from-nil today known records before place = refl
+
+pub told_more : (today : ℕ) (known : Known) (records : Records) (before i : ℕ) (lines : List Line) (d : Line)
+    (told : List (List ℕ)) → i < length lines
+    → told ++ told_from today known records before i (drop i lines)
+    ≡ ((told ++ told_unreadable before (get_or records.numbers i 0 - 1 - before))
+    ++ told_of_line today known records (get_or records.numbers i 0) (get_or lines i d))
+    ++ told_from today known records (get_or records.numbers i 0) (i + 1) (drop (i + 1) lines)
+told_more today known records before i lines d told lt =
+    let number = get_or records.numbers i 0 in
+    let gap = told_unreadable before (number - 1 - before) in
+    let here = told_of_line today known records number (get_or lines i d) in
+    let rest = told_from today known records number (i + 1) (drop (i + 1) lines) in
+    ap (λ ts. told ++ ts)
+    (at_drop_more (told_from today known records before i) lines i d lt
+    ∙ told_from-cons today known records before i (get_or lines i d) (drop (i + 1) lines))
+    ∙ sym (append_assoc told gap (here ++ rest))
+    ∙ sym (append_assoc (told ++ gap) here rest)
+
+pub told_done : (today : ℕ) (known : Known) (records : Records) (before i : ℕ) (lines : List Line)
+    (told : List (List ℕ)) → length lines ≤ i
+    → told ++ told_from today known records before i (drop i lines)
+    ≡ told ++ told_unreadable before (records.count - before)
+told_done today known records before i lines told past =
+    ap (λ ls. told ++ told_from today known records before i ls) (drop_all i lines past)
+    ∙ ap (λ ts. told ++ ts) (told_from-nil today known records before i)
+
+-- one record more, by what becomes of each line
+pub told_step : (today : ℕ) (known : Known) (records : Records) (os : List Outcome) (before i number : ℕ) (line : Line)
+    (o : Outcome) (told new : List (List ℕ)) → i < length records.lines
+    → os ≡ outcomes today known.held records.lines → number ≡ get_or records.numbers i 0
+    → line ≡ get_or records.lines i line → o ≡ get_or os i o
+    → new ≡ (told ++ told_unreadable before (number - 1 - before))
+    ++ told_by today known records number line (reason_for today known records.lines line o)
+    → told ++ told_from today known records before i (drop i records.lines)
+    ≡ new ++ told_from today known records number (i + 1) (drop (i + 1) records.lines)
+told_step today known records os before i number line o told new lt same number_is line_is o_is new_is =
+    let f = becomes today known.held records.lines in
+    let rest = told_from today known records number (i + 1) (drop (i + 1) records.lines) in
+    let front = told ++ told_unreadable before (number - 1 - before) in
+    let now : o ≡ f line =
+    o_is ∙ ap (λ (xs : List Outcome). get_or xs i o) same
+    ∙ get_or-map f records.lines i line o lt ∙ ap f (sym line_is) in
+    told_more today known records before i records.lines line told lt
+    ∙ ap (λ (n : ℕ). ((told ++ told_unreadable before (n - 1 - before))
+    ++ told_of_line today known records n (get_or records.lines i line))
+    ++ told_from today known records n (i + 1) (drop (i + 1) records.lines)) (sym number_is)
+    ∙ ap (λ (l : Line). (front ++ told_of_line today known records number l) ++ rest) (sym line_is)
+    ∙ ap (λ (b : Outcome). (front
+    ++ told_by today known records number line (reason_for today known records.lines line b)) ++ rest) (sym now)
+    ∙ ap (λ (ts : List (List ℕ)). ts ++ rest) (sym new_is)

@@ -1,0 +1,218 @@
+-- Lines that are not filled, and the lines that are written where none has a reference.
+use Rattle.std.proofs.Common.{◌≡◌, ◌≢◌, ◌∙◌, sym, ap, subst, ℕ, zero, suc, ◌<◌, ◌==◌, Bool, true, false, not, cond, ◌&&◌, List, [], ◌∷◌, length, get_or, Option, Some, None, refl, inl, inr, arith}
+use Rattle.std.specs.Prelude.{nat_lt}
+use Rattle.std.specs.List.{Contains, count_by, filter, find, list_any}
+use Rattle.std.specs.Option.{unwrap_or}
+use Rattle.std.specs.Ordering.{int_eq}
+use Rattle.std.specs.Str.{bytes_eq}
+use Rattle.std.proofs.lemmas.Bool.{and_from, and_left, and_right, cases_order, cond-false, cond-true, eq-eqb, false_from_ne_true, lt-leb, or_from, or_parts}
+use Rattle.std.proofs.lemmas.Bool.Decides.{Decides-int_eq}
+use Rattle.std.proofs.lemmas.List.{get_or_default}
+use Rattle.std.proofs.lemmas.List.Sums.{length-filter}
+use Rattle.std.proofs.lemmas.Slice.Eq.{bytes_eq-Decides}
+use Rattle.trust_base.specs.declared.line.Line.{Line}
+use Rattle.statement_match.specs.declared.booking.Booking.{Booking}
+use Rattle.statement_match.specs.Bookings.{booking_of, is_beside, is_same_booking}
+use Rattle.statement_match.specs.Waiting.{Waiting}
+use Rattle.statement_match.specs.Showing.{fits}
+use Rattle.statement_match.specs.Rule.{Held, becomes, claimed_reference, exception_reference, fill, filled_with, is_beside_booked, is_booked, is_booked_in_parts, is_claimed, is_doubled, is_fitted_once, is_in_book, is_open, is_open_fit, is_open_like, unless_exception}
+use Rattle.statement_match.specs.declared.outcome.Outcome.{Outcome}
+use Rattle.statement_match.specs.declared.outcome.Outcome.TheVariants as outcome
+use Rattle.statement_match.specs.Laws.{IsSure, with_reference, written_as}
+use Rattle.statement_match.proofs.Filling.{becomes-is, fill-is, filled_if_sure}
+use Rattle.statement_match.proofs.Members.{later}
+use Rattle.statement_match.proofs.Picks.{found_passes, length_filter-cons, one_passes, two_pass}
+
+-- What another line is filled with.
+
+-- a line that is open and not filled fits no entry with which another is filled
+pub fits_none : (today : ℕ) (held : Held) (lines : List Line) (line other : Line) (w : Waiting) → Contains lines line
+    → is_open line ≡ true → ((r : List ℕ) → becomes today held lines line ≢ outcome.Filled r) → Contains lines other
+    → IsSure today held lines other w → fits today line w ≡ false
+fits_none today held lines line other w (i, i_in, i_is) opened unfilled (k, k_in, k_is) sure =
+    false_from_ne_true (fits today line w) (λ fit.
+    let passes = is_open_fit today w in
+    let k_at : get_or lines k line ≡ other = get_or_default lines k line other k_in ∙ k_is in
+    let fit_i : passes (get_or lines i line) ≡ true =
+    ap passes i_is ∙ and_from (is_open line) (fits today line w) opened fit in
+    let fit_k : passes (get_or lines k line) ≡ true =
+    ap passes k_at ∙ and_from (is_open other) (fits today other w) sure.nameless
+    (found_passes (fits today other) held.waiting w sure.fits_it) in
+    let count = sure.fitted_once in
+    elim (cases_order i k) [
+      | inl same ↦
+          let one : line ≡ other = sym i_is ∙ ap (λ j. get_or lines j line) same ∙ k_at in
+          unfilled w.reference (ap (becomes today held lines) one ∙ filled_if_sure today held lines other w sure)
+      | inr apart ↦ elim apart [
+        | inl before ↦ let two = two_pass passes lines i k line before k_in fit_i fit_k in omega (arith, count, two)
+        | inr behind ↦ let two = two_pass passes lines k i line behind i_in fit_k fit_i in omega (arith, count, two)
+      ]
+    ])
+
+-- What is written of a line without a reference.
+
+-- the outcome of one that is neither written as it is nor an exception's
+abbrev IsFresh : Outcome → Type 0
+IsFresh outcome.AsItIs = ⊥
+IsFresh outcome.InBook = Unit {0}
+IsFresh (outcome.Retried r) = ⊥
+IsFresh outcome.Doubled = Unit {0}
+IsFresh (outcome.Filled r) = Unit {0}
+IsFresh outcome.Left = Unit {0}
+
+either : (b : Bool) (x y : Outcome) → IsFresh x → IsFresh y → IsFresh (cond b x y)
+either true x y px py = px
+either false x y px py = py
+
+filled_fresh : (today : ℕ) (held : Held) (lines : List Line) (found : Option Waiting)
+    → IsFresh (filled_with today held lines found)
+filled_fresh today held lines None = tt
+filled_fresh today held lines (Some w) =
+    either (is_fitted_once today lines w && not (is_claimed held.exceptions lines w.reference))
+    (outcome.Filled w.reference) outcome.Left tt tt
+
+fill_fresh : (today : ℕ) (held : Held) (lines : List Line) (line : Line) → IsFresh (fill today held lines line)
+fill_fresh today held lines line =
+    subst IsFresh (sym (fill-is today held lines line))
+    (either (not (is_beside_booked held line) && count_by (fits today line) held.waiting == 1)
+    (filled_with today held lines (find (fits today line) held.waiting)) outcome.Left
+    (filled_fresh today held lines (find (fits today line) held.waiting)) tt)
+
+fresh : (today : ℕ) (held : Held) (lines : List Line) (line : Line) → is_open line ≡ true
+    → exception_reference held.exceptions line ≡ None → IsFresh (becomes today held lines line)
+fresh today held lines line opened unnamed =
+    let last = cond (is_doubled held lines line) outcome.Doubled (fill today held lines line) in
+    let is : becomes today held lines line ≡ cond (is_in_book held lines line) outcome.InBook last =
+    becomes-is today held lines line ∙ cond-false (not (is_open line)) _ _ (ap not opened)
+    ∙ ap (λ o. cond (is_in_book held lines line) outcome.InBook (unless_exception o last)) unnamed in
+    subst IsFresh (sym is)
+    (either (is_in_book held lines line) outcome.InBook last tt
+    (either (is_doubled held lines line) outcome.Doubled (fill today held lines line) tt
+    (fill_fresh today held lines line)))
+
+the_one : (y x : Line) → Contains (y ∷ []) x → y ≡ x
+the_one y x (zero, lt, is) = is
+the_one y x (suc k, lt, is) = absurd (omega arith)
+
+none_there : (x : Line) → Contains [] x → ⊥
+none_there x (k, lt, is) = omega arith
+
+of_fresh : (line x : Line) (o : Outcome) → IsFresh o → Contains (written_as line o) x
+    → (r : List ℕ) × (o ≡ outcome.Filled r) × (with_reference r line ≡ x)
+of_fresh line x outcome.AsItIs is there = absurd is
+of_fresh line x outcome.InBook is there = absurd (none_there x there)
+of_fresh line x (outcome.Retried r) is there = absurd is
+of_fresh line x outcome.Doubled is there = absurd (none_there x there)
+of_fresh line x (outcome.Filled r) is there = (r, refl, the_one (with_reference r line) x there)
+of_fresh line x outcome.Left is there = absurd (none_there x there)
+
+-- what is written of a line that has no reference, and is no exception under one, is the line as it is filled
+pub written_is_filled : (today : ℕ) (held : Held) (lines : List Line) (line x : Line) → is_open line ≡ true
+    → exception_reference held.exceptions line ≡ None
+    → Contains (written_as line (becomes today held lines line)) x
+    → (r : List ℕ) × (becomes today held lines line ≡ outcome.Filled r) × (with_reference r line ≡ x)
+written_is_filled today held lines line x opened unnamed there =
+    of_fresh line x (becomes today held lines line) (fresh today held lines line opened unnamed) there
+
+-- No record has a reference by itself.
+
+none_pass : {A : Type 0} (p : A → Bool) (xs : List A) → ((x : A) → Contains xs x → p x ≡ false)
+    → list_any p xs ≡ false
+none_pass p [] none = refl
+none_pass p (x ∷ xs) none =
+    or_from (p x) (list_any p xs) (none x (zero, omega arith, refl))
+    (none_pass p xs (λ y there. none y (later x y xs there)))
+
+pub none_claims : (exceptions lines : List Line) (reference : List ℕ)
+    → ((x : Line) → Contains lines x → is_open x ≡ true)
+    → ((x : Line) → Contains lines x → exception_reference exceptions x ≡ None)
+    → bytes_eq [] reference ≡ false → is_claimed exceptions lines reference ≡ false
+none_claims exceptions lines reference opened unnamed some =
+    none_pass (λ x. bytes_eq (claimed_reference exceptions x) reference) lines (λ x there.
+    let none : claimed_reference exceptions x ≡ [] =
+    ap (λ b. cond b (unwrap_or (exception_reference exceptions x) []) x.reference) (opened x there)
+    ∙ ap (λ o. unwrap_or o []) (unnamed x there) in
+    ap (λ (r : List ℕ). bytes_eq r reference) none ∙ some)
+
+-- Where no line of the book is beside it.
+
+none_same : (a : Booking) (bookings : List Booking) → list_any (is_beside a) bookings ≡ false
+    → length (filter (is_same_booking a) bookings) ≡ 0
+none_same a [] e = refl
+none_same a (b ∷ bookings) e =
+    let parts = or_parts (is_beside a b) (list_any (is_beside a) bookings) e in
+    let long = length_filter-cons (is_same_booking a) b bookings in
+    let off =
+    cond-false {A = ℕ} (is_same_booking a b) 1 0 (and_left (is_beside a b) (int_eq a.amount b.amount) parts.0) in
+    let more = none_same a bookings parts.1 in omega (arith, long, off, more)
+
+none_like : (a : Booking) (bookings : List Booking) → list_any (is_beside a) bookings ≡ false
+    → list_any (is_same_booking a) bookings ≡ false
+none_like a [] e = refl
+none_like a (b ∷ bookings) e =
+    let parts = or_parts (is_beside a b) (list_any (is_beside a) bookings) e in
+    or_from (is_same_booking a b) (list_any (is_same_booking a) bookings)
+    (and_left (is_beside a b) (int_eq a.amount b.amount) parts.0) (none_like a bookings parts.1)
+
+like_itself : (line : Line) → is_open line ≡ true → is_open_like line line ≡ true
+like_itself line opened =
+    let day = eq-eqb line.date line.date refl in
+    let ref = (bytes_eq-Decides line.bank_ref line.bank_ref).1 refl in
+    let amount = (Decides-int_eq line.amount line.amount).1 refl in
+    and_from _ _ opened (and_from _ _ (and_from _ _ day ref) amount)
+
+-- an open line of the statement is not in a book that has none beside it
+not_in_book : (held : Held) (lines : List Line) (line : Line) → Contains lines line → is_open line ≡ true
+    → is_beside_booked held line ≡ false → is_in_book held lines line ≡ false
+unfolding is_in_book
+not_in_book held lines line (k, lt, is) opened apart =
+    let like = is_open_like line in
+    let some = one_passes like lines k line lt (ap like is ∙ like_itself line opened) in
+    let long = length-filter like lines in
+    let none = none_same (booking_of line) held.bookings apart in
+    let short = length-filter (is_same_booking (booking_of line)) held.bookings in
+    let less : count_by (is_same_booking (booking_of line)) held.bookings < count_by like lines =
+    omega (arith, some, long, none, short) in
+    or_from (is_booked held lines line) (is_booked_in_parts held lines line)
+    (lt-leb (count_by like lines) (count_by (is_same_booking (booking_of line)) held.bookings) less)
+    (and_left _ _ (and_right _ (is_beside_booked held line) apart))
+
+not_doubled : (held new : Held) (lines : List Line) (line : Line) → is_beside_booked held line ≡ false
+    → is_doubled new lines line ≡ false → is_doubled held lines line ≡ false
+unfolding is_doubled
+not_doubled held new lines line apart single =
+    or_from _ _ (or_parts (nat_lt 1 (count_by (is_open_like line) lines)) _ single).0
+    (none_like (booking_of line) held.bookings apart)
+
+-- Another book.
+
+find_kept : {A : Type 0} (p : A → Bool) (xs : List A) → find p xs ≡ find p (filter p xs)
+find_kept p [] = refl
+find_kept {A} p (x ∷ xs) = by (p x) refl (find_kept p xs)
+  where
+    by : (b : Bool) → p x ≡ b → find p xs ≡ find p (filter p xs)
+        → cond b (Some x) (find p xs) ≡ find p (cond b (x ∷ filter p xs) (filter p xs))
+    by true hit more = sym (cond-true {A = Option A} (p x) (Some x) (find p (filter p xs)) hit)
+    by false miss more = more
+
+-- a line that is sure of an entry over one book is so over another, where what it fits waits in the order of the one,
+-- no line of that book is beside it, it is no exception, and no record has the entry's reference
+pub sure_before : (today : ℕ) (held new : Held) (lines : List Line) (line : Line) (w : Waiting) → Contains lines line
+    → filter (fits today line) new.waiting ≡ filter (fits today line) held.waiting
+    → is_beside_booked held line ≡ false → exception_reference held.exceptions line ≡ None
+    → is_claimed held.exceptions lines w.reference ≡ false → IsSure today new lines line w
+    → IsSure today held lines line w
+sure_before today held new lines line w there same apart unnamed unclaimed sure =
+    let p = fits today line in
+    record {
+      nameless = sure.nameless;
+      new = not_in_book held lines line there sure.nameless apart;
+      unnamed = unnamed;
+      single = not_doubled held new lines line apart sure.single;
+      apart = apart;
+      fits_one = sym (length-filter p held.waiting) ∙ ap length (sym same) ∙ length-filter p new.waiting
+          ∙ sure.fits_one;
+      fits_it = find_kept p held.waiting ∙ ap (find p) (sym same) ∙ sym (find_kept p new.waiting) ∙ sure.fits_it;
+      fitted_once = sure.fitted_once;
+      unclaimed = unclaimed;
+    }

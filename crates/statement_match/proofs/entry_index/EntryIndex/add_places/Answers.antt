@@ -1,0 +1,16 @@
+use Rattle.std.proofs.Common.{◌≡◌, ◌∙◌, ap, subst, ◌==◌, ◌++◌, ℕ, List, map}
+use Rattle.std.specs.Prelude.{OnOk}
+use Rattle.std.specs.List.{filter}
+use Rattle.statement_match.specs.Lookups.{elements}
+use Rattle.statement_match.specs.Marks.{mark_of, marks_from}
+use Rattle.statement_match.specs.declared.book_entry.BookEntry.{BookEntry}
+use Rattle.statement_match.proofs.entry_index.EntryIndex.add_places.Goals as goal
+
+pub returns : goal.returns
+returns c =
+    let mark = c.args.mark in
+    let found : elements c.at.result.now ≡ filter (λ m. mark_of m == mark) (marks_from 0 c.args.self.now) =
+    ap elements c.at.ensures ∙ c.self.invariant.marks_found mark
+    ∙ ap (λ (es : List BookEntry). filter (λ m. mark_of m == mark) (marks_from 0 es)) c.self.view_is in
+    subst (λ (ms : List (ℕ × ℕ)). OnOk c.add_found.result
+    (c.add_found.new.places.items ≡ c.args.places.now.items ++ map (λ m. m.1) ms)) found c.add_found.ensures

@@ -1,0 +1,6 @@
+use Rattle.std.proofs.Common.{rules}
+use Rattle.statement_match.specs.Keys.{reference_key}
+use Rattle.statement_match.proofs.entry_index.by_reference.Goals as goal
+
+pub returns : goal.returns
+returns c = c.of.ensures reference_key (λ x r k. search rules)

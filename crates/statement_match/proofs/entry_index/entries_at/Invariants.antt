@@ -1,0 +1,9 @@
+use Rattle.std.proofs.Common.{◌≡◌, take, flat_map}
+use Rattle.std.specs.Prelude.{option_to_list, slice_get}
+use Rattle.statement_match.specs.Lookups.{elements}
+use Rattle.statement_match.proofs.entry_index.entries_at.Given as goal
+
+abbrev pub invariant-loop-place : goal.invariant-loop-place
+invariant-loop-place l =
+    elements l.found.items
+    ≡ flat_map (λ place. option_to_list (slice_get l.fn.entries place)) (take l.place-index l.places)

@@ -1,0 +1,41 @@
+use Rattle.std.proofs.Common.{◌≡◌, ◌∙◌, ap, subst}
+use Rattle.std.specs.List.{filter}
+use Rattle.statement_match.specs.Grounds.{LineGrounds}
+use Rattle.statement_match.specs.Lookups.{elements}
+use Rattle.statement_match.specs.Marks.{is_shown}
+use Rattle.statement_match.specs.Relations.{stands}
+use Rattle.statement_match.proofs.Candidates.{amount_kept, named_kept, shown_kept}
+use Rattle.statement_match.proofs.grounds.LineGrounds.candidates.Goals as goal
+
+pub returns-in-Fitted : goal.returns-in-Fitted
+returns-in-Fitted c = λ today.
+    let inside = c.self.inside in
+    let found = elements inside.of_amount.now in
+    let r = c.args.relation in
+    subst (λ (g : LineGrounds). filter (stands r today g.line) found ≡ filter (stands r today g.line) g.known.entries)
+    c.self.view_is
+    (amount_kept r today inside.line.now inside.grounds.now.known.entries inside.of_amount.now c.in-Fitted.is
+    c.self.invariant.amount_found)
+
+pub returns-in-OfAnotherAmount : goal.returns-in-OfAnotherAmount
+returns-in-OfAnotherAmount c = λ today.
+    let inside = c.self.inside in
+    let line = inside.line.now in
+    let found = c.deref.result.now in
+    let entries = inside.grounds.now.known.entries in
+    let r = c.args.relation in
+    let shown : filter (is_shown line) (elements found) ≡ filter (is_shown line) entries =
+    ap (λ es. filter (is_shown line) (elements es)) c.deref.ensures.value ∙ c.self.invariant.shown_found in
+    subst (λ (g : LineGrounds).
+    filter (stands r today g.line) (elements found) ≡ filter (stands r today g.line) g.known.entries)
+    c.self.view_is (shown_kept r today line entries found c.in-OfAnotherAmount.is shown)
+
+pub returns-in-Named : goal.returns-in-Named
+returns-in-Named c = λ today.
+    let inside = c.self.inside in
+    let found = elements inside.named.now in
+    let r = c.args.relation in
+    subst (λ (g : LineGrounds). filter (stands r today g.line) found ≡ filter (stands r today g.line) g.known.entries)
+    c.self.view_is
+    (named_kept r today inside.line.now inside.grounds.now.known.entries inside.named.now c.in-Named.is
+    c.self.invariant.named_found)

@@ -1,0 +1,6 @@
+use Rattle.std.proofs.Common.{rules}
+use Rattle.statement_match.specs.Grounds.{numbered_key}
+use Rattle.statement_match.proofs.grounds.by_amount.Goals as goal
+
+pub returns : goal.returns
+returns c = c.of.ensures numbered_key (λ x r k. search rules)

@@ -1,0 +1,29 @@
+use Rattle.std.proofs.Common.{◌≡◌, ◌∙◌, ap, fold}
+use Rattle.firm_rows.specs.Firm.{Firm}
+use Rattle.statement_match.specs.Known.{Known}
+use Rattle.statement_match.specs.Entries.{know_exception, know_own_line, know_row, none_known}
+use Rattle.statement_match.proofs.AllKnown.{all_known}
+use Rattle.statement_match.proofs.knowing.known_in.Goals as goal
+
+pub returns-clause-known : goal.returns-clause-known
+returns-clause-known g c =
+    λ clean stands.
+    let firm : Firm = g.B.Book.firm c.args.book.now in
+    let rows = c.in_ok-each_row.ensures in
+    let own = c.in_ok-each_firm_line.ensures in
+    let last = c.in_ok-each_exception.ensures in
+    let clean_own = last.read.was_clean clean in
+    let clean_rows = own.read.was_clean clean_own in
+    let stands_rows = rows.read.still_stands clean_rows stands in
+    let stands_own = own.read.still_stands clean_own stands_rows in
+    let same_rows = rows.read.same clean_rows stands in
+    let same_own = own.read.same clean_own stands_rows ∙ same_rows in
+    let first : c.each_row.new.sink ≡ fold know_row none_known firm.rows =
+    (rows.handed clean_rows stands).all ∙ ap (λ (h : Known). fold know_row h firm.rows) c.new-collector.ensures in
+    let second : c.each_firm_line.new.sink ≡ fold know_own_line c.each_row.new.sink firm.firm_lines =
+    (own.handed clean_own stands_rows).all
+    ∙ ap (λ (f : Firm). fold know_own_line c.each_row.new.sink f.firm_lines) same_rows in
+    let third : c.each_exception.new.sink ≡ fold know_exception c.each_firm_line.new.sink firm.exceptions =
+    (last.handed clean stands_own).all
+    ∙ ap (λ (f : Firm). fold know_exception c.each_firm_line.new.sink f.exceptions) same_own in
+    c.finish.ensures ∙ all_known firm _ _ _ first second third

@@ -1,0 +1,16 @@
+use Rattle.std.proofs.Common.{sym, ◌≤◌, length, arith}
+use Rattle.std.proofs.lemmas.Grind.{common_steps}
+use Rattle.statement_match.specs.Relations.{stands}
+use Rattle.statement_match.specs.ReasonTexts.{related_entry_text, text_if}
+use Rattle.statement_match.proofs.Listed.{has_no_room}
+use Rattle.statement_match.proofs.reason_text.add_related.Goals as goal
+
+pub returns-then-len-ge-MOST_TOLD : goal.returns-then-len-ge-MOST_TOLD
+returns-then-len-ge-MOST_TOLD c =
+    let texts = c.args.texts.now.items in
+    let within : 5 ≤ length texts = first_of (omega arith, grind (arith, common_steps)) in
+    let short : length texts ≤ 5 = first_of (omega arith, grind (arith, common_steps)) in
+    sym
+    (has_no_room 5 texts
+    (text_if (stands c.args.relation c.args.today c.args.line.now c.args.entry.now)
+    (related_entry_text c.args.relation c.args.entry.now)) within short)

@@ -1,0 +1,6 @@
+use Rattle.std.proofs.Common.{◌≡◌, ◌++◌, take, flat_map}
+use Rattle.statement_match.specs.ReasonTexts.{behind_semicolon}
+use Rattle.statement_match.proofs.reason_text.push_all_behind_semicolons.Given as goal
+
+abbrev pub invariant-loop-text : goal.invariant-loop-text
+invariant-loop-text l = l.out.items ≡ l.fn.out.items ++ flat_map behind_semicolon (take l.text-index l.texts)

@@ -1,0 +1,34 @@
+use Rattle.std.proofs.Common.{◌≡◌, ◌∙◌, sym, ap, ◌<◌, ◌++◌, List, ℕ, length, get_or, take, arith}
+use Rattle.std.proofs.lemmas.List.{get_or-map, length-map, length-take}
+use Rattle.statement_match.specs.declared.book_entry.BookEntry.{BookEntry}
+use Rattle.statement_match.specs.Lookups.{elements}
+use Rattle.statement_match.specs.Relations.{stands}
+use Rattle.statement_match.specs.ReasonTexts.{related_entry_text, text_if}
+use Rattle.statement_match.proofs.Listed.{listed_more}
+use Rattle.statement_match.proofs.reason_text.related_texts.Goals as goal
+
+pub loop-entry-preserved : goal.loop-entry-preserved
+loop-entry-preserved c =
+    let found = c.args.found.now in
+    let entries = elements found in
+    let i = c.loop-entry.entry-index in
+    let pair = c.entry-item.result in
+    let entry = pair.1.now in
+    let inside : i < length found = omega arith in
+    let within : i < length entries = omega (arith, inside, length-map found (λ e. e.1.now)) in
+    let is : entry ≡ get_or entries i entry =
+    ap (λ e. e.1.now) c.entry-item.is ∙ sym (get_or-map (λ e. e.1.now) found i pair entry inside) in
+    let f = related_entry_text c.args.relation in
+    let p = stands c.args.relation c.args.today c.args.line.now in
+    let before = c.loop-entry.texts.items in
+    let told = c.in_ok-add_related.ensures in
+    let many = ap length told in
+    let few = length-take 5 (before ++ text_if (p entry) (f entry)) in
+    record {
+      first = told
+          ∙ ap (λ (e : BookEntry). take 5 (before ++ text_if (p e) (f e))) is
+          ∙ ap (λ (ts : List (List ℕ)). take 5 (ts ++ text_if (p (get_or entries i entry)) (f (get_or entries i entry))))
+          c.loop-entry.invariant.first
+          ∙ listed_more f p 5 entries i entry within;
+      few = omega (arith, many, few);
+    }

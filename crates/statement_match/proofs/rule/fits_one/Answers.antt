@@ -1,0 +1,16 @@
+use Rattle.std.proofs.Common.{◌∙◌, ap, ◌==◌}
+use Rattle.std.specs.List.{filter}
+use Rattle.statement_match.specs.Keys.{amount_key, waiting_key}
+use Rattle.statement_match.specs.Showing.{fits}
+use Rattle.statement_match.proofs.Alike.{fits_narrows}
+use Rattle.statement_match.proofs.Found.{counted}
+use Rattle.statement_match.proofs.rule.fits_one.Goals as goal
+
+pub returns : goal.returns
+returns c =
+    let line = c.args.line.now in
+    let today = c.args.today in
+    c.fits_one_among.ensures
+    ∙ ap (λ n. n == 1)
+    (counted (fits today line) (λ x. waiting_key x == amount_key line) (fits_narrows today line) c.waiting_of.result.now c.args.index.now.held.waiting
+    (c.waiting_of.ensures ∙ ap (λ w. filter (λ x. waiting_key x == amount_key w) c.args.index.now.held.waiting) c.line.ensures))

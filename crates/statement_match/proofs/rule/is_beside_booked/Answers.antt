@@ -1,0 +1,13 @@
+use Rattle.std.proofs.Common.{◌∙◌, ◌==◌}
+use Rattle.statement_match.specs.Bookings.{booking_of, is_beside}
+use Rattle.statement_match.specs.Keys.{booking_key, line_key}
+use Rattle.statement_match.proofs.Alike.{beside_narrows}
+use Rattle.statement_match.proofs.Found.{any_found}
+use Rattle.statement_match.proofs.rule.is_beside_booked.Goals as goal
+
+pub returns : goal.returns
+returns c =
+    let line = c.args.line.now in
+    c.is_beside_among.ensures
+    ∙ any_found (is_beside (booking_of line)) (λ x. booking_key x == line_key line) (beside_narrows line) c.bookings_of.result.now c.args.index.now.held.bookings
+    (c.bookings_of.ensures)

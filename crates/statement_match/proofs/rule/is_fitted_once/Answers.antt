@@ -1,0 +1,15 @@
+use Rattle.std.proofs.Common.{◌∙◌, ap, ◌==◌}
+use Rattle.statement_match.specs.Keys.{amount_key, waiting_key}
+use Rattle.statement_match.specs.Rule.{is_open_fit}
+use Rattle.statement_match.proofs.Alike.{open_fit_narrows}
+use Rattle.statement_match.proofs.Found.{counted}
+use Rattle.statement_match.proofs.rule.is_fitted_once.Goals as goal
+
+pub returns : goal.returns
+returns c =
+    let w = c.args.entry.now in
+    let today = c.args.today in
+    c.is_fitted_once_among.ensures
+    ∙ ap (λ n. n == 1)
+    (counted (is_open_fit today w) (λ x. amount_key x == waiting_key w) (open_fit_narrows today w) c.lines_of_amount.result.now c.args.index.now.lines
+    (c.lines_of_amount.ensures))

@@ -1,0 +1,15 @@
+use Rattle.std.proofs.Common.{◌∙◌, ap, ◌==◌}
+use Rattle.std.specs.List.{filter}
+use Rattle.statement_match.specs.Bookings.{booking_of, is_beside}
+use Rattle.statement_match.specs.Keys.{line_key}
+use Rattle.statement_match.proofs.Alike.{line_beside_narrows}
+use Rattle.statement_match.proofs.Found.{counted}
+use Rattle.statement_match.proofs.rule.is_single.Goals as goal
+
+pub returns : goal.returns
+returns c =
+    let line = c.args.line.now in
+    c.is_single_among.ensures
+    ∙ ap (λ n. n == 1)
+    (counted (λ y. is_beside (booking_of line) (booking_of y)) (λ x. line_key x == line_key line) (line_beside_narrows line) c.lines_of.result.now c.args.index.now.lines
+    (c.lines_of.ensures ∙ ap (λ w. filter (λ x. line_key x == line_key w) c.args.index.now.lines) c.line.ensures))

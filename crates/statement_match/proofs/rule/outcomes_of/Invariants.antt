@@ -1,6 +1,0 @@
-use Rattle.std.proofs.Common.{◌≡◌, take, map}
-use Rattle.statement_match.specs.Rule.{becomes}
-use Rattle.statement_match.proofs.rule.outcomes_of.Given as goal
-
-abbrev pub invariant-loop-line : goal.invariant-loop-line
-invariant-loop-line l = l.found.items ≡ map (becomes l.today l.held l.lines) (take l.line-index l.lines)

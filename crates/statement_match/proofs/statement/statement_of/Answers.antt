@@ -1,0 +1,25 @@
+use Rattle.std.proofs.Common.{◌≡◌, ◌∙◌, ap, map, [], ◌∷◌, Some}
+use Rattle.statement_csv.specs.Headers.{header}
+use Rattle.statement_match.specs.Records.{Records, lines_from, numbers_from, records_of, rows_of}
+use Rattle.statement_match.specs.Rule.{becomes, outcomes}
+use Rattle.statement_match.specs.Statements.{rows_by, statement_text, text_of}
+use Rattle.statement_match.proofs.RowsWritten.{adds-more}
+use Rattle.statement_match.proofs.statement.statement_of.Goals as goal
+
+pub returns : goal.returns
+unfolding statement_text records_of
+returns c =
+    let rows = rows_of c.args.statement.now in
+    let outcome_of = becomes c.args.today c.args.held.now (lines_from 1 rows) in
+    let same = c.records.view_is ∙ c.requires in
+    let lines : c.deref.result.now ≡ lines_from 1 rows =
+    c.deref.ensures.value ∙ ap (λ (r : Records). r.lines) same in
+    let numbers : c.deref-2.result.now ≡ numbers_from 1 rows =
+    c.deref-2.ensures.value ∙ ap (λ (r : Records). r.numbers) same in
+    let found : c.deref-3.result.now ≡ map outcome_of (lines_from 1 rows) =
+    c.deref-3.ensures.value ∙ c.in_ok-outcomes.ensures ∙ ap (outcomes c.args.today c.args.held.now) lines in
+    let both =
+    adds-more (λ bytes. Some bytes.items) c.new_writer-writer.result c.write_header.new.writer c.write_rows.new.writer
+    (header ∷ []) (rows_by outcome_of 1 rows) c.in_ok-write_header.ensures
+    (c.in_ok-write_rows.ensures outcome_of numbers found) in
+    c.text_in.ensures (text_of (header ∷ rows_by outcome_of 1 rows)) (both [] c.new_writer-writer.ensures)

@@ -1,0 +1,8 @@
+use Rattle.std.proofs.Common.{◌≡◌, ◌++◌, ◌-◌}
+use Rattle.statement_match.specs.Unmatched.{told_unreadable}
+use Rattle.statement_match.proofs.unmatched.add_unreadable.Given as goal
+
+abbrev pub invariant-loop-number : goal.invariant-loop-number
+invariant-loop-number l =
+    l.fn.lines.items ++ told_unreadable l.before (l.last - l.before)
+    ≡ l.lines.items ++ told_unreadable l.number (l.last - l.number)

@@ -1,0 +1,26 @@
+use Rattle.std.proofs.Common.{◌∙◌, ap, ◌<◌, ◌-◌, ◌++◌, length, arith}
+use Rattle.std.proofs.lemmas.Grind.{common_steps}
+use Rattle.statement_match.specs.Records.{Records}
+use Rattle.statement_match.specs.Reasons.{reason_for}
+use Rattle.statement_match.specs.Unmatched.{told_by, told_unreadable}
+use Rattle.statement_match.proofs.Telling.{told_step}
+use Rattle.statement_match.proofs.unmatched.lines_told.Goals as goal
+
+pub loop-place-preserved : goal.loop-place-preserved
+loop-place-preserved c =
+    let today = c.args.today in
+    let known = c.args.grounds.now.known in
+    let number = c.number_of-number.result in
+    let line = c.line_at-line.result.now in
+    let outcome = c.index-outcomes-place.result in
+    let before = c.loop-place.before in
+    let lines = c.loop-place.lines.items in
+    let all = c.line_count-count.ensures in
+    let within : c.loop-place.place < length c.args.records.now.lines =
+    first_of (omega (arith, all), grind (arith, common_steps, all)) in
+    c.loop-place.invariant
+    ∙ told_step today known c.args.records.now c.args.outcomes.now before c.loop-place.place number line outcome lines _
+    within c.requires.outcomes c.number_of-number.ensures c.line_at-line.ensures c.index-outcomes-place.is
+    (c.in_ok-add_record.ensures
+    ∙ ap (λ (records : Records). (lines ++ told_unreadable before (number - 1 - before))
+    ++ told_by today known records number line (reason_for today known records.lines line outcome)) c.requires.same)

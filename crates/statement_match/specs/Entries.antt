@@ -1,0 +1,89 @@
+-- The deposits and the payments of a firm's rows, in whatever state.
+use Rattle.std.specs.Prelude.{ℕ, List, [], ◌∷◌, ◌++◌}
+use Rattle.std.specs.List.{flat_map}
+use Rattle.trust_base.specs.declared.line.Line.{Line}
+use Rattle.matter_rows.specs.declared.deposit.Deposit.{Deposit}
+use Rattle.matter_rows.specs.declared.deposit.DepositState.{DepositState}
+use Rattle.matter_rows.specs.declared.deposit.DepositState.TheVariants as deposit
+use Rattle.matter_rows.specs.declared.payment.Payment.{Payment}
+use Rattle.matter_rows.specs.declared.payment.PaymentState.{PaymentState}
+use Rattle.matter_rows.specs.declared.payment.PaymentState.TheVariants as payment
+use Rattle.matter_rows.specs.declared.entry.Entry.{Entry}
+use Rattle.matter_rows.specs.declared.entry.Entry.TheVariants as entry
+use Rattle.firm_rows.specs.declared.ledger.FirmLine.{FirmLine}
+use Rattle.firm_rows.specs.Firm.{EntryRow, Firm, HeadRow, Row, SeatRow}
+use Rattle.statement_csv.specs.References.{reference_text}
+use Rattle.statement_match.specs.Waiting.{Waiting, waiting_deposit, waiting_payment}
+use Rattle.statement_match.specs.Books.{held_of, none_held, with_exception, with_own_line, with_row}
+use Rattle.statement_match.specs.Known.{Known}
+use Rattle.statement_match.specs.declared.book_entry.BookEntry.{BookEntry}
+use Rattle.statement_match.specs.declared.book_entry.EntryState.{EntryState}
+use Rattle.statement_match.specs.declared.book_entry.EntryState.TheVariants as state
+
+-- An entry, as lines are compared with it, with its state, the day of that, the bank's reference of the line that told
+-- of it, and its source or payee.
+
+abbrev pub book_entry : Waiting → EntryState → ℕ → List ℕ → List ℕ → BookEntry
+book_entry w s day bank_ref party = record { entry = w; state = s; day = day; bank_ref = bank_ref; party = party }
+
+abbrev pub deposit_in : Waiting → Deposit → DepositState → BookEntry
+deposit_in w d deposit.Held = book_entry w state.Held d.book [] d.source
+deposit_in w d (deposit.Cleared c) = book_entry w state.Cleared c.bank_day c.bank_ref d.source
+deposit_in w d (deposit.Cancelled day) = book_entry w state.Cancelled day [] d.source
+deposit_in w d (deposit.Returned r) =
+    book_entry w state.Returned r.returning.bank_day r.returning.bank_ref d.source
+
+-- the day since which a payment waits or has waited; one that was never issued, since it was booked
+abbrev pub since_of : Payment → PaymentState → ℕ
+since_of p payment.Proposed = p.book
+since_of p payment.Declined = p.book
+since_of p (payment.Issued day) = day
+since_of p (payment.Cleared c) = c.issued
+since_of p (payment.Voided v) = v.issued
+
+-- a declined payment has no other day than that on which it was booked
+abbrev pub payment_in : Waiting → Payment → PaymentState → BookEntry
+payment_in w p payment.Proposed = book_entry w state.Proposed p.book [] p.payee
+payment_in w p payment.Declined = book_entry w state.Declined p.book [] p.payee
+payment_in w p (payment.Issued day) = book_entry w state.Issued day [] p.payee
+payment_in w p (payment.Cleared c) =
+    book_entry w state.Cleared c.clearing.bank_day c.clearing.bank_ref p.payee
+payment_in w p (payment.Voided v) = book_entry w state.Voided v.undone [] p.payee
+
+abbrev pub told_deposit : ℕ → ℕ → Deposit → BookEntry
+told_deposit m n d = deposit_in (waiting_deposit (reference_text m n) d.amount d.source d.description) d d.state
+
+abbrev pub told_payment : ℕ → ℕ → Payment → BookEntry
+told_payment m n p =
+    payment_in (waiting_payment (reference_text m n) p.amount (since_of p p.state) p.instrument) p p.state
+
+abbrev pub told_entries : ℕ → ℕ → Entry → List BookEntry
+told_entries m n (entry.Deposit d) = told_deposit m n d ∷ []
+told_entries m n (entry.Payment p) = told_payment m n p ∷ []
+told_entries m n (entry.Fee f) = []
+told_entries m n (entry.Claim c) = []
+
+-- the deposit or payment of a row of a matter
+abbrev pub row_entries : ℕ × Row → List BookEntry
+row_entries (m, HeadRow head) = []
+row_entries (m, SeatRow seat) = []
+row_entries (m, EntryRow n e) = told_entries m n e
+
+-- What is known of a firm.
+
+unfoldable pub known_of : Firm → Known
+known_of firm = record { held = held_of firm; entries = flat_map row_entries firm.rows }
+
+-- What is known of rows that are handed over one at a time.
+
+abbrev pub none_known : Known
+none_known = record { held = none_held; entries = [] }
+
+abbrev pub know_row : Known → ℕ × Row → Known
+know_row known row = record { held = with_row known.held row; entries = known.entries ++ row_entries row }
+
+abbrev pub know_own_line : Known → FirmLine → Known
+know_own_line known l = record { held = with_own_line known.held l; entries = known.entries }
+
+abbrev pub know_exception : Known → Line → Known
+know_exception known line = record { held = with_exception known.held line; entries = known.entries }

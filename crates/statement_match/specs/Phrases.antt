@@ -1,0 +1,22 @@
+-- What is said of records that have to be looked at, in words that are the same of all.
+use Rattle.std.specs.Prelude.{ℕ, List, codes}
+use Rattle.statement_match.specs.declared.phrase.Phrase.{Phrase}
+use Rattle.statement_match.specs.declared.phrase.Phrase.TheVariants as phrase
+
+unfoldable pub phrase_text : Phrase → List ℕ
+phrase_text phrase.DatedAfter = codes "dated after "
+phrase_text phrase.Doubled = codes " records have this day, bank reference and amount"
+phrase_text phrase.BookHas = codes "; the book has "
+phrase_text phrase.BesideBooked = codes "the book has a line of its day and bank reference"
+phrase_text phrase.FitsSeveral = codes " entries have its amount and number: "
+phrase_text phrase.Shows = codes "it shows "
+phrase_text phrase.AnotherNames = codes ", which another record names"
+phrase_text phrase.Records = codes "records "
+phrase_text phrase.Show = codes " show "
+phrase_text phrase.OtherBusiness = codes "its words tell of a charge, a return or a correction"
+phrase_text phrase.MayBeReturn = codes "; it may be a return of "
+phrase_text phrase.NoneOfItsAmount = codes "no entry of its amount"
+phrase_text phrase.ExceptionUnder = codes "it is an exception under "
+phrase_text phrase.WrittenUnder = codes " references, and is written under "
+phrase_text phrase.AndFits = codes ", and fits: "
+phrase_text phrase.NamesNone = codes "the book has no deposit or payment of its reference"

@@ -1,0 +1,217 @@
+-- What is told of why records of a statement have to be looked at.
+use Rattle.std.specs.Prelude.{ℕ, Bool, cond, ◌+◌, ◌-◌, nat_lt, List, [], ◌∷◌, ◌++◌, codes, length, map, take, flat_map, slice_index, Option, Some, None, find, if◌then◌else◌}
+use Rattle.std.specs.List.{count_by}
+use Rattle.std.specs.Fmt.{decimal}
+use Rattle.trust_base.specs.Texts.{day_text, signed_text}
+use Rattle.trust_base.specs.declared.line.Line.{Line}
+use Rattle.statement_match.specs.Bookings.{booking_of, is_same_booking}
+use Rattle.statement_match.specs.Waiting.{Waiting}
+use Rattle.statement_match.specs.Rule.{is_named_like, is_open_fit, is_open_like}
+use Rattle.statement_match.specs.Records.{Records}
+use Rattle.statement_match.specs.Known.{Known}
+use Rattle.statement_match.specs.Relations.{count_related, fitted, is_related, related}
+use Rattle.statement_match.specs.Phrases.{phrase_text}
+use Rattle.statement_match.specs.declared.book_entry.BookEntry.{BookEntry}
+use Rattle.statement_match.specs.declared.book_entry.EntryState.{EntryState}
+use Rattle.statement_match.specs.declared.book_entry.EntryState.TheVariants as state
+use Rattle.statement_match.specs.declared.phrase.Phrase.TheVariants as phrase
+use Rattle.statement_match.specs.declared.reason.Reason.{Reason}
+use Rattle.statement_match.specs.declared.reason.Reason.TheVariants as reason
+use Rattle.statement_match.specs.declared.relation.Relation.{Relation}
+use Rattle.statement_match.specs.declared.relation.Relation.TheVariants as relation
+
+-- How many are told of more.
+abbrev pub most_told : ℕ
+most_told = 5
+
+-- a field behind another
+abbrev pub further : List ℕ → List ℕ
+further field = 32 ∷ field
+
+-- An entry.
+
+abbrev pub state_word : EntryState → List ℕ
+state_word state.Held = codes "held"
+state_word state.Cancelled = codes "cancelled"
+state_word state.Returned = codes "returned"
+state_word state.Proposed = codes "proposed"
+state_word state.Declined = codes "declined"
+state_word state.Issued = codes "issued"
+state_word state.Voided = codes "voided"
+state_word state.Cleared = codes "cleared"
+
+-- a field that may be empty, and then is not there
+abbrev pub further_if_any : List ℕ → List ℕ
+further_if_any [] = []
+further_if_any (b ∷ bs) = further (b ∷ bs)
+
+-- its reference, its state, the day of that, the bank's reference if there is one, and the source or payee
+unfoldable pub entry_text : BookEntry → List ℕ
+entry_text e =
+    e.entry.reference
+    ++ (further (state_word e.state)
+    ++ (further (day_text e.day)
+    ++ (further_if_any e.bank_ref
+    ++ further e.party)))
+
+-- the amount of the line that clears it, where the line has another
+abbrev pub amount_part : Relation → BookEntry → List ℕ
+amount_part relation.Fitted e = []
+amount_part relation.NotWaiting e = []
+amount_part relation.IssuedAfter e = []
+amount_part relation.OfAnotherAmount e = further (signed_text e.entry.amount)
+amount_part relation.OfItsAmount e = []
+amount_part relation.MaybeReturned e = []
+amount_part relation.Named e = []
+amount_part relation.NamedOfAnotherAmount e = further (signed_text e.entry.amount)
+
+abbrev pub related_entry_text : Relation → BookEntry → List ℕ
+related_entry_text r e = entry_text e ++ amount_part r e
+
+-- Several entries: five at most.
+
+abbrev pub behind_semicolon : List ℕ → List ℕ
+behind_semicolon text = codes "; " ++ text
+
+abbrev pub parted_by_semicolons : List (List ℕ) → List ℕ
+parted_by_semicolons [] = []
+parted_by_semicolons (text ∷ texts) = text ++ flat_map behind_semicolon texts
+
+-- how many of so many are not told
+abbrev pub more_text : ℕ → List ℕ
+more_text n = if nat_lt most_told n then codes "; and " ++ (decimal (n - most_told) ++ codes " more") else []
+
+-- the text where the test holds
+abbrev pub text_if : Bool → List ℕ → List (List ℕ)
+text_if b text = cond b (text ∷ []) []
+
+-- the texts of the first entries that stand so to a line
+abbrev pub related_texts : Relation → ℕ → Known → Line → List (List ℕ)
+related_texts r today known line = take most_told (map (related_entry_text r) (related r today known line))
+
+-- the entries that stand so to a line
+unfoldable pub related_text : Relation → ℕ → Known → Line → List ℕ
+related_text r today known line =
+    parted_by_semicolons (related_texts r today known line) ++ more_text (count_related r today known line)
+
+-- Several records: five at most.
+
+-- the numbers of those of the lines that are open and fit an entry; the first line has this place
+unfoldable pub fit_numbers : ℕ → Waiting → List ℕ → ℕ → List Line → List ℕ
+fit_numbers today w numbers place [] = []
+fit_numbers today w numbers place (line ∷ lines) =
+    if is_open_fit today w line
+    then slice_index numbers place ∷ fit_numbers today w numbers (place + 1) lines
+    else fit_numbers today w numbers (place + 1) lines
+
+abbrev pub behind_comma : ℕ → List ℕ
+behind_comma n = codes ", " ++ decimal n
+
+abbrev pub parted_by_commas : List ℕ → List ℕ
+parted_by_commas [] = []
+parted_by_commas (n ∷ ns) = decimal n ++ flat_map behind_comma ns
+
+-- how many numbers stand before the last `and`
+abbrev pub front_count : List ℕ → ℕ
+front_count ns = if nat_lt most_told (length ns) then most_told else length ns - 1
+
+-- the last of the numbers, or how many are not told
+abbrev pub last_text : List ℕ → List ℕ
+last_text ns =
+    if nat_lt most_told (length ns)
+    then decimal (length ns - most_told) ++ codes " more"
+    else decimal (slice_index ns (length ns - 1))
+
+-- two numbers or more
+unfoldable pub numbers_text : List ℕ → List ℕ
+numbers_text ns = parted_by_commas (take (front_count ns) ns) ++ (codes " and " ++ last_text ns)
+
+-- The reasons.
+
+-- what is said of entries that stand so to a line
+abbrev pub words_of : Relation → List ℕ
+words_of relation.Fitted = codes "it fits: "
+words_of relation.NotWaiting = codes "the entry that it shows is not waiting for the bank: "
+words_of relation.IssuedAfter = codes "it shows an entry that was issued after it: "
+words_of relation.OfAnotherAmount = codes "it shows an entry of another amount: "
+words_of relation.OfItsAmount = codes "nothing in its words tells which entry; of its amount: "
+words_of relation.MaybeReturned = codes "no payment of its amount; it may be a return of "
+words_of relation.Named = codes "its reference is that of an entry: "
+words_of relation.NamedOfAnotherAmount = codes "its reference is that of an entry of another amount: "
+
+-- how many lines of the book are like it, if some are
+abbrev pub booked_part : ℕ → List ℕ
+booked_part n = if nat_lt 0 n then phrase_text phrase.BookHas ++ decimal n else []
+
+-- the deposits that it may take back, if there are some
+abbrev pub return_part : ℕ → Known → Line → List ℕ
+return_part today known line =
+    if is_related relation.MaybeReturned today known line
+    then phrase_text phrase.MayBeReturn ++ related_text relation.MaybeReturned today known line
+    else []
+
+-- the reference of the entry that it fits
+abbrev pub fitted_part : Option BookEntry → List ℕ
+fitted_part None = []
+fitted_part (Some e) = e.entry.reference
+
+-- the records that fit the entry
+abbrev pub shared_part : ℕ → Records → Option BookEntry → List ℕ
+shared_part today records None = []
+shared_part today records (Some e) =
+    numbers_text (fit_numbers today e.entry records.numbers 0 records.lines)
+    ++ (phrase_text phrase.Show ++ e.entry.reference)
+
+-- the reference under which it is an exception
+abbrev pub exception_part : Option Line → List ℕ
+exception_part None = []
+exception_part (Some x) = x.reference
+
+abbrev pub doubled_text : Known → Records → Line → List ℕ
+doubled_text known records line =
+    decimal (count_by (is_open_like line) records.lines)
+    ++ (phrase_text phrase.Doubled
+    ++ booked_part (count_by (is_same_booking (booking_of line)) known.held.bookings))
+
+abbrev pub several_text : ℕ → Known → Line → List ℕ
+several_text today known line =
+    decimal (count_related relation.Fitted today known line)
+    ++ (phrase_text phrase.FitsSeveral ++ related_text relation.Fitted today known line)
+
+abbrev pub claimed_text : ℕ → Known → Line → List ℕ
+claimed_text today known line =
+    phrase_text phrase.Shows ++ (fitted_part (fitted today known line) ++ phrase_text phrase.AnotherNames)
+
+-- under how many references it is an exception
+unfoldable pub exceptions_part : List Line → Line → List ℕ
+exceptions_part exceptions line =
+    phrase_text phrase.ExceptionUnder ++ decimal (count_by (is_named_like line) exceptions)
+
+abbrev pub several_exceptions_text : List Line → Line → List ℕ
+several_exceptions_text exceptions line =
+    exceptions_part exceptions line
+    ++ (phrase_text phrase.WrittenUnder ++ exception_part (find (is_named_like line) exceptions))
+
+abbrev pub fits_another_text : ℕ → Known → Line → List ℕ
+fits_another_text today known line =
+    phrase_text phrase.ExceptionUnder
+    ++ (exception_part (find (is_named_like line) known.held.exceptions)
+    ++ (phrase_text phrase.AndFits ++ related_text relation.Fitted today known line))
+
+unfoldable pub reason_text : ℕ → Known → Records → Line → Reason → List ℕ
+reason_text today known records line reason.DatedAfter = phrase_text phrase.DatedAfter ++ day_text today
+reason_text today known records line reason.Doubled = doubled_text known records line
+reason_text today known records line reason.BesideBooked =
+    phrase_text phrase.BesideBooked
+reason_text today known records line reason.FitsSeveral = several_text today known line
+reason_text today known records line reason.Claimed = claimed_text today known line
+reason_text today known records line reason.Shared =
+    phrase_text phrase.Records ++ shared_part today records (fitted today known line)
+reason_text today known records line reason.OtherBusiness =
+    phrase_text phrase.OtherBusiness ++ return_part today known line
+reason_text today known records line (reason.Related r) = words_of r ++ related_text r today known line
+reason_text today known records line reason.NoneOfItsAmount = phrase_text phrase.NoneOfItsAmount
+reason_text today known records line reason.SeveralExceptions = several_exceptions_text known.held.exceptions line
+reason_text today known records line reason.FitsAnother = fits_another_text today known line
+reason_text today known records line reason.NamesNone =
+    phrase_text phrase.NamesNone

@@ -1,0 +1,121 @@
+-- What is told of the records of a statement that a person has to look at.
+use Rattle.std.specs.Prelude.{ℕ, Bool, true, false, ◌+◌, ◌-◌, zero, suc, List, [], ◌∷◌, ◌++◌, codes, length, map, flat_map, slice_index, Option, Some, None, if◌then◌else◌, encode_utf8_all}
+use Rattle.std.specs.List.{count_by}
+use Rattle.std.specs.Char.{is_control}
+use Rattle.std.specs.Fmt.{decimal}
+use Rattle.std.specs.Str.{chars}
+use Rattle.trust_base.specs.Texts.{day_text, signed_text}
+use Rattle.trust_base.specs.declared.line.Line.{Line}
+use Rattle.statement_match.specs.Rule.{becomes, outcomes}
+use Rattle.statement_match.specs.Records.{Records}
+use Rattle.statement_match.specs.Known.{Known}
+use Rattle.statement_match.specs.Reasons.{reason_for}
+use Rattle.statement_match.specs.ReasonTexts.{further, reason_text}
+use Rattle.statement_match.specs.declared.outcome.Outcome.{Outcome}
+use Rattle.statement_match.specs.declared.outcome.Outcome.TheVariants as outcome
+use Rattle.statement_match.specs.declared.reason.Reason.{Reason}
+
+pub record Unmatched : Type 0 where
+  -- a line for each record that has to be looked at, in their order, and the counts in the last
+  pub text : List ℕ
+  -- how many records have to be looked at
+  pub left : ℕ
+
+-- The bank's words: nothing for none, and a space for a control character, U+0000 to U+001F and U+007F to U+009F.
+
+abbrev pub shown : ℕ → ℕ
+shown c = if is_control c then 32 else c
+
+abbrev pub shown_text : List ℕ → List ℕ
+shown_text text = encode_utf8_all (map shown (chars text))
+
+abbrev pub words_part : List ℕ → List ℕ
+words_part [] = []
+words_part (b ∷ bs) = further (shown_text (b ∷ bs))
+
+-- A line for a record.
+
+abbrev pub record_text : ℕ → List ℕ
+record_text number = codes "record " ++ decimal number
+
+unfoldable pub unreadable_line : ℕ → List ℕ
+unreadable_line number = record_text number ++ (codes ": no line of a statement" ++ 10 ∷ [])
+
+-- the record's number, its date, its amount and the bank's words
+unfoldable pub line_head : ℕ → Line → List ℕ
+line_head number line =
+    record_text number
+    ++ (codes ", " ++ (day_text line.date ++ (further (signed_text line.amount) ++ words_part line.text)))
+
+unfoldable pub record_line : ℕ → Line → List ℕ → List ℕ
+record_line number line reason = line_head number line ++ (codes ": " ++ (reason ++ 10 ∷ []))
+
+-- the line for a record of this number, if it has to be looked at
+abbrev pub told_by : ℕ → Known → Records → ℕ → Line → Option Reason → List (List ℕ)
+told_by today known records number line None = []
+told_by today known records number line (Some why) =
+    record_line number line (reason_text today known records line why) ∷ []
+
+abbrev pub told_of_line : ℕ → Known → Records → ℕ → Line → List (List ℕ)
+told_of_line today known records number line =
+    told_by today known records number line
+    (reason_for today known records.lines line (becomes today known.held records.lines line))
+
+-- so many unreadable records behind that of a number
+unfoldable pub told_unreadable : ℕ → ℕ → List (List ℕ)
+told_unreadable before zero = []
+told_unreadable before (suc k) = unreadable_line (before + 1) ∷ told_unreadable (before + 1) k
+
+-- The records behind that of number `before`, in their order: these lines, the first of which has this place, and
+-- between them those that are unreadable, whose numbers are of no line.
+unfoldable pub told_from : ℕ → Known → Records → ℕ → ℕ → List Line → List (List ℕ)
+told_from today known records before place [] = told_unreadable before (records.count - before)
+told_from today known records before place (line ∷ lines) =
+    told_unreadable before (slice_index records.numbers place - 1 - before)
+    ++ (told_of_line today known records (slice_index records.numbers place) line
+    ++ told_from today known records (slice_index records.numbers place) (place + 1) lines)
+
+abbrev pub told : ℕ → Known → Records → List (List ℕ)
+told today known records = told_from today known records 0 0 records.lines
+
+-- The counts.
+
+-- a record is written that has a reference, or is given one
+abbrev pub is_written : Outcome → Bool
+is_written outcome.AsItIs = true
+is_written outcome.InBook = false
+is_written (outcome.Retried reference) = true
+is_written outcome.Doubled = false
+is_written (outcome.Filled reference) = true
+is_written outcome.Left = false
+
+-- and one is left out that is in the book already
+abbrev pub is_left_out : Outcome → Bool
+is_left_out outcome.AsItIs = false
+is_left_out outcome.InBook = true
+is_left_out (outcome.Retried reference) = false
+is_left_out outcome.Doubled = false
+is_left_out (outcome.Filled reference) = false
+is_left_out outcome.Left = false
+
+-- unreadable records are written as they are
+abbrev pub written_count : Records → List Outcome → ℕ
+written_count records os = (records.count - length records.lines) + count_by is_written os
+
+unfoldable pub counts_line : ℕ → ℕ → ℕ → List ℕ
+counts_line written booked left =
+    decimal written ++ (codes " records written, " ++ (decimal booked ++ (codes " in the book already, "
+    ++ (decimal left ++ (codes " to be looked at" ++ 10 ∷ [])))))
+
+-- The whole. A record has to be looked at for which there is a line.
+
+abbrev pub same_text : List ℕ → List ℕ
+same_text text = text
+
+unfoldable pub unmatched : ℕ → Known → Records → Unmatched
+unmatched today known records = record {
+  text = flat_map same_text (told today known records)
+      ++ counts_line (written_count records (outcomes today known.held records.lines))
+      (count_by is_left_out (outcomes today known.held records.lines)) (length (told today known records));
+  left = length (told today known records);
+}

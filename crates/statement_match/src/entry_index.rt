@@ -1,0 +1,194 @@
+// The deposits and payments of a book, looked up by what the reasons ask of them.
+
+ghost use Rattle.std.specs.Prelude.{◌≡◌, ◌==◌, ◌++◌, ℕ, map, flat_map, IfOk, OnOk, option_to_list, slice_get};
+ghost use Rattle.std.specs.List.{Contains, filter};
+ghost use Rattle.std.specs.List.Sorted.{IsStrictlyIncreasing};
+ghost use Rattle.statement_match.specs.Keys.{amount_key, entry_key, reference_key, text_key as key_of_text};
+ghost use Rattle.statement_match.specs.Lookups.{IsLookup, elements};
+ghost use Rattle.statement_match.specs.Marks.{is_shown, mark_of, marks_from};
+ghost use Rattle.statement_match.specs.Places.{places_with};
+
+use crate::book_entry::BookEntry;
+use crate::key::text_key;
+use crate::lookup::Lookup;
+use crate::mark::{Mark, line_marks_of};
+use crate::statement_line::StatementLine;
+use std::alloc::{AllocError, Global};
+use std::marker::Model;
+use trust_base::Line;
+
+/// The deposits and payments of a book, looked up by what the reasons ask of them: those that may pass are found at
+/// once, however many there are.
+///
+/// Contracts see it as their list.
+#[derive(Drop)]
+pub(crate) struct EntryIndex<'a, 'b> {
+    entries: &'a [BookEntry],
+    amounts: Lookup<'a, BookEntry>,
+    references: Lookup<'a, BookEntry>,
+    marks: Lookup<'b, Mark>,
+}
+
+impl<'a, 'b> Model for EntryIndex<'a, 'b> {
+    ghost use Rattle.std.specs.Prelude.{List};
+    ghost use Rattle.statement_match.specs.declared.book_entry.BookEntry.{BookEntry};
+    ghost use Rattle.statement_match.specs.Places.{AreEntriesFound};
+
+    ghost Value = { List BookEntry };
+
+    ghost view = { λ i. i.entries.now };
+
+    ghost invariant = { λ i. AreEntriesFound i.entries.now i.amounts.sorted.items i.references.sorted.items
+        i.marks.sorted.items };
+}
+
+// By their amount.
+fn by_amount<'a>(
+    alloc: Global,
+    entries: &'a [BookEntry],
+) -> Result<Lookup<'a, BookEntry>, AllocError>
+    ensures { IfOk result (λ found. IsLookup entry_key entries.now found.sorted.items) }
+{
+    Lookup::of(alloc, entries, |entry| entry.entry.amount.unsigned_abs())
+}
+
+// By their reference.
+fn by_reference<'a>(
+    alloc: Global,
+    entries: &'a [BookEntry],
+) -> Result<Lookup<'a, BookEntry>, AllocError>
+    ensures { IfOk result (λ found. IsLookup reference_key entries.now found.sorted.items) }
+{
+    Lookup::of(
+        alloc,
+        entries,
+        |entry| text_key(0, entry.entry.reference.as_slice()),
+    )
+}
+
+// Places by the marks of the entries there.
+fn by_mark<'a>(alloc: Global, marks: &'a [Mark]) -> Result<Lookup<'a, Mark>, AllocError>
+    ensures { IfOk result (λ found. IsLookup mark_of marks.now found.sorted.items) }
+{
+    Lookup::of(alloc, marks, |mark| mark.0)
+}
+
+// Adds the places of the marks found.
+fn add_found(places: &mut Vec<usize>, found: &[(u64, &Mark)]) -> Result<(), AllocError>
+    ensures { OnOk result (places.new.items ≡ places.old.items ++ map (λ m. m.1) (elements found.now)) }
+{
+    for mark in found {
+        places.push(mark.1.1)?;
+    }
+    Ok(())
+}
+
+// Puts places in order, each once.
+fn put_in_order(places: &mut Vec<usize>)
+    ensures rises { IsStrictlyIncreasing places.new.items }
+    ensures keeps { (place : ℕ) → Contains places.old.items place → Contains places.new.items place }
+{
+    places.sort_unstable();
+    places.dedup();
+}
+
+// Adds the entry at a place, if there is one.
+fn add_at<'a>(
+    found: &mut Vec<(u64, &'a BookEntry)>,
+    entries: &'a [BookEntry],
+    place: usize,
+) -> Result<(), AllocError>
+    ensures { OnOk result (elements found.new.items
+        ≡ elements found.old.items ++ option_to_list (slice_get entries.now place)) }
+{
+    if let Some(entry) = entries.get(place) {
+        found.push((place as u64, entry))?;
+    }
+    Ok(())
+}
+
+// The entries at these places.
+fn entries_at<'a>(
+    alloc: Global,
+    entries: &'a [BookEntry],
+    places: &[usize],
+) -> Result<Vec<(u64, &'a BookEntry)>, AllocError>
+    ensures { IfOk result (λ found. elements found.items
+        ≡ flat_map (λ place. option_to_list (slice_get entries.now place)) places.now) }
+{
+    let mut found = Vec::new(alloc);
+    for place in places {
+        add_at(&mut found, entries, *place)?;
+    }
+    Ok(found)
+}
+
+impl<'a, 'b> EntryIndex<'a, 'b> {
+    /// Of them, and the marks of those that wait. Fails only for want of memory.
+    pub(crate) fn of(
+        alloc: Global,
+        entries: &'a [BookEntry],
+        marks: &'b [Mark],
+    ) -> Result<EntryIndex<'a, 'b>, AllocError>
+        requires { marks.now ≡ marks_from 0 entries.now }
+        ensures { IfOk result (λ index. index ≡ entries.now) }
+    {
+        let amounts = by_amount(alloc, entries)?;
+        let references = by_reference(alloc, entries)?;
+        let marks = by_mark(alloc, marks)?;
+        Ok(EntryIndex {
+            entries,
+            amounts,
+            references,
+            marks,
+        })
+    }
+
+    /// Those of the amount of a line, or of its negative.
+    pub(crate) fn of_amount(&self, line: &Line) -> &[(u64, &'a BookEntry)]
+        ensures { elements result.now ≡ filter (λ e. entry_key e == amount_key line.now) self.now }
+    {
+        self.amounts.at(line.amount.get().unsigned_abs())
+    }
+
+    /// Those that may have a line's reference.
+    pub(crate) fn named_by(&self, line: &Line) -> &[(u64, &'a BookEntry)]
+        ensures { elements result.now ≡ filter (λ e. reference_key e == key_of_text 0 line.now.reference) self.now }
+    {
+        self.references.at(text_key(0, line.reference.as_slice()))
+    }
+
+    // Adds the places of those that wait and have this mark.
+    fn add_places(&self, places: &mut Vec<usize>, mark: u64) -> Result<(), AllocError>
+        ensures { OnOk result (places.new.items ≡ places.old.items ++ places_with self.now mark) }
+    {
+        add_found(places, self.marks.at(mark))
+    }
+
+    // The places of those that wait and have one of these marks, one by one.
+    fn places(&self, alloc: Global, marks: &[u64]) -> Result<Vec<usize>, AllocError>
+        ensures { IfOk result (λ places. places.items ≡ flat_map (places_with self.now) marks.now) }
+    {
+        let mut places = Vec::new(alloc);
+        for mark in marks {
+            self.add_places(&mut places, *mark)?;
+        }
+        Ok(places)
+    }
+
+    /// Those that wait and that a line may show: all that it shows, in their order. Fails only for want of memory.
+    pub(crate) fn shown_by(
+        &self,
+        alloc: Global,
+        line: &StatementLine,
+    ) -> Result<Vec<(u64, &'a BookEntry)>, AllocError>
+        ensures { IfOk result (λ found.
+            filter (is_shown line.now) (elements found.items) ≡ filter (is_shown line.now) self.now) }
+    {
+        let marks = line_marks_of(alloc, line)?;
+        let mut places = self.places(alloc, &marks)?;
+        put_in_order(&mut places);
+        let found = entries_at(alloc, self.entries, &places)?;
+        Ok(found)
+    }
+}

@@ -1,0 +1,208 @@
+// What the reasons for the lines of a statement go by.
+
+ghost use Rattle.std.specs.Prelude.{◌≡◌, ◌==◌, ℕ, IfOk};
+ghost use Rattle.std.specs.List.{filter};
+ghost use Rattle.statement_match.specs.Grounds.{AreCandidates, AreNumbered, numbered as with_numbers, numbered_key, plain_pairs};
+ghost use Rattle.statement_match.specs.Keys.{amount_key, waiting_key};
+ghost use Rattle.statement_match.specs.Lookups.{IsLookup, elements};
+ghost use Rattle.statement_match.specs.Marks.{marks_from};
+
+use crate::book_entry::BookEntry;
+use crate::entry_index::EntryIndex;
+use crate::index::Index;
+use crate::known::Known;
+use crate::lookup::Lookup;
+use crate::mark::Mark;
+use crate::records::{Records, line_at, line_count, number_of};
+use crate::relation::Relation;
+use crate::statement_line::StatementLine;
+use crate::waiting::WaitingEntry;
+use std::alloc::{AllocError, Global};
+use std::marker::Model;
+
+/// A line with the number of its record.
+pub(crate) type Numbered<'a> = (u64, &'a StatementLine);
+
+/// What the reasons for the lines of a statement go by: what is known of a book and the records, looked up by what the
+/// reasons ask of them.
+///
+/// Contracts see it as these two.
+#[derive(Drop)]
+pub(crate) struct Grounds<'a, 'b> {
+    known: &'a Known,
+    records: &'a Records,
+    index: &'b Index<'a>,
+    entries: EntryIndex<'a, 'b>,
+    numbered: &'b [Numbered<'a>],
+    amounts: Lookup<'b, Numbered<'a>>,
+}
+
+impl<'a, 'b> Model for Grounds<'a, 'b> {
+    ghost use Rattle.statement_match.specs.Grounds.{AreGrounds, Grounds};
+
+    ghost Value = { Grounds };
+
+    ghost view = { λ g. record { known = g.known.now; records = g.records.now } };
+
+    ghost invariant = { λ g. AreGrounds g.known.now g.records.now g.index.now g.entries g.numbered.now
+        g.amounts.sorted.items };
+}
+
+/// What the reasons for one line go by, found once for all of them.
+///
+/// Contracts see it as what is known of the book, the records and the line.
+#[derive(Drop)]
+pub(crate) struct LineGrounds<'a, 'b, 'c> {
+    grounds: &'c Grounds<'a, 'b>,
+    line: &'c StatementLine,
+    of_amount: &'c [(u64, &'a BookEntry)],
+    named: &'c [(u64, &'a BookEntry)],
+    shown: Vec<(u64, &'a BookEntry)>,
+}
+
+impl<'a, 'b, 'c> Model for LineGrounds<'a, 'b, 'c> {
+    ghost use Rattle.statement_match.specs.Grounds.{AreOfLine, LineGrounds};
+
+    ghost Value = { LineGrounds };
+
+    ghost view = { λ l. record {
+      known = l.grounds.now.known;
+      records = l.grounds.now.records;
+      line = l.line.now;
+    } };
+
+    ghost invariant = { λ l. AreOfLine l.grounds.now l.line.now l.of_amount.now l.named.now l.shown.items };
+}
+
+/// The lines of the records, each with its number. Fails only for want of memory.
+pub(crate) fn numbered_lines<'a>(
+    alloc: Global,
+    records: &'a Records,
+) -> Result<Vec<Numbered<'a>>, AllocError>
+    ensures { IfOk result (λ found. AreNumbered records.now found.items) }
+{
+    let mut found = Vec::new(alloc);
+    let count = line_count(records);
+    for place in 0..count {
+        found.push((number_of(records, place), line_at(records, place)))?;
+    }
+    Ok(found)
+}
+
+// By the amounts of the lines.
+fn by_amount<'a, 'b>(
+    alloc: Global,
+    lines: &'b [Numbered<'a>],
+) -> Result<Lookup<'b, Numbered<'a>>, AllocError>
+    ensures { IfOk result (λ found. IsLookup numbered_key lines.now found.sorted.items) }
+{
+    Lookup::of(
+        alloc,
+        lines,
+        |pair| pair.1.line().amount.get().unsigned_abs(),
+    )
+}
+
+impl<'a, 'b> Grounds<'a, 'b> {
+    /// Of what is known of a book and the records, with what the rule looks up, the lines with their numbers, and the
+    /// marks of the entries that wait. Fails only for want of memory.
+    pub(crate) fn of(
+        alloc: Global,
+        known: &'a Known,
+        records: &'a Records,
+        index: &'b Index<'a>,
+        numbered: &'b [Numbered<'a>],
+        marks: &'b [Mark],
+    ) -> Result<Grounds<'a, 'b>, AllocError>
+        requires index { index.now ≡ record { held = known.now.held; lines = records.now.lines } }
+        requires numbered { AreNumbered records.now numbered.now }
+        requires marks { marks.now ≡ marks_from 0 known.now.entries }
+        ensures { IfOk result (λ grounds. grounds ≡ record { known = known.now; records = records.now }) }
+    {
+        let entries = EntryIndex::of(alloc, &known.entries, marks)?;
+        let amounts = by_amount(alloc, numbered)?;
+        Ok(Grounds {
+            known,
+            records,
+            index,
+            entries,
+            numbered,
+            amounts,
+        })
+    }
+
+    /// What the rule looks up.
+    pub(crate) fn index(&self) -> &'b Index<'a>
+        ensures { result.now ≡ record { held = self.now.known.held; lines = self.now.records.lines } }
+    {
+        self.index
+    }
+
+    // The lines of the amount of an entry, or of its negative, each with its number.
+    fn lines_of_amount(&self, entry: &WaitingEntry) -> &[(u64, &'b Numbered<'a>)]
+        ensures { plain_pairs (elements result.now)
+            ≡ filter (λ pair. amount_key pair.1 == waiting_key entry.now)
+            (with_numbers self.now.records.numbers 0 self.now.records.lines) }
+    {
+        self.amounts.at(entry.amount.unsigned_abs())
+    }
+
+    /// What the reasons for a line go by. Fails only for want of memory.
+    pub(crate) fn of_line<'c>(
+        &'c self,
+        alloc: Global,
+        line: &'c StatementLine,
+    ) -> Result<LineGrounds<'a, 'b, 'c>, AllocError>
+        ensures { IfOk result (λ found. found
+            ≡ record { known = self.now.known; records = self.now.records; line = line.now }) }
+    {
+        let shown = self.entries.shown_by(alloc, line)?;
+        Ok(LineGrounds {
+            grounds: self,
+            line,
+            of_amount: self.entries.of_amount(line.line()),
+            named: self.entries.named_by(line.line()),
+            shown,
+        })
+    }
+}
+
+impl<'a, 'b, 'c> LineGrounds<'a, 'b, 'c> {
+    /// The line.
+    pub(crate) fn line(&self) -> &'c StatementLine
+        ensures { result.now ≡ self.now.line }
+    {
+        self.line
+    }
+
+    /// What the rule looks up.
+    pub(crate) fn index(&self) -> &'b Index<'a>
+        ensures { result.now ≡ record { held = self.now.known.held; lines = self.now.records.lines } }
+    {
+        self.grounds.index()
+    }
+
+    /// The entries that may stand so to the line: all that do, in their order.
+    pub(crate) fn candidates(&self, relation: Relation) -> &[(u64, &'a BookEntry)]
+        ensures { AreCandidates relation self.now.line self.now.known.entries result.now }
+    {
+        match relation {
+            Relation::Fitted
+            | Relation::NotWaiting
+            | Relation::IssuedAfter
+            | Relation::OfItsAmount
+            | Relation::MaybeReturned => self.of_amount,
+            Relation::OfAnotherAmount => &self.shown,
+            Relation::Named | Relation::NamedOfAnotherAmount => self.named,
+        }
+    }
+
+    /// The lines of the amount of an entry, or of its negative, each with its number.
+    pub(crate) fn lines_of_amount(&self, entry: &WaitingEntry) -> &[(u64, &'b Numbered<'a>)]
+        ensures { plain_pairs (elements result.now)
+            ≡ filter (λ pair. amount_key pair.1 == waiting_key entry.now)
+            (with_numbers self.now.records.numbers 0 self.now.records.lines) }
+    {
+        self.grounds.lines_of_amount(entry)
+    }
+}

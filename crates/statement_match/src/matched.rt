@@ -1,0 +1,62 @@
+// A statement whose references may be empty, matched against a book.
+
+ghost use Rattle.std.specs.Prelude.{◌≡◌, IfOk};
+ghost use Rattle.trust_store.specs.Calls.{IsRead};
+ghost use Rattle.statement_match.specs.Matched.{matched};
+
+use crate::knowing::known_in;
+use crate::records::records_in;
+use crate::statement::statement_of;
+use crate::unmatched::unmatched_of;
+use std::alloc::Global;
+use std::marker::Model;
+use trust_base::{Day, StoreFault};
+use trust_store::Book;
+
+/// What a statement becomes, whose references may be empty.
+///
+/// Contracts see it as its two texts, and whether something is to be looked at.
+#[derive(Drop)]
+pub struct Matched {
+    /// The statement that an import takes, in CSV: records with a reference as they are, and those without one that are
+    /// sure with the reference of their entry.
+    pub statement: Vec<u8>,
+    /// What is told of the records: a line for each that a person has to look at, and the counts in the last.
+    pub unmatched: Vec<u8>,
+    /// Has one of them to be looked at?
+    pub is_left: bool,
+}
+
+impl Model for Matched {
+    ghost use Rattle.statement_match.specs.Matched.{MatchedTexts};
+
+    ghost Value = { MatchedTexts };
+
+    ghost view = { λ m. record { statement = m.statement.items; unmatched = m.unmatched.items; is_left = m.is_left } };
+}
+
+/// Matches a statement against a book on a business day. The book stays as it is. The first record of the statement is
+/// taken for its header, whatever it says.
+///
+/// Store is answered where the book's store was at fault, and Memory where a growth was refused.
+#[tactic(auto, unfolding(crate::specs::Matched::matched))]
+pub fn match_statement<B: Book>(
+    alloc: Global,
+    today: Day,
+    book: &mut B,
+    statement: &[u8],
+) -> Result<Matched, StoreFault>
+    ensures matched { B.clean book.new → B.stands book.old
+        → IfOk result (λ found. found ≡ matched today (B.firm book.old) statement.now) }
+    ensures read { IsRead B.firm B.clean B.sure B.stands B.lasts B.leaves B.refusals result book.old book.new }
+{
+    let known = known_in(alloc, book)?;
+    let records = records_in(alloc, statement)?;
+    let text = statement_of(alloc, today, &known.held, statement, &records)?;
+    let told = unmatched_of(alloc, today, &known, &records)?;
+    Ok(Matched {
+        statement: text,
+        is_left: 0 < told.left,
+        unmatched: told.text,
+    })
+}

@@ -1,0 +1,516 @@
+// What is told of why records of a statement have to be looked at.
+
+ghost use Rattle.std.specs.Prelude.{◌≡◌, ◌++◌, ◌≤◌, find, length, map, take, flat_map, IfOk, OnOk};
+ghost use Rattle.std.specs.Fmt.{decimal};
+ghost use Rattle.std.specs.List.{count_by, filter};
+ghost use Rattle.trust_base.specs.Texts.{day_text, signed_text};
+ghost use Rattle.statement_match.specs.Bookings.{booking_of, is_same_booking};
+ghost use Rattle.statement_match.specs.Lookups.{elements};
+ghost use Rattle.statement_match.specs.Rule.{is_named_like, is_open_fit, is_open_like};
+ghost use Rattle.statement_match.specs.Relations.{fitted as fitted_entry, stands};
+ghost use Rattle.statement_match.specs.ReasonTexts.{amount_part, behind_comma, behind_semicolon, booked_part, claimed_text, doubled_text, entry_text, exception_part, exceptions_part, fit_numbers as numbers_of_fits, fits_another_text, fitted_part, front_count, further, further_if_any, last_text, more_text, numbers_text, parted_by_commas, parted_by_semicolons, reason_text, related_entry_text, related_text, related_texts as texts_related, return_part, several_exceptions_text, several_text, shared_part, state_word, text_if, words_of};
+
+use crate::book_entry::{BookEntry, EntryState};
+use crate::grounds::{LineGrounds, Numbered};
+use crate::phrase::{Phrase, push_phrase};
+use crate::reason::{Reason, count_related, exception_count, fitted, is_related};
+use crate::records::number_at;
+use crate::relation::Relation;
+use crate::rule::{booked_like, count_open_like};
+use crate::statement_line::StatementLine;
+use crate::waiting::WaitingEntry;
+use byte_streams::OwnedBytes;
+use itoa::Buffer;
+use std::alloc::{AllocError, Global};
+use trust_base::{Day, write_amount};
+
+// How many entries or records are told of more.
+const MOST_TOLD: usize = 5;
+
+// Appends words.
+pub(crate) fn push_words(out: &mut Vec<u8>, words: &str) -> Result<(), AllocError>
+    ensures { OnOk result (out.new.items ≡ out.old.items ++ words.now) }
+{
+    out.extend_from_slice(words.as_bytes())
+}
+
+/// Appends a number's digits.
+pub(crate) fn push_number(out: &mut Vec<u8>, number: u64) -> Result<(), AllocError>
+    ensures { OnOk result (out.new.items ≡ out.old.items ++ decimal number) }
+{
+    let mut buffer = Buffer::new();
+    out.extend_from_slice(buffer.format(number).as_bytes())
+}
+
+/// Appends a field behind another.
+pub(crate) fn push_further(out: &mut Vec<u8>, field: &[u8]) -> Result<(), AllocError>
+    ensures { OnOk result (out.new.items ≡ out.old.items ++ further field.now) }
+{
+    out.push(b' ')?;
+    out.extend_from_slice(field)
+}
+
+/// Appends an amount behind another field.
+pub(crate) fn push_amount(out: &mut Vec<u8>, amount: i64) -> Result<(), AllocError>
+    ensures { OnOk result (out.new.items ≡ out.old.items ++ further (signed_text amount)) }
+{
+    out.push(b' ')?;
+    write_amount(amount as i128, out)
+}
+
+fn push_day(out: &mut Vec<u8>, day: Day) -> Result<(), AllocError>
+    ensures { OnOk result (out.new.items ≡ out.old.items ++ further (day_text day)) }
+{
+    out.push(b' ')?;
+    day.write_to(out)
+}
+
+fn push_if_any(out: &mut Vec<u8>, field: &[u8]) -> Result<(), AllocError>
+    ensures { OnOk result (out.new.items ≡ out.old.items ++ further_if_any field.now) }
+{
+    if field.is_empty() {
+        return Ok(());
+    }
+    push_further(out, field)
+}
+
+fn word_of(state: EntryState) -> &'static str
+    ensures { result.now ≡ state_word state }
+{
+    match state {
+        EntryState::Held => "held",
+        EntryState::Cancelled => "cancelled",
+        EntryState::Returned => "returned",
+        EntryState::Proposed => "proposed",
+        EntryState::Declined => "declined",
+        EntryState::Issued => "issued",
+        EntryState::Voided => "voided",
+        EntryState::Cleared => "cleared",
+    }
+}
+
+#[tactic(auto, unfolding(crate::specs::ReasonTexts::entry_text))]
+fn push_entry(out: &mut Vec<u8>, entry: &BookEntry) -> Result<(), AllocError>
+    ensures { OnOk result (out.new.items ≡ out.old.items ++ entry_text entry.now) }
+{
+    out.extend_from_slice(entry.entry.reference.as_slice())?;
+    push_further(out, word_of(entry.state).as_bytes())?;
+    push_day(out, entry.day)?;
+    push_if_any(out, entry.bank_ref.as_slice())?;
+    push_further(out, entry.party.as_slice())
+}
+
+// Appends the entry's amount where the line has another.
+fn push_amount_of(
+    out: &mut Vec<u8>,
+    relation: Relation,
+    entry: &BookEntry,
+) -> Result<(), AllocError>
+    ensures { OnOk result (out.new.items ≡ out.old.items ++ amount_part relation entry.now) }
+{
+    match relation {
+        Relation::OfAnotherAmount | Relation::NamedOfAnotherAmount => {
+            push_amount(out, entry.entry.amount)
+        }
+        Relation::Fitted
+        | Relation::NotWaiting
+        | Relation::IssuedAfter
+        | Relation::OfItsAmount
+        | Relation::MaybeReturned
+        | Relation::Named => Ok(()),
+    }
+}
+
+fn related_entry(
+    alloc: Global,
+    relation: Relation,
+    entry: &BookEntry,
+) -> Result<OwnedBytes, AllocError>
+    ensures { IfOk result (λ text. text ≡ related_entry_text relation entry.now) }
+{
+    let mut text = Vec::new(alloc);
+    push_entry(&mut text, entry)?;
+    push_amount_of(&mut text, relation, entry)?;
+    Ok(OwnedBytes::new(text))
+}
+
+// Adds the text of an entry that stands so to a line, where fewer than are told are there.
+#[tactic(auto, using(crate::proofs::Listed::has_no_room, crate::proofs::Listed::is_not_told, crate::proofs::Listed::is_told))]
+fn add_related(
+    texts: &mut Vec<OwnedBytes>,
+    relation: Relation,
+    today: Day,
+    line: &StatementLine,
+    entry: &BookEntry,
+) -> Result<(), AllocError>
+    requires { length texts.old.items ≤ 5 }
+    ensures { OnOk result (texts.new.items ≡ take 5 (texts.old.items
+        ++ text_if (stands relation today line.now entry.now) (related_entry_text relation entry.now))) }
+{
+    if MOST_TOLD <= texts.len() {
+        return Ok(());
+    }
+    if !relation.holds(today, line, entry) {
+        return Ok(());
+    }
+    let text = related_entry(*texts.allocator(), relation, entry)?;
+    texts.push(text)?;
+    Ok(())
+}
+
+// The texts of the first of the entries found that stand so to a line.
+fn related_texts(
+    alloc: Global,
+    relation: Relation,
+    today: Day,
+    found: &[(u64, &BookEntry)],
+    line: &StatementLine,
+) -> Result<Vec<OwnedBytes>, AllocError>
+    ensures { IfOk result (λ texts. texts.items ≡ take 5
+        (map (related_entry_text relation) (filter (stands relation today line.now) (elements found.now)))) }
+{
+    let mut texts = Vec::new(alloc);
+    for entry in found {
+        add_related(&mut texts, relation, today, line, entry.1)?;
+    }
+    Ok(texts)
+}
+
+fn push_behind_semicolon(out: &mut Vec<u8>, text: &OwnedBytes) -> Result<(), AllocError>
+    ensures { OnOk result (out.new.items ≡ out.old.items ++ behind_semicolon text.now) }
+{
+    push_words(out, "; ")?;
+    out.extend_from_slice(text.as_slice())
+}
+
+fn push_all_behind_semicolons(out: &mut Vec<u8>, texts: &[OwnedBytes]) -> Result<(), AllocError>
+    ensures { OnOk result (out.new.items ≡ out.old.items ++ flat_map behind_semicolon texts.now) }
+{
+    for text in texts {
+        push_behind_semicolon(out, text)?;
+    }
+    Ok(())
+}
+
+fn push_texts(out: &mut Vec<u8>, texts: &[OwnedBytes]) -> Result<(), AllocError>
+    ensures { OnOk result (out.new.items ≡ out.old.items ++ parted_by_semicolons texts.now) }
+{
+    let Some((first, others)) = texts.split_first() else {
+        return Ok(());
+    };
+    out.extend_from_slice(first.as_slice())?;
+    push_all_behind_semicolons(out, others)
+}
+
+fn push_more(out: &mut Vec<u8>, count: usize) -> Result<(), AllocError>
+    ensures { OnOk result (out.new.items ≡ out.old.items ++ more_text count) }
+{
+    if count <= MOST_TOLD {
+        return Ok(());
+    }
+    push_words(out, "; and ")?;
+    push_number(out, (count - MOST_TOLD) as u64)?;
+    push_words(out, " more")
+}
+
+// The texts of the first entries that stand so to the line.
+fn texts_of_related(
+    alloc: Global,
+    relation: Relation,
+    today: Day,
+    grounds: &LineGrounds,
+) -> Result<Vec<OwnedBytes>, AllocError>
+    ensures { IfOk result (λ texts. texts.items ≡ texts_related relation today grounds.now.known grounds.now.line) }
+{
+    let found = grounds.candidates(relation);
+    let texts = related_texts(alloc, relation, today, found, grounds.line())?;
+    Ok(texts)
+}
+
+// Appends the entries that stand so to the line.
+#[tactic(auto, unfolding(crate::specs::ReasonTexts::related_text))]
+fn push_related(
+    out: &mut Vec<u8>,
+    relation: Relation,
+    today: Day,
+    grounds: &LineGrounds,
+) -> Result<(), AllocError>
+    ensures { OnOk result (out.new.items
+        ≡ out.old.items ++ related_text relation today grounds.now.known grounds.now.line) }
+{
+    let texts = texts_of_related(*out.allocator(), relation, today, grounds)?;
+    push_texts(out, &texts)?;
+    push_more(out, count_related(relation, today, grounds))
+}
+
+// The numbers of those of the lines found that are open and fit an entry.
+fn fit_numbers_among(
+    alloc: Global,
+    today: Day,
+    entry: &WaitingEntry,
+    found: &[(u64, &Numbered)],
+) -> Result<Vec<u64>, AllocError>
+    ensures { IfOk result (λ numbers. numbers.items
+        ≡ map (λ e. e.1.now.0) (filter (λ e. is_open_fit today entry.now e.1.now.1.now) found.now)) }
+{
+    let mut numbers = Vec::new(alloc);
+    for line in found {
+        if line.1.1.is_open_fit(today, entry) {
+            numbers.push(line.1.0)?;
+        }
+    }
+    Ok(numbers)
+}
+
+// The numbers of the open lines that fit an entry.
+fn fit_numbers(
+    alloc: Global,
+    today: Day,
+    entry: &WaitingEntry,
+    grounds: &LineGrounds,
+) -> Result<Vec<u64>, AllocError>
+    ensures { IfOk result (λ numbers. numbers.items
+        ≡ numbers_of_fits today entry.now grounds.now.records.numbers 0 grounds.now.records.lines) }
+{
+    let found = grounds.lines_of_amount(entry);
+    let numbers = fit_numbers_among(alloc, today, entry, found)?;
+    Ok(numbers)
+}
+
+fn push_behind_comma(out: &mut Vec<u8>, number: u64) -> Result<(), AllocError>
+    ensures { OnOk result (out.new.items ≡ out.old.items ++ behind_comma number) }
+{
+    push_words(out, ", ")?;
+    push_number(out, number)
+}
+
+fn push_all_behind_commas(out: &mut Vec<u8>, numbers: &[u64]) -> Result<(), AllocError>
+    ensures { OnOk result (out.new.items ≡ out.old.items ++ flat_map behind_comma numbers.now) }
+{
+    for number in numbers {
+        push_behind_comma(out, *number)?;
+    }
+    Ok(())
+}
+
+fn push_parted(out: &mut Vec<u8>, numbers: &[u64]) -> Result<(), AllocError>
+    ensures { OnOk result (out.new.items ≡ out.old.items ++ parted_by_commas numbers.now) }
+{
+    let Some((first, others)) = numbers.split_first() else {
+        return Ok(());
+    };
+    push_number(out, *first)?;
+    push_all_behind_commas(out, others)
+}
+
+// How many numbers stand before the last `and`.
+fn front_len(numbers: &[u64]) -> usize
+    ensures value { result ≡ front_count numbers.now }
+    ensures bound { result ≤ length numbers.now }
+{
+    if MOST_TOLD < numbers.len() {
+        MOST_TOLD
+    } else {
+        numbers.len().saturating_sub(1)
+    }
+}
+
+// Appends the last of the numbers, or how many are not told.
+fn push_last(out: &mut Vec<u8>, numbers: &[u64]) -> Result<(), AllocError>
+    ensures { OnOk result (out.new.items ≡ out.old.items ++ last_text numbers.now) }
+{
+    if MOST_TOLD < numbers.len() {
+        push_number(out, (numbers.len() - MOST_TOLD) as u64)?;
+        return push_words(out, " more");
+    }
+    push_number(out, number_at(numbers, numbers.len().saturating_sub(1)))
+}
+
+#[tactic(auto, unfolding(crate::specs::ReasonTexts::numbers_text))]
+fn push_numbers(out: &mut Vec<u8>, numbers: &[u64]) -> Result<(), AllocError>
+    ensures { OnOk result (out.new.items ≡ out.old.items ++ numbers_text numbers.now) }
+{
+    push_parted(out, &numbers[..front_len(numbers)])?;
+    push_words(out, " and ")?;
+    push_last(out, numbers)
+}
+
+fn words(relation: Relation) -> &'static str
+    ensures { result.now ≡ words_of relation }
+{
+    match relation {
+        Relation::Fitted => "it fits: ",
+        Relation::NotWaiting => "the entry that it shows is not waiting for the bank: ",
+        Relation::IssuedAfter => "it shows an entry that was issued after it: ",
+        Relation::OfAnotherAmount => "it shows an entry of another amount: ",
+        Relation::OfItsAmount => "nothing in its words tells which entry; of its amount: ",
+        Relation::MaybeReturned => "no payment of its amount; it may be a return of ",
+        Relation::Named => "its reference is that of an entry: ",
+        Relation::NamedOfAnotherAmount => "its reference is that of an entry of another amount: ",
+    }
+}
+
+fn push_booked(out: &mut Vec<u8>, count: usize) -> Result<(), AllocError>
+    ensures { OnOk result (out.new.items ≡ out.old.items ++ booked_part count) }
+{
+    if count == 0 {
+        return Ok(());
+    }
+    push_phrase(out, Phrase::BookHas)?;
+    push_number(out, count as u64)
+}
+
+// How many open lines have the date, bank reference and amount of the line.
+fn count_doubled(grounds: &LineGrounds) -> usize
+    ensures { result ≡ count_by (is_open_like grounds.now.line) grounds.now.records.lines }
+{
+    count_open_like(grounds.index(), grounds.line())
+}
+
+// How many lines of the book have them.
+fn count_booked(grounds: &LineGrounds) -> usize
+    ensures { result ≡ count_by (is_same_booking (booking_of grounds.now.line)) grounds.now.known.held.bookings }
+{
+    booked_like(grounds.index(), grounds.line().line())
+}
+
+fn push_doubled(out: &mut Vec<u8>, grounds: &LineGrounds) -> Result<(), AllocError>
+    ensures { OnOk result (out.new.items
+        ≡ out.old.items ++ doubled_text grounds.now.known grounds.now.records grounds.now.line) }
+{
+    push_number(out, count_doubled(grounds) as u64)?;
+    push_phrase(out, Phrase::Doubled)?;
+    push_booked(out, count_booked(grounds))
+}
+
+fn push_several(out: &mut Vec<u8>, today: Day, grounds: &LineGrounds) -> Result<(), AllocError>
+    ensures { OnOk result (out.new.items ≡ out.old.items ++ several_text today grounds.now.known grounds.now.line) }
+{
+    let count = count_related(Relation::Fitted, today, grounds);
+    push_number(out, count as u64)?;
+    push_phrase(out, Phrase::FitsSeveral)?;
+    push_related(out, Relation::Fitted, today, grounds)
+}
+
+fn push_fitted(out: &mut Vec<u8>, today: Day, grounds: &LineGrounds) -> Result<(), AllocError>
+    ensures { OnOk result (out.new.items
+        ≡ out.old.items ++ fitted_part (fitted_entry today grounds.now.known grounds.now.line)) }
+{
+    match fitted(today, grounds) {
+        Some(entry) => out.extend_from_slice(entry.entry.reference.as_slice()),
+        None => Ok(()),
+    }
+}
+
+fn push_claimed(out: &mut Vec<u8>, today: Day, grounds: &LineGrounds) -> Result<(), AllocError>
+    ensures { OnOk result (out.new.items ≡ out.old.items ++ claimed_text today grounds.now.known grounds.now.line) }
+{
+    push_phrase(out, Phrase::Shows)?;
+    push_fitted(out, today, grounds)?;
+    push_phrase(out, Phrase::AnotherNames)
+}
+
+fn push_shared(out: &mut Vec<u8>, today: Day, grounds: &LineGrounds) -> Result<(), AllocError>
+    ensures { OnOk result (out.new.items ≡ out.old.items
+        ++ shared_part today grounds.now.records (fitted_entry today grounds.now.known grounds.now.line)) }
+{
+    match fitted(today, grounds) {
+        Some(entry) => {
+            let numbers = fit_numbers(*out.allocator(), today, &entry.entry, grounds)?;
+            push_numbers(out, &numbers)?;
+            push_phrase(out, Phrase::Show)?;
+            out.extend_from_slice(entry.entry.reference.as_slice())
+        }
+        None => Ok(()),
+    }
+}
+
+// Appends the deposits that the line may take back, if there are some.
+fn push_return(out: &mut Vec<u8>, today: Day, grounds: &LineGrounds) -> Result<(), AllocError>
+    ensures { OnOk result (out.new.items ≡ out.old.items ++ return_part today grounds.now.known grounds.now.line) }
+{
+    if !is_related(Relation::MaybeReturned, today, grounds) {
+        return Ok(());
+    }
+    push_phrase(out, Phrase::MayBeReturn)?;
+    push_related(out, Relation::MaybeReturned, today, grounds)
+}
+
+// Appends the reference under which the line is an exception.
+fn push_exception(out: &mut Vec<u8>, grounds: &LineGrounds) -> Result<(), AllocError>
+    ensures { OnOk result (out.new.items ≡ out.old.items
+        ++ exception_part (find (is_named_like grounds.now.line) grounds.now.known.held.exceptions)) }
+{
+    match grounds.index().exceptions().named_like(grounds.line()) {
+        Some(exception) => out.extend_from_slice(exception.reference.as_slice()),
+        None => Ok(()),
+    }
+}
+
+// Appends under how many references the line is an exception.
+#[tactic(auto, unfolding(crate::specs::ReasonTexts::exceptions_part))]
+fn push_exception_count(out: &mut Vec<u8>, grounds: &LineGrounds) -> Result<(), AllocError>
+    ensures { OnOk result (out.new.items
+        ≡ out.old.items ++ exceptions_part grounds.now.known.held.exceptions grounds.now.line) }
+{
+    push_phrase(out, Phrase::ExceptionUnder)?;
+    push_number(out, exception_count(grounds) as u64)
+}
+
+fn push_several_exceptions(out: &mut Vec<u8>, grounds: &LineGrounds) -> Result<(), AllocError>
+    ensures { OnOk result (out.new.items
+        ≡ out.old.items ++ several_exceptions_text grounds.now.known.held.exceptions grounds.now.line) }
+{
+    push_exception_count(out, grounds)?;
+    push_phrase(out, Phrase::WrittenUnder)?;
+    push_exception(out, grounds)
+}
+
+fn push_fits_another(out: &mut Vec<u8>, today: Day, grounds: &LineGrounds) -> Result<(), AllocError>
+    ensures { OnOk result (out.new.items
+        ≡ out.old.items ++ fits_another_text today grounds.now.known grounds.now.line) }
+{
+    push_phrase(out, Phrase::ExceptionUnder)?;
+    push_exception(out, grounds)?;
+    push_phrase(out, Phrase::AndFits)?;
+    push_related(out, Relation::Fitted, today, grounds)
+}
+
+/// Appends what is told of why the line has to be looked at.
+#[tactic(auto, unfolding(crate::specs::ReasonTexts::reason_text))]
+pub(crate) fn push_reason(
+    out: &mut Vec<u8>,
+    today: Day,
+    grounds: &LineGrounds,
+    reason: Reason,
+) -> Result<(), AllocError>
+    ensures { OnOk result (out.new.items ≡ out.old.items
+        ++ reason_text today grounds.now.known grounds.now.records grounds.now.line reason) }
+{
+    match reason {
+        Reason::DatedAfter => {
+            push_phrase(out, Phrase::DatedAfter)?;
+            today.write_to(out)
+        }
+        Reason::Doubled => push_doubled(out, grounds),
+        Reason::BesideBooked => { push_phrase(out, Phrase::BesideBooked) }
+        Reason::FitsSeveral => push_several(out, today, grounds),
+        Reason::Claimed => push_claimed(out, today, grounds),
+        Reason::Shared => {
+            push_phrase(out, Phrase::Records)?;
+            push_shared(out, today, grounds)
+        }
+        Reason::OtherBusiness => {
+            push_phrase(out, Phrase::OtherBusiness)?;
+            push_return(out, today, grounds)
+        }
+        Reason::Related(relation) => {
+            push_words(out, words(relation))?;
+            push_related(out, relation, today, grounds)
+        }
+        Reason::NoneOfItsAmount => push_phrase(out, Phrase::NoneOfItsAmount),
+        Reason::SeveralExceptions => push_several_exceptions(out, grounds),
+        Reason::FitsAnother => push_fits_another(out, today, grounds),
+        Reason::NamesNone => push_phrase(out, Phrase::NamesNone),
+    }
+}

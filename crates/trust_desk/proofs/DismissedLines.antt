@@ -1,0 +1,61 @@
+-- A line that is dismissed from the exceptions.
+use Rattle.std.proofs.Common.{◌≡◌, ◌⊎◌, inl, inr, Bool, true, false, cond, ℕ, List, [], ◌∷◌, Option, Some, None, refl, sym, ap, ◌∙◌, fold}
+use Rattle.std.specs.Prelude.{not, ◌||◌}
+use Rattle.std.specs.List.{filter, list_any}
+use Rattle.std.proofs.lemmas.Bool.{false≢true}
+use Rattle.trust_base.specs.LineOrder.{is_same_line}
+use Rattle.trust_base.specs.declared.line.Line.{Line}
+use Rattle.trust_base.specs.declared.refusal.Refusal.{Refusal}
+use Rattle.trust_base.specs.declared.refusal.Refusal.TheVariants as refusals
+use Rattle.trust_base.specs.declared.refusal.Rule.TheVariants as rule
+use Rattle.trust_matter.specs.declared.ask.Caller.{Caller}
+use Rattle.trust_matter.specs.declared.ask.Caller.TheVariants.{Cashier}
+use Rattle.trust_matter.specs.Step.{first}
+use Rattle.firm_rows.specs.Firm.{Firm, without_line}
+use Rattle.trust_desk.specs.declared.dismissing.LineSearch.{LineSearch}
+use Rattle.trust_desk.specs.Dismissed.{DismissedOnce, DismissingMovesNothing, KeepsAllElse}
+use Rattle.trust_desk.specs.Dismissing.{dismiss_refusal, dismissed_unless, is_exception}
+
+-- A line that is looked for.
+
+or-assoc : (a b c : Bool) → ((a || b) || c) ≡ (a || (b || c))
+or-assoc true b c = refl
+or-assoc false b c = refl
+
+or-false : (a : Bool) → a ≡ (a || false)
+or-false true = refl
+or-false false = refl
+
+-- what one more line makes of the search
+abbrev pub looked : LineSearch → Line → LineSearch
+looked s x = record s { is_found = s.is_found || is_same_line x s.line.now }
+
+pub looked-all : (s : LineSearch) (lines : List Line) → (fold looked s lines).is_found ≡ (s.is_found || is_exception s.line.now lines)
+looked-all s [] = or-false s.is_found
+looked-all s (x ∷ xs) = looked-all (looked s x) xs ∙ or-assoc s.is_found (is_same_line x s.line.now) (is_exception s.line.now xs)
+
+-- The laws.
+
+kept-else : (o : Option Refusal) (line : Line) (firm : Firm) → KeepsAllElse firm (dismissed_unless o line firm)
+kept-else None line firm = record { rows = refl; movements = refl; firm_lines = refl; balances = refl }
+kept-else (Some r) line firm = record { rows = refl; movements = refl; firm_lines = refl; balances = refl }
+
+pub dismissing-moves-nothing : DismissingMovesNothing
+dismissing-moves-nothing day firm caller line = kept-else (dismiss_refusal caller line firm) line firm
+
+left-of : (line x : Line) (b : Bool) (left : List Line) → is_same_line x line ≡ b → is_exception line left ≡ false → is_exception line (cond (not b) (x ∷ left) left) ≡ false
+left-of line x true left e none = none
+left-of line x false left e none = rw e none
+
+none-left : (line : Line) (lines : List Line) → is_exception line (without_line line lines) ≡ false
+none-left line [] = refl
+none-left line (x ∷ xs) = left-of line x (is_same_line x line) (without_line line xs) refl (none-left line xs)
+
+refused-again : (b : Bool) → b ≡ false → first ((false, refusals.NotAllowed rule.Firm) ∷ (not b, refusals.NoEntry) ∷ []) ≡ Some refusals.NoEntry
+refused-again true e = absurd (cc)
+refused-again false e = refl
+
+pub dismissed-once : DismissedOnce
+dismissed-once day firm line fit =
+    ap (λ o. dismiss_refusal Cashier line (dismissed_unless o line firm)) fit
+    ∙ refused-again (is_exception line (without_line line firm.exceptions)) (none-left line firm.exceptions)

@@ -1,0 +1,214 @@
+-- Lines that are filled are applied.
+use Rattle.std.proofs.Common.{◌≡◌, ◌≢◌, ◌∙◌, sym, ap, subst, ℕ, suc, ◌+◌, ◌<◌, Bool, true, false, not, cond, ◌==◌, List, [], ◌∷◌, length, Some, None, refl, arith, codes}
+use Rattle.std.specs.Prelude.{IfSome, nat_le, nat_lt}
+use Rattle.std.specs.List.{Contains}
+use Rattle.std.specs.Ordering.{int_eq}
+use Rattle.std.specs.Str.{bytes_eq}
+use Rattle.std.proofs.lemmas.Bool.{and_parts}
+use Rattle.std.proofs.lemmas.Bool.Decides.{Decides-int_eq, nat_tests}
+use Rattle.trust_base.specs.Limits.{IsEntryNo, IsMatterNo}
+use Rattle.trust_base.specs.declared.line.Line.{Line}
+use Rattle.matter_rows.specs.Rows.{Rows}
+use Rattle.matter_rows.specs.declared.entry.Entry.{Entry}
+use Rattle.trust_matter.specs.declared.bank_line.BankLine.{BankLine}
+use Rattle.trust_matter.specs.LineStep.{line_on, rows_after_line}
+use Rattle.firm_rows.specs.Firm.{Firm, of}
+use Rattle.firm_rows.specs.FirmSound.{FirmSound}
+use Rattle.statement_csv.specs.Items.{item_by, item_of_line}
+use Rattle.statement_csv.specs.References.{entry_named, owner_by, owner_of, reference_text}
+use Rattle.statement_csv.specs.declared.item.Item.{Item}
+use Rattle.statement_csv.specs.declared.item.Item.TheVariants as item
+use Rattle.statement_csv.proofs.NamedFacts.{named-found, named-text}
+use Rattle.statement_match.specs.Waiting.{Waiting}
+use Rattle.statement_match.specs.Showing.{fits, is_other_business, shows}
+use Rattle.statement_match.specs.Books.{entry_waiting, held_of}
+use Rattle.statement_match.specs.FirmLaws.{HasMatterNumbers}
+use Rattle.statement_match.specs.Laws.{IsSure, with_reference}
+use Rattle.statement_match.proofs.Apart.{of_entry, wait_apart}
+use Rattle.statement_match.proofs.Filling.{sure_of}
+use Rattle.statement_match.proofs.Fronts.{front_apart}
+use Rattle.statement_match.proofs.Picks.{found_is_there, found_passes}
+use Rattle.trust_desk.specs.Heard.{OwnLine, own_if, own_of_item}
+use Rattle.trust_desk.specs.declared.importing.Counted.TheVariants as counted
+use Rattle.trust_desk.specs.ItemStep.{after_item, after_items, counted_as, counted_of}
+use Rattle.trust_desk.specs.Matching.{FilledLinesAreApplied, items_of}
+use Rattle.trust_desk.specs.Solo.{solo_rows}
+use Rattle.trust_desk.proofs.Awaiting.{Awaits, Stands, entry_awaits, line_applied, line_keeps, sound_stands}
+use Rattle.trust_desk.proofs.OwnItems.{of-after_item}
+
+-- The item of a line.
+
+-- a line under an entry's reference is an item of that entry
+item_named : (number m n : ℕ) (x : Line) → IsMatterNo m → IsEntryNo n → x.reference ≡ reference_text m n
+    → 0 < length x.bank_ref
+    → item_of_line number x ≡ item.OfMatter (record { matter = m; entry = n; line = x })
+unfolding owner_of
+item_named number m n x m_is n_is is bank =
+    let it = item.OfMatter (record { matter = m; entry = n; line = x }) in
+    let some : (length x.bank_ref == 0) ≡ false = grind (arith, nat_tests) in
+    ap (λ (r : List ℕ). item_by number x (owner_of r)) is
+    ∙ ap (λ o. item_by number x (owner_by o)) (named-found m n m_is n_is)
+    ∙ ap (λ b. cond b (item.Unreadable number) it) some
+
+with_ref : (b : Bool) (number : ℕ) (it : Item) (l : BankLine) → cond b (item.Unreadable number) it ≡ item.OfMatter l
+    → it ≡ item.OfMatter l
+with_ref true number it l e = absurd (cc)
+with_ref false number it l e = e
+
+other_owner : {A : Type 0} (f : A → Item) (b : Bool) (x rest : A) (l : BankLine) → (f x ≡ item.OfMatter l → ⊥)
+    → f (cond b x rest) ≡ item.OfMatter l → f rest ≡ item.OfMatter l
+other_owner f true x rest l none e = absurd (none e)
+other_owner f false x rest l none e = e
+
+-- the reference of a line that is an item of an entry is that of the entry
+named_by : (number : ℕ) (y : Line) (l : BankLine) → item_of_line number y ≡ item.OfMatter l
+    → reference_text l.matter l.entry ≡ y.reference
+unfolding owner_of
+named_by number y l e =
+    let bare = length y.bank_ref == 0 in
+    let opening = other_owner (item_by number y) (bytes_eq y.reference (codes "OPEN")) _ _ l (λ is. cc) e in
+    let closing = other_owner (item_by number y) (bytes_eq y.reference (codes "CLOSE")) _ _ l (λ is. cc) opening in
+    let firm = other_owner (item_by number y) (bytes_eq y.reference (codes "FIRM")) _ _ l
+    (λ is. let clash = with_ref bare number (item.OfFirm y) l is in cc) closing in
+    elim (entry_named y.reference) as (λ o. IfSome o (λ n. reference_text n.matter n.entry ≡ y.reference)
+    → item_by number y (owner_by o) ≡ item.OfMatter l → reference_text l.matter l.entry ≡ y.reference) [
+      | None ↦ λ told is. absurd (let clash = with_ref bare number (item.Stray y) l is in cc)
+      | Some n ↦ λ told is.
+          let it = item.OfMatter (record { matter = n.matter; entry = n.entry; line = y }) in
+          let same = with_ref bare number it l is in
+          let line : record { matter = n.matter; entry = n.entry; line = y } ≡ l = cc in
+          sym (ap (λ (k : BankLine). reference_text k.matter k.entry) line) ∙ told
+    ] (named-text y.reference) firm
+
+-- What stands before a filled line.
+
+module _ (P : Rows → Type 0) (m today : ℕ) (firm : Firm) where
+  -- what holds of a matter's rows, and still does behind the line that the item may be of it
+  own_keeps : (it : Item)
+      → ((l : BankLine) → it ≡ item.OfMatter l → l.matter ≡ m → P (rows_after_line (of m firm) l today))
+      → P (of m firm) → P (solo_rows (of m firm) (own_of_item m today it))
+  own_keeps (item.Opening line) own now = now
+  own_keeps (item.Closing line) own now = now
+  own_keeps (item.OfMatter l) own now = cases (l.matter == m) refl
+    where
+      cases : (b : Bool) → (l.matter == m) ≡ b → P (solo_rows (of m firm) (own_if b (OwnLine l today)))
+      cases true test = let same : l.matter ≡ m = grind (arith, nat_tests) in own l refl same
+      cases false test = now
+  own_keeps (item.OfFirm line) own now = now
+  own_keeps (item.Stray line) own now = now
+  own_keeps (item.Unreadable number) own now = now
+
+  pub item_keeps : (it : Item)
+      → ((l : BankLine) → it ≡ item.OfMatter l → l.matter ≡ m → P (rows_after_line (of m firm) l today))
+      → P (of m firm) → P (of m (after_item today firm it))
+  item_keeps it own now = subst P (sym (of-after_item m today firm it)) (own_keeps it own now)
+
+-- lines without the entry's reference leave it as it is
+pub lines_keep : (m n today number : ℕ) (firm : Firm) (e : Entry) (lines : List Line)
+    → ((y : Line) → Contains lines y → y.reference ≢ reference_text m n) → Stands (of m firm) n e
+    → Stands (of m (after_items today firm (items_of number lines))) n e
+lines_keep m n today number firm e [] other stands = stands
+lines_keep m n today number firm e (y ∷ ys) other stands =
+    let it = item_of_line number y in
+    let own = λ (l : BankLine) (is : it ≡ item.OfMatter l) (m_is : l.matter ≡ m).
+    line_keeps (of m firm) l today n e (λ (n_is : l.entry ≡ n).
+    other y (0, omega arith, refl) (sym (named_by number y l is) ∙ (λ i. reference_text (m_is i) (n_is i)))) stands in
+    lines_keep m n today (number + 1) (after_item today firm it) e ys
+    (λ z there. other z (suc there.0, further there.1, there.2))
+    (item_keeps (λ rows. Stands rows n e) m today firm it own stands)
+  where
+    further : {k : ℕ} → k < length ys → suc k < suc (length ys)
+    further lt = omega (arith, lt)
+
+-- A filled line.
+
+-- a line fits an entry of its amount, on a day that came
+fits_by : (today : ℕ) (line : Line) (w : Waiting) → fits today line w ≡ true
+    → (nat_lt today line.date ≡ false) × (line.amount ≡ w.amount)
+unfolding fits
+fits_by today line w fit =
+    let all = and_parts _ (shows line w) fit in
+    let business = and_parts _ (not (is_other_business line)) all.0 in
+    let since = and_parts _ (nat_le w.since line.date) business.0 in
+    let both = and_parts (nat_le line.date today) (int_eq line.amount w.amount) since.0 in
+    let came = both.0 in
+    let dated : nat_lt today line.date ≡ false = grind (arith, nat_tests) in
+    (dated, (Decides-int_eq line.amount w.amount).0 both.1)
+
+-- a line under the reference of an entry that awaits it, as this one that waits, and of a day that came
+pub record IsReady (today : ℕ) (firm : Firm) (x : Line) (w : Waiting) : Type 0 where
+  pub matter : ℕ
+  pub number : ℕ
+  pub made : Entry
+  pub is_matter : IsMatterNo matter
+  pub is_number : IsEntryNo number
+  pub is : x.reference ≡ reference_text matter number
+  pub dated : nat_lt today x.date ≡ false
+  pub stands : Stands (of matter firm) number made
+  pub waits : Contains (entry_waiting matter number made) w
+  pub awaits : Awaits made x
+
+-- a line that is filled is ready
+pub filled_ready : (today : ℕ) (firm : Firm) (lines : List Line) (line : Line) (reference : List ℕ) (w : Waiting)
+    → FirmSound firm → HasMatterNumbers firm → IsSure today (held_of firm) lines line w → reference ≡ w.reference
+    → IsReady today firm (with_reference reference line) w
+filled_ready today firm lines line reference w sound numbers sure is =
+    let there = found_is_there (fits today line) (held_of firm).waiting w sure.fits_it in
+    let named = of_entry firm w sound numbers there in
+    let facts = fits_by today line w (found_passes (fits today line) (held_of firm).waiting w sure.fits_it) in
+    record {
+      matter = named.matter;
+      number = named.number;
+      made = named.made;
+      is_matter = named.is_matter;
+      is_number = named.is_number;
+      is = is ∙ named.is;
+      dated = facts.0;
+      stands = sound_stands (of named.matter firm) named.number named.made (sound.matters named.matter) named.there;
+      waits = named.waits;
+      awaits = entry_awaits named.matter named.number named.made w (with_reference reference line) named.waits facts.1;
+    }
+
+-- and stays so behind lines with other references
+pub ready_behind : (today number : ℕ) (firm : Firm) (x : Line) (w : Waiting) (lines : List Line)
+    → IsReady today firm x w → ((y : Line) → Contains lines y → y.reference ≢ x.reference)
+    → IsReady today (after_items today firm (items_of number lines)) x w
+ready_behind today number firm x w lines ready other = record {
+  matter = ready.matter;
+  number = ready.number;
+  made = ready.made;
+  is_matter = ready.is_matter;
+  is_number = ready.is_number;
+  is = ready.is;
+  dated = ready.dated;
+  stands = lines_keep ready.matter ready.number today number firm ready.made lines
+      (λ y there same. other y there (same ∙ sym ready.is)) ready.stands;
+  waits = ready.waits;
+  awaits = ready.awaits;
+}
+
+-- the line, as one of the entry
+abbrev pub ready_line : {today : ℕ} {firm : Firm} {x : Line} {w : Waiting} → IsReady today firm x w → BankLine
+ready_line {x = x} ready = record { matter = ready.matter; entry = ready.number; line = x }
+
+pub ready_item : (today number : ℕ) (firm : Firm) (x : Line) (w : Waiting) (ready : IsReady today firm x w)
+    → 0 < length x.bank_ref → item_of_line number x ≡ item.OfMatter (ready_line ready)
+ready_item today number firm x w ready bank =
+    item_named number ready.matter ready.number x ready.is_matter ready.is_number ready.is bank
+
+pub ready_counted : (today : ℕ) (firm : Firm) (x : Line) (w : Waiting) (ready : IsReady today firm x w)
+    → counted_as (line_on (of ready.matter firm) (ready_line ready) today) ≡ counted.Applied
+ready_counted today firm x w ready =
+    line_applied (of ready.matter firm) (ready_line ready) today ready.made ready.dated ready.stands ready.awaits
+
+pub filled_lines_are_applied : FilledLinesAreApplied
+filled_lines_are_applied today firm lines front rest line reference sound numbers there bank filled split =
+    let x = with_reference reference line in
+    let found = sure_of today (held_of firm) lines line reference filled in
+    let before = filled_ready today firm lines line reference found.0 sound numbers found.1 found.2 in
+    let other = λ (y : Line) (y_there : Contains front y). front_apart today (held_of firm) lines front rest line y
+    reference (wait_apart firm sound numbers) there filled split y_there in
+    let ready = ready_behind today 1 firm x found.0 front before other in
+    let now = after_items today firm (items_of 1 front) in
+    ap (counted_of today now) (ready_item today (length front + 1) now x found.0 ready bank)
+    ∙ ready_counted today now x found.0 ready

@@ -1,0 +1,15 @@
+use Rattle.std.proofs.Common.{Result, Ok}
+use Rattle.trust_base.specs.declared.refusal.StoreFault.{StoreFault}
+use Rattle.trust_store.specs.Calls.{IsRead}
+use Rattle.trust_desk.proofs.explaining.explain_each.Given as goal
+
+-- so far the book was only read
+abbrev pub invariant-loop-line : goal.invariant-loop-line
+invariant-loop-line g l =
+    let B = g.B.Book in
+    let done : Result Unit StoreFault = Ok tt in
+    record {
+      next : (goal.iterator-loop-line g).can_next l.line-iterator;
+      finite : (goal.iterator-loop-line g).is_finite l.line-iterator;
+      read : (B.sure l.fn.book → B.clean l.fn.book) → IsRead B.firm B.clean B.sure B.stands B.lasts B.leaves B.refusals done l.fn.book l.book;
+    }

@@ -1,0 +1,31 @@
+-- What a dismissed line leaves.
+use Rattle.std.specs.Prelude.{◌≡◌, ℕ, Some, None}
+use Rattle.trust_base.specs.declared.line.Line.{Line}
+use Rattle.trust_base.specs.declared.refusal.Refusal.TheVariants.{NoEntry}
+use Rattle.trust_matter.specs.declared.ask.Caller.{Caller}
+use Rattle.trust_matter.specs.declared.ask.Caller.TheVariants.{Cashier}
+use Rattle.firm_rows.specs.Firm.{Firm}
+use Rattle.trust_desk.specs.declared.requests.Request.TheVariants.{Dismiss}
+use Rattle.trust_desk.specs.Dismissing.{dismiss_refusal}
+use Rattle.trust_desk.specs.FirmStep.{firm_step}
+use Rattle.trust_desk.specs.Heard.{Asks}
+
+-- nothing but the exceptions changes
+pub record KeepsAllElse (firm new : Firm) : Type 0 where
+  pub rows : new.rows ≡ firm.rows
+  pub movements : new.movements ≡ firm.movements
+  pub firm_lines : new.firm_lines ≡ firm.firm_lines
+  pub balances : new.balances ≡ firm.balances
+
+-- whoever dismisses a line, dismissed or refused: the rows of all matters, what was moved, the firm's own lines and
+-- the balances stay as they are
+abbrev pub DismissingMovesNothing : Type 0
+DismissingMovesNothing =
+    (day : ℕ) (firm : Firm) (caller : Caller) (line : Line)
+    → KeepsAllElse firm (firm_step day firm (Asks (Dismiss caller line))).firm
+
+-- a line that was dismissed is no exception, and is refused when it comes again
+abbrev pub DismissedOnce : Type 0
+DismissedOnce =
+    (day : ℕ) (firm : Firm) (line : Line) → dismiss_refusal Cashier line firm ≡ None
+    → dismiss_refusal Cashier line (firm_step day firm (Asks (Dismiss Cashier line))).firm ≡ Some NoEntry

@@ -1,0 +1,53 @@
+-- A line that is dismissed from the exceptions.
+use Rattle.std.specs.Prelude.{◌≡◌, ◌⊎◌, Bool, true, not, List, [], ◌∷◌, Option, Some, None, Result, Ok, Err, codes}
+use Rattle.std.specs.List.{list_any}
+use Rattle.trust_base.specs.LineOrder.{is_same_line}
+use Rattle.trust_base.specs.Refusals.{is_fault}
+use Rattle.trust_base.specs.declared.line.Line.{Line}
+use Rattle.trust_base.specs.declared.refusal.Rule.TheVariants as rule
+use Rattle.trust_base.specs.declared.refusal.Refusal.{Refusal}
+use Rattle.trust_base.specs.declared.refusal.Refusal.TheVariants as refusals
+use Rattle.trust_matter.specs.declared.ask.Caller.{Caller}
+use Rattle.trust_matter.specs.Step.{first}
+use Rattle.firm_rows.specs.Firm.{Firm, after_match}
+use Rattle.trust_desk.specs.declared.requests.Body.TheVariants.{Json}
+use Rattle.trust_desk.specs.declared.requests.Reply.{Reply}
+use Rattle.trust_desk.specs.ImportStep.{is_not_of_firm}
+use Rattle.trust_desk.specs.Replies.{refused}
+
+-- the line is one of the exceptions
+abbrev pub is_exception : Line → List Line → Bool
+is_exception line exceptions = list_any (λ x. is_same_line x line) exceptions
+
+-- each refusal with its condition, in the order of their numbers
+abbrev pub dismiss_conditions : Caller → Line → Firm → List (Bool × Refusal)
+dismiss_conditions caller line firm =
+    (is_not_of_firm caller, refusals.NotAllowed rule.Firm)
+    ∷ (not (is_exception line firm.exceptions), refusals.NoEntry)
+    ∷ []
+
+-- the least number whose condition holds
+abbrev pub dismiss_refusal : Caller → Line → Firm → Option Refusal
+dismiss_refusal caller line firm = first (dismiss_conditions caller line firm)
+
+-- the line is no exception from then on, and nothing else changes; where it is refused nothing changes
+abbrev pub dismissed_unless : Option Refusal → Line → Firm → Firm
+dismissed_unless None line firm = after_match line firm
+dismissed_unless (Some r) line firm = firm
+
+abbrev pub after_dismissing : Caller → Line → Firm → Firm
+after_dismissing caller line firm = dismissed_unless (dismiss_refusal caller line firm) line firm
+
+-- the reply to one that is refused, or that was dismissed
+abbrev pub dismiss_reply : Option Refusal → Reply
+dismiss_reply None = record { status = 200; body = Json (codes "{\"dismissed\":1}") }
+dismiss_reply (Some r) = refused r
+
+-- The course of it.
+
+-- it was dismissed; or it was refused, or the store or memory stopped it, and nothing changed
+abbrev pub EndsDismiss : Caller → Line → Firm → Firm → Result Reply Refusal → Type 0
+EndsDismiss caller line firm new (Ok reply) =
+    (dismiss_refusal caller line firm ≡ None) × (reply ≡ dismiss_reply None) × (new ≡ after_match line firm)
+EndsDismiss caller line firm new (Err r) =
+    ((is_fault r ≡ true) ⊎ (dismiss_refusal caller line firm ≡ Some r)) × (new ≡ firm)

@@ -1,0 +1,117 @@
+//! A line that is dismissed from the exceptions.
+
+ghost use Rattle.std.specs.Prelude.{◌≡◌, ◌||◌, IfOk, false};
+ghost use Rattle.trust_base.specs.LineOrder.{is_same_line};
+ghost use Rattle.trust_store.specs.Calls.{IsRead};
+ghost use Rattle.trust_desk.specs.Calls.{KeepsBook};
+ghost use Rattle.trust_desk.specs.Counts.{counted_end};
+ghost use Rattle.trust_desk.specs.Crashes.{MayLeaveChange, is_fault_end};
+ghost use Rattle.trust_desk.specs.Dismissing.{EndsDismiss, after_dismissing, is_exception};
+ghost use Rattle.trust_desk.specs.Replies.{is_fault_reply};
+
+use crate::callers::is_not_of_firm;
+use crate::requests::{Body, Reply};
+use firm_rows::{FirmLine, Movement, RowSink, StatementRow};
+use std::alloc::{AllocError, Global};
+use trust_base::{EntryNo, Line, MatterNo, OwnedBytes, Refusal, Rule, StoreFault};
+use trust_matter::{Caller, Entry, Head, Seat};
+use trust_store::Book;
+
+// Looks for a line among those that it is handed.
+#[derive(Drop)]
+struct LineSearch<'a> {
+    line: &'a Line,
+    is_found: bool,
+}
+
+impl RowSink for LineSearch<'_> {
+    ghost stepped = { λ s row. s };
+
+    ghost noted = { λ s line. record s { is_found = s.is_found || is_same_line line s.line.now } };
+
+    ghost moved = { λ s movement. s };
+
+    ghost lined = { λ s line. s };
+
+    ghost balanced = { λ s row. s };
+
+    fn head(&mut self, _matter: MatterNo, _head: &Head) -> Result<(), AllocError> {
+        Ok(())
+    }
+
+    fn seat(&mut self, _matter: MatterNo, _seat: &Seat) -> Result<(), AllocError> {
+        Ok(())
+    }
+
+    fn entry(
+        &mut self,
+        _matter: MatterNo,
+        _number: EntryNo,
+        _entry: &Entry,
+    ) -> Result<(), AllocError> {
+        Ok(())
+    }
+
+    fn exception(&mut self, line: &Line) -> Result<(), AllocError> {
+        self.is_found = self.is_found || line.compare(self.line).is_eq();
+        Ok(())
+    }
+
+    fn movement(&mut self, _movement: &Movement) -> Result<(), AllocError> {
+        Ok(())
+    }
+
+    fn firm_line(&mut self, _line: &FirmLine) -> Result<(), AllocError> {
+        Ok(())
+    }
+
+    fn balance(&mut self, _row: &StatementRow) -> Result<(), AllocError> {
+        Ok(())
+    }
+}
+
+// Is a line one of a book's exceptions?
+fn is_exception<B: Book>(book: &mut B, line: &Line) -> Result<bool, StoreFault>
+    ensures found { B.clean book.new → B.stands book.old
+        → IfOk result (λ is. is ≡ is_exception line.now (B.firm book.old).exceptions) }
+    ensures read { IsRead B.firm B.clean B.sure B.stands B.lasts B.leaves B.refusals result book.old book.new }
+{
+    let mut search = LineSearch {
+        line,
+        is_found: false,
+    };
+    book.each_exception(&mut search)?;
+    Ok(search.is_found)
+}
+
+/// Dismisses a line from the exceptions of a book: it is none from then on, and nothing else changes.
+///
+/// Refused are a caller who is not the cashier (`NotAllowed`) and a line that is no exception (`NoEntry`); Store and
+/// Memory come where the book or a growth was refused. With an error nothing has changed.
+pub(crate) fn dismiss<B: Book>(
+    alloc: Global,
+    book: &mut B,
+    caller: &Caller,
+    line: &Line,
+) -> Result<Reply, Refusal>
+    ensures end { B.clean book.new → B.stands book.old
+        → EndsDismiss caller.now line.now (B.firm book.old) (B.firm book.new) result }
+    ensures ok { IfOk result (λ reply. is_fault_reply reply ≡ false) }
+    ensures kept { KeepsBook B.clean B.sure B.stands B.lasts B.refusals (counted_end result) book.old book.new }
+    ensures crash { B.sure book.new → B.stands book.old → MayLeaveChange B.clean B.leaves
+        (is_fault_end result ≡ false) (B.firm book.old)
+        (after_dismissing caller.now line.now (B.firm book.old)) book.old book.new }
+{
+    if is_not_of_firm(caller) {
+        return Err(Refusal::NotAllowed(Rule::Firm));
+    }
+    if !is_exception(book, line)? {
+        return Err(Refusal::NoEntry);
+    }
+    let text = Vec::from_slice(alloc, b"{\"dismissed\":1}")?;
+    book.dismiss(alloc, line)?;
+    Ok(Reply {
+        status: 200,
+        body: Body::Json(OwnedBytes::new(text)),
+    })
+}

@@ -1,0 +1,98 @@
+//! Statements whose references may be empty, matched against the book.
+
+ghost use Rattle.std.specs.Prelude.{◌≡◌, ℕ, ◌∷◌, [], false};
+ghost use Rattle.trust_desk.specs.Calls.{KeepsBook};
+ghost use Rattle.trust_desk.specs.Counts.{counted_end, counted_reply};
+ghost use Rattle.trust_desk.specs.Crashes.{IsMade, MayLeave, MayLeaveChange, is_fault_end};
+ghost use Rattle.trust_desk.specs.FirmStep.{Steps, firm_step};
+ghost use Rattle.trust_desk.specs.Heard.{Asks, OnlyTold, kind_of};
+ghost use Rattle.trust_desk.specs.Isolation.{IsOwn, KeepsOthers};
+ghost use Rattle.trust_desk.specs.MatchStep.{IsMatched, match_text, text_in};
+ghost use Rattle.trust_desk.specs.Replies.{is_fault_reply};
+
+use crate::desk::Desk;
+use crate::import_checks::check_import;
+use crate::requests::{Body, MatchText, Reply, Request};
+use statement_match::{Matched, match_statement};
+use std::alloc::Global;
+use trust_base::{Day, OwnedBytes, Refusal};
+use trust_matter::Caller;
+use trust_store::Book;
+
+// One of the two texts.
+fn text_in(matched: Matched, text: MatchText) -> Vec<u8>
+    ensures { result.items ≡ text_in text matched }
+{
+    let Matched {
+        statement,
+        unmatched,
+        is_left: _,
+    } = matched;
+    match text {
+        MatchText::Statement => statement,
+        MatchText::Unmatched => unmatched,
+    }
+}
+
+impl<B: Book> Desk<B> {
+    /// Matches a statement whose references may be empty against the book on a business day. The book stays as it is.
+    ///
+    /// It is refused as an import of the same bytes by the same caller: for more than 4,194,304 bytes (`TooLarge`), for
+    /// another header (`BadField`), or because the caller is not the cashier (`NotAllowed`). Store is answered where
+    /// the book's store was at fault, and Memory where a growth was refused.
+    pub fn match_statement(
+        &mut self,
+        alloc: Global,
+        caller: &Caller,
+        statement: &[u8],
+        day: Day,
+    ) -> Result<Matched, Refusal>
+        ensures matched { B.clean self.new → B.stands self.old
+            → IsMatched day (B.firm self.old) caller.now statement.now result }
+        ensures same { B.clean self.new → B.stands self.old → B.firm self.new ≡ B.firm self.old }
+
+        // It is Store only where a call of the book was.
+        ensures kept { KeepsBook B.clean B.sure B.stands B.lasts B.refusals (counted_end result) self.old self.new }
+
+        // A crash may leave what it might have left before, or the rows as they are.
+        ensures crash { B.sure self.new → B.stands self.old → MayLeaveChange B.clean B.leaves
+            (is_fault_end result ≡ false) (B.firm self.old) (B.firm self.old) self.old self.new }
+    {
+        check_import(alloc, caller, statement)?;
+        let matched = match_statement(alloc, day, &mut self.book, statement)?;
+        Ok(matched)
+    }
+
+    /// Answers with a text of a statement that is matched, or why it is refused: nothing changes. The request is named
+    /// for the contract alone.
+    pub(crate) fn answer_match(
+        &mut self,
+        alloc: Global,
+        _request: &Request,
+        caller: &Caller,
+        statement: &OwnedBytes,
+        text: MatchText,
+        day: Day,
+    ) -> Reply
+        requires only_told { kind_of (Asks _request.now) ≡ OnlyTold (match_text text caller.now statement.now) }
+        ensures step { B.clean self.new → B.stands self.old
+            → Steps day (B.firm self.old) (Asks _request.now) result (B.firm self.new) }
+        ensures others { B.clean self.new → B.stands self.old
+            → KeepsOthers (B.firm self.old) (Asks _request.now) (B.firm self.new) }
+        ensures own { B.clean self.new → B.stands self.old → is_fault_reply result ≡ false
+            → (m : ℕ) → IsOwn m day (B.firm self.old) (Asks _request.now ∷ []) (result ∷ []) (B.firm self.new) }
+        ensures kept { KeepsBook B.clean B.sure B.stands B.lasts B.refusals (counted_reply result) self.old self.new }
+        ensures crash { B.sure self.new → B.stands self.old → MayLeave B.clean B.leaves
+            (is_fault_reply result ≡ false)
+            (IsMade day (B.firm self.old) (Asks _request.now)) (B.firm self.old)
+            (firm_step day (B.firm self.old) (Asks _request.now)).firm self.old self.new }
+    {
+        match self.match_statement(alloc, caller, statement.as_slice(), day) {
+            Ok(matched) => Reply {
+                status: 200,
+                body: Body::Text(OwnedBytes::new(text_in(matched, text))),
+            },
+            Err(refusal) => Reply::refused(refusal),
+        }
+    }
+}

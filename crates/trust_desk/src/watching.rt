@@ -1,0 +1,78 @@
+// Who is told of the items of a statement that are not applied, and of the exceptions.
+
+use crate::importing::ImportStop;
+use firm_rows::{BalanceKind, FirmLedger};
+use trust_base::Line;
+use trust_matter::{BankLine, Matter, Reason};
+
+/// An item of a statement that was not applied, or an exception as an import would find it, with what was read of the
+/// book before it was decided on.
+#[derive(Clone, Copy)]
+pub enum NotApplied<'a> {
+    /// A line that names an entry: its matter, as far as that was read, and the first reason against it.
+    OfMatter {
+        line: &'a BankLine,
+        matter: &'a Matter,
+        reason: Reason,
+    },
+    /// A line of the firm's own.
+    OfFirm {
+        line: &'a Line,
+        ledger: &'a FirmLedger,
+    },
+    /// A balance: the one that is kept of its kind and day, in cents, where there is one.
+    OfBalance {
+        kind: BalanceKind,
+        line: &'a Line,
+        kept: Option<i64>,
+    },
+    /// A line that names nothing.
+    Stray {
+        line: &'a Line,
+    },
+    /// A record that is no line.
+    Unreadable,
+    /// An exception that an import would apply.
+    WouldApply {
+        line: &'a Line,
+    },
+    /// An exception that an import would take for a line that came again.
+    WouldRepeat {
+        line: &'a Line,
+    },
+}
+
+/// Who is told of the items of a statement that are not applied, or of the exceptions. Nothing hangs on whether one can
+/// be told.
+pub trait ItemWatch {
+    /// Tells of an item once it was not applied: its number, of which the first record behind the header has 1; or of
+    /// an exception: its number in their list.
+    fn not_applied(&self, number: u64, told: &NotApplied<'_>);
+
+    /// Tells how the import ended, once so many items were taken.
+    fn ended(&self, taken: u64, end: &ImportStop);
+}
+
+/// Nobody is told.
+#[derive(Clone, Copy, Debug)]
+pub struct NoWatch;
+
+impl ItemWatch for NoWatch {
+    fn not_applied(&self, _number: u64, _told: &NotApplied<'_>) {}
+
+    fn ended(&self, _taken: u64, _end: &ImportStop) {}
+}
+
+/// The number of an item or of an exception, and who is told of it.
+#[derive(Drop)]
+pub struct At<'a, V> {
+    pub number: u64,
+    pub watch: &'a V,
+}
+
+impl<V: ItemWatch> At<'_, V> {
+    // Tells of it.
+    pub(crate) fn tell(&self, told: &NotApplied<'_>) {
+        self.watch.not_applied(self.number, told);
+    }
+}

@@ -1,0 +1,90 @@
+// What the desk tells of a bank's file: the statement that an import takes, and what is left of it.
+
+import { linesOf } from './bank-file.js';
+import { textOf } from './csv.js';
+
+const MATCH = '/firm/statements/match';
+const UNMATCHED = '/firm/statements/unmatched';
+
+const TOLD = /^record (\d+)(, |: )(.*)$/su;
+const COUNTS = /^(\d+) records? written, (\d+) in the book already, (\d+) to be looked at$/u;
+
+// Lines of equal fields are the same line twice, and told by their count alone.
+const keyOf = (line, reference) => JSON.stringify([reference, line.isWhole
+    ? [line.date, line.bank_ref, line.amount, line.text] : line.whole]);
+
+// Counts things by their keys, and takes them out again.
+class Tally {
+    constructor(keys) {
+        this.counts = new Map();
+        for (const key of keys) this.counts.set(key, (this.counts.get(key) ?? 0) + 1);
+    }
+
+    take(key) {
+        const count = this.counts.get(key) ?? 0;
+        this.counts.set(key, count - 1);
+        return count > 0;
+    }
+}
+
+// The lines that are written, each with who named it: the file (`''`), the cashier (`typed`), or the desk (`filled`).
+function readWritten(text, file) {
+    const named = file.lines.filter((line) => !file.typed.has(line.number));
+    const typed = file.lines.filter((line) => file.typed.has(line.number));
+    const inFile = new Tally(named.map((line) => keyOf(line, line.reference)));
+    const inBrowser = new Tally(typed.map((line) => keyOf(line, file.referenceOf(line))));
+    const by = (key) => {
+        if (inFile.take(key)) return '';
+        return inBrowser.take(key) ? 'typed' : 'filled';
+    };
+    return linesOf(text).map((line) => ({ ...line, by: by(keyOf(line, line.reference)) }));
+}
+
+// A control character is told as a space.
+const plain = (words) => words.replace(/[\u0000-\u001f\u007f-\u009f]/gu, ' ');
+
+// The bank's words may look like anything, a reason too. So they are compared with the file, and the reason is what
+// stands behind them; where they are others than in the file, all of it is shown.
+function reasonOf(told, line) {
+    if (!line?.isWhole) return told;
+    const words = line.text && ` ${plain(line.text)}`;
+    const front = `${line.date} ${line.amount}${words}: `;
+    return told.startsWith(front) ? told.slice(front.length) : told;
+}
+
+// Of a record that is no line only its number is told. `line` is null where the file has none of the number; then
+// nothing can be typed into it.
+function readTold(text, file) {
+    const [, number, mark, told] = TOLD.exec(text) ?? [null, '0', ': ', text];
+    const line = file.lines[Number(number) - 1] ?? null;
+    return { line, reason: mark === ': ' ? told : reasonOf(told, line) };
+}
+
+// The counts stand in the last line. Lines are split by the line feed alone: the others may stand in the bank's words.
+function readLeft(text, file) {
+    const lines = text.trimEnd().split('\n');
+    const counts = COUNTS.exec(lines.at(-1));
+    if (!counts) throw new Error(`no counts: ${lines.at(-1)}`);
+    const [written, inBook, left] = counts.slice(1).map(Number);
+    return { written, inBook, left, told: lines.slice(0, -1).map((each) => readTold(each, file)) };
+}
+
+async function askBoth(page, file) {
+    const body = file.bytes();
+    const statement = await page.desk.post(MATCH, body);
+    return { statement, unmatched: statement.isDone ? await page.desk.post(UNMATCHED, body) : statement };
+}
+
+// Asks both, and again where somebody changed the book between the two. `refused` is the answer that is no list.
+export async function matchFile(page, file) {
+    for (let tries = 2; ; tries -= 1) {
+        const { statement, unmatched } = await askBoth(page, file);
+        if (!unmatched.isDone) return { refused: unmatched };
+        const lines = readWritten(textOf(statement.bytes), file);
+        const left = readLeft(unmatched.text, file);
+        if (left.written === lines.length || tries === 0) return { bytes: statement.bytes, lines, ...left };
+    }
+}
+
+// Whether another answer has the same statement.
+export const isSameAs = (one, other) => textOf(one.bytes) === textOf(other.bytes);
