@@ -326,8 +326,6 @@ def be_no_cashier(bank: Bank) -> None:
         for fields_sent in ({"origin": "http://elsewhere.example"}, {"sec-fetch-site": "cross-site"}):
             status = bank.firm.front.ask("cashier", "POST", f"/firm/statements/{path}", fields_sent)[0]
             bank.checks.same(f"the status of {path} from another site", status, 403)
-        spoofed = bank.firm.front.ask("lee", "POST", f"/firm/statements/{path}", {"x-caller": "cashier"})[0]
-        bank.checks.same(f"the status of {path} with an x-caller", spoofed, 403)
 
 
 def look_at_it(bank: Bank) -> None:

@@ -97,9 +97,10 @@ fn why_unopened(error: Error) -> NoBook {
     }
 }
 
-// Why no book can be taken from a database that was opened.
-fn why_untaken(fault: OpenFault) -> NoBook {
+// Why no book can be taken from a database that was opened. One without tables is a book that could not be made.
+fn why_untaken(fault: OpenFault, conn: &Connection<SystemFile>) -> NoBook {
     match fault {
+        OpenFault::NotABook if conn.schema().tables.is_empty() => NoBook::Failed,
         OpenFault::NotABook => NoBook::OtherTables,
         OpenFault::Store => NoBook::Failed,
         OpenFault::Memory => NoBook::Unknown,
@@ -125,7 +126,7 @@ impl Stores for SystemStores<'_> {
         match Connection::open_from(self.rt, path, true, Unknown) {
             Ok(conn) => match SqlBook::adopt(alloc, conn) {
                 Ok(_book) => NoBook::Unknown,
-                Err((fault, _)) => why_untaken(fault),
+                Err((fault, conn)) => why_untaken(fault, &conn),
             },
             Err((error, _)) => why_unopened(error),
         }
