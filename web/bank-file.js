@@ -4,7 +4,7 @@
 import { bytesOf, recordsOf, textOf, wordsOf } from './csv.js';
 import { FILE, TYPED } from './shelf.js';
 
-const NAMES = ['date', 'reference', 'bank_ref', 'amount', 'text'];
+export const NAMES = ['date', 'reference', 'bank_ref', 'amount', 'text'];
 
 // A record of a statement: its number behind the header, its fields by their names where it has five, and all of it.
 function lineOf(fields, number) {

@@ -6,8 +6,13 @@ import { failedBox } from './boxes.js';
 import { el } from './elements.js';
 import { readLabel, readMatter, readPerson } from './names.js';
 
-export const labelField = (name, words, more = {}) =>
-    ({ name, words, read: readLabel, wrong: 'Write 1 to 80 bytes: a letter with an accent takes two or more.', ...more });
+export const labelField = (name, words, more = {}) => ({
+    name,
+    words,
+    read: readLabel,
+    wrong: 'Write 1 to 80 bytes: a letter with an accent takes two or more.',
+    ...more,
+});
 
 export const amountField = (more = {}) => ({
     name: 'amount',

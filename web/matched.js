@@ -1,6 +1,6 @@
 // What the desk tells of a bank's file: the statement that an import takes, and what is left of it.
 
-import { linesOf } from './bank-file.js';
+import { linesOf, NAMES } from './bank-file.js';
 import { textOf } from './csv.js';
 
 const MATCH = '/firm/statements/match';
@@ -84,6 +84,22 @@ export async function matchFile(page, file) {
         const left = readLeft(unmatched.text, file);
         if (left.written === lines.length || tries === 0) return { bytes: statement.bytes, lines, ...left };
     }
+}
+
+const quoted = (words) => `"${words.replaceAll('"', '""')}"`;
+
+const recordOf = ({ date, reference, bank_ref: number, amount, text }) =>
+    [date, reference, number, amount, text].map(quoted).join(',');
+
+// Why each of these lines matches nothing: null for all where the desk does not tell, empty for one that would be
+// applied or that is the firm's own.
+export async function reasonsOf(page, fields) {
+    const body = [NAMES.join(','), ...fields.map(recordOf)].join('\n');
+    const answer = await page.desk.post(UNMATCHED, new TextEncoder().encode(body));
+    if (!answer.isDone) return fields.map(() => null);
+    const lines = fields.map((each) => ({ ...each, isWhole: true }));
+    const reasons = new Map(readLeft(answer.text, { lines }).told.map(({ line, reason }) => [line, reason]));
+    return lines.map((line) => reasons.get(line) ?? '');
 }
 
 // Whether another answer has the same statement.

@@ -26,6 +26,9 @@ const ADVICE = [
         `An equal amount does not tell whose it is. ${LOOK}, then type the reference.`],
     [/^no payment of its amount; it may be a return/,
         "If the bank took a deposit back, type that deposit's reference."],
+    [/^no entry of its amount; the deposits of /, 'The bank shows a slip with several checks in one line. If the slip '
+        + 'has these, write a line for each into the file, with the same day and bank reference, its own amount and '
+        + 'its reference, and match it again.'],
     [/^no entry of its amount/, MISSING],
     [/^its reference is that of an entry|^the book has no deposit or payment of its reference/,
         'As it stands it would be an exception. Look at the reference, and mend it.'],

@@ -14,6 +14,7 @@ from .firm import HEAD, Desk, Fault, Firm
 from .views import NARROW, look, see
 
 DAY = "2026-03-16"
+SMALL = 700  # a window, in which a table is still one
 SHEET = """open,000001,,Ada Chen,lee
 open,000002,,Bob Ruiz,sato
 open,000003,,Cleo Marsh,lee
@@ -132,7 +133,7 @@ def type_what_is_left(bank: Bank) -> None:
     browser, relay = bank.browser, bank.firm.relay
     bank.type(r5="Cleo")
     browser.press("Match again")
-    bank.has("Write FIRM, or an entry\u2019s reference")
+    bank.has("Write FIRM, or an entry's reference")
     bank.checks.same("the focus", browser.focused().get_attribute("name"), "reference-5")
     bank.type(r5="m000003-0001")
     browser.click("form.left button", "FIRM")
@@ -216,25 +217,51 @@ def bring_in_as_it_is(bank: Bank) -> None:
     bank.put_away()
 
 
+SLIPS = HEAD + """2026-03-14,M000030-0001,S1,7.00,DEPOSIT
+2026-03-14,,S2,8.00,
+2026-03-14,A SLIP,S3,9.00,x
+2026-03-14,M000004-0003,S4,13.00,"two, ""marks"" more"
+"""
+
+
+def see_exceptions(bank: Bank) -> None:
+    """Each with its reason, or without where the desk is away meanwhile; one that would be applied now says so."""
+    desk, relay = bank.firm.desk, bank.firm.relay
+    desk.ask("cashier", "POST", "/firm/statements", body=SLIPS)
+    why = "the book has no deposit or payment of its reference", "no entry of its amount"
+    relay.fail("POST /firm/statements/unmatched", Fault("closed"))
+    for tell in (bank.lacks, bank.has):
+        bank.browser.to("#/report/exceptions")
+        bank.browser.settle()
+        tell(*why)
+        bank.has("A slip in a file", "Dismiss M000030-0001", "Dismiss the line of 8.00", "by the day sheet alone")
+        bank.lacks("Dismiss A SLIP", "It would be applied now")
+    desk.ask("cashier", "POST", "/matters/000004/entries/0003/deposit",
+             body='{"amount":"13.00","source":"Ada Chen","description":"costs"}')
+    bank.browser.to("#/report/exceptions")
+    bank.has("It would be applied now: bring the same file in again.")
+    look(bank.browser, "the exceptions", bank.checks)
+    for width in (SMALL, PHONE, NARROW):
+        small = Browser("cashier", bank.firm.origin, width)
+        small.to("#/report/exceptions")
+        bank.checks.same(f"what stands aside of the exceptions at {width} px", see(small, "widthAside()"), 0)
+        small.quit()
+
+
 def take_a_slip_back(bank: Bank) -> None:
     """Exceptions that the bank does not have are dismissed, asked twice; one that can't be read back has no button."""
-    slips = HEAD + "2026-03-14,M000030-0001,S1,7.00,DEPOSIT\n2026-03-14,,S2,8.00,\n2026-03-14,A SLIP,S3,9.00,x\n"
-    bank.firm.desk.ask("cashier", "POST", "/firm/statements", body=slips)
-    bank.browser.to("#/report/exceptions")
-    bank.browser.settle()
-    bank.has("A slip in a file", "Dismiss M000030-0001", "Dismiss the line of 8.00", "by the day sheet alone")
-    bank.lacks("Dismiss A SLIP")
     bank.browser.press("Dismiss M000030-0001")
     bank.has("Only where the bank does not have this line.")
     bank.browser.press("Keep it")
     bank.lacks("Only where the bank does not have this line.")
-    for name in ("Dismiss M000030-0001", "Dismiss the line of 8.00"):
+    for name in ("Dismiss M000030-0001", "Dismiss the line of 8.00", "Dismiss M000004-0003"):
         bank.browser.press(name)
         bank.browser.press("The bank does not have it: dismiss it")
         bank.has("The line is no exception any more.")
         bank.lacks(name)
     left = bank.firm.desk.ask("cashier", "GET", "/firm/exceptions")[1]
-    bank.checks.same("the slips that are left", [slip for slip in ("S1", "S2", "S3") if f" {slip} " in left], ["S3"])
+    slips = [slip for slip in ("S1", "S2", "S3", "S4") if f" {slip} " in left]
+    bank.checks.same("the slips that are left", slips, ["S3"])
     bank.firm.desk.ask("cashier", "POST", "/firm/exceptions/dismiss", body=json.dumps(
         {"date": "2026-03-14", "reference": "A SLIP", "bank_ref": "S3", "amount": "9.00", "text": "x"}))
 
@@ -252,7 +279,7 @@ def see_spiteful_words(bank: Bank) -> None:
                      [f"reference-{each}" for each in (1, 2, 3, 4, 6)])
     bank.type(r1="F\u0406RM")
     bank.browser.press("Match again")
-    bank.has("Write FIRM, or an entry\u2019s reference")
+    bank.has("Write FIRM, or an entry's reference")
     bank.put_away()
     # A byte that is no UTF-8 goes there and back as it is.
     before = len(bank.firm.relay.imported)
@@ -261,6 +288,26 @@ def see_spiteful_words(bank: Bank) -> None:
     bank.browser.press("Import these")
     bank.checks.same("the byte that was sent", b"caf\xe9" in b"".join(bank.firm.relay.imported[before:]), True)
     bank.put_away()
+
+
+# Reasons that begin alike, and the words of the advice on each.
+ALIKE = (
+    ("no entry of its amount", "Book what is missing"),
+    ("no entry of its amount; the deposits of 2026-03-12 are together its amount: M000001-0001 held 2026-03-12 Ada",
+     "write a line for each into the file"),
+    ("it shows M000001-0001, which another record names", "The bank shows an entry once."),
+    ("it shows an entry of another amount: M000001-0001 held 2026-03-12 Ada, 5.00", "The bank misread it"),
+    ("what nobody has told yet", ""),
+)
+
+
+def advise(bank: Bank) -> None:
+    """What the page's own module says of reasons that no file here has."""
+    script = "import('/page/reasons.js').then(({ adviceOn }) => done(adviceOn(arguments[0])), String)"
+    for reason, words in ALIKE:
+        advice = bank.browser.wait(script, reason)
+        is_so = words in advice if words else not advice
+        bank.checks.so(f"the advice on {reason!r} has {words!r}, or is none", is_so, advice)
 
 
 def see_long_files(bank: Bank) -> None:
@@ -279,7 +326,7 @@ def see_long_files(bank: Bank) -> None:
 
 
 CHAPTERS = (match_and_import, type_what_is_left, import_what_is_left, change_the_book_meanwhile, name_a_wrong_entry,
-            bring_in_as_it_is, take_a_slip_back, see_spiteful_words, see_long_files)
+            bring_in_as_it_is, see_exceptions, take_a_slip_back, see_spiteful_words, advise, see_long_files)
 
 # What the page says of an answer to either route, and whether it keeps the file.
 TOO_LARGE = Fault("told", 413, '{"name":"TooLarge","refusal":3}')

@@ -1,10 +1,12 @@
 // The bank's lines that match nothing, and the way to take one back that was a slip in a file.
 
+import { grouped } from '../amounts.js';
 import { change } from '../asks.js';
 import { noteBox } from '../boxes.js';
 import { button, el, label, money, number, p } from '../elements.js';
-import { shown } from '../names.js';
+import { reasonsOf } from '../matched.js';
 import { column, longTable } from '../tables.js';
+import { reasonWords, referenceLink } from './matched.js';
 
 const PATH = '/firm/exceptions/dismiss';
 const HERE = '#/report/exceptions';
@@ -14,6 +16,8 @@ const FIRST = 100;
 
 // A line as the list prints it. Where a reference has a space nobody can say where it ends: such a line is not read.
 const LINE = /^(\d{4}-\d\d-\d\d) (\S+) (\S+) (-?\d+\.\d\d) (.*)$/;
+
+const isEntry = (reference) => /^M\d{6}-\d{4}$/.test(reference);
 
 // An empty field is printed so.
 const fieldOf = (printed) => (printed === '-' ? '' : printed);
@@ -28,7 +32,7 @@ function readLine(whole) {
 }
 
 // What a line is called on its button.
-const nameOf = ({ reference, amount }) => (reference ? shown(reference) : `the line of ${amount}`);
+const nameOf = ({ reference, amount }) => (isEntry(reference) ? reference : `the line of ${grouped(amount)}`);
 
 // Asked once more, since it is not undone.
 function confirm(page, { whole, fields }, place) {
@@ -44,18 +48,36 @@ function confirm(page, { whole, fields }, place) {
     asked.focus();
 }
 
-const COLUMNS = [column('Day', 'tight'), column('Reference', 'tight'), column("The bank's", 'tight'),
-    column('Amount', 'right'), column("The bank's words"), column('Change')];
+const COLUMNS = [column('Day', 'tight'), column('Reference', 'tight'), column('Amount', 'right'),
+    column("The bank's number and words"), column('Change', 'tight')];
+
+// What the bank says, and below it why the line matches nothing.
+const wordsOf = ({ fields, reason }) => [
+    label([fields.bank_ref, fields.text].filter(Boolean).join(' | ')),
+    reason && el('p', { class: 'hint' }, reasonWords(reason)),
+];
 
 const cellsOf = (page, place) => (line) => (line.fields
-    ? [number(line.fields.date), label(line.fields.reference), label(line.fields.bank_ref),
-        money(line.fields.amount), label(line.fields.text),
+    ? [number(line.fields.date), referenceLink(line.fields.reference), money(line.fields.amount), wordsOf(line),
         button(`Dismiss ${nameOf(line.fields)}`, () => confirm(page, line, place))]
-    : ['', '', '', '', label(line.whole), 'by the day sheet alone']);
+    : ['', '', '', label(line.whole), 'by the day sheet alone']);
+
+const APPLIED = 'It would be applied now: bring the same file in again.';
+
+const reasonIn = (told, { reference }) => (told === '' && isEntry(reference) ? APPLIED : told);
+
+// The lines, with why each that could be read matches nothing.
+async function withReasons(page, lines) {
+    const whole = lines.filter(({ fields }) => fields);
+    if (!whole.length) return lines;
+    const told = await reasonsOf(page, whole.map(({ fields }) => fields));
+    const reasons = new Map(whole.map((line, i) => [line, reasonIn(told[i], line.fields)]));
+    return lines.map((line) => ({ ...line, reason: reasons.get(line) }));
+}
 
 // What stands below the list of exceptions: nothing where it has none.
-export function dismissal(page, text) {
-    const lines = text.trimEnd().split('\n').slice(1).map(readLine);
+export async function dismissal(page, text) {
+    const lines = await withReasons(page, text.trimEnd().split('\n').slice(1).map(readLine));
     if (!lines.length) return null;
     const place = el('div', {});
     const cells = cellsOf(page, place);

@@ -10,14 +10,14 @@ import { column, longTable } from '../tables.js';
 // So many lines of each list are shown at first.
 const FIRST = 100;
 
-const WRONG = 'Write FIRM, or an entry\u2019s reference such as M000001-0001.';
+const WRONG = "Write FIRM, or an entry's reference such as M000001-0001.";
 
 const entryAt = (reference) => /^M(\d{6})-(\d{4})$/.exec(reference);
 
 // A reference leads to its entry.
-function referenceLink(reference) {
+export function referenceLink(reference) {
     const at = entryAt(reference);
-    return at ? link(`#/m/${at[1]}/e/${at[2]}`, number(reference)) : label(reference);
+    return at ? link(`#/m/${at[1]}/e/${at[2]}`, number(reference)) : reference && label(reference);
 }
 
 // As in the file, where it is no day or no amount.
@@ -43,9 +43,9 @@ export const writtenTable = (lines) => longTable({
     first: FIRST,
 });
 
-// The entries that a reason names can be looked at.
-const reasonWords = (reason) => reason.split(/(M\d{6}-\d{4})/u).map((part) =>
-    (entryAt(part) ? referenceLink(part) : label(part)));
+// The entries that a reason names can be looked at; its days are not broken.
+export const reasonWords = (reason) => reason.split(/(M\d{6}-\d{4}|\d{4}-\d\d-\d\d)/u).map((part) =>
+    (entryAt(part) ? referenceLink(part) : dayOf(part)));
 
 const whyOf = ({ reason }) => [el('p', {}, reasonWords(reason)), el('p', { class: 'hint' }, adviceOn(reason))];
 
@@ -123,8 +123,8 @@ export function leftForm(file, told, again) {
         event.preventDefault();
         return areReferences(made, file) ? again() : null;
     };
-    const about = p('A line without a reference is not imported. Type the reference of its entry, or FIRM for the '
-        + 'firm\u2019s own money, and match again: the file is kept in this browser with what you type.');
+    const about = p('A line without a reference is not imported. Type the reference of its entry, or FIRM for the ',
+        "firm's own money, and match again: the file is kept in this browser with what you type.");
     const made = el('form', { class: 'left', submit }, about, list, el('button', { type: 'submit' }, 'Match again'));
     return made;
 }

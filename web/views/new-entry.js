@@ -8,9 +8,13 @@ import { amountField, choiceField, form, labelField } from '../forms.js';
 import { entryAfter, shown } from '../names.js';
 import { backTo, hasLeft, readMatterWhole } from './matter.js';
 
+// The bank's line is matched by it.
+const SHOWN_BY_THE_BANK = 'With the number that the bank will print, such as: retainer, check 2291';
+
 const deposit = () => ({
     title: 'Book a deposit', kind: 'deposit', action: 'Book it',
-    fields: [amountField(), labelField('source', 'Paid in by'), labelField('description', 'What for')],
+    fields: [amountField(), labelField('source', 'Paid in by'),
+        labelField('description', 'What for', { hint: SHOWN_BY_THE_BANK })],
     whatOf: ({ amount }) => `deposit of ${grouped(amount)}`,
 });
 
@@ -61,6 +65,9 @@ const fundsOf = (card, claims) => [
         ({ value: `claim ${entry}`, words: `Claim ${entry}: ${grouped(left)} left, paid to ${shown(payee)}`, payee })),
 ];
 
+// To the desk the firm is FIRM alone, and `Firm` somebody whom the general fund pays. A claim pays whom it names.
+const payeeOfDesk = (typed, fund) => (fund !== 'claim' && /^firm$/i.test(typed) ? 'FIRM' : typed);
+
 async function propose({ page, no, card, fund, of }) {
     const funds = fundsOf(card, await settledClaims(page, no, card));
     const payeeOf = (value) => funds.find((each) => each.value === value)?.payee ?? '';
@@ -73,11 +80,11 @@ async function propose({ page, no, card, fund, of }) {
             amountField(),
             labelField('payee', 'Payee', { value: payeeOf(chosen) }),
             labelField('purpose', 'Purpose'),
-            labelField('instrument', 'Check or transfer number'),
+            labelField('instrument', 'Check or transfer number', { hint: 'As the bank will print it, such as 1001' }),
         ],
-        sentOf({ from, ...values }) {
+        sentOf({ from, payee, ...values }) {
             const [name, drawn] = from.split(' ');
-            return { from: name, ...(drawn && { of: drawn }), ...values };
+            return { from: name, ...(drawn && { of: drawn }), payee: payeeOfDesk(payee, name), ...values };
         },
         whatOf: ({ amount, payee }) => `payment of ${grouped(amount)} to ${shown(payee)}`,
         prepare(made) {

@@ -2,7 +2,7 @@
 
 import { grouped, isNothing } from '../amounts.js';
 import { doneBox, noteBox, refusedBox, warningBox } from '../boxes.js';
-import { button, p, printed } from '../elements.js';
+import { button, link, number, p, printed } from '../elements.js';
 import { form } from '../forms.js';
 import { dayBefore, readDay } from '../names.js';
 import { dayOf, readFigures } from '../reports.js';
@@ -47,7 +47,10 @@ function resultBox(figures) {
     const more = isNothing(difference) ? null : p(`The difference is ${grouped(difference)}; exceptions explain `
         + `${grouped(exceptions)} of it, and lines that the bank had before the books ${grouped(early)}.`);
     if (!isNothing(gap)) {
-        return warningBox(`A gap of ${grouped(gap)} is explained by nothing. Find it before the month is filed.`, more);
+        const slips = isNothing(exceptions) ? null : p(`Exceptions come to ${grouped(exceptions)}. One that the bank `
+            + 'does not have makes a gap: ', link('#/report/exceptions', 'look at them'), '.');
+        return warningBox(`A gap of ${grouped(gap)} is explained by nothing. Find it before the month is filed.`, more,
+            slips);
     }
     return doneBox(isNothing(difference) ? 'Bank, journal and ledgers agree.'
         : 'Bank and journal differ, and what they differ by is explained.', more);
@@ -62,5 +65,5 @@ export async function reconciliation(page, day = null) {
     const path = `/firm/reconciliation/${day}`;
     const { text } = await page.desk.get(path);
     const parts = [resultBox(readFigures(text)), printed(text, path, `reconciliation-${day}.txt`), asked];
-    return { title: `Reconciliation of ${day}`, parts };
+    return { title: ['Reconciliation of ', number(day)], parts };
 }

@@ -33,6 +33,6 @@ export async function report(page, name) {
         place.append(p(`The last ${LAST} of ${lines.length - 2} lines.`), p(button('Show all', showAll)),
             ...printed([lines[0], ...lines.slice(-LAST - 1)].join('\n'), path, file));
     }
-    const more = name === 'exceptions' && dismissal(page, text);
+    const more = name === 'exceptions' && await dismissal(page, text);
     return { title: NAMES[name], parts: [reportsList(name), place, more] };
 }

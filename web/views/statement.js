@@ -21,7 +21,7 @@ const WRONG = 'Some of these lines match nothing as they stand: they are told be
     + 'exceptions.';
 const HINT = 'First line: date,reference,bank_ref,amount,text. At most 4,194,304 bytes. '
     + 'The same file may come again: nothing is counted twice.';
-const CHOICE = 'Match fills in the references that the bank\u2019s words make sure, and imports nothing. '
+const CHOICE = "Match fills in the references that the bank's words make sure, and imports nothing. "
     + 'Bring it in imports the file as it is.';
 
 function wrongWith(file) {

@@ -1,6 +1,6 @@
 -- What one run over a desk after another leaves of its book.
 use Rattle.std.proofs.Common.{◌≡◌, ℕ, refl}
-use Rattle.portal_server.specs.ServedAll.{KeepsStanding}
+use Rattle.portal_http.specs.ServedAll.{KeepsStanding}
 use Rattle.trust_desk.specs.Calls.{KeepsBook}
 use Rattle.cashier.specs.Calls.{IsSame, LeavesBook}
 

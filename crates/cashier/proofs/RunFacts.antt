@@ -8,7 +8,7 @@ use Rattle.trust_base.specs.declared.refusal.StoreFault.TheVariants as faults
 use Rattle.firm_rows.specs.Firm.{Firm, empty_firm}
 use Rattle.firm_rows.specs.FirmSound.{FirmSound}
 use Rattle.firm_rows.proofs.Kept.{empty-sound}
-use Rattle.portal_server.specs.Clients.{Ports}
+use Rattle.portal_http.specs.Clients.{Ports}
 use Rattle.command_line.specs.Program.{Means, MeansNothing, db_of}
 use Rattle.command_line.specs.declared.command.Task.{Task}
 use Rattle.cashier.specs.Outcome.{Ran, put_outcome, store_outcome}

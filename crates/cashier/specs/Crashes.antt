@@ -6,10 +6,10 @@ use Rattle.firm_rows.specs.Firm.{Firm}
 use Rattle.trust_store.specs.Crashes.{LeavesOr}
 use Rattle.statement_csv.specs.Items.{items}
 use Rattle.trust_desk.specs.Crashes.{IsAfterFirst, MayLeave}
-use Rattle.portal_server.specs.Clients.{Ports}
-use Rattle.portal_server.specs.Served.{Served}
-use Rattle.portal_server.specs.ServedAll.{AreServedInTurn}
-use Rattle.portal_server.specs.stream.StreamEnd.{StreamEnd}
+use Rattle.portal_http.specs.Clients.{Ports}
+use Rattle.portal_http.specs.Served.{Served}
+use Rattle.portal_http.specs.ServedAll.{AreServedInTurn}
+use Rattle.portal_http.specs.declared.stream.StreamEnd.{StreamEnd}
 use Rattle.command_line.specs.Program.{Means}
 use Rattle.command_line.specs.declared.report_command.ReportCommand.{ReportCommand}
 use Rattle.command_line.specs.declared.command.Task.TheVariants as task

@@ -3,9 +3,9 @@ use Rattle.std.specs.Prelude.{◌≡◌, ◌⊎◌, ◌++◌, ℕ, List, Option,
 use Rattle.std.specs.Borrow.{Bor}
 use Rattle.std.specs.Fmt.{decimal}
 use Rattle.clap.specs.Words.{Text}
-use Rattle.command_advice.specs.Advice.{IsWrong, Names, advice_text}
+use Rattle.command_line.specs.Advice.{IsWrong, Names, advice_text}
 use Rattle.command_line.specs.Program.{Means, MeansSheet, MeansStream, db_of}
-use Rattle.command_advice.specs.declared.advice.Advice.{Advice}
+use Rattle.command_line.specs.declared.advice.Advice.{Advice}
 use Rattle.command_line.specs.declared.command.Task.TheVariants as task
 use Rattle.cashier.specs.declared.notice.Notice.{Notice}
 use Rattle.cashier.specs.declared.notice.Notice.TheVariants as notice
@@ -29,8 +29,7 @@ source_line (Some s) = codes "file fault\n" ++ source_text s
 -- the line of the book, and of its path where that is known
 abbrev pub book_line : Option (Bor (List ℕ)) → Text
 book_line None = codes "store fault"
-book_line (Some path) = codes "store fault\n" ++ (path.now
-    ++ codes " holds no book of this version, or could not be opened, read or written")
+book_line (Some path) = codes "store fault\n" ++ (path.now ++ codes " could not be opened, read or written as a book")
 
 -- the line of the port, where it is known
 abbrev pub port_line : Option ℕ → Text

@@ -9,7 +9,7 @@ use Rattle.trust_base.specs.declared.refusal.StoreFault.TheVariants as faults
 use Rattle.command_line.specs.Program.{Means}
 use Rattle.cashier.specs.Matching.{MatchEnds}
 use Rattle.cashier.specs.Report.{PrintsReport}
-use Rattle.portal_server.specs.Clients.{Ports}
+use Rattle.portal_http.specs.Clients.{Ports}
 use Rattle.cashier.specs.Serving.{PortEnds}
 use Rattle.cashier.specs.Sheet.{Ends}
 use Rattle.cashier.specs.Statement.{StatementEnds}
@@ -25,8 +25,8 @@ use Rattle.cashier.specs.declared.sheet.SheetEnd.{SheetEnd}
 use Rattle.cashier.specs.declared.sheet.SheetEnd.TheVariants as sheet
 use Rattle.cashier.specs.declared.statement.StatementEnd.{StatementEnd}
 use Rattle.cashier.specs.declared.statement.StatementEnd.TheVariants as statement
-use Rattle.portal_server.specs.stream.StreamEnd.{StreamEnd}
-use Rattle.portal_server.specs.stream.StreamEnd.TheVariants as stream
+use Rattle.portal_http.specs.declared.stream.StreamEnd.{StreamEnd}
+use Rattle.portal_http.specs.declared.stream.StreamEnd.TheVariants as stream
 
 -- 0 done, 1 something was refused, 2 the command line, 3 a fault
 abbrev pub exit_status : Outcome → ℕ

@@ -4,7 +4,7 @@ use Rattle.clap.specs.Words.{Text}
 use Rattle.firm_rows.specs.Firm.{Firm, empty_firm}
 use Rattle.firm_rows.specs.FirmSound.{FirmSound}
 use Rattle.trust_base.specs.declared.refusal.StoreFault.{StoreFault}
-use Rattle.portal_server.specs.Clients.{Ports}
+use Rattle.portal_http.specs.Clients.{Ports}
 use Rattle.command_line.specs.Program.{Means, MeansNothing, db_of}
 use Rattle.command_line.specs.declared.command.Task.{Task}
 use Rattle.cashier.specs.Calls.{CountsStore, LeavesBook}

@@ -2,12 +2,12 @@
 use Rattle.std.specs.Prelude.{◌≡◌, ◌⊎◌, ℕ, suc, length, List, [], ◌∷◌, Option}
 use Rattle.std.specs.Io.KnownBytes.{Appends}
 use Rattle.firm_rows.specs.Firm.{Firm}
-use Rattle.portal_server.specs.stream.StreamEnd.{StreamEnd}
-use Rattle.portal_server.specs.stream.StreamEnd.TheVariants as stream
-use Rattle.portal_server.specs.Clients.{Comes, Client, Gone, Refused, Ports}
-use Rattle.portal_server.specs.EndLines.{IsTold}
-use Rattle.portal_server.specs.declared.server.ServeEnd.{ServeEnd}
-use Rattle.portal_server.specs.declared.server.ServeEnd.TheVariants as serving
+use Rattle.portal_http.specs.declared.stream.StreamEnd.{StreamEnd}
+use Rattle.portal_http.specs.declared.stream.StreamEnd.TheVariants as stream
+use Rattle.portal_http.specs.Clients.{Comes, Client, Gone, Refused, Ports}
+use Rattle.portal_http.specs.EndLines.{IsTold}
+use Rattle.portal_http.specs.declared.server.ServeEnd.{ServeEnd}
+use Rattle.portal_http.specs.declared.server.ServeEnd.TheVariants as serving
 use Rattle.cashier.specs.Stream.{StreamEnds}
 use Rattle.cashier.specs.declared.outcome.Outcome.{Outcome}
 use Rattle.cashier.specs.declared.outcome.Outcome.TheVariants as outcome

@@ -6,10 +6,10 @@ use Rattle.trust_desk.specs.declared.requests.Reply.{Reply}
 use Rattle.trust_desk.specs.FirmStep.{IsUnstopped, RunsSoundly}
 use Rattle.trust_desk.specs.Isolation.{IsOwn}
 use Rattle.trust_desk.specs.NeverBelowZero.{CoveredRun}
-use Rattle.portal_server.specs.message.Message.{Message}
-use Rattle.portal_server.specs.Requests.{heard_of}
-use Rattle.portal_server.specs.Served.{IsRead, IsTail, IsWritten}
-use Rattle.portal_server.specs.stream.StreamEnd.{StreamEnd}
+use Rattle.portal_http.specs.message.Message.{Message}
+use Rattle.portal_http.specs.Requests.{heard_of}
+use Rattle.portal_http.specs.Served.{IsRead, IsTail, IsWritten}
+use Rattle.portal_http.specs.declared.stream.StreamEnd.{StreamEnd}
 
 -- how a stream of these bytes, where they are known, ends on a day: its messages and their replies, in order, the
 -- refusal behind them, where there is one, the firm before and after, and what a writer was given by then

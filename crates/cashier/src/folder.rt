@@ -14,6 +14,17 @@ pub struct Opened<R: Drop> {
     pub length: Option<u64>,
 }
 
+/// What is at a path.
+#[derive(Clone, Copy, PartialEq, Eq, Debug)]
+pub enum Presence {
+    /// Nothing.
+    Missing,
+    /// A file of no bytes.
+    Empty,
+    /// Something else, or that can't be told.
+    There,
+}
+
 /// Where the files that a command line names are found.
 pub trait Folder {
     ghost use Rattle.std.specs.Prelude.{List, Option, ℕ};
@@ -32,8 +43,8 @@ pub trait Folder {
         ensures bytes { IfSome result (λ file. Keeps (known self.now path.now) (Self.File.remaining file.reader)) }
         ensures told { opens self.now path.now (option_map (λ file. file.length) result) };
 
-    /// Whether something is at a path, or may be: what a person is told hangs on it, and nothing else.
-    fn has(&self, _path: &str) -> bool {
-        true
+    /// What is at a path: what a person is told hangs on it, and nothing else.
+    fn presence(&self, _path: &str) -> Presence {
+        Presence::There
     }
 }

@@ -19,25 +19,23 @@ mod report;
 mod serving;
 mod sheet;
 mod statement;
-mod stores;
 mod surroundings;
 mod system;
 
-pub use folder::{Folder, Opened};
+pub use folder::{Folder, Opened, Presence};
 pub use matching::run_match;
 pub use notice::{Notice, Source, bare_notice_of, notice_of};
 pub use outcome::{Outcome, exit_of};
-pub use portal_server::{AcceptFault, ClientListener, Connection, Network};
+pub use portal_http::{AcceptFault, ClientListener, Connection, Network};
 pub use program::{run_over_stores, run_words};
 pub use remarks::{
-    AskedRemarks, EntryFault, EntryLine, ExceptionRemark, Excerpt, HeaderRemark, LineFault,
-    LineRemark, NoRemarks, OwnLine, Place, Plain, RecordFault, RecordRemark, RefusedRecord, Remark,
-    Remarks, UnmatchedLine,
+    AskedRemarks, Caution, EntryFault, EntryLine, ExceptionRemark, Excerpt, FileRemark,
+    HeaderRemark, LineFault, LineRemark, NoRemarks, OwnLine, Place, Plain, RecordFault,
+    RecordRemark, RefusedRecord, Remark, Remarks, UnmatchedLine, VerbFault,
 };
 pub use report::run_report;
 pub use serving::run_serve;
 pub use sheet::{SheetEnd, run_sheet};
 pub use statement::{StatementEnd, run_import};
-pub use stores::{NoBook, NoStores, Stores};
 pub use surroundings::Surroundings;
 pub use system::run_on_system;

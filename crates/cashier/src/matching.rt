@@ -9,7 +9,7 @@ ghost use Rattle.cashier.specs.Outcome.{MatchFileEnds};
 
 use crate::folder::{Folder, Opened};
 use crate::outcome::{Outcome, outcome_of_reply};
-use crate::remarks::{Remarks, tell_unmatched};
+use crate::remarks::{Remarks, StatementTelling};
 use crate::reply_kind::kind_of_refusal;
 use crate::reply_line::write_refusal;
 use crate::statement::is_told_longer;
@@ -61,9 +61,10 @@ fn outcome_by(is_left: bool) -> Outcome
     }
 }
 
-// Prints what a statement becomes, and tells a person what of it has to be looked at; or prints the line of its refusal.
-fn print_found<W: Write, M: Remarks>(
-    remarks: &M,
+// Prints what a statement becomes, and tells a person what of it has to be looked at; or prints the line of its refusal,
+// and tells a person why.
+fn print_found<W: Write, F: Folder, M: Remarks>(
+    telling: &StatementTelling<'_, F, M>,
     writer: &mut W,
     found: &Result<Matched, Refusal>,
 ) -> Outcome
@@ -76,23 +77,24 @@ fn print_found<W: Write, M: Remarks>(
             let Ok(()) = send(writer, matched.statement.as_slice()) else {
                 return Outcome::OutputFault;
             };
-            tell_unmatched(remarks, matched.unmatched.as_slice());
+            telling.tell_matched(matched.unmatched.as_slice());
             outcome_by(matched.is_left)
         }
         Err(refusal) => {
             let Ok(()) = write_refusal(writer, refusal) else {
                 return Outcome::OutputFault;
             };
+            telling.tell_refused(refusal);
             outcome_of_reply(kind_of_refusal(refusal))
         }
     }
 }
 
 // Matches the statement in a file, and prints what it becomes.
-fn match_in<R: Read + Drop, M: Remarks, W: Write, B: Book>(
+fn match_in<R: Read + Drop, F: Folder, M: Remarks, W: Write, B: Book>(
     alloc: Global,
     file: Opened<R>,
-    remarks: &M,
+    telling: &StatementTelling<'_, F, M>,
     writer: &mut W,
     desk: &mut Desk<B>,
     today: Day,
@@ -107,7 +109,7 @@ fn match_in<R: Read + Drop, M: Remarks, W: Write, B: Book>(
         → LeavesOr (B.firm desk.old) (B.leaves desk.old) (B.leaves desk.new) }
 {
     match found_in(alloc, file, desk, today) {
-        Some(found) => print_found(remarks, writer, &found),
+        Some(found) => print_found(telling, writer, &found),
         None => Outcome::FileFault,
     }
 }
@@ -144,5 +146,7 @@ pub fn run_match<F: Folder, M: Remarks, W: Write, B: Book>(
     let Some(file) = folder.open(path) else {
         return Outcome::FileFault;
     };
-    match_in(alloc, file, remarks, writer, desk, today)
+    let is_file = file.length.is_some();
+    let telling = StatementTelling::new(alloc, folder, path, is_file, today, remarks);
+    match_in(alloc, file, &telling, writer, desk, today)
 }

@@ -6,8 +6,7 @@ ghost use Rattle.cashier.specs.Notice.{IsBookPath, IsServedPort, IsSource, IsTol
 ghost use Rattle.command_line.specs.Program.{words_of};
 
 use crate::outcome::Outcome;
-use command_advice::{Advice, advice_of};
-use command_line::{Task, command_of};
+use command_line::{Advice, Task, advice_of, command_of};
 use std::alloc::Global;
 use std::fmt;
 
@@ -60,7 +59,7 @@ impl fmt::Display for Notice<'_> {
             Notice::StoreFault(None) => f.write_str("store fault"),
             Notice::StoreFault(Some(path)) => write!(
                 f,
-                "store fault\n{path} holds no book of this version, or could not be opened, read or written"
+                "store fault\n{path} could not be opened, read or written as a book"
             ),
             Notice::MemoryFault => f.write_str("memory fault"),
             Notice::NetworkFault(None) => f.write_str("network fault"),

@@ -10,7 +10,7 @@ ghost use Rattle.cashier.specs.Outcome.{sheet_outcome, statement_outcome, stream
 use crate::reply_kind::ReplyKind;
 use crate::sheet::SheetEnd;
 use crate::statement::StatementEnd;
-use portal_server::{ServeEnd, StreamEnd};
+use portal_http::{ServeEnd, StreamEnd};
 use std::io::ErrorKind;
 use std::process::ExitCode;
 use trust_base::StoreFault;

@@ -9,7 +9,7 @@ ghost use Rattle.cashier.specs.Outcome.{FileEnds, HasBegun, IsServed, Ran, words
 ghost use Rattle.cashier.specs.Runs.{HadNoBook, HasRun, RanAtPath, RanInMemory};
 ghost use Rattle.command_line.specs.Program.{Means, MeansNothing, MeansSheet, MeansStream, words_of};
 ghost use Rattle.command_line.specs.declared.command.Task.{Task};
-ghost use Rattle.portal_server.specs.Clients.{ports_of};
+ghost use Rattle.portal_http.specs.Clients.{ports_of};
 
 use crate::folder::Folder;
 use crate::matching::run_match;
@@ -18,23 +18,22 @@ use crate::outcome::{
     outcome_of_words, outcome_put_back,
 };
 use crate::remarks::{
-    AskedRemarks, Remarks, StatementTelling, tell_of_day, tell_of_loss, tell_of_new_book,
+    AskedRemarks, Remarks, StatementTelling, is_past, tell_of_day, tell_of_loss, tell_of_new_book,
     tell_of_no_book,
 };
 use crate::report::run_report;
 use crate::serving::run_serve;
 use crate::sheet::run_sheet;
 use crate::statement::run_import;
-use crate::stores::Stores;
 use crate::surroundings::Surroundings;
 use command_line::{CliFault, Plan, Task, command_of};
-use portal_server::{Network, serve_stream};
+use portal_http::{Network, serve_stream};
 use std::alloc::{AllocError, Global};
 use std::io::{ErrorKind, Read, Write};
 use std::rt::Clock;
 use trust_base::Day;
 use trust_desk::Desk;
-use trust_store::{Book, PlainBook};
+use trust_store::{Book, PlainBook, Stores};
 
 /// The texts of words, in their order.
 pub fn texts_of<'a>(alloc: Global, words: &'a [String]) -> Result<Vec<&'a str>, AllocError>
@@ -137,7 +136,10 @@ fn run_plan<R: Read, F: Folder, C: Clock + Drop, N: Network, M: Remarks, W: Writ
         Task::Match(path) => run_match(alloc, around.folder, path, remarks, writer, desk, today),
         Task::Stream => serve_input(alloc, reader, writer, desk, today),
         Task::Serve { port, count } => run_serve(alloc, around, port, count, writer, desk, today),
-        Task::Report(command) => run_report(alloc, command, remarks, writer, desk, today),
+        Task::Report(command) => {
+            let is_past = is_past(around.clock, today);
+            run_report(alloc, command, remarks, writer, desk, today, is_past)
+        }
     }
 }
 
@@ -274,10 +276,10 @@ fn run_at_path<R: Read, F: Folder, C: Clock + Drop, N: Network, M: Remarks, S: S
         (N.refuses around.entry.network.now)) (W.contents writer.old) (W.contents writer.new) result
         ⊎ HadNoBook ((reader.new ≡ reader.old) × (writer.new ≡ writer.old)) result }
 {
-    let was_there = around.folder.has(path);
+    let found = around.folder.presence(path);
     match stores.at(alloc, path) {
         Ok(book) => {
-            tell_of_new_book(around.remarks, plan, path, was_there);
+            tell_of_new_book(around.remarks, plan, path, found);
             run_over_book(alloc, plan, reader, around, stores, book, writer)
         }
         Err(fault) => {

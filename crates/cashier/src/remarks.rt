@@ -1,6 +1,8 @@
 // What a person is told of a run as it goes, beside what it prints and how it ends.
 
 mod beginning;
+mod beside;
+mod caution;
 mod day_meant;
 mod entry_line;
 mod exception;
@@ -21,10 +23,14 @@ mod statement;
 mod sum_meant;
 mod telling;
 mod unmatched;
+mod verb_fault;
 mod verbs;
+mod whole_file;
 
-use crate::stores::NoBook;
-pub use beginning::{tell_of_day, tell_of_new_book, tell_of_no_book};
+pub use beginning::{is_past, tell_of_day, tell_of_new_book, tell_of_no_book};
+pub use beside::{ClearedTwice, NowTelling, TwiceTelling};
+use beside::{write_of_now, write_rows_end};
+pub use caution::Caution;
 pub use entry_line::{EntryFault, EntryLine};
 use exception::write_end;
 pub use exception::{ExceptionRemark, ExceptionTelling};
@@ -43,7 +49,10 @@ pub use statement::StatementTelling;
 use std::fmt;
 pub use telling::Telling;
 use trust_base::{Day, StoreFault};
-pub use unmatched::{UnmatchedLine, tell_unmatched};
+use trust_store::NoBook;
+pub use unmatched::UnmatchedLine;
+pub use verb_fault::VerbFault;
+pub use whole_file::FileRemark;
 
 /// What a person is told of a run as it goes.
 #[derive(Clone, Copy, PartialEq, Eq, Debug)]
@@ -60,8 +69,14 @@ pub enum Remark<'a> {
     StatementTooLarge { taken: u64 },
     /// What was accepted ends with the run.
     NothingKept,
+    /// A statement that is matched is above its limit.
+    MatchTooLarge,
+    /// What the file of a statement alone shows of the record that begins in this line.
+    OfFile { line: u64, told: FileRemark },
     /// No book was at this path, and one was begun.
     NewBook(&'a str),
+    /// An empty file was at this path, and a book was begun in it.
+    EmptyBook(&'a str),
     /// There is no book to be had at this path.
     NoBook { path: &'a str, why: NoBook },
     /// The business day is far ahead of the machine's clock.
@@ -72,6 +87,12 @@ pub enum Remark<'a> {
     Exception(ExceptionRemark<'a>),
     /// The telling of the exceptions ended by this fault.
     ExceptionsEnd(StoreFault),
+    /// Two lines of the bank look like one.
+    ClearedTwice(ClearedTwice<'a>),
+    /// A report names a business day, and has the figures of now: a matter was changed on a later day.
+    OfNow { today: Day, last: Day },
+    /// What is told beside a report ended by this fault.
+    RowsEnd(StoreFault),
 }
 
 // Why there is no book to be had, as it stands behind a path.
@@ -82,13 +103,24 @@ fn words_of(why: NoBook) -> &'static str {
             "can't be opened: its folder is missing, or the folder or the file may not be read and written"
         }
         NoBook::NoDatabase => {
-            "is no database, or its bytes were changed: put the last backup in its place"
+            "is no book: look at --db; if it was one, its bytes were changed: \
+            put the last backup in its place"
         }
         NoBook::OtherTables => {
             "is a database of something else, or a book of another version of this program"
         }
         NoBook::Failed => "could not be read or written: look at the disk",
         NoBook::Unknown => "could not be had",
+    }
+}
+
+// Why there is no book to be had at a path.
+fn write_no_book<W: fmt::Write>(f: &mut fmt::Formatter<W>, path: &str, why: NoBook) -> fmt::Result {
+    let words = words_of(why);
+    if path.is_empty() {
+        write!(f, "the empty path {words}")
+    } else {
+        write!(f, "{path} {words}")
     }
 }
 
@@ -99,16 +131,39 @@ impl fmt::Display for Remark<'_> {
                 write!(f, "line {line}: ")?;
                 told.fmt(f)
             }
-            Remark::SheetTooLarge => {
-                f.write_str(
-                    "the sheet has more than 4194304 bytes, and no record was run: send it in parts",
-                )
-            }
             Remark::Line { place, told } => {
                 place.fmt(f)?;
                 told.fmt(f)
             }
             Remark::Header(told) => told.fmt(f),
+            Remark::NothingKept => f.write_str("nothing was kept: no --db was given"),
+            Remark::OfFile { line, told } => write!(f, "line {line}: {told}"),
+            Remark::FarDay(day) => write!(
+                f,
+                "{day} is more than 31 days ahead of this machine's clock: what is booked locks its \
+                matters until then, and only a backup takes it back; look at --today"
+            ),
+            Remark::Unmatched(line) => line.fmt(f),
+            Remark::Exception(told) => told.fmt(f),
+            Remark::ExceptionsEnd(fault) => write_end(f, fault),
+            Remark::ClearedTwice(told) => told.fmt(f),
+            Remark::OfNow { today, last } => write_of_now(f, *today, *last),
+            Remark::RowsEnd(fault) => write_rows_end(f, *fault),
+            Remark::NewBook(path) => write!(f, "{path} was not there: a new book was begun"),
+            Remark::EmptyBook(path) => write!(
+                f,
+                "{path} was empty: a new book was begun; if it had one, put the last backup in its place"
+            ),
+            Remark::NoBook { path, why } => write_no_book(f, path, *why),
+            _ => self.write_size(f),
+        }
+    }
+}
+
+impl Remark<'_> {
+    // Of what is above its limit.
+    fn write_size<W: fmt::Write>(&self, f: &mut fmt::Formatter<W>) -> fmt::Result {
+        match self {
             Remark::StatementTooLarge { taken: 0 } => f.write_str(
                 "the statement has more than 4194304 bytes, and no line was applied: \
                 import it in parts, each with the first line",
@@ -118,16 +173,12 @@ impl fmt::Display for Remark<'_> {
                 "the statement has more than 4194304 bytes, and was read up to record {taken}: \
                 import it in parts, each with the first line"
             ),
-            Remark::NothingKept => f.write_str("nothing was kept: no --db was given"),
-            Remark::NewBook(path) => write!(f, "{path} was not there: a new book was begun"),
-            Remark::NoBook { path, why } => write!(f, "{path} {}", words_of(*why)),
-            Remark::FarDay(day) => write!(
-                f,
-                "{day} is more than 31 days ahead of this machine's clock: look at --today"
+            Remark::MatchTooLarge => f.write_str(
+                "the statement has more than 4194304 bytes: match it in parts, each with the first line",
             ),
-            Remark::Unmatched(line) => line.fmt(f),
-            Remark::Exception(told) => told.fmt(f),
-            Remark::ExceptionsEnd(fault) => write_end(f, fault),
+            _ => f.write_str(
+                "the sheet has more than 4194304 bytes, and no record was run: send it in parts",
+            ),
         }
     }
 }

@@ -8,14 +8,14 @@ ghost use Rattle.trust_store.specs.Calls.{IsRead};
 ghost use Rattle.trust_store.specs.Crashes.{LeavesOr};
 
 use crate::outcome::{Outcome, outcome_of_reply};
-use crate::remarks::{ExceptionTelling, Remark, Remarks};
+use crate::remarks::{ExceptionTelling, NowTelling, Remark, Remarks, TwiceTelling};
 use crate::reply_kind::kind_of_reply;
 use crate::reply_line::write_reply;
 use command_line::ReportCommand;
 use std::alloc::Global;
 use std::io::Write;
 use trust_base::Day;
-use trust_desk::{Desk, Request};
+use trust_desk::{Desk, Request, RowWatch};
 use trust_matter::{Ask, Caller};
 use trust_store::Book;
 
@@ -72,20 +72,40 @@ fn is_done(outcome: Outcome) -> bool
     matches!(outcome, Outcome::Done)
 }
 
-// Tells a person why each exception of a desk's book is one on a business day, and what fault ended that, if one did.
+// Tells a person what the rows of a desk's book show beside a report of a day, and what fault ended that, if one did.
+fn tell_rows<M: Remarks, V: RowWatch, B: Book>(
+    alloc: Global,
+    remarks: &M,
+    watch: &V,
+    desk: &mut Desk<B>,
+    day: Day,
+)
+    ensures { (told : Result Unit StoreFault)
+        × IsRead B.firm B.clean B.sure B.stands B.lasts B.leaves B.refusals told desk.old desk.new }
+{
+    if let Err(fault) = desk.tell_rows(alloc, day, watch) {
+        remarks.tell(&Remark::RowsEnd(fault));
+    }
+}
+
+// Tells a person why each exception of a desk's book is one on a business day, and which lines of the bank look like
+// one; and what fault ended that, if one did.
 fn tell_reasons<M: Remarks, B: Book>(alloc: Global, remarks: &M, desk: &mut Desk<B>, today: Day)
     ensures { (told : Result Unit StoreFault)
         × IsRead B.firm B.clean B.sure B.stands B.lasts B.leaves B.refusals told desk.old desk.new }
 {
     let telling = ExceptionTelling { today, remarks };
-    if let Err(fault) = desk.tell_exceptions(alloc, today, &telling) {
-        remarks.tell(&Remark::ExceptionsEnd(fault));
+    match desk.tell_exceptions(alloc, today, &telling) {
+        Ok(()) => tell_rows(alloc, remarks, &TwiceTelling { remarks }, desk, today),
+        Err(fault) => remarks.tell(&Remark::ExceptionsEnd(fault)),
     }
 }
 
 /// Prints a report of a desk's book on a business day, which the cashier asks: its text as it is, or the line of its
-/// refusal. Behind the exceptions a person is told why each is one, or that an import would take it now, of which no
-/// clause speaks; a fault that ends that is told too, and is no fault of the run.
+/// refusal. Behind the exceptions a person is told why each is one, or that an import would take it now; behind these
+/// and a reconciliation, which lines of the bank look like one; and behind a trial balance or a journal of a day that
+/// `is_past`, that there is later work. Of that no clause speaks; a fault that ends it is told too, and is no fault of
+/// the run.
 ///
 /// The outcome is `Done` where the text was written, and `Refused` where the line of a refusal was; where the store or
 /// memory was refused, that was told by its line, and it is `StoreFault` or `MemoryFault`. Where a write failed it is
@@ -97,6 +117,7 @@ pub fn run_report<M: Remarks, W: Write, B: Book>(
     writer: &mut W,
     desk: &mut Desk<B>,
     today: Day,
+    is_past: bool,
 ) -> Outcome
     ensures began { result ≢ Outcome.CommandLine }
     ensures ends { B.clean desk.new → B.stands desk.old
@@ -109,10 +130,19 @@ pub fn run_report<M: Remarks, W: Write, B: Book>(
     ensures crash { B.sure desk.new → B.clean desk.old → B.stands desk.old
         → LeavesOr (B.firm desk.old) (B.leaves desk.old) (B.leaves desk.new) }
 {
-    let has_reasons = matches!(command, ReportCommand::Exceptions);
     let outcome = print_report(alloc, command, writer, desk, today);
-    if has_reasons && is_done(outcome) {
-        tell_reasons(alloc, remarks, desk, today);
+    if !is_done(outcome) {
+        return outcome;
+    }
+    match &command {
+        ReportCommand::Exceptions => tell_reasons(alloc, remarks, desk, today),
+        ReportCommand::Reconcile(day) => {
+            tell_rows(alloc, remarks, &TwiceTelling { remarks }, desk, *day)
+        }
+        ReportCommand::Trial | ReportCommand::Journal if is_past => {
+            tell_rows(alloc, remarks, &NowTelling { today, remarks }, desk, today)
+        }
+        _ => {}
     }
     outcome
 }

@@ -4,13 +4,13 @@ ghost use Rattle.std.specs.Prelude.{◌≡◌, ◌≢◌};
 ghost use Rattle.cashier.specs.Calls.{CountsStore, LeavesBook};
 ghost use Rattle.cashier.specs.Crashes.{LeavesClients};
 ghost use Rattle.cashier.specs.Serving.{PortEnds};
-ghost use Rattle.portal_server.specs.Clients.{ports_of};
+ghost use Rattle.portal_http.specs.Clients.{ports_of};
 
 use crate::folder::Folder;
 use crate::outcome::{Outcome, outcome_of_serving};
 use crate::remarks::Remarks;
 use crate::surroundings::Surroundings;
-use portal_server::{Network, serve_connections};
+use portal_http::{Network, serve_connections};
 use std::alloc::Global;
 use std::io::Write;
 use std::rt::Clock;

@@ -2,19 +2,19 @@
 
 ghost use Rattle.std.specs.Prelude.{None, ⊤};
 
-use crate::folder::{Folder, Opened};
+use crate::folder::{Folder, Opened, Presence};
 use crate::notice::{Notice, bare_notice_of, notice_of};
 use crate::outcome::{Outcome, exit_of};
 use crate::program::{run_called, texts_of};
 use crate::remarks::{Remark, Remarks};
-use crate::stores::Stores;
 use crate::surroundings::Surroundings;
-use portal_server::SystemNetwork;
+use portal_http::SystemNetwork;
 use std::fs::{self, OpenFile};
 use std::io::{self, ErrorKind};
 use std::net::Net;
 use std::process::ExitCode;
 use std::rt::{Clock, Env, Files};
+use trust_store::Stores;
 
 // The files of the system, of which nothing is known.
 #[derive(Drop)]
@@ -40,8 +40,12 @@ impl<R: Files> Folder for SystemFiles<'_, R> {
         Some(Opened { reader, length })
     }
 
-    fn has(&self, path: &str) -> bool {
-        fs::exists(self.rt, path).unwrap_or(true)
+    fn presence(&self, path: &str) -> Presence {
+        match fs::metadata(self.rt, path) {
+            Ok(metadata) if metadata.is_file() && metadata.len() == 0 => Presence::Empty,
+            Err(error) if error.kind() == ErrorKind::NotFound => Presence::Missing,
+            Ok(_) | Err(_) => Presence::There,
+        }
     }
 }
 

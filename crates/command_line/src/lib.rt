@@ -1,14 +1,18 @@
-//! The program's command line: its words to the plan of a run.
+//! The program's command line: its words to the plan of a run, and what is told of words that mean nothing.
 #![tactic(auto)]
 
+mod advice;
 mod command;
+mod faults;
 mod grammar;
 pub mod laws;
 mod numerals;
 mod operands;
 mod report_command;
 
+pub use advice::{Advice, Setting, Verb, Wrong};
 pub use command::{CliFault, Plan, Task, command_of};
+pub use faults::advice_of;
 pub use grammar::parse;
 pub use numerals::{MAX_COUNT, MAX_PORT, MIN_PORT, count_of, port_of};
 pub use operands::is_firm;

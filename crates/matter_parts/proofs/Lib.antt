@@ -14,3 +14,7 @@ pub mod Parts
 pub mod WholeRows
 pub mod StepForms
 pub mod Telling
+pub mod Audited
+pub mod Copied
+pub mod Drawn
+pub mod InPlace

@@ -4,3 +4,4 @@ pub mod TotalsAfter
 pub mod NamedEntries
 pub mod Parts
 pub mod Purging
+pub mod Audit

@@ -1,14 +1,22 @@
-//! A matter as it is kept: its totals and some of its entries, and what a change makes of it.
+//! A matter as it is kept: its totals and some of its entries, and what a change makes of it. Whether a matter, from
+//! wherever its rows came, is the whole of sound rows: with all their entries by number, their own totals, and what is
+//! left of each entry.
 #![tactic(auto)]
 
+mod audit;
+mod audited_totals;
 mod change;
 mod edit;
+mod entries;
 mod figures;
 mod kept;
+pub mod laws;
+mod lefts;
 mod matter;
 mod named_entries;
 mod totals;
 
+pub use audit::is_sound_whole;
 pub use change::{Change, Left, TotalsAfter, change_of};
 pub use edit::{Edit, Numbered, Opening};
 pub use figures::{Balances, Figures};

@@ -3,3 +3,4 @@ pub mod Steps
 pub mod Serve
 pub mod HeadTexts
 pub use Rattle.trust_desk.proofs.Calls
+pub mod InTurn

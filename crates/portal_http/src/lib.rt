@@ -1,13 +1,27 @@
 //! Streams of messages in, answers out; and the parts of it: the messages of a stream, the request of a message, the
 //! bytes of a reply.
+//!
+//! Connections that are served one after the other. Where a client is silent for too long, or takes too long to send
+//! a message or to take an answer, its connection is closed, and the next client is served.
 #![tactic(auto)]
 
 mod answers;
+mod connection;
+mod end_line;
 pub mod laws;
+mod listener;
+mod pace;
+mod paced;
+mod server;
 mod stream;
+mod system;
 
 pub use answers::{bytes_of, write_reply};
+pub use connection::{Answered, serve_connection};
+pub use listener::{AcceptFault, ClientListener, Connection, Network};
 pub use portal_messages::{Input, Message, Next, Stop, read_message};
 pub use portal_requests::{Routes, request_of};
+pub use server::{ServeEnd, serve_connections};
 pub use stream::{StreamEnd, serve_stream};
+pub use system::{SystemListener, SystemNetwork};
 pub use trust_desk::Desk;

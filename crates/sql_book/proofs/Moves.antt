@@ -1,11 +1,11 @@
 -- Tables that were moved stand for the firm for which the tables of version 1 stood.
 use Rattle.std.proofs.Common.{◌≡◌, sym, ap, subst}
 use Rattle.sqlite.specs.Effect.{Database}
-use Rattle.trust_schema.specs.declared.layout.Layout.{Layout}
-use Rattle.trust_schema.specs.declared.layout.Layout.TheVariants.{Moved}
-use Rattle.trust_moving.specs.Then.{Stood, IsMoved}
-use Rattle.tables_meaning.specs.Meaning.{AreSound, firm_from}
-use Rattle.tables_meaning.specs.Standing.{StandsSound, firm_in}
+use Rattle.sql_schema.specs.declared.layout.Layout.{Layout}
+use Rattle.sql_schema.specs.declared.layout.Layout.TheVariants.{Moved}
+use Rattle.sql_making.specs.Then.{Stood, IsMoved}
+use Rattle.sql_rows.specs.Meaning.{AreSound, firm_from}
+use Rattle.sql_rows.specs.Standing.{StandsSound, firm_in}
 use Rattle.sql_book.specs.Then.{firm_then, StoodSound}
 
 pub moved_stands : (db next : Database) → IsMoved db next → StoodSound db → StandsSound Moved next

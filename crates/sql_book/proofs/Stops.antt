@@ -7,17 +7,17 @@ use Rattle.sqlite.specs.Effect.{Database, IsDatabase}
 use Rattle.sqlite.specs.Held.{Held, state}
 use Rattle.firm_rows.specs.Firm.{Firm}
 use Rattle.trust_store.specs.Crashes.{LeavesAlone}
-use Rattle.trust_schema.specs.declared.layout.Layout.{Layout}
-use Rattle.trust_schema.specs.declared.layout.Layout.TheVariants.{Made, Moved}
-use Rattle.trust_schema.specs.Schema.{book_schema}
-use Rattle.trust_tables.specs.Lists.{lists_in}
-use Rattle.trust_tables.specs.Rows.{head_in, seat_in, entry_in, movement_in, firm_line_in, exception_in, balance_in}
-use Rattle.tables_meaning.specs.Meaning.{AreSound, firm_from}
-use Rattle.tables_meaning.specs.Standing.{EmptyTablesStand, StandsSound, firm_in, no_lists}
-use Rattle.trust_making.specs.Books.{IsBook, IsNewBook, AreNewBook}
-use Rattle.trust_making.proofs.NewBook.{is_book, new_book_stands}
-use Rattle.trust_moving.specs.Then.{IsOldBook}
-use Rattle.trust_moving.proofs.Ends.{never_both}
+use Rattle.sql_schema.specs.declared.layout.Layout.{Layout}
+use Rattle.sql_schema.specs.declared.layout.Layout.TheVariants.{Made, Moved}
+use Rattle.sql_schema.specs.Schema.{book_schema}
+use Rattle.sql_tables.specs.Lists.{lists_in}
+use Rattle.sql_tables.specs.Rows.{head_in, seat_in, entry_in, movement_in, firm_line_in, exception_in, balance_in}
+use Rattle.sql_rows.specs.Meaning.{AreSound, firm_from}
+use Rattle.sql_rows.specs.Standing.{EmptyTablesStand, StandsSound, firm_in, no_lists}
+use Rattle.sql_making.specs.Books.{IsBook, IsNewBook, AreNewBook}
+use Rattle.sql_making.proofs.NewBook.{is_book, new_book_stands}
+use Rattle.sql_making.specs.Then.{IsOldBook}
+use Rattle.sql_making.proofs.Ends.{never_both}
 use Rattle.sql_book.specs.Books.{HeldBook, at, firm_of, IsStanding, IsLasting, MayLeave}
 use Rattle.sql_book.specs.Opening.{IsKeptBook, IsMovedBook, IsTaken}
 use Rattle.sql_book.specs.Then.{firm_then, StoodSound}

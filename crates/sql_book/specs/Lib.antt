@@ -2,3 +2,4 @@ pub mod Books
 pub mod Opening
 pub mod Stops
 pub mod Then
+pub mod Writes

@@ -4,11 +4,11 @@ use Rattle.sqlite_trees.specs.declared.store.Store.{Ghosts}
 use Rattle.sqlite.specs.Held.{Held, state}
 use Rattle.firm_rows.specs.Firm.{empty_firm}
 use Rattle.trust_store.specs.Crashes.{LeavesAlone}
-use Rattle.trust_schema.specs.declared.layout.Layout.TheVariants.{Moved}
-use Rattle.trust_tables.specs.Reading.{IsKept}
-use Rattle.tables_meaning.specs.Standing.{StandsSound, firm_in}
-use Rattle.trust_making.specs.Books.{IsBook}
-use Rattle.trust_moving.specs.Then.{IsOldBook, IsMoved, Stood}
+use Rattle.sql_schema.specs.declared.layout.Layout.TheVariants.{Moved}
+use Rattle.sql_tables.specs.Reading.{IsKept}
+use Rattle.sql_rows.specs.Standing.{StandsSound, firm_in}
+use Rattle.sql_making.specs.Books.{IsBook}
+use Rattle.sql_making.specs.Then.{IsOldBook, IsMoved, Stood}
 use Rattle.sql_book.specs.Then.{firm_then, StoodSound}
 use Rattle.sql_book.specs.Books.{HeldBook, at, firm_of, IsServing, IsStanding, IsLasting, MayLeave}
 

@@ -7,11 +7,11 @@ use Rattle.sqlite.specs.Held.{Held, state}
 use Rattle.sqlite.specs.State.{IsLive, Opens}
 use Rattle.firm_rows.specs.Firm.{Firm, empty_firm}
 use Rattle.trust_store.specs.Crashes.{LeavesAlone}
-use Rattle.trust_schema.specs.declared.layout.Layout.{Layout}
-use Rattle.trust_schema.specs.declared.layout.Layout.TheVariants.{Made}
-use Rattle.tables_meaning.specs.Standing.{StandsSound, firm_in}
-use Rattle.trust_making.specs.Books.{IsBook, AreNewBook}
-use Rattle.trust_moving.specs.Then.{IsOldBook, AreMoved}
+use Rattle.sql_schema.specs.declared.layout.Layout.{Layout}
+use Rattle.sql_schema.specs.declared.layout.Layout.TheVariants.{Made}
+use Rattle.sql_rows.specs.Standing.{StandsSound, firm_in}
+use Rattle.sql_making.specs.Books.{IsBook, AreNewBook}
+use Rattle.sql_making.specs.Then.{IsOldBook, AreMoved}
 use Rattle.sql_book.specs.Then.{firm_then, StoodSound}
 use Rattle.sql_book.specs.Books.{HeldBook, at, firm_of, IsStanding, IsLasting, MayLeave}
 use Rattle.sql_book.specs.Opening.{IsTaken}

@@ -2,8 +2,8 @@
 use Rattle.sqlite_trees.specs.Tree.{Trees}
 use Rattle.sqlite.specs.Effect.{Database}
 use Rattle.firm_rows.specs.Firm.{Firm}
-use Rattle.trust_moving.specs.Then.{Stood, lists_then}
-use Rattle.tables_meaning.specs.Meaning.{AreSound, firm_from}
+use Rattle.sql_making.specs.Then.{Stood, lists_then}
+use Rattle.sql_rows.specs.Meaning.{AreSound, firm_from}
 
 -- the firm for whose rows the tables of version 1 stand
 abbrev pub firm_then : Trees → Firm

@@ -3,8 +3,8 @@
 ghost use Rattle.firm_rows.specs.Firm.{Firm};
 ghost use Rattle.sql_book.specs.Stops.{BooksAreTaken, StopsAreTaken, StopsInMakingLeaveBooks, StopsInMovingLeaveBooks, StopsLeaveBooks};
 
+use sql_rows::laws::empty_tables_stand;
 use sqlite::Alter;
-use tables_meaning::laws::empty_tables_stand;
 
 /// From a book that stands for a sound firm, over any call, any stop and the files opened again: what is found is a
 /// book, `SqlBook::adopt` does not answer NotABook, and its tables stand for the rows of a sound firm, which are among

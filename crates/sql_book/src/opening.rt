@@ -3,19 +3,19 @@
 ghost use Rattle.std.specs.Prelude.{◌≡◌, ◌≢◌, false, IfOk, IfErr, IsTrue};
 ghost use Rattle.sqlite.specs.Held.{state};
 ghost use Rattle.sqlite.specs.State.{HasCleanDisk, Survives};
-ghost use Rattle.trust_making.specs.Books.{no_schema, IsBook, AreNewBook};
-ghost use Rattle.trust_moving.specs.Then.{IsOldBook, AreMoved};
-ghost use Rattle.trust_schema.specs.declared.layout.Layout.{Layout};
-ghost use Rattle.trust_tables.specs.Reading.{IsKept};
+ghost use Rattle.sql_making.specs.Books.{no_schema, IsBook, AreNewBook};
+ghost use Rattle.sql_making.specs.Then.{IsOldBook, AreMoved};
+ghost use Rattle.sql_schema.specs.declared.layout.Layout.{Layout};
+ghost use Rattle.sql_tables.specs.Reading.{IsKept};
 ghost use Rattle.sql_book.specs.Books.{at, IsSure};
 ghost use Rattle.sql_book.specs.Opening.{IsMade, IsTaken};
 
 use crate::book::SqlBook;
+use sql_making::OpenFault;
+use sql_rows::laws::empty_tables_stand;
+use sql_schema::Layout;
 use sqlite::{Alter, Connection};
 use std::alloc::Global;
-use tables_meaning::laws::empty_tables_stand;
-use trust_making::OpenFault;
-use trust_schema::Layout;
 
 impl<S: Alter + Drop> SqlBook<S> {
     /// Makes a book without rows in an empty database, all of it or nothing, also over a crash. A database that is not
@@ -42,7 +42,7 @@ impl<S: Alter + Drop> SqlBook<S> {
     {
         empty_tables_stand();
         let mut conn = conn;
-        match trust_making::make(&mut conn) {
+        match sql_making::make(&mut conn) {
             Ok(()) => Ok(SqlBook {
                 conn,
                 layout: Layout::Made,
@@ -75,7 +75,7 @@ impl<S: Alter + Drop> SqlBook<S> {
             (λ trees. IsOldBook (state S.Store conn).now × AreMoved (state S.Store conn).now trees)) }
     {
         let mut conn = conn;
-        match trust_moving::adopt(&mut conn) {
+        match sql_making::adopt(&mut conn) {
             Ok(layout) => Ok(SqlBook {
                 conn,
                 layout,

@@ -1,22 +1,22 @@
--- All entries that stand in some way to a line are among those of its amount, those of its reference, or those that it
--- shows.
+-- All entries that stand in some way to a line are among those of its amount, those of its reference, those that it
+-- shows, or those of a day.
 use Rattle.std.proofs.Common.{◌≡◌, ◌∙◌, sym, ap, subst, ℕ, zero, suc, ℤ, pos, negsuc, ◌==◌, true, not, ◌&&◌, neg_ℤ, List, refl, inl, inr, ◌⊎◌}
-use Rattle.std.specs.Prelude.{nat_lt, unsigned_abs}
+use Rattle.std.specs.Prelude.{nat_le, nat_lt, unsigned_abs}
 use Rattle.std.specs.List.{filter}
 use Rattle.std.specs.Ordering.{int_eq}
 use Rattle.std.proofs.lemmas.Bool.{and_parts, eq-eqb}
 use Rattle.std.proofs.lemmas.Bool.Decides.{Decides-int_eq}
 use Rattle.std.proofs.lemmas.Slice.Eq.{bytes_eq-Decides}
 use Rattle.trust_base.specs.declared.line.Line.{Line}
-use Rattle.statement_match.specs.Keys.{amount_key, entry_key, reference_key, text_key}
+use Rattle.statement_match.specs.DaySums.{is_held}
+use Rattle.statement_match.specs.Keys.{amount_key, day_key, entry_key, reference_key, text_key}
 use Rattle.statement_match.specs.Lookups.{elements}
 use Rattle.statement_match.specs.Marks.{is_shown}
 use Rattle.statement_match.specs.Relations.{has_amount_back, has_its_amount, is_cleared, is_of_no_amount, is_waiting, names, stands}
-use Rattle.statement_match.specs.Showing.{fits, is_out, shows}
+use Rattle.statement_match.specs.Showing.{fits, is_other_business, is_out, shows}
 use Rattle.statement_match.specs.declared.book_entry.BookEntry.{BookEntry}
 use Rattle.statement_match.specs.declared.relation.Relation.{Relation}
 use Rattle.statement_match.specs.declared.relation.Relation.TheVariants as relation
-use Rattle.statement_match.proofs.Alike.{fits_narrows}
 use Rattle.statement_match.proofs.Found.{Narrows, filtered, filtered_kept}
 use denote.Ref.{Bor}
 
@@ -38,35 +38,13 @@ back_amount line e is =
     (ap unsigned_abs (sym ((Decides-int_eq (neg_ℤ line.amount) e.entry.amount).0 parts.1))
     ∙ unsigned_abs-neg line.amount)
 
-pub fitted_narrows : (today : ℕ) (line : Line)
-    → Narrows (stands relation.Fitted today line) (λ e. entry_key e == amount_key line)
-unfolding stands
-fitted_narrows today line e is =
-    fits_narrows today line e.entry (and_parts (is_waiting e.state) (fits today line e.entry) is).1
-
-pub not_waiting_narrows : (today : ℕ) (line : Line)
-    → Narrows (stands relation.NotWaiting today line) (λ e. entry_key e == amount_key line)
-unfolding stands
-not_waiting_narrows today line e is =
-    let own = and_parts (not (is_waiting e.state) && has_its_amount line e) (shows line e.entry) is in
-    its_amount line e (and_parts (not (is_waiting e.state)) (has_its_amount line e) own.0).1
-
-pub issued_after_narrows : (today : ℕ) (line : Line)
-    → Narrows (stands relation.IssuedAfter today line) (λ e. entry_key e == amount_key line)
-unfolding stands
-issued_after_narrows today line e is =
-    let shown = and_parts (is_waiting e.state && has_its_amount line e && nat_lt line.date e.entry.since)
-    (shows line e.entry) is in
-    let own = and_parts (is_waiting e.state && has_its_amount line e) (nat_lt line.date e.entry.since) shown.0 in
-    its_amount line e (and_parts (is_waiting e.state) (has_its_amount line e) own.0).1
-
-pub of_its_amount_narrows : (today : ℕ) (line : Line)
+of_its_amount_narrows : (today : ℕ) (line : Line)
     → Narrows (stands relation.OfItsAmount today line) (λ e. entry_key e == amount_key line)
 unfolding stands
 of_its_amount_narrows today line e is =
     its_amount line e (and_parts (is_waiting e.state) (has_its_amount line e) is).1
 
-pub returned_narrows : (today : ℕ) (line : Line)
+returned_narrows : (today : ℕ) (line : Line)
     → Narrows (stands relation.MaybeReturned today line) (λ e. entry_key e == amount_key line)
 unfolding stands
 returned_narrows today line e is =
@@ -80,12 +58,12 @@ named_alike line e is =
     eq-eqb (reference_key e) (text_key 0 line.reference)
     (ap (text_key 0) (sym ((bytes_eq-Decides line.reference e.entry.reference).0 is)))
 
-pub named_narrows : (today : ℕ) (line : Line)
+named_narrows : (today : ℕ) (line : Line)
     → Narrows (stands relation.Named today line) (λ e. reference_key e == text_key 0 line.reference)
 unfolding stands
 named_narrows today line e is = named_alike line e is
 
-pub named_other_narrows : (today : ℕ) (line : Line)
+named_other_narrows : (today : ℕ) (line : Line)
     → Narrows (stands relation.NamedOfAnotherAmount today line) (λ e. reference_key e == text_key 0 line.reference)
 unfolding stands
 named_other_narrows today line e is =
@@ -93,19 +71,33 @@ named_other_narrows today line e is =
 
 -- Shown.
 
-pub other_amount_narrows : (today : ℕ) (line : Line)
-    → Narrows (stands relation.OfAnotherAmount today line) (is_shown line)
+fitted_narrows : (today : ℕ) (line : Line) → Narrows (stands relation.Fitted today line) (is_shown line)
+unfolding stands fits
+fitted_narrows today line e is =
+    let fit = and_parts (is_waiting e.state) (fits today line e.entry) is in
+    (and_parts (nat_le line.date today && int_eq line.amount e.entry.amount && nat_le e.entry.since line.date
+    && not (is_other_business line)) (shows line e.entry) fit.1).1
+
+not_waiting_narrows : (today : ℕ) (line : Line) → Narrows (stands relation.NotWaiting today line) (is_shown line)
+unfolding stands
+not_waiting_narrows today line e is =
+    (and_parts (not (is_waiting e.state) && has_its_amount line e) (shows line e.entry) is).1
+
+issued_after_narrows : (today : ℕ) (line : Line) → Narrows (stands relation.IssuedAfter today line) (is_shown line)
+unfolding stands
+issued_after_narrows today line e is =
+    (and_parts (is_waiting e.state && has_its_amount line e && nat_lt line.date e.entry.since) (shows line e.entry)
+    is).1
+
+other_amount_narrows : (today : ℕ) (line : Line) → Narrows (stands relation.OfAnotherAmount today line) (is_shown line)
 unfolding stands
 other_amount_narrows today line e is =
-    let own = and_parts (is_waiting e.state && not (has_its_amount line e)) (shows line e.entry) is in
-    let waits = and_parts (is_waiting e.state) (not (has_its_amount line e)) own.0 in
-    rw waits.0 own.1
+    (and_parts (is_waiting e.state && not (has_its_amount line e)) (shows line e.entry) is).1
 
 -- The entries found.
 
 pub amount_kept : (r : Relation) (today : ℕ) (line : Line) (entries : List BookEntry) (found : List (ℕ × Bor BookEntry))
-    → (r ≡ relation.Fitted) ⊎ ((r ≡ relation.NotWaiting) ⊎ ((r ≡ relation.IssuedAfter)
-    ⊎ ((r ≡ relation.OfItsAmount) ⊎ (r ≡ relation.MaybeReturned))))
+    → (r ≡ relation.OfItsAmount) ⊎ (r ≡ relation.MaybeReturned)
     → elements found ≡ filter (λ e. entry_key e == amount_key line) entries
     → filter (stands r today line) (elements found) ≡ filter (stands r today line) entries
 amount_kept r today line entries found is same =
@@ -117,17 +109,8 @@ amount_kept r today line entries found is same =
     narrows : Of r
     narrows =
         elim is [
-          | inl a ↦ subst Of (sym a) (fitted_narrows today line)
-          | inr b ↦ elim b [
-            | inl a ↦ subst Of (sym a) (not_waiting_narrows today line)
-            | inr c ↦ elim c [
-              | inl a ↦ subst Of (sym a) (issued_after_narrows today line)
-              | inr d ↦ elim d [
-                | inl a ↦ subst Of (sym a) (of_its_amount_narrows today line)
-                | inr a ↦ subst Of (sym a) (returned_narrows today line)
-              ]
-            ]
-          ]
+          | inl a ↦ subst Of (sym a) (of_its_amount_narrows today line)
+          | inr a ↦ subst Of (sym a) (returned_narrows today line)
         ]
 
 pub named_kept : (r : Relation) (today : ℕ) (line : Line) (entries : List BookEntry) (found : List (ℕ × Bor BookEntry))
@@ -148,10 +131,40 @@ named_kept r today line entries found is same =
         ]
 
 pub shown_kept : (r : Relation) (today : ℕ) (line : Line) (entries : List BookEntry) (found : List (ℕ × Bor BookEntry))
-    → r ≡ relation.OfAnotherAmount
+    → (r ≡ relation.Fitted) ⊎ ((r ≡ relation.NotWaiting) ⊎ ((r ≡ relation.IssuedAfter) ⊎ (r ≡ relation.OfAnotherAmount)))
     → filter (is_shown line) (elements found) ≡ filter (is_shown line) entries
     → filter (stands r today line) (elements found) ≡ filter (stands r today line) entries
 shown_kept r today line entries found is same =
+    filtered_kept (stands r today line) (is_shown line) narrows found entries same
+  where
+    Of : Relation → Type 0
+    Of s = Narrows (stands s today line) (is_shown line)
+
+    narrows : Of r
+    narrows =
+        elim is [
+          | inl a ↦ subst Of (sym a) (fitted_narrows today line)
+          | inr b ↦ elim b [
+            | inl a ↦ subst Of (sym a) (not_waiting_narrows today line)
+            | inr c ↦ elim c [
+              | inl a ↦ subst Of (sym a) (issued_after_narrows today line)
+              | inr a ↦ subst Of (sym a) (other_amount_narrows today line)
+            ]
+          ]
+        ]
+
+-- Of a day.
+
+held_on_narrows : (day today : ℕ) (line : Line)
+    → Narrows (stands (relation.HeldOn day) today line) (λ e. day_key e == day)
+unfolding stands
+held_on_narrows day today line e is = (and_parts (is_held e.state) (e.day == day) is).1
+
+pub held_kept : (r : Relation) (day today : ℕ) (line : Line) (entries : List BookEntry) (found : List (ℕ × Bor BookEntry))
+    → r ≡ relation.HeldOn day
+    → elements found ≡ filter (λ e. day_key e == day) entries
+    → filter (stands r today line) (elements found) ≡ filter (stands r today line) entries
+held_kept r day today line entries found is same =
     subst (λ (s : Relation). filter (stands s today line) (elements found) ≡ filter (stands s today line) entries) (sym is)
-    (filtered_kept (stands relation.OfAnotherAmount today line) (is_shown line) (other_amount_narrows today line) found
+    (filtered (stands (relation.HeldOn day) today line) (λ e. day_key e == day) (held_on_narrows day today line) found
     entries same)

@@ -1,6 +1,6 @@
 -- What a test finds among the elements that have a number, where all that pass it have that.
 use Rattle.std.proofs.Common.{◌≡◌, ◌∙◌, sym, ap, ℕ, Bool, true, false, cond, List, [], ◌∷◌, length, Some, refl}
-use Rattle.std.specs.Prelude.{◌||◌, option_map}
+use Rattle.std.specs.Prelude.{◌&&◌, ◌||◌, option_map}
 use Rattle.std.specs.List.{count_by, filter, find, list_any}
 use Rattle.std.proofs.lemmas.List.{length-map}
 use Rattle.std.proofs.lemmas.List.Sums.{length-filter}
@@ -114,3 +114,28 @@ module _ {T : Type 0} (p q : T → Bool) (narrows : Narrows p q) (found : List (
   first_kept =
       find_elements p found ∙ sym (find_among p q narrows (elements found)) ∙ ap (find p) same
       ∙ find_among p q narrows all
+
+-- what passes two tests
+module _ {T : Type 0} (p q : T → Bool) where
+  pub filter_both : (xs : List T) → filter p (filter q xs) ≡ filter (λ x. p x && q x) xs
+  filter_both [] = refl
+  filter_both (x ∷ xs) = cases (p x) (q x) refl (filter_both xs)
+    where
+      cases : (b c : Bool) → p x ≡ b → filter p (filter q xs) ≡ filter (λ y. p y && q y) xs
+          → filter p (cond c (x ∷ filter q xs) (filter q xs))
+          ≡ cond (b && c) (x ∷ filter (λ y. p y && q y) xs) (filter (λ y. p y && q y) xs)
+      cases true true px more = rw px (ap (λ ys. x ∷ ys) more)
+      cases true false px more = more
+      cases false true px more = rw px more
+      cases false false px more = more
+
+  pub find_both : (xs : List T) → find p (filter q xs) ≡ find (λ x. p x && q x) xs
+  find_both [] = refl
+  find_both (x ∷ xs) = cases (p x) (q x) refl (find_both xs)
+    where
+      cases : (b c : Bool) → p x ≡ b → find p (filter q xs) ≡ find (λ y. p y && q y) xs
+          → find p (cond c (x ∷ filter q xs) (filter q xs)) ≡ cond (b && c) (Some x) (find (λ y. p y && q y) xs)
+      cases true true px more = rw px refl
+      cases true false px more = more
+      cases false true px more = rw px more
+      cases false false px more = more

@@ -29,3 +29,4 @@ pub mod Members
 pub mod Shown
 pub mod Candidates
 pub mod Numbered
+pub mod FirstDay

@@ -56,3 +56,5 @@ is_told n b xs x hit short =
     let e = length-append xs (x ∷ []) in
     let all : length (xs ++ x ∷ []) ≤ n = omega (arith, e, short) in
     ap (λ v. take n (xs ++ cond v (x ∷ []) [])) hit ∙ take_all n (xs ++ x ∷ []) all
+
+pub ruleset told_steps = (has_no_room, is_not_told, is_told)

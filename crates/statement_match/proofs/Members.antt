@@ -1,6 +1,6 @@
 -- What is among the elements of lists that are made of others.
-use Rattle.std.proofs.Common.{◌≡◌, ◌∙◌, sym, ap, subst, zero, suc, Bool, true, false, cond, List, [], ◌∷◌, map, refl, inl, inr, arith}
-use Rattle.std.specs.List.{Contains, filter, flat_map}
+use Rattle.std.proofs.Common.{◌≡◌, ◌∙◌, sym, ap, subst, zero, suc, Bool, true, false, cond, List, [], ◌∷◌, map, Some, refl, inl, inr, arith}
+use Rattle.std.specs.List.{Contains, filter, find, flat_map}
 use Rattle.std.proofs.lemmas.List.Elements.{Contains-append_cases, Contains-append_left, Contains-append_right}
 
 pub later : {A : Type 0} (x y : A) (xs : List A) → Contains xs y → Contains (x ∷ xs) y
@@ -43,3 +43,34 @@ flat_map_from f (x ∷ xs) z there =
       | inr more ↦
           let found = flat_map_from f xs z more in (found.0, later x found.0 xs found.1, found.2)
     ]
+
+pub map_from : {A B : Type 0} (f : A → B) (xs : List A) (z : B) → Contains (map f xs) z
+    → (y : A) × Contains xs y × (f y ≡ z)
+map_from f [] z (k, lt, is) = absurd (omega arith)
+map_from f (x ∷ xs) z (zero, lt, is) = (x, (zero, omega arith, refl), is)
+map_from f (x ∷ xs) z (suc k, lt, is) =
+    let found = map_from f xs z (k, omega arith, is) in (found.0, later x found.0 xs found.1, found.2)
+
+pub filter_from : {A : Type 0} (p : A → Bool) (xs : List A) (y : A) → Contains (filter p xs) y
+    → (p y ≡ true) × Contains xs y
+filter_from p [] y (k, lt, is) = absurd (omega arith)
+filter_from {A} p (x ∷ xs) y there = cases (p x) refl there (filter_from p xs y)
+  where
+    cases : (b : Bool) → p x ≡ b → Contains (cond b (x ∷ filter p xs) (filter p xs)) y
+        → (Contains (filter p xs) y → (p y ≡ true) × Contains xs y) → (p y ≡ true) × Contains (x ∷ xs) y
+    cases true hit (zero, lt, is) more = (ap p (sym is) ∙ hit, (zero, omega arith, is))
+    cases true hit (suc k, lt, is) more =
+        let rest = more (k, omega arith, is) in (rest.0, later x y xs rest.1)
+    cases false miss h more = let rest = more h in (rest.0, later x y xs rest.1)
+
+-- where one is there that passes, one is found
+pub find_has : {A : Type 0} (p : A → Bool) (xs : List A) (y : A) → Contains xs y → p y ≡ true
+    → (z : A) × (find p xs ≡ Some z)
+find_has p [] y (k, lt, is) hit = absurd (omega arith)
+find_has {A} p (x ∷ xs) y (zero, lt, is) hit =
+    (x, ap (λ b. cond b (Some x) (find p xs)) (ap p is ∙ hit))
+find_has {A} p (x ∷ xs) y (suc k, lt, is) hit = cases (p x) (find_has p xs y (k, omega arith, is) hit)
+  where
+    cases : (b : Bool) → ((z : A) × (find p xs ≡ Some z)) → (z : A) × (cond b (Some x) (find p xs) ≡ Some z)
+    cases true more = (x, refl)
+    cases false more = more

@@ -162,3 +162,13 @@ reference_later reference text i lt miss =
 pub reference_nil : (reference : List ℕ) → has_reference reference [] ≡ false
 unfolding has_reference
 reference_nil reference = refl
+
+-- The steps of each loop.
+
+pub ruleset numeral_steps = (numeral_more, numeral_stops, numeral_nil, drop_all)
+
+pub ruleset token_steps = (tokens_more, tokens_none, tokens_done)
+
+pub ruleset telling_steps = (telling_more, telling_none, telling_done)
+
+pub ruleset reference_steps = (reference_found, reference_later, reference_nil, drop_all)

@@ -1,10 +1,10 @@
--- All entries that wait, and that a line shows, are found by its marks.
+-- All entries that a line shows are found by its marks.
 use Rattle.std.proofs.Common.{◌≡◌, ◌∙◌, sym, ap, subst, ℕ, zero, suc, ◌+◌, ◌-◌, ◌<◌, ◌≤◌, ◌==◌, Bool, true, false, cond, List, [], ◌∷◌, ◌++◌, length, get_or, take, map, refl, arith}
 use Rattle.std.specs.Prelude.{option_to_list, slice_get}
 use Rattle.std.specs.List.{AllPairs, Contains, filter, flat_map, list_any}
 use Rattle.std.specs.List.Sorted.{IsStrictlyIncreasing}
 use Rattle.std.specs.Str.{bytes_eq}
-use Rattle.std.proofs.lemmas.Bool.{and_parts, cond-true, eqb-true, eq-eqb}
+use Rattle.std.proofs.lemmas.Bool.{and_parts, eqb-true, eq-eqb}
 use Rattle.std.proofs.lemmas.Bool.Decides.{nat_tests}
 use Rattle.std.proofs.lemmas.Slice.Eq.{bytes_eq-Decides}
 use Rattle.std.proofs.lemmas.List.Elements.{Contains-append_left, Contains-append_right}
@@ -16,7 +16,6 @@ use Rattle.statement_match.specs.Keys.{text_key}
 use Rattle.statement_match.specs.Marks.{entry_marks, is_shown, line_marks, mark_of, marks_at, marks_from, reference_mark, window_marks}
 use Rattle.statement_match.specs.Numbers.{is_among, line_numbers}
 use Rattle.statement_match.specs.Places.{places_with}
-use Rattle.statement_match.specs.Relations.{is_waiting}
 use Rattle.statement_match.specs.Showing.{begins_with_reference, has_reference, shows}
 use Rattle.statement_match.specs.Waiting.{Waiting}
 use Rattle.statement_match.specs.declared.book_entry.BookEntry.{BookEntry}
@@ -182,36 +181,29 @@ mark_shared line w hit = cases (list_any (is_among w.numbers) (line_numbers line
 -- The places found.
 
 marks_there : (n : ℕ) (entries : List BookEntry) (i : ℕ) (d : BookEntry) (k : ℕ) → i < length entries
-    → is_waiting (get_or entries i d).state ≡ true → Contains (entry_marks (get_or entries i d).entry) k
-    → Contains (marks_from n entries) (k, n + i)
-marks_there n [] i d k lt waits there = absurd (omega arith)
-marks_there n (e ∷ es) zero d k lt waits there =
+    → Contains (entry_marks (get_or entries i d).entry) k → Contains (marks_from n entries) (k, n + i)
+marks_there n [] i d k lt there = absurd (omega arith)
+marks_there n (e ∷ es) zero d k lt there =
     let number : n ≡ n + 0 = omega arith in
-    let marked : Contains (marks_at n e) (k, n) =
-    subst (λ (ms : List (ℕ × ℕ)). Contains ms (k, n))
-    (sym (cond-true (is_waiting e.state) (map (λ mark. (mark, n)) (entry_marks e.entry)) [] waits))
-    (map_has {B = ℕ × ℕ} (λ mark. (mark, n)) (entry_marks e.entry) k there) in
     subst (λ (m : ℕ). Contains (marks_from n (e ∷ es)) (k, m)) number
     (subst (λ (ms : List (ℕ × ℕ)). Contains ms (k, n)) (sym (marks_from-cons n e es))
-    (Contains-append_left (marks_at n e) (marks_from (n + 1) es) (k, n) marked))
-marks_there n (e ∷ es) (suc i) d k lt waits there =
+    (Contains-append_left (marks_at n e) (marks_from (n + 1) es) (k, n)
+    (map_has {B = ℕ × ℕ} (λ mark. (mark, n)) (entry_marks e.entry) k there)))
+marks_there n (e ∷ es) (suc i) d k lt there =
     let number : n + 1 + i ≡ n + suc i = omega arith in
     subst (λ (m : ℕ). Contains (marks_from n (e ∷ es)) (k, m)) number
     (subst (λ (ms : List (ℕ × ℕ)). Contains ms (k, n + 1 + i)) (sym (marks_from-cons n e es))
     (Contains-append_right (marks_at n e) (marks_from (n + 1) es) (k, n + 1 + i)
-    (marks_there (n + 1) es i d k (omega arith) waits there)))
+    (marks_there (n + 1) es i d k (omega arith) there)))
 
 places_have : (line : Line) (entries : List BookEntry) (i : ℕ) (d : BookEntry) → i < length entries
     → is_shown line (get_or entries i d) ≡ true → Contains (flat_map (places_with entries) (line_marks line)) i
 places_have line entries i d lt hit =
-    let e = get_or entries i d in
-    let parts = and_parts (is_waiting e.state) (shows line e.entry) hit in
-    let common = mark_shared line e.entry parts.1 in
+    let common = mark_shared line (get_or entries i d).entry hit in
     let k = common.0 in
     let number : 0 + i ≡ i = omega arith in
     let there : Contains (marks_from 0 entries) (k, i) =
-    subst (λ (m : ℕ). Contains (marks_from 0 entries) (k, m)) number
-    (marks_there 0 entries i d k lt parts.0 common.2) in
+    subst (λ (m : ℕ). Contains (marks_from 0 entries) (k, m)) number (marks_there 0 entries i d k lt common.2) in
     flat_map_has (places_with entries) (line_marks line) k i common.1
     (map_has (λ m. m.1) (filter (λ m. mark_of m == k) (marks_from 0 entries)) (k, i)
     (filter_has (λ m. mark_of m == k) (marks_from 0 entries) (k, i) (eq-eqb k k refl) there))

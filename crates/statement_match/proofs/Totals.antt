@@ -1,8 +1,10 @@
 -- The sum of the amounts of booked lines, one line on.
-use Rattle.std.proofs.Common.{◌≡◌, ◌∙◌, sym, ap, ℕ, ◌+◌, ◌<◌, pos, ◌+ℤ◌, Bool, true, false, cond, List, [], ◌∷◌, ◌++◌, length, get_or, take, append-nil, arith}
+use Rattle.std.proofs.Common.{◌≡◌, ◌∙◌, sym, ap, ℕ, ◌+◌, ◌<◌, ℤ, pos, ◌+ℤ◌, Bool, true, false, cond, List, [], ◌∷◌, ◌++◌, length, get_or, take, append-nil, refl, arith}
 use Rattle.std.proofs.lemmas.Int.{ints}
 use Rattle.std.specs.List.{filter}
 use Rattle.std.proofs.lemmas.List.Elements.{filter_more}
+use Rattle.firm_rows.specs.Sums.{sum_of}
+use Rattle.firm_rows.proofs.Sums.{sum-append}
 use Rattle.statement_match.specs.declared.booking.Booking.{Booking}
 use Rattle.statement_match.specs.Bookings.{amount_if, total_of}
 
@@ -22,3 +24,17 @@ total_more p xs i b lt is =
     ap total_of (filter_more p xs i b lt)
     ∙ total_picked (p (get_or xs i b)) (filter p (take i xs)) (get_or xs i b)
     ∙ ap (λ (y : Booking). total_of (filter p (take i xs)) +ℤ amount_if p y) (sym is)
+
+-- The same of any shares.
+
+sum_picked : {A : Type 0} (f : A → ℤ) (b : Bool) (x : A) → sum_of f (cond b (x ∷ []) []) ≡ cond b (f x) (pos 0)
+sum_picked f true x = omega (arith, ints)
+sum_picked f false x = refl
+
+pub sum_more : {A : Type 0} (f : A → ℤ) (p : A → Bool) (xs : List A) (i : ℕ) (x : A) → i < length xs → x ≡ get_or xs i x
+    → sum_of f (filter p (take (i + 1) xs)) ≡ sum_of f (filter p (take i xs)) +ℤ cond (p x) (f x) (pos 0)
+sum_more {A} f p xs i x lt is =
+    ap (sum_of f) (filter_more p xs i x lt)
+    ∙ sum-append f (filter p (take i xs)) (cond (p (get_or xs i x)) (get_or xs i x ∷ []) [])
+    ∙ ap (λ (s : ℤ). sum_of f (filter p (take i xs)) +ℤ s) (sum_picked f (p (get_or xs i x)) (get_or xs i x))
+    ∙ ap (λ (y : A). sum_of f (filter p (take i xs)) +ℤ cond (p y) (f y) (pos 0)) (sym is)

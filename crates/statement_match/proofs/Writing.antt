@@ -1,10 +1,9 @@
 -- What is written of the lines of a statement.
-use Rattle.std.proofs.Common.{◌≡◌, ◌≢◌, ◌∙◌, sym, ap, subst, ℕ, zero, suc, ◌+◌, ◌<◌, ◌≤◌, ◌==◌, Bool, true, false, not, cond, ◌&&◌, List, [], ◌∷◌, ◌++◌, length, get_or, drop, append_assoc, append-nil, Option, Some, None, refl, inl, inr, arith}
+use Rattle.std.proofs.Common.{◌≡◌, ◌≢◌, ◌∙◌, sym, ap, subst, ℕ, zero, suc, ◌+◌, ◌<◌, ◌==◌, Bool, true, false, not, cond, ◌&&◌, List, [], ◌∷◌, ◌++◌, length, get_or, Option, Some, None, refl, inl, inr, arith}
 use Rattle.std.specs.List.{Contains, count_by, find}
 use Rattle.std.specs.Option.{unwrap_or}
 use Rattle.std.specs.Str.{bytes_eq}
 use Rattle.std.proofs.lemmas.Bool.{and_from, cases_order}
-use Rattle.std.proofs.lemmas.List.{at_drop_more, drop_all}
 use Rattle.std.proofs.lemmas.List.Folds.{list_any_at}
 use Rattle.std.proofs.lemmas.Slice.Eq.{bytes_eq-Decides}
 use Rattle.trust_base.specs.declared.line.Line.{Line}
@@ -252,20 +251,3 @@ none_is_named_twice today held lines i k d x reference apart li lk differ filled
     let found = sure_of today held lines (get_or lines i d) reference filled in
     clash_by today held lines i k d x found.0 (becomes today held lines (get_or lines k d)) apart li lk differ found.1
     refl there (is ∙ found.2)
-
--- The steps of a loop over the lines.
-
-pub written_more : (today : ℕ) (held : Held) (all lines : List Line) (i : ℕ) (d : Line) (out : List Line)
-    → i < length lines
-    → out ++ written_of today held all (drop i lines)
-    ≡ (out ++ written_as (get_or lines i d) (becomes today held all (get_or lines i d)))
-    ++ written_of today held all (drop (i + 1) lines)
-written_more today held all lines i d out lt =
-    ap (λ ls. out ++ ls) (at_drop_more (written_of today held all) lines i d lt)
-    ∙ sym (append_assoc out (written_as (get_or lines i d) (becomes today held all (get_or lines i d)))
-    (written_of today held all (drop (i + 1) lines)))
-
-pub written_done : (today : ℕ) (held : Held) (all lines : List Line) (i : ℕ) (out : List Line) → length lines ≤ i
-    → out ++ written_of today held all (drop i lines) ≡ out
-written_done today held all lines i out past =
-    ap (λ ls. out ++ written_of today held all ls) (drop_all i lines past) ∙ append-nil out

@@ -18,8 +18,8 @@ use Rattle.statement_match.specs.Books.{held_of, row_waiting, with_matters}
 use Rattle.statement_match.specs.Laws.{AreNamedApart, written_as}
 use Rattle.statement_match.specs.declared.outcome.Outcome.TheVariants as outcome
 
--- Other matters' rows can only take a filling away: a line that is filled over a firm, and fits an entry of a matter, is
--- filled with the same over that firm with the rows of some matters alone, if that is one of them.
+-- Other matters' rows can only take a filling away: a line that is filled over a firm, and fits an entry of a matter,
+-- is filled with the same over that firm with the rows of some matters alone, if that is one of them.
 abbrev pub OtherMattersOnlyTakeAway : Type 0
 OtherMattersOnlyTakeAway =
     (today : ℕ) (firm : Firm) (is_kept : ℕ → Bool) (lines : List Line) (line : Line) (reference : List ℕ)

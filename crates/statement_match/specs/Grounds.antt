@@ -1,7 +1,8 @@
 -- What the reasons for the lines of a statement go by.
-use Rattle.std.specs.Prelude.{◌≡◌, ℕ, ◌+◌, ◌==◌, List, [], ◌∷◌, map, slice_index}
+use Rattle.std.specs.Prelude.{◌≡◌, ℕ, ℤ, ◌+◌, ◌==◌, List, [], ◌∷◌, map, slice_index}
 use Rattle.std.specs.List.{filter}
 use Rattle.trust_base.specs.declared.line.Line.{Line}
+use Rattle.statement_match.specs.DaySums.{day_with, first_day}
 use Rattle.statement_match.specs.Keys.{amount_key, entry_key, reference_key, text_key}
 use Rattle.statement_match.specs.Known.{Known}
 use Rattle.statement_match.specs.Lookups.{IsLookup, elements}
@@ -36,11 +37,12 @@ numbered_key pair = amount_key pair.1.now
 -- the two sides of the rule and the entries are of what is known, and the lines can be looked up by their amounts
 pub record AreGrounds
     (known : Known) (records : Records) (sides : Sides) (entries : List BookEntry) (pairs : List (ℕ × Bor Line))
-    (amounts : List (ℕ × Bor (ℕ × Bor Line))) : Type 0 where
+    (amounts : List (ℕ × Bor (ℕ × Bor Line))) (sums : List (ℕ × ℤ)) : Type 0 where
   pub same_sides : sides ≡ record { held = known.held; lines = records.lines }
   pub same_entries : entries ≡ known.entries
   pub are_numbered : AreNumbered records pairs
   pub amounts_found : IsLookup numbered_key pairs amounts
+  pub sums_found : (amount : ℤ) → day_with amount sums ≡ first_day amount known.entries
 
 -- What the reasons for one line go by.
 

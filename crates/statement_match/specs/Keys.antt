@@ -38,6 +38,10 @@ claim_key exceptions line = text_key 0 (claimed_reference exceptions line)
 abbrev pub entry_key : BookEntry → ℕ
 entry_key e = waiting_key e.entry
 
+-- of its day
+abbrev pub day_key : BookEntry → ℕ
+day_key e = e.day
+
 -- of its reference
 abbrev pub reference_key : BookEntry → ℕ
 reference_key e = text_key 0 e.entry.reference

@@ -1,10 +1,12 @@
 -- What holds of what becomes of the lines of a statement.
-use Rattle.std.specs.Prelude.{◌≡◌, ◌≢◌, ◌↔◌, ℕ, ◌<◌, ◌≤◌, true, false, List, [], ◌∷◌, ◌++◌, length, slice_index_or, Some, None, find}
+use Rattle.std.specs.Prelude.{◌≡◌, ◌≢◌, ◌↔◌, ℕ, ◌<◌, ◌≤◌, true, false, List, [], ◌∷◌, ◌++◌, length}
+use Rattle.std.specs.Prelude.{slice_index_or, Some, None, find}
 use Rattle.std.specs.List.{Contains, count_by}
 use Rattle.trust_base.specs.declared.line.Line.{Line}
 use Rattle.statement_match.specs.Waiting.{Waiting}
 use Rattle.statement_match.specs.Showing.{fits}
-use Rattle.statement_match.specs.Rule.{Held, becomes, exception_reference, is_beside_booked, is_claimed, is_doubled, is_in_book, is_open, is_open_fit}
+use Rattle.statement_match.specs.Rule.{Held, becomes, exception_reference, is_beside_booked, is_claimed, is_doubled}
+use Rattle.statement_match.specs.Rule.{is_in_book, is_open, is_open_fit}
 use Rattle.statement_match.specs.declared.outcome.Outcome.{Outcome}
 use Rattle.statement_match.specs.declared.outcome.Outcome.TheVariants as outcome
 

@@ -1,5 +1,6 @@
 pub mod Bookings
 pub mod Books
+pub mod DaySums
 pub mod Entries
 pub mod FirmLaws
 pub mod Known

@@ -1,16 +1,15 @@
 -- By what the words of a line may show an entry: numbers that the line and the entry have in common.
-use Rattle.std.specs.Prelude.{ℕ, Bool, ◌&&◌, ◌==◌, ◌+◌, List, [], ◌∷◌, ◌++◌, length, map, take, if◌then◌else◌}
+use Rattle.std.specs.Prelude.{ℕ, Bool, ◌==◌, ◌+◌, List, [], ◌∷◌, ◌++◌, length, map, take, if◌then◌else◌}
 use Rattle.trust_base.specs.declared.line.Line.{Line}
 use Rattle.statement_match.specs.Keys.{text_key}
 use Rattle.statement_match.specs.Numbers.{line_numbers}
-use Rattle.statement_match.specs.Relations.{is_waiting}
 use Rattle.statement_match.specs.Showing.{shows}
 use Rattle.statement_match.specs.Waiting.{Waiting}
 use Rattle.statement_match.specs.declared.book_entry.BookEntry.{BookEntry}
 
--- an entry that waits, and that the line shows
+-- the line shows the entry, whether it waits or not
 abbrev pub is_shown : Line → BookEntry → Bool
-is_shown line e = is_waiting e.state && shows line e.entry
+is_shown line e = shows line e.entry
 
 -- of a reference of twelve bytes, as every book's are; of any other 0, which every line has
 abbrev pub reference_mark : List ℕ → ℕ
@@ -27,10 +26,10 @@ window_marks (b ∷ rest) = text_key 0 (take 12 (b ∷ rest)) ∷ window_marks r
 abbrev pub line_marks : Line → List ℕ
 line_marks line = 0 ∷ (map (text_key 0) (line_numbers line) ++ window_marks line.text)
 
--- The marks of the entries that wait, each with the place of its entry; the first of the entries has this place.
+-- The marks of entries, each with the place of its entry; the first of the entries has this place.
 
 abbrev pub marks_at : ℕ → BookEntry → List (ℕ × ℕ)
-marks_at place e = if is_waiting e.state then map (λ mark. (mark, place)) (entry_marks e.entry) else []
+marks_at place e = map (λ mark. (mark, place)) (entry_marks e.entry)
 
 unfoldable pub marks_from : ℕ → List BookEntry → List (ℕ × ℕ)
 marks_from place [] = []

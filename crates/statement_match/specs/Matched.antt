@@ -2,6 +2,7 @@
 use Rattle.std.specs.Prelude.{ℕ, Bool, List, nat_lt}
 use Rattle.firm_rows.specs.Firm.{Firm}
 use Rattle.statement_match.specs.Entries.{known_of}
+use Rattle.statement_match.specs.Known.{Known}
 use Rattle.statement_match.specs.Records.{records_of}
 use Rattle.statement_match.specs.Statements.{statement_text}
 use Rattle.statement_match.specs.Unmatched.{unmatched}
@@ -14,10 +15,14 @@ pub record MatchedTexts : Type 0 where
   -- one of them has to be looked at
   pub is_left : Bool
 
--- of a statement of these bytes
-unfoldable pub matched : ℕ → Firm → List ℕ → MatchedTexts
-matched today firm bytes = record {
-  statement = statement_text today (known_of firm).held bytes;
-  unmatched = (unmatched today (known_of firm) (records_of bytes)).text;
-  is_left = nat_lt 0 (unmatched today (known_of firm) (records_of bytes)).left;
+-- of a statement of these bytes, by what is known of a book
+abbrev pub matched_by : ℕ → Known → List ℕ → MatchedTexts
+matched_by today known bytes = record {
+  statement = statement_text today known.held bytes;
+  unmatched = (unmatched today known (records_of bytes)).text;
+  is_left = nat_lt 0 (unmatched today known (records_of bytes)).left;
 }
+
+-- over a firm
+unfoldable pub matched : ℕ → Firm → List ℕ → MatchedTexts
+matched today firm bytes = matched_by today (known_of firm) bytes

@@ -1,5 +1,6 @@
 -- The numbers of a text, and those that its words say to be one.
-use Rattle.std.specs.Prelude.{ℕ, Bool, ◌&&◌, ◌||◌, ◌==◌, not, nat_le, List, [], ◌∷◌, ◌+◌, ◌*◌, ◌/◌, ◌%◌, map, length, drop, codes, unsigned_abs, if◌then◌else◌}
+use Rattle.std.specs.Prelude.{ℕ, Bool, ◌&&◌, ◌||◌, ◌==◌, not, nat_le, List, [], ◌∷◌, ◌+◌, ◌*◌, ◌/◌, ◌%◌, map, length}
+use Rattle.std.specs.Prelude.{drop, codes, unsigned_abs, if◌then◌else◌}
 use Rattle.std.specs.List.{filter, list_all, list_any, prefix_len}
 use Rattle.std.specs.Fmt.{decimal}
 use Rattle.std.specs.Str.{bytes_eq}

@@ -1,20 +1,21 @@
 -- The deposits and payments of a book, looked up.
 use Rattle.std.specs.Prelude.{ℕ, List, map, ◌==◌}
 use Rattle.std.specs.List.{filter}
-use Rattle.statement_match.specs.Keys.{entry_key, reference_key}
+use Rattle.statement_match.specs.Keys.{day_key, entry_key, reference_key}
 use Rattle.statement_match.specs.Lookups.{IsLookup}
 use Rattle.statement_match.specs.Marks.{mark_of, marks_from}
 use Rattle.statement_match.specs.declared.book_entry.BookEntry.{BookEntry}
 use denote.Ref.{Bor}
 
--- they can be looked up by their amounts and by their references, and those that wait by their marks
+-- they can be looked up by their amounts, by their references, by their days and by their marks
 pub record AreEntriesFound
-    (entries : List BookEntry) (amounts references : List (ℕ × Bor BookEntry)) (marks : List (ℕ × Bor (ℕ × ℕ)))
+    (entries : List BookEntry) (amounts references days : List (ℕ × Bor BookEntry)) (marks : List (ℕ × Bor (ℕ × ℕ)))
     : Type 0 where
   pub amounts_found : IsLookup entry_key entries amounts
   pub references_found : IsLookup reference_key entries references
+  pub days_found : IsLookup day_key entries days
   pub marks_found : IsLookup mark_of (marks_from 0 entries) marks
 
--- the places of the entries that wait and have this mark
+-- the places of the entries that have this mark
 abbrev pub places_with : List BookEntry → ℕ → List ℕ
 places_with entries mark = map (λ m. m.1) (filter (λ m. mark_of m == mark) (marks_from 0 entries))

@@ -1,5 +1,6 @@
 -- What is told of why records of a statement have to be looked at.
-use Rattle.std.specs.Prelude.{ℕ, Bool, cond, ◌+◌, ◌-◌, nat_lt, List, [], ◌∷◌, ◌++◌, codes, length, map, take, flat_map, slice_index, Option, Some, None, find, if◌then◌else◌}
+use Rattle.std.specs.Prelude.{ℕ, Bool, cond, ◌+◌, ◌-◌, nat_lt, List, [], ◌∷◌, ◌++◌, codes, length, map, take, flat_map}
+use Rattle.std.specs.Prelude.{slice_index, Option, Some, None, find, if◌then◌else◌}
 use Rattle.std.specs.List.{count_by}
 use Rattle.std.specs.Fmt.{decimal}
 use Rattle.trust_base.specs.Texts.{day_text, signed_text}
@@ -64,6 +65,7 @@ amount_part relation.OfItsAmount e = []
 amount_part relation.MaybeReturned e = []
 amount_part relation.Named e = []
 amount_part relation.NamedOfAnotherAmount e = further (signed_text e.entry.amount)
+amount_part (relation.HeldOn day) e = []
 
 abbrev pub related_entry_text : Relation → BookEntry → List ℕ
 related_entry_text r e = entry_text e ++ amount_part r e
@@ -138,6 +140,7 @@ words_of relation.OfItsAmount = codes "nothing in its words tells which entry; o
 words_of relation.MaybeReturned = codes "no payment of its amount; it may be a return of "
 words_of relation.Named = codes "its reference is that of an entry: "
 words_of relation.NamedOfAnotherAmount = codes "its reference is that of an entry of another amount: "
+words_of (relation.HeldOn day) = codes "deposits were booked on the day: "
 
 -- how many lines of the book are like it, if some are
 abbrev pub booked_part : ℕ → List ℕ
@@ -198,6 +201,14 @@ fits_another_text today known line =
     ++ (exception_part (find (is_named_like line) known.held.exceptions)
     ++ (phrase_text phrase.AndFits ++ related_text relation.Fitted today known line))
 
+-- the deposits of a day
+abbrev pub together_text : ℕ → Known → Line → ℕ → List ℕ
+together_text today known line day =
+    phrase_text phrase.NoneOfItsAmount
+    ++ (phrase_text phrase.DepositsOf
+    ++ (day_text day
+    ++ (phrase_text phrase.AreTogether ++ related_text (relation.HeldOn day) today known line)))
+
 unfoldable pub reason_text : ℕ → Known → Records → Line → Reason → List ℕ
 reason_text today known records line reason.DatedAfter = phrase_text phrase.DatedAfter ++ day_text today
 reason_text today known records line reason.Doubled = doubled_text known records line
@@ -211,6 +222,7 @@ reason_text today known records line reason.OtherBusiness =
     phrase_text phrase.OtherBusiness ++ return_part today known line
 reason_text today known records line (reason.Related r) = words_of r ++ related_text r today known line
 reason_text today known records line reason.NoneOfItsAmount = phrase_text phrase.NoneOfItsAmount
+reason_text today known records line (reason.Together day) = together_text today known line day
 reason_text today known records line reason.SeveralExceptions = several_exceptions_text known.held.exceptions line
 reason_text today known records line reason.FitsAnother = fits_another_text today known line
 reason_text today known records line reason.NamesNone =

@@ -1,11 +1,13 @@
 -- Why records of a statement have to be looked at.
-use Rattle.std.specs.Prelude.{ℕ, Bool, true, false, ◌&&◌, not, nat_lt, List, [], ◌∷◌, Option, Some, None, is_some, if◌then◌else◌}
+use Rattle.std.specs.Prelude.{ℕ, Bool, true, false, ◌&&◌, not, nat_lt, List, [], ◌∷◌, Option, Some, None, is_some}
+use Rattle.std.specs.Prelude.{if◌then◌else◌}
 use Rattle.std.specs.List.{count_by, list_any}
 use Rattle.std.specs.Str.{bytes_eq}
 use Rattle.trust_base.specs.declared.line.Line.{Line}
 use Rattle.statement_csv.specs.References.{entry_named}
 use Rattle.statement_match.specs.Showing.{is_other_business}
 use Rattle.statement_match.specs.Rule.{Held, is_beside_booked, is_claimed, is_named_like, is_open_fit}
+use Rattle.statement_match.specs.DaySums.{first_day}
 use Rattle.statement_match.specs.Known.{Known}
 use Rattle.statement_match.specs.Relations.{count_related, fitted, is_related, stands}
 use Rattle.statement_match.specs.declared.book_entry.BookEntry.{BookEntry}
@@ -46,6 +48,11 @@ abbrev pub is_shared_fit : ℕ → List Line → Option BookEntry → Bool
 is_shared_fit today lines None = false
 is_shared_fit today lines (Some e) = nat_lt 1 (count_by (is_open_fit today e.entry) lines)
 
+-- where no entry of the book has its amount: the first day whose deposits are together that
+abbrev pub day_reason : Option ℕ → Reason
+day_reason None = reason.NoneOfItsAmount
+day_reason (Some day) = reason.Together day
+
 -- by its words, and by how the entries of the book stand to it
 unfoldable pub entry_reason : ℕ → Known → Line → Reason
 entry_reason today known line =
@@ -56,7 +63,7 @@ entry_reason today known line =
     ∷ (is_related relation.OfAnotherAmount today known line, reason.Related relation.OfAnotherAmount)
     ∷ (is_related relation.OfItsAmount today known line, reason.Related relation.OfItsAmount)
     ∷ (is_related relation.MaybeReturned today known line, reason.Related relation.MaybeReturned)
-    ∷ []) reason.NoneOfItsAmount
+    ∷ []) (day_reason (first_day line.amount known.entries))
 
 unfoldable pub left_reason : ℕ → Known → List Line → Line → Outcome → Reason
 left_reason today known lines line o =

@@ -5,6 +5,7 @@ use Rattle.std.specs.Ordering.{int_eq}
 use Rattle.std.specs.Str.{bytes_eq}
 use Rattle.trust_base.specs.declared.line.Line.{Line}
 use Rattle.statement_match.specs.Showing.{fits, is_out, shows}
+use Rattle.statement_match.specs.DaySums.{is_held_on}
 use Rattle.statement_match.specs.Known.{Known}
 use Rattle.statement_match.specs.declared.book_entry.BookEntry.{BookEntry}
 use Rattle.statement_match.specs.declared.book_entry.EntryState.{EntryState}
@@ -66,6 +67,7 @@ stands relation.OfItsAmount today line e = is_waiting e.state && has_its_amount 
 stands relation.MaybeReturned today line e = may_be_returned line e
 stands relation.Named today line e = names line e
 stands relation.NamedOfAnotherAmount today line e = names line e && is_of_no_amount line e
+stands (relation.HeldOn day) today line e = is_held_on day e
 
 -- The entries of a book that stand so to a line.
 

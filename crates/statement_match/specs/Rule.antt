@@ -1,5 +1,6 @@
 -- What becomes of the lines of a statement.
-use Rattle.std.specs.Prelude.{ℕ, Bool, ◌&&◌, ◌||◌, ◌==◌, not, nat_le, nat_lt, List, [], map, length, Option, Some, None, find, if◌then◌else◌, option_map, unwrap_or}
+use Rattle.std.specs.Prelude.{ℕ, Bool, ◌&&◌, ◌||◌, ◌==◌, not, nat_le, nat_lt, List, [], map, length, Option, Some, None}
+use Rattle.std.specs.Prelude.{find, if◌then◌else◌, option_map, unwrap_or}
 use Rattle.std.specs.List.{count_by, filter, list_any}
 use Rattle.std.specs.Ordering.{int_eq}
 use Rattle.std.specs.Str.{bytes_eq}

@@ -1,5 +1,6 @@
 -- The tokens of a text: runs of letters, and runs of digits, which one of `,` `-` `.` `/` `:` between two digits joins.
-use Rattle.std.specs.Prelude.{ℕ, Bool, ◌&&◌, ◌||◌, ◌==◌, not, nat_le, List, [], ◌∷◌, ◌+◌, map, slice_index, take, if◌then◌else◌}
+use Rattle.std.specs.Prelude.{ℕ, Bool, ◌&&◌, ◌||◌, ◌==◌, not, nat_le, List, [], ◌∷◌, ◌+◌, map, slice_index, take}
+use Rattle.std.specs.Prelude.{if◌then◌else◌}
 use Rattle.std.specs.List.{prefix_len}
 
 -- A byte.

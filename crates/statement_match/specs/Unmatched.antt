@@ -1,5 +1,6 @@
 -- What is told of the records of a statement that a person has to look at.
-use Rattle.std.specs.Prelude.{ℕ, Bool, true, false, ◌+◌, ◌-◌, zero, suc, List, [], ◌∷◌, ◌++◌, codes, length, map, flat_map, slice_index, Option, Some, None, if◌then◌else◌, encode_utf8_all}
+use Rattle.std.specs.Prelude.{ℕ, Bool, true, false, ◌+◌, ◌-◌, zero, suc, List, [], ◌∷◌, ◌++◌, codes, length, map}
+use Rattle.std.specs.Prelude.{flat_map, slice_index, Option, Some, None, if◌then◌else◌, encode_utf8_all}
 use Rattle.std.specs.List.{count_by}
 use Rattle.std.specs.Char.{is_control}
 use Rattle.std.specs.Fmt.{decimal}

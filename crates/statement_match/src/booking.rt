@@ -7,7 +7,8 @@ ghost use Rattle.statement_match.specs.Keys.{booking_key};
 use crate::key::text_key;
 use trust_base::{BankText, Day, Line};
 
-/// A line of the bank that is in the book: what cleared an entry, what took a deposit back, or a line of the firm's own.
+/// A line of the bank that is in the book: what cleared an entry, what took a deposit back, or a line of the firm's
+/// own.
 #[derive(Drop, Debug)]
 pub struct Booking {
     /// The day on which the bank booked it.

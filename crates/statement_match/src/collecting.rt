@@ -1,20 +1,19 @@
-// What a book has that the lines of a statement are compared with, from its rows one at a time.
+// What a book has that the lines of a statement are compared with, kept row by row.
 
 ghost use Rattle.std.specs.Prelude.{◌≡◌, ◌++◌, IfOk, OnOk, OnErr};
 ghost use Rattle.statement_csv.specs.References.{reference_text};
 ghost use Rattle.firm_rows.specs.Firm.{EntryRow};
-ghost use Rattle.trust_store.specs.Calls.{IsRead};
-ghost use Rattle.statement_match.specs.Books.{booked_by, entry_bookings, entry_waiting, held_of, none_held, own_booking, with_exception, with_own_line, with_row};
+ghost use Rattle.statement_match.specs.Books.{booked_by, entry_bookings, entry_waiting, none_held};
+ghost use Rattle.statement_match.specs.Books.{own_booking, with_exception, with_own_line, with_row};
 
 use crate::booking::Booking;
 use crate::held::Held;
 use crate::waiting::WaitingEntry;
-use firm_rows::{FirmLine, Movement, RowSink, StatementRow};
-use matter_rows::{Clearing, DepositState, Entry, Head, PaymentState, Seat};
+use firm_rows::FirmLine;
+use matter_rows::{Clearing, DepositState, Entry, PaymentState};
 use std::alloc::{AllocError, Global};
 use std::marker::Model;
-use trust_base::{BankText, Day, EntryNo, Line, MatterNo, StoreFault};
-use trust_store::Book;
+use trust_base::{BankText, Day, EntryNo, Line, MatterNo};
 
 // The bytes of the reference that names an entry.
 fn reference_bytes(alloc: Global, matter: MatterNo, entry: EntryNo) -> Result<Vec<u8>, AllocError>
@@ -135,7 +134,11 @@ impl Model for Collector {
 
     ghost Value = { Held };
 
-    ghost view = { λ c. record { waiting = c.waiting.items; bookings = c.bookings.items; exceptions = c.exceptions.items } };
+    ghost view = { λ c. record {
+      waiting = c.waiting.items;
+      bookings = c.bookings.items;
+      exceptions = c.exceptions.items;
+    } };
 }
 
 impl Collector {
@@ -184,52 +187,20 @@ impl Collector {
         self.add(waiting, bookings)
     }
 
-    /// What was kept.
-    pub(crate) fn finish(self) -> Held
-        ensures { result ≡ self }
+    /// Keeps an exception.
+    pub(crate) fn add_exception(&mut self, line: &Line) -> Result<(), AllocError>
+        ensures ok { OnOk result (self.new ≡ with_exception self.old line.now) }
+        ensures err { OnErr result (self.new ≡ self.old) }
     {
-        Held::new(self.waiting, self.bookings, self.exceptions)
-    }
-}
-
-impl RowSink for Collector {
-    ghost stepped = { with_row };
-
-    ghost noted = { with_exception };
-
-    ghost moved = { λ s movement. s };
-
-    ghost lined = { with_own_line };
-
-    ghost balanced = { λ s row. s };
-
-    fn head(&mut self, _matter: MatterNo, _head: &Head) -> Result<(), AllocError> {
-        Ok(())
-    }
-
-    fn seat(&mut self, _matter: MatterNo, _seat: &Seat) -> Result<(), AllocError> {
-        Ok(())
-    }
-
-    fn entry(
-        &mut self,
-        matter: MatterNo,
-        number: EntryNo,
-        entry: &Entry,
-    ) -> Result<(), AllocError> {
-        self.add_entry(matter, number, entry)
-    }
-
-    fn exception(&mut self, line: &Line) -> Result<(), AllocError> {
         self.exceptions.push(line.copied()?)?;
         Ok(())
     }
 
-    fn movement(&mut self, _movement: &Movement) -> Result<(), AllocError> {
-        Ok(())
-    }
-
-    fn firm_line(&mut self, line: &FirmLine) -> Result<(), AllocError> {
+    /// Keeps a line of the firm's own.
+    pub(crate) fn add_own_line(&mut self, line: &FirmLine) -> Result<(), AllocError>
+        ensures ok { OnOk result (self.new ≡ with_own_line self.old line.now) }
+        ensures err { OnErr result (self.new ≡ self.old) }
+    {
         let bank_ref = line.bank_ref.copied()?;
         self.bookings.push(Booking {
             date: line.date,
@@ -239,21 +210,10 @@ impl RowSink for Collector {
         Ok(())
     }
 
-    fn balance(&mut self, _row: &StatementRow) -> Result<(), AllocError> {
-        Ok(())
+    /// What was kept.
+    pub(crate) fn finish(self) -> Held
+        ensures { result ≡ self }
+    {
+        Held::new(self.waiting, self.bookings, self.exceptions)
     }
-}
-
-/// What a book has that the lines of a statement are compared with. The book stays as it is.
-///
-/// Store is answered where the book's store was at fault, and Memory where a growth was refused.
-pub fn held_in<B: Book>(alloc: Global, book: &mut B) -> Result<Held, StoreFault>
-    ensures held { B.clean book.new → B.stands book.old → IfOk result (λ held. held ≡ held_of (B.firm book.old)) }
-    ensures read { IsRead B.firm B.clean B.sure B.stands B.lasts B.leaves B.refusals result book.old book.new }
-{
-    let mut collector = Collector::new(alloc);
-    book.each_row(&mut collector)?;
-    book.each_firm_line(&mut collector)?;
-    book.each_exception(&mut collector)?;
-    Ok(collector.finish())
 }

@@ -1,21 +1,23 @@
 // The deposits and payments of a book, looked up by what the reasons ask of them.
 
-ghost use Rattle.std.specs.Prelude.{◌≡◌, ◌==◌, ◌++◌, ℕ, map, flat_map, IfOk, OnOk, option_to_list, slice_get};
+ghost use Rattle.std.specs.Prelude.{◌≡◌, ◌==◌, ◌++◌, ℕ, ℤ, map, flat_map, IfOk, OnOk, option_to_list, slice_get};
 ghost use Rattle.std.specs.List.{Contains, filter};
 ghost use Rattle.std.specs.List.Sorted.{IsStrictlyIncreasing};
-ghost use Rattle.statement_match.specs.Keys.{amount_key, entry_key, reference_key, text_key as key_of_text};
+ghost use Rattle.statement_match.specs.DaySums.{day_sums, day_with, first_day, same_day as same_day_of, together_on};
+ghost use Rattle.statement_match.specs.Keys.{amount_key, day_key, entry_key, reference_key, text_key as key_of_text};
 ghost use Rattle.statement_match.specs.Lookups.{IsLookup, elements};
 ghost use Rattle.statement_match.specs.Marks.{is_shown, mark_of, marks_from};
 ghost use Rattle.statement_match.specs.Places.{places_with};
 
 use crate::book_entry::BookEntry;
+use crate::day_sums::{DaySum, day_held, days_in_order, sum_held};
 use crate::key::text_key;
 use crate::lookup::Lookup;
 use crate::mark::{Mark, line_marks_of};
 use crate::statement_line::StatementLine;
 use std::alloc::{AllocError, Global};
 use std::marker::Model;
-use trust_base::Line;
+use trust_base::{Day, Line};
 
 /// The deposits and payments of a book, looked up by what the reasons ask of them: those that may pass are found at
 /// once, however many there are.
@@ -26,6 +28,7 @@ pub(crate) struct EntryIndex<'a, 'b> {
     entries: &'a [BookEntry],
     amounts: Lookup<'a, BookEntry>,
     references: Lookup<'a, BookEntry>,
+    days: Lookup<'a, BookEntry>,
     marks: Lookup<'b, Mark>,
 }
 
@@ -39,7 +42,7 @@ impl<'a, 'b> Model for EntryIndex<'a, 'b> {
     ghost view = { λ i. i.entries.now };
 
     ghost invariant = { λ i. AreEntriesFound i.entries.now i.amounts.sorted.items i.references.sorted.items
-        i.marks.sorted.items };
+        i.days.sorted.items i.marks.sorted.items };
 }
 
 // By their amount.
@@ -64,6 +67,13 @@ fn by_reference<'a>(
         entries,
         |entry| text_key(0, entry.entry.reference.as_slice()),
     )
+}
+
+// By their day.
+fn by_day<'a>(alloc: Global, entries: &'a [BookEntry]) -> Result<Lookup<'a, BookEntry>, AllocError>
+    ensures { IfOk result (λ found. IsLookup day_key entries.now found.sorted.items) }
+{
+    Lookup::of(alloc, entries, |entry| u64::from(entry.day.get()))
 }
 
 // Places by the marks of the entries there.
@@ -124,7 +134,7 @@ fn entries_at<'a>(
 }
 
 impl<'a, 'b> EntryIndex<'a, 'b> {
-    /// Of them, and the marks of those that wait. Fails only for want of memory.
+    /// Of them and their marks. Fails only for want of memory.
     pub(crate) fn of(
         alloc: Global,
         entries: &'a [BookEntry],
@@ -135,11 +145,13 @@ impl<'a, 'b> EntryIndex<'a, 'b> {
     {
         let amounts = by_amount(alloc, entries)?;
         let references = by_reference(alloc, entries)?;
+        let days = by_day(alloc, entries)?;
         let marks = by_mark(alloc, marks)?;
         Ok(EntryIndex {
             entries,
             amounts,
             references,
+            days,
             marks,
         })
     }
@@ -151,6 +163,13 @@ impl<'a, 'b> EntryIndex<'a, 'b> {
         self.amounts.at(line.amount.get().unsigned_abs())
     }
 
+    /// Those of the day of this number, in whatever state.
+    pub(crate) fn of_day(&self, day: u32) -> &[(u64, &'a BookEntry)]
+        ensures { elements result.now ≡ filter (λ e. day_key e == day) self.now }
+    {
+        self.days.at(u64::from(day))
+    }
+
     /// Those that may have a line's reference.
     pub(crate) fn named_by(&self, line: &Line) -> &[(u64, &'a BookEntry)]
         ensures { elements result.now ≡ filter (λ e. reference_key e == key_of_text 0 line.now.reference) self.now }
@@ -158,14 +177,48 @@ impl<'a, 'b> EntryIndex<'a, 'b> {
         self.references.at(text_key(0, line.reference.as_slice()))
     }
 
-    // Adds the places of those that wait and have this mark.
+    // What the deposits that wait and were booked on a day are together, in cents.
+    fn sum_on(&self, day: u32) -> i128
+        ensures { result ≡ together_on self.now day }
+    {
+        sum_held(self.days.at(u64::from(day)))
+    }
+
+    // Of each of these days, what its deposits are together.
+    fn sums_on(&self, alloc: Global, days: &[u32]) -> Result<Vec<DaySum>, AllocError>
+        ensures { IfOk result (λ sums. sums.items ≡ day_sums self.now days.now) }
+    {
+        let mut sums = Vec::new(alloc);
+        for day in days {
+            sums.push((*day, self.sum_on(*day)))?;
+        }
+        Ok(sums)
+    }
+
+    /// What the deposits that wait are together, by the days on which they were booked. Fails only for want of memory.
+    pub(crate) fn sums_by_day(&self, alloc: Global) -> Result<Vec<DaySum>, AllocError>
+        ensures { IfOk result (λ sums. (amount : ℤ) → day_with amount sums.items ≡ first_day amount self.now) }
+    {
+        let days = days_in_order(alloc, self.entries)?;
+        let sums = self.sums_on(alloc, &days)?;
+        Ok(sums)
+    }
+
+    /// The day of the first deposit that waits and was booked on a day.
+    pub(crate) fn same_day(&self, day: u32) -> Option<Day>
+        ensures { result ≡ same_day_of self.now day }
+    {
+        day_held(self.days.at(u64::from(day)))
+    }
+
+    // Adds the places of those that have this mark.
     fn add_places(&self, places: &mut Vec<usize>, mark: u64) -> Result<(), AllocError>
         ensures { OnOk result (places.new.items ≡ places.old.items ++ places_with self.now mark) }
     {
         add_found(places, self.marks.at(mark))
     }
 
-    // The places of those that wait and have one of these marks, one by one.
+    // The places of those that have one of these marks, one by one.
     fn places(&self, alloc: Global, marks: &[u64]) -> Result<Vec<usize>, AllocError>
         ensures { IfOk result (λ places. places.items ≡ flat_map (places_with self.now) marks.now) }
     {
@@ -176,7 +229,7 @@ impl<'a, 'b> EntryIndex<'a, 'b> {
         Ok(places)
     }
 
-    /// Those that wait and that a line may show: all that it shows, in their order. Fails only for want of memory.
+    /// Those that a line may show: all that it shows, in their order. Fails only for want of memory.
     pub(crate) fn shown_by(
         &self,
         alloc: Global,

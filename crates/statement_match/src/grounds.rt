@@ -2,12 +2,15 @@
 
 ghost use Rattle.std.specs.Prelude.{◌≡◌, ◌==◌, ℕ, IfOk};
 ghost use Rattle.std.specs.List.{filter};
-ghost use Rattle.statement_match.specs.Grounds.{AreCandidates, AreNumbered, numbered as with_numbers, numbered_key, plain_pairs};
-ghost use Rattle.statement_match.specs.Keys.{amount_key, waiting_key};
+ghost use Rattle.statement_match.specs.DaySums.{first_day as first_day_of};
+ghost use Rattle.statement_match.specs.Grounds.{AreCandidates, AreNumbered, numbered as with_numbers, numbered_key};
+ghost use Rattle.statement_match.specs.Grounds.{plain_pairs};
+ghost use Rattle.statement_match.specs.Keys.{amount_key, day_key, waiting_key};
 ghost use Rattle.statement_match.specs.Lookups.{IsLookup, elements};
 ghost use Rattle.statement_match.specs.Marks.{marks_from};
 
 use crate::book_entry::BookEntry;
+use crate::day_sums::{DaySum, day_of_sum};
 use crate::entry_index::EntryIndex;
 use crate::index::Index;
 use crate::known::Known;
@@ -19,6 +22,7 @@ use crate::statement_line::StatementLine;
 use crate::waiting::WaitingEntry;
 use std::alloc::{AllocError, Global};
 use std::marker::Model;
+use trust_base::Day;
 
 /// A line with the number of its record.
 pub(crate) type Numbered<'a> = (u64, &'a StatementLine);
@@ -35,9 +39,11 @@ pub(crate) struct Grounds<'a, 'b> {
     entries: EntryIndex<'a, 'b>,
     numbered: &'b [Numbered<'a>],
     amounts: Lookup<'b, Numbered<'a>>,
+    sums: Vec<DaySum>,
 }
 
 impl<'a, 'b> Model for Grounds<'a, 'b> {
+    ghost use Rattle.statement_match.specs.DaySums.{first_day as first_day_of};
     ghost use Rattle.statement_match.specs.Grounds.{AreGrounds, Grounds};
 
     ghost Value = { Grounds };
@@ -45,7 +51,7 @@ impl<'a, 'b> Model for Grounds<'a, 'b> {
     ghost view = { λ g. record { known = g.known.now; records = g.records.now } };
 
     ghost invariant = { λ g. AreGrounds g.known.now g.records.now g.index.now g.entries g.numbered.now
-        g.amounts.sorted.items };
+        g.amounts.sorted.items g.sums.items };
 }
 
 /// What the reasons for one line go by, found once for all of them.
@@ -61,6 +67,7 @@ pub(crate) struct LineGrounds<'a, 'b, 'c> {
 }
 
 impl<'a, 'b, 'c> Model for LineGrounds<'a, 'b, 'c> {
+    ghost use Rattle.statement_match.specs.DaySums.{first_day as first_day_of};
     ghost use Rattle.statement_match.specs.Grounds.{AreOfLine, LineGrounds};
 
     ghost Value = { LineGrounds };
@@ -105,7 +112,7 @@ fn by_amount<'a, 'b>(
 
 impl<'a, 'b> Grounds<'a, 'b> {
     /// Of what is known of a book and the records, with what the rule looks up, the lines with their numbers, and the
-    /// marks of the entries that wait. Fails only for want of memory.
+    /// marks of the entries. Fails only for want of memory.
     pub(crate) fn of(
         alloc: Global,
         known: &'a Known,
@@ -121,6 +128,7 @@ impl<'a, 'b> Grounds<'a, 'b> {
     {
         let entries = EntryIndex::of(alloc, &known.entries, marks)?;
         let amounts = by_amount(alloc, numbered)?;
+        let sums = entries.sums_by_day(alloc)?;
         Ok(Grounds {
             known,
             records,
@@ -128,6 +136,7 @@ impl<'a, 'b> Grounds<'a, 'b> {
             entries,
             numbered,
             amounts,
+            sums,
         })
     }
 
@@ -136,6 +145,23 @@ impl<'a, 'b> Grounds<'a, 'b> {
         ensures { result.now ≡ record { held = self.now.known.held; lines = self.now.records.lines } }
     {
         self.index
+    }
+
+    // The first day whose deposits that wait are together an amount.
+    fn first_day(&self, amount: i64) -> Option<Day>
+        ensures { result ≡ first_day_of amount self.now.known.entries }
+    {
+        match day_of_sum(&self.sums, amount) {
+            Some(day) => self.entries.same_day(day),
+            None => None,
+        }
+    }
+
+    // The entries of the day of this number, in whatever state.
+    fn of_day(&self, day: u32) -> &[(u64, &'a BookEntry)]
+        ensures { elements result.now ≡ filter (λ e. day_key e == day) self.now.known.entries }
+    {
+        self.entries.of_day(day)
     }
 
     // The lines of the amount of an entry, or of its negative, each with its number.
@@ -182,6 +208,13 @@ impl<'a, 'b, 'c> LineGrounds<'a, 'b, 'c> {
         self.grounds.index()
     }
 
+    /// The first day whose deposits that wait are together the line's amount.
+    pub(crate) fn first_day(&self) -> Option<Day>
+        ensures { result ≡ first_day_of self.now.line.amount self.now.known.entries }
+    {
+        self.grounds.first_day(self.line.line().amount.get())
+    }
+
     /// The entries that may stand so to the line: all that do, in their order.
     pub(crate) fn candidates(&self, relation: Relation) -> &[(u64, &'a BookEntry)]
         ensures { AreCandidates relation self.now.line self.now.known.entries result.now }
@@ -190,10 +223,10 @@ impl<'a, 'b, 'c> LineGrounds<'a, 'b, 'c> {
             Relation::Fitted
             | Relation::NotWaiting
             | Relation::IssuedAfter
-            | Relation::OfItsAmount
-            | Relation::MaybeReturned => self.of_amount,
-            Relation::OfAnotherAmount => &self.shown,
+            | Relation::OfAnotherAmount => &self.shown,
+            Relation::OfItsAmount | Relation::MaybeReturned => self.of_amount,
             Relation::Named | Relation::NamedOfAnotherAmount => self.named,
+            Relation::HeldOn(day) => self.grounds.of_day(day),
         }
     }
 

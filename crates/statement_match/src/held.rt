@@ -7,8 +7,8 @@ use crate::waiting::WaitingEntry;
 use std::marker::Model;
 use trust_base::Line;
 
-/// What a book has that the lines of a statement are compared with: the entries that wait for the bank, the lines of the
-/// bank that are booked, and the exceptions.
+/// What a book has that the lines of a statement are compared with: the entries that wait for the bank, the lines of
+/// the bank that are booked, and the exceptions.
 ///
 /// Contracts see it as these three lists.
 #[derive(Drop)]
@@ -23,7 +23,11 @@ impl Model for Held {
 
     ghost Value = { Held };
 
-    ghost view = { λ h. record { waiting = h.waiting.items; bookings = h.bookings.items; exceptions = h.exceptions.items } };
+    ghost view = { λ h. record {
+      waiting = h.waiting.items;
+      bookings = h.bookings.items;
+      exceptions = h.exceptions.items;
+    } };
 }
 
 impl Held {

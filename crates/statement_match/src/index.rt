@@ -3,7 +3,8 @@
 ghost use Rattle.std.specs.Prelude.{◌≡◌, ◌==◌, IfOk};
 ghost use Rattle.std.specs.List.{filter, list_any};
 ghost use Rattle.std.specs.Str.{bytes_eq};
-ghost use Rattle.statement_match.specs.Keys.{amount_key, booking_key, claim_key as key_of_claim, line_key as key_of_line, waiting_key};
+ghost use Rattle.statement_match.specs.Keys.{amount_key, booking_key, claim_key as key_of_claim};
+ghost use Rattle.statement_match.specs.Keys.{line_key as key_of_line, waiting_key};
 ghost use Rattle.statement_match.specs.Lookups.{IsLookup, elements};
 ghost use Rattle.statement_match.specs.Rule.{claimed_reference, is_claimed as is_claimed_reference};
 

@@ -3,7 +3,10 @@
 ghost use Rattle.std.specs.Prelude.{◌≡◌, IfOk, OnOk, OnErr};
 ghost use Rattle.firm_rows.specs.Firm.{EntryRow};
 ghost use Rattle.trust_store.specs.Calls.{IsRead};
-ghost use Rattle.statement_match.specs.Entries.{book_entry as entry_with, know_exception, know_own_line, know_row, known_of, none_known, since_of as since_day, told_deposit as deposit_told, told_entries as entries_told, told_payment as payment_told};
+ghost use Rattle.statement_match.specs.Entries.{book_entry as entry_with, know_exception, know_own_line, know_row};
+ghost use Rattle.statement_match.specs.Entries.{known_of, none_known, since_of as since_day};
+ghost use Rattle.statement_match.specs.Entries.{told_deposit as deposit_told, told_entries as entries_told};
+ghost use Rattle.statement_match.specs.Entries.{told_payment as payment_told};
 
 use crate::book_entry::{BookEntry, EntryState};
 use crate::collecting::{Collector, reference_of};
@@ -220,7 +223,7 @@ impl RowSink for KnownCollector {
     }
 
     fn exception(&mut self, line: &Line) -> Result<(), AllocError> {
-        self.collector.exception(line)
+        self.collector.add_exception(line)
     }
 
     fn movement(&mut self, _movement: &Movement) -> Result<(), AllocError> {
@@ -228,7 +231,7 @@ impl RowSink for KnownCollector {
     }
 
     fn firm_line(&mut self, line: &FirmLine) -> Result<(), AllocError> {
-        self.collector.firm_line(line)
+        self.collector.add_own_line(line)
     }
 
     fn balance(&mut self, _row: &StatementRow) -> Result<(), AllocError> {

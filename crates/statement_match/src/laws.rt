@@ -1,12 +1,14 @@
 //! Laws over the definitions, each the contract of a function with nothing to do.
 
-ghost use Rattle.statement_match.specs.FirmLaws.{FilledWaits, NoneIsNamedTwiceByFirms, OtherMattersOnlyTakeAway, WaitApart};
-ghost use Rattle.statement_match.specs.Laws.{FillsWhatIsSure, FillsWithWaiting, MoreOnlyTakesAway, NoneIsNamedTwice, OnlyReferencesChange, TwoEntriesAreLeft, TwoLinesAreLeft};
+ghost use Rattle.statement_match.specs.FirmLaws.{FilledWaits, NoneIsNamedTwiceByFirms, OtherMattersOnlyTakeAway};
+ghost use Rattle.statement_match.specs.FirmLaws.{WaitApart};
+ghost use Rattle.statement_match.specs.Laws.{FillsWhatIsSure, FillsWithWaiting, MoreOnlyTakesAway, NoneIsNamedTwice};
+ghost use Rattle.statement_match.specs.Laws.{OnlyReferencesChange, TwoEntriesAreLeft, TwoLinesAreLeft};
 ghost use Rattle.statement_match.specs.StatementLaws.{HasLinesWritten, IsImported, ReadsBack};
 
 /// A line is filled exactly with the entry of which it is sure: it has no reference, it is neither in the book already
-/// nor an exception under a reference nor doubled, no line of the book is beside it, it fits that entry and no other, no
-/// other open line fits the entry, and no record has the entry's reference.
+/// nor an exception under a reference nor doubled, no line of the book is beside it, it fits that entry and no other,
+/// no other open line fits the entry, and no record has the entry's reference.
 pub fn what_is_sure_is_filled()
     ensures { FillsWhatIsSure }
 {}

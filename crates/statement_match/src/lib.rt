@@ -4,6 +4,7 @@
 mod book_entry;
 mod booking;
 mod collecting;
+mod day_sums;
 mod entry_index;
 mod exceptions;
 mod grounds;
@@ -27,20 +28,14 @@ mod rows;
 mod rule;
 mod statement;
 mod statement_line;
-#[cfg(test)]
-mod tests;
 mod token;
 mod unmatched;
 mod waiting;
 mod words;
-mod written;
 
 pub use booking::Booking;
-pub use collecting::held_in;
 pub use held::Held;
 pub use matched::{Matched, match_statement};
 pub use outcome::Outcome;
-pub use rule::outcomes_of;
 pub use statement_line::StatementLine;
 pub use waiting::WaitingEntry;
-pub use written::{match_lines, written_lines};

@@ -2,7 +2,8 @@
 
 ghost use Rattle.std.specs.Prelude.{◌≡◌, ◌++◌, map, take, IfOk, OnOk};
 ghost use Rattle.statement_match.specs.Keys.{text_key as key_of_text};
-ghost use Rattle.statement_match.specs.Marks.{entry_marks, line_marks, marks_at, marks_from, reference_mark as mark_of_reference, window_marks};
+ghost use Rattle.statement_match.specs.Marks.{entry_marks, line_marks, marks_at, marks_from};
+ghost use Rattle.statement_match.specs.Marks.{reference_mark as mark_of_reference, window_marks};
 
 use crate::book_entry::BookEntry;
 use crate::key::text_key;
@@ -80,24 +81,21 @@ fn add_entry(marks: &mut Vec<Mark>, place: usize, entry: &WaitingEntry) -> Resul
     Ok(())
 }
 
-// Adds those of an entry at a place, if it waits.
-fn add_waiting(marks: &mut Vec<Mark>, place: usize, entry: &BookEntry) -> Result<(), AllocError>
+// Adds those of an entry of a book.
+fn add_entry_at(marks: &mut Vec<Mark>, place: usize, entry: &BookEntry) -> Result<(), AllocError>
     ensures { OnOk result (marks.new.items ≡ marks.old.items ++ marks_at place entry.now) }
 {
-    if !entry.state.is_waiting() {
-        return Ok(());
-    }
     add_entry(marks, place, &entry.entry)
 }
 
 #[tactic(auto, using(crate::proofs::Marked::marks_more))]
-/// Those of the entries that wait. Fails only for want of memory.
+/// Those of entries. Fails only for want of memory.
 pub(crate) fn marks_of(alloc: Global, entries: &[BookEntry]) -> Result<Vec<Mark>, AllocError>
     ensures { IfOk result (λ marks. marks.items ≡ marks_from 0 entries.now) }
 {
     let mut marks = Vec::new(alloc);
     for place in 0..entries.len() {
-        add_waiting(&mut marks, place, &entries[place])?;
+        add_entry_at(&mut marks, place, &entries[place])?;
     }
     Ok(marks)
 }

@@ -2,13 +2,17 @@
 
 ghost use Rattle.std.specs.Prelude.{◌≡◌, IfOk};
 ghost use Rattle.trust_store.specs.Calls.{IsRead};
-ghost use Rattle.statement_match.specs.Matched.{matched};
+ghost use Rattle.statement_match.specs.Matched.{matched, matched_by as matched_by_known};
+ghost use Rattle.statement_match.specs.Records.{records_of};
 
+use crate::index::Index;
 use crate::knowing::known_in;
-use crate::records::records_in;
+use crate::known::Known;
+use crate::records::{Records, records_in};
+use crate::rule::outcomes_by;
 use crate::statement::statement_of;
 use crate::unmatched::unmatched_of;
-use std::alloc::Global;
+use std::alloc::{AllocError, Global};
 use std::marker::Model;
 use trust_base::{Day, StoreFault};
 use trust_store::Book;
@@ -35,6 +39,28 @@ impl Model for Matched {
     ghost view = { λ m. record { statement = m.statement.items; unmatched = m.unmatched.items; is_left = m.is_left } };
 }
 
+// Matches a statement, whose records these are, against what is known of a book.
+fn matched_by(
+    alloc: Global,
+    today: Day,
+    known: &Known,
+    statement: &[u8],
+    records: &Records,
+) -> Result<Matched, AllocError>
+    requires { records.now ≡ records_of statement.now }
+    ensures { IfOk result (λ found. found ≡ matched_by_known today known.now statement.now) }
+{
+    let index = Index::of(alloc, &known.held, &records.lines)?;
+    let outcomes = outcomes_by(alloc, today, &index)?;
+    let text = statement_of(alloc, statement, records, &outcomes)?;
+    let told = unmatched_of(alloc, today, known, records, index, &outcomes)?;
+    Ok(Matched {
+        statement: text,
+        is_left: 0 < told.left,
+        unmatched: told.text,
+    })
+}
+
 /// Matches a statement against a book on a business day. The book stays as it is. The first record of the statement is
 /// taken for its header, whatever it says.
 ///
@@ -52,11 +78,6 @@ pub fn match_statement<B: Book>(
 {
     let known = known_in(alloc, book)?;
     let records = records_in(alloc, statement)?;
-    let text = statement_of(alloc, today, &known.held, statement, &records)?;
-    let told = unmatched_of(alloc, today, &known, &records)?;
-    Ok(Matched {
-        statement: text,
-        is_left: 0 < told.left,
-        unmatched: told.text,
-    })
+    let found = matched_by(alloc, today, &known, statement, &records)?;
+    Ok(found)
 }

@@ -5,7 +5,11 @@ ghost use Rattle.std.specs.Fmt.{decimal};
 ghost use Rattle.std.specs.List.{filter, list_all, prefix_len};
 ghost use Rattle.std.specs.Str.{bytes_eq};
 ghost use Rattle.statement_match.specs.Tokens.{is_digit as is_digit_byte};
-ghost use Rattle.statement_match.specs.Numbers.{are_labels as are_labels_before, is_among as is_among_numbers, is_label as is_label_word, is_number as is_number_token, is_number_word as is_number_word_text, is_telling as is_telling_token, line_numbers, numbers, own_numbers, telling_behind, telling_numbers, without_zeros as digits_without_zeros};
+ghost use Rattle.statement_match.specs.Numbers.{are_labels as are_labels_before, is_among as is_among_numbers};
+ghost use Rattle.statement_match.specs.Numbers.{is_label as is_label_word, is_number as is_number_token};
+ghost use Rattle.statement_match.specs.Numbers.{is_number_word as is_number_word_text, is_telling as is_telling_token};
+ghost use Rattle.statement_match.specs.Numbers.{line_numbers, numbers, own_numbers, telling_behind, telling_numbers};
+ghost use Rattle.statement_match.specs.Numbers.{without_zeros as digits_without_zeros};
 
 use crate::token::{Token, is_digit, tokens_of};
 use std::alloc::{AllocError, Global};
@@ -131,7 +135,7 @@ fn is_telling(second: &[u8], last: &[u8], token: &[u8]) -> bool
 }
 
 // The telling numbers among tokens, in order.
-#[tactic(auto, using(crate::proofs::Parting::telling_more, crate::proofs::Parting::telling_none, crate::proofs::Parting::telling_done))]
+#[tactic(auto, using(crate::proofs::Parting::telling_steps))]
 fn telling_among(alloc: Global, tokens: &[Token]) -> Result<Vec<Number>, AllocError>
     ensures { IfOk result (λ found. found.items ≡ telling_behind [] [] tokens.now) }
 {

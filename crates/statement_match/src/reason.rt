@@ -5,8 +5,13 @@ ghost use Rattle.std.specs.List.{count_by, list_any};
 ghost use Rattle.std.specs.Str.{bytes_eq};
 ghost use Rattle.statement_csv.specs.References.{entry_named};
 ghost use Rattle.statement_match.specs.Rule.{is_named_like, is_open_fit};
-ghost use Rattle.statement_match.specs.Relations.{count_related as count_of_related, fitted as fitted_entry, is_related as is_related_so, stands};
-ghost use Rattle.statement_match.specs.Reasons.{entry_reason as entry_reason_told, fits_other as fits_other_entry, is_claimed_fit as is_claimed_fit_of, is_doubled_outcome, is_shared_fit as is_shared_fit_of, left_reason as left_reason_told, named_reason as named_reason_told, reason_for as reason_told, retried_reason as retried_reason_told};
+ghost use Rattle.statement_match.specs.Relations.{count_related as count_of_related, fitted as fitted_entry};
+ghost use Rattle.statement_match.specs.Relations.{is_related as is_related_so, stands};
+ghost use Rattle.statement_match.specs.Reasons.{entry_reason as entry_reason_told, fits_other as fits_other_entry};
+ghost use Rattle.statement_match.specs.Reasons.{is_claimed_fit as is_claimed_fit_of, is_doubled_outcome};
+ghost use Rattle.statement_match.specs.Reasons.{is_shared_fit as is_shared_fit_of, left_reason as left_reason_told};
+ghost use Rattle.statement_match.specs.Reasons.{named_reason as named_reason_told, reason_for as reason_told};
+ghost use Rattle.statement_match.specs.Reasons.{retried_reason as retried_reason_told};
 ghost use Rattle.statement_match.specs.declared.relation.Relation.TheVariants.{Fitted};
 
 use crate::book_entry::BookEntry;
@@ -40,6 +45,8 @@ pub(crate) enum Reason {
     Related(Relation),
     /// The book has nothing of its amount.
     NoneOfItsAmount,
+    /// And the deposits that wait and were booked on this day are together its amount.
+    Together(Day),
     /// It is an exception under several references.
     SeveralExceptions,
     /// It is an exception under the reference of one entry, and fits another.
@@ -199,7 +206,10 @@ fn entry_reason(today: Day, grounds: &LineGrounds) -> Reason
     if is_related(Relation::MaybeReturned, today, grounds) {
         return Reason::Related(Relation::MaybeReturned);
     }
-    Reason::NoneOfItsAmount
+    match grounds.first_day() {
+        Some(day) => Reason::Together(day),
+        None => Reason::NoneOfItsAmount,
+    }
 }
 
 // Why a line is left.

@@ -8,7 +8,15 @@ ghost use Rattle.statement_match.specs.Bookings.{booking_of, is_same_booking};
 ghost use Rattle.statement_match.specs.Lookups.{elements};
 ghost use Rattle.statement_match.specs.Rule.{is_named_like, is_open_fit, is_open_like};
 ghost use Rattle.statement_match.specs.Relations.{fitted as fitted_entry, stands};
-ghost use Rattle.statement_match.specs.ReasonTexts.{amount_part, behind_comma, behind_semicolon, booked_part, claimed_text, doubled_text, entry_text, exception_part, exceptions_part, fit_numbers as numbers_of_fits, fits_another_text, fitted_part, front_count, further, further_if_any, last_text, more_text, numbers_text, parted_by_commas, parted_by_semicolons, reason_text, related_entry_text, related_text, related_texts as texts_related, return_part, several_exceptions_text, several_text, shared_part, state_word, text_if, words_of};
+ghost use Rattle.statement_match.specs.ReasonTexts.{amount_part, behind_comma, behind_semicolon, booked_part};
+ghost use Rattle.statement_match.specs.ReasonTexts.{claimed_text, doubled_text, entry_text, exception_part};
+ghost use Rattle.statement_match.specs.ReasonTexts.{exceptions_part, fit_numbers as numbers_of_fits, fits_another_text};
+ghost use Rattle.statement_match.specs.ReasonTexts.{fitted_part, front_count, further, further_if_any, last_text};
+ghost use Rattle.statement_match.specs.ReasonTexts.{more_text, numbers_text, parted_by_commas, parted_by_semicolons};
+ghost use Rattle.statement_match.specs.ReasonTexts.{reason_text, related_entry_text, related_text};
+ghost use Rattle.statement_match.specs.ReasonTexts.{related_texts as texts_related, return_part};
+ghost use Rattle.statement_match.specs.ReasonTexts.{several_exceptions_text, several_text, shared_part, state_word};
+ghost use Rattle.statement_match.specs.ReasonTexts.{text_if, together_text, words_of};
 
 use crate::book_entry::{BookEntry, EntryState};
 use crate::grounds::{LineGrounds, Numbered};
@@ -117,7 +125,8 @@ fn push_amount_of(
         | Relation::IssuedAfter
         | Relation::OfItsAmount
         | Relation::MaybeReturned
-        | Relation::Named => Ok(()),
+        | Relation::Named
+        | Relation::HeldOn(_) => Ok(()),
     }
 }
 
@@ -135,7 +144,7 @@ fn related_entry(
 }
 
 // Adds the text of an entry that stands so to a line, where fewer than are told are there.
-#[tactic(auto, using(crate::proofs::Listed::has_no_room, crate::proofs::Listed::is_not_told, crate::proofs::Listed::is_told))]
+#[tactic(auto, using(crate::proofs::Listed::told_steps))]
 fn add_related(
     texts: &mut Vec<OwnedBytes>,
     relation: Relation,
@@ -347,6 +356,7 @@ fn words(relation: Relation) -> &'static str
         Relation::MaybeReturned => "no payment of its amount; it may be a return of ",
         Relation::Named => "its reference is that of an entry: ",
         Relation::NamedOfAnotherAmount => "its reference is that of an entry of another amount: ",
+        Relation::HeldOn(_) => "deposits were booked on the day: ",
     }
 }
 
@@ -476,6 +486,23 @@ fn push_fits_another(out: &mut Vec<u8>, today: Day, grounds: &LineGrounds) -> Re
     push_related(out, Relation::Fitted, today, grounds)
 }
 
+// Appends the deposits of a day.
+fn push_together(
+    out: &mut Vec<u8>,
+    today: Day,
+    grounds: &LineGrounds,
+    day: Day,
+) -> Result<(), AllocError>
+    ensures { OnOk result (out.new.items
+        ≡ out.old.items ++ together_text today grounds.now.known grounds.now.line day) }
+{
+    push_phrase(out, Phrase::NoneOfItsAmount)?;
+    push_phrase(out, Phrase::DepositsOf)?;
+    day.write_to(out)?;
+    push_phrase(out, Phrase::AreTogether)?;
+    push_related(out, Relation::HeldOn(day.get()), today, grounds)
+}
+
 /// Appends what is told of why the line has to be looked at.
 #[tactic(auto, unfolding(crate::specs::ReasonTexts::reason_text))]
 pub(crate) fn push_reason(
@@ -509,6 +536,7 @@ pub(crate) fn push_reason(
             push_related(out, relation, today, grounds)
         }
         Reason::NoneOfItsAmount => push_phrase(out, Phrase::NoneOfItsAmount),
+        Reason::Together(day) => push_together(out, today, grounds, day),
         Reason::SeveralExceptions => push_several_exceptions(out, grounds),
         Reason::FitsAnother => push_fits_another(out, today, grounds),
         Reason::NamesNone => push_phrase(out, Phrase::NamesNone),

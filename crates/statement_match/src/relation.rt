@@ -1,7 +1,10 @@
 // How entries of a book stand to a line of a statement.
 
 ghost use Rattle.std.specs.Prelude.{◌≡◌};
-ghost use Rattle.statement_match.specs.Relations.{has_amount_back as has_amount_back_of, is_cleared as is_cleared_state, is_waiting as is_waiting_state, names, stands as stands_so};
+ghost use Rattle.statement_match.specs.DaySums.{is_held as is_held_state, is_held_on as is_held_on_day};
+ghost use Rattle.statement_match.specs.Relations.{has_amount_back as has_amount_back_of};
+ghost use Rattle.statement_match.specs.Relations.{is_cleared as is_cleared_state, is_waiting as is_waiting_state};
+ghost use Rattle.statement_match.specs.Relations.{names, stands as stands_so};
 
 use crate::book_entry::{BookEntry, EntryState};
 use crate::statement_line::StatementLine;
@@ -26,6 +29,8 @@ pub(crate) enum Relation {
     Named,
     /// And an amount that no line of it has.
     NamedOfAnotherAmount,
+    /// It is a deposit that waits, and was booked on the day of this number.
+    HeldOn(u32),
 }
 
 impl EntryState {
@@ -39,6 +44,22 @@ impl EntryState {
             | EntryState::Returned
             | EntryState::Proposed
             | EntryState::Declined
+            | EntryState::Voided
+            | EntryState::Cleared => false,
+        }
+    }
+
+    /// Is it that of a deposit that waits?
+    pub(crate) fn is_held(self) -> bool
+        ensures { result ≡ is_held_state self }
+    {
+        match self {
+            EntryState::Held => true,
+            EntryState::Cancelled
+            | EntryState::Returned
+            | EntryState::Proposed
+            | EntryState::Declined
+            | EntryState::Issued
             | EntryState::Voided
             | EntryState::Cleared => false,
         }
@@ -58,6 +79,15 @@ impl EntryState {
             | EntryState::Declined
             | EntryState::Voided => false,
         }
+    }
+}
+
+impl BookEntry {
+    /// Is it a deposit that waits, and was booked on the day of this number?
+    pub(crate) fn is_held_on(&self, day: u32) -> bool
+        ensures { result ≡ is_held_on_day day self.now }
+    {
+        self.state.is_held() && self.day.get() == day
     }
 }
 
@@ -97,6 +127,7 @@ impl Relation {
             Relation::OfItsAmount => waits && has_amount,
             Relation::MaybeReturned => { has_amount_back(line, entry) && entry.state.is_cleared() }
             Relation::Named => is_named(line, entry),
+            Relation::HeldOn(day) => entry.is_held_on(day),
             Relation::NamedOfAnotherAmount => {
                 is_named(line, entry) && (!has_amount && !has_amount_back(line, entry))
             }

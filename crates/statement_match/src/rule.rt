@@ -5,10 +5,12 @@ ghost use Rattle.std.specs.List.{count_by, filter, list_any};
 ghost use Rattle.statement_match.specs.Bookings.{amount_if, booking_of, is_beside, is_same_booking, total_of};
 ghost use Rattle.statement_match.specs.Lookups.{elements};
 ghost use Rattle.statement_match.specs.Showing.{fits};
-ghost use Rattle.statement_match.specs.Rule.{becomes, exception_reference, fill, is_booked as is_booked_line, is_booked_in_parts as is_split_line, is_doubled as is_doubled_line, is_fitted_once as is_entry_fitted_once, is_in_book as is_booked_already, is_open_fit, is_open_like, outcomes};
+ghost use Rattle.statement_match.specs.Rule.{becomes, exception_reference, fill, is_booked as is_booked_line};
+ghost use Rattle.statement_match.specs.Rule.{is_booked_in_parts as is_split_line, is_doubled as is_doubled_line};
+ghost use Rattle.statement_match.specs.Rule.{is_fitted_once as is_entry_fitted_once, is_in_book as is_booked_already};
+ghost use Rattle.statement_match.specs.Rule.{is_open_fit, is_open_like, outcomes};
 
 use crate::booking::Booking;
-use crate::held::Held;
 use crate::index::Index;
 use crate::outcome::Outcome;
 use crate::statement_line::StatementLine;
@@ -317,17 +319,4 @@ pub(crate) fn outcomes_by(
         found.push(outcome_of(today, index, line)?)?;
     }
     Ok(found)
-}
-
-/// What becomes of each line of a statement on a business day, by what a book has. Fails only for want of memory.
-pub fn outcomes_of(
-    alloc: Global,
-    today: Day,
-    held: &Held,
-    lines: &[StatementLine],
-) -> Result<Vec<Outcome>, AllocError>
-    ensures { IfOk result (λ found. found.items ≡ outcomes today held.now lines.now) }
-{
-    let index = Index::of(alloc, held, lines)?;
-    outcomes_by(alloc, today, &index)
 }

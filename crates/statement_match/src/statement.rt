@@ -1,23 +1,23 @@
 // The statement that an import takes.
 
-ghost use Rattle.std.specs.Prelude.{◌≡◌, ◌++◌, ◌∷◌, [], ℕ, List, IfOk, OnOk, Option, None, Some, get_or, if◌then◌else◌, map, option_copied, slice_get};
+ghost use Rattle.std.specs.Prelude.{◌≡◌, ◌++◌, ◌∷◌, [], ℕ, List, IfOk, OnOk, Option, None, Some, get_or, if◌then◌else◌};
+ghost use Rattle.std.specs.Prelude.{map, option_copied, slice_get};
 ghost use Rattle.csv.specs.Records.{fields_of};
 ghost use Rattle.trust_base.specs.declared.line.Line.{Line};
 ghost use Rattle.statement_csv.specs.Headers.{header};
 ghost use Rattle.statement_match.specs.Records.{lines_from, numbers_from, records_of, rows_of};
 ghost use Rattle.statement_match.specs.RowsLeft.{Adds, Holds, outcome_if};
+ghost use Rattle.statement_match.specs.Rule.{Held, outcomes as outcomes_told};
 ghost use Rattle.statement_match.specs.declared.outcome.Outcome.{Outcome};
 ghost use Rattle.statement_match.specs.Statements.{named_row, row_as, rows_by, statement_text};
 
-use crate::held::Held;
 use crate::outcome::Outcome;
 use crate::records::Records;
 use crate::rows::rows_behind_header;
-use crate::rule::outcomes_of;
 use csv::{ByteRecord, Writer, WriterBuilder};
 use std::alloc::{AllocError, Global};
 use std::io::Write;
-use trust_base::{BankText, Day};
+use trust_base::BankText;
 
 // The field at a place, or an empty one.
 fn field(row: &ByteRecord, place: usize) -> &[u8]
@@ -183,23 +183,22 @@ fn text_in(writer: Writer<Vec<u8>>) -> Result<Vec<u8>, AllocError>
     Ok(text)
 }
 
-/// The statement that an import takes, of one whose references may be empty and whose records these are, on a business
-/// day, by what a book has: the header, and the records in their order. A record with a reference, and one that is no
-/// line, is written as it is; one without a reference where it is filled, or is an exception under a reference, with
-/// that. A line feed ends each. Fails only for want of memory.
+/// The statement that an import takes, of one whose references may be empty and whose records these are, by what becomes
+/// of each line: the header, and the records in their order. A record with a reference, and one that is no line, is
+/// written as it is; one without a reference where it is filled, or is an exception under a reference, with that. A
+/// line feed ends each. Fails only for want of memory.
 pub(crate) fn statement_of(
     alloc: Global,
-    today: Day,
-    held: &Held,
     statement: &[u8],
     records: &Records,
+    outcomes: &[Outcome],
 ) -> Result<Vec<u8>, AllocError>
     requires { records.now ≡ records_of statement.now }
-    ensures { IfOk result (λ text. text.items ≡ statement_text today held.now statement.now) }
+    ensures { (today : ℕ) (held : Held) → outcomes.now ≡ outcomes_told today held records.now.lines
+        → IfOk result (λ text. text.items ≡ statement_text today held statement.now) }
 {
-    let outcomes = outcomes_of(alloc, today, held, &records.lines)?;
     let mut writer = new_writer(alloc);
     write_header(&mut writer)?;
-    write_rows(alloc, &mut writer, statement, &records.numbers, &outcomes)?;
+    write_rows(alloc, &mut writer, statement, &records.numbers, outcomes)?;
     text_in(writer)
 }

@@ -1,9 +1,13 @@
 // Lines of a statement, with what their words show.
 
-ghost use Rattle.std.specs.Prelude.{◌≡◌, IfOk};
-ghost use Rattle.std.specs.List.{list_any};
+ghost use Rattle.std.specs.Prelude.{◌≡◌, false, nat_eq, IfOk};
+ghost use Rattle.std.specs.List.{list_any, starts_with};
 ghost use Rattle.statement_match.specs.Bookings.{booking_of, is_beside, is_same_booking};
-ghost use Rattle.statement_match.specs.Showing.{begins_with_reference as begins_with_reference_text, fits, has_reference as has_reference_text, is_charge as is_charge_word, is_correction as is_correction_word, is_other_business as is_other_line, is_other_word as is_other_word_text, shows};
+ghost use Rattle.statement_match.specs.Showing.{begins_with_reference as begins_with_reference_text, fits};
+ghost use Rattle.statement_match.specs.Showing.{has_reference as has_reference_text, is_charge as is_charge_word};
+ghost use Rattle.statement_match.specs.Showing.{is_correction as is_correction_word};
+ghost use Rattle.statement_match.specs.Showing.{is_other_business as is_other_line};
+ghost use Rattle.statement_match.specs.Showing.{is_other_word as is_other_word_text, shows};
 ghost use Rattle.statement_match.specs.Numbers.{is_among as is_among_numbers, line_numbers};
 ghost use Rattle.statement_match.specs.Rule.{is_named_like, is_open, is_open_fit, is_open_like};
 
@@ -83,16 +87,25 @@ fn is_other_business(alloc: Global, line: &Line) -> Result<bool, AllocError>
     Ok(has_other_word(line.amount.get() < 0, &tokens))
 }
 
+// May the text begin with the reference, by the first byte of each?
+fn begins_alike(reference: &[u8], text: &[u8]) -> bool
+    ensures { result ≡ false → starts_with nat_eq text.now reference.now ≡ false }
+{
+    reference.is_empty() || byte_at(text, 0) == reference[0]
+}
+
 // Does the text begin with the reference, with no digit behind it?
 #[tactic(auto, unfolding(crate::specs::Showing::begins_with_reference))]
 fn begins_with_reference(reference: &[u8], text: &[u8]) -> bool
     ensures { result ≡ begins_with_reference_text reference.now text.now }
 {
-    text.starts_with(reference) && !is_digit(byte_at(text, reference.len()))
+    begins_alike(reference, text)
+        && text.starts_with(reference)
+        && !is_digit(byte_at(text, reference.len()))
 }
 
 // Does the reference stand in the text, with no digit behind it?
-#[tactic(auto, using(crate::proofs::Parting::reference_found, crate::proofs::Parting::reference_later, crate::proofs::Parting::reference_nil, std::proofs::lemmas::List::drop_all))]
+#[tactic(auto, using(crate::proofs::Parting::reference_steps))]
 fn has_reference(reference: &[u8], text: &[u8]) -> bool
     ensures { result ≡ has_reference_text reference.now text.now }
 {

@@ -2,7 +2,11 @@
 
 ghost use Rattle.std.specs.Prelude.{◌≡◌, ◌<◌, ◌≤◌, List, ℕ, IfOk, length, slice_index};
 ghost use Rattle.std.specs.List.{prefix_len};
-ghost use Rattle.statement_match.specs.Tokens.{begins as begins_token, goes_on as goes_on_with, is_digit as is_digit_byte, is_joiner as is_joiner_byte, is_letter as is_letter_byte, lowered as lowered_byte, numeral_len as numeral_length, token_in_front, token_len as token_length, tokens};
+ghost use Rattle.statement_match.specs.Tokens.{begins as begins_token, goes_on as goes_on_with};
+ghost use Rattle.statement_match.specs.Tokens.{is_digit as is_digit_byte, is_joiner as is_joiner_byte};
+ghost use Rattle.statement_match.specs.Tokens.{is_letter as is_letter_byte, lowered as lowered_byte};
+ghost use Rattle.statement_match.specs.Tokens.{numeral_len as numeral_length, token_in_front};
+ghost use Rattle.statement_match.specs.Tokens.{token_len as token_length, tokens};
 
 use std::alloc::{AllocError, Global};
 use std::marker::Model;
@@ -91,7 +95,7 @@ fn goes_on(byte: u8, next: u8) -> bool
 }
 
 // How many digits stand in front, with what joins them.
-#[tactic(auto, using(crate::proofs::Parting::numeral_more, crate::proofs::Parting::numeral_stops, crate::proofs::Parting::numeral_nil, std::proofs::lemmas::List::drop_all))]
+#[tactic(auto, using(crate::proofs::Parting::numeral_steps))]
 fn numeral_len(text: &[u8]) -> usize
     ensures value { result ≡ numeral_length text.now }
     ensures bound { result ≤ length text.now }
@@ -128,7 +132,7 @@ fn token_of(alloc: Global, text: &[u8]) -> Result<Token, AllocError>
 }
 
 /// The tokens of a text, in order. Fails only for want of memory.
-#[tactic(auto, using(crate::proofs::Parting::tokens_more, crate::proofs::Parting::tokens_none, crate::proofs::Parting::tokens_done))]
+#[tactic(auto, using(crate::proofs::Parting::token_steps))]
 pub(crate) fn tokens_of(alloc: Global, text: &[u8]) -> Result<Vec<Token>, AllocError>
     ensures { IfOk result (λ found. found.items ≡ tokens text.now) }
 {

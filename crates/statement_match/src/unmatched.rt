@@ -4,7 +4,11 @@ ghost use Rattle.std.specs.Prelude.{◌≡◌, ◌++◌, ◌-◌, ◌≤◌, len
 ghost use Rattle.std.specs.List.{count_by};
 ghost use Rattle.statement_match.specs.Rule.{outcomes as outcomes_told};
 ghost use Rattle.statement_match.specs.Reasons.{reason_for as reason_told};
-ghost use Rattle.statement_match.specs.Unmatched.{counts_line, is_left_out as is_left_out_outcome, is_written as is_written_outcome, line_head, record_line as line_of_record, record_text, same_text, shown_text, told, told_by, told_unreadable, unmatched, unreadable_line as line_of_unreadable, words_part, written_count};
+ghost use Rattle.statement_match.specs.Unmatched.{counts_line, is_left_out as is_left_out_outcome};
+ghost use Rattle.statement_match.specs.Unmatched.{is_written as is_written_outcome, line_head};
+ghost use Rattle.statement_match.specs.Unmatched.{record_line as line_of_record, record_text, same_text, shown_text};
+ghost use Rattle.statement_match.specs.Unmatched.{told, told_by, told_unreadable, unmatched};
+ghost use Rattle.statement_match.specs.Unmatched.{unreadable_line as line_of_unreadable, words_part, written_count};
 
 use crate::grounds::{Grounds, numbered_lines};
 use crate::index::Index;
@@ -14,7 +18,6 @@ use crate::outcome::Outcome;
 use crate::reason::reason_for;
 use crate::reason_text::{push_amount, push_number, push_reason, push_words};
 use crate::records::{Records, line_at, line_count, number_of};
-use crate::rule::outcomes_by;
 use crate::statement_line::StatementLine;
 use crate::words::push_line_words;
 use byte_streams::OwnedBytes;
@@ -246,26 +249,28 @@ fn joined(alloc: Global, lines: &[OwnedBytes]) -> Result<Vec<u8>, AllocError>
     Ok(text)
 }
 
-/// What is told on a business day of the records of a statement that a person has to look at, by what a book has: a
-/// line for each of them, with its reason, and the counts. Fails only for want of memory.
+/// What is told on a business day of the records of a statement that a person has to look at, by what a book has and
+/// what becomes of each line: a line for each of them, with its reason, and the counts. Fails only for want of memory.
 #[tactic(auto, unfolding(crate::specs::Unmatched::unmatched))]
 pub(crate) fn unmatched_of<'a>(
     alloc: Global,
     today: Day,
     known: &'a Known,
     records: &'a Records,
+    index: Index<'a>,
+    outcomes: &[Outcome],
 ) -> Result<Unmatched, AllocError>
+    requires index { index ≡ record { held = known.now.held; lines = records.now.lines } }
+    requires outcomes { outcomes.now ≡ outcomes_told today known.now.held records.now.lines }
     ensures { IfOk result (λ found. found ≡ unmatched today known.now records.now) }
 {
-    let index = Index::of(alloc, &known.held, &records.lines)?;
-    let outcomes = outcomes_by(alloc, today, &index)?;
     let numbered = numbered_lines(alloc, records)?;
     let marks = marks_of(alloc, &known.entries)?;
     let grounds = Grounds::of(alloc, known, records, &index, &numbered, &marks)?;
-    let lines = lines_told(alloc, today, records, &grounds, &outcomes)?;
+    let lines = lines_told(alloc, today, records, &grounds, outcomes)?;
     let left = lines.len() as u64;
     let mut text = joined(alloc, &lines)?;
-    let booked = count_left_out(&outcomes) as u64;
-    push_counts(&mut text, written_of(records, &outcomes), booked, left)?;
+    let booked = count_left_out(outcomes) as u64;
+    push_counts(&mut text, written_of(records, outcomes), booked, left)?;
     Ok(Unmatched { text, left })
 }

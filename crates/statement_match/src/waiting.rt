@@ -25,7 +25,12 @@ impl Model for WaitingEntry {
 
     ghost Value = { Waiting };
 
-    ghost view = { λ w. record { reference = w.reference; amount = w.amount; since = w.since; numbers = w.numbers.items } };
+    ghost view = { λ w. record {
+      reference = w.reference;
+      amount = w.amount;
+      since = w.since;
+      numbers = w.numbers.items;
+    } };
 }
 
 impl WaitingEntry {

@@ -12,8 +12,8 @@ use Rattle.sqlite.specs.Files.{IsOpened, file_state, over_files}
 use Rattle.sqlite.specs.Held.{Held, state}
 use Rattle.sqlite.specs.Start.{FindsIn}
 use Rattle.sqlite.specs.State.{HasCleanDisk}
-use Rattle.trust_tables.specs.Reading.{IsKept}
-use Rattle.trust_making.specs.Books.{no_schema}
+use Rattle.sql_tables.specs.Reading.{IsKept}
+use Rattle.sql_making.specs.Books.{no_schema}
 use Rattle.sql_book.specs.Books.{HeldBook, IsSure}
 use Rattle.sql_book.specs.Opening.{IsMade, IsTaken}
 use Rattle.system_store.specs.Runs.{BookOf, IsFoundIn, IsPutBack}

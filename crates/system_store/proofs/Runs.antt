@@ -14,12 +14,12 @@ use Rattle.sqlite.specs.Effect.{Database}
 use Rattle.sqlite.specs.Files.{HoldsDatabase, file_state, over_files}
 use Rattle.sqlite.specs.Held.{Held, AreDatabases}
 use Rattle.sqlite.proofs.Theorems.{next_run}
-use Rattle.trust_schema.specs.declared.layout.Layout.{Layout}
-use Rattle.trust_schema.specs.declared.layout.Layout.TheVariants.{Made, Moved}
-use Rattle.trust_schema.specs.Schema.{book_schema}
-use Rattle.trust_schema.specs.Old.{old_schema}
-use Rattle.tables_meaning.specs.Standing.{StandsSound, firm_in}
-use Rattle.trust_making.specs.Books.{no_schema}
+use Rattle.sql_schema.specs.declared.layout.Layout.{Layout}
+use Rattle.sql_schema.specs.declared.layout.Layout.TheVariants.{Made, Moved}
+use Rattle.sql_schema.specs.Schema.{book_schema}
+use Rattle.sql_schema.specs.Old.{old_schema}
+use Rattle.sql_rows.specs.Standing.{StandsSound, firm_in}
+use Rattle.sql_making.specs.Books.{no_schema}
 use Rattle.sql_book.specs.Books.{at, IsStanding, IsLasting}
 use Rattle.sql_book.specs.Opening.{IsMade, IsTaken}
 use Rattle.sql_book.specs.Stops.{IsNext, IsOpenedOver, IsOldStanding, IsLeftInMoving, HoldsOldFirm, HoldsFirm, IsOfFirm}

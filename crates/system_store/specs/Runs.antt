@@ -14,7 +14,7 @@ use Rattle.sqlite.specs.Files.{IsOpened, file_state, image_of, over_files}
 use Rattle.sqlite.specs.Held.{Held}
 use Rattle.sqlite.specs.Start.{FindsIn}
 use Rattle.trust_store.specs.Crashes.{LeavesAlone}
-use Rattle.trust_making.specs.Books.{no_schema}
+use Rattle.sql_making.specs.Books.{no_schema}
 use Rattle.sql_book.specs.Books.{HeldBook, at, firm_of, IsStanding, IsLasting, MayLeave}
 use Rattle.sql_book.specs.Opening.{IsMade, IsTaken}
 use Rattle.sql_book.specs.Stops.{IsNext, IsOldStanding, IsLeftInMoving, IsOfFirm}

@@ -7,7 +7,7 @@ ghost use Rattle.sqlite.specs.Files.{file_state};
 ghost use Rattle.sqlite.specs.Held.{state};
 ghost use Rattle.sqlite.specs.State.{HasCleanDisk};
 ghost use Rattle.sqlite_wal.specs.Reads.{AreClean};
-ghost use Rattle.trust_making.specs.Books.{no_schema};
+ghost use Rattle.sql_making.specs.Books.{no_schema};
 ghost use Rattle.sql_book.specs.Books.{IsServing, IsSure};
 ghost use Rattle.sql_book.specs.Opening.{IsMade, IsTaken};
 

@@ -10,12 +10,12 @@ ghost use Rattle.sql_book.specs.Books.{IsServing, IsSure};
 ghost use Rattle.system_store.specs.Runs.{IsFoundIn, IsPutBack, unknown_files};
 
 use crate::opening::{book_over, copied};
-use cashier::{NoBook, Stores};
 use sql_book::{OpenFault, SqlBook};
+use sql_reads::fault_of;
 use sqlite::{Connection, Error, ErrorCode, FileFrom, FileStore, Start, Unknown};
 use std::alloc::Global;
-use table_reads::fault_of;
 use trust_base::StoreFault;
+use trust_store::{NoBook, Stores};
 
 /// A database file of the system, with its log, which lies at the same path with `-wal` behind it. `T` stands for what
 /// the two hold as they are opened.

@@ -24,3 +24,7 @@ pub mod FilledLines
 pub mod MatchedAgain
 pub mod Gathered
 pub mod SecondMatch
+mod BookReads
+mod ReconciliationAnswers
+mod ReportTexts
+pub use Rattle.trust_reports.proofs.Cards

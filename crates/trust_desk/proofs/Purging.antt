@@ -15,8 +15,8 @@ use Rattle.trust_matter.proofs.Steps.{step}
 use Rattle.firm_rows.specs.Firm.{Firm, of}
 use Rattle.firm_rows.specs.FirmSound.{FirmSound}
 use Rattle.firm_rows.proofs.Kept.{IsKept}
-use Rattle.trust_figures.specs.Purged.{IsPurge, is_period_purged}
-use Rattle.trust_figures.proofs.PurgedPeriods.{no_figure-left, no_list-left}
+use Rattle.firm_figures.specs.Purged.{IsPurge, is_period_purged}
+use Rattle.firm_figures.proofs.PurgedPeriods.{no_figure-left, no_list-left}
 use Rattle.trust_desk.specs.Heard.{asked_on}
 use Rattle.trust_desk.specs.FirmStep.{after_asked}
 use Rattle.trust_desk.specs.Purging.{IsReportedAsBefore, PurgingChangesNoFigure}

@@ -18,3 +18,6 @@ pub mod Plan
 pub mod Calls
 pub mod Crashes
 pub mod Matching
+pub mod Kept
+pub mod Reports
+pub use Rattle.trust_reports.specs.TextsOfLedgers

@@ -4,8 +4,8 @@ use Rattle.trust_matter.specs.declared.ask.Caller.{Caller}
 use Rattle.trust_matter.specs.declared.ask.Ask.TheVariants as ask
 use Rattle.firm_rows.specs.Firm.{Firm}
 use Rattle.firm_rows.specs.FirmSound.{FirmSound}
-use Rattle.trust_figures.specs.Figures.{figures_on}
-use Rattle.trust_figures.specs.Purged.{AreListsLeft, is_period_purged}
+use Rattle.firm_figures.specs.Figures.{figures_on}
+use Rattle.firm_figures.specs.Purged.{AreListsLeft, is_period_purged}
 use Rattle.trust_desk.specs.declared.requests.Request.TheVariants.{Matter}
 use Rattle.trust_desk.specs.Heard.{Asks}
 use Rattle.trust_desk.specs.FirmStep.{firm_step}

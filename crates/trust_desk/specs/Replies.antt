@@ -14,7 +14,7 @@ use Rattle.trust_desk.specs.declared.requests.Reply.{Reply}
 use Rattle.trust_desk.specs.declared.requests.Body.{Body}
 use Rattle.trust_desk.specs.declared.requests.Body.TheVariants.{Json, Refused, Text}
 use Rattle.matter_bodies.specs.Bodies.{matter_body, purge_body, receipt_body, entry_body}
-use Rattle.firm_reports.specs.TextsOfLedgers.{ledger_card_of}
+use Rattle.trust_reports.specs.TextsOfLedgers.{ledger_card_of}
 
 -- the reply to what is refused
 abbrev pub refused : Refusal → Reply

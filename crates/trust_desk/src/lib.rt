@@ -1,17 +1,26 @@
-//! The desk of the firm: who asks what of which matter, and what is answered.
+//! The desk of the firm: who asks what of which matter, and what is answered; the reports of a firm, from the rows of
+//! any book, one row at a time.
 #![tactic(auto)]
 
 mod callers;
+mod cleared_lines;
 mod desk;
 mod dismissing;
+mod exceptions;
+mod exceptions_sink;
 mod explaining;
 mod import_checks;
 mod importing;
+mod journal;
 pub mod laws;
 mod matching;
+mod own_card;
 mod planning;
+mod reconciliation;
 mod reporting;
 mod requests;
+mod retention;
+mod trial;
 mod watching;
 
 pub use desk::Desk;
@@ -20,4 +29,4 @@ pub use matter_bodies::{ImportReply, entry_body, import_body, matter_body, recei
 pub use requests::{Body, End, Reply, Request, RunEnd};
 pub use statement_match::Matched;
 pub use trust_base::OwnedBytes;
-pub use watching::{At, ItemWatch, NoWatch, NotApplied};
+pub use watching::{At, ClearedLine, ItemWatch, NoWatch, NotApplied, RowWatch};

@@ -9,15 +9,15 @@ ghost use Rattle.trust_matter.specs.KeptFacts.{holds_for};
 ghost use Rattle.trust_desk.specs.Heard.{asked_on};
 ghost use Rattle.trust_desk.specs.Replies.{is_fault_body, is_fault_reply, made_text, said, shown_text};
 ghost use Rattle.trust_desk.specs.Plan.{IsBodyOf, IsReadFor, IsTextOf, IsWholeForCard, Plans, is_nothing, success_by};
-ghost use Rattle.firm_reports.specs.TextsOfLedgers.{ledger_card_of};
+ghost use Rattle.trust_reports.specs.TextsOfLedgers.{ledger_card_of};
 ghost use Rattle.trust_store.specs.Calls.{IsRead};
 
 use crate::requests::{Body, Reply};
-use firm_reports::ledger_card;
 use matter_bodies::{entry_body, matter_body, purge_body, receipt_body};
 use std::alloc::{AllocError, Global};
 use trust_base::{Day, EntryNo, MatterNo, OwnedBytes, Refusal, StoreFault};
 use trust_matter::{Ask, Caller, Change, Edit, Matter, decide, holds_for};
+use trust_reports::ledger_card;
 use trust_store::Book;
 
 /// What an ask changes, and the answer to it, made before anything is written.

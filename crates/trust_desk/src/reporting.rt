@@ -4,11 +4,13 @@ ghost use Rattle.std.specs.Prelude.{◌≡◌, IfOk};
 ghost use Rattle.trust_store.specs.Calls.{IsRead};
 ghost use Rattle.trust_desk.specs.ReportStep.{found_reply, found_text, report_for};
 
+use crate::exceptions::exceptions_report;
+use crate::journal::journal_report;
+use crate::own_card::own_card_report;
+use crate::reconciliation::{Reconciled, reconciliation_report};
 use crate::requests::{Body, Reply, Report};
-use firm_reports::{
-    Reconciled, exceptions_report, journal_report, own_card_report, reconciliation_report,
-    retention_report, trial_report,
-};
+use crate::retention::retention_report;
+use crate::trial::trial_report;
 use std::alloc::Global;
 use trust_base::{Day, OwnedBytes, Refusal, StoreFault};
 use trust_matter::Caller;

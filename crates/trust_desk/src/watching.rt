@@ -1,8 +1,8 @@
-// Who is told of the items of a statement that are not applied, and of the exceptions.
+// Who is told of the items of a statement that are not applied, of the exceptions, and of rows beside a report.
 
 use crate::importing::ImportStop;
-use firm_rows::{BalanceKind, FirmLedger};
-use trust_base::Line;
+use firm_rows::{BalanceKind, FirmLedger, Owner};
+use trust_base::{BankText, Day, Line};
 use trust_matter::{BankLine, Matter, Reason};
 
 /// An item of a statement that was not applied, or an exception as an import would find it, with what was read of the
@@ -51,6 +51,27 @@ pub trait ItemWatch {
 
     /// Tells how the import ended, once so many items were taken.
     fn ended(&self, taken: u64, end: &ImportStop);
+}
+
+/// A line of the bank that is in the book: what it cleared or took back, or that it is the firm's own.
+#[derive(Drop, Debug)]
+pub struct ClearedLine {
+    pub owner: Owner,
+    /// The day on which the bank booked it.
+    pub date: Day,
+    /// The bank's own reference.
+    pub bank_ref: BankText,
+    /// The amount in cents, below zero for money that went out.
+    pub amount: i64,
+}
+
+/// Who is told what the rows of a book show beside a report. Nothing hangs on whether one can be told.
+pub trait RowWatch {
+    /// Tells of two lines of the bank of the same date, bank reference and amount.
+    fn cleared_twice(&self, first: &ClearedLine, second: &ClearedLine);
+
+    /// Tells of the last day on which a matter was changed.
+    fn worked_on(&self, last: Day);
 }
 
 /// Nobody is told.

@@ -18,3 +18,5 @@ pub mod HeadSteps
 pub use Rattle.matter_rows.proofs.Days
 pub use Rattle.matter_rows.proofs.Entries
 pub use Rattle.matter_rows.proofs.Sums
+pub mod SoundExamples
+pub mod CasesLastNumber

@@ -20,3 +20,9 @@ pub use Rattle.matter_rows.specs.declared.head
 pub use Rattle.matter_rows.specs.declared.movement
 pub use Rattle.matter_rows.specs.declared.payment
 pub use Rattle.matter_rows.specs.declared.seat
+pub mod Cases
+pub mod CasesLines
+pub mod CasesClaims
+pub mod CasesPayments
+pub mod CasesPurging
+pub mod Examples

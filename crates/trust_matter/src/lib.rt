@@ -1,8 +1,10 @@
-//! The step of one matter: what an ask and a line of the bank are answered, and what they change.
+//! The step of one matter: what an ask and a line of the bank are answered, and what they change. `cases` are worked
+//! cases over the definitions of a matter.
 #![tactic(auto)]
 
 mod ask;
 mod bank_line;
+pub mod cases;
 mod claim;
 mod deciding;
 mod deposit;

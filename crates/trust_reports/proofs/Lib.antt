@@ -1,6 +1,6 @@
 pub mod TextFacts
 pub mod Cards
-pub use Rattle.trust_lists.proofs.Lists
-pub use Rattle.trust_lists.proofs.Retained
-pub use Rattle.trust_lists.proofs.Trial
-pub use Rattle.trust_lists.proofs.ReconciliationRows
+pub use Rattle.firm_figures.proofs.Lists
+pub use Rattle.firm_figures.proofs.Retained
+pub use Rattle.firm_figures.proofs.Trial
+pub use Rattle.firm_figures.proofs.ReconciliationRows

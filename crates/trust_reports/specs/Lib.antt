@@ -4,9 +4,9 @@ pub mod Pieces
 pub mod TextsOfLists
 pub mod TextsOfReconciliation
 pub mod TextsOfLedgers
-pub use Rattle.trust_lists.specs.Lists
-pub use Rattle.trust_lists.specs.Retained
-pub use Rattle.trust_lists.specs.Figures
-pub use Rattle.trust_lists.specs.Openings
-pub use Rattle.trust_lists.specs.Purged
-pub use Rattle.trust_lists.specs.Reconciliations
+pub use Rattle.firm_figures.specs.Lists
+pub use Rattle.firm_figures.specs.Retained
+pub use Rattle.firm_figures.specs.Figures
+pub use Rattle.firm_figures.specs.Openings
+pub use Rattle.firm_figures.specs.Purged
+pub use Rattle.firm_figures.specs.Reconciliations

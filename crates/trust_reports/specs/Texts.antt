@@ -3,8 +3,8 @@ use Rattle.std.specs.Prelude.{ℕ, ◌-◌, List, [], ◌∷◌, ◌++◌, lengt
 use Rattle.std.specs.Char.{is_control}
 use Rattle.std.specs.Str.{chars}
 use Rattle.trust_base.specs.Texts.{day_text, entry_text, matter_text}
-use Rattle.trust_lists.specs.movement.Owner.{Owner}
-use Rattle.trust_lists.specs.movement.Owner.TheVariants as owner
+use Rattle.firm_rows.specs.declared.movement.Owner.{Owner}
+use Rattle.firm_rows.specs.declared.movement.Owner.TheVariants as owner
 
 -- Places.
 

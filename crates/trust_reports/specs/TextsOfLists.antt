@@ -2,9 +2,9 @@
 use Rattle.std.specs.Prelude.{ℕ, ℤ, List, [], ◌∷◌, ◌++◌, codes, flat_map, if◌then◌else◌}
 use Rattle.trust_base.specs.Texts.{day_text, matter_text, signed_text}
 use Rattle.trust_base.specs.declared.line.Line.{Line}
-use Rattle.trust_lists.specs.declared.journal_sink.JournalLine.{JournalLine}
-use Rattle.trust_lists.specs.declared.retention_sink.RetentionLine.{RetentionLine}
-use Rattle.trust_lists.specs.declared.trial_sink.TrialLine.{TrialLine}
+use Rattle.firm_figures.specs.declared.journal_sink.JournalLine.{JournalLine}
+use Rattle.firm_figures.specs.declared.retention_sink.RetentionLine.{RetentionLine}
+use Rattle.firm_figures.specs.declared.trial_sink.TrialLine.{TrialLine}
 use Rattle.trust_reports.specs.Texts.{column, heading, line, or_dash, owner_text, words_shown}
 
 -- The firm's figures: labels have 14 places, and figures 24.

@@ -5,9 +5,9 @@ ghost use Rattle.trust_reports.specs.TextsOfLists.{journal_line, journal_text};
 
 use crate::page::Page;
 use crate::piece::{Piece, push_heading, push_line};
+use firm_figures::JournalLine;
 use std::alloc::AllocError;
 use trust_base::Day;
-use trust_lists::JournalLine;
 
 fn push_journal_line(page: &mut Page, line: &JournalLine) -> Result<(), AllocError>
     ensures before { page.new.before ≡ page.old.before }

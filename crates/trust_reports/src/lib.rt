@@ -17,12 +17,12 @@ mod trial;
 
 pub use card::ledger_card;
 pub use exceptions::{exception_line, exceptions_text};
+pub use firm_figures::{
+    JournalLine, JournalSink, Reconciliation, ReconciliationSink, RetentionLine, RetentionSink,
+    TrialBalance, TrialSink,
+};
 pub use journal::journal_text;
 pub use own_card::own_card_text;
 pub use reconciliation::reconciliation_text;
 pub use retention::retention_text;
 pub use trial::trial_text;
-pub use trust_lists::{
-    JournalLine, JournalSink, Reconciliation, ReconciliationSink, RetentionLine, RetentionSink,
-    TrialBalance, TrialSink,
-};

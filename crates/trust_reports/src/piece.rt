@@ -7,12 +7,12 @@ ghost use Rattle.trust_reports.specs.Pieces.{further_piece, text_of};
 
 use crate::page::Page;
 use crate::sum::Sum;
+use firm_figures::Owner;
 use std::alloc::AllocError;
 use trust_base::{
     BankAmount, BankText, Cents, CentsOrZero, CivilDay, Day, EntryNo, Label, LineText, MatterNo,
     day_bytes,
 };
-use trust_lists::Owner;
 
 /// A piece of a line.
 #[derive(Clone, Copy)]

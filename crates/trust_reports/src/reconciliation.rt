@@ -1,7 +1,7 @@
 // The reconciliation.
 
 ghost use Rattle.std.specs.Prelude.{◌≡◌, ◌++◌, OnOk, OnErr, codes, flat_map};
-ghost use Rattle.trust_lists.specs.Reconciliations.{told};
+ghost use Rattle.firm_figures.specs.Reconciliations.{told};
 ghost use Rattle.trust_reports.specs.Texts.{heading};
 ghost use Rattle.trust_reports.specs.TextsOfReconciliation.{bank_figures, book_figures, double_line, entry_line, listed_exception, opening_line, reconciliation_text};
 
@@ -10,9 +10,9 @@ use crate::exceptions::push_exception;
 use crate::page::Page;
 use crate::piece::{Piece, push_heading, push_line};
 use crate::sum::Sum;
+use firm_figures::{EntryLine, Figures, Issued, OpeningLine, Reconciliation, ReconciliationLists};
 use std::alloc::AllocError;
 use trust_base::{Day, Line};
-use trust_lists::{EntryLine, Figures, Issued, OpeningLine, Reconciliation, ReconciliationLists};
 
 #[tactic(auto, unfolding(crate::specs::TextsOfReconciliation::bank_figures))]
 fn push_bank_figures(page: &mut Page, figures: &Figures) -> Result<(), AllocError>

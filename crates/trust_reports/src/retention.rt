@@ -7,9 +7,9 @@ ghost use Rattle.trust_reports.specs.TextsOfLists.{purge_fields, retention_line,
 
 use crate::page::Page;
 use crate::piece::{Piece, push_heading, push_open_line, push_word};
+use firm_figures::RetentionLine;
 use std::alloc::AllocError;
 use trust_base::Day;
-use trust_lists::RetentionLine;
 
 fn push_days(page: &mut Page, line: &RetentionLine) -> Result<(), AllocError>
     ensures before { page.new.before ≡ page.old.before }

@@ -7,9 +7,9 @@ use crate::columns::{push_column, push_columns};
 use crate::page::Page;
 use crate::piece::{matter_digits, push_heading};
 use crate::sum::Sum;
+use firm_figures::TrialLine;
 use std::alloc::AllocError;
 use trust_base::Day;
-use trust_lists::TrialLine;
 
 fn push_trial_line(page: &mut Page, line: &TrialLine) -> Result<(), AllocError>
     ensures before { page.new.before ≡ page.old.before }

@@ -2,7 +2,7 @@
 
 use crate::table::Became::{Read, Store};
 use crate::table::{NO_DAY, Row, check};
-use trust_tables::EntryColumns;
+use sql_tables::EntryColumns;
 
 /// A deposit that is held.
 pub(crate) const HELD: EntryColumns<'static> = EntryColumns {

@@ -2,7 +2,7 @@
 
 use crate::table::Became::{Read, Store};
 use crate::table::{NO_DAY, Row, check};
-use trust_tables::HeadColumns;
+use sql_tables::HeadColumns;
 
 // A matter without entries.
 const HEAD: HeadColumns<'static> = HeadColumns {

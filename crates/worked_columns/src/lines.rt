@@ -2,9 +2,7 @@
 
 use crate::table::Became::{Read, Store};
 use crate::table::{NO_DAY, Row, check};
-use trust_tables::{
-    BalanceColumns, ExceptionColumns, FirmLineColumns, MovementColumns, SeatColumns,
-};
+use sql_tables::{BalanceColumns, ExceptionColumns, FirmLineColumns, MovementColumns, SeatColumns};
 
 const SEAT: SeatColumns<'static> = SeatColumns {
     matter: 1,

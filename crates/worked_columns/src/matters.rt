@@ -5,11 +5,11 @@ use crate::table::Became::{Read, Store};
 use crate::table::{Became, Row, Stored, check, of_result};
 use matter_parts::{Figures, Kept, Matter, balances, claim_left, fee_left};
 use matter_rows::{Entry, Head, Seat};
-use row_columns::{entry_of, head_of, seat_of};
+use sql_rows::{entry_of, head_of, seat_of};
+use sql_tables::{EntryColumns, HeadColumns, SeatColumns};
 use std::alloc::Global;
 use std::process::Abort;
 use trust_base::{EntryNo, MatterNo, StoreFault};
-use trust_tables::{EntryColumns, HeadColumns, SeatColumns};
 
 // All rows of a matter: its head, the lawyers of its seats, and its entries in order.
 #[derive(Clone, Copy)]

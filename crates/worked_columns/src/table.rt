@@ -1,16 +1,16 @@
 // Tables of rows, and what becomes of each row.
 
-use row_columns::{
+use sql_rows::{
     balance_of, entry_columns, entry_of, exception_of, firm_line_of, head_columns, head_of,
     movement_of, seat_of, totals_of,
+};
+use sql_tables::{
+    BalanceColumns, EntryColumns, ExceptionColumns, FirmLineColumns, HeadColumns, MovementColumns,
+    SeatColumns,
 };
 use std::alloc::Global;
 use std::process::Abort;
 use trust_base::{MatterNo, StoreFault};
-use trust_tables::{
-    BalanceColumns, EntryColumns, ExceptionColumns, FirmLineColumns, HeadColumns, MovementColumns,
-    SeatColumns,
-};
 
 /// No day of the calendar: 30 February.
 pub(crate) const NO_DAY: i64 = 20_240_230;

@@ -1,12 +1,30 @@
-//! Readers, writers and books that fail at each call, below streams of messages, day sheets and statements, as tests.
+//! Tests: readers, writers and books that fail at each call, below streams of messages, day sheets and statements;
+//! files, books and networks that refuse a run of the cashier's program, from its words to its outcome; connections of
+//! clients in virtual time.
 #![tactic(auto)]
 
 #[cfg(test)]
+mod answers;
+#[cfg(test)]
 mod books;
+#[cfg(test)]
+mod cases;
+#[cfg(test)]
+mod clients;
+#[cfg(test)]
+mod clock;
+#[cfg(test)]
+mod closes;
+#[cfg(test)]
+mod ends;
+#[cfg(test)]
+mod files;
 #[cfg(test)]
 mod fronts;
 #[cfg(test)]
 mod given;
+#[cfg(test)]
+mod halves;
 #[cfg(test)]
 mod imports;
 #[cfg(test)]
@@ -14,13 +32,29 @@ mod interrupted;
 #[cfg(test)]
 mod lines;
 #[cfg(test)]
+mod listener;
+#[cfg(test)]
+mod loopback;
+#[cfg(test)]
 mod messages;
+#[cfg(test)]
+mod networks;
 #[cfg(test)]
 mod pieces;
 #[cfg(test)]
+mod ports;
+#[cfg(test)]
+mod refused_books;
+#[cfg(test)]
 mod replies;
 #[cfg(test)]
+mod runs;
+#[cfg(test)]
 mod sheets;
+#[cfg(test)]
+mod silences;
+#[cfg(test)]
+mod stores;
 #[cfg(test)]
 mod streams;
 #[cfg(test)]

@@ -1,11 +1,12 @@
 // What a person is told as a run begins.
 
+use crate::folder::Presence;
 use crate::remarks::{Remark, Remarks};
-use crate::stores::{NoBook, Stores};
 use command_line::Plan;
 use std::alloc::Global;
 use std::rt::Clock;
 use trust_base::{Day, StoreFault};
+use trust_store::{NoBook, Stores};
 
 // How far the business day may be ahead of the machine's clock, in days.
 const DAYS_AHEAD: u64 = 31;
@@ -25,6 +26,14 @@ fn days_since_1970(day: Day) -> u64 {
     (days + number % 100).saturating_sub(719_469)
 }
 
+/// Is a business day before that of the machine's clock? Of a clock that can't be read nothing is known, and it may be.
+pub fn is_past<C: Clock>(clock: &C, today: Day) -> bool {
+    match clock.since_1970() {
+        Ok(now) => days_since_1970(today) < now.as_secs() / SECONDS_OF_A_DAY,
+        Err(_) => true,
+    }
+}
+
 /// Tells of a business day that is more than 31 days ahead of the machine's clock. What is booked on it locks its
 /// matters until then.
 pub fn tell_of_day<C: Clock, M: Remarks>(clock: &C, remarks: &M, plan: &Plan<'_>) {
@@ -39,10 +48,16 @@ pub fn tell_of_day<C: Clock, M: Remarks>(clock: &C, remarks: &M, plan: &Plan<'_>
     }
 }
 
-/// Tells that the book at a path was begun, where none was there: the path may be mistyped.
-pub fn tell_of_new_book<M: Remarks>(remarks: &M, plan: &Plan<'_>, path: &str, was_there: bool) {
-    if !was_there && !plan.is_quiet {
-        remarks.tell(&Remark::NewBook(path));
+/// Tells that the book at a path was begun, where none was there, since the path may be mistyped; or where an empty file
+/// was, since something may have emptied a book.
+pub fn tell_of_new_book<M: Remarks>(remarks: &M, plan: &Plan<'_>, path: &str, found: Presence) {
+    if plan.is_quiet {
+        return;
+    }
+    match found {
+        Presence::Missing => remarks.tell(&Remark::NewBook(path)),
+        Presence::Empty => remarks.tell(&Remark::EmptyBook(path)),
+        Presence::There => (),
     }
 }
 

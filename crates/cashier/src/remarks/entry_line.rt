@@ -208,7 +208,8 @@ impl<'a> EntryLine<'a> {
             ),
             EntryFault::ClearedBefore(kind, day) => write!(
                 f,
-                "the {kind} was cleared by another line, of {day} with {bank_ref}: look at the number"
+                "the {kind} was cleared by another line, of {day} with {bank_ref}: \
+                look at the number, or, if that line is this one mistyped, dismiss this one"
             ),
             EntryFault::TakenBack(day) => write!(
                 f,

@@ -5,34 +5,43 @@ use crate::fields::field_bytes;
 use crate::record::{Verb, count_of, is_text, names_entry, read_verb};
 use crate::remarks::excerpt::Excerpt;
 use crate::remarks::fields::{form_of as form_of_field, noun_of, place_of, text_at};
-use crate::remarks::verbs::{Asker, VERBS, asker_of, form_of, name_of};
+use crate::remarks::line_fault::{LineFault, fault_of_dismissed};
+use crate::remarks::sum_meant::{sum_meant, sum_of_two};
+use crate::remarks::verb_fault::{VerbFault, fault_of_verb};
+use crate::remarks::verbs::{form_of, name_of};
 use csv::ByteRecord;
 use std::fmt;
-use trust_base::Field;
+use trust_base::{BankAmount, Field, MAX_AMOUNT};
 
 /// What is wrong with a record that can't be read.
 #[derive(Clone, Copy, PartialEq, Eq, Debug)]
 pub enum RecordFault<'a> {
     /// A field has the end of a line in it, so that the next line belongs to it.
     OpenQuote,
-    /// No verb is named so.
-    NoVerb(Excerpt<'a>),
-    /// What is named so is asked by messages.
-    OfMessages(&'a str, Asker),
+    /// No verb of a sheet is named.
+    NoVerb(VerbFault<'a>),
     /// The verb has fewer fields than so many.
     TooMany(Verb, usize),
+    /// The verb has fewer fields than so many, since this amount was written with a comma.
+    Comma(Verb, usize, BankAmount),
     /// The verb has fewer fields than so many, of which those above its own are empty.
     Padded(Verb, usize),
     /// The verb has more fields than so many.
     TooFew(Verb, usize),
     /// The verb names no entry, and one is given.
     NeedlessEntry(Verb),
-    /// What is dismissed is no line of a statement.
+    /// What is dismissed has not the fields of a line of a statement.
     NoLine,
+    /// What is dismissed has them, and one is not of its form.
+    BadLine(LineFault<'a>),
     /// The field of this number, from 1, is not UTF-8.
     NotText(usize),
     /// The general fund is of no entry, and one is given.
     NeedlessFund,
+    /// This is no amount, and this one is meant.
+    NoAmount(Excerpt<'a>, BankAmount),
+    /// This amount is below zero.
+    Minus(Excerpt<'a>),
     /// This is not of the form of the field.
     BadField(Field, Excerpt<'a>),
 }
@@ -72,14 +81,21 @@ pub fn first_not_text(row: &ByteRecord) -> usize {
     0
 }
 
-// What is wrong with the first field, which names no verb.
-fn fault_of_name(name: &[u8]) -> RecordFault<'_> {
-    let Ok(name) = str::from_utf8(name) else {
-        return RecordFault::NotText(1);
-    };
-    match asker_of(name) {
-        Some(asker) => RecordFault::OfMessages(name, asker),
-        None => RecordFault::NoVerb(Excerpt::new(name)),
+// The amount that was written with a comma, and so as two fields.
+fn amount_with_comma(verb: Verb, row: &ByteRecord) -> Option<BankAmount> {
+    match verb {
+        Verb::Deposit | Verb::Propose | Verb::Claim | Verb::Award => {
+            sum_of_two(text_at(row, 3), text_at(row, 4))
+        }
+        _ => None,
+    }
+}
+
+// What is wrong with the count of fields, which is too high.
+fn fault_of_many<'a>(verb: Verb, row: &ByteRecord) -> RecordFault<'a> {
+    match amount_with_comma(verb, row) {
+        Some(amount) => RecordFault::Comma(verb, row.len(), amount),
+        None => RecordFault::TooMany(verb, row.len()),
     }
 }
 
@@ -94,18 +110,26 @@ fn fault_of_count<'a>(verb: Verb, row: &ByteRecord) -> Option<RecordFault<'a>> {
     } else if is_empty_from(row, wanted) {
         Some(RecordFault::Padded(verb, found))
     } else {
-        Some(RecordFault::TooMany(verb, found))
+        Some(fault_of_many(verb, row))
+    }
+}
+
+// What is wrong with a record that is to dismiss a line.
+fn fault_of_dismissal(row: &ByteRecord) -> RecordFault<'_> {
+    if row.len() == 8 && field_bytes(row, 1).is_empty() && field_bytes(row, 2).is_empty() {
+        RecordFault::BadLine(fault_of_dismissed(row))
+    } else {
+        RecordFault::NoLine
     }
 }
 
 // What is wrong with a record as a whole.
 fn fault_of_form(row: &ByteRecord) -> RecordFault<'_> {
     if is_dismissal(row) {
-        return RecordFault::NoLine;
+        return fault_of_dismissal(row);
     }
-    let name = field_bytes(row, 0);
-    let Some(verb) = read_verb(name) else {
-        return fault_of_name(name);
+    let Some(verb) = read_verb(field_bytes(row, 0)) else {
+        return RecordFault::NoVerb(fault_of_verb(row));
     };
     if let Some(fault) = fault_of_count(verb, row) {
         return fault;
@@ -116,11 +140,28 @@ fn fault_of_form(row: &ByteRecord) -> RecordFault<'_> {
     RecordFault::NotText(first_not_text(row))
 }
 
+// What is wrong with a field that is to have an amount of this or more, in cents.
+fn fault_of_amount<'a>(field: Field, text: &'a str, least: i64) -> RecordFault<'a> {
+    let excerpt = Excerpt::new(text);
+    match sum_meant(text) {
+        Some(amount) if amount.get() < 0 => RecordFault::Minus(excerpt),
+        Some(amount) if least <= amount.get() && amount.get() <= MAX_AMOUNT as i64 => {
+            RecordFault::NoAmount(excerpt, amount)
+        }
+        _ => RecordFault::BadField(field, excerpt),
+    }
+}
+
 fn fault_of_field(row: &ByteRecord, field: Field) -> RecordFault<'_> {
     if field == Field::Of && field_bytes(row, place_of(Field::From)) == b"general".as_slice() {
         return RecordFault::NeedlessFund;
     }
-    RecordFault::BadField(field, Excerpt::new(text_at(row, place_of(field))))
+    let text = text_at(row, place_of(field));
+    match field {
+        Field::Amount => fault_of_amount(field, text, 1),
+        Field::ToClient => fault_of_amount(field, text, 0),
+        _ => RecordFault::BadField(field, Excerpt::new(text)),
+    }
 }
 
 /// What is wrong with a record of which this field can't be read.
@@ -154,29 +195,18 @@ fn write_field<W: fmt::Write>(
     }
 }
 
-impl fmt::Display for RecordFault<'_> {
-    fn fmt<W: fmt::Write>(&self, f: &mut fmt::Formatter<W>) -> fmt::Result {
+impl RecordFault<'_> {
+    // Of a verb's count of fields, and of amounts.
+    fn write_numbers<W: fmt::Write>(&self, f: &mut fmt::Formatter<W>) -> fmt::Result {
         match *self {
-            RecordFault::OpenQuote => f.write_str(
-                "a double quote is opened here and not closed in its line: close it, or take it away",
-            ),
-            RecordFault::NoVerb(name) => write!(f, "{name} is no verb: {VERBS}"),
-            RecordFault::OfMessages(name, Asker::Client) => {
-                write!(
-                    f,
-                    "\"{name}\" is no verb of a sheet: a client asks it by a message"
-                )
-            }
-            RecordFault::OfMessages(name, Asker::Lawyer) => {
-                write!(
-                    f,
-                    "\"{name}\" is no verb of a sheet: a lawyer asks it by a message"
-                )
-            }
             RecordFault::TooMany(verb, found) => {
                 write_count(f, verb, found)?;
                 let form = form_of(verb);
                 write!(f, "{form}, and a field with a comma in double quotes")
+            }
+            RecordFault::Comma(verb, found, amount) => {
+                write_count(f, verb, found)?;
+                write!(f, "write the amount without a comma, {amount}")
             }
             RecordFault::Padded(verb, found) => {
                 write_count(f, verb, found)?;
@@ -186,20 +216,41 @@ impl fmt::Display for RecordFault<'_> {
                 write_count(f, verb, found)?;
                 f.write_str(form_of(verb))
             }
+            RecordFault::NoAmount(text, amount) => {
+                write!(f, "{text} is no amount: write {amount}")
+            }
+            RecordFault::Minus(text) => write!(
+                f,
+                "{text} is below zero: write it without a sign, since the verb tells which way it goes"
+            ),
+            _ => Ok(()),
+        }
+    }
+}
+
+impl fmt::Display for RecordFault<'_> {
+    fn fmt<W: fmt::Write>(&self, f: &mut fmt::Formatter<W>) -> fmt::Result {
+        match self {
+            RecordFault::OpenQuote => f.write_str(
+                "a double quote is opened here and not closed in its line: close it, or take it away",
+            ),
+            RecordFault::NoVerb(fault) => fault.fmt(f),
             RecordFault::NeedlessEntry(verb) => {
-                let name = name_of(verb);
+                let name = name_of(*verb);
                 write!(f, "{name} names no entry: its third field stays empty")
             }
             RecordFault::NoLine => f.write_str(
                 "a line is dismissed as the list of exceptions has it: dismiss,,,DATE,REFERENCE,BANK_REF,AMOUNT,TEXT",
             ),
+            RecordFault::BadLine(fault) => fault.fmt(f),
             RecordFault::NotText(number) => {
                 write!(f, "field {number} is not UTF-8: save the sheet as UTF-8")
             }
             RecordFault::NeedlessFund => {
                 f.write_str("general is of no entry: its sixth field stays empty")
             }
-            RecordFault::BadField(field, text) => write_field(f, field, text),
+            RecordFault::BadField(field, text) => write_field(f, *field, *text),
+            _ => self.write_numbers(f),
         }
     }
 }

@@ -22,8 +22,8 @@ pub enum LineRemark<'a> {
     Unreadable(LineFault<'a>),
     /// It and those behind it were not applied, by this fault.
     NotRun(StoreFault),
-    /// It is an exception that an import would apply.
-    WouldApply,
+    /// It is an exception that an import would apply: one that pays an entry out or takes it back, or another.
+    WouldApply { is_out: bool },
     /// It is an exception that an import would take for a line that came again.
     WouldRepeat,
 }
@@ -57,7 +57,9 @@ pub fn remark_on_item<'a>(
         }
         NotApplied::Stray { line } => LineRemark::Stray(Plain::new(line.reference.as_slice())),
         NotApplied::Unreadable => LineRemark::Unreadable(fault_of(row)),
-        NotApplied::WouldApply { line: _ } => LineRemark::WouldApply,
+        NotApplied::WouldApply { line } => LineRemark::WouldApply {
+            is_out: line.reference.as_slice().starts_with(b"M") && line.amount.get() < 0,
+        },
         NotApplied::WouldRepeat { line: _ } => LineRemark::WouldRepeat,
     }
 }
@@ -65,9 +67,20 @@ pub fn remark_on_item<'a>(
 // Of a reference that names nothing.
 fn write_stray<W: fmt::Write>(f: &mut fmt::Formatter<W>, reference: &Plain<'_>) -> fmt::Result {
     f.write_str(if reference.is_empty() {
-        "it has no reference"
+        "it has no reference: let match fill it in, or write M and six digits, - and four, or FIRM; \
+        import that, and dismiss this one"
     } else {
         "no reference of an entry: write M and six digits, - and four, or FIRM, OPEN, CLOSE"
+    })
+}
+
+// Of an exception that an import would apply.
+fn write_would_apply<W: fmt::Write>(f: &mut fmt::Formatter<W>, is_out: bool) -> fmt::Result {
+    f.write_str(if is_out {
+        "an import would clear the payment, or take the deposit back, by it: \
+        import it again only if the bank has it so; if it was mistyped, dismiss it"
+    } else {
+        "an import would apply it now: import the statement again; if it was mistyped, dismiss it"
     })
 }
 
@@ -110,9 +123,7 @@ impl LineRemark<'_> {
             LineRemark::Stray(reference) => write_stray(f, reference),
             LineRemark::Unreadable(fault) => write!(f, "{fault}"),
             LineRemark::NotRun(fault) => write_fault(f, fault),
-            LineRemark::WouldApply => {
-                f.write_str("it would be applied now: import the statement again")
-            }
+            LineRemark::WouldApply { is_out } => write_would_apply(f, *is_out),
             LineRemark::WouldRepeat => f.write_str(
                 "it is in the book already: import the statement again, and it is no exception any more",
             ),

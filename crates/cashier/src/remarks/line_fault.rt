@@ -32,13 +32,15 @@ pub enum LineFault<'a> {
     NoReference(&'static str, Excerpt<'a>),
     /// The bank's reference is missing.
     NoBankReference,
+    /// The bank's reference is missing, and a balance of this name is meant.
+    NoBalance(Excerpt<'a>, &'static str),
     /// The text is too long.
     LongText,
 }
 
-// Whether a double quote was opened in front of the text, or in a text that is too long for one, and not closed in its
-// line.
-fn has_open_quote(row: &ByteRecord) -> bool {
+/// Whether a double quote was opened in front of the text, or in a text that is too long for one, and not closed in its
+/// line.
+pub fn has_open_quote(row: &ByteRecord) -> bool {
     has_line_end(field_bytes(row, 0))
         || has_line_end(field_bytes(row, 1))
         || has_line_end(field_bytes(row, 2))
@@ -51,29 +53,91 @@ fn is_reference(field: &[u8]) -> bool {
     field.len() <= MAX_BANK_TEXT && field.iter().all(|byte| 0x20 <= *byte && *byte <= 0x7E)
 }
 
-// What is wrong with a record whose day and amount are good.
-fn fault_of_texts(row: &ByteRecord) -> LineFault<'_> {
-    if !is_reference(field_bytes(row, 1)) {
-        LineFault::NoReference("reference", Excerpt::new(text_at(row, 1)))
-    } else if !is_reference(field_bytes(row, 2)) {
-        LineFault::NoReference("reference of the bank", Excerpt::new(text_at(row, 2)))
-    } else if field_bytes(row, 4).len() > MAX_LINE_TEXT {
+// The five texts of a line.
+#[derive(Clone, Copy)]
+struct Texts<'a> {
+    date: &'a str,
+    reference: &'a str,
+    bank_ref: &'a str,
+    amount: &'a str,
+    text: &'a str,
+}
+
+// The balance that is meant by a reference that has no reference of the bank beside it.
+fn balance_meant(reference: &str) -> Option<&'static str> {
+    let front = reference.as_bytes().get(..4)?;
+    if front.eq_ignore_ascii_case(b"clos") {
+        Some("CLOSE")
+    } else if front.eq_ignore_ascii_case(b"open") {
+        Some("OPEN")
+    } else {
+        None
+    }
+}
+
+// What is wrong with a line that has no reference of the bank.
+fn fault_of_missing(reference: &str) -> LineFault<'_> {
+    match balance_meant(reference) {
+        Some(name) => LineFault::NoBalance(Excerpt::new(reference), name),
+        None => LineFault::NoBankReference,
+    }
+}
+
+// What is wrong with a line whose day and amount are good.
+fn fault_of_words<'a>(line: &Texts<'a>) -> LineFault<'a> {
+    if !is_reference(line.reference.as_bytes()) {
+        LineFault::NoReference("reference", Excerpt::new(line.reference))
+    } else if !is_reference(line.bank_ref.as_bytes()) {
+        LineFault::NoReference("reference of the bank", Excerpt::new(line.bank_ref))
+    } else if line.text.len() > MAX_LINE_TEXT {
         LineFault::LongText
     } else {
-        LineFault::NoBankReference
+        fault_of_missing(line.reference)
+    }
+}
+
+// What is wrong with a line.
+fn fault_of_texts<'a>(line: &Texts<'a>) -> LineFault<'a> {
+    if Day::read(line.date.as_bytes()).is_none() {
+        LineFault::NoDay(Excerpt::new(line.date), day_meant(line.date))
+    } else if BankAmount::read(line.amount.as_bytes()).is_none() {
+        LineFault::NoAmount(Excerpt::new(line.amount), sum_meant(line.amount))
+    } else {
+        fault_of_words(line)
     }
 }
 
 // What is wrong with the fields of a record, which are five texts.
 fn fault_of_fields(row: &ByteRecord) -> LineFault<'_> {
-    let (date, amount) = (text_at(row, 0), text_at(row, 3));
-    if Day::read(date.as_bytes()).is_none() {
-        LineFault::NoDay(Excerpt::new(date), day_meant(date))
-    } else if BankAmount::read(amount.as_bytes()).is_none() {
-        LineFault::NoAmount(Excerpt::new(amount), sum_meant(amount))
-    } else {
-        fault_of_texts(row)
+    fault_of_texts(&Texts {
+        date: text_at(row, 0),
+        reference: text_at(row, 1),
+        bank_ref: text_at(row, 2),
+        amount: text_at(row, 3),
+        text: text_at(row, 4),
+    })
+}
+
+/// What is wrong with the line behind the three fields by which a record is to dismiss it: the first that is.
+pub fn fault_of_dismissed(row: &ByteRecord) -> LineFault<'_> {
+    match first_not_text(row) {
+        0 => fault_of_texts(&Texts {
+            date: text_at(row, 3),
+            reference: text_at(row, 4),
+            bank_ref: text_at(row, 5),
+            amount: text_at(row, 6),
+            text: text_at(row, 7),
+        }),
+        number => LineFault::NotText(number),
     }
+}
+
+/// Whether a record is the header of a statement, or begins as a line of one.
+pub fn is_of_statement(row: &ByteRecord) -> bool {
+    let (date, reference) = (field_bytes(row, 0), field_bytes(row, 1));
+    row.len() == 5
+        && (Day::read(date).is_some()
+            || date == b"date".as_slice() && reference == b"reference".as_slice())
 }
 
 /// What is wrong with a record that is no line: the first that is.
@@ -153,6 +217,10 @@ impl fmt::Display for LineFault<'_> {
             ),
             LineFault::NoBankReference => f.write_str(
                 "the bank_ref is empty: write the bank's own reference of the line, as each but OPEN and CLOSE has one",
+            ),
+            LineFault::NoBalance(text, name) => write!(
+                f,
+                "{text} is no balance: write {name}; a line that is none has a bank_ref"
             ),
             LineFault::LongText => { f.write_str("the text has more than 1000 bytes: shorten it") }
         }

@@ -1,5 +1,6 @@
-// What is told of a record of a sheet that was not accepted.
+// What is told of a record of a sheet.
 
+use crate::remarks::caution::{Caution, caution_on};
 use crate::remarks::fault::{RecordFault, fault_of};
 use crate::remarks::refused::RefusedRecord;
 use csv::ByteRecord;
@@ -7,9 +8,11 @@ use std::fmt;
 use trust_base::{Refusal, StoreFault};
 use trust_desk::{Body, Reply};
 
-/// What is told of a record that was not accepted.
+/// What is told of a record.
 #[derive(Clone, Copy, PartialEq, Eq, Debug)]
 pub enum RecordRemark<'a> {
+    /// It was accepted, and may not have meant what it did.
+    Accepted(Caution<'a>),
     /// It can't be read.
     Unreadable(RecordFault<'a>),
     /// It was refused.
@@ -27,10 +30,13 @@ fn remark_of(row: &ByteRecord, refusal: Refusal) -> RecordRemark<'_> {
     }
 }
 
-/// What is told of a record that was answered so: nothing where it was accepted.
-pub fn remark_on<'a>(row: &'a ByteRecord, reply: &Reply) -> Option<RecordRemark<'a>> {
+/// What is told of a record, which bytes begin with, that was answered so: mostly nothing where it was accepted.
+pub fn remark_on<'a>(row: &'a ByteRecord, bytes: &[u8], reply: &Reply) -> Option<RecordRemark<'a>> {
     match &reply.body {
-        Body::Json(_) | Body::Text(_) => None,
+        Body::Json(_) | Body::Text(_) => match caution_on(row, bytes) {
+            Some(caution) => Some(RecordRemark::Accepted(caution)),
+            None => None,
+        },
         Body::Refused(refusal) => Some(remark_of(row, *refusal)),
     }
 }
@@ -38,6 +44,7 @@ pub fn remark_on<'a>(row: &'a ByteRecord, reply: &Reply) -> Option<RecordRemark<
 impl fmt::Display for RecordRemark<'_> {
     fn fmt<W: fmt::Write>(&self, f: &mut fmt::Formatter<W>) -> fmt::Result {
         match self {
+            RecordRemark::Accepted(caution) => caution.fmt(f),
             RecordRemark::Unreadable(fault) => fault.fmt(f),
             RecordRemark::Refused(refused) => refused.fmt(f),
             RecordRemark::NotRun(StoreFault::Store) => f.write_str(concat!(

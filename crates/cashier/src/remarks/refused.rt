@@ -60,7 +60,11 @@ impl<'a> RefusedRecord<'a> {
             Some(asked) if asked > next => {
                 write!(f, "entry {entry} leaves a gap: the next free one is {next}")
             }
-            _ => write!(f, "entry {entry} is taken: the next free one is {next}"),
+            _ => write!(
+                f,
+                "entry {entry} is taken by something else: look at it by entry,{matter},{entry}, \
+                and only if that is not this one take the next free number, {next}"
+            ),
         }
     }
 
@@ -68,13 +72,15 @@ impl<'a> RefusedRecord<'a> {
     fn write_kind<W: fmt::Write>(&self, f: &mut fmt::Formatter<W>) -> fmt::Result {
         let (matter, entry) = (self.matter, self.needed);
         let wanted = match self.verb {
-            Some(Verb::Cancel) => "no deposit",
-            Some(Verb::Award) => "no claim",
-            _ => "no fund of that kind",
+            Some(Verb::Cancel) => {
+                "no deposit: a lawyer declines or voids a payment, and a client disputes a fee;"
+            }
+            Some(Verb::Award) => "no claim:",
+            _ => "no fund of that kind:",
         };
         write!(
             f,
-            "entry {entry} is {wanted}: look at it by entry,{matter},{entry}"
+            "entry {entry} is {wanted} look at it by entry,{matter},{entry}"
         )
     }
 
@@ -92,7 +98,8 @@ impl<'a> RefusedRecord<'a> {
             }
             _ => write!(
                 f,
-                "deposit {entry} is not held any more: look at it by entry,{matter},{entry}"
+                "deposit {entry} is not held any more: if it was cleared, only the bank's line of the \
+                opposite amount takes it back; look at it by entry,{matter},{entry}"
             ),
         }
     }
@@ -131,7 +138,8 @@ impl<'a> RefusedRecord<'a> {
         match self.refusal {
             Refusal::SeatTaken => write!(
                 f,
-                "{person} has a seat in matter {matter}: to change the role, drop it first"
+                "{person} has a seat in matter {matter} already: show,{matter}, tells in which role; \
+                to change it, drop the seat first"
             ),
             Refusal::NoSeat => {
                 write!(
@@ -152,7 +160,8 @@ impl<'a> RefusedRecord<'a> {
         match self.refusal {
             Refusal::WrongNumber(next) => self.write_number(f, next),
             Refusal::NoEntry if self.is_dismissal => f.write_str(
-                "no exception is this line, in all five fields: look at the list of exceptions",
+                "no exception is this line, in all five fields: look at the list of exceptions; \
+                a - there is an empty field, and a blank may be a tab or a line end",
             ),
             Refusal::NoEntry => {
                 let (matter, entry) = (self.matter, self.needed);
@@ -164,6 +173,28 @@ impl<'a> RefusedRecord<'a> {
             Refusal::WrongKind => self.write_kind(f),
             Refusal::WrongState => self.write_state(f),
             _ => self.write_of_seats(f),
+        }
+    }
+
+    // Of closing and purging too early.
+    fn write_of_ends<W: fmt::Write>(&self, f: &mut fmt::Formatter<W>) -> fmt::Result {
+        let matter = self.matter;
+        match self.refusal {
+            Refusal::NotEmpty => write!(
+                f,
+                "matter {matter} holds money, or a payment waits, as ledger {matter} shows: \
+                pay out what it has; what is held or issued waits for the bank, \
+                or is cancelled or voided; what is proposed is declined"
+            ),
+            Refusal::TooEarly(first) => {
+                let number = first.get();
+                let (year, month, day) = (number / 10_000, number / 100 % 100, number % 100);
+                write!(
+                    f,
+                    "matter {matter} may be purged from {year}-{month:02}-{day:02} on: wait for that day"
+                )
+            }
+            _ => self.write_of_entries(f),
         }
     }
 }
@@ -186,7 +217,8 @@ impl fmt::Display for RefusedRecord<'_> {
             }
             Refusal::AlreadyOpen => write!(
                 f,
-                "matter {matter} was opened before: another matter takes another number"
+                "matter {matter} was opened before: show,{matter}, tells for whom; \
+                if that is this one, go on, and else take another number"
             ),
             Refusal::Closed => {
                 write!(
@@ -198,18 +230,7 @@ impl fmt::Display for RefusedRecord<'_> {
                 f,
                 "matter {matter} has work of {last}: --today is that day or a later one"
             ),
-            Refusal::NotEmpty => write!(
-                f,
-                "matter {matter} holds money, or a payment waits: pay it out, or have it declined"
-            ),
-            Refusal::TooEarly(first) => {
-                let number = first.get();
-                let (year, month, day) = (number / 10_000, number / 100 % 100, number % 100);
-                write!(
-                    f,
-                    "matter {matter} may be purged from {year}-{month:02}-{day:02} on: wait for that day"
-                )
-            }
+            Refusal::NotEmpty | Refusal::TooEarly(_) => self.write_of_ends(f),
             _ => self.write_of_entries(f),
         }
     }

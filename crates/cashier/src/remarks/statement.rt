@@ -1,11 +1,12 @@
 // What is told of a statement as it is imported.
 
 use crate::folder::Folder;
-use crate::remarks::header::HeaderRemark;
+use crate::remarks::header::{HeaderRemark, remark_on_header};
 use crate::remarks::line::{LineRemark, remark_on_item};
 use crate::remarks::place::Place;
-use crate::remarks::plain::Plain;
 use crate::remarks::rereading::{Found, Rereading};
+use crate::remarks::unmatched::tell_unmatched;
+use crate::remarks::whole_file::tell_of_records;
 use crate::remarks::{Remark, Remarks};
 use csv::ByteRecord;
 use std::alloc::Global;
@@ -22,7 +23,7 @@ enum Again {
     Lost,
 }
 
-/// A statement that is imported on a business day, and who is told what becomes of its lines.
+/// A statement that is imported or matched on a business day, and who is told what becomes of its lines.
 #[derive(Drop)]
 pub struct StatementTelling<'a, F, M> {
     alloc: Global,
@@ -31,18 +32,6 @@ pub struct StatementTelling<'a, F, M> {
     today: Day,
     remarks: &'a M,
     again: RefCell<Again>,
-}
-
-// The bytes up to the end of their line.
-fn first_line(rest: &[u8]) -> &[u8] {
-    let mut length = 0usize;
-    for byte in rest {
-        if *byte == b'\n' || *byte == b'\r' {
-            break;
-        }
-        length = length.saturating_add(1);
-    }
-    rest.get(..length).unwrap_or(rest)
 }
 
 impl<'a, F: Folder, M: Remarks> StatementTelling<'a, F, M> {
@@ -104,6 +93,36 @@ impl<'a, F: Folder, M: Remarks> StatementTelling<'a, F, M> {
         let told = header_remark(&again, is_there);
         self.remarks.tell(&Remark::Header(told));
     }
+
+    // Tells what the file alone shows of its records, which is read once more from its beginning; of the ends of lines
+    // in a record also where the record is told of as no line.
+    fn tell_of_file(&self, is_match: bool) {
+        let Ok(mut again) = self.again.try_borrow_mut() else {
+            return;
+        };
+        if matches!(*again, Again::Lost) {
+            return;
+        }
+        *again = Again::Lost;
+        if let Some(mut records) = Rereading::open(self.alloc, self.folder, self.path) {
+            tell_of_records(&mut records, self.remarks, is_match);
+        }
+    }
+
+    /// Tells what of a statement that was matched has to be looked at, and what its file alone shows.
+    pub fn tell_matched(&self, unmatched: &[u8]) {
+        tell_unmatched(self.remarks, unmatched);
+        self.tell_of_file(true);
+    }
+
+    /// Tells why a statement is not matched.
+    pub fn tell_refused(&self, refusal: &Refusal) {
+        match refusal {
+            Refusal::BadField(Field::Header) => self.tell_header(),
+            Refusal::TooLarge => self.remarks.tell(&Remark::MatchTooLarge),
+            _ => (),
+        }
+    }
 }
 
 // The record that was read last, where it is the one that is looked for.
@@ -117,13 +136,7 @@ fn found_in(again: &Again, is_there: bool) -> Option<Found<'_>> {
 // What is told of a first record that was read again, if it is there.
 fn header_remark(again: &Again, is_there: bool) -> HeaderRemark<'_> {
     match again {
-        Again::Open(records) if is_there => {
-            let found = records.found();
-            HeaderRemark::Other {
-                line: found.line,
-                here: Plain::new(first_line(found.rest)),
-            }
-        }
+        Again::Open(records) if is_there => remark_on_header(records.found()),
         Again::Open(_) => HeaderRemark::Empty,
         Again::Unopened | Again::Lost => HeaderRemark::Unseen,
     }
@@ -165,7 +178,8 @@ impl<F: Folder, M: Remarks> ItemWatch for StatementTelling<'_, F, M> {
             ImportStop::Refused(Refusal::BadField(Field::Header)) => self.tell_header(),
             ImportStop::Refused(Refusal::Store) => self.tell_not_run(next, StoreFault::Store),
             ImportStop::Refused(Refusal::Memory) => self.tell_not_run(next, StoreFault::Memory),
-            ImportStop::Refused(_) | ImportStop::Done | ImportStop::ReadFault => (),
+            ImportStop::Done => self.tell_of_file(false),
+            ImportStop::Refused(_) | ImportStop::ReadFault => (),
         }
     }
 }

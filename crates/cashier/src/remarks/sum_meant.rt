@@ -74,17 +74,35 @@ impl Sum {
     }
 }
 
-/// The amount that a text means where it is written as $1,200.00, (12.5) or 12.
-pub fn sum_meant(text: &str) -> Option<BankAmount> {
-    let mut sum = Sum {
-        value: 0,
-        has_digits: false,
-        is_negative: false,
-        grouped: None,
-        decimals: None,
-    };
+// Nothing yet.
+const NOTHING: Sum = Sum {
+    value: 0,
+    has_digits: false,
+    is_negative: false,
+    grouped: None,
+    decimals: None,
+};
+
+// A sum with the bytes of a text more.
+fn with_text(before: Sum, text: &str) -> Option<Sum> {
+    let mut sum = before;
     for byte in text.as_bytes() {
         sum = sum.with(*byte)?;
     }
-    BankAmount::from_number(sum.cents()?)
+    Some(sum)
+}
+
+/// The amount that a text means where it is written as $1,200.00, (12.5) or 12.
+pub fn sum_meant(text: &str) -> Option<BankAmount> {
+    BankAmount::from_number(with_text(NOTHING, text)?.cents()?)
+}
+
+/// The amount that two texts mean with a comma between them, where it is above zero.
+pub fn sum_of_two(first: &str, second: &str) -> Option<BankAmount> {
+    let front = with_text(NOTHING, first)?;
+    if !front.has_digits {
+        return None;
+    }
+    let amount = BankAmount::from_number(with_text(front.with(b',')?, second)?.cents()?)?;
+    if amount.get() > 0 { Some(amount) } else { None }
 }

@@ -37,8 +37,8 @@ pub fn line_of<'a>(file: &'a [u8], row: &ByteRecord) -> (u64, &'a [u8]) {
 impl<M: Remarks> Telling<'_, M> {
     /// Tells what there is to be told of a record that was answered so.
     pub fn tell(&self, row: &ByteRecord, reply: &Reply) {
-        if let Some(told) = remark_on(row, reply) {
-            let (line, _) = line_of(self.sheet, row);
+        let (line, rest) = line_of(self.sheet, row);
+        if let Some(told) = remark_on(row, rest, reply) {
             self.remarks.tell(&Remark::Record { line, told });
         }
     }

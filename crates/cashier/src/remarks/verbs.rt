@@ -6,6 +6,23 @@ use crate::record::Verb;
 pub const VERBS: &str =
     "open, seat, drop, deposit, cancel, propose, claim, award, close, purge, entry, show, dismiss";
 
+// Their names.
+const NAMES: [&str; 13] = [
+    "open", "seat", "drop", "deposit", "cancel", "propose", "claim", "award", "close", "purge",
+    "entry", "show", "dismiss",
+];
+
+/// The verb that is meant by a name with other letters, or with blanks around it.
+pub fn verb_meant(name: &[u8]) -> Option<&'static str> {
+    let word = name.trim_ascii();
+    for verb in NAMES.as_slice() {
+        if word.eq_ignore_ascii_case(verb.as_bytes()) {
+            return Some(*verb);
+        }
+    }
+    None
+}
+
 /// The name of a verb.
 pub fn name_of(verb: Verb) -> &'static str {
     match verb {

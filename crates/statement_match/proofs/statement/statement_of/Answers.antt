@@ -8,16 +8,14 @@ use Rattle.statement_match.proofs.statement.statement_of.Goals as goal
 
 pub returns : goal.returns
 unfolding statement_text records_of
-returns c =
+returns c today held given =
     let rows = rows_of c.args.statement.now in
-    let outcome_of = becomes c.args.today c.args.held.now (lines_from 1 rows) in
+    let outcome_of = becomes today held (lines_from 1 rows) in
     let same = c.records.view_is ∙ c.requires in
-    let lines : c.deref.result.now ≡ lines_from 1 rows =
-    c.deref.ensures.value ∙ ap (λ (r : Records). r.lines) same in
-    let numbers : c.deref-2.result.now ≡ numbers_from 1 rows =
-    c.deref-2.ensures.value ∙ ap (λ (r : Records). r.numbers) same in
-    let found : c.deref-3.result.now ≡ map outcome_of (lines_from 1 rows) =
-    c.deref-3.ensures.value ∙ c.in_ok-outcomes.ensures ∙ ap (outcomes c.args.today c.args.held.now) lines in
+    let numbers : c.deref.result.now ≡ numbers_from 1 rows =
+    c.deref.ensures.value ∙ ap (λ (r : Records). r.numbers) same in
+    let found : c.args.outcomes.now ≡ map outcome_of (lines_from 1 rows) =
+    given ∙ ap (λ (r : Records). outcomes today held r.lines) c.requires in
     let both =
     adds-more (λ bytes. Some bytes.items) c.new_writer-writer.result c.write_header.new.writer c.write_rows.new.writer
     (header ∷ []) (rows_by outcome_of 1 rows) c.in_ok-write_header.ensures

@@ -1,6 +1,6 @@
 use Rattle.std.proofs.Common.{◌∙◌, ◌++◌, ap}
-use Rattle.firm_reports.specs.TextsOfLedgers.{ledger_card}
-use Rattle.firm_reports.proofs.Cards.{whole-card}
+use Rattle.trust_reports.specs.TextsOfLedgers.{ledger_card}
+use Rattle.trust_reports.proofs.Cards.{whole-card}
 use Rattle.trust_desk.proofs.planning.card_body.Goals as goal
 
 pub returns : goal.returns

@@ -4,21 +4,11 @@ use Rattle.statement_match.specs.Grounds.{LineGrounds}
 use Rattle.statement_match.specs.Lookups.{elements}
 use Rattle.statement_match.specs.Marks.{is_shown}
 use Rattle.statement_match.specs.Relations.{stands}
-use Rattle.statement_match.proofs.Candidates.{amount_kept, named_kept, shown_kept}
+use Rattle.statement_match.proofs.Candidates.{amount_kept, held_kept, named_kept, shown_kept}
 use Rattle.statement_match.proofs.grounds.LineGrounds.candidates.Goals as goal
 
 pub returns-in-Fitted : goal.returns-in-Fitted
 returns-in-Fitted c = λ today.
-    let inside = c.self.inside in
-    let found = elements inside.of_amount.now in
-    let r = c.args.relation in
-    subst (λ (g : LineGrounds). filter (stands r today g.line) found ≡ filter (stands r today g.line) g.known.entries)
-    c.self.view_is
-    (amount_kept r today inside.line.now inside.grounds.now.known.entries inside.of_amount.now c.in-Fitted.is
-    c.self.invariant.amount_found)
-
-pub returns-in-OfAnotherAmount : goal.returns-in-OfAnotherAmount
-returns-in-OfAnotherAmount c = λ today.
     let inside = c.self.inside in
     let line = inside.line.now in
     let found = c.deref.result.now in
@@ -28,7 +18,17 @@ returns-in-OfAnotherAmount c = λ today.
     ap (λ es. filter (is_shown line) (elements es)) c.deref.ensures.value ∙ c.self.invariant.shown_found in
     subst (λ (g : LineGrounds).
     filter (stands r today g.line) (elements found) ≡ filter (stands r today g.line) g.known.entries)
-    c.self.view_is (shown_kept r today line entries found c.in-OfAnotherAmount.is shown)
+    c.self.view_is (shown_kept r today line entries found c.in-Fitted.is shown)
+
+pub returns-in-OfItsAmount : goal.returns-in-OfItsAmount
+returns-in-OfItsAmount c = λ today.
+    let inside = c.self.inside in
+    let found = elements inside.of_amount.now in
+    let r = c.args.relation in
+    subst (λ (g : LineGrounds). filter (stands r today g.line) found ≡ filter (stands r today g.line) g.known.entries)
+    c.self.view_is
+    (amount_kept r today inside.line.now inside.grounds.now.known.entries inside.of_amount.now c.in-OfItsAmount.is
+    c.self.invariant.amount_found)
 
 pub returns-in-Named : goal.returns-in-Named
 returns-in-Named c = λ today.
@@ -39,3 +39,14 @@ returns-in-Named c = λ today.
     c.self.view_is
     (named_kept r today inside.line.now inside.grounds.now.known.entries inside.named.now c.in-Named.is
     c.self.invariant.named_found)
+
+pub returns-in-HeldOn : goal.returns-in-HeldOn
+returns-in-HeldOn c = λ today.
+    let inside = c.self.inside in
+    let found = c.of_day.result.now in
+    let r = c.args.relation in
+    subst (λ (g : LineGrounds).
+    filter (stands r today g.line) (elements found) ≡ filter (stands r today g.line) g.known.entries)
+    c.self.view_is
+    (held_kept r c.in-HeldOn.day today inside.line.now inside.grounds.now.known.entries found c.in-HeldOn.is
+    c.of_day.ensures)

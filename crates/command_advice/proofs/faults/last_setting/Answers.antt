@@ -1,7 +1,0 @@
-use Rattle.std.proofs.Common.{◌∙◌}
-use Rattle.command_advice.proofs.AdviceFacts.{named-more}
-use Rattle.command_advice.proofs.faults.last_setting.Goals as goal
-
-pub loop-word-preserved : goal.loop-word-preserved
-loop-word-preserved c =
-    c.or-last.ensures ∙ named-more c.args.words.now c.loop-word.word-index _ _ _ c.loop-word-test.true c.loop-word.invariant c.setting_named.ensures

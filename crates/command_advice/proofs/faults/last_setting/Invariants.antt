@@ -1,7 +1,0 @@
-use Rattle.std.proofs.Common.{◌≡◌, take}
-use Rattle.command_advice.specs.Advice.{last_setting}
-use Rattle.command_line.specs.Program.{words_of}
-use Rattle.command_advice.proofs.faults.last_setting.Given as goal
-
-abbrev pub invariant-loop-word : goal.invariant-loop-word
-invariant-loop-word l = l.last ≡ last_setting (take l.word-index (words_of l.words))

@@ -1,8 +1,0 @@
-use Rattle.std.proofs.Common.{◌≡◌, take, true}
-use Rattle.clap.specs.declared.error.kind.ErrorKind.TheVariants.{MissingSubcommand}
-use Rattle.command_line.specs.Program.{FailsAs}
-use Rattle.command_line.specs.Program.{words_of}
-use Rattle.command_advice.proofs.faults.verb_named.Given as goal
-
-abbrev pub invariant-loop-place : goal.invariant-loop-place
-invariant-loop-place l = l.is_wanted ≡ true → FailsAs (take l.place (words_of l.words)) MissingSubcommand

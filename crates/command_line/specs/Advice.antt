@@ -1,0 +1,226 @@
+-- What is told of words that mean nothing: the usage of the command that they name, an example, and what is wrong.
+use Rattle.std.specs.Prelude.{◌≡◌, ◌≢◌, ◌⊎◌, ◌++◌, ◌+◌, ℕ, Bool, false, List, [], Option, Some, None, codes, fold, if◌then◌else◌, slice_get, take, ⊤}
+use Rattle.std.specs.List.{list_any}
+use Rattle.std.specs.Option.{option_or}
+use Rattle.std.specs.Str.{bytes_eq}
+use Rattle.clap.specs.Words.{Row, Text, fault_of, first_of, matches_of, subcommand_of}
+use Rattle.clap.specs.declared.error.kind.ErrorKind.{ErrorKind}
+use Rattle.clap.specs.declared.error.kind.ErrorKind.TheVariants as kind
+use Rattle.trust_base.specs.Texts.{day_of, matter_of}
+use Rattle.command_line.specs.Numerals.{IsCount, IsPort}
+use Rattle.command_line.specs.Program.{FailsAs, program}
+use Rattle.command_line.specs.declared.advice.Advice.{Advice}
+use Rattle.command_line.specs.declared.advice.Setting.{Setting}
+use Rattle.command_line.specs.declared.advice.Setting.TheVariants as settings
+use Rattle.command_line.specs.declared.advice.Verb.{Verb}
+use Rattle.command_line.specs.declared.advice.Verb.TheVariants as verbs
+use Rattle.command_line.specs.declared.advice.Wrong.{Wrong}
+use Rattle.command_line.specs.declared.advice.Wrong.TheVariants as wrong
+use Rattle.command_line.specs.declared.faults.Front.{Front}
+use Rattle.command_line.specs.declared.faults.Front.TheVariants as fronts
+
+-- ---- texts
+
+-- the name of a command
+abbrev pub verb_name : Verb → Text
+verb_name verbs.Sheet = codes "sheet"
+verb_name verbs.Import = codes "import"
+verb_name verbs.Match = codes "match"
+verb_name verbs.Stream = codes "stream"
+verb_name verbs.Serve = codes "serve"
+verb_name verbs.Reconcile = codes "reconcile"
+verb_name verbs.Trial = codes "trial"
+verb_name verbs.Journal = codes "journal"
+verb_name verbs.Retention = codes "retention"
+verb_name verbs.Exceptions = codes "exceptions"
+verb_name verbs.Ledger = codes "ledger"
+
+-- how a command is written behind the options; all of them, where none is named
+abbrev pub verb_usage : Option Verb → Text
+verb_usage None = codes "(sheet | import FILE | match FILE | stream | serve PORT COUNT | reconcile DAY | trial | "
+    ++ codes "journal | retention | exceptions | ledger MATTER|FIRM)"
+verb_usage (Some verbs.Sheet) = codes "sheet"
+verb_usage (Some verbs.Import) = codes "import FILE"
+verb_usage (Some verbs.Match) = codes "match FILE"
+verb_usage (Some verbs.Stream) = codes "stream"
+verb_usage (Some verbs.Serve) = codes "serve PORT COUNT"
+verb_usage (Some verbs.Reconcile) = codes "reconcile DAY"
+verb_usage (Some verbs.Trial) = codes "trial"
+verb_usage (Some verbs.Journal) = codes "journal"
+verb_usage (Some verbs.Retention) = codes "retention"
+verb_usage (Some verbs.Exceptions) = codes "exceptions"
+verb_usage (Some verbs.Ledger) = codes "ledger MATTER|FIRM"
+
+-- a command as it may be typed
+abbrev pub verb_example : Option Verb → Text
+verb_example None = codes "reconcile 2026-03-31"
+verb_example (Some verbs.Sheet) = codes "sheet < day.csv"
+verb_example (Some verbs.Import) = codes "import statement.csv"
+verb_example (Some verbs.Match) = codes "match bank.csv > statement.csv"
+verb_example (Some verbs.Stream) = codes "stream < messages.http"
+verb_example (Some verbs.Serve) = codes "serve 8080 100"
+verb_example (Some verbs.Reconcile) = codes "reconcile 2026-03-31"
+verb_example (Some verbs.Trial) = codes "trial"
+verb_example (Some verbs.Journal) = codes "journal"
+verb_example (Some verbs.Retention) = codes "retention"
+verb_example (Some verbs.Exceptions) = codes "exceptions"
+verb_example (Some verbs.Ledger) = codes "ledger 000001"
+
+-- what is wrong
+abbrev pub wrong_text : Wrong → Text
+wrong_text (wrong.Word text) = text.now ++ codes " is not taken here"
+wrong_text (wrong.NoDay text) = text.now ++ codes " is no day: write it as 2026-03-16"
+wrong_text (wrong.NoMatter text) = text.now ++ codes " is neither a matter's number, as 000001, nor FIRM"
+wrong_text (wrong.NoPort text) = text.now ++ codes " is no port from 1024 to 65535"
+wrong_text (wrong.NoCount text) = text.now ++ codes " is no count from 1 to 1000000"
+wrong_text (wrong.Repeated settings.Today) = codes "--today is given twice"
+wrong_text (wrong.Repeated settings.Db) = codes "--db is given twice"
+wrong_text (wrong.Repeated settings.Quiet) = codes "--quiet is given twice"
+wrong_text (wrong.NoValue settings.Today) = codes "--today has no day"
+wrong_text (wrong.NoValue settings.Db) = codes "--db has no path"
+wrong_text (wrong.NoValue settings.Quiet) = codes "--quiet has no value"
+wrong_text wrong.MissingDay = codes "--today DAY is missing"
+wrong_text wrong.MissingCommand = codes "a command is missing"
+wrong_text wrong.MissingWord = codes "a word is missing"
+
+-- the line of what is wrong, where that is known
+abbrev pub wrong_line : Option Wrong → Text
+wrong_line None = []
+wrong_line (Some w) = codes "\nwrong: " ++ wrong_text w
+
+-- the lines that are told, without the last one's end
+abbrev pub advice_text : Advice → Text
+advice_text a = codes "usage: cashier_cli [--db PATH] [--quiet] --today DAY " ++ (verb_usage a.verb
+    ++ (codes "\nexample: cashier_cli --today 2026-03-31 " ++ (verb_example a.verb ++ wrong_line a.wrong)))
+
+-- ---- what is true of the words
+
+-- the command line takes the words, or wants only required ones behind them: they name a command
+abbrev pub HasCommand : List Text → Type 0
+HasCommand words = (fault_of program words ≡ []) ⊎ FailsAs words kind.MissingRequiredArgument
+
+-- the command line takes the words, or wants more of them
+abbrev pub IsTakenSoFar : List Text → Type 0
+IsTakenSoFar words = HasCommand words ⊎ (FailsAs words kind.MissingSubcommand ⊎ FailsAs words kind.InvalidValue)
+
+-- a word among them is no option and no command where it stands, or one word too many
+abbrev pub IsStrayed : List Text → Type 0
+IsStrayed words = FailsAs words kind.UnknownArgument
+    ⊎ (FailsAs words kind.InvalidSubcommand ⊎ FailsAs words kind.TooManyValues)
+
+-- how far the command line takes words, by its error, where it has one
+abbrev pub front_by : Option ErrorKind → Front
+front_by None = fronts.Met
+front_by (Some kind.MissingRequiredArgument) = fronts.Met
+front_by (Some kind.MissingSubcommand) = fronts.WantsCommand
+front_by (Some kind.InvalidValue) = fronts.WantsValue
+front_by (Some kind.ArgumentConflict) = fronts.Repeats
+front_by (Some kind.UnknownArgument) = fronts.Strays
+front_by (Some kind.InvalidSubcommand) = fronts.Strays
+front_by (Some kind.TooManyValues) = fronts.Strays
+front_by (Some _) = fronts.Fails
+
+-- the command line takes the words as far as that
+abbrev pub IsFront : List Text → Front → Type 0
+IsFront words fronts.Met = HasCommand words
+IsFront words fronts.WantsCommand = FailsAs words kind.MissingSubcommand
+IsFront words fronts.WantsValue = FailsAs words kind.InvalidValue
+IsFront words fronts.Repeats = FailsAs words kind.ArgumentConflict
+IsFront words fronts.Strays = IsStrayed words
+IsFront words fronts.Fails = ⊤
+
+-- the word is not taken where it stands: those before it are, so far
+pub record IsStray (words : List Text) (word : Text) : Type 0 where
+  pub place : ℕ
+  pub stands : slice_get words place ≡ Some word
+  pub before : IsTakenSoFar (take place words)
+  pub refused : IsStrayed (take (place + 1) words)
+
+-- the words name the command: it stands where one is wanted, and with it none is any more
+pub record Names (words : List Text) (verb : Verb) : Type 0 where
+  pub place : ℕ
+  pub stands : slice_get words place ≡ Some (verb_name verb)
+  pub wanted : FailsAs (take place words) kind.MissingSubcommand
+  pub met : HasCommand (take (place + 1) words)
+
+-- the word begins as the option of the business day does
+abbrev pub names_day : Text → Bool
+names_day word = bytes_eq (take 7 word) (codes "--today")
+
+-- the word begins as the option of the database does
+abbrev pub names_db : Text → Bool
+names_db word = bytes_eq (take 4 word) (codes "--db")
+
+-- the word begins as the flag of a quiet run does
+abbrev pub names_quiet : Text → Bool
+names_quiet word = bytes_eq (take 7 word) (codes "--quiet")
+
+-- the option that a word begins as
+abbrev pub setting_named : Text → Option Setting
+setting_named word =
+    if names_day word then Some settings.Today
+    else (if names_db word then Some settings.Db else (if names_quiet word then Some settings.Quiet else None))
+
+-- the option that the last of the words that begin as one begins as
+abbrev pub last_setting : List Text → Option Setting
+last_setting = fold (λ before word. option_or (setting_named word) before) None
+
+-- the option is given again: the command line takes the words before this place so far, and with the word that stands
+-- there it refuses them as a repetition; the option that was named last is that which is repeated
+pub record IsRepeated (words : List Text) (setting : Setting) : Type 0 where
+  pub place : ℕ
+  pub before : IsTakenSoFar (take place words)
+  pub refused : FailsAs (take (place + 1) words) kind.ArgumentConflict
+  pub named : last_setting (take (place + 1) words) ≡ Some setting
+
+-- with the word at this place an option's value is wanted, while before it a command is, and the next word, where there
+-- is one, does not give it
+pub record LacksValueAt (words : List Text) (place : ℕ) : Type 0 where
+  pub before : FailsAs (take place words) kind.MissingSubcommand
+  pub wanted : FailsAs (take (place + 1) words) kind.InvalidValue
+  pub left : FailsAs (take (place + 2) words) kind.InvalidValue
+
+-- the option has no value
+pub record LacksValue (words : List Text) (setting : Setting) : Type 0 where
+  pub place : ℕ
+  pub lacks : LacksValueAt words place
+  pub named : last_setting (take (place + 1) words) ≡ Some setting
+
+-- of the matched values, that of `--today` is wrong
+abbrev pub IsWrongToday : List Row → Wrong → Type 0
+IsWrongToday values (wrong.NoDay text) =
+    (first_of (codes "today") values ≡ Some text.now) × (day_of text.now ≡ None)
+IsWrongToday values _ = ⊥
+
+-- of the values of a command of this name, this one is wrong
+abbrev pub IsWrongOperand : Text → List Row → Wrong → Type 0
+IsWrongOperand name values (wrong.NoDay text) =
+    (name ≡ codes "reconcile") × (first_of (codes "DAY") values ≡ Some text.now) × (day_of text.now ≡ None)
+IsWrongOperand name values (wrong.NoMatter text) =
+    (name ≡ codes "ledger") × (first_of (codes "MATTER") values ≡ Some text.now)
+    × (text.now ≢ codes "FIRM") × (matter_of text.now ≡ None)
+IsWrongOperand name values (wrong.NoPort text) = (name ≡ codes "serve")
+    × (first_of (codes "PORT") values ≡ Some text.now) × ((port : ℕ) → ¬ IsPort text.now port)
+IsWrongOperand name values (wrong.NoCount text) = (name ≡ codes "serve")
+    × (first_of (codes "COUNT") values ≡ Some text.now) × ((count : ℕ) → ¬ IsCount text.now count)
+IsWrongOperand name values _ = ⊥
+
+-- of the matched values and those of the command that was met, this one is wrong
+abbrev pub IsWrongValue : List Row → Option (Text × List Row) → Wrong → Type 0
+IsWrongValue rows None w = IsWrongToday rows w
+IsWrongValue rows (Some met) w = IsWrongToday rows w ⊎ IsWrongOperand met.0 met.1 w
+
+-- the command line takes the words, and this value of theirs is wrong
+pub record HasWrongValue (words : List Text) (w : Wrong) : Type 0 where
+  pub taken : fault_of program words ≡ []
+  pub value : IsWrongValue (matches_of program words) (subcommand_of program words) w
+
+-- this is wrong with the words
+abbrev pub IsWrong : List Text → Wrong → Type 0
+IsWrong words (wrong.Word text) = IsStray words text.now
+IsWrong words (wrong.Repeated setting) = IsRepeated words setting
+IsWrong words (wrong.NoValue setting) = LacksValue words setting
+IsWrong words wrong.MissingCommand = FailsAs words kind.MissingSubcommand
+IsWrong words wrong.MissingDay = FailsAs words kind.MissingRequiredArgument × (list_any names_day words ≡ false)
+IsWrong words wrong.MissingWord = FailsAs words kind.MissingRequiredArgument
+IsWrong words w = HasWrongValue words w

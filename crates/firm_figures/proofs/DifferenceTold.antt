@@ -1,0 +1,183 @@
+-- The journal is the ledgers, and the difference is told.
+use Rattle.std.proofs.Common.{◌≡◌, ℕ, ◌≤◌, Bool, true, false, not, cond, List, [], ◌∷◌, Option, Some, None, refl, sym, ◌∙◌, subst, arith}
+use Rattle.std.specs.Prelude.{ℤ, pos, ◌+ℤ◌, ◌-ℤ◌, ◌&&◌, nat_le}
+use Rattle.std.specs.List.{filter, flat_map, AllByRecursion}
+use Rattle.std.proofs.lemmas.Int.{ints}
+use Rattle.std.proofs.lemmas.Bool.Decides.{nat_tests}
+use Rattle.matter_rows.specs.declared.head.Head.{Head}
+use Rattle.matter_rows.specs.declared.deposit.Deposit.{Deposit}
+use Rattle.matter_rows.specs.declared.deposit.DepositState.{DepositState}
+use Rattle.matter_rows.specs.declared.deposit.DepositState.TheVariants as deposit
+use Rattle.matter_rows.specs.declared.payment.Payment.{Payment}
+use Rattle.matter_rows.specs.declared.payment.PaymentState.{PaymentState}
+use Rattle.matter_rows.specs.declared.payment.PaymentState.TheVariants as payment
+use Rattle.matter_rows.specs.declared.entry.Entry.{Entry}
+use Rattle.matter_rows.specs.declared.entry.Entry.TheVariants as entry
+use Rattle.matter_rows.specs.Rows.{Rows, entry_amount}
+use Rattle.matter_rows.specs.Events.{Event, events_of}
+use Rattle.matter_rows.specs.Sound.{AreRising, IsBackInTime, IsRising, deposit_days, payment_days, IsHeaded, Sound}
+use Rattle.firm_rows.specs.declared.movement.Movement.{Movement}
+use Rattle.firm_rows.specs.declared.ledger.FirmLine.{FirmLine}
+use Rattle.firm_rows.specs.Sums.{sum_of}
+use Rattle.firm_rows.specs.Firm.{Row, Firm, of}
+use Rattle.firm_rows.specs.FirmSound.{FirmSound}
+use Rattle.firm_figures.specs.Figures.{entries_in, is_in_transit, is_outstanding, lines_of, is_event_by, is_moved_by, is_dated_by, is_matched_by, is_early, transit, outstanding, journal, ledgers, matched, early, AlwaysAgree}
+use Rattle.firm_rows.proofs.Sums.{sum-filter, sum-flat, sum-agree}
+use Rattle.firm_rows.proofs.Agree.{of_row, rows-entries, all-entries, agree}
+
+-- What each entry adds to a figure.
+module _ (p : ℕ) where
+  abbrev pub event_by : Event → ℤ
+  event_by e = cond (is_event_by p e) e.amount (pos 0)
+
+  abbrev pub transit_share : Entry → ℤ
+  transit_share e = cond (is_in_transit p e) (pos (entry_amount e)) (pos 0)
+
+  abbrev pub outstanding_share : Entry → ℤ
+  outstanding_share e = cond (is_outstanding p e) (pos (entry_amount e)) (pos 0)
+
+  abbrev pub ledger_by : Entry → ℤ
+  ledger_by e = sum_of event_by (events_of e)
+
+  abbrev pub matched_by : Entry → ℤ
+  matched_by e = sum_of (λ l. cond (is_matched_by p l) l.amount (pos 0)) (lines_of e)
+
+  abbrev pub early_by : Entry → ℤ
+  early_by e = sum_of (λ l. cond (is_early p l) l.amount (pos 0)) (lines_of e)
+
+  -- Each figure is a sum of shares.
+
+  pub transit-shares : (firm : Firm) → transit p firm ≡ sum_of transit_share (entries_in firm.rows)
+  transit-shares firm = sum-filter (is_in_transit p) (λ e. pos (entry_amount e)) (entries_in firm.rows)
+
+  pub outstanding-shares : (firm : Firm) → outstanding p firm ≡ sum_of outstanding_share (entries_in firm.rows)
+  outstanding-shares firm = sum-filter (is_outstanding p) (λ e. pos (entry_amount e)) (entries_in firm.rows)
+
+  pub ledger-shares : (firm : Firm) → sum_of (λ e. e.amount) (filter (is_event_by p) (flat_map events_of (entries_in firm.rows))) ≡ sum_of ledger_by (entries_in firm.rows)
+  ledger-shares firm = sum-filter (is_event_by p) (λ e. e.amount) (flat_map events_of (entries_in firm.rows)) ∙ sum-flat events_of event_by (entries_in firm.rows)
+
+  pub matched-shares : (firm : Firm) → matched p firm ≡ sum_of matched_by (entries_in firm.rows)
+  matched-shares firm = sum-filter (is_matched_by p) (λ l. l.amount) (flat_map lines_of (entries_in firm.rows)) ∙ sum-flat lines_of (λ l. cond (is_matched_by p l) l.amount (pos 0)) (entries_in firm.rows)
+
+  pub early-shares : (firm : Firm) → early p firm ≡ sum_of early_by (entries_in firm.rows)
+  early-shares firm = sum-filter (is_early p) (λ l. l.amount) (flat_map lines_of (entries_in firm.rows)) ∙ sum-flat lines_of (λ l. cond (is_early p l) l.amount (pos 0)) (entries_in firm.rows)
+
+  -- The journal is the ledgers.
+
+  pub journal-ledgers : (firm : Firm) → FirmSound firm → journal p firm ≡ ledgers p firm
+  journal-ledgers firm sound =
+      let moved = sum-filter (is_moved_by p) (λ (v : Movement). v.amount) firm.movements in
+      let told = agree event_by firm sound in
+      let rows = all-entries ledger_by firm.rows in
+      let own = sum-filter (is_dated_by p) (λ (l : FirmLine). l.amount) firm.firm_lines in
+      omega (arith, ints, moved, told, rows, own, ledger-shares firm)
+
+  -- One entry: what waits, less what the books have, is what came early, less what the bank had.
+
+  abbrev untold : Entry → ℤ
+  untold e = ((transit_share e -ℤ outstanding_share e) -ℤ ledger_by e) +ℤ (matched_by e -ℤ early_by e)
+
+  held : (b : Bool) (z : ℤ) → ((cond (b && true) z (pos 0) -ℤ pos 0) -ℤ (cond b z (pos 0) +ℤ pos 0)) +ℤ (pos 0 -ℤ pos 0) ≡ pos 0
+  held true z = omega (arith, ints)
+  held false z = omega (arith, ints)
+
+  cleared : (b k : Bool) (z : ℤ) → ((cond (b && not k) z (pos 0) -ℤ pos 0) -ℤ (cond b z (pos 0) +ℤ pos 0)) +ℤ ((cond k z (pos 0) +ℤ pos 0) -ℤ (cond (k && not b) z (pos 0) +ℤ pos 0)) ≡ pos 0
+  cleared true true z = omega (arith, ints)
+  cleared true false z = omega (arith, ints)
+  cleared false true z = omega (arith, ints)
+  cleared false false z = omega (arith, ints)
+
+  cancelled : (b c : Bool) (z : ℤ) → (c ≡ true → b ≡ true) → ((cond (b && (not c && true)) z (pos 0) -ℤ pos 0) -ℤ (cond b z (pos 0) +ℤ (cond c (pos 0 -ℤ z) (pos 0) +ℤ pos 0))) +ℤ (pos 0 -ℤ pos 0) ≡ pos 0
+  cancelled true true z h = omega (arith, ints)
+  cancelled true false z h = omega (arith, ints)
+  cancelled false true z h = absurd (let no = h refl in (cc))
+  cancelled false false z h = omega (arith, ints)
+
+  returned : (b k t u : Bool) (z : ℤ) → (u ≡ true → b ≡ true) → (u ≡ true → t ≡ true) → ((cond (b && not k) z (pos 0) -ℤ pos 0) -ℤ (cond b z (pos 0) +ℤ (cond u (pos 0 -ℤ z) (pos 0) +ℤ pos 0))) +ℤ ((cond k z (pos 0) +ℤ (cond t (pos 0 -ℤ z) (pos 0) +ℤ pos 0)) -ℤ (cond (k && not b) z (pos 0) +ℤ (cond (t && not u) (pos 0 -ℤ z) (pos 0) +ℤ pos 0))) ≡ pos 0
+  returned true true true true z booked back = omega (arith, ints)
+  returned true true true false z booked back = omega (arith, ints)
+  returned true true false false z booked back = omega (arith, ints)
+  returned true false true true z booked back = omega (arith, ints)
+  returned true false true false z booked back = omega (arith, ints)
+  returned true false false false z booked back = omega (arith, ints)
+  returned false true true false z booked back = omega (arith, ints)
+  returned false true false false z booked back = omega (arith, ints)
+  returned false false true false z booked back = omega (arith, ints)
+  returned false false false false z booked back = omega (arith, ints)
+  returned true k false true z booked back = absurd (let none = back refl in (cc))
+  returned false k t true z booked back = absurd (let none = booked refl in (cc))
+
+  -- a day that is by p has those before it by p
+  by-before : (a b : ℕ) → a ≤ b → nat_le b p ≡ true → nat_le a p ≡ true
+  by-before a b le is = grind (arith, nat_tests)
+
+  deposit-told : (d : Deposit) (s : DepositState) → AreRising d.book (deposit_days s) × IsBackInTime s → untold (entry.Deposit (record d { state = s })) ≡ pos 0
+  unfolding events_of
+  deposit-told d deposit.Held up = held (nat_le d.book p) (pos d.amount)
+  deposit-told d (deposit.Cleared c) up = cleared (nat_le d.book p) (nat_le c.bank_day p) (pos d.amount)
+  deposit-told d (deposit.Cancelled day) up = cancelled (nat_le d.book p) (nat_le day p) (pos d.amount) (by-before d.book day up.0.0)
+  deposit-told d (deposit.Returned r) up = returned (nat_le d.book p) (nat_le r.clearing.bank_day p) (nat_le r.returning.bank_day p) (nat_le r.undone p) (pos d.amount) (by-before d.book r.undone up.0.0) (by-before r.returning.bank_day r.undone up.1)
+
+  issued : (b : Bool) (z : ℤ) → ((pos 0 -ℤ cond (b && true) z (pos 0)) -ℤ (cond b (pos 0 -ℤ z) (pos 0) +ℤ pos 0)) +ℤ (pos 0 -ℤ pos 0) ≡ pos 0
+  issued true z = omega (arith, ints)
+  issued false z = omega (arith, ints)
+
+  paid : (b k : Bool) (z : ℤ) → ((pos 0 -ℤ cond (b && not k) z (pos 0)) -ℤ (cond b (pos 0 -ℤ z) (pos 0) +ℤ pos 0)) +ℤ ((cond k (pos 0 -ℤ z) (pos 0) +ℤ pos 0) -ℤ (cond (k && not b) (pos 0 -ℤ z) (pos 0) +ℤ pos 0)) ≡ pos 0
+  paid true true z = omega (arith, ints)
+  paid true false z = omega (arith, ints)
+  paid false true z = omega (arith, ints)
+  paid false false z = omega (arith, ints)
+
+  voided : (b c : Bool) (z : ℤ) → (c ≡ true → b ≡ true) → ((pos 0 -ℤ cond (b && (not c && true)) z (pos 0)) -ℤ (cond b (pos 0 -ℤ z) (pos 0) +ℤ (cond c z (pos 0) +ℤ pos 0))) +ℤ (pos 0 -ℤ pos 0) ≡ pos 0
+  voided true true z h = omega (arith, ints)
+  voided true false z h = omega (arith, ints)
+  voided false true z h = absurd (let no = h refl in (cc))
+  voided false false z h = omega (arith, ints)
+
+  payment-told : (y : Payment) (s : PaymentState) → AreRising y.book (payment_days s) → untold (entry.Payment (record y { state = s })) ≡ pos 0
+  unfolding events_of
+  payment-told y payment.Proposed up = refl
+  payment-told y payment.Declined up = refl
+  payment-told y (payment.Issued day) up = issued (nat_le day p) (pos y.amount)
+  payment-told y (payment.Cleared c) up = paid (nat_le c.issued p) (nat_le c.clearing.bank_day p) (pos y.amount)
+  payment-told y (payment.Voided v) up = voided (nat_le v.issued p) (nat_le v.undone p) (pos y.amount) (by-before v.issued v.undone up.1.0)
+
+  entry-told : (e : Entry) → IsRising e → untold e ≡ pos 0
+  unfolding events_of
+  entry-told (entry.Deposit d) up = deposit-told d d.state up
+  entry-told (entry.Payment y) up = payment-told y y.state up
+  entry-told (entry.Fee f) up = refl
+  entry-told (entry.Claim c) up = refl
+
+  entries-told : (es : List Entry) → AllByRecursion IsRising es → sum_of untold es ≡ pos 0
+  entries-told [] up = refl
+  entries-told (e ∷ es) up = omega (arith, ints, entry-told e up.0, entries-told es up.1)
+
+  -- no entry of a sound matter changes before an earlier change
+  rising : (rows : Rows) → Sound rows → AllByRecursion IsRising rows.entries
+  rising rows sound = cases rows.head sound.headed
+    where
+      cases : (o : Option Head) → IsHeaded o rows.seats rows.entries → AllByRecursion IsRising rows.entries
+      cases None headed = subst (λ (es : List Entry). AllByRecursion IsRising es) (sym headed.1) tt
+      cases (Some h) headed = headed.0.changed
+
+  -- All entries.
+
+  all-told : (firm : Firm) → FirmSound firm → sum_of untold (entries_in firm.rows) ≡ pos 0
+  all-told firm sound =
+      all-entries untold firm.rows
+      ∙ sum-agree (λ q. q.0) (λ q. of_row untold q.1) firm.rows (λ (q : ℕ × Row). q.0) (λ q. of_row untold q.1) [] (λ m. rows-entries untold m firm.rows ∙ entries-told (of m firm).entries (rising (of m firm) (sound.matters m)))
+
+  parts : (es : List Entry) → sum_of untold es ≡ ((sum_of transit_share es -ℤ sum_of outstanding_share es) -ℤ sum_of ledger_by es) +ℤ (sum_of matched_by es -ℤ sum_of early_by es)
+  parts [] = refl
+  parts (e ∷ es) = omega (arith, ints, parts es)
+
+pub always-agree : AlwaysAgree
+always-agree p closing firm sound =
+    let same = journal-ledgers p firm sound in
+    let told = all-told p firm sound in
+    let whole = parts p (entries_in firm.rows) in
+    record {
+      journal = same;
+      difference = omega (arith, ints, same, told, whole, transit-shares p firm, outstanding-shares p firm, ledger-shares p firm, matched-shares p firm, early-shares p firm);
+    }

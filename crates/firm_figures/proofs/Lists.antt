@@ -1,0 +1,154 @@
+-- The journal's sums so far, and the trial balance.
+use Rattle.std.proofs.Common.{◌≡◌, ℕ, zero, suc, ◌+◌, ◌*◌, ◌≤◌, Bool, true, false, cond, List, [], ◌∷◌, ◌++◌, length, map, take, Option, Some, None, refl, sym, ap, ◌∙◌, subst, arith, append_assoc, append-nil}
+use Rattle.std.specs.Prelude.{ℤ, pos, negsuc, ◌+ℤ◌, ◌≤ℤ◌, ◌==◌, is_none, fold}
+use Rattle.std.specs.List.{AllByRecursion}
+use Rattle.std.specs.Int.{int_wrap, w64, w128}
+use Rattle.std.specs.Int.RustNames.{FitsSigned}
+use Rattle.std.proofs.lemmas.Int.{ints, int_wrap-add_left, int_wrap_fits}
+use Rattle.matter_rows.specs.declared.head.Head.{Head}
+use Rattle.matter_rows.specs.declared.seat.Seat.{Seat}
+use Rattle.matter_rows.specs.declared.entry.Entry.{Entry}
+use Rattle.matter_rows.specs.Rows.{Rows}
+use Rattle.matter_rows.specs.Balances.{ledger}
+use Rattle.matter_rows.specs.Sound.{IsAtRestIfClosed, IsHeaded, Sound}
+use Rattle.matter_rows.specs.Laws.{Covered}
+use Rattle.firm_rows.specs.Sums.{sum_of}
+use Rattle.firm_rows.specs.Firm.{Row, HeadRow, SeatRow, EntryRow, Firm, of, pairs, head_pairs, seat_pairs, entry_pairs}
+use Rattle.firm_rows.specs.FirmSound.{FirmSound}
+use Rattle.firm_rows.proofs.Sums.{at, sum-append, sum-same, sum-filter, sum-agree}
+use Rattle.firm_rows.proofs.Joined.{passing, own-put}
+use Rattle.firm_rows.proofs.Agree.{of_row, rows-entries}
+use Rattle.firm_rows.proofs.Solvent.{shares-ledger, row-share, sound-solvent}
+use Rattle.firm_rows.specs.declared.movement.Movement.{Movement}
+use Rattle.firm_figures.specs.declared.journal_sink.JournalLine.{JournalLine}
+use Rattle.firm_figures.specs.declared.trial_sink.TrialLine.{TrialLine}
+use Rattle.firm_rows.specs.Journal.{ledger_share, row_share, ledger_sum, journal_sum}
+use Rattle.firm_figures.specs.Lists.{journal_from, last_sum, with_moved, JournalIsKept, open_matters, trial_lines, ListsAlwaysAgree}
+use Rattle.firm_rows.specs.Countable.{IsMovementInRange}
+use Rattle.firm_figures.specs.Reconciling.{added}
+use Rattle.firm_figures.proofs.Sizes.{IsWithin, wider, fits}
+
+-- The journal.
+
+-- where no sum of a front is below zero, no sum so far is
+pub all-least : (z : ℤ) (vs : List Movement) → ((k : ℕ) → pos 0 ≤ℤ (z +ℤ journal_sum (take k vs))) → AllByRecursion (λ l. pos 0 ≤ℤ l.sum) (journal_from z vs)
+all-least z [] least = tt
+all-least z (v ∷ vs) least =
+    let here : pos 0 ≤ℤ (z +ℤ v.amount) = omega (arith, ints, least (suc zero)) in
+    let more : (k : ℕ) → pos 0 ≤ℤ ((z +ℤ v.amount) +ℤ journal_sum (take k vs)) = λ k. omega (arith, ints, least (suc k)) in
+    (here, all-least (z +ℤ v.amount) vs more)
+
+pub last-whole : (z : ℤ) (vs : List Movement) → last_sum z (journal_from z vs) ≡ z +ℤ journal_sum vs
+last-whole z [] = omega (arith, ints)
+last-whole z (v ∷ vs) = last-whole (z +ℤ v.amount) vs ∙ omega (arith, ints)
+
+-- the sums kept are in 128 bits
+kept-from : (z : ℤ) (front : List JournalLine) (vs : List Movement) → AllByRecursion (λ l. FitsSigned w128 l.sum) (journal_from z vs) → (fold with_moved (record { lines = front; sum = int_wrap w128 z }) vs).lines ≡ front ++ journal_from z vs
+unfolding added
+kept-from z front [] fits = sym (append-nil front)
+kept-from z front (v ∷ vs) fits =
+    let next : int_wrap w128 (int_wrap w128 z +ℤ v.amount) ≡ z +ℤ v.amount = int_wrap-add_left w128 z v.amount ∙ int_wrap_fits w128 (z +ℤ v.amount) fits.0 in
+    let line : JournalLine = record { movement = v; sum = z +ℤ v.amount } in
+    (λ i. (fold with_moved (record { lines = front ++ (record { movement = v; sum = next i } ∷ []); sum = int_wrap-add_left w128 z v.amount i }) vs).lines)
+    ∙ (kept-from (z +ℤ v.amount) (front ++ (line ∷ [])) vs fits.1 ∙ append_assoc front (line ∷ []) (journal_from (z +ℤ v.amount) vs))
+
+zero-wrapped : int_wrap w128 (pos 0) ≡ pos 0
+unfolding int_wrap
+zero-wrapped = refl
+
+-- Every sum fits.
+
+abbrev HALF : ℕ
+HALF = 9_223_372_036_854_775_808
+
+abbrev TOP : ℕ
+TOP = 170_141_183_460_469_231_731_687_303_715_884_105_727
+
+word-within : (z : ℤ) → FitsSigned w64 z → IsWithin HALF z
+word-within (pos n) is = record { low = omega (arith, ints, is.sfits); high = omega (arith, ints, is.sfits) }
+word-within (negsuc n) is = record { low = omega (arith, ints, is.sfits); high = omega (arith, ints, is.sfits) }
+
+both-sum : (n m : ℕ) (a b : ℤ) → IsWithin n a → IsWithin m b → IsWithin (n + m) (a +ℤ b)
+both-sum n m a b x y = record { low = omega (arith, ints, x.low, y.low); high = omega (arith, ints, x.high, y.high) }
+
+sums-fit : (n : ℕ) (z : ℤ) (vs : List Movement) → IsWithin n z → AllByRecursion IsMovementInRange vs → n + length vs * HALF ≤ TOP → AllByRecursion (λ l. FitsSigned w128 l.sum) (journal_from z vs)
+sums-fit n z [] is all le = tt
+sums-fit n z (v ∷ vs) is all le =
+    let next : IsWithin (n + HALF) (z +ℤ v.amount) = both-sum n HALF z v.amount is (word-within v.amount all.0) in
+    (fits (z +ℤ v.amount) (wider (n + HALF) TOP (z +ℤ v.amount) (omega (arith, le)) next), sums-fit (n + HALF) (z +ℤ v.amount) vs next all.1 (omega (arith, le)))
+
+zero-within : IsWithin 0 (pos 0)
+zero-within = record { low = omega (arith, ints); high = omega (arith, ints) }
+
+pub journal-kept : JournalIsKept
+journal-kept movements is =
+    let few = is.few in
+    (λ i. (fold with_moved (record { lines = []; sum = sym zero-wrapped i }) movements).lines)
+    ∙ kept-from (pos 0) [] movements (sums-fit 0 (pos 0) movements zero-within is.ranged (omega (arith, few)))
+
+-- The trial balance.
+
+-- what a head adds, where its matter is open
+abbrev open_share : (ℕ → ℤ) → ℕ × Row → ℤ
+open_share f (m, HeadRow h) = cond (is_none h.closed) (f m) (pos 0)
+open_share f (m, SeatRow seat) = pos 0
+open_share f (m, EntryRow number entry) = pos 0
+
+open-sum : (f : ℕ → ℤ) (xs : List (ℕ × Row)) → sum_of (λ (l : TrialLine). l.ledger) (map (λ m. record { matter = m; ledger = f m }) (open_matters xs)) ≡ sum_of (open_share f) xs
+open-sum f [] = refl
+open-sum f ((m, HeadRow h) ∷ xs) = cases (is_none h.closed) (open-sum f xs)
+  where
+    cases : (b : Bool) → sum_of (λ (l : TrialLine). l.ledger) (map (λ m. record { matter = m; ledger = f m }) (open_matters xs)) ≡ sum_of (open_share f) xs → sum_of (λ (l : TrialLine). l.ledger) (map (λ m. record { matter = m; ledger = f m }) (cond b (m ∷ open_matters xs) (open_matters xs))) ≡ cond b (f m) (pos 0) +ℤ sum_of (open_share f) xs
+    cases true more = omega (arith, ints, more)
+    cases false more = omega (arith, ints, more)
+open-sum f ((m, SeatRow seat) ∷ xs) = omega (arith, ints, open-sum f xs)
+open-sum f ((m, EntryRow number entry) ∷ xs) = omega (arith, ints, open-sum f xs)
+
+seats-none : (f : ℕ → ℤ) (m : ℕ) (ss : List Seat) → sum_of (open_share f) (seat_pairs m ss) ≡ pos 0
+seats-none f m [] = refl
+seats-none f m (s ∷ ss) = omega (arith, ints, seats-none f m ss)
+
+entries-none : (f : ℕ → ℤ) (m n : ℕ) (es : List Entry) → sum_of (open_share f) (entry_pairs m n es) ≡ pos 0
+entries-none f m n [] = refl
+entries-none f m n (e ∷ es) = omega (arith, ints, entries-none f m (n + 1) es)
+
+pairs-open : (f : ℕ → ℤ) (m : ℕ) (rows : Rows) → sum_of (open_share f) (pairs m rows) ≡ sum_of (open_share f) (head_pairs m rows.head)
+pairs-open f m rows =
+    let whole = sum-append (open_share f) (head_pairs m rows.head) (seat_pairs m rows.seats ++ entry_pairs m 1 rows.entries) in
+    let rest = sum-append (open_share f) (seat_pairs m rows.seats) (entry_pairs m 1 rows.entries) in
+    omega (arith, ints, whole, rest, seats-none f m rows.seats, entries-none f m 1 rows.entries)
+
+-- a matter that is not open has nothing in its ledger
+head-open : (f : ℕ → ℤ) (m : ℕ) (rows : Rows) → Sound rows → f m ≡ ledger rows.entries → sum_of (open_share f) (head_pairs m rows.head) ≡ ledger rows.entries
+head-open f m rows sound is = cases rows.head sound.headed
+  where
+    closing : (h : Head) (o : Option ℕ) → IsAtRestIfClosed h o rows.entries → cond (is_none o) (f m) (pos 0) +ℤ pos 0 ≡ ledger rows.entries
+    closing h None rest = omega (arith, ints, is)
+    closing h (Some day) rest = omega (arith, ints, rest.empty)
+
+    cases : (o : Option Head) → IsHeaded o rows.seats rows.entries → sum_of (open_share f) (head_pairs m o) ≡ ledger rows.entries
+    cases None headed = subst (λ (es : List Entry). pos 0 ≡ ledger es) (sym headed.1) refl
+    cases (Some h) headed = closing h h.closed headed.1
+
+-- TOTAL is what all entries and the firm's lines add up to
+pub trial-sum : (firm : Firm) → FirmSound firm → sum_of (λ l. l.ledger) (trial_lines firm) ≡ ledger_sum firm
+trial-sum firm sound =
+    let f : ℕ → ℤ = λ m. ledger (of m firm).entries in
+    let of_matter : (m : ℕ) → sum_of (at (λ (p : ℕ × Row). p.0) (open_share f) m) firm.rows ≡ sum_of (at (λ (p : ℕ × Row). p.0) (λ (p : ℕ × Row). row_share p.1) m) firm.rows = λ m.
+    let own : passing (λ x. x == m) firm.rows ≡ pairs m (of m firm) = ap (passing (λ x. x == m)) (sym (sound.in_order.rows m)) ∙ own-put m (of m firm) firm.rows in
+    sym (sum-filter (λ (p : ℕ × Row). p.0 == m) (open_share f) firm.rows)
+    ∙ (ap (sum_of (open_share f)) own
+    ∙ (pairs-open f m (of m firm)
+    ∙ (head-open f m (of m firm) (sound.matters m) refl
+    ∙ (sym (shares-ledger (of m firm).entries)
+    ∙ (sym (rows-entries ledger_share m firm.rows)
+    ∙ sum-same (at (λ (p : ℕ × Row). p.0) (λ (p : ℕ × Row). of_row ledger_share p.1) m) (at (λ (p : ℕ × Row). p.0) (λ (p : ℕ × Row). row_share p.1) m) firm.rows (λ p. ap (λ z. cond (p.0 == m) z (pos 0)) (row-share p.1))))))) in
+    open-sum f firm.rows ∙ sum-agree (λ (p : ℕ × Row). p.0) (open_share f) firm.rows (λ (p : ℕ × Row). p.0) (λ (p : ℕ × Row). row_share p.1) firm.rows of_matter
+
+pub lists-agree : Covered → ListsAlwaysAgree
+lists-agree law firm sound =
+    let solvent = sound-solvent law firm sound in
+    record {
+      covered = all-least (pos 0) firm.movements (λ k. omega (arith, ints, solvent.journal k));
+      total = last-whole (pos 0) firm.movements ∙ omega (arith, ints, solvent.agree, trial-sum firm sound);
+    }

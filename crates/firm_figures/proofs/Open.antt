@@ -1,0 +1,92 @@
+-- The matters that the trial balance lists are open.
+use Rattle.std.proofs.Common.{◌≡◌, ℕ, ◌+◌, Bool, true, false, cond, List, [], ◌∷◌, ◌++◌, map, Option, Some, None, refl, sym, ap, ◌∙◌, arith}
+use Rattle.std.specs.Prelude.{◌==◌, ◌||◌, is_none}
+use Rattle.std.specs.List.{AllByRecursion}
+use Rattle.std.proofs.lemmas.Bool.Decides.{nat_tests}
+use Rattle.matter_rows.specs.declared.head.Head.{Head}
+use Rattle.matter_rows.specs.declared.seat.Seat.{Seat}
+use Rattle.matter_rows.specs.declared.entry.Entry.{Entry}
+use Rattle.matter_rows.specs.Rows.{Rows}
+use Rattle.matter_rows.specs.Balances.{ledger}
+use Rattle.firm_rows.specs.Firm.{Row, HeadRow, SeatRow, EntryRow, Firm, of, pairs, head_pairs, seat_pairs, entry_pairs}
+use Rattle.firm_rows.proofs.Joined.{passing, own-put}
+use Rattle.firm_figures.specs.declared.trial_sink.TrialLine.{TrialLine}
+use Rattle.firm_figures.specs.Lists.{open_matters, is_open, ListedAreOpen}
+
+-- one of the heads of a matter is open
+abbrev some_open : ℕ → List (ℕ × Row) → Bool
+some_open m [] = false
+some_open m ((k, HeadRow h) ∷ xs) = cond (k == m) (is_none h.closed || some_open m xs) (some_open m xs)
+some_open m ((k, SeatRow s) ∷ xs) = some_open m xs
+some_open m ((k, EntryRow n e) ∷ xs) = some_open m xs
+
+own-open : (m : ℕ) (xs : List (ℕ × Row)) → some_open m (passing (λ x. x == m) xs) ≡ some_open m xs
+own-open m [] = refl
+own-open m ((k, HeadRow h) ∷ xs) = cases (k == m) refl (own-open m xs)
+  where
+    cases : (b : Bool) → (k == m) ≡ b → some_open m (passing (λ x. x == m) xs) ≡ some_open m xs → some_open m (cond b ((k, HeadRow h) ∷ passing (λ x. x == m) xs) (passing (λ x. x == m) xs)) ≡ cond b (is_none h.closed || some_open m xs) (some_open m xs)
+    cases true is more = rw is (ap (λ b. is_none h.closed || b) more)
+    cases false is more = more
+own-open m ((k, SeatRow s) ∷ xs) = cases (k == m) (own-open m xs)
+  where
+    cases : (b : Bool) → some_open m (passing (λ x. x == m) xs) ≡ some_open m xs → some_open m (cond b ((k, SeatRow s) ∷ passing (λ x. x == m) xs) (passing (λ x. x == m) xs)) ≡ some_open m xs
+    cases true more = more
+    cases false more = more
+own-open m ((k, EntryRow n e) ∷ xs) = cases (k == m) (own-open m xs)
+  where
+    cases : (b : Bool) → some_open m (passing (λ x. x == m) xs) ≡ some_open m xs → some_open m (cond b ((k, EntryRow n e) ∷ passing (λ x. x == m) xs) (passing (λ x. x == m) xs)) ≡ some_open m xs
+    cases true more = more
+    cases false more = more
+
+entries-open : (m k n : ℕ) (es : List Entry) → some_open m (entry_pairs k n es) ≡ false
+entries-open m k n [] = refl
+entries-open m k n (e ∷ es) = entries-open m k (n + 1) es
+
+seats-open : (m k : ℕ) (ss : List Seat) (rest : List (ℕ × Row)) → some_open m rest ≡ false → some_open m (seat_pairs k ss ++ rest) ≡ false
+seats-open m k [] rest none = none
+seats-open m k (s ∷ ss) rest none = seats-open m k ss rest none
+
+itself : (m : ℕ) → (m == m) ≡ true
+itself m = grind (arith, nat_tests)
+
+or-none : (b c : Bool) → c ≡ false → (b || c) ≡ b
+or-none true c is = refl
+or-none false c is = is
+
+pairs-open : (m : ℕ) (rows : Rows) → some_open m (pairs m rows) ≡ is_open rows.head
+pairs-open m rows = cases rows.head (seats-open m m rows.seats (entry_pairs m 1 rows.entries) (entries-open m m 1 rows.entries))
+  where
+    cases : (o : Option Head) → some_open m (seat_pairs m rows.seats ++ entry_pairs m 1 rows.entries) ≡ false → some_open m (head_pairs m o ++ (seat_pairs m rows.seats ++ entry_pairs m 1 rows.entries)) ≡ is_open o
+    cases None none = none
+    cases (Some h) none = rw (itself m) (or-none (is_none h.closed) _ none)
+
+more-open : (b c : Bool) (d : Bool) → d ≡ true → cond b (c || d) d ≡ true
+more-open true true d is = refl
+more-open true false d is = is
+more-open false c d is = is
+
+all-more : (P Q : ℕ → Type 0) → ((k : ℕ) → P k → Q k) → (ks : List ℕ) → AllByRecursion P ks → AllByRecursion Q ks
+all-more P Q f [] all = tt
+all-more P Q f (k ∷ ks) all = (f k all.0, all-more P Q f ks all.1)
+
+listed : (xs : List (ℕ × Row)) → AllByRecursion (λ k. some_open k xs ≡ true) (open_matters xs)
+listed [] = tt
+listed ((m, HeadRow h) ∷ xs) = cases (is_none h.closed) refl (all-more (λ k. some_open k xs ≡ true) (λ k. some_open k ((m, HeadRow h) ∷ xs) ≡ true) (λ k is. more-open (m == k) (is_none h.closed) (some_open k xs) is) (open_matters xs) (listed xs))
+  where
+    cases : (b : Bool) → is_none h.closed ≡ b → AllByRecursion (λ k. some_open k ((m, HeadRow h) ∷ xs) ≡ true) (open_matters xs) → AllByRecursion (λ k. some_open k ((m, HeadRow h) ∷ xs) ≡ true) (cond b (m ∷ open_matters xs) (open_matters xs))
+    cases true is more = ((rw (itself m) (rw is refl)), more)
+    cases false is more = more
+listed ((m, SeatRow s) ∷ xs) = listed xs
+listed ((m, EntryRow n e) ∷ xs) = listed xs
+
+lines-open : (firm : Firm) (ks : List ℕ) → AllByRecursion (λ k. is_open (of k firm).head ≡ true) ks → AllByRecursion (λ (l : TrialLine). is_open (of l.matter firm).head ≡ true) (map (λ m. record { matter = m; ledger = ledger (of m firm).entries }) ks)
+lines-open firm [] all = tt
+lines-open firm (k ∷ ks) all = (all.0, lines-open firm ks all.1)
+
+pub listed-open : ListedAreOpen
+listed-open firm order =
+    let same : (m : ℕ) → some_open m firm.rows ≡ is_open (of m firm).head = λ m.
+    sym (own-open m firm.rows)
+    ∙ (ap (some_open m) (ap (passing (λ x. x == m)) (sym (order.rows m)) ∙ own-put m (of m firm) firm.rows)
+    ∙ pairs-open m (of m firm)) in
+    lines-open firm (open_matters firm.rows) (all-more (λ k. some_open k firm.rows ≡ true) (λ k. is_open (of k firm).head ≡ true) (λ k is. sym (same k) ∙ is) (open_matters firm.rows) (listed firm.rows))

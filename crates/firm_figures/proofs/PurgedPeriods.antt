@@ -1,0 +1,60 @@
+-- Days whose records are whole after a purge.
+use Rattle.std.proofs.Common.{◌≡◌, ℕ, ◌≤◌, Bool, true, false, List, ◌++◌, Option, Some, None, refl, sym, ap, ◌∙◌, subst, arith}
+use Rattle.std.specs.Prelude.{IsSome, ◌||◌, nat_lt}
+use Rattle.std.specs.List.{filter, list_any}
+use Rattle.std.proofs.lemmas.Bool.{false≢true}
+use Rattle.std.proofs.lemmas.Bool.Decides.{nat_tests}
+use Rattle.std.proofs.lemmas.List.Folds.{list_any-append}
+use Rattle.matter_rows.specs.declared.head.Head.{Head}
+use Rattle.matter_rows.specs.Rows.{Rows, cleared_head, closed_on}
+use Rattle.matter_rows.specs.Laws.{Covered}
+use Rattle.trust_matter.specs.edit.Edit.{Edit}
+use Rattle.trust_matter.specs.edit.Edit.TheVariants as edit
+use Rattle.trust_matter.specs.Changes.{IsPlace, MatterChange, changed_by}
+use Rattle.firm_rows.specs.Firm.{Row, Firm, after_change, after_edit, cleared_by, entry_pairs, head_pairs, of, pairs, put, seat_pairs}
+use Rattle.firm_figures.specs.Purged.{IsClosedBy, IsPurge, PurgeChangesNoFigureLeft, PurgeChangesNoListLeft, is_day_after, is_period_purged, is_purged_after}
+use Rattle.firm_figures.proofs.PurgedFigures.{purge-changes-no_figure}
+use Rattle.firm_figures.proofs.PurgedLists.{purge-changes-no_list}
+
+or-first : (a b : Bool) → (a || b) ≡ false → a ≡ false
+or-first true b is = is
+or-first false b is = refl
+
+or-second : (a b : Bool) → (a || b) ≡ false → b ≡ false
+or-second true b is = absurd (cc)
+or-second false b is = is
+
+-- of the rows that are put, too, none passes
+none-put : (t : ℕ × Row → Bool) (m : ℕ) (rows : Rows) (joined : List (ℕ × Row)) → list_any t (put m rows joined) ≡ false → list_any t (head_pairs m rows.head) ≡ false
+none-put t m rows joined none =
+    let low = filter (λ p. nat_lt p.0 m) joined in
+    let high = filter (λ p. nat_lt m p.0) joined in
+    let rest = seat_pairs m rows.seats ++ entry_pairs m 1 rows.entries in
+    let own = or-second (list_any t low) (list_any t (pairs m rows ++ high)) (sym (list_any-append t low (pairs m rows ++ high)) ∙ none) in
+    let all = or-first (list_any t (pairs m rows)) (list_any t high) (sym (list_any-append t (pairs m rows) high) ∙ own) in
+    or-first (list_any t (head_pairs m rows.head)) (list_any t rest) (sym (list_any-append t (head_pairs m rows.head) rest) ∙ all)
+
+-- a matter that is no such one once it is purged was closed by the day
+closed-by : (p m day last : ℕ) (o : Option Head) → IsSome (closed_on o) → list_any (is_purged_after p) (head_pairs m (cleared_head o day last)) ≡ false → IsClosedBy p o
+closed-by p m day last None closed none = absurd (false≢true closed)
+closed-by p m day last (Some h) closed none = cases h.closed closed none
+  where
+    cases : (c : Option ℕ) → IsSome c → ((is_day_after p c) || false) ≡ false → (day : ℕ) × ((c ≡ Some day) × (day ≤ p))
+    cases None closed none = absurd (false≢true closed)
+    cases (Some close) closed none = (close, (refl, let off = or-first (nat_lt p close) false none in grind (arith, nat_tests)))
+
+-- after a purge no matter that was closed after the day is purged, and so not this one
+closed-left : (p m : ℕ) (change : MatterChange) (firm : Firm) → IsPurge m firm change → is_period_purged p (after_change m change firm) ≡ false → IsClosedBy p (of m firm).head
+unfolding is_period_purged
+closed-left p m change firm purge whole =
+    let left : Rows = changed_by (edit.Clear purge.day) change.last (of m firm) in
+    let same : after_change m change firm ≡ cleared_by m left firm = ap (λ (e : Edit). after_edit m e change.last firm) purge.clears in
+    let none : list_any (is_purged_after p) (put m left firm.rows) ≡ false = subst (λ (f : Firm). list_any (is_purged_after p) f.rows ≡ false) same whole in
+    let place : IsPlace (of m firm) (edit.Clear purge.day) = subst (IsPlace (of m firm)) purge.clears purge.fits.place in
+    closed-by p m purge.day change.last (of m firm).head place.0 (none-put (is_purged_after p) m left firm.rows none)
+
+pub no_figure-left : Covered → PurgeChangesNoFigureLeft
+no_figure-left law p m change firm sound purge whole = purge-changes-no_figure law p m change firm sound (closed-left p m change firm purge whole) purge
+
+pub no_list-left : Covered → PurgeChangesNoListLeft
+no_list-left law p m change firm sound purge whole = purge-changes-no_list law p m change firm sound (closed-left p m change firm purge whole) purge

@@ -1,0 +1,282 @@
+-- What a reconciler keeps of a firm's rows are its figures.
+use Rattle.std.proofs.Common.{◌≡◌, ℕ, Bool, true, false, not, cond, List, [], ◌∷◌, Option, Some, None, refl, sym, ap, ◌∙◌, arith}
+use Rattle.std.specs.Prelude.{ℤ, pos, ◌+ℤ◌, ◌-ℤ◌, ◌&&◌, ◌||◌, nat_le, fold, find}
+use Rattle.std.specs.List.{filter, flat_map}
+use Rattle.std.specs.Option.{option_map}
+use Rattle.std.specs.Int.{int_wrap, w128}
+use Rattle.std.proofs.lemmas.Int.{ints, int_wrap-add_left, int_wrap-add_right, int_wrap-sub_right, int_wrap_fits}
+use Rattle.trust_base.specs.declared.line.Line.{Line}
+use Rattle.matter_rows.specs.declared.deposit.Deposit.{Deposit}
+use Rattle.matter_rows.specs.declared.deposit.DepositState.{DepositState}
+use Rattle.matter_rows.specs.declared.deposit.DepositState.TheVariants as deposit
+use Rattle.matter_rows.specs.declared.payment.Payment.{Payment}
+use Rattle.matter_rows.specs.declared.payment.PaymentState.{PaymentState}
+use Rattle.matter_rows.specs.declared.payment.PaymentState.TheVariants as payment
+use Rattle.matter_rows.specs.declared.entry.Entry.{Entry}
+use Rattle.matter_rows.specs.declared.entry.Entry.TheVariants as entry
+use Rattle.matter_rows.specs.Events.{events_of}
+use Rattle.firm_rows.specs.declared.movement.Movement.{Movement}
+use Rattle.firm_rows.specs.declared.ledger.FirmLine.{FirmLine}
+use Rattle.firm_rows.specs.declared.ledger.StatementRow.{StatementRow}
+use Rattle.firm_rows.specs.Sums.{sum_of}
+use Rattle.firm_rows.specs.Firm.{Row, HeadRow, SeatRow, EntryRow, Firm}
+use Rattle.firm_figures.specs.Figures.{entries_in, is_event_by, is_moved_by, is_dated_by, is_counted, is_closing_of, transit, outstanding, journal, own_by, exceptions, matched, early, closing_on, figures}
+use Rattle.firm_figures.specs.Reconciling.{transit_share, outstanding_share, ledger_share_by, matched_share, early_share, added, less, Tallies, no_tallies, with_row, with_movement, with_own, with_exception, with_balance_told, first_of, figures_kept, finished, all_taken, AreInRange, FiguresKept}
+use Rattle.firm_rows.proofs.Sums.{sum-same, sum-filter}
+use Rattle.firm_rows.proofs.Agree.{of_row, all-entries}
+use Rattle.firm_figures.proofs.DifferenceTold.{ledger_by, matched_by, early_by, transit-shares, outstanding-shares, ledger-shares, matched-shares, early-shares}
+
+-- An entry's shares are those of its events and lines.
+module _ (p : ℕ) where
+  once : (b : Bool) (z : ℤ) → cond b z (pos 0) -ℤ pos 0 ≡ cond b z (pos 0) +ℤ pos 0
+  once true z = omega (arith, ints)
+  once false z = omega (arith, ints)
+
+  twice : (b c : Bool) (z : ℤ) → cond b z (pos 0) -ℤ cond c z (pos 0) ≡ cond b z (pos 0) +ℤ (cond c (pos 0 -ℤ z) (pos 0) +ℤ pos 0)
+  twice true true z = omega (arith, ints)
+  twice true false z = omega (arith, ints)
+  twice false true z = omega (arith, ints)
+  twice false false z = omega (arith, ints)
+
+  back : (b c : Bool) (z : ℤ) → cond b (pos 0 -ℤ z) (pos 0) -ℤ cond c (pos 0 -ℤ z) (pos 0) ≡ cond b (pos 0 -ℤ z) (pos 0) +ℤ (cond c z (pos 0) +ℤ pos 0)
+  back true true z = omega (arith, ints)
+  back true false z = omega (arith, ints)
+  back false true z = omega (arith, ints)
+  back false false z = omega (arith, ints)
+
+  undoing : (b c : Bool) (z : ℤ) → cond b z (pos 0) -ℤ cond (c || false) z (pos 0) ≡ cond b z (pos 0) +ℤ (cond c (pos 0 -ℤ z) (pos 0) +ℤ pos 0)
+  undoing b true z = twice b true z
+  undoing b false z = twice b false z
+
+  voiding : (b c : Bool) (z : ℤ) → cond b (pos 0 -ℤ z) (pos 0) -ℤ cond (c || false) (pos 0 -ℤ z) (pos 0) ≡ cond b (pos 0 -ℤ z) (pos 0) +ℤ (cond c z (pos 0) +ℤ pos 0)
+  voiding b true z = back b true z
+  voiding b false z = back b false z
+
+  deposit-ledger : (d : Deposit) (s : DepositState) → ledger_share_by p (entry.Deposit (record d { state = s })) ≡ ledger_by p (entry.Deposit (record d { state = s }))
+  unfolding events_of
+  deposit-ledger d deposit.Held = once (nat_le d.book p) (pos d.amount)
+  deposit-ledger d (deposit.Cleared c) = once (nat_le d.book p) (pos d.amount)
+  deposit-ledger d (deposit.Returned r) = twice (nat_le d.book p) (nat_le r.undone p) (pos d.amount)
+  deposit-ledger d (deposit.Cancelled day) = undoing (nat_le d.book p) (nat_le day p) (pos d.amount)
+
+  payment-ledger : (y : Payment) (s : PaymentState) → ledger_share_by p (entry.Payment (record y { state = s })) ≡ ledger_by p (entry.Payment (record y { state = s }))
+  unfolding events_of
+  payment-ledger y payment.Proposed = refl
+  payment-ledger y payment.Declined = refl
+  payment-ledger y (payment.Issued day) = once (nat_le day p) (pos 0 -ℤ pos y.amount)
+  payment-ledger y (payment.Cleared c) = once (nat_le c.issued p) (pos 0 -ℤ pos y.amount)
+  payment-ledger y (payment.Voided v) = voiding (nat_le v.issued p) (nat_le v.undone p) (pos y.amount)
+
+  pub entry-ledger : (e : Entry) → ledger_share_by p e ≡ ledger_by p e
+  unfolding events_of
+  entry-ledger (entry.Deposit d) = deposit-ledger d d.state
+  entry-ledger (entry.Payment y) = payment-ledger y y.state
+  entry-ledger (entry.Fee f) = refl
+  entry-ledger (entry.Claim c) = refl
+
+  deposit-matched : (d : Deposit) (s : DepositState) → matched_share p (entry.Deposit (record d { state = s })) ≡ matched_by p (entry.Deposit (record d { state = s }))
+  deposit-matched d deposit.Held = refl
+  deposit-matched d (deposit.Cleared c) = once (nat_le c.bank_day p) (pos d.amount)
+  deposit-matched d (deposit.Returned r) = twice (nat_le r.clearing.bank_day p) (nat_le r.returning.bank_day p) (pos d.amount)
+  deposit-matched d (deposit.Cancelled day) = refl
+
+  payment-matched : (y : Payment) (s : PaymentState) → matched_share p (entry.Payment (record y { state = s })) ≡ matched_by p (entry.Payment (record y { state = s }))
+  payment-matched y payment.Proposed = refl
+  payment-matched y payment.Declined = refl
+  payment-matched y (payment.Issued day) = refl
+  payment-matched y (payment.Cleared c) = once (nat_le c.clearing.bank_day p) (pos 0 -ℤ pos y.amount)
+  payment-matched y (payment.Voided v) = refl
+
+  pub entry-matched : (e : Entry) → matched_share p e ≡ matched_by p e
+  entry-matched (entry.Deposit d) = deposit-matched d d.state
+  entry-matched (entry.Payment y) = payment-matched y y.state
+  entry-matched (entry.Fee f) = refl
+  entry-matched (entry.Claim c) = refl
+
+  deposit-early : (d : Deposit) (s : DepositState) → early_share p (entry.Deposit (record d { state = s })) ≡ early_by p (entry.Deposit (record d { state = s }))
+  deposit-early d deposit.Held = refl
+  deposit-early d (deposit.Cleared c) = once (nat_le c.bank_day p && not (nat_le d.book p)) (pos d.amount)
+  deposit-early d (deposit.Returned r) = twice (nat_le r.clearing.bank_day p && not (nat_le d.book p)) (nat_le r.returning.bank_day p && not (nat_le r.undone p)) (pos d.amount)
+  deposit-early d (deposit.Cancelled day) = refl
+
+  payment-early : (y : Payment) (s : PaymentState) → early_share p (entry.Payment (record y { state = s })) ≡ early_by p (entry.Payment (record y { state = s }))
+  payment-early y payment.Proposed = refl
+  payment-early y payment.Declined = refl
+  payment-early y (payment.Issued day) = refl
+  payment-early y (payment.Cleared c) = once (nat_le c.clearing.bank_day p && not (nat_le c.issued p)) (pos 0 -ℤ pos y.amount)
+  payment-early y (payment.Voided v) = refl
+
+  pub entry-early : (e : Entry) → early_share p e ≡ early_by p e
+  entry-early (entry.Deposit d) = deposit-early d d.state
+  entry-early (entry.Payment y) = payment-early y y.state
+  entry-early (entry.Fee f) = refl
+  entry-early (entry.Claim c) = refl
+
+-- Sums in 128 bits.
+
+abbrev wrapped : ℤ → ℤ
+wrapped z = int_wrap w128 z
+
+-- amounts added one at a time to a sum in 128 bits
+sums : {A : Type 0} (f : A → ℤ) (z : ℤ) (xs : List A) → fold (λ s x. added s (f x)) (wrapped z) xs ≡ wrapped (z +ℤ sum_of f xs)
+unfolding added
+sums f z [] = ap wrapped (omega (arith, ints))
+sums f z (x ∷ xs) =
+    ap (λ s. fold (λ s x. int_wrap w128 (s +ℤ f x)) s xs) (int_wrap-add_left w128 z (f x))
+    ∙ (sums f (z +ℤ f x) xs ∙ ap wrapped (omega (arith, ints)))
+
+-- What is kept after each kind of row.
+
+-- the sums in 128 bits
+abbrev kept : ℕ → Option ℤ → ℤ → ℤ → ℤ → ℤ → ℤ → ℤ → ℤ → ℤ → Tallies
+kept p c t o j l w x m y = record { day = p; closing = c; transit = wrapped t; outstanding = wrapped o; journal = wrapped j; entries = wrapped l; own = wrapped w; exceptions = wrapped x; matched = wrapped m; early = wrapped y }
+
+-- one share more, or none
+none-more : (z : ℤ) → z ≡ z +ℤ pos 0
+none-more z = omega (arith, ints)
+
+skipped : (z b : ℤ) → z +ℤ b ≡ z +ℤ (pos 0 +ℤ b)
+skipped z b = omega (arith, ints)
+
+later : (z a b : ℤ) → (z +ℤ a) +ℤ b ≡ z +ℤ (a +ℤ b)
+later z a b = omega (arith, ints)
+
+abbrev sum_rows : (Entry → ℤ) → List (ℕ × Row) → ℤ
+sum_rows g xs = sum_of (λ q. of_row g q.1) xs
+
+rows-fold : (p : ℕ) (c : Option ℤ) (t o j l w x m y : ℤ) (xs : List (ℕ × Row)) → fold with_row (kept p c t o j l w x m y) xs ≡ kept p c (t +ℤ sum_rows (transit_share p) xs) (o +ℤ sum_rows (outstanding_share p) xs) j (l +ℤ sum_rows (ledger_share_by p) xs) w x (m +ℤ sum_rows (matched_share p) xs) (y +ℤ sum_rows (early_share p) xs)
+unfolding added
+rows-fold p c t o j l w x m y [] = λ i. kept p c (none-more t i) (none-more o i) j (none-more l i) w x (none-more m i) (none-more y i)
+rows-fold p c t o j l w x m y ((n, HeadRow head) ∷ xs) =
+    rows-fold p c t o j l w x m y xs
+    ∙ (λ i. kept p c (skipped t (sum_rows (transit_share p) xs) i) (skipped o (sum_rows (outstanding_share p) xs) i) j (skipped l (sum_rows (ledger_share_by p) xs) i) w x (skipped m (sum_rows (matched_share p) xs) i) (skipped y (sum_rows (early_share p) xs) i))
+rows-fold p c t o j l w x m y ((n, SeatRow seat) ∷ xs) =
+    rows-fold p c t o j l w x m y xs
+    ∙ (λ i. kept p c (skipped t (sum_rows (transit_share p) xs) i) (skipped o (sum_rows (outstanding_share p) xs) i) j (skipped l (sum_rows (ledger_share_by p) xs) i) w x (skipped m (sum_rows (matched_share p) xs) i) (skipped y (sum_rows (early_share p) xs) i))
+rows-fold p c t o j l w x m y ((n, EntryRow number e) ∷ xs) =
+    (λ i. fold with_row (record { day = p; closing = c; transit = int_wrap-add_left w128 t (transit_share p e) i; outstanding = int_wrap-add_left w128 o (outstanding_share p e) i; journal = wrapped j; entries = int_wrap-add_left w128 l (ledger_share_by p e) i; own = wrapped w; exceptions = wrapped x; matched = int_wrap-add_left w128 m (matched_share p e) i; early = int_wrap-add_left w128 y (early_share p e) i }) xs)
+    ∙ (rows-fold p c (t +ℤ transit_share p e) (o +ℤ outstanding_share p e) j (l +ℤ ledger_share_by p e) w x (m +ℤ matched_share p e) (y +ℤ early_share p e) xs
+    ∙ (λ i. kept p c (later t (transit_share p e) (sum_rows (transit_share p) xs) i) (later o (outstanding_share p e) (sum_rows (outstanding_share p) xs) i) j (later l (ledger_share_by p e) (sum_rows (ledger_share_by p) xs) i) w x (later m (matched_share p e) (sum_rows (matched_share p) xs) i) (later y (early_share p e) (sum_rows (early_share p) xs) i)))
+
+movements-fold : (s : Tallies) (vs : List Movement) → fold with_movement s vs ≡ record s { journal = fold (λ z v. added z (cond (is_moved_by s.day v) v.amount (pos 0))) s.journal vs }
+movements-fold s [] = refl
+movements-fold s (v ∷ vs) = movements-fold (with_movement s v) vs
+
+own-fold : (s : Tallies) (ls : List FirmLine) → fold with_own s ls ≡ record s { own = fold (λ z l. added z (cond (is_dated_by s.day l) l.amount (pos 0))) s.own ls }
+own-fold s [] = refl
+own-fold s (l ∷ ls) = own-fold (with_own s l) ls
+
+exceptions-fold : (s : Tallies) (ls : List Line) → fold with_exception s ls ≡ record s { exceptions = fold (λ z l. added z (cond (is_counted s.day l) l.amount (pos 0))) s.exceptions ls }
+exceptions-fold s [] = refl
+exceptions-fold s (l ∷ ls) = exceptions-fold (with_exception s l) ls
+
+first-none : (c : Option ℤ) → c ≡ first_of c None
+first-none None = refl
+first-none (Some z) = refl
+
+first-more : (c : Option ℤ) (b : Bool) (r : StatementRow) (rest : Option StatementRow) → first_of (first_of c (cond b (Some r.amount) None)) (option_map (λ r. r.amount) rest) ≡ first_of c (option_map (λ r. r.amount) (cond b (Some r) rest))
+first-more None true r rest = refl
+first-more None false r rest = refl
+first-more (Some z) b r rest = refl
+
+balances-fold : (s : Tallies) (rs : List StatementRow) → fold with_balance_told s rs ≡ record s { closing = first_of s.closing (closing_on s.day rs) }
+balances-fold s [] = λ i. record s { closing = first-none s.closing i }
+balances-fold s (r ∷ rs) = balances-fold (with_balance_told s r) rs ∙ (λ i. record s { closing = first-more s.closing (is_closing_of s.day r) r (find (is_closing_of s.day) rs) i })
+
+-- All rows.
+
+zero-fits : wrapped (pos 0) ≡ pos 0
+unfolding int_wrap
+zero-fits = refl
+
+-- the events of the entries by p, added up
+abbrev told_by : ℕ → Firm → ℤ
+told_by p firm = sum_of (λ e. e.amount) (filter (is_event_by p) (flat_map events_of (entries_in firm.rows)))
+
+pub taken-kept : (p : ℕ) (firm : Firm) → all_taken p firm ≡ kept p (closing_on p firm.balances) (transit p firm) (outstanding p firm) (journal p firm) (told_by p firm) (own_by p firm) (exceptions p firm) (matched p firm) (early p firm)
+taken-kept p firm =
+    let z = pos 0 in
+    let rows = firm.rows in
+    let start : no_tallies p ≡ kept p None z z z z z z z z = λ i. record { day = p; closing = None; transit = sym zero-fits i; outstanding = sym zero-fits i; journal = sym zero-fits i; entries = sym zero-fits i; own = sym zero-fits i; exceptions = sym zero-fits i; matched = sym zero-fits i; early = sym zero-fits i } in
+    let t : z +ℤ sum_rows (transit_share p) rows ≡ transit p firm = omega (arith, ints, all-entries (transit_share p) rows, transit-shares p firm) in
+    let o : z +ℤ sum_rows (outstanding_share p) rows ≡ outstanding p firm = omega (arith, ints, all-entries (outstanding_share p) rows, outstanding-shares p firm) in
+    let l : z +ℤ sum_rows (ledger_share_by p) rows ≡ told_by p firm = omega (arith, ints, all-entries (ledger_share_by p) rows, sum-same (ledger_share_by p) (ledger_by p) (entries_in rows) (entry-ledger p), ledger-shares p firm) in
+    let m : z +ℤ sum_rows (matched_share p) rows ≡ matched p firm = omega (arith, ints, all-entries (matched_share p) rows, sum-same (matched_share p) (matched_by p) (entries_in rows) (entry-matched p), matched-shares p firm) in
+    let y : z +ℤ sum_rows (early_share p) rows ≡ early p firm = omega (arith, ints, all-entries (early_share p) rows, sum-same (early_share p) (early_by p) (entries_in rows) (entry-early p), early-shares p firm) in
+    let j : z +ℤ sum_of (λ v. cond (is_moved_by p v) v.amount (pos 0)) firm.movements ≡ journal p firm = omega (arith, ints, sum-filter (is_moved_by p) (λ (v : Movement). v.amount) firm.movements) in
+    let w : z +ℤ sum_of (λ l. cond (is_dated_by p l) l.amount (pos 0)) firm.firm_lines ≡ own_by p firm = omega (arith, ints, sum-filter (is_dated_by p) (λ (l : FirmLine). l.amount) firm.firm_lines) in
+    let x : z +ℤ sum_of (λ l. cond (is_counted p l) l.amount (pos 0)) firm.exceptions ≡ exceptions p firm = omega (arith, ints, sum-filter (is_counted p) (λ (l : Line). l.amount) firm.exceptions) in
+    let c = closing_on p firm.balances in
+    let after_rows : fold with_row (no_tallies p) rows ≡ kept p None (transit p firm) (outstanding p firm) z (told_by p firm) z z (matched p firm) (early p firm) =
+    ap (λ s. fold with_row s rows) start ∙ (rows-fold p None z z z z z z z z rows ∙ (λ i. kept p None (t i) (o i) z (l i) z z (m i) (y i))) in
+    let after_movements : fold with_movement (fold with_row (no_tallies p) rows) firm.movements ≡ kept p None (transit p firm) (outstanding p firm) (journal p firm) (told_by p firm) z z (matched p firm) (early p firm) =
+    ap (λ s. fold with_movement s firm.movements) after_rows
+    ∙ (movements-fold (kept p None (transit p firm) (outstanding p firm) z (told_by p firm) z z (matched p firm) (early p firm)) firm.movements
+    ∙ (λ i. record (kept p None (transit p firm) (outstanding p firm) z (told_by p firm) z z (matched p firm) (early p firm)) { journal = (sums (λ v. cond (is_moved_by p v) v.amount (pos 0)) z firm.movements ∙ ap wrapped j) i })) in
+    let after_own : fold with_own (fold with_movement (fold with_row (no_tallies p) rows) firm.movements) firm.firm_lines ≡ kept p None (transit p firm) (outstanding p firm) (journal p firm) (told_by p firm) (own_by p firm) z (matched p firm) (early p firm) =
+    ap (λ s. fold with_own s firm.firm_lines) after_movements
+    ∙ (own-fold (kept p None (transit p firm) (outstanding p firm) (journal p firm) (told_by p firm) z z (matched p firm) (early p firm)) firm.firm_lines
+    ∙ (λ i. record (kept p None (transit p firm) (outstanding p firm) (journal p firm) (told_by p firm) z z (matched p firm) (early p firm)) { own = (sums (λ l. cond (is_dated_by p l) l.amount (pos 0)) z firm.firm_lines ∙ ap wrapped w) i })) in
+    let after_exceptions : fold with_exception (fold with_own (fold with_movement (fold with_row (no_tallies p) rows) firm.movements) firm.firm_lines) firm.exceptions ≡ kept p None (transit p firm) (outstanding p firm) (journal p firm) (told_by p firm) (own_by p firm) (exceptions p firm) (matched p firm) (early p firm) =
+    ap (λ s. fold with_exception s firm.exceptions) after_own
+    ∙ (exceptions-fold (kept p None (transit p firm) (outstanding p firm) (journal p firm) (told_by p firm) (own_by p firm) z (matched p firm) (early p firm)) firm.exceptions
+    ∙ (λ i. record (kept p None (transit p firm) (outstanding p firm) (journal p firm) (told_by p firm) (own_by p firm) z (matched p firm) (early p firm)) { exceptions = (sums (λ l. cond (is_counted p l) l.amount (pos 0)) z firm.exceptions ∙ ap wrapped x) i })) in
+    ap (λ s. fold with_balance_told s firm.balances) after_exceptions
+    ∙ balances-fold (kept p None (transit p firm) (outstanding p firm) (journal p firm) (told_by p firm) (own_by p firm) (exceptions p firm) (matched p firm) (early p firm)) firm.balances
+
+-- The figures.
+
+less-right : (a b : ℤ) → less a (wrapped b) ≡ wrapped (a -ℤ b)
+unfolding less
+less-right a b = int_wrap-sub_right w128 a b
+
+less-both : (a b : ℤ) → less (wrapped a) (wrapped b) ≡ wrapped (a -ℤ b)
+unfolding less
+less-both a b =
+    let turn : (x : ℤ) → x -ℤ b ≡ x +ℤ (pos 0 -ℤ b) = λ x. omega (arith, ints) in
+    int_wrap-sub_right w128 (wrapped a) b ∙ (ap wrapped (turn (wrapped a)) ∙ (int_wrap-add_left w128 a (pos 0 -ℤ b) ∙ ap wrapped (sym (turn a))))
+
+added-left : (a b : ℤ) → added (wrapped a) b ≡ wrapped (a +ℤ b)
+unfolding added
+added-left a b = int_wrap-add_left w128 a b
+
+added-both : (a b : ℤ) → added (wrapped a) (wrapped b) ≡ wrapped (a +ℤ b)
+unfolding added
+added-both a b = int_wrap-add_left w128 a (wrapped b) ∙ int_wrap-add_right w128 a b
+
+swapped : (a b o : ℤ) → (a +ℤ b) -ℤ o ≡ (b +ℤ a) -ℤ o
+swapped a b o = omega (arith, ints)
+
+kept-figures : (p : ℕ) (c : Option ℤ) (closing : ℤ) (firm : Firm) → AreInRange (figures p closing firm) → figures_kept (kept p c (transit p firm) (outstanding p firm) (journal p firm) (told_by p firm) (own_by p firm) (exceptions p firm) (matched p firm) (early p firm)) closing ≡ figures p closing firm
+kept-figures p c closing firm fits =
+    let t = transit p firm in
+    let o = outstanding p firm in
+    let j = journal p firm in
+    let adjusting : less (added (wrapped t) closing) (wrapped o) ≡ wrapped ((closing +ℤ t) -ℤ o) = ap (λ z. less z (wrapped o)) (added-left t closing) ∙ (less-both (t +ℤ closing) o ∙ ap wrapped (swapped t closing o)) in
+    let adjusted = adjusting ∙ int_wrap_fits w128 ((closing +ℤ t) -ℤ o) fits.adjusted in
+    let difference = ap (λ z. less z (wrapped j)) adjusting ∙ (less-both ((closing +ℤ t) -ℤ o) j ∙ int_wrap_fits w128 (((closing +ℤ t) -ℤ o) -ℤ j) fits.difference) in
+    let ledgers = added-both (told_by p firm) (own_by p firm) ∙ int_wrap_fits w128 (told_by p firm +ℤ own_by p firm) fits.ledgers in
+    let gap =
+    ap (λ z. less (less z (wrapped (own_by p firm))) (wrapped (exceptions p firm))) (less-right closing (matched p firm))
+    ∙ (ap (λ z. less z (wrapped (exceptions p firm))) (less-both (closing -ℤ matched p firm) (own_by p firm))
+    ∙ (less-both ((closing -ℤ matched p firm) -ℤ own_by p firm) (exceptions p firm)
+    ∙ int_wrap_fits w128 (((closing -ℤ matched p firm) -ℤ own_by p firm) -ℤ exceptions p firm) fits.gap)) in
+    λ i. record {
+      closing = closing;
+      transit = int_wrap_fits w128 t fits.transit i;
+      outstanding = int_wrap_fits w128 o fits.outstanding i;
+      adjusted = adjusted i;
+      journal = int_wrap_fits w128 j fits.journal i;
+      ledgers = ledgers i;
+      difference = difference i;
+      exceptions = int_wrap_fits w128 (exceptions p firm) fits.exceptions i;
+      early = int_wrap_fits w128 (early p firm) fits.early i;
+      gap = gap i;
+    }
+
+pub figures-kept : FiguresKept
+figures-kept p firm fits = ap finished (taken-kept p firm) ∙ cases (closing_on p firm.balances) fits
+  where
+    cases : (c : Option ℤ) → ((closing : ℤ) → c ≡ Some closing → AreInRange (figures p closing firm)) → finished (kept p c (transit p firm) (outstanding p firm) (journal p firm) (told_by p firm) (own_by p firm) (exceptions p firm) (matched p firm) (early p firm)) ≡ option_map (λ closing. figures p closing firm) c
+    cases None fits = refl
+    cases (Some closing) fits = ap Some (kept-figures p (Some closing) closing firm (fits closing refl))

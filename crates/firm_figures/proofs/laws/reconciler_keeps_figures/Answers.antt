@@ -1,0 +1,12 @@
+use Rattle.firm_figures.proofs.Reconciling.{figures-kept}
+use Rattle.firm_figures.proofs.Sizes.{figures-fit, figures-told}
+use Rattle.firm_figures.proofs.laws.reconciler_keeps_figures.Goals as goal
+
+pub returns-clause-kept : goal.returns-clause-kept
+returns-clause-kept c = figures-kept
+
+pub returns-clause-fit : goal.returns-clause-fit
+returns-clause-fit c = figures-fit
+
+pub returns-clause-told : goal.returns-clause-told
+returns-clause-told c = figures-told

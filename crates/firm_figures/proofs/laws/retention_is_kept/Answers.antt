@@ -1,0 +1,5 @@
+use Rattle.firm_figures.proofs.Retained.{retention-kept}
+use Rattle.firm_figures.proofs.laws.retention_is_kept.Goals as goal
+
+pub returns : goal.returns
+returns c = retention-kept

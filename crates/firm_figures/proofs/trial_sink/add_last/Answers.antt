@@ -1,0 +1,18 @@
+use Rattle.std.proofs.Common.{length, set, ◌-◌, ap, ◌∙◌, sym, ℤ, w64}
+use Rattle.std.proofs.lemmas.Int.{to_z-of_z}
+use Rattle.firm_figures.specs.Reconciling.{added}
+use Rattle.firm_figures.specs.declared.trial_sink.TrialLine.{TrialLine}
+use Rattle.firm_figures.proofs.Lasts.{last-on, last-off}
+use Rattle.firm_figures.proofs.trial_sink.add_last.Goals as goal
+
+pub returns-then-eq : goal.returns-then-eq
+returns-then-eq c =
+    let item = c.in-Some.ensures.item in
+    ap (λ (l : TrialLine). set c.args.lines.now (length c.args.lines.now - 1) l) c.add.ensures
+    ∙ ap (λ (a : ℤ). set c.args.lines.now (length c.args.lines.now - 1) (record { matter = c.in-Some.line.now.matter; ledger = added c.in-Some.line.now.ledger a })) (to_z-of_z w64 c.args.amount c.ranges.amount)
+    ∙ last-on c.args.matter c.args.amount c.args.lines.now c.in-Some.line.now item.3.0 item.1 (sym c.eq.ensures ∙ c.if-eq.true)
+
+pub returns-else-eq : goal.returns-else-eq
+returns-else-eq c =
+    let item = c.in-Some.ensures.item in
+    last-off c.args.matter c.args.amount c.args.lines.now c.in-Some.line.now item.3.0 item.1 (sym c.eq.ensures ∙ c.if-eq.false)

@@ -1,0 +1,77 @@
+-- OPENING: openings that differ from the latest closing before them.
+use Rattle.std.specs.Prelude.{◌≡◌, ℕ, Bool, true, not, ◌&&◌, nat_le, nat_lt, List, [], ◌∷◌, ◌++◌, Option, Some, None, fold, if◌then◌else◌}
+use Rattle.std.specs.List.{AllByRecursion, flat_map}
+use Rattle.std.specs.List.Sorted.{IsNonDecreasingBy, IsStrictlySortedBy}
+use Rattle.std.specs.Ordering.{int_eq}
+use Rattle.firm_rows.specs.declared.ledger.StatementRow.{StatementRow}
+use Rattle.firm_rows.specs.FirmLines.{balance_cmp}
+use Rattle.firm_figures.specs.declared.openings.OpeningLine.{OpeningLine}
+use Rattle.firm_figures.specs.Figures.{is_closing}
+
+-- a closing dated before a day
+abbrev pub is_closing_before : ℕ → StatementRow → Bool
+is_closing_before day r = is_closing r.kind && nat_lt r.day day
+
+-- the last of them in the list, which is the latest where the balances ascend
+abbrev pub latest_before : ℕ → List StatementRow → Option StatementRow
+latest_before day rows = fold (λ found r. if is_closing_before day r then Some r else found) None rows
+
+-- an opening after a closing of another amount
+abbrev pub after_closing : StatementRow → Option StatementRow → List OpeningLine
+after_closing r None = []
+after_closing r (Some c) =
+    if int_eq r.amount c.amount
+    then []
+    else (record { day = r.day; amount = r.amount; after = c.day; closing = c.amount } ∷ [])
+
+-- an opening dated by p
+abbrev pub is_opening_by : ℕ → StatementRow → Bool
+is_opening_by p r = not (is_closing r.kind) && nat_le r.day p
+
+abbrev pub opening_line : List StatementRow → ℕ → StatementRow → List OpeningLine
+opening_line rows p r = if is_opening_by p r then after_closing r (latest_before r.day rows) else []
+
+-- OPENING
+abbrev pub opening_list : ℕ → List StatementRow → List OpeningLine
+opening_list p rows = flat_map (opening_line rows p) rows
+
+-- What is kept of the balances handed over one at a time.
+
+-- those dated by the day, openings and closings apart
+pub record BalancesKept : Type 0 where
+  pub day : ℕ
+  pub openings : List StatementRow
+  pub closings : List StatementRow
+
+abbrev pub no_balances : ℕ → BalancesKept
+no_balances p = record { day = p; openings = []; closings = [] }
+
+abbrev pub with_dated : BalancesKept → StatementRow → BalancesKept
+with_dated s r =
+    if is_closing r.kind
+    then record s { closings = s.closings ++ r ∷ [] }
+    else record s { openings = s.openings ++ r ∷ [] }
+
+abbrev pub with_balance_kept : BalancesKept → StatementRow → BalancesKept
+with_balance_kept s r = if nat_le r.day s.day then with_dated s r else s
+
+-- closings that ascend by their days
+pub record AreClosings (rows : List StatementRow) : Type 0 where
+  pub rising : IsNonDecreasingBy (λ (r : StatementRow). r.day) rows
+  pub closings : AllByRecursion (λ (r : StatementRow). is_closing r.kind ≡ true) rows
+
+-- the lines of openings, each after the latest of these closings before it
+abbrev pub openings_after : List StatementRow → List StatementRow → List OpeningLine
+openings_after closings openings =
+    flat_map (λ (r : StatementRow). after_closing r (latest_before r.day closings)) openings
+
+abbrev pub openings_kept : BalancesKept → List OpeningLine
+openings_kept s = openings_after s.closings s.openings
+
+-- what is kept of all balances has the openings that differ, and of balances in order the closings ascend
+pub record AreOpeningsKept (p : ℕ) (rows : List StatementRow) : Type 0 where
+  pub lines : openings_kept (fold with_balance_kept (no_balances p) rows) ≡ opening_list p rows
+  pub rising : IsStrictlySortedBy balance_cmp rows → AreClosings (fold with_balance_kept (no_balances p) rows).closings
+
+abbrev pub OpeningsKept : Type 0
+OpeningsKept = (p : ℕ) (rows : List StatementRow) → AreOpeningsKept p rows

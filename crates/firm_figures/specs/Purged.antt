@@ -1,0 +1,89 @@
+-- When the records of a day are no longer whole, and what purging a matter leaves of the figures and lists as of a day.
+use Rattle.std.specs.Prelude.{◌≡◌, ℕ, ◌≤◌, Bool, false, ◌&&◌, ◌||◌, nat_lt, Option, Some, None}
+use Rattle.std.specs.List.{list_any}
+use Rattle.matter_rows.specs.declared.head.Head.{Head}
+use Rattle.trust_matter.specs.edit.Edit.TheVariants as edit
+use Rattle.matter_rows.specs.Rows.{closed_on, is_of_nobody}
+use Rattle.trust_matter.specs.Changes.{MatterChange, IsChange}
+use Rattle.firm_rows.specs.Firm.{Row, HeadRow, SeatRow, EntryRow, Firm, of, after_change}
+use Rattle.firm_rows.specs.FirmSound.{FirmSound}
+use Rattle.firm_figures.specs.Figures.{figures_on}
+use Rattle.firm_figures.specs.Listing.{transit_list, out_list, early_list, exception_list}
+
+-- Days whose figures a purge may have taken away.
+
+abbrev pub is_day_after : ℕ → Option ℕ → Bool
+is_day_after p None = false
+is_day_after p (Some day) = nat_lt p day
+
+-- the matter was purged, and had been closed after p
+abbrev pub is_head_purged_after : ℕ → Head → Bool
+is_head_purged_after p head = is_of_nobody head.holder && is_day_after p head.closed
+
+abbrev pub is_purged_after : ℕ → ℕ × Row → Bool
+is_purged_after p (m, HeadRow head) = is_head_purged_after p head
+is_purged_after p (m, SeatRow seat) = false
+is_purged_after p (m, EntryRow number entry) = false
+
+-- some matter that was closed after p has been purged, so that the records of p are no longer whole
+unfoldable pub is_period_purged : ℕ → Firm → Bool
+is_period_purged p firm = list_any (is_purged_after p) firm.rows
+
+-- what is kept of the heads handed over: whether one of them is such a matter's
+pub record PeriodKept : Type 0 where
+  pub day : ℕ
+  pub purged : Bool
+
+abbrev pub whole_period : ℕ → PeriodKept
+whole_period p = record { day = p; purged = false }
+
+abbrev pub with_row_purged : PeriodKept → ℕ × Row → PeriodKept
+with_row_purged s row = record s { purged = is_purged_after s.day row || s.purged }
+
+-- What a purge leaves.
+
+-- the matter was closed on the day or earlier
+abbrev pub IsClosedBy : ℕ → Option Head → Type 0
+IsClosedBy p head = (day : ℕ) × ((closed_on head ≡ Some day) × (day ≤ p))
+
+-- the change purges the matter whose rows it is decided on
+pub record IsPurge (m : ℕ) (firm : Firm) (change : MatterChange) : Type 0 where
+  pub fits : IsChange (of m firm) change
+  pub day : ℕ
+  pub clears : change.edit ≡ edit.Clear day
+
+-- the lists beside the figures, but for that of the payments of one instrument
+pub record AreListsLeft (p : ℕ) (before after : Firm) : Type 0 where
+  pub transit : transit_list p after ≡ transit_list p before
+  pub out : out_list p after ≡ out_list p before
+  pub early : early_list p after ≡ early_list p before
+  pub exceptions : exception_list p after ≡ exception_list p before
+
+-- purging a matter of a sound firm changes no figure of a day that is not before the matter's close, whatever the
+-- closing balance, nor whether there is one
+abbrev pub PurgeChangesNoFigure : Type 0
+PurgeChangesNoFigure =
+    (p m : ℕ) (change : MatterChange) (firm : Firm)
+    → FirmSound firm → IsClosedBy p (of m firm).head → IsPurge m firm change
+    → figures_on p (after_change m change firm) ≡ figures_on p firm
+
+-- nor any of the lists
+abbrev pub PurgeChangesNoList : Type 0
+PurgeChangesNoList =
+    (p m : ℕ) (change : MatterChange) (firm : Firm)
+    → FirmSound firm → IsClosedBy p (of m firm).head → IsPurge m firm change
+    → AreListsLeft p firm (after_change m change firm)
+
+-- purging a matter of a sound firm changes no figure of a day whose records are whole afterwards
+abbrev pub PurgeChangesNoFigureLeft : Type 0
+PurgeChangesNoFigureLeft =
+    (p m : ℕ) (change : MatterChange) (firm : Firm)
+    → FirmSound firm → IsPurge m firm change → is_period_purged p (after_change m change firm) ≡ false
+    → figures_on p (after_change m change firm) ≡ figures_on p firm
+
+-- nor any of the lists
+abbrev pub PurgeChangesNoListLeft : Type 0
+PurgeChangesNoListLeft =
+    (p m : ℕ) (change : MatterChange) (firm : Firm)
+    → FirmSound firm → IsPurge m firm change → is_period_purged p (after_change m change firm) ≡ false
+    → AreListsLeft p firm (after_change m change firm)

@@ -1,0 +1,190 @@
+// The trial balance, from rows one at a time.
+
+ghost use Rattle.std.specs.Prelude.{◌≡◌, IfOk, fold, map};
+ghost use Rattle.firm_rows.specs.Firm.{Firm};
+ghost use Rattle.firm_rows.specs.FirmSound.{FirmSound};
+ghost use Rattle.firm_figures.specs.Copied.{row_pair};
+ghost use Rattle.firm_rows.specs.Journal.{ledger_share};
+ghost use Rattle.firm_figures.specs.Reconciling.{added};
+ghost use Rattle.firm_figures.specs.Lists.{TrialKept, no_trial, add_last, with_trial_row, with_trial_own, trial_sum, IsTrialBalance};
+ghost use Rattle.firm_figures.specs.declared.trial_sink.TrialLine.{TrialLine};
+
+use crate::firm_row::{FirmRow, hand_firm_lines, hand_rows};
+use crate::reconciler::{added, together};
+use firm_rows::{FirmLine, Movement, RowSink, StatementRow};
+use std::alloc::{AllocError, Global};
+use std::marker::Model;
+use trust_base::{EntryNo, Line, MatterNo};
+use trust_matter::{DepositState, Entry, Head, PaymentState, Seat};
+
+/// An open matter and its ledger, in cents.
+#[derive(Clone, Copy, Debug)]
+pub struct TrialLine {
+    pub matter: MatterNo,
+    pub ledger: i128,
+}
+
+/// The trial balance: the open matters by number with their ledgers, the firm's own balance, and the sum of all of
+/// them, in cents.
+#[derive(Drop)]
+pub struct TrialBalance {
+    pub lines: Vec<TrialLine>,
+    pub own: i128,
+    pub total: i128,
+}
+
+/// Lists the ledgers of the open matters, and adds up the firm's own.
+///
+/// Contracts see it as the lines and the firm's balance.
+#[derive(Drop)]
+pub struct TrialSink {
+    lines: Vec<TrialLine>,
+    own: i128,
+}
+
+impl Model for TrialSink {
+    ghost Value = { TrialKept };
+
+    ghost view = { λ s. record { lines = s.lines.items; own = s.own } };
+}
+
+// What an entry adds to the ledger of its matter.
+#[tactic(auto, unfolding(matter_rows::specs::Shares::total_share, matter_rows::specs::Shares::held_share))]
+fn ledger_share(entry: &Entry) -> i64
+    ensures { result ≡ ledger_share entry.now }
+{
+    match entry {
+        Entry::Deposit(deposit) => match &deposit.state {
+            DepositState::Held | DepositState::Cleared(_) => deposit.amount.get() as i64,
+            DepositState::Cancelled(_) | DepositState::Returned(_) => 0,
+        },
+        Entry::Payment(payment) => match &payment.state {
+            PaymentState::Issued(_) | PaymentState::Cleared(_) => -(payment.amount.get() as i64),
+            _ => 0,
+        },
+        Entry::Fee(_) | Entry::Claim(_) => 0,
+    }
+}
+
+impl TrialLine {
+    fn add(&mut self, amount: i64)
+        ensures { self.new ≡ record { matter = self.old.matter; ledger = added self.old.ledger amount } }
+    {
+        self.ledger = added(self.ledger, amount);
+    }
+}
+
+// Adds an amount to the last line, where it is of this matter.
+fn add_last(lines: &mut [TrialLine], matter: MatterNo, amount: i64)
+    ensures { lines.new ≡ add_last matter amount lines.old }
+{
+    if let Some(line) = lines.last_mut() {
+        if line.matter == matter {
+            line.add(amount);
+        }
+    }
+}
+
+// The ledgers and the firm's own balance, added up.
+fn total_of(lines: &[TrialLine], own: i128) -> i128
+    ensures { result ≡ fold (λ z (l : TrialLine). added z l.ledger) own lines.now }
+{
+    let mut total = own;
+    for line in lines {
+        total = together(total, line.ledger);
+    }
+    total
+}
+
+impl TrialSink {
+    /// Begins without a row.
+    pub fn new(alloc: Global) -> TrialSink
+        ensures { result ≡ no_trial }
+    {
+        TrialSink {
+            lines: Vec::new(alloc),
+            own: 0,
+        }
+    }
+
+    /// The trial balance.
+    pub fn finish(self) -> TrialBalance
+        ensures lines { result.lines.items ≡ self.lines }
+        ensures own { result.own ≡ self.own }
+        ensures total { result.total ≡ trial_sum self }
+    {
+        let total = total_of(self.lines.as_slice(), self.own);
+        TrialBalance {
+            lines: self.lines,
+            own: self.own,
+            total,
+        }
+    }
+}
+
+impl RowSink for TrialSink {
+    ghost stepped = { with_trial_row };
+
+    ghost noted = { λ s line. s };
+
+    ghost moved = { λ s movement. s };
+
+    ghost lined = { with_trial_own };
+
+    ghost balanced = { λ s row. s };
+
+    fn head(&mut self, matter: MatterNo, head: &Head) -> Result<(), AllocError> {
+        if head.closed.is_none() {
+            self.lines.push(TrialLine { matter, ledger: 0 })?;
+        }
+        Ok(())
+    }
+
+    fn seat(&mut self, _matter: MatterNo, _seat: &Seat) -> Result<(), AllocError> {
+        Ok(())
+    }
+
+    fn entry(
+        &mut self,
+        matter: MatterNo,
+        _number: EntryNo,
+        entry: &Entry,
+    ) -> Result<(), AllocError> {
+        let amount = ledger_share(entry);
+        add_last(&mut self.lines, matter, amount);
+        Ok(())
+    }
+
+    fn exception(&mut self, _line: &Line) -> Result<(), AllocError> {
+        Ok(())
+    }
+
+    fn movement(&mut self, _movement: &Movement) -> Result<(), AllocError> {
+        Ok(())
+    }
+
+    fn firm_line(&mut self, line: &FirmLine) -> Result<(), AllocError> {
+        self.own = added(self.own, line.amount.get());
+        Ok(())
+    }
+
+    fn balance(&mut self, _row: &StatementRow) -> Result<(), AllocError> {
+        Ok(())
+    }
+}
+
+/// The trial balance of rows and lines of the firm's own in memory, where they are those of a sound firm. Fails only
+/// for want of memory.
+pub fn trial_balance(
+    alloc: Global,
+    rows: &[FirmRow],
+    firm_lines: &[FirmLine],
+) -> Result<TrialBalance, AllocError>
+    ensures { (firm : Firm) → FirmSound firm → firm.rows ≡ map row_pair rows.now → firm.firm_lines ≡ firm_lines.now
+        → IfOk result (IsTrialBalance firm) }
+{
+    let mut sink = TrialSink::new(alloc);
+    hand_rows(&mut sink, rows)?;
+    hand_firm_lines(&mut sink, firm_lines)?;
+    Ok(sink.finish())
+}

@@ -1,3 +1,0 @@
-pub mod Kept
-pub mod Reports
-pub use Rattle.trust_reports.specs.TextsOfLedgers

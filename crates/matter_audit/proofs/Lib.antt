@@ -1,4 +1,0 @@
-pub mod Audited
-pub mod Copied
-pub mod Drawn
-pub mod InPlace

@@ -1,8 +1,0 @@
-//! A law over the definitions, the contract of a function with nothing to do.
-
-ghost use Rattle.matter_audit.specs.Audit.{WholeIsSound};
-
-/// The whole of sound rows passes the test.
-pub fn whole_is_sound()
-    ensures { WholeIsSound }
-{}

@@ -1,2 +1,0 @@
-pub mod SoundExamples
-pub mod LastNumber

@@ -1,6 +1,0 @@
-pub mod Cases
-pub mod CasesLines
-pub mod CasesClaims
-pub mod CasesPayments
-pub mod CasesPurging
-pub mod Examples

@@ -1,0 +1,130 @@
+-- The whole of sound rows passes each test, and what passes each is that.
+use Rattle.std.specs.List.{AllByRecursion}
+use Rattle.std.proofs.Common.{◌≡◌, ℕ, ◌≤◌, true, List, length, map, refl, sym, subst, arith, Option, Some, None, pos}
+use Rattle.std.proofs.lemmas.Int.{ints}
+use Rattle.std.proofs.lemmas.List.{length-map}
+use Rattle.matter_rows.specs.declared.head.Head.{Head}
+use Rattle.matter_rows.specs.declared.seat.Seat.{Seat}
+use Rattle.matter_rows.specs.declared.entry.Entry.{Entry}
+use Rattle.matter_rows.specs.Rows.{Rows, closed_on}
+use Rattle.matter_rows.specs.Balances.{names}
+use Rattle.matter_rows.specs.Sound.{AreBacked, AreInOrder, IsRanged, Sound}
+use Rattle.matter_rows.specs.SoundRows.{IsSoundEntry, AreInForm}
+use Rattle.matter_rows.proofs.Exchange.{all-map}
+use Rattle.matter_parts.specs.declared.figures.Figures.{Figures}
+use Rattle.matter_parts.specs.declared.kept.Kept.{Kept}
+use Rattle.matter_parts.specs.Parts.{Part, IsWhole, AreEmptyIfClosed, AreFigures, entries_kept}
+use Rattle.matter_parts.proofs.WholeRows.{form-of, empty-of, sound-of}
+use Rattle.matter_parts.specs.Audit.{AreInPlace, IsSoundWhole, WholeIsSound, rows_kept}
+use Rattle.matter_parts.proofs.InPlace.{in-place, kept-of, lefts-of, numbered-of}
+
+-- what is tested of a matter
+pub record IsTested (m : Part) : Type 0 where
+  pub few : length m.kept ≤ 9_999
+  pub order : AreInOrder m.seats
+  pub form : AreInForm m.head m.seats (entries_kept m.kept)
+  pub totals : AreFigures m.figures (entries_kept m.kept)
+  pub empty : AreEmptyIfClosed (closed_on m.head) m.figures
+  pub place : AreInPlace (entries_kept m.kept) 1 m.kept
+
+ranged-of : (head : Option Head) (seats : List Seat) (es : List Entry) → AreInForm head seats es → AllByRecursion IsRanged es
+ranged-of None seats es form = let P : List Entry → Type 0 = AllByRecursion IsRanged in subst P (sym form.1) tt
+ranged-of (Some h) seats es form = all-map (IsSoundEntry h es) IsRanged es (λ e i. i.ranged) form.0.entries
+
+pub named-of : (head : Option Head) (seats : List Seat) (es : List Entry) → AreInForm head seats es → AllByRecursion (λ e. names es e ≡ true) es
+named-of None seats es form = let P : List Entry → Type 0 = λ l. AllByRecursion (λ e. names l e ≡ true) l in subst P (sym form.1) tt
+named-of (Some h) seats es form = all-map (IsSoundEntry h es) (λ e. names es e ≡ true) es (λ e i. i.named) form.0.entries
+
+backed-of : (m : Part) → IsTested m → AreBacked (entries_kept m.kept)
+backed-of m t =
+    let count = length-map m.kept (λ (k : Kept). k.entry) in
+    let few = t.few in
+    let available = t.totals.available in
+    record {
+      few = omega (arith, count, few);
+      ranged = ranged-of m.head m.seats (entries_kept m.kept) t.form;
+      named = named-of m.head m.seats (entries_kept m.kept) t.form;
+      available = omega (arith, ints, available);
+      left = lefts-of m.kept t.place;
+    }
+
+pub from-tests : (m : Part) → IsTested m → IsSoundWhole m
+from-tests m t = record {
+  sound = sound-of m.head m.seats (entries_kept m.kept) m.figures t.order t.form (backed-of m t) t.totals t.empty;
+  whole = record {
+    part = record { head = refl; seats = refl; figures = t.totals; kept = kept-of m.kept t.place };
+    entries = refl;
+    numbered = numbered-of (entries_kept m.kept) 1 m.kept t.place;
+  };
+}
+
+pub to-tests : (m : Part) → IsSoundWhole m → IsTested m
+to-tests m s =
+    let count = length-map m.kept (λ (k : Kept). k.entry) in
+    let few = s.sound.backed.few in
+    record {
+      few = omega (arith, count, few);
+      order = s.sound.seated;
+      form = form-of m.head m.seats (entries_kept m.kept) s.sound;
+      totals = s.whole.part.figures;
+      empty = empty-of m.head m.seats (entries_kept m.kept) m.figures s.sound s.whole.part.figures;
+      place = in-place (entries_kept m.kept) m.kept s.whole.numbered s.whole.part.kept;
+    }
+
+pub whole-sound : WholeIsSound
+whole-sound m rows sound whole =
+    let same : rows_kept m ≡ rows = λ i. record { head = whole.part.head i; seats = whole.part.seats i; entries = whole.entries i } in
+    record {
+      sound = subst (λ (r : Rows). Sound r) (sym same) sound;
+      whole = subst (λ (r : Rows). IsWhole m r) (sym same) whole;
+    }
+
+-- From the values that were tested.
+
+pub record AreOf (m : Part) (h : Option Head) (ss : List Seat) (es : List Entry) (f : Figures) (ks : List Kept) : Type 0 where
+  pub head : h ≡ m.head
+  pub seats : ss ≡ m.seats
+  pub entries : es ≡ entries_kept m.kept
+  pub figures : f ≡ m.figures
+  pub kept : ks ≡ m.kept
+
+abbrev Values : Type 0
+Values = Option Head × List Seat × List Entry × Figures × List Kept
+
+module _ (m : Part) (h : Option Head) (ss : List Seat) (es : List Entry) (f : Figures) (ks : List Kept) (of : AreOf m h ss es f ks) where
+  own : ◌≡◌ {A = Values} (m.head, m.seats, entries_kept m.kept, m.figures, m.kept) (h, ss, es, f, ks)
+  own = λ i. (sym of.head i, sym of.seats i, sym of.entries i, sym of.figures i, sym of.kept i)
+
+  pub order-in : IsSoundWhole m → AreInOrder ss
+  order-in s = subst (λ (v : Values). AreInOrder v.1) own (to-tests m s).order
+
+  pub form-in : IsSoundWhole m → AreInForm h ss es
+  form-in s = subst (λ (v : Values). AreInForm v.0 v.1 v.2) own (to-tests m s).form
+
+  pub totals-in : IsSoundWhole m → AreFigures f es
+  totals-in s = subst (λ (v : Values). AreFigures v.3 v.2) own (to-tests m s).totals
+
+  pub empty-in : IsSoundWhole m → AreEmptyIfClosed (closed_on h) f
+  empty-in s = subst (λ (v : Values). AreEmptyIfClosed (closed_on v.0) v.3) own (to-tests m s).empty
+
+  pub place-in : IsSoundWhole m → AreInPlace es 1 ks
+  place-in s = subst (λ (v : Values). AreInPlace v.2 1 v.4) own (to-tests m s).place
+
+  pub few-in : IsSoundWhole m → length es ≤ 9_999
+  few-in s = subst (λ (v : Values). length v.2 ≤ 9_999) own s.sound.backed.few
+
+  few-kept : length es ≤ 9_999 → length m.kept ≤ 9_999
+  few-kept few =
+      let count = length-map m.kept (λ (k : Kept). k.entry) in
+      let few : length (entries_kept m.kept) ≤ 9_999 = subst (λ (v : Values). length v.2 ≤ 9_999) (sym own) few in
+      omega (arith, count, few)
+
+  pub all-pass : length es ≤ 9_999 → AreInOrder ss → AreInForm h ss es → AreFigures f es → AreEmptyIfClosed (closed_on h) f → AreInPlace es 1 ks → IsSoundWhole m
+  all-pass few order form totals empty place = from-tests m (record {
+    few = few-kept few;
+    order = subst (λ (v : Values). AreInOrder v.1) (sym own) order;
+    form = subst (λ (v : Values). AreInForm v.0 v.1 v.2) (sym own) form;
+    totals = subst (λ (v : Values). AreFigures v.3 v.2) (sym own) totals;
+    empty = subst (λ (v : Values). AreEmptyIfClosed (closed_on v.0) v.3) (sym own) empty;
+    place = subst (λ (v : Values). AreInPlace v.2 1 v.4) (sym own) place;
+  })

@@ -1,0 +1,76 @@
+-- What is drawn on each entry, added up entry by entry.
+use Rattle.std.proofs.Common.{◌≡◌, ◌≢◌, ℕ, ◌+◌, ◌<◌, ◌≤◌, cond, true, false, List, length, get_or, set, replicate, eqb, refl, sym, ap, subst, arith, ◌∙◌, ℤ, pos, ◌+ℤ◌}
+use Rattle.std.proofs.lemmas.Bool.Decides.{nat_tests}
+use Rattle.std.proofs.lemmas.Int.{ints}
+use Rattle.std.proofs.lemmas.List.{length-set, get_or-set_same, get_or-set_other, get_or-replicate, get_or_read, length-replicate}
+use Rattle.matter_rows.specs.declared.entry.Entry.{Entry}
+use Rattle.matter_rows.specs.Shares.{IsSmallShare, draw, draw_on, target}
+use Rattle.matter_rows.proofs.Adding.{IsSumTo, IsSumOf, more, small-sum, start, whole}
+use Rattle.matter_rows.proofs.Keeping.{draw-apart}
+use Rattle.matter_parts.specs.Audit.{AreDrawn, IsUntargeted}
+
+-- what the first i entries draw on each
+pub record AreDrawnTo (es : List Entry) (i : ℕ) (drawn : List ℤ) : Type 0 where
+  pub count : length drawn ≡ length es
+  pub sums : (place : ℕ) → place < length es → IsSumTo (draw_on (place + 1)) es i (get_or drawn place (pos 0))
+
+pub drawn-none : (es : List Entry) (drawn : List ℤ) → drawn ≡ replicate (length es) (pos 0) → AreDrawnTo es 0 drawn
+drawn-none es drawn is = record {
+  count = ap length is ∙ length-replicate (length es) (pos 0);
+  sums = λ place inside.
+      let S : ℤ → Type 0 = IsSumTo (draw_on (place + 1)) es 0 in
+      let none : get_or drawn place (pos 0) ≡ pos 0 = ap (λ (l : List ℤ). get_or l place (pos 0)) is ∙ get_or-replicate (length es) place (pos 0) (pos 0) inside in
+      subst S (sym none) (start (draw_on (place + 1)) es);
+}
+
+-- what was read of a place
+pub read-sum : (es : List Entry) (i : ℕ) (drawn : List ℤ) (p : ℕ) (x : ℤ) → AreDrawnTo es i drawn → p < length es → x ≡ get_or drawn p x → (x ≡ get_or drawn p (pos 0)) × IsSumOf i x
+read-sum es i drawn p x so there at =
+    let count = so.count in
+    let is : x ≡ get_or drawn p (pos 0) = get_or_read drawn p x (omega (arith, count, there)) at (pos 0) in
+    (is, subst (λ (z : ℤ). IsSumOf i z) (sym is) (so.sums p there).small)
+
+-- an entry that draws nothing on the one of a number
+none-more : (es : List Entry) (n i : ℕ) (e : Entry) (z : ℤ) → IsSumTo (draw_on n) es i z → i < length es → e ≡ get_or es i e → draw_on n e ≡ pos 0 → IsSumTo (draw_on n) es (i + 1) z
+none-more es n i e z so inside at none =
+    let P : ℤ → Type 0 = IsSmallShare in
+    more (draw_on n) es i e z z so inside at (subst P (sym none) (record { low = omega (arith, ints); high = omega (arith, ints) })) (omega (arith, ints, none))
+
+-- with an entry that draws on none
+pub drawn-same : (es : List Entry) (i : ℕ) (drawn : List ℤ) (e : Entry) → AreDrawnTo es i drawn → i < length es → e ≡ get_or es i e → IsUntargeted e (length es) → AreDrawnTo es (i + 1) drawn
+drawn-same es i drawn e so inside at none = record {
+  count = so.count;
+  sums = λ place within. none-more es (place + 1) i e (get_or drawn place (pos 0)) (so.sums place within) inside at (draw-apart (place + 1) e (none place within));
+}
+
+-- with an entry that draws on the one of a place
+pub drawn-more : (es : List Entry) (i : ℕ) (drawn : List ℤ) (e : Entry) (p : ℕ) (w : ℤ) → AreDrawnTo es i drawn → i < length es → e ≡ get_or es i e → p < length es → target e ≡ p + 1 → IsSmallShare (draw e) → w ≡ get_or drawn p (pos 0) +ℤ draw e → AreDrawnTo es (i + 1) (set drawn p w)
+drawn-more es i drawn e p w so inside at there aims small is = record {
+  count = length-set drawn p w ∙ so.count;
+  sums = λ place within.
+      let count = so.count in
+      elim (eqb p place) as (λ b. eqb p place ≡ b → IsSumTo (draw_on (place + 1)) es (i + 1) (get_or (set drawn p w) place (pos 0))) [
+        | true ↦ λ s.
+            let same : p ≡ place = grind (arith, nat_tests) in
+            let D : ℕ → Type 0 = λ n. IsSumTo (draw_on (n + 1)) es (i + 1) (get_or (set drawn p w) n (pos 0)) in
+            let own : eqb (target e) (p + 1) ≡ true = grind (arith, nat_tests) in
+            let drawn_on : draw_on (p + 1) e ≡ draw e = rw own refl in
+            let P : ℤ → Type 0 = IsSmallShare in
+            let S : ℤ → Type 0 = IsSumTo (draw_on (p + 1)) es (i + 1) in
+            let written : get_or (set drawn p w) p (pos 0) ≡ w = get_or-set_same drawn p w (pos 0) (omega (arith, count, there)) in
+            subst D same (subst S (sym written) (more (draw_on (p + 1)) es i e (get_or drawn p (pos 0)) w (so.sums p there) inside at (subst P (sym drawn_on) small) (omega (arith, ints, is, drawn_on))))
+        | false ↦ λ s.
+            let apart : place ≢ p = grind (arith, nat_tests) in
+            let aside : target e ≢ place + 1 = grind (arith, nat_tests) in
+            let S : ℤ → Type 0 = IsSumTo (draw_on (place + 1)) es (i + 1) in
+            let kept : get_or (set drawn p w) place (pos 0) ≡ get_or drawn place (pos 0) = get_or-set_other drawn p place w (pos 0) apart in
+            subst S (sym kept) (none-more es (place + 1) i e (get_or drawn place (pos 0)) (so.sums place within) inside at (draw-apart (place + 1) e aside))
+      ] refl;
+}
+
+pub drawn-all : (es : List Entry) (i : ℕ) (drawn : List ℤ) → AreDrawnTo es i drawn → length es ≤ i → i ≤ length es → length es ≤ 9_999 → AreDrawn drawn es
+drawn-all es i drawn so past end few = record {
+  count = so.count;
+  sums = λ place within. whole (draw_on (place + 1)) es i (get_or drawn place (pos 0)) (so.sums place within) past;
+  small = λ place within. small-sum (draw_on (place + 1)) es i (get_or drawn place (pos 0)) (so.sums place within) end few;
+}

@@ -1,0 +1,144 @@
+-- Kept entries that have the numbers of their places, and what the entries leave of each.
+use Rattle.std.proofs.Common.{◌≡◌, ℕ, ◌+◌, ◌-◌, ◌<◌, ◌≤◌, ◌↔◌, cond, true, false, List, [], ◌∷◌, length, drop, get_or, eqb, sym, subst, arith, Option, Some, None, refl, ap, ℤ, pos, ◌-ℤ◌, ◌≤ℤ◌}
+use Rattle.std.proofs.lemmas.Bool.Decides.{nat_tests}
+use Rattle.std.proofs.lemmas.Int.{ints}
+use Rattle.matter_rows.specs.declared.entry.Entry.{Entry}
+use Rattle.matter_rows.specs.Rows.{entry_at}
+use Rattle.matter_rows.specs.Balances.{left_of}
+use Rattle.matter_rows.specs.Shares.{worth}
+use Rattle.matter_rows.proofs.Entries.{within}
+use Rattle.matter_rows.proofs.Tested.{rest-at, rest-none}
+use Rattle.matter_parts.specs.declared.kept.Kept.{Kept}
+use Rattle.matter_parts.specs.Parts.{AreKept, AreNumbered, IsEntryOf, entries_kept, kept_in}
+use Rattle.matter_parts.specs.Audit.{AreDrawn, AreInPlace, IsInPlace}
+
+-- Tested one after the other.
+
+pub place-next : (es : List Entry) (ks : List Kept) (i : ℕ) (k : Kept) → (AreInPlace es 1 ks ↔ AreInPlace es (i + 1) (drop i ks)) → i < length ks → k ≡ get_or ks i k → IsInPlace es (i + 1) k → AreInPlace es 1 ks ↔ AreInPlace es (i + 1 + 1) (drop (i + 1) ks)
+place-next es ks i k inv inside at here =
+    let P : List Kept → Type 0 = AreInPlace es (i + 1) in
+    let d = rest-at ks i k inside at in (
+      λ h. (subst P d (inv.0 h)).1,
+      λ h. inv.1 (subst P (sym d) (here, h)),
+    )
+
+pub place-fails : (es : List Entry) (ks : List Kept) (i : ℕ) (k : Kept) → (AreInPlace es 1 ks ↔ AreInPlace es (i + 1) (drop i ks)) → i < length ks → k ≡ get_or ks i k → (IsInPlace es (i + 1) k → ⊥) → AreInPlace es 1 ks → ⊥
+place-fails es ks i k inv inside at none h =
+    let P : List Kept → Type 0 = AreInPlace es (i + 1) in
+    none (subst P (rest-at ks i k inside at) (inv.0 h)).0
+
+pub place-done : (es : List Entry) (ks : List Kept) (i : ℕ) → (AreInPlace es 1 ks ↔ AreInPlace es (i + 1) (drop i ks)) → length ks ≤ i → AreInPlace es 1 ks
+place-done es ks i inv past =
+    let P : List Kept → Type 0 = AreInPlace es (i + 1) in
+    inv.1 (subst P (sym (rest-none ks i past)) tt)
+
+module _ (es : List Entry) (drawn : List ℤ) (i : ℕ) (k : Kept) (z : ℤ) (are : AreDrawn drawn es) (inside : i < length es) (is : z ≡ get_or drawn i (pos 0)) where
+  pub as-tested : IsInPlace es (i + 1) k → (k.number ≡ i + 1) × (pos k.left ≡ worth k.entry -ℤ z)
+  as-tested here =
+      let sum = are.sums i inside in
+      let left = here.left in
+      (here.number, omega (arith, ints, sum, left, is))
+
+  pub from-tested : (k.number ≡ i + 1) × (pos k.left ≡ worth k.entry -ℤ z) → IsInPlace es (i + 1) k
+  from-tested tested =
+      let sum = are.sums i inside in
+      let left = tested.1 in
+      record { number = tested.0; left = omega (arith, ints, sum, left, is) }
+
+-- As a matter that keeps them all.
+
+pub numbered-of : (es : List Entry) (n : ℕ) (ks : List Kept) → AreInPlace es n ks → AreNumbered n ks
+numbered-of es n [] here = tt
+numbered-of es n (k ∷ ks) here = (here.0.number, numbered-of es (n + 1) ks here.1)
+
+-- none has a lower number than the first
+found-from : (a n : ℕ) (ks : List Kept) (k : Kept) → AreNumbered a ks → kept_in ks n ≡ Some k → a ≤ n
+found-from a n [] k numbered found = absurd (cc)
+found-from a n (x ∷ ks) k numbered found =
+    let own : x.number ≡ a = numbered.0 in
+    elim (eqb x.number n) as (λ b. eqb x.number n ≡ b → cond b (Some x) (kept_in ks n) ≡ Some k → a ≤ n) [
+      | true ↦ λ s g. grind (arith, nat_tests)
+      | false ↦ λ s g. let more : a + 1 ≤ n = found-from (a + 1) n ks k numbered.1 g in omega arith
+    ] refl found
+
+-- entry n, of those that are kept from a on, is at the place n + 1 - a
+there-at : (a j n : ℕ) (ks : List Kept) (k : Kept) → AreNumbered a ks → kept_in ks n ≡ Some k → n + 1 ≡ a + j → entry_at (entries_kept ks) j ≡ Some k.entry
+there-at a j n [] k numbered found next = absurd (cc)
+there-at a j n (x ∷ ks) k numbered found next =
+    let own : x.number ≡ a = numbered.0 in
+    elim (eqb x.number n) as (λ b. eqb x.number n ≡ b → cond b (Some x) (kept_in ks n) ≡ Some k → cond (eqb j 1) (Some x.entry) (entry_at (entries_kept ks) (j - 1)) ≡ Some k.entry) [
+      | true ↦ λ s g.
+          let first : eqb j 1 ≡ true = grind (arith, nat_tests) in
+          let same : x ≡ k = cc in
+          rw first (ap (λ (y : Kept). Some y.entry) same)
+      | false ↦ λ s g.
+          let more : a + 1 ≤ n = found-from (a + 1) n ks k numbered.1 g in
+          let behind : eqb j 1 ≡ false = grind (arith, nat_tests) in
+          rw behind (there-at (a + 1) (j - 1) n ks k numbered.1 g (omega arith))
+    ] refl found
+
+left-at : (es : List Entry) (a n : ℕ) (ks : List Kept) (k : Kept) → AreInPlace es a ks → kept_in ks n ≡ Some k → pos k.left ≡ left_of es n k.entry
+left-at es a n [] k here found = absurd (cc)
+left-at es a n (x ∷ ks) k here found =
+    let own : x.number ≡ a = here.0.number in
+    elim (eqb x.number n) as (λ b. eqb x.number n ≡ b → cond b (Some x) (kept_in ks n) ≡ Some k → pos k.left ≡ left_of es n k.entry) [
+      | true ↦ λ s g.
+          let same : x ≡ k = cc in
+          let at : a ≡ n = grind (arith, nat_tests) in
+          let P : Kept → Type 0 = λ y. pos y.left ≡ left_of es n y.entry in
+          let Q : ℕ → Type 0 = λ m. pos x.left ≡ left_of es m x.entry in
+          subst P same (subst Q at here.0.left)
+      | false ↦ λ s g. left-at es (a + 1) n ks k here.1 g
+    ] refl found
+
+pub kept-of : (ks : List Kept) → AreInPlace (entries_kept ks) 1 ks → AreKept ks (entries_kept ks)
+kept-of ks here n k found = record {
+  there = there-at 1 n n ks k (numbered-of (entries_kept ks) 1 ks here) found (omega arith);
+  left = left-at (entries_kept ks) 1 n ks k here found;
+}
+
+-- from a matter that keeps them all
+
+in-place-from : (es : List Entry) (a : ℕ) (ks : List Kept) → AreNumbered a ks → ((n : ℕ) (k : Kept) → kept_in ks n ≡ Some k → pos k.left ≡ left_of es n k.entry) → AreInPlace es a ks
+in-place-from es a [] numbered own = tt
+in-place-from es a (x ∷ ks) numbered own = (
+  record { number = numbered.0; left = own a x (let same : eqb x.number a ≡ true = let number = numbered.0 in grind (arith, nat_tests) in rw same refl) },
+  in-place-from es (a + 1) ks numbered.1 (λ n k found.
+      let number = numbered.0 in
+      let more : a + 1 ≤ n = found-from (a + 1) n ks k numbered.1 found in
+      let other : eqb x.number n ≡ false = grind (arith, nat_tests) in
+      own n k (rw other found)),
+)
+
+pub in-place : (es : List Entry) (ks : List Kept) → AreNumbered 1 ks → AreKept ks es → AreInPlace es 1 ks
+in-place es ks numbered kept = in-place-from es 1 ks numbered (λ n k found. (kept n k found).left)
+
+-- What is left of each entry is kept, so that it is not below zero.
+
+lefts-from : (es : List Entry) (a j : ℕ) (ks : List Kept) (e : Entry) → AreInPlace es a ks → entry_at (entries_kept ks) j ≡ Some e → (k : Kept) × (pos k.left ≡ left_of es (a + j - 1) e)
+lefts-from es a j [] e here at = absurd (cc)
+lefts-from es a j (x ∷ ks) e here at =
+    let inside = within (entries_kept (x ∷ ks)) j e at in
+    let low : 0 < j = inside.0 in
+    elim (eqb j 1) as (λ b. eqb j 1 ≡ b → cond b (Some x.entry) (entry_at (entries_kept ks) (j - 1)) ≡ Some e → (k : Kept) × (pos k.left ≡ left_of es (a + j - 1) e)) [
+      | true ↦ λ s g.
+          let same : x.entry ≡ e = cc in
+          let own : a ≡ a + j - 1 = grind (arith, nat_tests) in
+          let P : Entry → Type 0 = λ y. pos x.left ≡ left_of es (a + j - 1) y in
+          let Q : ℕ → Type 0 = λ m. pos x.left ≡ left_of es m x.entry in
+          (x, subst P same (subst Q own here.0.left))
+      | false ↦ λ s g.
+          let more = lefts-from es (a + 1) (j - 1) ks e here.1 g in
+          let own : a + 1 + (j - 1) - 1 ≡ a + j - 1 = omega arith in
+          let Q : ℕ → Type 0 = λ m. pos more.0.left ≡ left_of es m e in
+          (more.0, subst Q own more.1)
+    ] refl at
+
+pub lefts-of : (ks : List Kept) → AreInPlace (entries_kept ks) 1 ks → (n : ℕ) (e : Entry) → entry_at (entries_kept ks) n ≡ Some e → pos 0 ≤ℤ left_of (entries_kept ks) n e
+lefts-of ks here n e at =
+    let es = entries_kept ks in
+    let own = lefts-from es 1 n ks e here at in
+    let same : 1 + n - 1 ≡ n = omega arith in
+    let Q : ℕ → Type 0 = λ m. pos own.0.left ≡ left_of es m e in
+    let left = subst Q same own.1 in
+    omega (arith, ints, left)

@@ -1,0 +1,130 @@
+-- Clients that are served in turn.
+use Rattle.std.proofs.Common.{◌≡◌, ◌+◌, ◌<◌, ◌≤◌, ℕ, suc, List, [], ◌∷◌, ◌++◌, Option, take, inl, inr, length, refl, sym, ap, ◌∙◌, subst, arith, length-append}
+use Rattle.std.specs.List.{flat_map}
+use Rattle.std.specs.Io.KnownBytes.{Appends}
+use Rattle.std.proofs.KnownBytes.{Appends-nil, Appends-trans}
+use Rattle.std.proofs.Math.Seq.{take-append-add}
+use Rattle.std.proofs.lemmas.List.Concat.{flat_map-append}
+use Rattle.std.proofs.lemmas.List.{append-nil}
+use Rattle.firm_rows.specs.Firm.{Firm}
+use Rattle.portal_http.proofs.Calls.{kept-still, kept-then}
+use Rattle.portal_http.specs.declared.stream.StreamEnd.{StreamEnd}
+use Rattle.portal_http.specs.Clients.{Comes, Refused}
+use Rattle.portal_http.specs.EndLines.{IsFrontWritten, end_line, end_lines}
+use Rattle.portal_http.specs.ServedAll.{AreServedInTurn, IsClientServed, KeepsStanding, ServedAll}
+use Rattle.portal_http.specs.declared.server.ServeEnd.TheVariants as serving
+
+-- the lines of one end more
+pub lines-push : (ends : List StreamEnd) (end : StreamEnd) → end_lines (ends ++ end ∷ []) ≡ end_lines ends ++ end_line end
+lines-push ends end = flat_map-append end_line ends (end ∷ []) ∙ ap (λ line. end_lines ends ++ line) (append-nil (end_line end))
+
+pub length-push : (ends : List StreamEnd) (end : StreamEnd) → length (ends ++ end ∷ []) ≡ length ends + 1
+length-push ends end = length-append ends (end ∷ [])
+
+module _ {B W : Type 0} (clean sure stands lasts : B → Type 0) (leaves : B → Firm → Type 0) (firm : B → Firm) (refusals : B → ℕ) (contents : W → Option (List ℕ)) where
+  -- what may come of one accept may come of another
+  pub client-as : (day : ℕ) (comes may : Comes W → Type 0) (old : B) (end : StreamEnd) (new : B) → ((c : Comes W) → comes c → may c)
+      → IsClientServed clean sure stands lasts leaves firm refusals contents day comes old end new
+      → IsClientServed clean sure stands lasts leaves firm refusals contents day may old end new
+  client-as day comes may old end new also (inl s) = inl (record { stream = s.stream; writer = s.writer; left = s.left; came = also _ s.came; served = s.served })
+  client-as day comes may old end new also (inr a) = inr (record { came = also _ a.came; ended = a.ended; same = a.same })
+
+  -- one client more
+  pub in-turn-push : (day : ℕ) (comes : ℕ → Comes W → Type 0) (old mid new : B) (ends : List StreamEnd) (end : StreamEnd)
+      → AreServedInTurn clean sure stands lasts leaves firm refusals contents day comes old ends mid
+      → IsClientServed clean sure stands lasts leaves firm refusals contents day (comes (length ends)) mid end new
+      → AreServedInTurn clean sure stands lasts leaves firm refusals contents day comes old (ends ++ end ∷ []) new
+  in-turn-push day comes old mid new [] end same client =
+      (new, subst (λ (b : B). IsClientServed clean sure stands lasts leaves firm refusals contents day (comes 0) b end new) same client, refl)
+  in-turn-push day comes old mid new (e ∷ es) end (next, first, rest) client =
+      (next, first, in-turn-push day (λ k. comes (suc k)) next mid new es end rest client)
+
+  -- a client leaves the book standing
+  pub client-keeps : (day : ℕ) (comes : Comes W → Type 0) (old : B) (end : StreamEnd) (new : B)
+      → IsClientServed clean sure stands lasts leaves firm refusals contents day comes old end new → KeepsStanding clean sure stands lasts old new
+  client-keeps day comes old end new (inl stream) =
+      let kept = stream.served.kept in
+      record { was_clean = kept.was_clean; was_sure = kept.was_sure; still_stands = kept.still_stands; still_lasts = kept.still_lasts; cause = λ sure stands. refl }
+  client-keeps day comes old end new (inr gone) = subst (KeepsStanding clean sure stands lasts old) (sym gone.same) (kept-still old)
+
+-- so many clients were served, and each one's end was told; what may come of the accepts to come
+pub record ServingAll {B W : Type 0} (clean sure stands lasts : B → Type 0) (leaves : B → Firm → Type 0) (firm : B → Firm) (refusals : B → ℕ)
+    (contents : W → Option (List ℕ)) (day : ℕ) (comes : ℕ → Comes W → Type 0) (before : Option (List ℕ)) (old : B) (n : ℕ)
+    (coming : ℕ → Comes W → Type 0) (after : Option (List ℕ)) (new : B) : Type 0 where
+  pub ends : List StreamEnd
+  pub many : length ends ≡ n
+  pub served : AreServedInTurn clean sure stands lasts leaves firm refusals contents day comes old ends new
+  pub told : Appends before after (end_lines ends)
+  pub behind : (k : ℕ) (c : Comes W) → coming k c → comes (n + k) c
+  pub kept : KeepsStanding clean sure stands lasts old new
+
+module _ {B W : Type 0} (clean sure stands lasts : B → Type 0) (leaves : B → Firm → Type 0) (firm : B → Firm) (refusals : B → ℕ)
+    (contents : W → Option (List ℕ)) (day : ℕ) (comes : ℕ → Comes W → Type 0) (before : Option (List ℕ)) (old : B) where
+  -- nobody was served yet
+  pub serving-none : ServingAll clean sure stands lasts leaves firm refusals contents day comes before old 0 comes before old
+  serving-none = record {
+    ends = [];
+    many = refl;
+    served = refl;
+    told = Appends-nil before;
+    behind = λ k c may. subst (λ j. comes j c) (omega arith) may;
+    kept = kept-still old;
+  }
+
+  module _ (n : ℕ) (coming : ℕ → Comes W → Type 0) (mid : Option (List ℕ)) (book : B)
+      (h : ServingAll clean sure stands lasts leaves firm refusals contents day comes before old n coming mid book) where
+    -- what may come next may come behind those that were served
+    next : (c : Comes W) → coming 0 c → comes (length h.ends) c
+    next c may = subst (λ k. comes k c) (omega (arith, h.many)) (h.behind 0 c may)
+
+    -- as many were served as were to be
+    pub served-done : (count : ℕ) → n ≡ count → ServedAll clean sure stands lasts leaves firm refusals contents day count comes before old serving.Done mid book
+    served-done count same = record { ends = h.ends; served = h.served; told = (h.many ∙ same, h.told); refused = λ e. cc }
+
+    -- the network refused an accept
+    pub served-network_fault : (count : ℕ) → n < count → coming 0 Refused
+        → ServedAll clean sure stands lasts leaves firm refusals contents day count comes before old serving.NetworkFault mid book
+    served-network_fault count less refused = record { ends = h.ends; served = h.served; told = (omega (arith, h.many, less), h.told); refused = λ _. next Refused refused }
+
+    module _ (end : StreamEnd) (new : B) (client : IsClientServed clean sure stands lasts leaves firm refusals contents day (coming 0) book end new) where
+      -- the clients with this one
+      in-turn-more : AreServedInTurn clean sure stands lasts leaves firm refusals contents day comes old (h.ends ++ end ∷ []) new
+      in-turn-more =
+          in-turn-push clean sure stands lasts leaves firm refusals contents day comes old book new h.ends end h.served
+          (client-as clean sure stands lasts leaves firm refusals contents day (coming 0) (comes (length h.ends)) book end new next client)
+
+      more : length (h.ends ++ end ∷ []) ≡ n + 1
+      more = length-push h.ends end ∙ ap (λ k. k + 1) h.many
+
+      -- a client more was served, and its end was told
+      pub serving-more : (later : ℕ → Comes W → Type 0) → ((k : ℕ) (c : Comes W) → later k c → coming (k + 1) c)
+          → (after : Option (List ℕ)) → Appends mid after (end_line end)
+          → ServingAll clean sure stands lasts leaves firm refusals contents day comes before old (n + 1) later after new
+      serving-more later next after told = record {
+        ends = h.ends ++ end ∷ [];
+        many = more;
+        served = in-turn-more;
+        told = subst (Appends before after) (sym (lines-push h.ends end)) (Appends-trans before mid after _ _ h.told told);
+        behind = λ k c may. subst (λ j. comes j c) (omega arith) (h.behind (k + 1) c (next k c may));
+        kept = kept-then h.kept (client-keeps clean sure stands lasts leaves firm refusals contents day _ _ _ _ client);
+      }
+
+      -- a client more was served, and its end could not be told
+      pub served-write_fault : (count : ℕ) → n + 1 ≤ count → (after : Option (List ℕ))
+          → (k : ℕ) × (k < length (end_line end)) × Appends mid after (take k (end_line end))
+          → ServedAll clean sure stands lasts leaves firm refusals contents day count comes before old serving.WriteFault after new
+      served-write_fault count room after (k, less, wrote) = record {
+        ends = h.ends ++ end ∷ [];
+        served = in-turn-more;
+        told = (
+          omega (arith, more),
+          record {
+            size = length (end_lines h.ends) + k;
+            less = omega (arith, less, ap length (lines-push h.ends end), length-append (end_lines h.ends) (end_line end));
+            written = subst (Appends before after)
+                (sym (ap (take (length (end_lines h.ends) + k)) (lines-push h.ends end) ∙ take-append-add (end_lines h.ends) (end_line end) k))
+                (Appends-trans before mid after _ _ h.told wrote);
+          },
+        );
+        refused = λ e. cc;
+      }

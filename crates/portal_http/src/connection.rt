@@ -1,0 +1,103 @@
+// One connection.
+
+ghost use Rattle.portal_http.specs.Served.{Served};
+
+use crate::listener::Connection;
+use crate::pace::{Pace, time_left};
+use crate::paced::{PacedReader, PacedWriter};
+use crate::stream::{StreamEnd, serve_stream};
+use std::alloc::Global;
+use std::io;
+use std::io::{Read, Write};
+use std::net::{OpenStream, Shutdown};
+use std::rt::Clock;
+use std::time::{Duration, Instant};
+use trust_base::Day;
+use trust_desk::Desk;
+use trust_store::Book;
+
+// How many bytes that no message is read from are taken before a connection is closed.
+const MAX_DROPPED: usize = 4_194_304;
+
+// How many seconds these bytes may take in all.
+const CLOSING_SECONDS: u64 = 1;
+
+/// A connection whose stream was served.
+#[derive(Drop)]
+pub struct Answered<W: Drop> {
+    /// How the stream ended.
+    pub end: StreamEnd,
+    /// What the answers were written to.
+    pub writer: W,
+}
+
+// Reads and drops what a client still sends, within the limits of a close.
+fn drop_rest<C: Clock, R: Read + OpenStream>(clock: &C, reader: &mut R) -> io::Result<()> {
+    let start = Instant::now(clock)?;
+    let mut part = [0u8; 8_192];
+    let mut room = MAX_DROPPED;
+    for _ in 0..MAX_DROPPED {
+        let left = time_left(clock, start, Duration::from_secs(CLOSING_SECONDS))?;
+        reader.set_read_timeout(Some(left))?;
+        let most = part.len().min(room);
+        let count = reader.read(&mut part[..most])?;
+        if count == 0 {
+            break;
+        }
+        room -= count;
+    }
+    Ok(())
+}
+
+// Closes a connection on which something was answered that may stand before bytes that were not read. A socket that is
+// closed with such bytes resets the connection, and the client could lose the answer: so they are read first.
+fn close<C: Clock, R: Read + OpenStream, W: OpenStream>(clock: &C, reader: &mut R, writer: &W) {
+    if writer.shutdown(Shutdown::Write).is_ok() {
+        let _ = drop_rest(clock, reader);
+    }
+}
+
+// Serves a stream at this pace, and gives back what was written to.
+fn serve_paced<C: Clock + Drop, R: Read + OpenStream + Drop, W: Write + OpenStream + Drop, B: Book>(
+    alloc: Global,
+    pace: &Pace<C>,
+    reader: &mut R,
+    writer: W,
+    desk: &mut Desk<B>,
+    day: Day,
+) -> Answered<W>
+    ensures { Served B.clean B.sure B.stands B.lasts B.leaves B.firm B.refusals day (R.remaining reader.old)
+        (W.contents writer) desk.old result.end (W.contents result.writer) desk.new }
+{
+    let messages = PacedReader { pace, half: reader };
+    let mut answers = PacedWriter { pace, half: writer };
+    let end = serve_stream(alloc, messages, &mut answers, desk, day);
+    let PacedWriter { pace: _, half } = answers;
+    Answered { end, writer: half }
+}
+
+/// Serves the stream of one connection, and closes it. The client may be silent for 10 seconds between messages. The
+/// bytes of a message have 60 seconds from the first; the head of an answer has 60 to be taken, and its body 60 more. A
+/// client that takes longer ends the stream by `ReadFault` or `WriteFault`, and so does a clock that can't be read. The
+/// time in which the desk works counts for nothing. So a connection ends at last, since a stream has 1,000 messages.
+/// Where an answer ended the stream, the client still gets it: up to 4,194,304 bytes or one second of what it still
+/// sends are read and dropped before the close.
+pub fn serve_connection<
+    C: Clock + Drop,
+    R: Read + OpenStream + Drop,
+    W: Write + OpenStream + Drop,
+    B: Book,
+>(alloc: Global, clock: &C, client: Connection<R, W>, desk: &mut Desk<B>, day: Day) -> Answered<W>
+    ensures { Served B.clean B.sure B.stands B.lasts B.leaves B.firm B.refusals day (R.remaining client.reader)
+        (W.contents client.writer) desk.old result.end (W.contents result.writer) desk.new }
+{
+    let Connection { mut reader, writer } = client;
+    let answered = serve_paced(alloc, &Pace::new(clock), &mut reader, writer, desk, day);
+    match answered.end {
+        StreamEnd::BadFraming | StreamEnd::Limit | StreamEnd::NoMemory => {
+            close(clock, &mut reader, &answered.writer);
+        }
+        StreamEnd::Ended | StreamEnd::ReadFault | StreamEnd::WriteFault => (),
+    }
+    answered
+}

@@ -1,0 +1,42 @@
+-- What a script leaves, as the steps of its statements.
+use Rattle.std.proofs.Common.{List, [], ◌∷◌, map}
+use Rattle.sql_schema.specs.declared.layout.Layout.{Layout}
+use Rattle.sqlite.specs.Effect.{Database}
+use Rattle.sql_tables.specs.declared.statements.Statement.{Statement}
+use Rattle.sql_tables.specs.declared.statements.Statement.TheVariants as statement
+use Rattle.sql_tables.specs.Lists.{Lists, lists_in, IsStep, AreSteps}
+use Rattle.sql_tables.specs.Standing.{Stands}
+use Rattle.sql_rows.specs.Meaning.{AreKeyed}
+use Rattle.sql_rows.specs.Steps.{step_of, IsMade, AreMade}
+
+made_of_step : (s : Statement) (a b : Lists) → IsStep s a b → IsMade (step_of s) a b
+made_of_step (statement.Head h) a b is = is
+made_of_step (statement.Seat s) a b is = is
+made_of_step (statement.SeatGone s) a b is = is
+made_of_step (statement.Entry e) a b is = is
+made_of_step (statement.Movement m) a b is = is
+made_of_step (statement.FirmLine f) a b is = is
+made_of_step (statement.Exception e) a b is = is
+made_of_step (statement.ExceptionGone e) a b is = is
+made_of_step (statement.Balance c) a b is = is
+made_of_step (statement.SeatsGone m) a b is = is
+made_of_step (statement.EntriesGone m) a b is = is
+made_of_step (statement.MovementsGone m) a b is = is
+
+-- lists that follow the statements are made by their steps
+pub made_of_steps : (script : List Statement) (a b : Lists) → AreSteps script a b → AreMade (map step_of script) a b
+made_of_steps [] a b same = same
+made_of_steps (s ∷ script) a b steps =
+    (steps.0, made_of_step s a steps.0 steps.1, made_of_steps script steps.0 b steps.2)
+
+-- the rowids of tables that stand rise
+pub keyed : (l : Layout) (db : Database) → Stands l db → AreKeyed (lists_in l db.trees)
+keyed l db stands = record {
+  heads = stands.heads.rise;
+  seats = stands.seats.rise;
+  entries = stands.entries.rise;
+  movements = stands.movements.rise;
+  firm_lines = stands.firm_lines.rise;
+  exceptions = stands.exceptions.rise;
+  balances = stands.balances.rise;
+}

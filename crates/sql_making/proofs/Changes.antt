@@ -1,0 +1,181 @@
+-- What a statement of the batch that copies, empties or sets makes of one table. The schema is that of this version then.
+use Rattle.std.proofs.Common.{◌≡◌, ◌≢◌, ℕ, ℤ, ◌<ℤ◌, true, false, not, cond, ◌==◌, List, [], ◌∷◌, ◌++◌, map, filter, length, slice_get, Option, Some, Ok, refl, sym, ap, ap₂, subst, subst₂, ◌∙◌, append-nil}
+use Rattle.std.specs.List.{AllByRecursion, flat_map, filter_map}
+use Rattle.std.specs.List.Sorted.{IsPermutation}
+use Rattle.std.proofs.lemmas.List.{append_assoc}
+use Rattle.std.proofs.lemmas.List.Sorted.{IsPermutation-map}
+use Rattle.sqlite_value.specs.declared.value.Value.TheVariants.{Null, Int}
+use Rattle.sqlite_value.specs.Order.{Row}
+use Rattle.sqlite_trees.specs.Tree.{Trees, rowid, put_row}
+use Rattle.sqlite_sql.specs.Query.{Query, IsAnswer, Output, output}
+use Rattle.sqlite_sql.specs.Program.{overlay}
+use Rattle.sqlite_schema.specs.declared.schema.Table.{Table}
+use Rattle.sqlite_schema.specs.declared.schema.Reference.{Reference}
+use Rattle.sqlite_schema.specs.declared.schema.Keys.TheVariants.{Enforced}
+use Rattle.sqlite_schema.specs.declared.program.Program.{Program}
+use Rattle.sqlite_schema.specs.declared.command.Source.TheVariants as source
+use Rattle.sqlite_schema.specs.declared.command.Command.TheVariants.{Insert, Delete}
+use Rattle.sqlite_schema.specs.Rules.{parent_key}
+use Rattle.sqlite_rules.specs.declared.error.Rowids.TheVariants.{Chosen}
+use Rattle.sqlite_rules.specs.Action.{works, work_by, deed_of, pairs}
+use Rattle.sqlite_rules.specs.Calls.{ids_of}
+use Rattle.sqlite_rules.specs.Cast.{cast_row}
+use Rattle.sqlite_rules.specs.Edit.{edit_of, taken_by, with_rowid, numbered, without_all, put_all}
+use Rattle.sqlite_keyed.specs.Keyed.{IsKeyedBy}
+use Rattle.sqlite_keyed.proofs.ListLemmas.{map-map, map_same}
+use Rattle.sqlite_typed.proofs.AnswerLemmas.{at_end, last_table, matches_are}
+use Rattle.sqlite.specs.Effect.{Database}
+use Rattle.sqlite.specs.Listing.{understood}
+use Rattle.sqlite.specs.Rows.{Written, Edited, stamped, count_of, rowids_for, Counts, Task}
+use Rattle.sqlite.specs.State.{State, ExecutesIn}
+use Rattle.sqlite.proofs.Callers.{IsPlain, command_of, one_step}
+use Rattle.sql_schema.specs.declared.layout.Layout.TheVariants.{Moved}
+use Rattle.sql_schema.specs.Schema.{book_schema}
+use Rattle.sql_tables.specs.Picking.{picked}
+use Rattle.sql_tables.proofs.Calls.{no_lets}
+use Rattle.sql_tables.proofs.Casts.{goes_last}
+use Rattle.sql_tables.proofs.Kept.{row_put, rows_gone}
+use Rattle.sql_tables.proofs.Writes.{went, same_value, inserts, deletes, removed}
+use Rattle.sql_making.proofs.Creates.{runs_in_batch}
+
+-- no foreign key acts, whatever rows go and come
+pub idle : (tree : ℕ) (olds news : List Row) → works (book_schema Moved) Enforced 0 tree olds news ≡ []
+idle tree olds news =
+    elim (length news == 0) as (λ b. flat_map (λ (child : Table). filter_map (λ (ref : Reference). work_by 0 tree (pairs olds news) child ref (deed_of Enforced b (cond b ref.on_delete ref.on_update)) (parent_key (book_schema Moved).tables ref)) child.references) (book_schema Moved).tables ≡ []) [
+      | true ↦ refl
+      | false ↦ refl
+    ]
+
+-- the schema stays, and so do the rows of every other table
+pub record IsElsewhere (tree : ℕ) (old new : Database) : Type 0 where
+  pub schema : new.schema ≡ book_schema Moved
+  pub others : AllByRecursion (λ t. t.tree ≢ tree → new.trees t.tree ≡ old.trees t.tree) (book_schema Moved).tables
+
+pub elsewhere : (tree : ℕ) (old new : Database) (trees : Trees) → new ≡ record { schema = book_schema Moved; trees = trees }
+    → AllByRecursion (λ t. t.tree ≢ tree → trees t.tree ≡ old.trees t.tree) (book_schema Moved).tables → IsElsewhere tree old new
+elsewhere tree old new trees is others = subst (IsElsewhere tree old) (sym is) (record { schema = refl; others = others })
+
+-- ---- lists in order
+
+at_middle : {X : Type 0} (P : X → Type 0) (acc : List X) (x : X) (xs : List X) → AllByRecursion P (acc ++ x ∷ xs) → P x
+at_middle P [] x xs h = h.0
+at_middle P (a ∷ acc) x xs h = at_middle P acc x xs h.1
+
+module _ {X : Type 0} (key : X → ℤ) where
+  below : (acc : List X) (x : X) (xs : List X) → IsKeyedBy key (acc ++ x ∷ xs) → AllByRecursion (λ y. key y <ℤ key x) acc
+  below [] x xs h = tt
+  below (a ∷ acc) x xs h = (at_middle (λ y. key a <ℤ key y) acc x xs h.0, below acc x xs h.1)
+
+  module _ (to_row : X → Row) (keyed : (x : X) → rowid (to_row x) ≡ Int (key x)) where
+    -- rows in order go in behind those that are there
+    all_put : (acc xs : List X) → IsKeyedBy key (acc ++ xs) → put_all (map to_row acc) (map to_row xs) ≡ map to_row (acc ++ xs)
+    all_put acc [] h = ap (map to_row) (sym (append-nil acc))
+    all_put acc (x ∷ xs) h =
+        let joined = append_assoc acc (x ∷ []) xs in
+        ap (λ l. put_all l (map to_row xs)) (row_put key to_row keyed x acc ∙ ap (map to_row) (goes_last key acc x (below acc x xs h)))
+        ∙ all_put (acc ++ x ∷ []) xs (subst (IsKeyedBy key) (sym joined) h) ∙ ap (map to_row) joined
+
+    own_id : (base : List Row) (x : X) → with_rowid Chosen base (to_row x) ≡ to_row x
+    own_id base x = rw (keyed x) refl
+
+    all_numbered : (xs : List X) (base : List Row) → numbered Chosen base (map to_row xs) ≡ map to_row xs
+    all_numbered [] base = refl
+    all_numbered (x ∷ xs) base = ap₂ ◌∷◌ (own_id base x) (all_numbered xs (put_row (with_rowid Chosen base (to_row x)) base))
+
+-- ---- INSERT .. SELECT
+
+-- a table that is not counted has no count to follow
+uncounts : (it : Task) (db next : Trees) (counter : Option Row) (top : ℤ) → it.table.is_counted ≡ false → Counts it db counter top (Ok next) → next ≡ db
+uncounts it db next counter top uncounted h = same_value (rw uncounted at h)
+
+module _ (at : ℕ) (table : Table) (place : slice_get (book_schema Moved).tables at ≡ Some table) (no_clock : stamped table [] ≡ []) (uncounted : table.is_counted ≡ false)
+    (q : Query) (part : List ℕ) (is : command_of (understood (book_schema Moved) part) ≡ Insert at (source.Query (record { lets = []; body = q }))) (plain : IsPlain (understood (book_schema Moved) part))
+    (old new : State) (count : ℕ) (has : old.now.schema ≡ book_schema Moved) (h : ExecutesIn true part [] old new (Ok count)) where
+  abbrev base : List Row
+  base = old.now.trees table.tree
+
+  pub record Copies : Type 0 where
+    pub elsewhere_kept : IsElsewhere table.tree old.now new.now
+    pub rows : List Row
+    pub answer : IsAnswer q (overlay old.now.trees []) [] rows
+    pub put : new.now.trees table.tree ≡ put_all base (numbered Chosen base (map (cast_row table) rows))
+
+  chosen : (top : ℤ) → rowids_for table top ≡ Chosen
+  chosen top = rw uncounted
+
+  pub copies : Copies
+  copies =
+      let w = runs_in_batch part old new (book_schema Moved) has (Insert at (source.Query (record { lets = []; body = q }))) is plain count h in
+      let did = inserts old new (book_schema Moved) has at table place [] _ count _ w in
+      let db = old.now.trees in
+      let given = went did.1 in
+      let counter = went given.2 in
+      let mid = went counter.2 in
+      let last = went mid.2 in
+      let put : Edited (book_schema Moved) Enforced db (edit_of db table [] Chosen 0 given.0) (Ok mid.0) = subst (λ r. Edited (book_schema Moved) Enforced db (edit_of db table [] r 0 given.0) (Ok mid.0)) (chosen (count_of counter.0)) mid.1 in
+      let edit = edit_of db table [] Chosen 0 given.0 in
+      let applied = one_step (book_schema Moved) Enforced db mid.0 edit (idle table.tree (taken_by db edit) edit.news) put in
+      let kept : last.0 ≡ mid.0 = uncounts (record { limit = old.step_limit; keys = Enforced; schema = book_schema Moved; table = table; params = [] }) mid.0 last.0 counter.0 _ uncounted last.1 in
+      let trees : did.0.trees ≡ mid.0 = ap (λ (x : Written). x.trees) (same_value last.2) ∙ kept in
+      let now : new.now ≡ record { schema = book_schema Moved; trees = mid.0 } = did.2 ∙ ap (λ (t : Trees). record { schema = book_schema Moved; trees = t }) trees in
+      record {
+        elsewhere_kept = elsewhere table.tree old.now new.now mid.0 now applied.tables;
+        rows = given.0;
+        answer = subst (λ p. IsAnswer q (overlay db []) p given.0) no_clock (given.1.answer Null);
+        put = ap (λ (d : Database). d.trees table.tree) now ∙ applied.rows;
+      }
+
+  -- rows in order go into an empty table as they are
+  module _ {X : Type 0} (key : X → ℤ) (to_row : X → Row) (keyed : (x : X) → rowid (to_row x) ≡ Int (key x)) (kept : (x : X) → cast_row table (to_row x) ≡ to_row x) (xs : List X) where
+    pub filled : (it : Copies) → base ≡ [] → it.rows ≡ map to_row xs → IsKeyedBy key xs → new.now.trees table.tree ≡ map to_row xs
+    filled it empty rows rise =
+        it.put ∙ ap (λ l. put_all base (numbered Chosen base (map (cast_row table) l))) rows
+        ∙ ap (λ l. put_all base (numbered Chosen base l)) (map-map (cast_row table) to_row xs ∙ map_same _ to_row kept xs)
+        ∙ ap (put_all base) (all_numbered key to_row keyed xs base)
+        ∙ ap (λ l. put_all l (map to_row xs)) empty ∙ all_put key to_row keyed [] xs rise
+
+-- ---- DELETE of every row
+
+none_left : {X : Type 0} (xs : List X) → filter (λ _. not true) xs ≡ []
+none_left [] = refl
+none_left (x ∷ xs) = none_left xs
+
+pub all_kept : {X : Type 0} (xs : List X) → filter (λ _. true) xs ≡ xs
+all_kept [] = refl
+all_kept (x ∷ xs) = ap (λ l. x ∷ l) (all_kept xs)
+
+module _ (at : ℕ) (table : Table) (place : slice_get (book_schema Moved).tables at ≡ Some table) (no_terms : table.stamps.terms ≡ []) (no_formats : table.stamps.formats ≡ []) (part : List ℕ) (plain : IsPlain (understood (book_schema Moved) part))
+    (old new : State) (count : ℕ) (has : old.now.schema ≡ book_schema Moved) (h : ExecutesIn true part [] old new (Ok count)) where
+  pub record Empties : Type 0 where
+    pub elsewhere_kept : IsElsewhere table.tree old.now new.now
+    pub rows : List Row
+    pub answer : IsAnswer (picked table.tree []) (overlay old.now.trees []) [] rows
+    pub left : new.now.trees table.tree ≡ without_all (old.now.trees table.tree) (ids_of rows)
+
+  pub empties : command_of (understood (book_schema Moved) part) ≡ Delete at (record { lets = []; body = picked table.tree [] }) → Empties
+  empties is =
+      let q : Program = record { lets = []; body = picked table.tree [] } in
+      let w = runs_in_batch part old new (book_schema Moved) has (Delete at q) is plain count h in
+      let did = deletes old new (book_schema Moved) has at table place [] _ count q w in
+      let gone = removed old.step_limit (book_schema Moved) table [] no_terms no_formats old.now.trees q did.0 (λ olds. idle table.tree olds []) did.1 in
+      record {
+        elsewhere_kept = elsewhere table.tree old.now new.now did.0.trees did.2 gone.2.tables;
+        rows = gone.0;
+        answer = gone.1.answer Null;
+        left = ap (λ (d : Database). d.trees table.tree) did.2 ∙ gone.2.rows;
+      }
+
+  module _ {X : Type 0} (key : X → ℤ) (to_row : X → Row) (keyed : (x : X) → rowid (to_row x) ≡ Int (key x)) (xs : List X) (rise : IsKeyedBy key xs) (stored : old.now.trees table.tree ≡ map to_row xs) where
+    shown : (rows : List Row) → IsAnswer (picked table.tree []) (overlay old.now.trees []) [] rows → IsPermutation (map (λ x. Int (key x) ∷ []) (filter (λ _. true) xs)) rows
+    shown rows answer =
+        let q = picked table.tree [] in
+        let db = old.now.trees in
+        let from = last_table (overlay db []) table.tree to_row key xs (no_lets db table.tree ∙ stored) rise (at_end (overlay db [])) in
+        let found = matches_are q (overlay db []) [] from (λ _. true) (λ x. refl) in
+        let kept : answer.kept ≡ map (λ (x : X). output q ([] ∷ to_row x ∷ [])) (filter (λ _. true) xs) = answer.distinct ∙ ap (map (output q)) (answer.grouped ∙ found) ∙ map-map (output q) _ _ in
+        let same = IsPermutation-map (λ (o : Output). o.1) _ _ answer.same in
+        subst₂ IsPermutation (ap (map (λ (o : Output). o.1)) kept ∙ map-map (λ (o : Output). o.1) _ _ ∙ map_same _ (λ x. Int (key x) ∷ []) (λ x. ap (λ v. v ∷ []) (keyed x)) _) (sym answer.shown) same
+
+    pub emptied : (it : Empties) → new.now.trees table.tree ≡ []
+    emptied it =
+        it.left ∙ ap (λ rows. without_all rows (ids_of it.rows)) stored ∙ rows_gone key to_row keyed (λ _. true) xs rise it.rows (shown it.rows it.answer) ∙ ap (map to_row) (none_left xs)

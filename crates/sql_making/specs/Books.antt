@@ -1,0 +1,44 @@
+-- A database that a book has just been made in, and one that a book may be taken from.
+use Rattle.std.specs.Prelude.{◌≡◌, ◌⊎◌, ℕ, pos, false, List, [], ◌∷◌, drop, codes, IsSome}
+use Rattle.std.specs.List.{AllByRecursion}
+use Rattle.sqlite_disk.specs.Disk.{MoreFaults}
+use Rattle.sqlite_value.specs.declared.value.Value.TheVariants.{Int}
+use Rattle.sqlite_trees.specs.Tree.{Trees}
+use Rattle.sqlite_schema.specs.declared.schema.Schema.{Schema}
+use Rattle.sqlite.specs.Effect.{Database, IsDatabase}
+use Rattle.sqlite.specs.State.{State}
+use Rattle.sql_schema.specs.declared.layout.Layout.{Layout}
+use Rattle.sql_schema.specs.declared.layout.Layout.TheVariants.{Made}
+use Rattle.sql_schema.specs.Schema.{book_schema, book_tree, version_now}
+pub use Rattle.sql_tables.specs.Standing.{versions_in}
+
+abbrev pub no_schema : Schema
+no_schema = record { tables = []; indexes = []; views = [] }
+
+-- no table has a row
+abbrev pub IsBlank : Database → Type 0
+IsBlank db = AllByRecursion (λ t. db.trees t.tree ≡ []) db.schema.tables
+
+-- the text that reads the version
+abbrev pub version_text : List ℕ
+version_text = codes "SELECT version FROM book ORDER BY rowid"
+
+-- the tables of a book in a layout, with one row in the first, which says this version
+pub record IsBook (l : Layout) (db : Database) : Type 0 where
+  pub schema : db.schema ≡ book_schema l
+  pub version : versions_in l db.trees ≡ Int version_now ∷ []
+
+-- the tables of a book without rows, which the database lists
+pub record IsNewBook (db : Database) : Type 0 where
+  pub schema : db.schema ≡ book_schema Made
+  pub version : db.trees (book_tree Made) ≡ (Int (pos 1) ∷ Int version_now ∷ []) ∷ []
+  pub others : AllByRecursion (λ t. db.trees t.tree ≡ []) (drop 1 (book_schema Made).tables)
+  pub listed : IsDatabase db
+
+-- such trees, of a database with these tables: what a crash may leave is told as trees
+abbrev pub AreNewBook : Trees → Type 0
+AreNewBook trees = IsNewBook (record { schema = book_schema Made; trees = trees })
+
+-- the store counted a fault or was shut before, or the connection has a limit on steps
+abbrev pub HasFailed : State → State → Type 0
+HasFailed old new = MoreFaults old.faults new.faults ⊎ ((old.is_open ≡ false) ⊎ IsSome old.step_limit)

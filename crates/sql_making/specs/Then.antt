@@ -1,0 +1,107 @@
+-- What the tables of version 1 stand for, and what moving makes of them.
+use Rattle.std.specs.Prelude.{◌≡◌, ℕ, ℤ, pos, List, [], ◌∷◌, map, codes}
+use Rattle.sqlite_value.specs.declared.value.Value.TheVariants.{Null, Int, Text}
+use Rattle.sqlite_value.specs.Order.{Row, column, bytes}
+use Rattle.sqlite_trees.specs.Tree.{Trees}
+use Rattle.sqlite_rules.specs.Edit.{id_in}
+use Rattle.sqlite.specs.Effect.{Database, IsDatabase}
+use Rattle.sql_schema.specs.declared.layout.Layout.TheVariants.{Moved}
+use Rattle.sql_schema.specs.Schema.{book_schema, book_tree, seat_tree, entry_tree, journal_tree, sequence_tree, firm_line_tree, exception_tree, balance_tree, old_matter_table, old_seat_table, old_entry_table}
+use Rattle.sql_tables.specs.Rows.{Head, seat_in, entry_in, movements_in, firm_lines_in, exceptions_in, balances_in}
+use Rattle.sql_tables.specs.Standing.{Holds, SeatsHold, EntriesHold, MovementsHold, FirmLinesHold, ExceptionsHold, BalancesHold, Stands}
+use Rattle.sql_tables.specs.Lists.{Lists, lists_in}
+use Rattle.sql_making.specs.Books.{IsBook}
+use Rattle.sql_schema.specs.Old.{old_schema, version_then}
+
+-- a head without the column that was added
+abbrev pub old_head_row : Head → Row
+old_head_row h =
+    Int h.no ∷ Null ∷ Text h.client ∷ Int h.opened ∷ Int h.closed ∷ Int h.last ∷ Int h.entries ∷ Int h.held ∷
+    Int h.available ∷ Int h.disputed ∷ Int h.fees ∷ Int h.claims ∷ Int h.pending ∷ []
+
+-- such a matter was not purged
+abbrev pub old_head_in : Row → Head
+old_head_in r = record {
+  no = id_in (column r 0);
+  client = bytes (column r 2);
+  opened = id_in (column r 3);
+  closed = id_in (column r 4);
+  last = id_in (column r 5);
+  entries = id_in (column r 6);
+  held = id_in (column r 7);
+  available = id_in (column r 8);
+  disputed = id_in (column r 9);
+  fees = id_in (column r 10);
+  claims = id_in (column r 11);
+  pending = id_in (column r 12);
+  purged = pos 0;
+}
+
+abbrev pub OldHeadsHold : List Row → Type 0
+OldHeadsHold = Holds old_head_row old_head_in (λ (x : Head). x.no)
+
+-- the schema is that of version 1, and each table holds rows of its columns' kinds, in the order of their rowids
+pub record Stood (db : Database) : Type 0 where
+  pub schema : db.schema ≡ old_schema
+  pub heads : OldHeadsHold (db.trees old_matter_table.tree)
+  pub seats : SeatsHold (db.trees old_seat_table.tree)
+  pub entries : EntriesHold (db.trees old_entry_table.tree)
+  pub movements : MovementsHold (db.trees (journal_tree Moved))
+  pub firm_lines : FirmLinesHold (db.trees (firm_line_tree Moved))
+  pub exceptions : ExceptionsHold (db.trees (exception_tree Moved))
+  pub balances : BalancesHold (db.trees (balance_tree Moved))
+
+-- what the tables of version 1 stand for
+abbrev pub lists_then : Trees → Lists
+lists_then db = record {
+  heads = map old_head_in (db old_matter_table.tree);
+  seats = map seat_in (db old_seat_table.tree);
+  entries = map entry_in (db old_entry_table.tree);
+  movements = movements_in Moved db;
+  firm_lines = firm_lines_in Moved db;
+  exceptions = exceptions_in Moved db;
+  balances = balances_in Moved db;
+}
+
+-- the text that reads the version and the number of its row
+abbrev pub old_version_text : List ℕ
+old_version_text = codes "SELECT rowid, version FROM book ORDER BY rowid"
+
+-- what it shows of each row
+abbrev pub numbered_versions : Trees → List Row
+numbered_versions db = map (λ (r : Row). column r 0 ∷ column r 1 ∷ []) (db (book_tree Moved))
+
+-- the tables of version 1, with one row in the first, which has a number and says version 1
+pub record IsOldBook (db : Database) : Type 0 where
+  pub schema : db.schema ≡ old_schema
+  pub id : ℤ
+  pub version : numbered_versions db.trees ≡ (Int id ∷ Int version_then ∷ []) ∷ []
+
+-- the tables that version 2 keeps have their rows, and so has the database's own table of counts
+pub record KeepsTables (db next : Trees) : Type 0 where
+  pub movements : next (journal_tree Moved) ≡ db (journal_tree Moved)
+  pub firm_lines : next (firm_line_tree Moved) ≡ db (firm_line_tree Moved)
+  pub exceptions : next (exception_tree Moved) ≡ db (exception_tree Moved)
+  pub balances : next (balance_tree Moved) ≡ db (balance_tree Moved)
+  pub counts : next (sequence_tree Moved) ≡ db (sequence_tree Moved)
+
+-- where the old tables stood for records, the new ones stand for the same, row by row, and the old three are empty
+pub record SameRows (db next : Database) : Type 0 where
+  pub stands : Stands Moved next
+  pub lists : lists_in Moved next.trees ≡ lists_then db.trees
+  pub seats : next.trees (seat_tree Moved) ≡ db.trees old_seat_table.tree
+  pub entries : next.trees (entry_tree Moved) ≡ db.trees old_entry_table.tree
+  pub no_old_heads : next.trees old_matter_table.tree ≡ []
+  pub no_old_seats : next.trees old_seat_table.tree ≡ []
+  pub no_old_entries : next.trees old_entry_table.tree ≡ []
+
+-- a book of this version, made of one of version 1, in a database that lists what it holds
+pub record IsMoved (db next : Database) : Type 0 where
+  pub book : IsBook Moved next
+  pub listed : IsDatabase next
+  pub keeps : KeepsTables db.trees next.trees
+  pub same : Stood db → SameRows db next
+
+-- such trees, of a database with these tables: what a crash may leave is told as trees
+abbrev pub AreMoved : Database → Trees → Type 0
+AreMoved db trees = IsMoved db (record { schema = book_schema Moved; trees = trees })

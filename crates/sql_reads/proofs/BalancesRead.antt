@@ -1,0 +1,118 @@
+-- The balance of a kind and day among the rows of its table.
+use Rattle.std.proofs.Common.{◌≡◌, inl, inr, ℕ, ℤ, pos, nat_abs, ◌≤◌, Bool, true, false, ◌==◌, ◌&&◌, List, [], ◌∷◌, map, filter, find, length, Option, Some, None, option_map, int_eq, Ordering, Less, Equal, nat_cmp, refl, sym, ap, ap₂, ◌∙◌, arith}
+use Rattle.std.specs.List.{AllByRecursion}
+use Rattle.std.specs.List.Sorted.{IsStrictlySortedBy}
+use Rattle.std.specs.Ordering.{ordering_then}
+use Rattle.std.proofs.lemmas.Int.{ints}
+use Rattle.std.proofs.lemmas.Bool.{cases_Bool, and_parts}
+use Rattle.std.proofs.lemmas.Bool.Decides.{nat_tests}
+use Rattle.std.proofs.lemmas.List.{length-map}
+use Rattle.std.proofs.lemmas.List.Sorted.{length_permutation}
+use Rattle.std.proofs.lemmas.Cmp.{int_cmp_total, on_total, then_total}
+use Rattle.std.specs.Cmp.{IsTotalOrder}
+use Rattle.sqlite_value.specs.declared.value.Value.TheVariants.{Int}
+use Rattle.sqlite_value.specs.Order.{Row, column}
+use Rattle.sqlite_keyed.specs.Lists.{sort_by}
+use Rattle.sqlite_keyed.proofs.ListLemmas.{all_weaker, filter_none, filter-map, IsPermutation-filter}
+use Rattle.sqlite_keyed.proofs.SortLemmas.{IsPermutation-sort_by}
+use Rattle.firm_rows.specs.declared.ledger.BalanceKind.{BalanceKind}
+use Rattle.firm_rows.specs.declared.ledger.BalanceKind.TheVariants.{Opening, Closing}
+use Rattle.firm_rows.specs.declared.ledger.StatementRow.{StatementRow}
+use Rattle.firm_rows.specs.FirmLines.{place_of, is_balance_on, kept_balance}
+use Rattle.firm_rows.specs.FirmLines as own
+use Rattle.sql_tables.specs.Rows.{Balance, balance_cmp, balance_shown, is_balance_at}
+use Rattle.sql_rows.specs.Columns.{kind_column}
+use Rattle.sql_rows.specs.Meaning.{balance_from, IsWrittenBalance}
+use Rattle.sql_rows.proofs.RowOrder.{find-sort_by}
+
+table_total : IsTotalOrder balance_cmp
+table_total = then_total (on_total (λ (b : Balance). b.kind) int_cmp_total) (then_total (on_total (λ (b : Balance). b.day) int_cmp_total) (on_total (λ (b : Balance). b.id) int_cmp_total))
+
+-- Finding by one test and by another.
+
+find_mapped : {X Y : Type 0} (p : Y → Bool) (f : X → Y) (xs : List X) → find p (map f xs) ≡ option_map f (find (λ x. p (f x)) xs)
+find_mapped p f [] = refl
+find_mapped p f (x ∷ xs) = elim (cases_Bool (p (f x))) [ inl b ↦ rw b refl | inr b ↦ rw b (find_mapped p f xs) ]
+
+module _ {X : Type 0} (p q : X → Bool) where
+  pub find_same : (xs : List X) → AllByRecursion (λ x. p x ≡ q x) xs → find p xs ≡ find q xs
+  find_same [] all = refl
+  find_same (x ∷ xs) all = elim (cases_Bool (q x)) [
+    | inl b ↦ rw (all.0, b) refl
+    | inr b ↦ rw (all.0, b) (find_same xs all.1)
+  ]
+
+  pub filter_same_on : (xs : List X) → AllByRecursion (λ x. p x ≡ q x) xs → filter p xs ≡ filter q xs
+  filter_same_on [] all = refl
+  filter_same_on (x ∷ xs) all = elim (cases_Bool (q x)) [
+    | inl b ↦ rw (all.0, b) (ap (λ l. x ∷ l) (filter_same_on xs all.1))
+    | inr b ↦ rw (all.0, b) (filter_same_on xs all.1)
+  ]
+
+-- The tests agree.
+
+same_kind : (a b : BalanceKind) → (place_of a == place_of b) ≡ int_eq (kind_column a) (kind_column b)
+same_kind Opening Opening = refl
+same_kind Opening Closing = refl
+same_kind Closing Opening = refl
+same_kind Closing Closing = refl
+
+same_number : (i n : ℕ) → (i == n) ≡ int_eq (pos i) (pos n)
+same_number i n = grind (arith, ints, nat_tests)
+
+same_test : (k : BalanceKind) (day : ℕ) (b : Balance) → IsWrittenBalance b → is_balance_on k day (balance_from b) ≡ is_balance_at (kind_column k) (pos day) b
+same_test k day b written =
+    let kind : b.kind ≡ kind_column (balance_from b).kind = ap (λ (x : Balance). x.kind) written in
+    let on : b.day ≡ pos (nat_abs b.day) = ap (λ (x : Balance). x.day) written in
+    ap₂ ◌&&◌ (same_kind (balance_from b).kind k ∙ ap (λ z. int_eq z (kind_column k)) (sym kind))
+    (same_number (nat_abs b.day) day ∙ ap (λ z. int_eq z (pos day)) (sym on))
+
+-- One row of a kind and day at most.
+
+equal_then : (o q : Ordering) → o ≡ Equal → q ≡ Equal → ordering_then o q ≡ Less → ⊥
+equal_then o q a b lt = (let f = lt in cc)
+
+not_less : (k : BalanceKind) (day : ℕ) (r x : StatementRow) → is_balance_on k day r ≡ true → is_balance_on k day x ≡ true → own.balance_cmp r x ≡ Less → ⊥
+not_less k day r x on also lt =
+    let a = and_parts (place_of r.kind == place_of k) (r.day == day) on in
+    let b = and_parts (place_of x.kind == place_of k) (x.day == day) also in
+    let kinds : nat_cmp (place_of r.kind) (place_of x.kind) ≡ Equal = grind (arith, nat_tests, a.0, b.0) in
+    let days : nat_cmp r.day x.day ≡ Equal = grind (arith, nat_tests, a.1, b.1) in
+    let f = rw (kinds, days) at lt in cc
+
+few_on : (k : BalanceKind) (day : ℕ) (rs : List StatementRow) → IsStrictlySortedBy own.balance_cmp rs → length (filter (is_balance_on k day) rs) ≤ 1
+unfolding IsStrictlySortedBy
+few_on k day [] up = omega arith
+few_on k day (r ∷ rs) up = elim (cases_Bool (is_balance_on k day r)) [
+  | inl on ↦
+      let others : AllByRecursion (λ x. is_balance_on k day x ≡ false) rs =
+      all_weaker (λ x. own.balance_cmp r x ≡ Less) (λ x. is_balance_on k day x ≡ false)
+      (λ x lt. elim (cases_Bool (is_balance_on k day x)) [ inl also ↦ absurd (not_less k day r x on also lt) | inr b ↦ b ]) rs up.0 in
+      rw on (rw (filter_none (is_balance_on k day) rs others) (omega arith))
+  | inr off ↦ rw off (few_on k day rs up.1)
+]
+
+-- the balance that is kept of a kind and day is that of the row of these
+pub kept_is_found : (k : BalanceKind) (day : ℕ) (bs : List Balance) → AllByRecursion IsWrittenBalance bs → IsStrictlySortedBy own.balance_cmp (map balance_from (sort_by balance_cmp bs))
+    → kept_balance k day (map balance_from (sort_by balance_cmp bs)) ≡ option_map (λ (b : Balance). b.amount) (find (is_balance_at (kind_column k) (pos day)) bs)
+kept_is_found k day bs written up =
+    let p = λ (b : Balance). is_balance_on k day (balance_from b) in
+    let q = is_balance_at (kind_column k) (pos day) in
+    let same : AllByRecursion (λ b. p b ≡ q b) bs = all_weaker IsWrittenBalance (λ b. p b ≡ q b) (λ b w. same_test k day b w) bs written in
+    let ys = sort_by balance_cmp bs in
+    let one : length (filter (is_balance_on k day) (map balance_from ys)) ≤ 1 = few_on k day (map balance_from ys) up in
+    let mapped : length (filter (is_balance_on k day) (map balance_from ys)) ≡ length (filter p ys) = ap length (filter-map (is_balance_on k day) balance_from ys) ∙ length-map (filter p ys) balance_from in
+    let sorted : length (filter p bs) ≡ length (filter p ys) = length_permutation _ _ (IsPermutation-filter p _ _ (IsPermutation-sort_by balance_cmp table_total bs)) in
+    let found : find (is_balance_on k day) (map balance_from ys) ≡ option_map balance_from (find q bs) =
+    find_mapped (is_balance_on k day) balance_from ys ∙ ap (option_map balance_from) (find-sort_by balance_cmp p bs (omega (arith, one, mapped, sorted)) ∙ find_same p q bs same) in
+    ap (option_map (λ row. row.amount)) found ∙ amounts (find q bs)
+  where
+    amounts : (o : Option Balance) → option_map (λ (row : StatementRow). row.amount) (option_map balance_from o) ≡ option_map (λ (b : Balance). b.amount) o
+    amounts None = refl
+    amounts (Some b) = refl
+
+-- the number of a row that shows one is its amount
+pub amount_shown : (b : Balance) (r : Row) (z : ℤ) → r ≡ balance_shown b → column r 0 ≡ Int z → z ≡ b.amount
+amount_shown b r z is at =
+    let same : Int b.amount ≡ Int z = ap (λ row. column row 0) (sym is) ∙ at in
+    cc

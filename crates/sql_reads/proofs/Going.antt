@@ -1,0 +1,36 @@
+-- Calls that read, one behind another.
+use Rattle.std.proofs.Common.{◌≡◌, inl, Result, Ok, Err, refl, ◌∙◌}
+use Rattle.sqlite.specs.State.{State, HasCleanDisk}
+use Rattle.trust_base.specs.declared.refusal.StoreFault.{StoreFault}
+use Rattle.trust_base.specs.declared.refusal.StoreFault.TheVariants.{Store}
+use Rattle.sql_tables.specs.Reading.{LeavesAll}
+use Rattle.sql_tables.proofs.Calls.{leaves_on, leaves_then}
+use Rattle.sql_reads.proofs.Calls.{kept_by}
+
+-- reads so far left all as it was, whether the connection was open as they began or not
+pub record GoesOn (old new : State) : Type 0 where
+  pub now : HasCleanDisk new → new.now ≡ old.now
+  pub left : LeavesAll {T = Unit {0}} {E = StoreFault} (Err Store) old new
+
+pub goes_from : (s : State) → GoesOn s s
+goes_from s = record {
+  now = λ clean. refl;
+  left = record {
+    same = λ clean still. record { was_open = still; now = refl; committed = refl };
+    serves = λ clean. tt;
+    was_clean = λ clean. clean;
+    crash = λ clean db may. inl may;
+  };
+}
+
+as_refused : {T : Type 0} (fault : StoreFault) (r : Result T StoreFault) (old new : State) → LeavesAll r old new
+    → LeavesAll {T = Unit {0}} {E = StoreFault} (Err fault) old new
+as_refused fault r old new left = leaves_on r (Err fault) old new (λ e. absurd (let f = e in cc)) left
+
+-- one more that answered
+pub goes_then : {T : Type 0} (a b c : State) (r : Result T StoreFault) (x : T) → r ≡ Ok x → GoesOn a b
+    → LeavesAll r b c → GoesOn a c
+goes_then a b c r x is on left = record {
+  now = λ clean. (kept_by b c r x is left clean).now ∙ on.now (left.was_clean clean);
+  left = leaves_then (Err Store) (Err Store) a b c on.left (as_refused Store r b c left);
+}

@@ -1,0 +1,17 @@
+pub mod BalancesRead
+pub mod Calls
+pub mod EntriesRead
+pub mod Firsts
+pub mod Gathered
+pub mod HeadsRead
+pub mod NamedEntries
+pub mod Parts
+pub mod Values
+pub mod Answer
+pub mod Fed
+pub mod Going
+pub mod Handed
+pub mod Shown
+pub mod Steps
+pub mod Streams
+pub mod Walk

@@ -1,0 +1,186 @@
+-- The matters of a book, one behind another.
+use Rattle.std.proofs.Common.{◌≡◌, inl, inr, ℕ, ℤ, pos, nat_abs, ◌+◌, ◌≤◌, ◌<ℤ◌, int_lt, Bool, true, false, List, [], ◌∷◌, ◌++◌, map, filter, find, length, fold, Some, None, Result, Ok, IsErr, refl, sym, ap, ◌∙◌, subst, arith, length-append}
+use Rattle.std.specs.List.{AllByRecursion}
+use Rattle.std.proofs.lemmas.Int.{ints}
+use Rattle.std.proofs.lemmas.Bool.{cases_Bool}
+use Rattle.sqlite_keyed.specs.Keyed.{IsKeyedBy}
+use Rattle.sqlite_keyed.proofs.ListLemmas.{all_of, all_unmap, all_weaker}
+use Rattle.matter_parts.specs.Parts.{entries_kept}
+use Rattle.firm_rows.specs.Countable.{IsRowInRange, MOST_ROWS}
+use Rattle.firm_rows.specs.Firm.{Row, HeadRow, pairs, seat_pairs, entry_pairs}
+use Rattle.trust_store.specs.declared.plain.KeptMatter.{KeptMatter}
+use Rattle.trust_store.specs.Books.{HandedOver, FoldsFront}
+use Rattle.trust_store.specs.Calls.{AreHanded}
+use Rattle.trust_store.specs.Kept.{IsKeptWhole, joined, kept_pairs, rows_kept}
+use Rattle.trust_store.proofs.KeptMatters.{joined-ranged}
+use Rattle.trust_store.proofs.Sinks.{begun, all_more, some_more, ended, kept-numbered}
+use Rattle.sql_tables.specs.Lists.{Lists}
+use Rattle.sql_tables.specs.Rows as table
+use Rattle.sql_tables.specs.Rows.{is_past}
+use Rattle.sql_rows.specs.Meaning.{AreSound, IsWrittenHead, head_from, kept_from, matter_from, matters_from, part_from, seat_from}
+use Rattle.sql_rows.proofs.RowOrder.{all-find}
+use Rattle.sql_reads.specs.Shown.{entry_rows, numbered_from, rows_at}
+use Rattle.sql_reads.proofs.Fed.{of_err}
+
+-- Heads behind a number.
+
+filter_whole : {X : Type 0} (p : X → Bool) (xs : List X) → AllByRecursion (λ x. p x ≡ true) xs → filter p xs ≡ xs
+filter_whole p [] all = refl
+filter_whole p (x ∷ xs) all = rw all.0 (ap (λ l. x ∷ l) (filter_whole p xs all.1))
+
+pub none_past : {X : Type 0} (p : X → Bool) (xs : List X) → find p xs ≡ None → filter p xs ≡ []
+none_past p [] none = refl
+none_past p (x ∷ xs) none = elim (cases_Bool (p x)) [
+  | inl b ↦ absurd (let e = rw b at none in cc)
+  | inr b ↦ rw b (none_past p xs (rw b at none))
+]
+
+lt_past : (a b : ℤ) → a <ℤ b → int_lt a b ≡ true
+lt_past a b lt = grind (arith, ints)
+
+not_past : (z : ℤ) → int_lt z z ≡ false
+not_past z = grind (arith, ints)
+
+past_after : (a b c : ℤ) → int_lt a b ≡ true → b <ℤ c → int_lt a c ≡ true
+past_after a b c h lt = grind (arith, ints)
+
+past_before : (a b c : ℤ) → int_lt a b ≡ true → int_lt a c ≡ false → int_lt b c ≡ false
+past_before a b c h k = grind (arith, ints)
+
+abbrev key : table.Head → ℤ
+key h = h.no
+
+-- the heads behind a number are the first of them and those behind that
+pub next_past : (after : ℤ) (hs : List table.Head) (h : table.Head) → IsKeyedBy key hs
+    → find (is_past after) hs ≡ Some h → filter (is_past after) hs ≡ h ∷ filter (is_past h.no) hs
+next_past after [] h up found = absurd (let e = found in cc)
+next_past after (x ∷ xs) h up found = elim (cases_Bool (is_past after x)) [
+  | inl b ↦
+      let same : x ≡ h = (let e = rw b at found in cc) in
+      let one = filter_whole (is_past after) xs
+      (all_weaker (λ (y : table.Head). x.no <ℤ y.no) (λ y. is_past after y ≡ true)
+      (λ y lt. past_after after x.no y.no b lt) xs up.0) in
+      let two = filter_whole (is_past x.no) xs
+      (all_weaker (λ (y : table.Head). x.no <ℤ y.no) (λ y. is_past x.no y ≡ true)
+      (λ y lt. lt_past x.no y.no lt) xs up.0) in
+      subst (λ (y : table.Head). filter (is_past after) (x ∷ xs) ≡ y ∷ filter (is_past y.no) (x ∷ xs)) same
+      (rw (b, not_past x.no) (ap (λ l. x ∷ l) (one ∙ sym two)))
+  | inr b ↦
+      let later : find (is_past after) xs ≡ Some h = rw b at found in
+      let none = all_of (λ (y : table.Head). Unit {0}) (λ y. tt) xs in
+      let here = (all-find (λ (y : table.Head). Unit {0}) (is_past after) xs h none later).1 in
+      rw (b, past_before after h.no x.no here b) (next_past after xs h up.1 later)
+]
+
+begin_past : (from z : ℤ) (k : ℕ) → from <ℤ pos 0 → z ≡ pos k → int_lt from z ≡ true
+begin_past from z k low is = grind (arith, ints)
+
+-- every head is behind a number below zero
+pub all_past : (from : ℤ) (hs : List table.Head) → from <ℤ pos 0 → AllByRecursion IsWrittenHead hs → filter (is_past from) hs ≡ hs
+all_past from hs low written =
+    filter_whole (is_past from) hs
+    (all_weaker IsWrittenHead (λ h. is_past from h ≡ true) (λ h w. begin_past from h.no (nat_abs h.no) low w.0) hs written)
+
+-- The rows of one matter.
+
+rows_are : (a : Lists) (h : table.Head) → IsWrittenHead h → IsKeptWhole (matter_from a h)
+    → rows_at a (numbered_from h) ≡ pairs (nat_abs h.no) (rows_kept (part_from a h))
+rows_are a h written whole =
+    let m = nat_abs h.no in
+    let own : pos m ≡ h.no = sym written.0 in
+    let entries = map kept_from (table.entries_of h.no a.entries) in
+    let kept : entry_rows a m ≡ entry_pairs m 1 (entries_kept entries) =
+    ap (λ z. kept_pairs m (map kept_from (table.entries_of z a.entries))) own
+    ∙ kept-numbered m 1 entries whole.whole.numbered in
+    λ i. (m, HeadRow (head_from h)) ∷ (seat_pairs m (map seat_from (table.seats_of (own i) a.seats)) ++ kept i)
+
+-- All of them.
+
+-- the matters behind a number
+abbrev past : Lists → ℤ → List KeptMatter
+past a after = map (matter_from a) (filter (is_past after) a.heads)
+
+-- the rows of the matters up to a number were handed over, and counted
+pub record IsReached {K : Type 0} (step : K → ℕ × Row → K) (a : Lists) (after : ℤ) (count : ℕ) (old now : K)
+    : Type 0 where
+  pub handed : HandedOver step old (joined (matters_from a)) (joined (past a after)) now
+  pub counted : count + length (joined (past a after)) ≡ length (joined (matters_from a))
+
+module _ {K : Type 0} (step : K → ℕ × Row → K) (a : Lists) (sound : AreSound a) where
+  abbrev all : List (ℕ × Row)
+  all = joined (matters_from a)
+
+  pub at_start : (from : ℤ) → from <ℤ pos 0 → (old : K) → IsReached step a from 0 old old
+  at_start from low old =
+      let rest : joined (past a from) ≡ all =
+      ap (λ hs. joined (map (matter_from a) hs)) (all_past from a.heads low sound.meant.written.heads) in
+      record {
+        handed = subst (λ xs. HandedOver step old all xs old) (sym rest) (begun step old all);
+        counted = omega (arith, ap length rest);
+      }
+
+  module _ (after : ℤ) (count : ℕ) (old now : K) (so_far : IsReached step a after count old now) where
+    -- the sink is at some front of the rows
+    pub stopped : FoldsFront step old all now
+    stopped = (joined (past a after), so_far.handed)
+
+    module _ (h : table.Head) (found : find (is_past after) a.heads ≡ Some h) where
+      own_rows : rows_at a (numbered_from h) ≡ pairs (nat_abs h.no) (rows_kept (part_from a h))
+      own_rows =
+          let whole = all_unmap IsKeptWhole (matter_from a) a.heads sound.meant.matters.whole in
+          rows_are a h (all-find IsWrittenHead (is_past after) a.heads h sound.meant.written.heads found).0
+          (all-find (λ x. IsKeptWhole (matter_from a x)) (is_past after) a.heads h whole found).0
+
+      from : joined (past a after) ≡ rows_at a (numbered_from h) ++ joined (past a h.no)
+      from =
+          ap (λ hs. joined (map (matter_from a) hs)) (next_past after a.heads h sound.keyed.heads found)
+          ∙ ap (λ rows. rows ++ joined (past a h.no)) (sym own_rows)
+
+      so : HandedOver step old all (rows_at a (numbered_from h) ++ joined (past a h.no)) now
+      so = subst (λ xs. HandedOver step old all xs now) from so_far.handed
+
+      number : pos (nat_abs h.no) ≡ h.no
+      number = sym (all-find IsWrittenHead (is_past after) a.heads h sound.meant.written.heads found).0.0
+
+      -- the next matter
+      pub reached : (new : K) (rows : ℕ) → new ≡ fold step now (rows_at a (numbered_from h))
+          → rows ≡ length (rows_at a (numbered_from h)) → IsReached step a (pos (nat_abs h.no)) (count + rows) old new
+      reached new rows is counts =
+          let own = rows_at a (numbered_from h) in
+          let others = joined (past a h.no) in
+          subst (λ z. IsReached step a z (count + rows) old new) (sym number)
+          (record {
+            handed = all_more step old now new all own others so is;
+            counted = omega (arith, counts, so_far.counted, ap length from, length-append own others);
+          })
+
+      -- some of it
+      pub stopped_within : (new : K) → FoldsFront step now (rows_at a (numbered_from h)) new
+          → FoldsFront step old all new
+      stopped_within new part =
+          let own = rows_at a (numbered_from h) in
+          let others = joined (past a h.no) in
+          (part.0 ++ others, some_more step old now new all own part.0 others so part.1)
+
+    -- the end
+    pub at_end : {E : Type 0} → find (is_past after) a.heads ≡ None → count ≤ MOST_ROWS
+        → AreHanded {T = Unit {0}} {E = E} step IsRowInRange all (Ok tt) old now
+    at_end none few =
+        let rest : joined (past a after) ≡ [] =
+        ap (λ hs. joined (map (matter_from a) hs)) (none_past (is_past after) a.heads none) in
+        let handed : HandedOver step old all [] now = subst (λ xs. HandedOver step old all xs now) rest so_far.handed in
+        record {
+          all = ended step old now all handed;
+          some = ([], handed);
+          countable = record {
+            few = omega (arith, few, so_far.counted, ap length rest);
+            ranged = joined-ranged (matters_from a) sound.meant.matters.whole;
+          };
+        }
+
+  -- at an error some front is enough
+  pub refused : {E : Type 0} (r : Result (Unit {0}) E) → IsErr r → (old now : K) → FoldsFront step old all now
+      → AreHanded step IsRowInRange all r old now
+  refused r is old now part =
+      of_err (λ r. AreHanded step IsRowInRange all r old now)
+      (λ e. record { all = tt; some = part; countable = tt }) r is

@@ -1,0 +1,74 @@
+use Rattle.std.proofs.Common.{◌≡◌, ℕ, sym, subst}
+use Rattle.sqlite.specs.Effect.{Database}
+use Rattle.sqlite.specs.Held.{state}
+use Rattle.firm_rows.specs.Firm.{Row, HeadRow}
+use Rattle.sql_tables.specs.Lists.{lists_in}
+use Rattle.sql_tables.specs.Standing.{Stands}
+use Rattle.sql_reads.proofs.Calls.{kept_by}
+use Rattle.sql_reads.specs.Fed.{AreCounted}
+use Rattle.sql_reads.specs.Shown.{entry_rows, seat_rows}
+use Rattle.sql_reads.proofs.Fed.{none_counted, first_counted, second_counted, all_counted}
+use Rattle.sql_reads.proofs.matters.hand_matter.Goals as goal
+
+pub returns-in_err-head-clause-handed : goal.returns-in_err-head-clause-handed
+returns-in_err-head-clause-handed g c l clean stands =
+    let m = c.args.next.now.matter in
+    let a = lists_in l (state g.S.Store c.args.conn.now).now.trees in
+    let head : ℕ × Row = (m, HeadRow c.args.next.now.head) in
+    none_counted g.K.RowSink.stepped head (seat_rows a m) (entry_rows a m) c.args.sink.now
+    c.from_residual.result c.from_residual.ensures.0 c.head.new.self c.in_err-head.ensures.err
+
+pub returns-in_err-seats-clause-handed : goal.returns-in_err-seats-clause-handed
+returns-in_err-seats-clause-handed g c l clean stands =
+    let m = c.args.next.now.matter in
+    let a = lists_in l (state g.S.Store c.args.conn.now).now.trees in
+    let head : ℕ × Row = (m, HeadRow c.args.next.now.head) in
+    first_counted g.K.RowSink.stepped head (seat_rows a m) (entry_rows a m) c.args.sink.now
+    c.head.new.self c.in_ok-head.ensures.ok
+    c.from_residual-in_err-seats.result c.from_residual-in_err-seats.ensures.0
+    c.hand_seats.new.sink (c.in_err-seats.ensures.handed l clean stands).some
+
+pub returns-in_err-entries-clause-handed : goal.returns-in_err-entries-clause-handed
+returns-in_err-entries-clause-handed g c l clean stands =
+    let step = g.K.RowSink.stepped in
+    let m = c.args.next.now.matter in
+    let s0 = state g.S.Store c.args.conn.now in
+    let s1 = state g.S.Store c.hand_seats.new.conn in
+    let a = lists_in l s0.now.trees in
+    let head : ℕ × Row = (m, HeadRow c.args.next.now.head) in
+    let t = c.head.new.self in
+    let u = c.hand_seats.new.sink in
+    let v = c.hand_entries.new.sink in
+    let clean1 = c.hand_entries.ensures.left.was_clean clean in
+    let left1 = c.hand_seats.ensures.left in
+    let kept1 = kept_by s0 s1 c.hand_seats.result c.in_ok-seats.seats c.in_ok-seats.was left1 clean1 in
+    let now1 : s1.now ≡ s0.now = kept1.now in
+    let seats = c.in_ok-seats.ensures.handed l clean1 stands in
+    let entries =
+    subst (λ (db : Database). AreCounted step (entry_rows (lists_in l db.trees) m) c.hand_entries.result u v) now1
+    (c.hand_entries.ensures.handed l clean (subst (Stands l) (sym now1) stands)) in
+    second_counted step head (seat_rows a m) (entry_rows a m) c.args.sink.now t c.in_ok-head.ensures.ok u seats.all
+    c.from_residual-in_err-entries.result c.from_residual-in_err-entries.ensures.0 v entries.some
+
+pub returns-clause-handed : goal.returns-clause-handed
+returns-clause-handed g c l clean stands =
+    let step = g.K.RowSink.stepped in
+    let m = c.args.next.now.matter in
+    let s0 = state g.S.Store c.args.conn.now in
+    let s1 = state g.S.Store c.hand_seats.new.conn in
+    let a = lists_in l s0.now.trees in
+    let head : ℕ × Row = (m, HeadRow c.args.next.now.head) in
+    let t = c.head.new.self in
+    let u = c.hand_seats.new.sink in
+    let v = c.hand_entries.new.sink in
+    let clean1 = c.hand_entries.ensures.left.was_clean clean in
+    let left1 = c.hand_seats.ensures.left in
+    let kept1 = kept_by s0 s1 c.hand_seats.result c.in_ok-seats.seats c.in_ok-seats.was left1 clean1 in
+    let now1 : s1.now ≡ s0.now = kept1.now in
+    let seats = c.in_ok-seats.ensures.handed l clean1 stands in
+    let entries =
+    subst (λ (db : Database). AreCounted step (entry_rows (lists_in l db.trees) m) c.hand_entries.result u v) now1
+    (c.hand_entries.ensures.handed l clean (subst (Stands l) (sym now1) stands)) in
+    let done = subst (λ r. AreCounted step (entry_rows a m) r u v) c.in_ok-entries.was entries in
+    all_counted step head (seat_rows a m) (entry_rows a m) c.args.sink.now t c.in_ok-head.ensures.ok u seats.all
+    v done.all c.in_ok-seats.seats c.in_ok-entries.entries seats.count done.count c.row_count.result c.row_count.ensures

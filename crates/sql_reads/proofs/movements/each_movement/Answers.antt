@@ -1,0 +1,41 @@
+use Rattle.std.proofs.Common.{[], map}
+use Rattle.sqlite.specs.Held.{state}
+use Rattle.firm_rows.specs.Countable.{IsMovementInRange}
+use Rattle.sql_tables.specs.Rows.{movements_in, movement_values}
+use Rattle.sql_tables.proofs.Means.{journal_scan_asks, journal_scan_selects}
+use Rattle.sql_tables.proofs.ReadLemmas.{journal_scan_answer}
+use Rattle.sql_rows.specs.Meaning.{movement_from}
+use Rattle.sql_reads.specs.Shown.{movement_at}
+use Rattle.sql_reads.proofs.Handed.{all_handed, all_left, some_handed, some_left}
+use Rattle.sql_reads.proofs.Shown.{movements_shown}
+use Rattle.sql_reads.proofs.movements.each_movement.Goals as goal
+
+pub returns-in_err-hand_rows-clause-handed : goal.returns-in_err-hand_rows-clause-handed
+returns-in_err-hand_rows-clause-handed g c l clean stands =
+    let old = state g.S.Store c.args.conn.now in
+    let movements = movements_in l old.now.trees in
+    some_handed (journal_scan_asks l) [] old (state g.S.Store c.hand_rows.new.conn) stands.tables.schema
+    (map movement_values movements) (λ found a. journal_scan_answer l old.now stands.tables found a)
+    g.K.RowSink.moved movement_at IsMovementInRange (map movement_from movements) (movements_shown movements)
+    c.hand_rows.result c.args.sink.now c.hand_rows.new.sink (c.hand_rows.ensures.handed clean journal_scan_selects)
+    c.from_residual.result c.from_residual.ensures.0
+
+pub returns-in_err-hand_rows-clause-left : goal.returns-in_err-hand_rows-clause-left
+returns-in_err-hand_rows-clause-left g c =
+    some_left c.hand_rows.result (state g.S.Store c.args.conn.now) (state g.S.Store c.hand_rows.new.conn)
+    (c.hand_rows.ensures.left journal_scan_selects) c.from_residual.result c.from_residual.ensures.0
+
+pub returns-clause-handed : goal.returns-clause-handed
+returns-clause-handed g c l clean stands =
+    let old = state g.S.Store c.args.conn.now in
+    let movements = movements_in l old.now.trees in
+    all_handed (journal_scan_asks l) [] old (state g.S.Store c.hand_rows.new.conn) stands.tables.schema
+    (map movement_values movements) (λ found a. journal_scan_answer l old.now stands.tables found a)
+    g.K.RowSink.moved movement_at IsMovementInRange (map movement_from movements) (movements_shown movements)
+    c.hand_rows.result c.in_ok-hand_rows.field-0 c.in_ok-hand_rows.was c.args.sink.now c.hand_rows.new.sink
+    (c.hand_rows.ensures.handed clean journal_scan_selects)
+
+pub returns-clause-left : goal.returns-clause-left
+returns-clause-left g c =
+    all_left c.hand_rows.result (state g.S.Store c.args.conn.now) (state g.S.Store c.hand_rows.new.conn)
+    (c.hand_rows.ensures.left journal_scan_selects) c.in_ok-hand_rows.field-0 c.in_ok-hand_rows.was

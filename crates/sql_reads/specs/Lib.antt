@@ -1,0 +1,3 @@
+pub mod Parts
+pub mod Fed
+pub mod Shown

@@ -1,0 +1,68 @@
+// The firm's own ledger.
+
+ghost use Rattle.std.specs.Prelude.{◌≡◌, false, List, [], ◌∷◌, ◌++◌, map, IfOk, OnOk};
+ghost use Rattle.sqlite.specs.Held.{state};
+ghost use Rattle.sqlite.specs.State.{HasCleanDisk};
+ghost use Rattle.sql_schema.specs.declared.layout.Layout.{Layout};
+ghost use Rattle.sql_tables.specs.Reading.{LeavesAll};
+ghost use Rattle.sql_tables.specs.Rows.{FirmLine as LineRow, firm_line_values};
+ghost use Rattle.sql_rows.specs.Meaning.{firm_line_from};
+ghost use Rattle.sql_rows.specs.Standing.{StandsSound, firm_in};
+
+use crate::columns::firm_line_in;
+use crate::fault::answered;
+use firm_rows::{FirmLedger, FirmLine, MAX_OWN};
+use sql_rows::firm_line_of;
+use sql_tables::reads::firm_line_rows;
+use sqlite::{Alter, Connection, Row};
+use std::alloc::Global;
+use trust_base::StoreFault;
+
+// The line of a row.
+fn line_of(alloc: Global, row: &Row) -> Result<FirmLine, StoreFault>
+    ensures { IfOk result (λ l. (x : LineRow) → row.now ≡ firm_line_values x → l ≡ firm_line_from x) }
+{
+    let columns = firm_line_in(row)?;
+    firm_line_of(alloc, columns)
+}
+
+// Adds a line; Store where the lines would then add up to a balance that the firm may not have.
+fn add_within(ledger: &mut FirmLedger, line: FirmLine) -> Result<(), StoreFault>
+    ensures { OnOk result (ledger.new ≡ ledger.old ++ line ∷ []) }
+{
+    let balance = ledger.balance() + line.amount.get();
+    if balance < 0 || balance > MAX_OWN as i64 {
+        return Err(StoreFault::Store);
+    }
+    ledger.add(line)?;
+    Ok(())
+}
+
+// The ledger of rows.
+fn ledger_of(alloc: Global, rows: &[Row]) -> Result<FirmLedger, StoreFault>
+    ensures { IfOk result (λ ledger. (xs : List LineRow) → rows.now ≡ map firm_line_values xs
+        → ledger ≡ map firm_line_from xs) }
+{
+    let mut ledger = FirmLedger::new(alloc);
+    'each: for row in rows {
+        let line = line_of(alloc, row)?;
+        add_within(&mut ledger, line)?;
+    }
+    Ok(ledger)
+}
+
+/// The firm's own ledger: its lines in the order of acceptance. Rows that add up to a balance that the firm may not
+/// have are Store.
+pub fn firm_ledger<S: Alter>(
+    conn: &mut Connection<S>,
+    alloc: Global,
+) -> Result<FirmLedger, StoreFault>
+    requires { conn.old.in_transaction ≡ false }
+    ensures mode { conn.new.in_transaction ≡ false }
+    ensures found { (l : Layout) → HasCleanDisk (state S.Store conn.new) → StandsSound l (state S.Store conn.old).now
+        → IfOk result (λ ledger. ledger ≡ (firm_in l (state S.Store conn.old).now.trees).firm_lines) }
+    ensures left { LeavesAll result (state S.Store conn.old) (state S.Store conn.new) }
+{
+    let rows = answered(firm_line_rows(conn))?;
+    ledger_of(alloc, &rows)
+}

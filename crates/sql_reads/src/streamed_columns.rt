@@ -1,0 +1,121 @@
+// The columns of a row that a query shows. A value of another type than its column's is Store.
+
+ghost use Rattle.std.specs.Prelude.{◌≡◌, ◌∷◌, pos, IfOk};
+ghost use Rattle.sqlite_value.specs.declared.value.Value.TheVariants.{Int, Null};
+ghost use Rattle.sqlite_value.specs.Order.{column};
+ghost use Rattle.sql_tables.specs.Rows as table;
+ghost use Rattle.sql_tables.specs.Given.{head_given, seat_given, entry_given, movement_given, firm_line_given};
+ghost use Rattle.sql_tables.specs.Given.{exception_given, balance_given};
+
+use crate::value::{number_at, text_at};
+use sql_tables::{
+    BalanceColumns, EntryColumns, ExceptionColumns, FirmLineColumns, HeadColumns, MovementColumns,
+    SeatColumns,
+};
+use sqlite::Row;
+use trust_base::StoreFault;
+
+/// The columns of a seat of a matter, its text that of the row.
+pub(crate) fn seat_in(matter: i64, row: &Row) -> Result<SeatColumns<'_>, StoreFault>
+    ensures { IfOk result (λ c. seat_given c ≡ table.seat_in (Int (pos 0) ∷ Int matter ∷ row.now)) }
+{
+    Ok(SeatColumns {
+        matter,
+        person: text_at(row, 0)?,
+        role: number_at(row, 1)?,
+    })
+}
+
+/// The columns of an entry of a matter behind its number, its texts those of the row.
+pub(crate) fn numbered_in(matter: i64, row: &Row) -> Result<EntryColumns<'_>, StoreFault>
+    ensures { IfOk result (λ c. entry_given c ≡ table.entry_in (Int (pos 0) ∷ Int matter ∷ row.now)) }
+{
+    Ok(EntryColumns {
+        matter,
+        no: number_at(row, 0)?,
+        kind: number_at(row, 1)?,
+        day: number_at(row, 2)?,
+        amount: number_at(row, 3)?,
+        state: number_at(row, 4)?,
+        fund: number_at(row, 5)?,
+        of_no: number_at(row, 6)?,
+        text_a: text_at(row, 7)?,
+        text_b: text_at(row, 8)?,
+        text_c: text_at(row, 9)?,
+        day_done: number_at(row, 10)?,
+        day_undone: number_at(row, 11)?,
+        day_bank: number_at(row, 12)?,
+        bank_ref: text_at(row, 13)?,
+        part: number_at(row, 14)?,
+        left_now: number_at(row, 15)?,
+    })
+}
+
+/// The columns of a head, the number last, its text that of the row.
+pub(crate) fn next_head_in(row: &Row) -> Result<HeadColumns<'_>, StoreFault>
+    ensures { IfOk result (λ c. head_given c ≡ table.head_in (column row.now 12 ∷ Null ∷ row.now)) }
+{
+    Ok(HeadColumns {
+        no: number_at(row, 12)?,
+        client: text_at(row, 0)?,
+        opened: number_at(row, 1)?,
+        closed: number_at(row, 2)?,
+        last: number_at(row, 3)?,
+        entries: number_at(row, 4)?,
+        held: number_at(row, 5)?,
+        available: number_at(row, 6)?,
+        disputed: number_at(row, 7)?,
+        fees: number_at(row, 8)?,
+        claims: number_at(row, 9)?,
+        pending: number_at(row, 10)?,
+        purged: number_at(row, 11)?,
+    })
+}
+
+/// The columns of a movement.
+pub(crate) fn movement_in(row: &Row) -> Result<MovementColumns, StoreFault>
+    ensures { IfOk result (λ c. movement_given c ≡ table.movement_in (Int (pos 0) ∷ Null ∷ row.now)) }
+{
+    Ok(MovementColumns {
+        matter: number_at(row, 0)?,
+        entry: number_at(row, 1)?,
+        day: number_at(row, 2)?,
+        amount: number_at(row, 3)?,
+    })
+}
+
+/// The columns of a line of the firm's own, its texts those of the row.
+pub(crate) fn firm_line_in(row: &Row) -> Result<FirmLineColumns<'_>, StoreFault>
+    ensures { IfOk result (λ c. firm_line_given c ≡ table.firm_line_in (Int (pos 0) ∷ Null ∷ row.now)) }
+{
+    Ok(FirmLineColumns {
+        day: number_at(row, 0)?,
+        bank_ref: text_at(row, 1)?,
+        amount: number_at(row, 2)?,
+        text: text_at(row, 3)?,
+    })
+}
+
+/// The columns of an exception, its texts those of the row.
+pub(crate) fn exception_in(row: &Row) -> Result<ExceptionColumns<'_>, StoreFault>
+    ensures { IfOk result (λ c. exception_given c ≡ table.exception_in (Int (pos 0) ∷ row.now)) }
+{
+    Ok(ExceptionColumns {
+        day: number_at(row, 0)?,
+        reference: text_at(row, 1)?,
+        bank_ref: text_at(row, 2)?,
+        amount: number_at(row, 3)?,
+        text: text_at(row, 4)?,
+    })
+}
+
+/// The columns of a balance.
+pub(crate) fn balance_in(row: &Row) -> Result<BalanceColumns, StoreFault>
+    ensures { IfOk result (λ c. balance_given c ≡ table.balance_in (Int (pos 0) ∷ row.now)) }
+{
+    Ok(BalanceColumns {
+        kind: number_at(row, 0)?,
+        day: number_at(row, 1)?,
+        amount: number_at(row, 2)?,
+    })
+}

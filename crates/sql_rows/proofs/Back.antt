@@ -1,0 +1,67 @@
+-- An entry that is read back from its columns is the entry.
+use Rattle.std.proofs.Common.{◌≡◌, refl, ap}
+use Rattle.matter_rows.specs.declared.payment.Fund.{Fund}
+use Rattle.matter_rows.specs.declared.payment.Fund.TheVariants as fund
+use Rattle.matter_rows.specs.declared.payment.Payment.{Payment}
+use Rattle.matter_rows.specs.declared.payment.PaymentState.{PaymentState}
+use Rattle.matter_rows.specs.declared.payment.PaymentState.TheVariants as payment
+use Rattle.matter_rows.specs.declared.deposit.Deposit.{Deposit}
+use Rattle.matter_rows.specs.declared.deposit.DepositState.{DepositState}
+use Rattle.matter_rows.specs.declared.deposit.DepositState.TheVariants as deposit
+use Rattle.matter_rows.specs.declared.claim.Claim.{Claim}
+use Rattle.matter_rows.specs.declared.claim.ClaimState.{ClaimState}
+use Rattle.matter_rows.specs.declared.claim.ClaimState.TheVariants as claim
+use Rattle.matter_rows.specs.declared.claim.Against.{Against}
+use Rattle.matter_rows.specs.declared.claim.Against.TheVariants as against
+use Rattle.matter_rows.specs.declared.entry.Entry.{Entry}
+use Rattle.matter_rows.specs.declared.entry.Entry.TheVariants as entry
+use Rattle.sql_rows.specs.Entries.{parts_of}
+use Rattle.sql_rows.specs.Meaning.{entry_from}
+use Rattle.sql_rows.specs.Standing.{EntriesReadBack}
+
+deposit_back : (s : DepositState) (d : Deposit)
+    → entry_from (parts_of (entry.Deposit (record d { state = s }))) ≡ entry.Deposit (record d { state = s })
+deposit_back deposit.Held d = refl
+deposit_back (deposit.Cleared c) d = refl
+deposit_back (deposit.Cancelled day) d = refl
+deposit_back (deposit.Returned r) d = refl
+
+payment_back : (f : Fund) (s : PaymentState) (p : Payment)
+    → entry_from (parts_of (entry.Payment (record p { state = s; fund = f })))
+    ≡ entry.Payment (record p { state = s; fund = f })
+payment_back fund.General payment.Proposed p = refl
+payment_back fund.General payment.Declined p = refl
+payment_back fund.General (payment.Issued day) p = refl
+payment_back fund.General (payment.Cleared c) p = refl
+payment_back fund.General (payment.Voided v) p = refl
+payment_back (fund.Fee k) payment.Proposed p = refl
+payment_back (fund.Fee k) payment.Declined p = refl
+payment_back (fund.Fee k) (payment.Issued day) p = refl
+payment_back (fund.Fee k) (payment.Cleared c) p = refl
+payment_back (fund.Fee k) (payment.Voided v) p = refl
+payment_back (fund.Claim k) payment.Proposed p = refl
+payment_back (fund.Claim k) payment.Declined p = refl
+payment_back (fund.Claim k) (payment.Issued day) p = refl
+payment_back (fund.Claim k) (payment.Cleared c) p = refl
+payment_back (fund.Claim k) (payment.Voided v) p = refl
+
+claim_back : (a : Against) (s : ClaimState) (c : Claim)
+    → entry_from (parts_of (entry.Claim (record c { state = s; against = a })))
+    ≡ entry.Claim (record c { state = s; against = a })
+claim_back (against.General t) claim.Open c = refl
+claim_back (against.General t) (claim.Offered part) c = refl
+claim_back (against.General t) (claim.Settled s) c = refl
+claim_back (against.Fee k) claim.Open c = refl
+claim_back (against.Fee k) (claim.Offered part) c = refl
+claim_back (against.Fee k) (claim.Settled s) c = refl
+
+-- an entry is read from its columns
+pub entry_back : (e : Entry) → entry_from (parts_of e) ≡ e
+entry_back (entry.Deposit d) = deposit_back d.state d
+entry_back (entry.Payment p) = payment_back p.fund p.state p
+entry_back (entry.Fee f) = refl
+entry_back (entry.Claim c) = claim_back c.against c.state c
+
+-- also with its number and what is left of it
+pub entries_back : EntriesReadBack
+entries_back m n left e = ap (λ x. record { number = n; left = left; entry = x }) (entry_back e)

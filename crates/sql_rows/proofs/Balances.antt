@@ -1,0 +1,114 @@
+-- The balances of a firm, as their table keeps them and in their order.
+use Rattle.std.proofs.Common.{◌≡◌, ℕ, ℤ, pos, nat_abs, eqb, Bool, true, false, ◌&&◌, cond, List, [], ◌∷◌, map, Some, None, find, option_map, refl, sym, ap, ap₂, ◌∙◌, arith, int_cmp, is_eq}
+use Rattle.std.specs.List.{AllByRecursion}
+use Rattle.std.specs.Cmp.{IsTotalOrder, tied_then}
+use Rattle.std.specs.Ordering.{nat_cmp, ordering_then}
+use Rattle.std.proofs.lemmas.Bool.Decides.{nat_tests}
+use Rattle.std.proofs.lemmas.Cmp.{int_cmp_total, on_total, then_total}
+use Rattle.sqlite_keyed.specs.Keyed.{IsKeyedBy, next_key}
+use Rattle.sqlite_keyed.specs.Lists.{sort_by}
+use Rattle.sqlite_keyed.proofs.ListLemmas.{all_weaker, all-append, all_unmap}
+use Rattle.sqlite_keyed.proofs.SortLemmas.{IsPermutation-sort_by}
+use Rattle.firm_rows.specs.declared.ledger.BalanceKind.{BalanceKind}
+use Rattle.firm_rows.specs.declared.ledger.BalanceKind.TheVariants.{Opening, Closing}
+use Rattle.firm_rows.specs.declared.ledger.StatementRow.{StatementRow}
+use Rattle.firm_rows.specs.FirmLines as firm
+use Rattle.firm_rows.specs.FirmLines.{place_of, with_balance, is_balance_on, kept_balance}
+use Rattle.firm_rows.proofs.Balances.{balance_total}
+use Rattle.sql_tables.specs.Rows.{Balance, balance_cmp, add_balance}
+use Rattle.sql_rows.specs.Columns.{kind_column, balance_columns}
+use Rattle.sql_rows.specs.Meaning.{IsWrittenBalance, balance_from, balance_kind_from}
+use Rattle.sql_rows.proofs.RowOrder.{all_permuted, read-push, read_cmp, then_assoc}
+
+-- The order of the rows is that of the balances, and then that of the rowids.
+
+row_total : IsTotalOrder balance_cmp
+row_total =
+    then_total (on_total (λ (b : Balance). b.kind) int_cmp_total)
+    (then_total (on_total (λ (b : Balance). b.day) int_cmp_total) (on_total (λ (b : Balance). b.id) int_cmp_total))
+
+kind_cmp : (k l : BalanceKind) → int_cmp (kind_column k) (kind_column l) ≡ nat_cmp (place_of k) (place_of l)
+kind_cmp Opening Opening = refl
+kind_cmp Opening Closing = refl
+kind_cmp Closing Opening = refl
+kind_cmp Closing Closing = refl
+
+of_kind : (b : Balance) → IsWrittenBalance b → b.kind ≡ kind_column (balance_kind_from b.kind)
+of_kind b is = ap (λ (x : Balance). x.kind) is
+
+dated : (b : Balance) → IsWrittenBalance b → b.day ≡ pos (nat_abs b.day)
+dated b is = ap (λ (x : Balance). x.day) is
+
+balances_agree : (a b : Balance) → IsWrittenBalance a → IsWrittenBalance b
+    → balance_cmp a b ≡ ordering_then (firm.balance_cmp (balance_from a) (balance_from b)) (int_cmp a.id b.id)
+balances_agree a b is also =
+    let kinds : int_cmp a.kind b.kind
+    ≡ nat_cmp (place_of (balance_kind_from a.kind)) (place_of (balance_kind_from b.kind)) =
+    (λ i. int_cmp (of_kind a is i) (of_kind b also i))
+    ∙ kind_cmp (balance_kind_from a.kind) (balance_kind_from b.kind) in
+    let days = read_cmp a.day b.day (dated a is) (dated b also) in
+    then_assoc (int_cmp a.kind b.kind) (int_cmp a.day b.day) (int_cmp a.id b.id)
+    ∙ (λ i. ordering_then (ordering_then (kinds i) (days i)) (int_cmp a.id b.id))
+
+abbrev key : Balance → ℤ
+key b = b.id
+
+-- the balances for which the rows stand
+abbrev balances_from : List Balance → List StatementRow
+balances_from bs = map balance_from (sort_by balance_cmp bs)
+
+-- With a balance.
+
+equal_test : (m n : ℕ) → eqb m n ≡ is_eq (nat_cmp m n)
+equal_test m n = grind (arith, nat_tests)
+
+-- a balance is of another's kind and day where it ties with that
+on_tied : (row x : StatementRow) → is_balance_on row.kind row.day x ≡ is_eq (firm.balance_cmp x row)
+on_tied row x =
+    ap₂ ◌&&◌ (equal_test (place_of x.kind) (place_of row.kind)) (equal_test x.day row.day)
+    ∙ tied_then (nat_cmp (place_of x.kind) (place_of row.kind)) (nat_cmp x.day row.day)
+
+none_on : (row : StatementRow) (rows : List StatementRow) → kept_balance row.kind row.day rows ≡ None
+    → AllByRecursion (λ x. is_eq (firm.balance_cmp x row) ≡ false) rows
+none_on row [] none = tt
+none_on row (x ∷ xs) none = go (is_balance_on row.kind row.day x) refl none (none_on row xs)
+  where
+    go : (b : Bool) → is_balance_on row.kind row.day x ≡ b
+        → option_map (λ (r : StatementRow). r.amount) (cond b (Some x) (find (is_balance_on row.kind row.day) xs))
+        ≡ None
+        → (kept_balance row.kind row.day xs ≡ None → AllByRecursion (λ y. is_eq (firm.balance_cmp y row) ≡ false) xs)
+        → AllByRecursion (λ y. is_eq (firm.balance_cmp y row) ≡ false) (x ∷ xs)
+    go true on none more = absurd (cc)
+    go false off none more = (sym (on_tied row x) ∙ off, more none)
+
+-- the row that is put behind the others
+abbrev added : StatementRow → List Balance → Balance
+added row bs = record (balance_columns row) { id = next_key key bs }
+
+kind_back : (k : BalanceKind) → balance_kind_from (kind_column k) ≡ k
+kind_back Opening = refl
+kind_back Closing = refl
+
+back : (row : StatementRow) (bs : List Balance) → balance_from (added row bs) ≡ row
+back row bs = λ i. record row { kind = kind_back row.kind i }
+
+is_written : (row : StatementRow) (bs : List Balance) → IsWrittenBalance (added row bs)
+is_written row bs = ap balance_columns (sym (back row bs))
+
+-- a balance of another kind or day than each comes to its place among those for which the rows stand
+pub balances_with : (row : StatementRow) (bs : List Balance) → IsKeyedBy key bs → AllByRecursion IsWrittenBalance bs
+    → kept_balance row.kind row.day (balances_from bs) ≡ None
+    → balances_from (add_balance (balance_columns row) bs) ≡ with_balance row (balances_from bs)
+balances_with row bs up all none =
+    let apart : AllByRecursion (λ b. is_eq (firm.balance_cmp (balance_from b) row) ≡ false) bs =
+    all_permuted _ (sort_by balance_cmp bs) bs (IsPermutation-sort_by balance_cmp row_total bs)
+    (all_unmap _ balance_from (sort_by balance_cmp bs) (none_on row (balances_from bs) none)) in
+    read-push key balance_cmp row_total firm.balance_cmp balance_total balance_from IsWrittenBalance balances_agree bs
+    (added row bs) up all (is_written row bs)
+    (all_weaker _ _ (λ b h. ap (λ x. is_eq (firm.balance_cmp (balance_from b) x)) (back row bs) ∙ h) bs apart)
+    ∙ ap (λ x. with_balance x (balances_from bs)) (back row bs)
+
+-- and each row is what would be written
+pub added_written : (row : StatementRow) (bs : List Balance) → AllByRecursion IsWrittenBalance bs
+    → AllByRecursion IsWrittenBalance (add_balance (balance_columns row) bs)
+added_written row bs all = all-append IsWrittenBalance bs (added row bs ∷ []) all (is_written row bs, tt)

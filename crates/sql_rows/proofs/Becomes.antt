@@ -1,0 +1,281 @@
+-- What a change of one matter makes of the firm for which the tables stand.
+use Rattle.std.proofs.Common.{◌≡◌, ℕ, ℤ, pos, List, [], ◌++◌, map, find, Option, Some, None, option_map, refl, sym, ap, subst, ◌∙◌}
+use Rattle.std.specs.List.{AllByRecursion}
+use Rattle.sqlite_keyed.specs.Keyed.{IsKeyedBy}
+use Rattle.sqlite_keyed.specs.Lists.{sort_by}
+use Rattle.sqlite_keyed.proofs.ListLemmas.{all_weaker}
+use Rattle.matter_rows.specs.declared.head.Head.{Head}
+use Rattle.matter_rows.specs.declared.entry.Entry.{Entry}
+use Rattle.matter_rows.specs.Rows.{Rows, unopened}
+use Rattle.matter_rows.specs.Sound.{Sound}
+use Rattle.matter_parts.specs.declared.edit.Edit.TheVariants as edit
+use Rattle.matter_parts.specs.declared.figures.Figures.{Figures}
+use Rattle.matter_parts.specs.declared.kept.Kept.{Kept}
+use Rattle.matter_parts.specs.Parts.{Part, IsWhole, AreKept, AreFigures, AreNumbered, entries_kept, no_figures}
+use Rattle.matter_parts.specs.Changes.{MatterChange, IsChange, changed, edited, head_after, seats_after}
+use Rattle.firm_rows.specs.Firm.{of, after_change, kept_movements, joined_movement}
+use Rattle.firm_rows.proofs.Kept.{unopened-sound}
+use Rattle.trust_store.specs.Kept.{rows_in, firm_of, IsKeptAs, AreKeptWhole}
+use Rattle.trust_store.proofs.KeptMatters.{change_in, kept-whole, written_firm}
+use Rattle.sql_tables.specs.Rows as table
+use Rattle.sql_tables.specs.Rows.{put_head, is_head, seats_of, entries_of}
+use Rattle.sql_tables.specs.Lists.{Lists}
+use Rattle.sql_rows.specs.Heads.{head_columns}
+use Rattle.sql_rows.specs.Meaning.{AreMeant, HasHeadAt, IsWrittenSeat, IsWrittenEntry, IsWrittenMovement, firm_from, matters_from, part_from, head_from, figures_from, seat_from, kept_from, movement_from, firm_line_from, exception_from, balance_from}
+use Rattle.sql_rows.specs.Steps.{head_at}
+use Rattle.sql_rows.proofs.EntryWritten.{AreEntered}
+use Rattle.sql_rows.proofs.HeadOrder.{key, rows_found}
+use Rattle.sql_rows.proofs.Heads.{heads_put, rows_at, found_number, part_found, whole_found, HasDays, written_put_head, has_put_head, still_has_head}
+use Rattle.sql_rows.proofs.KeyedRows.{none_of}
+use Rattle.sql_rows.proofs.Seats.{AreSeated, no_seats}
+
+-- The matter before.
+
+-- the totals that are kept with the head, or none
+abbrev pub figures_found : Option table.Head → Figures
+figures_found None = no_figures
+figures_found (Some h) = figures_from h
+
+-- what the tables keep of a matter, whether it has a head or not
+abbrev pub part_at : ℕ → Lists → Part
+part_at m a = record {
+  head = head_at m a;
+  seats = map seat_from (seats_of (pos m) a.seats);
+  figures = figures_found (find (is_head (pos m)) a.heads);
+  kept = map kept_from (entries_of (pos m) a.entries);
+}
+
+nothing_whole : IsWhole (record { head = None; seats = []; figures = no_figures; kept = [] }) unopened
+nothing_whole = record {
+  part = record {
+    head = refl;
+    seats = refl;
+    figures = record {
+      entries = refl;
+      pending = refl;
+      held = refl;
+      available = refl;
+      disputed = refl;
+      fees = refl;
+      claims = refl;
+    };
+    kept = λ n k there. absurd (cc);
+  };
+  entries = refl;
+  numbered = tt;
+}
+
+-- it is whole for the matter's rows
+pub whole_at : (a : Lists) (m : ℕ) → IsKeyedBy key a.heads → AreMeant a
+    → IsWhole (part_at m a) (rows_in m (matters_from a))
+whole_at a m up meant = cases (find (is_head (pos m)) a.heads) refl
+  where
+    cases : (o : Option table.Head) → find (is_head (pos m)) a.heads ≡ o
+        → IsWhole (part_at m a) (rows_in m (matters_from a))
+    cases None none =
+        let seats : seats_of (pos m) a.seats ≡ [] = no_seats a.heads (pos m) a.seats none meant.seated in
+        let entries : entries_of (pos m) a.entries ≡ [] =
+        ap (sort_by table.entry_cmp) (none_of (λ (e : table.Entry). e.matter) a.heads (pos m) a.entries none
+        meant.entered) in
+        let rows : rows_in m (matters_from a) ≡ unopened =
+        rows_at a m up meant.written.heads ∙ ap (rows_found (part_from a)) none in
+        let is : part_at m a ≡ record { head = None; seats = []; figures = no_figures; kept = [] } =
+        (λ i. record {
+          head = option_map head_from (none i);
+          seats = map seat_from (seats i);
+          figures = figures_found (none i);
+          kept = map kept_from (entries i);
+        }) in
+        subst (IsWhole (part_at m a)) (sym rows) (subst (λ (p : Part). IsWhole p unopened) (sym is) nothing_whole)
+    cases (Some h) found =
+        let no_is : h.no ≡ pos m = found_number a m h found in
+        let is : part_at m a ≡ part_from a h =
+        (λ i. record {
+          head = option_map head_from (found i);
+          seats = map seat_from (seats_of (sym no_is i) a.seats);
+          figures = figures_found (found i);
+          kept = map kept_from (entries_of (sym no_is i) a.entries);
+        }) in
+        subst (λ (p : Part). IsWhole p (rows_in m (matters_from a))) (sym is)
+        (part_found a m h up meant.written.heads meant.matters found)
+
+-- and they are sound
+pub sound_at : (a : Lists) (m : ℕ) → IsKeyedBy key a.heads → AreMeant a → Sound (rows_in m (matters_from a))
+sound_at a m up meant = cases (find (is_head (pos m)) a.heads) refl
+  where
+    cases : (o : Option table.Head) → find (is_head (pos m)) a.heads ≡ o → Sound (rows_in m (matters_from a))
+    cases None none =
+        subst Sound (sym (rows_at a m up meant.written.heads ∙ ap (rows_found (part_from a)) none)) unopened-sound
+    cases (Some h) found =
+        subst Sound (sym (rows_at a m up meant.written.heads ∙ ap (rows_found (part_from a)) found))
+        (whole_found a m h meant.matters found).sound
+
+-- a change of the firm's is one of its rows
+pub change_at : (a : Lists) (m : ℕ) (c : MatterChange) → AreMeant a → IsChange (of m (firm_from a)) c
+    → IsChange (rows_in m (matters_from a)) c
+change_at a m c meant may =
+    change_in m (matters_from a) (map movement_from a.movements) (map firm_line_from a.firm_lines)
+    (map exception_from (sort_by table.exception_cmp a.exceptions))
+    (map balance_from (sort_by table.balance_cmp a.balances))
+    (firm_from a) c meant.matters.ascends refl may
+
+-- The matter after a change of its head and seats.
+
+-- these are kept entries of a matter with these entries
+pub record AreEntries (ks : List Kept) (es : List Entry) : Type 0 where
+  pub own : AreKept ks es
+  pub entries : entries_kept ks ≡ es
+  pub numbered : AreNumbered 1 ks
+
+-- none are those of a matter without entries
+pub no_entries : AreEntries [] []
+no_entries = record { own = λ n k there. absurd (cc); entries = refl; numbered = tt }
+
+-- what is kept of whole rows is that of their entries
+pub whole_entries : (part : Part) (rows : Rows) → IsWhole part rows → AreEntries part.kept rows.entries
+whole_entries part rows w = record { own = w.part.kept; entries = w.entries; numbered = w.numbered }
+
+-- with the head, the seats and the totals that the change says
+pub whole_after : (new : Part) (rows : Rows) (c : MatterChange) → IsChange rows c
+    → new.head ≡ head_after rows.head c.edit c.last → new.seats ≡ seats_after rows.seats c.edit
+    → new.figures ≡ c.moves.figures
+    → AreEntries new.kept (edited rows.entries c.edit) → IsWhole new (changed c rows)
+whole_after new rows c may head seats figures are = record {
+  part = record {
+    head = head;
+    seats = seats;
+    figures = subst (λ (f : Figures). AreFigures f (edited rows.entries c.edit)) (sym figures) may.figures;
+    kept = are.own;
+  };
+  entries = are.entries;
+  numbered = are.numbered;
+}
+
+-- The firm after it.
+
+-- the head of the matter is put in and its part is what the change makes of it; the other parts stay; the movements are
+-- those that the change leaves and what it moves; the firm's own tables stay
+record IsMatterPut (m : ℕ) (c : MatterChange) (a b : Lists) (new : table.Head) : Type 0 where
+  own : new.no ≡ pos m
+  heads : b.heads ≡ put_head new a.heads
+  others : (h : table.Head) → (h.no ≡ pos m → ⊥) → part_from b h ≡ part_from a h
+  whole : IsWhole (part_from b new) (changed c (rows_in m (matters_from a)))
+  movements : map movement_from b.movements
+      ≡ kept_movements m c.edit (map movement_from a.movements ++ joined_movement m c.movement)
+  firm_lines : b.firm_lines ≡ a.firm_lines
+  exceptions : b.exceptions ≡ a.exceptions
+  balances : b.balances ≡ a.balances
+
+-- the firm is that after the change, and its matters are whole
+matter_becomes : (m : ℕ) (c : MatterChange) (a b : Lists) (new : table.Head) → IsKeyedBy key a.heads → AreMeant a
+    → IsChange (of m (firm_from a)) c → (c.edit ≡ edit.Nothing → ⊥) → IsMatterPut m c a b new
+    → (firm_from b ≡ after_change m c (firm_from a)) × AreKeptWhole (matters_from b)
+matter_becomes m c a b new up meant may some is =
+    let ks = matters_from a in
+    let moves = map movement_from a.movements in
+    let own = map firm_line_from a.firm_lines in
+    let lines = map exception_from (sort_by table.exception_cmp a.exceptions) in
+    let balances = map balance_from (sort_by table.balance_cmp a.balances) in
+    let here : IsChange (rows_in m ks) c = change_at a m c meant may in
+    let kept : IsKeptAs m (changed c (rows_in m ks)) ks (matters_from b) = record {
+      part = part_from b new;
+      whole = is.whole;
+      kept = heads_put a b m new up meant.written.heads is.own is.heads is.others;
+    } in (
+      (λ i. firm_of (matters_from b) (map movement_from b.movements) (map firm_line_from (is.firm_lines i))
+          (map exception_from (sort_by table.exception_cmp (is.exceptions i)))
+          (map balance_from (sort_by table.balance_cmp (is.balances i))))
+          ∙ written_firm m c ks (matters_from b) moves (map movement_from b.movements) own lines balances
+          meant.matters.ascends here kept is.movements (firm_from a) some refl,
+      kept-whole m (changed c (rows_in m ks)) ks (matters_from b) here.sound kept meant.matters,
+    )
+
+-- The rows of the other tables.
+
+-- of other matters the seats and the entries stay; all are written ones, of matters with a head
+pub record ArePlaced (m : ℕ) (a : Lists) (seats : List table.Seat) (entries : List table.Entry)
+    (movements : List table.Movement) : Type 0 where
+  pub other_seats : (k : ℤ) → (k ≡ pos m → ⊥) → seats_of k seats ≡ seats_of k a.seats
+  pub other_entries : (k : ℤ) → (k ≡ pos m → ⊥) → entries_of k entries ≡ entries_of k a.entries
+  pub seats_written : AllByRecursion IsWrittenSeat seats
+  pub entries_written : AllByRecursion IsWrittenEntry entries
+  pub movements_written : AllByRecursion IsWrittenMovement movements
+  pub seated : (heads : List table.Head) → HasHeadAt heads (pos m) → AreSeated heads a.seats → AreSeated heads seats
+  pub entered : (heads : List table.Head) → HasHeadAt heads (pos m) → AreEntered heads a.entries
+      → AreEntered heads entries
+
+-- the lists with another head of a matter, and other seats, entries and movements
+abbrev pub with_matter : Lists → table.Head → List table.Seat → List table.Entry → List table.Movement → Lists
+with_matter a new seats entries movements = record a {
+  heads = put_head new a.heads;
+  seats = seats;
+  entries = entries;
+  movements = movements;
+}
+
+-- The firm after the steps.
+
+-- what the steps of a change of a matter make: the rows stand for the firm after it, and the exceptions stay
+pub record IsMatterMade (m : ℕ) (c : MatterChange) (a b : Lists) : Type 0 where
+  pub firm : firm_from b ≡ after_change m c (firm_from a)
+  pub meant : AreMeant b
+  pub exceptions : b.exceptions ≡ a.exceptions
+
+-- the head and the rows behind it are put in
+module _ (m : ℕ) (c : MatterChange) (a : Lists) (h : Head) (seats : List table.Seat) (entries : List table.Entry)
+    (movements : List table.Movement) where
+  abbrev new : table.Head
+  new = head_columns m h c.moves.figures
+
+  abbrev end : Lists
+  end = with_matter a new seats entries movements
+
+  -- tables with these rows stand for the firm after the change, where the matter's rows are those after it
+  pub matter_done : (b : Lists) → b ≡ end → IsKeyedBy key a.heads → AreMeant a → IsChange (of m (firm_from a)) c
+      → (c.edit ≡ edit.Nothing → ⊥) → HasDays h → ArePlaced m a seats entries movements
+      → IsWhole (part_from end new) (changed c (rows_in m (matters_from a)))
+      → map movement_from movements
+      ≡ kept_movements m c.edit (map movement_from a.movements ++ joined_movement m c.movement)
+      → IsMatterMade m c a b
+  matter_done b same up meant may some days placed whole moved =
+      let put : IsMatterPut m c a end new = record {
+        own = refl;
+        heads = refl;
+        others = λ x other. λ i. record {
+          head = Some (head_from x);
+          seats = map seat_from (placed.other_seats x.no other i);
+          figures = figures_from x;
+          kept = map kept_from (placed.other_entries x.no other i);
+        };
+        whole = whole;
+        movements = moved;
+        firm_lines = refl;
+        exceptions = refl;
+        balances = refl;
+      } in
+      let done = matter_becomes m c a end new up meant may some put in
+      let here : HasHeadAt end.heads (pos m) = has_put_head new a.heads in
+      let still : (k : ℤ) → HasHeadAt a.heads k → HasHeadAt end.heads k = still_has_head new a.heads in
+      let rows : AreMeant end = record {
+        written = record {
+          heads = written_put_head m h c.moves.figures a.heads days meant.written.heads;
+          seats = placed.seats_written;
+          entries = placed.entries_written;
+          movements = placed.movements_written;
+          firm_lines = meant.written.firm_lines;
+          exceptions = meant.written.exceptions;
+          balances = meant.written.balances;
+        };
+        matters = done.1;
+        seated = placed.seated end.heads here
+            (all_weaker (λ (s : table.Seat). HasHeadAt a.heads s.matter)
+            (λ (s : table.Seat). HasHeadAt end.heads s.matter) (λ s has. still s.matter has) a.seats meant.seated);
+        entered = placed.entered end.heads here
+            (all_weaker (λ (e : table.Entry). HasHeadAt a.heads e.matter)
+            (λ (e : table.Entry). HasHeadAt end.heads e.matter) (λ e has. still e.matter has) a.entries meant.entered);
+      } in
+      record {
+        firm = ap firm_from same ∙ done.0;
+        meant = subst AreMeant (sym same) rows;
+        exceptions = ap (λ (l : Lists). l.exceptions) same;
+      }

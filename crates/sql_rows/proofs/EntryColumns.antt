@@ -1,0 +1,91 @@
+-- The columns of an entry have what its kind and state want.
+use Rattle.std.proofs.Common.{◌≡◌, ℕ, pos, refl, ap, sym, subst}
+use Rattle.matter_rows.specs.declared.deposit.Deposit.{Deposit}
+use Rattle.matter_rows.specs.declared.deposit.DepositState.{DepositState}
+use Rattle.matter_rows.specs.declared.deposit.DepositState.TheVariants as deposit
+use Rattle.matter_rows.specs.declared.payment.Payment.{Payment}
+use Rattle.matter_rows.specs.declared.payment.PaymentState.{PaymentState}
+use Rattle.matter_rows.specs.declared.payment.PaymentState.TheVariants as payment
+use Rattle.matter_rows.specs.declared.claim.Claim.{Claim}
+use Rattle.matter_rows.specs.declared.claim.ClaimState.{ClaimState}
+use Rattle.matter_rows.specs.declared.claim.ClaimState.TheVariants as claim
+use Rattle.matter_rows.specs.declared.claim.Against.{Against}
+use Rattle.matter_rows.specs.declared.claim.Against.TheVariants as against
+use Rattle.matter_rows.specs.declared.entry.Entry.{Entry}
+use Rattle.matter_rows.specs.declared.entry.Entry.TheVariants as entry
+use Rattle.matter_parts.specs.declared.kept.Kept.{Kept}
+use Rattle.sql_tables.specs.Rows as table
+use Rattle.sql_rows.specs.Entries.{parts_of, entry_columns, HasEntry}
+
+-- its columns have the entry, with its day and its amount
+abbrev HasItself : ℕ → ℕ → ℕ → Entry → Type 0
+HasItself m n left e = HasEntry e (parts_of e).day (parts_of e).amount (entry_columns m n left e)
+
+deposit_has :
+    (m n left : ℕ) (s : DepositState) (d : Deposit)
+    → HasItself m n left (entry.Deposit (record d { state = s }))
+deposit_has m n left deposit.Held d = (refl, (refl, refl, refl, refl, refl))
+deposit_has m n left (deposit.Cleared c) d = (refl, (refl, refl, refl, refl, (refl, (refl, refl))))
+deposit_has m n left (deposit.Cancelled on) d = (refl, (refl, refl, refl, refl, (refl, refl)))
+deposit_has m n left (deposit.Returned r) d =
+    (refl, (refl, refl, refl, refl, (refl, ((refl, refl), (refl, refl), refl))))
+
+payment_has :
+    (m n left : ℕ) (s : PaymentState) (p : Payment)
+    → HasItself m n left (entry.Payment (record p { state = s }))
+payment_has m n left payment.Proposed p = (refl, (refl, refl, (refl, refl), refl, refl, refl, refl))
+payment_has m n left payment.Declined p = (refl, (refl, refl, (refl, refl), refl, refl, refl, refl))
+payment_has m n left (payment.Issued on) p = (refl, (refl, refl, (refl, refl), refl, refl, refl, (refl, refl)))
+payment_has m n left (payment.Cleared s) p =
+    (refl, (refl, refl, (refl, refl), refl, refl, refl, (refl, refl, (refl, refl))))
+payment_has m n left (payment.Voided s) p = (refl, (refl, refl, (refl, refl), refl, refl, refl, (refl, refl, refl)))
+
+claim_has :
+    (m n left : ℕ) (a : Against) (s : ClaimState) (c : Claim)
+    → HasItself m n left (entry.Claim (record c { state = s; against = a }))
+claim_has m n left (against.General t) claim.Open c = (refl, (refl, refl, (refl, refl), refl, refl))
+claim_has m n left (against.General t) (claim.Offered part) c = (refl, (refl, refl, (refl, refl), refl, (refl, refl)))
+claim_has m n left (against.General t) (claim.Settled s) c =
+    (refl, (refl, refl, (refl, refl), refl, (refl, refl, refl)))
+claim_has m n left (against.Fee k) claim.Open c = (refl, (refl, refl, (refl, refl), refl, refl))
+claim_has m n left (against.Fee k) (claim.Offered part) c = (refl, (refl, refl, (refl, refl), refl, (refl, refl)))
+claim_has m n left (against.Fee k) (claim.Settled s) c = (refl, (refl, refl, (refl, refl), refl, (refl, refl, refl)))
+
+has_itself : (m n left : ℕ) (e : Entry) → HasItself m n left e
+has_itself m n left (entry.Deposit d) = deposit_has m n left d.state d
+has_itself m n left (entry.Payment p) = payment_has m n left p.state p
+has_itself m n left (entry.Fee f) = (refl, (refl, refl, refl))
+has_itself m n left (entry.Claim c) = claim_has m n left c.against c.state c
+
+-- a row with the columns of an entry has it, with its day and its amount
+has_entry :
+    (m n left day amount : ℕ) (e : Entry) (t : table.Entry)
+    → entry_columns m n left e ≡ t → (parts_of e).day ≡ day → (parts_of e).amount ≡ amount → HasEntry e day amount t
+has_entry m n left day amount e t is dated amounts =
+    subst (λ (x : table.Entry). HasEntry e day amount x) is
+    (subst (λ (x : ℕ). HasEntry e x amount (entry_columns m n left e)) dated
+    (subst (λ (x : ℕ). HasEntry e (parts_of e).day x (entry_columns m n left e)) amounts (has_itself m n left e)))
+
+-- the same of an entry that is kept, by the day and the amount of the row
+pub kept_has :
+    (m day amount : ℕ) (k : Kept) (t : table.Entry)
+    → entry_columns m k.number k.left k.entry ≡ t → pos day ≡ t.day → pos amount ≡ t.amount
+    → HasEntry k.entry day amount t
+kept_has m day amount k t is dated amounts =
+    let day_is : pos (parts_of k.entry).day ≡ t.day = ap (λ (x : table.Entry). x.day) is in
+    let amount_is : pos (parts_of k.entry).amount ≡ t.amount = ap (λ (x : table.Entry). x.amount) is in
+    has_entry m k.number k.left day amount k.entry t is (cc) (cc)
+
+-- what was read has the columns of the entry that is kept, where it is that entry and the row has its numbers
+pub same_columns :
+    (m n left : ℕ) (e : Entry) (k : Kept) (t : table.Entry)
+    → entry_columns m k.number k.left k.entry ≡ t → pos n ≡ t.no → pos left ≡ t.left_now → e ≡ k.entry
+    → entry_columns m n left e ≡ t
+same_columns m n left e k t is numbered lefts same =
+    let number_is : pos k.number ≡ t.no = ap (λ (x : table.Entry). x.no) is in
+    let left_is : pos k.left ≡ t.left_now = ap (λ (x : table.Entry). x.left_now) is in
+    let number_same : k.number ≡ n = cc in
+    let left_same : k.left ≡ left = cc in
+    subst (λ (x : ℕ). entry_columns m x left e ≡ t) number_same
+    (subst (λ (x : ℕ). entry_columns m k.number x e ≡ t) left_same
+    (subst (λ (x : Entry). entry_columns m k.number k.left x ≡ t) (sym same) is))

@@ -1,0 +1,50 @@
+-- The entry of a number among the rows of the table is that of the matter that they stand for.
+use Rattle.std.proofs.Common.{◌≡◌, inl, inr, ℕ, ℤ, pos, nat_abs, ◌≤◌, ◌+◌, Bool, cond, eqb, List, [], ◌∷◌, map, filter, find, length, Some, option_map, int_eq, refl, ap, ◌∙◌, arith}
+use Rattle.std.specs.List.{AllByRecursion}
+use Rattle.std.proofs.lemmas.Bool.{cases_Bool}
+use Rattle.std.proofs.lemmas.List.Sorted.{length_permutation}
+use Rattle.sqlite_keyed.specs.Lists.{sort_by}
+use Rattle.sqlite_keyed.proofs.ListLemmas.{IsPermutation-filter}
+use Rattle.sqlite_keyed.proofs.RuleLemmas.{at_most_one}
+use Rattle.sqlite_keyed.proofs.SortLemmas.{IsPermutation-sort_by}
+use Rattle.matter_parts.specs.Parts.{kept_in, AreNumbered}
+use Rattle.sql_tables.specs.Rows.{Entry, entry_cmp, is_entry_at, is_entry_of, entries_of}
+use Rattle.sql_rows.specs.Meaning.{kept_from}
+use Rattle.sql_rows.proofs.EntryOrder.{HasNumber, entry_total, kept_of, number_is, numbers_of, numbers_rise, same_test}
+use Rattle.sql_rows.proofs.RowOrder.{find-sort_by}
+
+abbrev has_no : ℤ → Entry → Bool
+has_no n e = int_eq e.no n
+
+find_both : (m n : ℤ) (es : List Entry) → find (has_no n) (filter (is_entry_of m) es) ≡ find (is_entry_at m n) es
+find_both m n [] = refl
+find_both m n (e ∷ es) = elim (cases_Bool (int_eq e.matter m)) [
+  | inl a ↦ rw a (ap (λ o. cond (int_eq e.no n) (Some e) o) (find_both m n es))
+  | inr a ↦ rw a (find_both m n es)
+]
+
+by_numbers : (n i : ℕ) (ys : List Entry) → AllByRecursion HasNumber ys → AreNumbered i (map kept_from ys)
+    → kept_in (map kept_from ys) n ≡ option_map kept_from (find (has_no (pos n)) ys)
+by_numbers n i [] have h = refl
+by_numbers n i (y ∷ ys) have h =
+    let test : int_eq y.no (pos n) ≡ eqb (nat_abs y.no) n =
+    same_test y.no (pos n) i n (number_is y i have.0 h.0) refl in
+    elim (cases_Bool (eqb (nat_abs y.no) n)) [
+      | inl b ↦ rw (b, (test ∙ b)) refl
+      | inr b ↦ rw (b, (test ∙ b)) (by_numbers n (i + 1) ys have.1 h.1)
+    ]
+
+-- the entry that a matter keeps under a number is that of the row of its number
+pub kept_is_found : (m : ℤ) (n : ℕ) (es : List Entry) → AllByRecursion HasNumber es → AreNumbered 1 (kept_of m es)
+    → kept_in (kept_of m es) n ≡ option_map kept_from (find (is_entry_at m (pos n)) es)
+kept_is_found m n es have numbered =
+    let xs = filter (is_entry_of m) es in
+    let ys = sort_by entry_cmp xs in
+    let q = has_no (pos n) in
+    let ys_have = numbers_of m es have in
+    let few : length (filter q ys) ≤ 1 =
+    at_most_one (λ (e : Entry). e.no) (pos n) q (λ e h. h) ys (numbers_rise 1 ys ys_have numbered) in
+    let sorting = IsPermutation-sort_by entry_cmp entry_total xs in
+    let same = length_permutation _ _ (IsPermutation-filter q _ _ sorting) in
+    by_numbers n 1 (entries_of m es) ys_have numbered
+    ∙ ap (option_map kept_from) (find-sort_by entry_cmp q xs (omega (arith, few, same)) ∙ find_both m (pos n) es)

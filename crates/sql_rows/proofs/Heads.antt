@@ -1,0 +1,225 @@
+-- What is found of a matter's head, what is written of one, and the matters after one was put in.
+use Rattle.std.proofs.Common.{◌≡◌, inl, inr, ℕ, ℤ, pos, ◌≤◌, true, false, List, [], ◌∷◌, map, find, Option, Some, None, option_map, refl, sym, ap, subst, ◌∙◌, arith, int_eq}
+use Rattle.std.specs.Prelude.{◌==◌, nat_abs, IfSome}
+use Rattle.std.specs.List.{AllByRecursion}
+use Rattle.std.proofs.lemmas.Bool.{cases_Bool}
+use Rattle.std.proofs.lemmas.Bool.Decides.{nat_tests}
+use Rattle.sqlite_keyed.specs.Keyed.{IsKeyedBy}
+use Rattle.sqlite_keyed.specs.Lists.{delete_where}
+use Rattle.sqlite_keyed.proofs.KeyedLemmas.{all-insert_by, has_key-insert_by, has_key-delete_where, same_int}
+use Rattle.sqlite_keyed.proofs.ListLemmas.{all-filter}
+use Rattle.matter_rows.specs.declared.head.Head.{Head}
+use Rattle.matter_rows.specs.declared.head.Holder.{Holder}
+use Rattle.matter_rows.specs.declared.head.Holder.TheVariants.{Client, Purged}
+use Rattle.matter_rows.specs.declared.seat.Seat.{Seat}
+use Rattle.matter_rows.specs.declared.entry.Entry.{Entry}
+use Rattle.matter_rows.specs.Rows.{Rows, seen_on, closed_head, cleared_head}
+use Rattle.matter_rows.specs.Sound.{Sound, IsBare}
+use Rattle.matter_parts.specs.declared.edit.Edit.{Edit}
+use Rattle.matter_parts.specs.declared.edit.Edit.TheVariants as edit
+use Rattle.matter_parts.specs.declared.figures.Figures.{Figures}
+use Rattle.matter_parts.specs.Parts.{IsWhole}
+use Rattle.matter_parts.specs.Changes.{head_after, changed_by}
+use Rattle.trust_store.specs.Kept.{rows_kept, rows_in, matters_with, IsKeptWhole, AreKeptWhole}
+use Rattle.sql_tables.specs.Rows as table
+use Rattle.sql_tables.specs.Rows.{put_head, is_head}
+use Rattle.sql_tables.specs.Lists.{Lists}
+use Rattle.sql_rows.specs.Heads.{HasHead, client_column, closed_column, head_columns, purged_column}
+use Rattle.sql_rows.specs.Meaning.{part_from, matter_from, matters_from, head_from, holder_from, day_or_none, IsWrittenHead, HasHeadAt}
+use Rattle.sql_rows.specs.Scripts.{IsTypedEdit}
+use Rattle.sql_rows.specs.Steps.{head_at}
+use Rattle.sql_rows.proofs.HeadOrder.{key, IsNumbered, made-put_head, rows_found, rows_in-made}
+use Rattle.sql_rows.proofs.KeyedRows.{has_key-put, not_zero}
+use Rattle.sql_rows.proofs.RowOrder.{all-find, found_passes}
+
+-- The matters.
+
+-- written heads have numbers
+are_numbered : (hs : List table.Head) → AllByRecursion IsWrittenHead hs → AllByRecursion IsNumbered hs
+are_numbered [] all = tt
+are_numbered (h ∷ hs) all = (all.0.0, are_numbered hs all.1)
+
+-- after a head was put in and the parts of other matters stay, the matter is there with it, and the others as they were
+pub heads_put : (a b : Lists) (m : ℕ) (new : table.Head) → IsKeyedBy key a.heads → AllByRecursion IsWrittenHead a.heads
+    → new.no ≡ pos m → b.heads ≡ put_head new a.heads
+    → ((h : table.Head) → (h.no ≡ pos m → ⊥) → part_from b h ≡ part_from a h)
+    → matters_from b ≡ matters_with m (part_from b new) (matters_from a)
+heads_put a b m new up written own put same =
+    ap (map (matter_from b)) put ∙ made-put_head (part_from b) (part_from a) new m own same a.heads up
+    (are_numbered a.heads written)
+
+-- the rows of a matter are those of the head that is found, or none
+pub rows_at : (a : Lists) (m : ℕ) → IsKeyedBy key a.heads → AllByRecursion IsWrittenHead a.heads
+    → rows_in m (matters_from a) ≡ rows_found (part_from a) (find (is_head (pos m)) a.heads)
+rows_at a m up written = rows_in-made (part_from a) a.heads m up (are_numbered a.heads written)
+
+-- and so is its head
+pub head_found : (a : Lists) (m : ℕ) → IsKeyedBy key a.heads → AllByRecursion IsWrittenHead a.heads
+    → head_at m a ≡ (rows_in m (matters_from a)).head
+head_found a m up written = shown (find (is_head (pos m)) a.heads)
+    ∙ sym (ap (λ (rows : Rows). rows.head) (rows_at a m up written))
+  where
+    shown : (o : Option table.Head) → option_map head_from o ≡ (rows_found (part_from a) o).head
+    shown None = refl
+    shown (Some h) = refl
+
+-- a head that is found has the number
+pub found_number : (a : Lists) (m : ℕ) (h : table.Head) → find (is_head (pos m)) a.heads ≡ Some h → h.no ≡ pos m
+found_number a m h found = same_int h.no (pos m) (found_passes (is_head (pos m)) a.heads h found)
+
+-- its matter is one of the whole ones
+pub whole_found : (a : Lists) (m : ℕ) (h : table.Head) → AreKeptWhole (matters_from a)
+    → find (is_head (pos m)) a.heads ≡ Some h → IsKeptWhole (matter_from a h)
+whole_found a m h kept found =
+    (all-find (λ (x : table.Head). IsKeptWhole (matter_from a x)) (is_head (pos m)) a.heads h
+    (all_unmade a.heads kept.whole) found).0
+  where
+    all_unmade : (hs : List table.Head) → AllByRecursion IsKeptWhole (map (matter_from a) hs)
+        → AllByRecursion (λ (x : table.Head). IsKeptWhole (matter_from a x)) hs
+    all_unmade [] all = tt
+    all_unmade (x ∷ hs) all = (all.0, all_unmade hs all.1)
+
+-- and whole for its rows
+pub part_found : (a : Lists) (m : ℕ) (h : table.Head) → IsKeyedBy key a.heads → AllByRecursion IsWrittenHead a.heads
+    → AreKeptWhole (matters_from a) → find (is_head (pos m)) a.heads ≡ Some h
+    → IsWhole (part_from a h) (rows_in m (matters_from a))
+part_found a m h up written kept found =
+    let rows : rows_in m (matters_from a) ≡ rows_kept (part_from a h) =
+    rows_at a m up written ∙ ap (rows_found (part_from a)) found in
+    subst (IsWhole (part_from a h)) (sym rows) (whole_found a m h kept found).whole
+
+-- The head that is written is read back, where its days are above 0.
+
+-- a day of 0 stands for none, so a day that is set is above it
+abbrev pub IsDated : Option ℕ → Type 0
+IsDated o = IfSome o (λ day. 1 ≤ day)
+
+-- so the day of a purge is
+abbrev pub IsHeld : Holder → Type 0
+IsHeld (Client name) = Unit {0}
+IsHeld (Purged day) = 1 ≤ day
+
+-- the days of closing and of the purge are above 0
+pub record HasDays (h : Head) : Type 0 where
+  pub holder : IsHeld h.holder
+  pub closed : IsDated h.closed
+
+some_day : (n : ℕ) → (n == 0) ≡ false → 1 ≤ n
+some_day n e = grind (arith, nat_tests)
+
+day_back : (o : Option ℕ) → IsDated o → day_or_none (nat_abs (closed_column o)) ≡ o
+day_back None one = refl
+day_back (Some day) one = rw (not_zero day one) refl
+
+holder_back : (h : table.Head) (o : Holder) → IsHeld o → h.client ≡ client_column o → h.purged ≡ purged_column o
+    → holder_from h ≡ o
+holder_back h (Client name) one c p = rw (c, p) refl
+holder_back h (Purged day) one c p = rw (c, p) (rw (not_zero day one) refl)
+
+-- the columns of a head give it back
+pub head_back : (m : ℕ) (h : Head) (f : Figures) → HasDays h → head_from (head_columns m h f) ≡ h
+head_back m h f days = λ i. record {
+  holder = holder_back (head_columns m h f) h.holder days.holder refl refl i;
+  opened = h.opened;
+  closed = day_back h.closed days.closed i;
+  last = h.last;
+}
+
+head_written : (m : ℕ) (h : Head) (f : Figures) → HasDays h → IsWrittenHead (head_columns m h f)
+head_written m h f days = (
+  refl,
+  subst (λ (x : Head). HasHead x (head_columns m h f)) (sym (head_back m h f days))
+      (refl, refl, refl, refl, refl),
+)
+
+-- a head that was read has such days
+holder_read : (h : table.Head) → IsHeld (holder_from h)
+holder_read h = elim (cases_Bool (nat_abs h.purged == 0)) [
+  | inl e ↦ rw e tt
+  | inr e ↦ rw e (some_day (nat_abs h.purged) e)
+]
+
+closed_read : (n : ℕ) → IsDated (day_or_none n)
+closed_read n = elim (cases_Bool (n == 0)) [
+  | inl e ↦ rw e tt
+  | inr e ↦ rw e (some_day n e)
+]
+
+days_read : (h : table.Head) → HasDays (head_from h)
+days_read h = record { holder = holder_read h; closed = closed_read (nat_abs h.closed) }
+
+-- a matter with a seat was not purged
+seated_held : (o : Holder) (closed : Option ℕ) (last : ℕ) (s : Seat) (es : List Entry)
+    → IsBare o closed last (s ∷ []) es → IsHeld o
+seated_held (Client name) closed last s es bare = tt
+seated_held (Purged day) closed last s es bare = absurd (let none = bare.1.1.0 in cc)
+
+-- a head, if there is one, has its days
+abbrev pub HasDaysIfSome : Option Head → Type 0
+HasDaysIfSome o = IfSome o HasDays
+
+seen_days : (o : Option Head) (last : ℕ) → HasDaysIfSome o → HasDaysIfSome (seen_on o last)
+seen_days None last days = tt
+seen_days (Some h) last days = record { holder = days.holder; closed = days.closed }
+
+closed_has_days : (o : Option Head) (day last : ℕ) → 1 ≤ day → HasDaysIfSome o → HasDaysIfSome (closed_head o day last)
+closed_has_days None day last one days = tt
+closed_has_days (Some h) day last one days = record { holder = days.holder; closed = one }
+
+cleared_has_days : (o : Option Head) (day last : ℕ) → 1 ≤ day → HasDaysIfSome o
+    → HasDaysIfSome (cleared_head o day last)
+cleared_has_days None day last one days = tt
+cleared_has_days (Some h) day last one days = record { holder = one; closed = days.closed }
+
+-- so the head after an edit that leaves sound rows has its days, where that before it had them
+pub days_after : (rows : Rows) (e : Edit) (last : ℕ) → IsTypedEdit e → Sound (changed_by e last rows)
+    → HasDaysIfSome rows.head → HasDaysIfSome (head_after rows.head e last)
+days_after rows edit.Nothing last typed sound days = days
+days_after rows (edit.Open o) last typed sound days =
+    record {
+      holder = seated_held o.head.holder o.head.closed o.head.last o.seat rows.entries sound.bare;
+      closed = typed;
+    }
+days_after rows (edit.Seat s) last typed sound days = seen_days rows.head last days
+days_after rows (edit.Unseat p) last typed sound days = seen_days rows.head last days
+days_after rows (edit.Close day) last typed sound days = closed_has_days rows.head day last typed days
+days_after rows (edit.Clear day) last typed sound days = cleared_has_days rows.head day last typed days
+days_after rows (edit.Append x) last typed sound days = seen_days rows.head last days
+days_after rows (edit.Exchange x) last typed sound days = seen_days rows.head last days
+
+-- the head that is found has its days
+pub days_found : (a : Lists) (m : ℕ) → HasDaysIfSome (head_at m a)
+days_found a m = shown (find (is_head (pos m)) a.heads)
+  where
+    shown : (o : Option table.Head) → HasDaysIfSome (option_map head_from o)
+    shown None = tt
+    shown (Some h) = days_read h
+
+-- The heads after one was put in.
+
+-- each row is what would be written
+pub written_put_head : (m : ℕ) (h : Head) (f : Figures) (hs : List table.Head) → HasDays h
+    → AllByRecursion IsWrittenHead hs → AllByRecursion IsWrittenHead (put_head (head_columns m h f) hs)
+written_put_head m h f hs days all =
+    all-insert_by key IsWrittenHead (delete_where (is_head (pos m)) hs) (head_columns m h f) (head_written m h f days)
+    (all-filter IsWrittenHead _ hs all)
+
+-- the number that was put in has a head
+pub has_put_head : (new : table.Head) (hs : List table.Head) → HasHeadAt (put_head new hs) new.no
+has_put_head new hs = has_key-put key (delete_where (is_head new.no) hs) new
+
+-- and each that had one
+pub still_has_head : (new : table.Head) (hs : List table.Head) (k : ℤ) → HasHeadAt hs k → HasHeadAt (put_head new hs) k
+still_has_head new hs k has = elim (cases_Bool (int_eq new.no k)) [
+  | inl e ↦ subst (HasHeadAt (put_head new hs)) (same_int new.no k e) (has_put_head new hs)
+  | inr e ↦ has_key-insert_by key (delete_where (is_head new.no) hs) new k
+      (has_key-delete_where key (is_head new.no) hs k (each e hs) ∙ has)
+]
+  where
+    off : (x : ℤ) → int_eq new.no k ≡ false → int_eq x new.no ≡ true → int_eq x k ≡ false
+    off x apart same = rw (same_int x new.no same) apart
+
+    each : int_eq new.no k ≡ false → (xs : List table.Head)
+        → AllByRecursion (λ (x : table.Head). is_head new.no x ≡ true → int_eq x.no k ≡ false) xs
+    each apart [] = tt
+    each apart (x ∷ xs) = (off x.no apart, each apart xs)

@@ -1,0 +1,50 @@
+-- What the steps of each change of a matter make: the rows stand for the firm after it.
+use Rattle.std.proofs.Common.{◌≡◌, ◌⊎◌, inl, inr, ℕ, ◌≤◌, refl, sym, ap, subst, ◌∙◌}
+use Rattle.matter_parts.specs.declared.edit.Edit.{Edit}
+use Rattle.matter_parts.specs.declared.edit.Edit.TheVariants as edit
+use Rattle.matter_parts.specs.declared.edit.Numbered.{Numbered}
+use Rattle.matter_parts.specs.Changes.{MatterChange, IsChange}
+use Rattle.firm_rows.specs.Firm.{of, after_change, after_edit}
+use Rattle.sql_tables.specs.Lists.{Lists}
+use Rattle.sql_rows.specs.Meaning.{AreKeyed, AreMeant, firm_from}
+use Rattle.sql_rows.specs.Scripts.{IsTypedEdit}
+use Rattle.sql_rows.specs.Steps.{AreMade, matter_steps}
+use Rattle.sql_rows.proofs.Becomes.{IsMatterMade}
+use Rattle.sql_rows.proofs.EntryFits.{IsEntryChange}
+use Rattle.sql_rows.proofs.WithEntry.{with_entry_made}
+use Rattle.sql_rows.proofs.WithoutEntry.{WritesNoEntry, without_entry_made}
+
+-- a change that is nothing makes nothing
+nothing_made : (m : ℕ) (c : MatterChange) (a b : Lists) → c.edit ≡ edit.Nothing → AreMeant a
+    → AreMade (matter_steps m c c.edit a) a b → IsMatterMade m c a b
+nothing_made m c a b none meant made =
+    let same : b ≡ a = subst (λ e. AreMade (matter_steps m c e a) a b) none made in
+    let stays : after_change m c (firm_from a) ≡ firm_from a = ap (λ e. after_edit m e c.last (firm_from a)) none in
+    record {
+      firm = ap firm_from same ∙ sym stays;
+      meant = subst AreMeant (sym same) meant;
+      exceptions = ap (λ (l : Lists). l.exceptions) same;
+    }
+
+-- an edit is nothing, writes an entry, or writes none
+edit_kinds : (c : MatterChange) (e : Edit) → c.edit ≡ e
+    → (c.edit ≡ edit.Nothing) ⊎ (WritesNoEntry c.edit ⊎ ((x : Numbered) × IsEntryChange c x))
+edit_kinds c edit.Nothing is = inl is
+edit_kinds c (edit.Open o) is = inr (inl (subst WritesNoEntry (sym is) tt))
+edit_kinds c (edit.Seat s) is = inr (inl (subst WritesNoEntry (sym is) tt))
+edit_kinds c (edit.Unseat p) is = inr (inl (subst WritesNoEntry (sym is) tt))
+edit_kinds c (edit.Close day) is = inr (inl (subst WritesNoEntry (sym is) tt))
+edit_kinds c (edit.Clear day) is = inr (inl (subst WritesNoEntry (sym is) tt))
+edit_kinds c (edit.Append x) is = inr (inr (x, inl is))
+edit_kinds c (edit.Exchange x) is = inr (inr (x, inr is))
+
+-- so the steps of a change, whatever it is, make what it says
+pub matter_made : (m : ℕ) (c : MatterChange) (a b : Lists) → 1 ≤ m → AreKeyed a → AreMeant a → IsTypedEdit c.edit
+    → IsChange (of m (firm_from a)) c → AreMade (matter_steps m c c.edit a) a b → IsMatterMade m c a b
+matter_made m c a b one keyed meant typed may made = elim (edit_kinds c c.edit refl) [
+  | inl none ↦ nothing_made m c a b none meant made
+  | inr some ↦ elim some [
+    | inl w ↦ without_entry_made m c a b w one keyed meant typed may made
+    | inr w ↦ with_entry_made m c w.0 a b w.1 one keyed meant may made
+  ]
+]

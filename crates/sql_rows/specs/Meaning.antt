@@ -1,0 +1,286 @@
+-- The firm for whose rows the tables stand.
+use Rattle.std.specs.Prelude.{◌≡◌, ℕ, ℤ, pos, nat_abs, true, ◌==◌, cond, List, map, Option, Some, None}
+use Rattle.std.specs.List.{AllByRecursion}
+use Rattle.sqlite_keyed.specs.Keyed.{IsKeyedBy, has_key}
+use Rattle.sqlite_keyed.specs.Lists.{sort_by}
+use Rattle.trust_base.specs.declared.line.Line.{Line}
+use Rattle.matter_rows.specs.declared.clearing.Clearing.{Clearing}
+use Rattle.matter_rows.specs.declared.payment.Fund.{Fund}
+use Rattle.matter_rows.specs.declared.payment.Fund.TheVariants as fund
+use Rattle.matter_rows.specs.declared.deposit.DepositState.{DepositState}
+use Rattle.matter_rows.specs.declared.deposit.DepositState.TheVariants as deposit
+use Rattle.matter_rows.specs.declared.payment.PaymentState.{PaymentState}
+use Rattle.matter_rows.specs.declared.payment.PaymentState.TheVariants as payment
+use Rattle.matter_rows.specs.declared.claim.ClaimState.{ClaimState}
+use Rattle.matter_rows.specs.declared.claim.ClaimState.TheVariants as claim
+use Rattle.matter_rows.specs.declared.claim.Against.{Against}
+use Rattle.matter_rows.specs.declared.claim.Against.TheVariants as against
+use Rattle.matter_rows.specs.declared.entry.Entry.{Entry}
+use Rattle.matter_rows.specs.declared.entry.Entry.TheVariants as entry
+use Rattle.matter_rows.specs.declared.head.Head.{Head}
+use Rattle.matter_rows.specs.declared.head.Holder.{Holder}
+use Rattle.matter_rows.specs.declared.head.Holder.TheVariants.{Client, Purged}
+use Rattle.matter_rows.specs.declared.seat.Role.{Role}
+use Rattle.matter_rows.specs.declared.seat.Role.TheVariants as role
+use Rattle.matter_rows.specs.declared.seat.Seat.{Seat}
+use Rattle.matter_parts.specs.declared.figures.Figures.{Figures}
+use Rattle.matter_parts.specs.declared.kept.Kept.{Kept}
+use Rattle.matter_parts.specs.Parts.{Part}
+use Rattle.firm_rows.specs.declared.movement.Movement.{Movement}
+use Rattle.firm_rows.specs.declared.movement.Owner.{Owner}
+use Rattle.firm_rows.specs.declared.movement.Owner.TheVariants as owner
+use Rattle.firm_rows.specs.declared.ledger.BalanceKind.{BalanceKind}
+use Rattle.firm_rows.specs.declared.ledger.BalanceKind.TheVariants.{Opening, Closing}
+use Rattle.firm_rows.specs.declared.ledger.FirmLine.{FirmLine}
+use Rattle.firm_rows.specs.declared.ledger.StatementRow.{StatementRow}
+use Rattle.firm_rows.specs.Firm.{Firm}
+use Rattle.firm_rows.specs.FirmSound.{FirmSound}
+use Rattle.trust_store.specs.declared.plain.KeptMatter.{KeptMatter}
+use Rattle.trust_store.specs.Kept.{AreKeptWhole, firm_of}
+use Rattle.sql_tables.specs.Rows as table
+use Rattle.sql_tables.specs.Lists.{Lists}
+use Rattle.sql_rows.specs.Columns.{balance_columns, movement_columns, firm_line_columns, exception_columns, seat_columns}
+use Rattle.sql_rows.specs.Entries.{Parts, entry_columns}
+use Rattle.sql_rows.specs.Heads.{HasHead}
+
+-- What a row stands for. A code that stands for nothing is read as another of its column; such a row is not what would
+-- be written for that, so that tables with one stand for no firm.
+
+-- A head.
+
+-- 0 stands for no day
+abbrev pub day_or_none : ℕ → Option ℕ
+day_or_none n = cond (n == 0) None (Some n)
+
+-- a matter that was purged has the day of that, and any other its client
+abbrev pub holder_from : table.Head → Holder
+holder_from h = cond (nat_abs h.purged == 0) (Client h.client) (Purged (nat_abs h.purged))
+
+abbrev pub head_from : table.Head → Head
+head_from h = record {
+  holder = holder_from h;
+  opened = nat_abs h.opened;
+  closed = day_or_none (nat_abs h.closed);
+  last = nat_abs h.last;
+}
+
+-- the totals that are kept with a head
+abbrev pub figures_from : table.Head → Figures
+figures_from h = record {
+  entries = nat_abs h.entries;
+  pending = nat_abs h.pending;
+  held = nat_abs h.held;
+  available = nat_abs h.available;
+  disputed = nat_abs h.disputed;
+  fees = nat_abs h.fees;
+  claims = nat_abs h.claims;
+}
+
+-- A seat.
+
+abbrev pub role_from : ℤ → Role
+role_from code = cond (nat_abs code == 2) role.Lawyer role.Client
+
+abbrev pub seat_from : table.Seat → Seat
+seat_from s = record { person = s.person; role = role_from s.role }
+
+-- An entry.
+
+abbrev pub parts_from : table.Entry → Parts
+parts_from e = record {
+  kind = nat_abs e.kind;
+  day = nat_abs e.day;
+  amount = nat_abs e.amount;
+  state = nat_abs e.state;
+  fund = nat_abs e.fund;
+  of_no = nat_abs e.of_no;
+  text_a = e.text_a;
+  text_b = e.text_b;
+  text_c = e.text_c;
+  day_done = nat_abs e.day_done;
+  day_undone = nat_abs e.day_undone;
+  day_bank = nat_abs e.day_bank;
+  bank_ref = e.bank_ref;
+  part = nat_abs e.part;
+}
+
+-- the line of the bank that cleared the entry
+abbrev pub clearing_from : Parts → Clearing
+clearing_from p = record { bank_day = p.day_bank; bank_ref = p.bank_ref }
+
+-- the line of the bank that took a deposit back
+abbrev pub returning_from : Parts → Clearing
+returning_from p = record { bank_day = p.day_done; bank_ref = p.text_c }
+
+abbrev pub deposit_state_from : Parts → DepositState
+deposit_state_from p =
+    cond (p.state == 2) (deposit.Cleared (clearing_from p))
+    (cond (p.state == 3) (deposit.Cancelled p.day_undone)
+    (cond (p.state == 4)
+    (deposit.Returned (record { clearing = clearing_from p; returning = returning_from p; undone = p.day_undone }))
+    deposit.Held))
+
+abbrev pub payment_state_from : Parts → PaymentState
+payment_state_from p =
+    cond (p.state == 2) payment.Declined
+    (cond (p.state == 3) (payment.Issued p.day_done)
+    (cond (p.state == 4) (payment.Cleared (record { issued = p.day_done; clearing = clearing_from p }))
+    (cond (p.state == 5) (payment.Voided (record { issued = p.day_done; undone = p.day_undone }))
+    payment.Proposed)))
+
+abbrev pub claim_state_from : Parts → ClaimState
+claim_state_from p =
+    cond (p.state == 2) (claim.Offered p.part)
+    (cond (p.state == 3) (claim.Settled (record { day = p.day_done; part = p.part })) claim.Open)
+
+abbrev pub fund_from : Parts → Fund
+fund_from p = cond (p.fund == 1) (fund.Fee p.of_no) (cond (p.fund == 2) (fund.Claim p.of_no) fund.General)
+
+abbrev pub against_from : Parts → Against
+against_from p = cond (p.fund == 1) (against.Fee p.of_no) (against.General p.text_a)
+
+abbrev pub entry_from : Parts → Entry
+entry_from p =
+    cond (p.kind == 2)
+    (entry.Payment (record {
+      book = p.day;
+      amount = p.amount;
+      fund = fund_from p;
+      payee = p.text_a;
+      purpose = p.text_b;
+      instrument = p.text_c;
+      state = payment_state_from p;
+    }))
+    (cond (p.kind == 3) (entry.Fee (record { book = p.day; amount = p.amount; description = p.text_a }))
+    (cond (p.kind == 4)
+    (entry.Claim (record {
+      book = p.day;
+      amount = p.amount;
+      against = against_from p;
+      reason = p.text_b;
+      state = claim_state_from p;
+    }))
+    (entry.Deposit (record {
+      book = p.day;
+      amount = p.amount;
+      source = p.text_a;
+      description = p.text_b;
+      state = deposit_state_from p;
+    }))))
+
+-- the entry with its number and what is left of it
+abbrev pub kept_from : table.Entry → Kept
+kept_from e = record { number = nat_abs e.no; left = nat_abs e.left_now; entry = entry_from (parts_from e) }
+
+-- The firm's own rows. Matter 0 is the firm.
+
+abbrev pub owner_from : table.Movement → Owner
+owner_from m = cond (nat_abs m.matter == 0) owner.Firm (owner.Matter (nat_abs m.matter) (nat_abs m.entry))
+
+abbrev pub movement_from : table.Movement → Movement
+movement_from m = record { owner = owner_from m; day = nat_abs m.day; amount = m.amount }
+
+abbrev pub firm_line_from : table.FirmLine → FirmLine
+firm_line_from l = record { date = nat_abs l.day; bank_ref = l.bank_ref; amount = l.amount; text = l.text }
+
+abbrev pub exception_from : table.Exception → Line
+exception_from e = record {
+  date = nat_abs e.day;
+  reference = e.reference;
+  bank_ref = e.bank_ref;
+  amount = e.amount;
+  text = e.text;
+}
+
+abbrev pub balance_kind_from : ℤ → BalanceKind
+balance_kind_from code = cond (nat_abs code == 2) Closing Opening
+
+abbrev pub balance_from : table.Balance → StatementRow
+balance_from b = record { kind = balance_kind_from b.kind; day = nat_abs b.day; amount = b.amount }
+
+-- What the tables stand for.
+
+-- a matter's seats by person, and its entries by number
+abbrev pub part_from : Lists → table.Head → Part
+part_from a h = record {
+  head = Some (head_from h);
+  seats = map seat_from (table.seats_of h.no a.seats);
+  figures = figures_from h;
+  kept = map kept_from (table.entries_of h.no a.entries);
+}
+
+abbrev pub matter_from : Lists → table.Head → KeptMatter
+matter_from a h = record { number = nat_abs h.no; matter = part_from a h }
+
+abbrev pub matters_from : Lists → List KeptMatter
+matters_from a = map (matter_from a) a.heads
+
+-- matters by number; movements and the firm's lines in the order of acceptance; exceptions and balances in theirs
+abbrev pub firm_from : Lists → Firm
+firm_from a =
+    firm_of (matters_from a) (map movement_from a.movements) (map firm_line_from a.firm_lines)
+    (map exception_from (sort_by table.exception_cmp a.exceptions))
+    (map balance_from (sort_by table.balance_cmp a.balances))
+
+-- Rows are what would be written for what they stand for, rowids aside.
+
+abbrev pub IsWrittenHead : table.Head → Type 0
+IsWrittenHead h = (h.no ≡ pos (nat_abs h.no)) × HasHead (head_from h) h
+
+abbrev pub IsWrittenSeat : table.Seat → Type 0
+IsWrittenSeat s = record s { id = pos 0 } ≡ seat_columns (nat_abs s.matter) (seat_from s)
+
+abbrev pub IsWrittenEntry : table.Entry → Type 0
+IsWrittenEntry e =
+    record e { id = pos 0 }
+    ≡ entry_columns (nat_abs e.matter) (nat_abs e.no) (nat_abs e.left_now) (entry_from (parts_from e))
+
+abbrev pub IsWrittenMovement : table.Movement → Type 0
+IsWrittenMovement m = record m { seq = pos 0 } ≡ movement_columns (movement_from m)
+
+abbrev pub IsWrittenFirmLine : table.FirmLine → Type 0
+IsWrittenFirmLine l = record l { seq = pos 0 } ≡ firm_line_columns (firm_line_from l)
+
+abbrev pub IsWrittenException : table.Exception → Type 0
+IsWrittenException e = record e { id = pos 0 } ≡ exception_columns (exception_from e)
+
+abbrev pub IsWrittenBalance : table.Balance → Type 0
+IsWrittenBalance b = record b { id = pos 0 } ≡ balance_columns (balance_from b)
+
+-- each row of each table
+pub record AreWritten (a : Lists) : Type 0 where
+  pub heads : AllByRecursion IsWrittenHead a.heads
+  pub seats : AllByRecursion IsWrittenSeat a.seats
+  pub entries : AllByRecursion IsWrittenEntry a.entries
+  pub movements : AllByRecursion IsWrittenMovement a.movements
+  pub firm_lines : AllByRecursion IsWrittenFirmLine a.firm_lines
+  pub exceptions : AllByRecursion IsWrittenException a.exceptions
+  pub balances : AllByRecursion IsWrittenBalance a.balances
+
+-- the number is that of a head
+abbrev pub HasHeadAt : List table.Head → ℤ → Type 0
+HasHeadAt heads number = has_key (λ (h : table.Head). h.no) heads number ≡ true
+
+-- the rows stand for whole matters, each with its totals and what is left of its entries, and each seat and each entry
+-- is of one of them
+pub record AreMeant (a : Lists) : Type 0 where
+  pub written : AreWritten a
+  pub matters : AreKeptWhole (matters_from a)
+  pub seated : AllByRecursion (λ (s : table.Seat). HasHeadAt a.heads s.matter) a.seats
+  pub entered : AllByRecursion (λ (e : table.Entry). HasHeadAt a.heads e.matter) a.entries
+
+-- the rowids of each table rise
+pub record AreKeyed (a : Lists) : Type 0 where
+  pub heads : IsKeyedBy (λ (h : table.Head). h.no) a.heads
+  pub seats : IsKeyedBy (λ (s : table.Seat). s.id) a.seats
+  pub entries : IsKeyedBy (λ (e : table.Entry). e.id) a.entries
+  pub movements : IsKeyedBy (λ (m : table.Movement). m.seq) a.movements
+  pub firm_lines : IsKeyedBy (λ (l : table.FirmLine). l.seq) a.firm_lines
+  pub exceptions : IsKeyedBy (λ (e : table.Exception). e.id) a.exceptions
+  pub balances : IsKeyedBy (λ (b : table.Balance). b.id) a.balances
+
+-- the rows stand for those of a sound firm
+pub record AreSound (a : Lists) : Type 0 where
+  pub keyed : AreKeyed a
+  pub meant : AreMeant a
+  pub sound : FirmSound (firm_from a)

@@ -1,0 +1,56 @@
+-- What the scripts of changes mean: the tables that a script leaves stand for the firm after its change.
+use Rattle.std.specs.Prelude.{◌≡◌, ◌≤◌, IfSome}
+use Rattle.trust_base.specs.declared.line.Line.{Line}
+use Rattle.matter_parts.specs.declared.edit.Edit.{Edit}
+use Rattle.matter_parts.specs.declared.edit.Edit.TheVariants as edit
+use Rattle.firm_rows.specs.declared.ledger.BalanceKind.{BalanceKind}
+use Rattle.firm_rows.specs.FirmChange.{FirmChange, OfMatter, Repeated, Unmatched, OfFirm, OfBalance, after, FitsFirm}
+use Rattle.sql_tables.specs.Lists.{Lists}
+use Rattle.sql_rows.specs.Meaning.{AreKeyed, AreSound, firm_from}
+use Rattle.sql_rows.specs.Steps.{steps_of, AreMade}
+
+-- What the types hold of a change's values, as far as the tables need it: a column has 0 where there is no day, and
+-- matter 0 is the firm.
+
+-- the days of an edit in whose columns 0 stands for none: that of a closing, also where a matter is opened, and that
+-- of a purge
+abbrev pub IsTypedEdit : Edit → Type 0
+IsTypedEdit edit.Nothing = Unit {0}
+IsTypedEdit (edit.Open o) = IfSome o.head.closed (λ day. 1 ≤ day)
+IsTypedEdit (edit.Seat s) = Unit {0}
+IsTypedEdit (edit.Unseat p) = Unit {0}
+IsTypedEdit (edit.Close day) = 1 ≤ day
+IsTypedEdit (edit.Clear day) = 1 ≤ day
+IsTypedEdit (edit.Append x) = Unit {0}
+IsTypedEdit (edit.Exchange x) = Unit {0}
+
+abbrev pub IsTyped : FirmChange → Type 0
+IsTyped (OfMatter m line c) = (1 ≤ m) × IsTypedEdit c.edit
+IsTyped (Repeated line) = Unit {0}
+IsTyped (Unmatched line) = Unit {0}
+IsTyped (OfFirm line) = Unit {0}
+IsTyped (OfBalance kind line) = Unit {0}
+
+-- What the steps of a change leave.
+
+-- the second tables stand for the firm of the first after the change, which is sound
+abbrev pub IsMeant : FirmChange → Lists → Lists → Type 0
+IsMeant change a b = (firm_from b ≡ after change (firm_from a)) × AreSound b
+
+-- so do the tables that the steps of the change leave, wherever it fits
+abbrev pub IsScriptMeant : FirmChange → Type 0
+IsScriptMeant change =
+    (a b : Lists) → AreSound a → AreKeyed b → IsTyped change → FitsFirm (firm_from a) change
+    → AreMade (steps_of change a) a b
+    → IsMeant change a b
+
+-- the script of each change is meant
+abbrev pub ScriptsAreMeant : Type 0
+ScriptsAreMeant = (change : FirmChange) → IsScriptMeant change
+
+-- those of the changes that concern the firm's own tables alone
+pub record LineScriptsAreMeant : Type 0 where
+  pub repeated : (line : Line) → IsScriptMeant (Repeated line)
+  pub unmatched : (line : Line) → IsScriptMeant (Unmatched line)
+  pub of_firm : (line : Line) → IsScriptMeant (OfFirm line)
+  pub of_balance : (kind : BalanceKind) (line : Line) → IsScriptMeant (OfBalance kind line)

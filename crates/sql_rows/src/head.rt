@@ -1,0 +1,154 @@
+// The columns of a head.
+
+ghost use Rattle.std.specs.Prelude.{◌≡◌, ℕ, pos, Option, Ok, IfOk, IfErr, IfSome};
+ghost use Rattle.sql_tables.specs.Given.{head_given};
+ghost use Rattle.trust_values.specs.Limits.{IsDay};
+ghost use Rattle.trust_base.specs.Names.{IsLabel};
+ghost use Rattle.matter_rows.specs.declared.head.Head.{Head as Kept};
+ghost use Rattle.matter_rows.specs.declared.head.Holder.{Holder as Held};
+ghost use Rattle.sql_rows.specs.Columns.{GivesBack};
+ghost use Rattle.sql_rows.specs.Heads.{client_column, purged_column, closed_column, head_columns};
+ghost use Rattle.sql_rows.specs.Heads.{HasHead, HasTotals, IsHolder, IsHead, HasClientsHead};
+ghost use Rattle.matter_parts.specs.declared.figures.Figures.{Figures as Totals};
+ghost use Rattle.matter_parts.specs.Parts.{AreSmall};
+
+use crate::column::{day_in, label_in, number_in};
+use matter_parts::Figures;
+use matter_rows::{Head, Holder, MAX_TOTAL};
+use sql_tables::HeadColumns;
+use std::alloc::Global;
+use trust_base::{Day, MAX_ENTRY, MatterNo, StoreFault};
+
+// The client's name, or nothing after a purge.
+fn client_column(holder: &Holder) -> &[u8]
+    ensures { result.now ≡ client_column holder.now }
+{
+    match holder {
+        Holder::Client(client) => client.as_slice(),
+        Holder::Purged(_) => b"",
+    }
+}
+
+// The day of the purge, or 0.
+fn purged_column(holder: &Holder) -> i64
+    ensures { result ≡ purged_column holder.now }
+{
+    match holder {
+        Holder::Client(_) => 0,
+        Holder::Purged(day) => day.get() as i64,
+    }
+}
+
+// The day of closing, or 0.
+fn closed_column(closed: Option<Day>) -> i64
+    ensures { result ≡ closed_column closed }
+{
+    match closed {
+        None => 0,
+        Some(day) => day.get() as i64,
+    }
+}
+
+/// The columns of the head of a matter: its number, its client or nothing after a purge, its days, 0 for those that it
+/// does not have, and its totals in cents.
+pub fn head_columns(matter: MatterNo, head: &Head, figures: Figures) -> HeadColumns<'_>
+    requires { AreSmall figures }
+    ensures { head_given result ≡ head_columns matter head.now figures }
+{
+    HeadColumns {
+        no: matter.get() as i64,
+        client: client_column(&head.holder),
+        opened: head.opened.get() as i64,
+        closed: closed_column(head.closed),
+        last: head.last.get() as i64,
+        entries: figures.entries as i64,
+        held: figures.held as i64,
+        available: figures.available as i64,
+        disputed: figures.disputed as i64,
+        fees: figures.fees as i64,
+        claims: figures.claims as i64,
+        pending: figures.pending as i64,
+        purged: purged_column(&head.holder),
+    }
+}
+
+// Whose the matter is.
+#[tactic(auto, unfolding(trust_values::specs::Limits::IsDay))]
+fn holder_in(alloc: Global, client: &[u8], purged: i64) -> Result<Holder, StoreFault>
+    ensures client { IfOk result (λ h. client_column h ≡ client.now) }
+    ensures purged { IfOk result (λ h. purged_column h ≡ purged) }
+    ensures form { IfOk result IsHolder }
+    ensures back { (h : Held) → IsHolder h → client_column h ≡ client.now → purged_column h ≡ purged
+        → GivesBack h result }
+    ensures memory { IfErr result (λ e. e ≡ StoreFault.Memory → IsLabel client.now × (purged ≡ pos 0)) }
+{
+    if purged == 0 {
+        return Ok(Holder::Client(label_in(alloc, client)?));
+    }
+    if !client.is_empty() {
+        return Err(StoreFault::Store);
+    }
+    let day = day_in(purged).ok_or(StoreFault::Store)?;
+    Ok(Holder::Purged(day))
+}
+
+// The day on which the matter was closed, if it was.
+#[tactic(auto, unfolding(trust_values::specs::Limits::IsDay))]
+fn closed_in(column: i64) -> Result<Option<Day>, StoreFault>
+    ensures ok { IfOk result (λ c. closed_column c ≡ column) }
+    ensures form { IfOk result (λ c. IfSome c IsDay) }
+    ensures back { (c : Option ℕ) → IfSome c IsDay → closed_column c ≡ column → result ≡ Ok c }
+    ensures store { IfErr result (λ e. e ≡ StoreFault.Store) }
+{
+    if column == 0 {
+        return Ok(None);
+    }
+    let day = day_in(column).ok_or(StoreFault::Store)?;
+    Ok(Some(day))
+}
+
+/// The head of columns, with a text of its own; its totals are not read. Columns that stand for none are Store; Memory
+/// comes only of those of a head that was not purged, where a growth was refused.
+pub fn head_of(alloc: Global, columns: HeadColumns<'_>) -> Result<Head, StoreFault>
+    ensures ok { IfOk result (λ h. HasHead h (head_given columns.entry)) }
+    ensures form { IfOk result IsHead }
+    ensures back { (h : Kept) → IsHead h → HasHead h (head_given columns.entry) → GivesBack h result }
+    ensures memory { IfErr result (λ e. e ≡ StoreFault.Memory → HasClientsHead (head_given columns.entry)) }
+{
+    let opened = day_in(columns.opened).ok_or(StoreFault::Store)?;
+    let last = day_in(columns.last).ok_or(StoreFault::Store)?;
+    let closed = closed_in(columns.closed)?;
+    let holder = holder_in(alloc, columns.client, columns.purged)?;
+    Ok(Head {
+        holder,
+        opened,
+        closed,
+        last,
+    })
+}
+
+/// The totals of the columns of a head; the rest of it is not read. Columns that stand for none are Store, as where a
+/// matter has more entries than it may have, or a total more than all these can come to.
+pub fn totals_of(columns: HeadColumns<'_>) -> Result<Figures, StoreFault>
+    ensures ok { IfOk result (λ f. HasTotals f (head_given columns.entry)) }
+    ensures small { IfOk result AreSmall }
+    ensures back { (f : Totals) → AreSmall f → HasTotals f (head_given columns.entry) → result ≡ Ok f }
+    ensures store { IfErr result (λ e. e ≡ StoreFault.Store) }
+{
+    let entries = number_in(columns.entries, MAX_ENTRY as u64)?;
+    let pending = number_in(columns.pending, MAX_TOTAL)?;
+    let held = number_in(columns.held, MAX_TOTAL)?;
+    let available = number_in(columns.available, MAX_TOTAL)?;
+    let disputed = number_in(columns.disputed, MAX_TOTAL)?;
+    let fees = number_in(columns.fees, MAX_TOTAL)?;
+    let claims = number_in(columns.claims, MAX_TOTAL)?;
+    Ok(Figures {
+        entries,
+        pending,
+        held,
+        available,
+        disputed,
+        fees,
+        claims,
+    })
+}

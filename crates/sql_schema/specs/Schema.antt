@@ -1,0 +1,468 @@
+-- The tables of a book as a database knows them, and the layouts in which they lie. Written by tools/book-tables.
+use Rattle.std.specs.Prelude.{ℕ, ℤ, pos, true, false, [], ◌∷◌, List, Some, None, codes}
+use Rattle.sqlite_value.specs.declared.value.Value.TheVariants.{Null}
+use Rattle.sqlite_value.specs.declared.keys.Collation.TheVariants.{Binary}
+use Rattle.sqlite_value.specs.Keys.{plain}
+use Rattle.sqlite_schema.specs.declared.schema.Kind.{Kind}
+use Rattle.sqlite_schema.specs.declared.schema.Kind.TheVariants.{Integer, Text, Any}
+use Rattle.sqlite_schema.specs.declared.schema.Action.TheVariants.{NoAction}
+use Rattle.sqlite_schema.specs.declared.schema.Column.{Column}
+use Rattle.sqlite_schema.specs.declared.schema.Reference.{Reference}
+use Rattle.sqlite_schema.specs.declared.schema.Table.{Table}
+use Rattle.sqlite_schema.specs.declared.schema.Index.{Index}
+use Rattle.sqlite_schema.specs.declared.schema.Schema.{Schema}
+use Rattle.sql_schema.specs.declared.layout.Layout.{Layout}
+use Rattle.sql_schema.specs.declared.layout.Layout.TheVariants.{Made, Moved}
+
+-- the version of these tables, which the table `book` says
+abbrev pub version_now : ℤ
+version_now = pos 2
+
+abbrev pub column : List ℕ → Kind → Column
+column name kind = record {
+  name = name;
+  kind = kind;
+  is_strict = true;
+  not_null = true;
+  default = Null;
+  collation = Binary;
+}
+
+-- a column of the database's own table of counts
+abbrev pub loose : List ℕ → Column
+loose name = record { name = name; kind = Any; is_strict = false; not_null = false; default = Null; collation = Binary }
+
+-- the first column names a row of a table of matters
+abbrev pub reference_to : List ℕ → Reference
+reference_to parent = record {
+  columns = 1 ∷ [];
+  parent = parent;
+  parent_columns = codes "no" ∷ [];
+  on_delete = NoAction;
+  on_update = NoAction;
+  is_deferred = false;
+}
+
+-- where the table of book stands among the tables
+abbrev pub book_place : Layout → ℕ
+book_place l = 0
+
+-- and the tree of its rows
+abbrev pub book_tree : Layout → ℕ
+book_tree l = 0
+
+-- where the table of matter stands among the tables
+abbrev pub matter_place : Layout → ℕ
+matter_place Made = 1
+matter_place Moved = 9
+
+-- and the tree of its rows
+abbrev pub matter_tree : Layout → ℕ
+matter_tree Made = 1
+matter_tree Moved = 13
+
+-- where the table of seat stands among the tables
+abbrev pub seat_place : Layout → ℕ
+seat_place Made = 2
+seat_place Moved = 10
+
+-- and the tree of its rows
+abbrev pub seat_tree : Layout → ℕ
+seat_tree Made = 2
+seat_tree Moved = 14
+
+-- where the table of entry stands among the tables
+abbrev pub entry_place : Layout → ℕ
+entry_place Made = 3
+entry_place Moved = 11
+
+-- and the tree of its rows
+abbrev pub entry_tree : Layout → ℕ
+entry_tree Made = 4
+entry_tree Moved = 16
+
+-- where the table of journal stands among the tables
+abbrev pub journal_place : Layout → ℕ
+journal_place l = 4
+
+-- and the tree of its rows
+abbrev pub journal_tree : Layout → ℕ
+journal_tree l = 6
+
+-- where the table of firm_line stands among the tables
+abbrev pub firm_line_place : Layout → ℕ
+firm_line_place l = 6
+
+-- and the tree of its rows
+abbrev pub firm_line_tree : Layout → ℕ
+firm_line_tree l = 8
+
+-- where the table of exception stands among the tables
+abbrev pub exception_place : Layout → ℕ
+exception_place l = 7
+
+-- and the tree of its rows
+abbrev pub exception_tree : Layout → ℕ
+exception_tree l = 9
+
+-- where the table of balance stands among the tables
+abbrev pub balance_place : Layout → ℕ
+balance_place l = 8
+
+-- and the tree of its rows
+abbrev pub balance_tree : Layout → ℕ
+balance_tree l = 11
+
+-- where the table of sequence stands among the tables
+abbrev pub sequence_place : Layout → ℕ
+sequence_place l = 5
+
+-- and the tree of its rows
+abbrev pub sequence_tree : Layout → ℕ
+sequence_tree l = 7
+
+abbrev pub book_text : List ℕ
+book_text = codes "CREATE TABLE book (version INTEGER NOT NULL) STRICT"
+
+abbrev pub book_table : Layout → Table
+book_table l = record {
+  name = codes "book";
+  tree = book_tree l;
+  columns = column (codes "version") Integer ∷ [];
+  key = None;
+  primary = [];
+  uniques = [];
+  orders = [];
+  checks = [];
+  references = [];
+  computed = [];
+  stamps = record { places = []; terms = []; formats = [] };
+  is_counted = false;
+}
+
+abbrev pub old_matter_text : List ℕ
+old_matter_text = codes "CREATE TABLE matter (no INTEGER NOT NULL PRIMARY KEY, client TEXT NOT NULL, opened INTEGER NOT NULL, closed INTEGER NOT NULL, last INTEGER NOT NULL, entries INTEGER NOT NULL, held INTEGER NOT NULL, available INTEGER NOT NULL, disputed INTEGER NOT NULL, fees INTEGER NOT NULL, claims INTEGER NOT NULL, pending INTEGER NOT NULL) STRICT"
+
+abbrev pub old_matter_table : Table
+old_matter_table = record {
+  name = codes "matter";
+  tree = 1;
+  columns = column (codes "no") Integer ∷ column (codes "client") Text ∷ column (codes "opened") Integer ∷
+      column (codes "closed") Integer ∷ column (codes "last") Integer ∷ column (codes "entries") Integer ∷
+      column (codes "held") Integer ∷ column (codes "available") Integer ∷ column (codes "disputed") Integer ∷
+      column (codes "fees") Integer ∷ column (codes "claims") Integer ∷ column (codes "pending") Integer ∷ [];
+  key = Some 0;
+  primary = 0 ∷ [];
+  uniques = [];
+  orders = [];
+  checks = [];
+  references = [];
+  computed = [];
+  stamps = record { places = []; terms = []; formats = [] };
+  is_counted = false;
+}
+
+abbrev pub old_seat_text : List ℕ
+old_seat_text = codes "CREATE TABLE seat (matter INTEGER NOT NULL REFERENCES matter (no), person TEXT NOT NULL, role INTEGER NOT NULL, PRIMARY KEY (matter, person)) STRICT"
+
+abbrev pub old_seat_table : Table
+old_seat_table = record {
+  name = codes "seat";
+  tree = 2;
+  columns = column (codes "matter") Integer ∷ column (codes "person") Text ∷ column (codes "role") Integer ∷ [];
+  key = None;
+  primary = 1 ∷ 2 ∷ [];
+  uniques = (1 ∷ 2 ∷ []) ∷ [];
+  orders = plain ∷ [];
+  checks = [];
+  references = reference_to (codes "matter") ∷ [];
+  computed = [];
+  stamps = record { places = []; terms = []; formats = [] };
+  is_counted = false;
+}
+
+abbrev pub old_entry_text : List ℕ
+old_entry_text = codes "CREATE TABLE entry (matter INTEGER NOT NULL REFERENCES matter (no), no INTEGER NOT NULL, kind INTEGER NOT NULL, day INTEGER NOT NULL, amount INTEGER NOT NULL, state INTEGER NOT NULL, fund INTEGER NOT NULL, of_no INTEGER NOT NULL, text_a TEXT NOT NULL, text_b TEXT NOT NULL, text_c TEXT NOT NULL, day_done INTEGER NOT NULL, day_undone INTEGER NOT NULL, day_bank INTEGER NOT NULL, bank_ref TEXT NOT NULL, part INTEGER NOT NULL, left_now INTEGER NOT NULL, PRIMARY KEY (matter, no)) STRICT"
+
+abbrev pub old_entry_table : Table
+old_entry_table = record {
+  name = codes "entry";
+  tree = 4;
+  columns = column (codes "matter") Integer ∷ column (codes "no") Integer ∷ column (codes "kind") Integer ∷
+      column (codes "day") Integer ∷ column (codes "amount") Integer ∷ column (codes "state") Integer ∷
+      column (codes "fund") Integer ∷ column (codes "of_no") Integer ∷ column (codes "text_a") Text ∷
+      column (codes "text_b") Text ∷ column (codes "text_c") Text ∷ column (codes "day_done") Integer ∷
+      column (codes "day_undone") Integer ∷ column (codes "day_bank") Integer ∷ column (codes "bank_ref") Text ∷
+      column (codes "part") Integer ∷ column (codes "left_now") Integer ∷ [];
+  key = None;
+  primary = 1 ∷ 2 ∷ [];
+  uniques = (1 ∷ 2 ∷ []) ∷ [];
+  orders = plain ∷ [];
+  checks = [];
+  references = reference_to (codes "matter") ∷ [];
+  computed = [];
+  stamps = record { places = []; terms = []; formats = [] };
+  is_counted = false;
+}
+
+abbrev pub matter_text : List ℕ
+matter_text = codes "CREATE TABLE matter_v2 (no INTEGER NOT NULL PRIMARY KEY, client TEXT NOT NULL, opened INTEGER NOT NULL, closed INTEGER NOT NULL, last INTEGER NOT NULL, entries INTEGER NOT NULL, held INTEGER NOT NULL, available INTEGER NOT NULL, disputed INTEGER NOT NULL, fees INTEGER NOT NULL, claims INTEGER NOT NULL, pending INTEGER NOT NULL, purged INTEGER NOT NULL) STRICT"
+
+abbrev pub matter_table : Layout → Table
+matter_table l = record {
+  name = codes "matter_v2";
+  tree = matter_tree l;
+  columns = column (codes "no") Integer ∷ column (codes "client") Text ∷ column (codes "opened") Integer ∷
+      column (codes "closed") Integer ∷ column (codes "last") Integer ∷ column (codes "entries") Integer ∷
+      column (codes "held") Integer ∷ column (codes "available") Integer ∷ column (codes "disputed") Integer ∷
+      column (codes "fees") Integer ∷ column (codes "claims") Integer ∷ column (codes "pending") Integer ∷
+      column (codes "purged") Integer ∷ [];
+  key = Some 0;
+  primary = 0 ∷ [];
+  uniques = [];
+  orders = [];
+  checks = [];
+  references = [];
+  computed = [];
+  stamps = record { places = []; terms = []; formats = [] };
+  is_counted = false;
+}
+
+abbrev pub seat_text : List ℕ
+seat_text = codes "CREATE TABLE seat_v2 (matter INTEGER NOT NULL REFERENCES matter_v2 (no), person TEXT NOT NULL, role INTEGER NOT NULL, PRIMARY KEY (matter, person)) STRICT"
+
+abbrev pub seat_table : Layout → Table
+seat_table l = record {
+  name = codes "seat_v2";
+  tree = seat_tree l;
+  columns = column (codes "matter") Integer ∷ column (codes "person") Text ∷ column (codes "role") Integer ∷ [];
+  key = None;
+  primary = 1 ∷ 2 ∷ [];
+  uniques = (1 ∷ 2 ∷ []) ∷ [];
+  orders = plain ∷ [];
+  checks = [];
+  references = reference_to (codes "matter_v2") ∷ [];
+  computed = [];
+  stamps = record { places = []; terms = []; formats = [] };
+  is_counted = false;
+}
+
+abbrev pub entry_text : List ℕ
+entry_text = codes "CREATE TABLE entry_v2 (matter INTEGER NOT NULL REFERENCES matter_v2 (no), no INTEGER NOT NULL, kind INTEGER NOT NULL, day INTEGER NOT NULL, amount INTEGER NOT NULL, state INTEGER NOT NULL, fund INTEGER NOT NULL, of_no INTEGER NOT NULL, text_a TEXT NOT NULL, text_b TEXT NOT NULL, text_c TEXT NOT NULL, day_done INTEGER NOT NULL, day_undone INTEGER NOT NULL, day_bank INTEGER NOT NULL, bank_ref TEXT NOT NULL, part INTEGER NOT NULL, left_now INTEGER NOT NULL, PRIMARY KEY (matter, no)) STRICT"
+
+abbrev pub entry_table : Layout → Table
+entry_table l = record {
+  name = codes "entry_v2";
+  tree = entry_tree l;
+  columns = column (codes "matter") Integer ∷ column (codes "no") Integer ∷ column (codes "kind") Integer ∷
+      column (codes "day") Integer ∷ column (codes "amount") Integer ∷ column (codes "state") Integer ∷
+      column (codes "fund") Integer ∷ column (codes "of_no") Integer ∷ column (codes "text_a") Text ∷
+      column (codes "text_b") Text ∷ column (codes "text_c") Text ∷ column (codes "day_done") Integer ∷
+      column (codes "day_undone") Integer ∷ column (codes "day_bank") Integer ∷ column (codes "bank_ref") Text ∷
+      column (codes "part") Integer ∷ column (codes "left_now") Integer ∷ [];
+  key = None;
+  primary = 1 ∷ 2 ∷ [];
+  uniques = (1 ∷ 2 ∷ []) ∷ [];
+  orders = plain ∷ [];
+  checks = [];
+  references = reference_to (codes "matter_v2") ∷ [];
+  computed = [];
+  stamps = record { places = []; terms = []; formats = [] };
+  is_counted = false;
+}
+
+abbrev pub journal_text : List ℕ
+journal_text = codes "CREATE TABLE journal (seq INTEGER NOT NULL PRIMARY KEY AUTOINCREMENT, matter INTEGER NOT NULL, entry INTEGER NOT NULL, day INTEGER NOT NULL, amount INTEGER NOT NULL) STRICT"
+
+abbrev pub journal_table : Layout → Table
+journal_table l = record {
+  name = codes "journal";
+  tree = journal_tree l;
+  columns = column (codes "seq") Integer ∷ column (codes "matter") Integer ∷ column (codes "entry") Integer ∷
+      column (codes "day") Integer ∷ column (codes "amount") Integer ∷ [];
+  key = Some 0;
+  primary = 0 ∷ [];
+  uniques = [];
+  orders = [];
+  checks = [];
+  references = [];
+  computed = [];
+  stamps = record { places = []; terms = []; formats = [] };
+  is_counted = true;
+}
+
+abbrev pub firm_line_text : List ℕ
+firm_line_text = codes "CREATE TABLE firm_line (seq INTEGER NOT NULL PRIMARY KEY AUTOINCREMENT, day INTEGER NOT NULL, bank_ref TEXT NOT NULL, amount INTEGER NOT NULL, text TEXT NOT NULL) STRICT"
+
+abbrev pub firm_line_table : Layout → Table
+firm_line_table l = record {
+  name = codes "firm_line";
+  tree = firm_line_tree l;
+  columns = column (codes "seq") Integer ∷ column (codes "day") Integer ∷ column (codes "bank_ref") Text ∷
+      column (codes "amount") Integer ∷ column (codes "text") Text ∷ [];
+  key = Some 0;
+  primary = 0 ∷ [];
+  uniques = [];
+  orders = [];
+  checks = [];
+  references = [];
+  computed = [];
+  stamps = record { places = []; terms = []; formats = [] };
+  is_counted = true;
+}
+
+abbrev pub exception_text : List ℕ
+exception_text = codes "CREATE TABLE exception (day INTEGER NOT NULL, reference TEXT NOT NULL, bank_ref TEXT NOT NULL, amount INTEGER NOT NULL, text TEXT NOT NULL, PRIMARY KEY (day, reference, bank_ref, amount, text)) STRICT"
+
+abbrev pub exception_table : Layout → Table
+exception_table l = record {
+  name = codes "exception";
+  tree = exception_tree l;
+  columns = column (codes "day") Integer ∷ column (codes "reference") Text ∷ column (codes "bank_ref") Text ∷
+      column (codes "amount") Integer ∷ column (codes "text") Text ∷ [];
+  key = None;
+  primary = 1 ∷ 2 ∷ 3 ∷ 4 ∷ 5 ∷ [];
+  uniques = (1 ∷ 2 ∷ 3 ∷ 4 ∷ 5 ∷ []) ∷ [];
+  orders = plain ∷ [];
+  checks = [];
+  references = [];
+  computed = [];
+  stamps = record { places = []; terms = []; formats = [] };
+  is_counted = false;
+}
+
+abbrev pub balance_text : List ℕ
+balance_text = codes "CREATE TABLE balance (kind INTEGER NOT NULL, day INTEGER NOT NULL, amount INTEGER NOT NULL, PRIMARY KEY (kind, day)) STRICT"
+
+abbrev pub balance_table : Layout → Table
+balance_table l = record {
+  name = codes "balance";
+  tree = balance_tree l;
+  columns = column (codes "kind") Integer ∷ column (codes "day") Integer ∷ column (codes "amount") Integer ∷ [];
+  key = None;
+  primary = 1 ∷ 2 ∷ [];
+  uniques = (1 ∷ 2 ∷ []) ∷ [];
+  orders = plain ∷ [];
+  checks = [];
+  references = [];
+  computed = [];
+  stamps = record { places = []; terms = []; formats = [] };
+  is_counted = false;
+}
+
+abbrev pub sequence_table : Layout → Table
+sequence_table l = record {
+  name = codes "sqlite_sequence";
+  tree = sequence_tree l;
+  columns = loose (codes "name") ∷ loose (codes "seq") ∷ [];
+  key = None;
+  primary = [];
+  uniques = [];
+  orders = [];
+  checks = [];
+  references = [];
+  computed = [];
+  stamps = record { places = []; terms = []; formats = [] };
+  is_counted = false;
+}
+
+abbrev pub made_indexes : List Index
+made_indexes =
+    (record {
+      name = codes "sqlite_autoindex_seat_v2_1";
+      tree = 3;
+      table = 2;
+      columns = 1 ∷ 2 ∷ [];
+      order = plain;
+      is_unique = true;
+    }) ∷
+    (record {
+      name = codes "sqlite_autoindex_entry_v2_1";
+      tree = 5;
+      table = 4;
+      columns = 1 ∷ 2 ∷ [];
+      order = plain;
+      is_unique = true;
+    }) ∷
+    (record {
+      name = codes "sqlite_autoindex_exception_1";
+      tree = 10;
+      table = 9;
+      columns = 1 ∷ 2 ∷ 3 ∷ 4 ∷ 5 ∷ [];
+      order = plain;
+      is_unique = true;
+    }) ∷
+    (record {
+      name = codes "sqlite_autoindex_balance_1";
+      tree = 12;
+      table = 11;
+      columns = 1 ∷ 2 ∷ [];
+      order = plain;
+      is_unique = true;
+    }) ∷
+    []
+
+abbrev pub made_tables : List Table
+made_tables = book_table Made ∷ matter_table Made ∷ seat_table Made ∷ entry_table Made ∷ journal_table Made ∷
+    sequence_table Made ∷ firm_line_table Made ∷ exception_table Made ∷ balance_table Made ∷ []
+
+abbrev pub moved_indexes : List Index
+moved_indexes =
+    (record {
+      name = codes "sqlite_autoindex_seat_1";
+      tree = 3;
+      table = 2;
+      columns = 1 ∷ 2 ∷ [];
+      order = plain;
+      is_unique = true;
+    }) ∷
+    (record {
+      name = codes "sqlite_autoindex_entry_1";
+      tree = 5;
+      table = 4;
+      columns = 1 ∷ 2 ∷ [];
+      order = plain;
+      is_unique = true;
+    }) ∷
+    (record {
+      name = codes "sqlite_autoindex_exception_1";
+      tree = 10;
+      table = 9;
+      columns = 1 ∷ 2 ∷ 3 ∷ 4 ∷ 5 ∷ [];
+      order = plain;
+      is_unique = true;
+    }) ∷
+    (record {
+      name = codes "sqlite_autoindex_balance_1";
+      tree = 12;
+      table = 11;
+      columns = 1 ∷ 2 ∷ [];
+      order = plain;
+      is_unique = true;
+    }) ∷
+    (record {
+      name = codes "sqlite_autoindex_seat_v2_1";
+      tree = 15;
+      table = 14;
+      columns = 1 ∷ 2 ∷ [];
+      order = plain;
+      is_unique = true;
+    }) ∷
+    (record {
+      name = codes "sqlite_autoindex_entry_v2_1";
+      tree = 17;
+      table = 16;
+      columns = 1 ∷ 2 ∷ [];
+      order = plain;
+      is_unique = true;
+    }) ∷
+    []
+
+abbrev pub moved_tables : List Table
+moved_tables = book_table Moved ∷ old_matter_table ∷ old_seat_table ∷ old_entry_table ∷ journal_table Moved ∷
+    sequence_table Moved ∷ firm_line_table Moved ∷ exception_table Moved ∷ balance_table Moved ∷ matter_table Moved ∷
+    seat_table Moved ∷ entry_table Moved ∷ []
+
+abbrev pub book_schema : Layout → Schema
+book_schema Made = record { tables = made_tables; indexes = made_indexes; views = [] }
+book_schema Moved = record { tables = moved_tables; indexes = moved_indexes; views = [] }

@@ -1,0 +1,66 @@
+-- What a shape stands for.
+use Rattle.std.specs.Prelude.{ℕ, Bool, true, false, [], ◌∷◌, List, map, if◌then◌else◌}
+use Rattle.sqlite_value.specs.declared.value.Value.TheVariants.{Null}
+use Rattle.sqlite_value.specs.declared.keys.Collation.TheVariants.{Binary}
+use Rattle.sqlite_value.specs.Keys.{plain}
+use Rattle.sqlite_schema.specs.declared.schema.Action.TheVariants.{NoAction}
+use Rattle.sqlite_schema.specs.declared.schema.Column.{Column}
+use Rattle.sqlite_schema.specs.declared.schema.Reference.{Reference}
+use Rattle.sqlite_schema.specs.declared.schema.Table.{Table}
+use Rattle.sqlite_schema.specs.declared.schema.Index.{Index}
+use Rattle.sql_schema.specs.declared.shapes.ColumnShape.{ColumnShape}
+use Rattle.sql_schema.specs.declared.shapes.TableShape.{TableShape}
+use Rattle.sql_schema.specs.declared.shapes.IndexShape.{IndexShape}
+use Rattle.sql_schema.specs.Schema.{reference_to}
+
+abbrev pub column_of : ColumnShape → Column
+column_of s = record {
+  name = s.name.now;
+  kind = s.kind;
+  is_strict = s.is_strict;
+  not_null = s.not_null;
+  default = Null;
+  collation = Binary;
+}
+
+-- one where there is such a thing
+abbrev pub one_if : {T : Type 0} → Bool → T → List T
+one_if b x = if b then x ∷ [] else []
+
+-- the first column refers to a row of another table, by one column
+abbrev pub reference_by : List ℕ → List ℕ → Reference
+reference_by parent key = record {
+  columns = 1 ∷ [];
+  parent = parent;
+  parent_columns = key ∷ [];
+  on_delete = NoAction;
+  on_update = NoAction;
+  is_deferred = false;
+}
+
+abbrev pub table_of : TableShape → Table
+table_of s = record {
+  name = s.name.now;
+  tree = s.tree;
+  columns = map column_of s.columns.now;
+  key = s.key;
+  primary = s.primary.now;
+  uniques = one_if s.is_indexed s.primary.now;
+  orders = one_if s.is_indexed plain;
+  checks = [];
+  references = one_if s.has_parent (reference_to s.parent.now);
+  computed = [];
+  stamps = record { places = []; terms = []; formats = [] };
+  is_counted = s.is_counted;
+}
+
+-- the index that a primary key of several columns has
+abbrev pub index_of : IndexShape → Index
+index_of s = record {
+  name = s.name.now;
+  tree = s.tree;
+  table = s.table;
+  columns = s.columns.now;
+  order = plain;
+  is_unique = true;
+}

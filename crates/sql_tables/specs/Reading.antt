@@ -1,0 +1,56 @@
+-- What a query answers, and what a call leaves.
+use Rattle.std.specs.Prelude.{◌≡◌, ◌⊎◌, ℕ, Bool, true, false, List, Result, Ok, Err, IfOk, OnOk, IsTrue}
+use Rattle.sqlite_value.specs.Order.{Row}
+use Rattle.sqlite_trees.specs.Tree.{Trees}
+use Rattle.sqlite_ast.specs.declared.Statement.{Statement}
+use Rattle.sqlite_ast.specs.declared.Statement.TheVariants as written
+use Rattle.sqlite_syntax.specs.declared.statement.Parsed.{Parsed}
+use Rattle.sqlite_resolve.specs.Compile.{first}
+use Rattle.sqlite_resolve.specs.Lowering.{Checked}
+use Rattle.sqlite.specs.declared.error.Error.{Error}
+use Rattle.sqlite.specs.State.{State, HasCleanDisk, Shown}
+use Rattle.sql_schema.specs.declared.layout.Layout.{Layout}
+use Rattle.sql_tables.specs.Standing.{Stands}
+
+-- the connection was open, and it sees what it saw
+pub record IsKept (old new : State) : Type 0 where
+  pub was_open : IsTrue old.is_open
+  pub now : new.now ≡ old.now
+  pub committed : new.committed ≡ old.committed
+
+-- what a crash may leave after a call it might have left before, or it is one of these
+abbrev pub LeavesOnly : State → State → (Trees → Type 0) → Type 0
+LeavesOnly old new Commits = (db : Trees) → new.may_leave db → old.may_leave db ⊎ Commits db
+
+-- a call that reads changes nothing, whatever the tables are, also for a crash; one that answers leaves the connection
+-- open
+pub record LeavesAll {T E : Type 0} (result : Result T E) (old new : State) : Type 0 where
+  pub same : HasCleanDisk new → IsTrue new.is_open → IsKept old new
+  pub serves : HasCleanDisk new → OnOk result (IsTrue new.is_open)
+  pub was_clean : HasCleanDisk new → HasCleanDisk old
+  pub crash : HasCleanDisk new → LeavesOnly old new (λ _. ⊥)
+
+abbrev pub is_selection : Statement → Bool
+is_selection (written.Select s) = true
+is_selection _ = false
+
+abbrev pub selects : Checked Parsed → Bool
+selects (Ok p) = is_selection p.statement
+selects (Err e) = false
+
+-- the text begins with a SELECT
+abbrev pub IsSelect : List ℕ → Type 0
+IsSelect sql = selects (first sql) ≡ true
+
+-- a text was asked outside a transaction; a SELECT changes nothing
+pub record IsAsked {T : Type 0} (result : Result T Error) (items : T → List Row)
+    (sql : List ℕ) (params : Row) (old new : State) : Type 0 where
+  pub ok : HasCleanDisk new → IfOk result (λ rows. Shown sql params old new (items rows))
+  pub left : IsSelect sql → LeavesAll result old new
+
+-- where the tables stand in a layout, the rows of that layout are answered; the call changes nothing, also where they
+-- do not stand
+pub record IsRead {T : Type 0} (result : Result T Error) (items : T → List Row)
+    (rows : Layout → List Row) (old new : State) : Type 0 where
+  pub found : (l : Layout) → HasCleanDisk new → Stands l old.now → IfOk result (λ r. items r ≡ rows l)
+  pub left : LeavesAll result old new

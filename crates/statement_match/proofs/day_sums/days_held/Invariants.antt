@@ -1,0 +1,6 @@
+use Rattle.std.proofs.Common.{◌≡◌, take}
+use Rattle.statement_match.specs.DaySums.{held_days}
+use Rattle.statement_match.proofs.day_sums.days_held.Given as goal
+
+abbrev pub invariant-loop-entry : goal.invariant-loop-entry
+invariant-loop-entry l = l.days.items ≡ held_days (take l.entry-index l.entries)

@@ -1,0 +1,6 @@
+use Rattle.std.proofs.Common.{rules}
+use Rattle.statement_match.specs.Keys.{day_key}
+use Rattle.statement_match.proofs.entry_index.by_day.Goals as goal
+
+pub returns : goal.returns
+returns c = c.of.ensures day_key (λ x r k. search rules)

@@ -1,9 +1,0 @@
-pub mod Balances
-pub mod Calls
-pub mod Entries
-pub mod Firsts
-pub mod Gathered
-pub mod Heads
-pub mod NamedEntries
-pub mod Parts
-pub mod Values

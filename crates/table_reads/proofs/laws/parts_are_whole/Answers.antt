@@ -1,5 +1,0 @@
-use Rattle.table_reads.proofs.Parts.{parts_whole}
-use Rattle.table_reads.proofs.laws.parts_are_whole.Goals as goal
-
-pub returns : goal.returns
-returns c = parts_whole

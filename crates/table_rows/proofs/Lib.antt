@@ -1,8 +1,0 @@
-pub mod Answer
-pub mod Fed
-pub mod Going
-pub mod Handed
-pub mod Shown
-pub mod Steps
-pub mod Streams
-pub mod Walk

@@ -1,4 +1,0 @@
-pub mod Meaning
-pub mod Scripts
-pub mod Standing
-pub mod Steps

@@ -1,0 +1,40 @@
+-- The texts of what the sinks kept are the reports.
+use Rattle.std.proofs.Common.{◌≡◌, ℕ, List, [], ◌∷◌, ◌++◌, flat_map, fold, sym, ap, ◌∙◌, append_assoc, append-nil}
+use Rattle.std.specs.Prelude.{codes}
+use Rattle.firm_rows.specs.Countable.{AreCountable, IsFirmLineInRange, IsMovementInRange, IsRowInRange}
+use Rattle.firm_rows.specs.Firm.{Firm}
+use Rattle.firm_rows.specs.FirmSound.{FirmSound}
+use Rattle.trust_reports.specs.Lists.{JournalKept, TrialKept, no_journal, trial_kept, trial_of, trial_sum, with_moved}
+use Rattle.trust_reports.specs.Retained.{Retained, none_retained, with_row_retained}
+use Rattle.trust_reports.proofs.Lists.{journal-kept}
+use Rattle.trust_reports.proofs.Retained.{retention-kept}
+use Rattle.trust_reports.proofs.Trial.{total-kept, trial-kept}
+use Rattle.trust_reports.specs.Texts.{heading}
+use Rattle.trust_reports.specs.TextsOfLists.{exception_line, exceptions_text, journal_text, retention_text, trial_text}
+use Rattle.trust_desk.specs.Reports.{exceptions_report, journal_report, retention_report, trial_report}
+
+pub trial-told : (today : ℕ) (firm : Firm) (kept : TrialKept) → FirmSound firm → AreCountable IsRowInRange firm.rows → AreCountable IsFirmLineInRange firm.firm_lines → kept ≡ trial_kept firm → trial_text today kept.lines kept.own (trial_sum kept) ≡ trial_report today firm
+unfolding trial_report
+trial-told today firm kept sound some few is =
+    let all : kept ≡ trial_of firm = is ∙ trial-kept firm sound.in_order some few in
+    let total = ap trial_sum all ∙ total-kept firm sound some few in
+    λ i. trial_text today (all i).lines (all i).own (total i)
+
+pub journal-told : (today : ℕ) (firm : Firm) (kept : JournalKept) → AreCountable IsMovementInRange firm.movements → kept ≡ fold with_moved no_journal firm.movements → journal_text today kept.lines ≡ journal_report today firm
+unfolding journal_report
+journal-told today firm kept few is = ap (journal_text today) (ap (λ (s : JournalKept). s.lines) is ∙ journal-kept firm.movements few)
+
+pub retention-told : (today : ℕ) (firm : Firm) (kept : Retained) → kept ≡ fold with_row_retained (none_retained today) firm.rows → retention_text today kept.lines ≡ retention_report today firm
+unfolding retention_report
+retention-told today firm kept is = ap (λ (s : Retained). retention_text today s.lines) (is ∙ retention-kept today firm)
+
+-- lines written one after the other
+lines-written : {A : Type 0} (f : A → List ℕ) (text : List ℕ) (xs : List A) → fold (λ text x. text ++ f x) text xs ≡ text ++ flat_map f xs
+lines-written f text [] = sym (append-nil text)
+lines-written f text (x ∷ xs) = lines-written f (text ++ f x) xs ∙ append_assoc text (f x) (flat_map f xs)
+
+pub exceptions-told : (today : ℕ) (firm : Firm) (text : List ℕ) → text ≡ fold (λ text line. text ++ exception_line line) (exceptions_text today []) firm.exceptions → text ≡ exceptions_report today firm
+unfolding exceptions_report
+exceptions-told today firm text is =
+    is
+    ∙ (lines-written exception_line (exceptions_text today []) firm.exceptions ∙ ap (λ begun. begun ++ flat_map exception_line firm.exceptions) (append-nil (heading (codes "EXCEPTIONS") today)))

@@ -1,9 +1,0 @@
-pub mod Creates
-pub mod Parts
-pub mod Stages
-pub mod VersionRow
-pub mod Whole
-pub mod VersionRead
-pub mod Endings
-pub mod NewBook
-pub mod Causes

@@ -1,0 +1,34 @@
+-- Behind the last number no entry is made.
+use Rattle.std.specs.Prelude.{nat_lt}
+use Rattle.std.proofs.Common.{◌≡◌, ℕ, ◌≤◌, Bool, true, false, cond, List, [], ◌∷◌, length, refl, sym, ◌∙◌, subst, arith, Option, Some, None}
+use Rattle.std.proofs.lemmas.Bool.{false≢true}
+use Rattle.std.proofs.lemmas.Bool.Decides.{nat_tests}
+use Rattle.trust_base.specs.declared.refusal.Refusal.{Refusal}
+use Rattle.trust_base.specs.declared.refusal.Refusal.TheVariants as refusals
+use Rattle.matter_rows.specs.declared.entry.Entry.{Entry}
+use Rattle.matter_rows.specs.declared.head.Head.{Head}
+use Rattle.matter_rows.specs.declared.seat.Seat.{Seat}
+use Rattle.matter_rows.specs.Rows.{is_of_nobody, Rows}
+use Rattle.trust_matter.specs.Conditions.{is_repeat}
+use Rattle.trust_matter.specs.Facts.{Asked, facts_of}
+use Rattle.trust_matter.specs.Step.{first, conditions, early_conditions, refusal, edit_on, after}
+use Rattle.trust_matter.specs.Cases.{by_cashier, retainer, FullIsTold}
+
+not-back : (day last : ℕ) → last ≤ day → nat_lt day last ≡ false
+not-back day last h = grind (arith, nat_tests)
+
+told : (h : Head) (seats : List Seat) (es : List Entry) (number cents day : ℕ) → h.closed ≡ None → is_of_nobody h.holder ≡ false → h.last ≤ day → length es ≡ 9_999 → (b : Bool) → b ≡ false → first (cond b (early_conditions (facts_of (record { head = Some h; seats = seats; entries = es }) (retainer number cents)) (by_cashier (retainer number cents) day)) (conditions (facts_of (record { head = Some h; seats = seats; entries = es }) (retainer number cents)) (by_cashier (retainer number cents) day))) ≡ Some (refusals.WrongNumber None)
+told h seats es number cents day unclosed kept forwards full true new = absurd (false≢true (sym new))
+told h seats es number cents day unclosed kept forwards full false new = rw kept (rw unclosed (rw (not-back day h.last forwards) (rw full refl)))
+
+stays : (rows : Rows) (a : Asked) (r : Option Refusal) (q : Refusal) → r ≡ Some q → after r (edit_on rows a) a.day rows ≡ rows
+stays rows a None q h = absurd (cc)
+stays rows a (Some r) q h = refl
+
+pub full-is-told : FullIsTold
+full-is-told rows h number cents day is =
+    let a = by_cashier (retainer number cents) day in
+    let P : Option Head → Type 0 = λ head. (b : Bool) → b ≡ false → first (cond b (early_conditions (facts_of (record { head = head; seats = rows.seats; entries = rows.entries }) (retainer number cents)) a) (conditions (facts_of (record { head = head; seats = rows.seats; entries = rows.entries }) (retainer number cents)) a)) ≡ Some (refusals.WrongNumber None) in
+    let all : P rows.head = subst P (sym is.head) (told h rows.seats rows.entries number cents day is.unclosed is.kept is.forwards is.full) in
+    let refused : refusal rows a ≡ Some (refusals.WrongNumber None) = all (is_repeat (facts_of rows a.ask) a) is.new in
+    record { refused = refused; leaves = stays rows a (refusal rows a) (refusals.WrongNumber None) refused }

@@ -1,0 +1,28 @@
+use Rattle.std.proofs.Common.{refl}
+use Rattle.trust_base.specs.Names.{is_cash_label}
+use Rattle.matter_rows.specs.Shares.{held_share, available_share, disputed_share, total_share, worth, draw}
+use Rattle.trust_matter.proofs.cases.paid_fees.Goals as goal
+
+pub returns-clause-proposed : goal.returns-clause-proposed
+unfolding is_cash_label available_share worth draw
+returns-clause-proposed c = record { accepted = refl; leaves = refl }
+
+pub returns-clause-to_another : goal.returns-clause-to_another
+unfolding is_cash_label available_share worth draw
+returns-clause-to_another c = record { refused = refl; leaves = refl }
+
+pub returns-clause-disputed : goal.returns-clause-disputed
+unfolding is_cash_label available_share worth draw
+returns-clause-disputed c = record { refused = refl; leaves = refl }
+
+pub returns-clause-issued : goal.returns-clause-issued
+unfolding is_cash_label available_share worth draw
+returns-clause-issued c = record { accepted = refl; leaves = refl }
+
+pub returns-clause-issued_balances : goal.returns-clause-issued_balances
+unfolding held_share available_share disputed_share total_share worth draw
+returns-clause-issued_balances c = record { held = refl; available = refl; disputed = refl; fees = refl; claims = refl; total = refl }
+
+pub returns-clause-voided_balances : goal.returns-clause-voided_balances
+unfolding held_share available_share disputed_share total_share worth draw
+returns-clause-voided_balances c = record { held = refl; available = refl; disputed = refl; fees = refl; claims = refl; total = refl }

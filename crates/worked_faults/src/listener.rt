@@ -1,0 +1,43 @@
+// Where the clients of a test come from.
+
+ghost use Rattle.std.specs.Prelude.{⊤};
+
+use crate::clients::Arrival;
+use crate::clock::TrialClock;
+use crate::halves::{TrialPeer, TrialReading, TrialWriting};
+use portal_http::{AcceptFault, ClientListener, Connection};
+
+/// The clients of a test, one after the other. Behind the last the network refuses.
+#[derive(Drop)]
+pub(crate) struct TrialListener<'p> {
+    /// What passes while they are waited for.
+    pub(crate) clock: &'p TrialClock,
+    /// Those to come.
+    pub(crate) arrivals: &'p [Arrival],
+    /// What becomes of each of them.
+    pub(crate) peers: &'p [TrialPeer],
+}
+
+impl<'p> ClientListener for TrialListener<'p> {
+    type Reader = TrialReading<'p>;
+
+    type Writer = TrialWriting<'p>;
+
+    ghost comes = { λ _ _ _. ⊤ };
+
+    fn accept(&mut self) -> Result<Connection<TrialReading<'p>, TrialWriting<'p>>, AcceptFault> {
+        let (Some(arrival), Some(peer)) = (self.arrivals.first(), self.peers.first()) else {
+            return Err(AcceptFault::Network);
+        };
+        self.arrivals = &self.arrivals[1..];
+        self.peers = &self.peers[1..];
+        match arrival {
+            Arrival::Comes(client) => Ok(Connection {
+                reader: TrialReading::new(self.clock, peer, client),
+                writer: TrialWriting::new(self.clock, peer, client),
+            }),
+            Arrival::Aborted => Err(AcceptFault::Aborted),
+            Arrival::Refused => Err(AcceptFault::Network),
+        }
+    }
+}

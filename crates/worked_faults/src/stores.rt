@@ -1,0 +1,55 @@
+// A store of books for runs of the program.
+
+use std::alloc::Global;
+use std::cell::{Cell, RefCell};
+use trust_base::StoreFault;
+use trust_store::{PlainBook, Stores};
+
+/// A store with a place for one book, which is kept in memory, and what comes of putting it back.
+#[derive(Drop)]
+pub(crate) struct TrialStores {
+    kept: RefCell<Option<PlainBook>>,
+    /// How often a book was asked for.
+    pub(crate) asked: Cell<u64>,
+    put: Result<(), StoreFault>,
+}
+
+impl TrialStores {
+    /// A store without a book.
+    pub(crate) fn new(put: Result<(), StoreFault>) -> TrialStores {
+        TrialStores {
+            kept: RefCell::new(None),
+            asked: Cell::new(0),
+            put,
+        }
+    }
+}
+
+impl Stores for TrialStores {
+    type AtPath = PlainBook;
+
+    ghost use Rattle.std.specs.Prelude.{⊤};
+
+    ghost finds = { λ _ _ _. ⊤ };
+
+    ghost puts = { λ _ _ _. ⊤ };
+
+    fn at(&self, alloc: Global, path: &str) -> Result<PlainBook, StoreFault> {
+        self.asked.set(self.asked.get().wrapping_add(1));
+        if path != "book.db" {
+            return Err(StoreFault::Store);
+        }
+        match self.kept.try_replace(None) {
+            Ok(Some(book)) => Ok(book),
+            Ok(None) => Ok(PlainBook::new(alloc)),
+            Err(_) => Err(StoreFault::Store),
+        }
+    }
+
+    fn put_back(&self, book: PlainBook) -> Result<(), StoreFault> {
+        match self.kept.try_replace(Some(book)) {
+            Ok(_) => self.put,
+            Err(_) => Err(StoreFault::Store),
+        }
+    }
+}
