@@ -1,4 +1,5 @@
 pub mod CallFacts
+pub mod CheckFacts
 pub mod IsolationFacts
 pub mod MatchingFacts
 pub mod ReportFacts

@@ -63,7 +63,7 @@ module _ {B W : Type 0} {clean sure stands lasts : B → Type 0} {leaves : B →
   by-want given nothing = record {
     line = λ e. cc;
     meant = λ begun. absurd begun;
-    in_memory = λ _ _. (empty_firm, empty-sound, inr (inr (inr (inr (inr (inr (record { outcome = refl; written = Appends-nil _; firm = refl })))))));
+    in_memory = λ _ _. (empty_firm, empty-sound, inr (inr (inr (inr (inr (inr (inr (record { outcome = refl; written = Appends-nil _; firm = refl }))))))));
     at_path = λ path _ _. inr (record { fault = faults.Memory; outcome = refl; nothing = nothing });
   }
 

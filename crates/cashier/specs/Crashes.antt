@@ -17,6 +17,7 @@ use Rattle.cashier.specs.Outcome.{sheet_outcome, statement_outcome, stream_outco
 use Rattle.cashier.specs.Sheet.{LinesAreKept, records_run}
 use Rattle.cashier.specs.Statement.{EndsByNoFault}
 use Rattle.cashier.specs.declared.outcome.Outcome.{Outcome}
+use Rattle.cashier.specs.declared.outcome.Outcome.TheVariants as outcome
 use Rattle.cashier.specs.declared.sheet.SheetEnd.{SheetEnd}
 use Rattle.cashier.specs.declared.statement.StatementEnd.{StatementEnd}
 
@@ -90,6 +91,14 @@ module _ {B : Type 0} (clean sure stands lasts : B → Type 0) (leaves : B → F
     pub means : Means words today (task.Report command)
     pub rows : LeavesOr (firm old) (leaves old) (leaves new)
 
+  -- the book was checked: where its store still serves, as it does where all was sound, a crash leaves what it might
+  -- have left before, or these same rows
+  pub record LeavesCheck (words : List Text) (old new : B) (told : Outcome) : Type 0 where
+    pub today : ℕ
+    pub means : Means words today task.Check
+    pub serves : told ≡ outcome.Done → clean new
+    pub rows : clean new → LeavesOr (firm old) (leaves old) (leaves new)
+
   -- what a crash leaves of the book once words were run over it; where nothing was run, the book is as it was
   abbrev pub LeavesRun : {W : Type 0} → List Text → Option (List ℕ) → (Text → Option (List ℕ))
       → (Text → Option (Option ℕ) → Type 0) → Ports W → Option (List ℕ) → Option (List ℕ) → B → B → Outcome → Type 0
@@ -98,4 +107,5 @@ module _ {B : Type 0} (clean sure stands lasts : B → Type 0) (leaves : B → F
       ⊎ (LeavesStatement words known opens old told new
       ⊎ (LeavesMatch words old new
       ⊎ (LeavesStream words input old given written told new
-      ⊎ (LeavesPort words ports old new ⊎ (LeavesReport words old new ⊎ (new ≡ old))))))
+      ⊎ (LeavesPort words ports old new
+      ⊎ (LeavesReport words old new ⊎ (LeavesCheck words old new told ⊎ (new ≡ old)))))))

@@ -1,4 +1,5 @@
 pub mod Calls
+pub mod Check
 pub mod Crashes
 pub mod Matching
 pub mod Notice

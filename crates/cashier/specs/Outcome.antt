@@ -7,6 +7,7 @@ use Rattle.firm_rows.specs.Firm.{Firm}
 use Rattle.trust_base.specs.declared.refusal.StoreFault.{StoreFault}
 use Rattle.trust_base.specs.declared.refusal.StoreFault.TheVariants as faults
 use Rattle.command_line.specs.Program.{Means}
+use Rattle.cashier.specs.Check.{CheckEnds}
 use Rattle.cashier.specs.Matching.{MatchEnds}
 use Rattle.cashier.specs.Report.{PrintsReport}
 use Rattle.portal_http.specs.Clients.{Ports}
@@ -195,6 +196,12 @@ pub record RanReport (words : List Text) (before after : Firm) (old new : Option
   pub means : Means words today (task.Report command)
   pub prints : PrintsReport today before command after old new told
 
+-- the words mean that the book is checked, and that ended with that outcome
+pub record RanCheck (words : List Text) (before after : Firm) (old new : Option (List ℕ)) (told : Outcome) : Type 0 where
+  pub today : ℕ
+  pub means : Means words today task.Check
+  pub ends : CheckEnds before after old new told
+
 -- memory was refused before anything was run
 pub record RanNothing (before after : Firm) (old new : Option (List ℕ)) (told : Outcome) : Type 0 where
   pub outcome : told ≡ outcome.MemoryFault
@@ -202,7 +209,7 @@ pub record RanNothing (before after : Firm) (old new : Option (List ℕ)) (told 
   pub firm : after ≡ before
 
 -- what became of the words, the sheet or the stream on standard input, the files of paths, the clients of ports, by
--- what is known of them, a report and the firm
+-- what is known of them, a report, a check and the firm
 abbrev pub Ran : {W : Type 0} → List Text → Option (List ℕ) → (Text → Option (List ℕ))
     → (Text → Option (Option ℕ) → Type 0) → Ports W → Firm → Firm → Option (List ℕ) → Option (List ℕ) → Outcome
     → Type 0
@@ -212,4 +219,5 @@ Ran words input known opens ports before after old new told =
     ⊎ (RanMatch words known opens before after old new told
     ⊎ (RanStream words input before after old new told
     ⊎ (RanServe words ports before after old new told
-    ⊎ (RanReport words before after old new told ⊎ RanNothing before after old new told)))))
+    ⊎ (RanReport words before after old new told
+    ⊎ (RanCheck words before after old new told ⊎ RanNothing before after old new told))))))

@@ -7,7 +7,7 @@ use Rattle.trust_base.specs.declared.refusal.StoreFault.{StoreFault}
 use Rattle.portal_http.specs.Clients.{Ports}
 use Rattle.command_line.specs.Program.{Means, MeansNothing, db_of}
 use Rattle.command_line.specs.declared.command.Task.{Task}
-use Rattle.cashier.specs.Calls.{CountsStore, LeavesBook}
+use Rattle.cashier.specs.Calls.{CountsStoreIn, LeavesBook}
 use Rattle.cashier.specs.Crashes.{LeavesRun}
 use Rattle.cashier.specs.Outcome.{HasBegun, Ran, put_outcome, store_outcome}
 use Rattle.cashier.specs.declared.outcome.Outcome.{Outcome}
@@ -41,7 +41,7 @@ module _ {B W : Type 0} (clean sure stands lasts : B → Type 0) (leaves : B →
     pub serves : sure before → clean before
     pub after : B
     pub ended : Outcome
-    pub kept : LeavesBook clean sure stands lasts refusals (CountsStore outcome.StoreFault ended) before after
+    pub kept : LeavesBook clean sure stands lasts refusals (CountsStoreIn words ended) before after
     pub sound : clean after → stands before → FirmSound (firm after)
     pub ran : clean after → stands before
         → Ran words input known opens ports (firm before) (firm after) old new ended

@@ -1,11 +1,14 @@
-//! The cashier's program: a day sheet or a stream of messages from standard input, a bank's statement from a file, which
-//! is imported or matched, or a report, to standard output; or the clients of a port, and how the stream of each ended.
+//! The cashier's program: a day sheet or a stream of messages from standard input, a bank's statement from a file,
+//! which is imported or matched, or a report, to standard output; or the clients of a port, and how the stream of each
+//! ended.
 #![tactic(auto)]
 
+mod check;
 mod dismissal;
 mod fields;
 mod folder;
 pub mod laws;
+mod lines_before;
 mod matching;
 mod notice;
 mod outcome;
@@ -22,6 +25,7 @@ mod statement;
 mod surroundings;
 mod system;
 
+pub use check::{CheckFound, run_check};
 pub use folder::{Folder, Opened, Presence};
 pub use matching::run_match;
 pub use notice::{Notice, Source, bare_notice_of, notice_of};
@@ -29,8 +33,8 @@ pub use outcome::{Outcome, exit_of};
 pub use portal_http::{AcceptFault, ClientListener, Connection, Network};
 pub use program::{run_over_stores, run_words};
 pub use remarks::{
-    AskedRemarks, Caution, EntryFault, EntryLine, ExceptionRemark, Excerpt, FileRemark,
-    HeaderRemark, LineFault, LineRemark, NoRemarks, OwnLine, Place, Plain, RecordFault,
+    AskedRemarks, Caution, EarlierLine, EntryFault, EntryLine, ExceptionRemark, Excerpt,
+    FileRemark, HeaderRemark, LineFault, LineRemark, NoRemarks, OwnLine, Place, Plain, RecordFault,
     RecordRemark, RefusedRecord, Remark, Remarks, UnmatchedLine, VerbFault,
 };
 pub use report::run_report;

@@ -61,8 +61,8 @@ fn outcome_by(is_left: bool) -> Outcome
     }
 }
 
-// Prints what a statement becomes, and tells a person what of it has to be looked at; or prints the line of its refusal,
-// and tells a person why.
+// Prints what a statement becomes, and tells a person what of it has to be looked at; or prints the line of its
+// refusal, and tells a person why.
 fn print_found<W: Write, F: Folder, M: Remarks>(
     telling: &StatementTelling<'_, F, M>,
     writer: &mut W,
@@ -123,11 +123,11 @@ fn match_in<R: Read + Drop, F: Folder, M: Remarks, W: Write, B: Book>(
 /// was told by its line, and it is `StoreFault` or `MemoryFault`. Where the file can't be opened or a read failed it is
 /// `FileFault`, and nothing was printed; where a write failed it is `OutputFault`, and a proper front of the text or
 /// line was.
-pub fn run_match<F: Folder, M: Remarks, W: Write, B: Book>(
+pub fn run_match<'a, F: Folder, M: Remarks, W: Write, B: Book>(
     alloc: Global,
-    folder: &F,
-    path: &str,
-    remarks: &M,
+    folder: &'a F,
+    path: &'a str,
+    remarks: &'a M,
     writer: &mut W,
     desk: &mut Desk<B>,
     today: Day,
@@ -147,6 +147,6 @@ pub fn run_match<F: Folder, M: Remarks, W: Write, B: Book>(
         return Outcome::FileFault;
     };
     let is_file = file.length.is_some();
-    let telling = StatementTelling::new(alloc, folder, path, is_file, today, remarks);
+    let telling = StatementTelling::new(alloc, folder, path, is_file, today, remarks, None);
     match_in(alloc, file, &telling, writer, desk, today)
 }

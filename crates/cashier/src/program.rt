@@ -3,15 +3,18 @@
 ghost use Rattle.std.specs.Prelude.{◌≡◌, ◌≢◌, ◌⊎◌, ℕ, IfErr, IfOk, List, map};
 ghost use Rattle.std.specs.String.{string_bytes};
 ghost use Rattle.clap.specs.Words.{Text};
-ghost use Rattle.cashier.specs.Calls.{CountsStore, LeavesBook};
+ghost use Rattle.cashier.specs.Calls.{CountsStore, CountsStoreIn, LeavesBook};
+ghost use Rattle.cashier.specs.Check.{IsSaidSound};
 ghost use Rattle.cashier.specs.Crashes.{LeavesItems, LeavesMessages, LeavesRun};
 ghost use Rattle.cashier.specs.Outcome.{FileEnds, HasBegun, IsServed, Ran, words_outcome};
 ghost use Rattle.cashier.specs.Runs.{HadNoBook, HasRun, RanAtPath, RanInMemory};
-ghost use Rattle.command_line.specs.Program.{Means, MeansNothing, MeansSheet, MeansStream, words_of};
+ghost use Rattle.command_line.specs.Program.{Means, MeansCheck, MeansNothing, MeansSheet, MeansStream, words_of};
 ghost use Rattle.command_line.specs.declared.command.Task.{Task};
 ghost use Rattle.portal_http.specs.Clients.{ports_of};
 
+use crate::check::run_check;
 use crate::folder::Folder;
+use crate::lines_before::lines_before;
 use crate::matching::run_match;
 use crate::outcome::{
     Outcome, outcome_of_sheet, outcome_of_statement, outcome_of_store, outcome_of_stream,
@@ -32,7 +35,7 @@ use std::alloc::{AllocError, Global};
 use std::io::{ErrorKind, Read, Write};
 use std::rt::Clock;
 use trust_base::Day;
-use trust_desk::Desk;
+use trust_desk::{Desk, EarlierLines};
 use trust_store::{Book, PlainBook, Stores};
 
 /// The texts of words, in their order.
@@ -46,12 +49,14 @@ pub fn texts_of<'a>(alloc: Global, words: &'a [String]) -> Result<Vec<&'a str>, 
     Ok(texts)
 }
 
-// Imports the statement at a path, where it can be opened.
+// Imports the statement at a path, where it can be opened, over a book that has these lines before it, where they were
+// read.
 fn import_file<F: Folder, M: Remarks, W: Write, B: Book>(
     alloc: Global,
     folder: &F,
     path: &str,
     remarks: &M,
+    earlier: Option<&EarlierLines>,
     writer: &mut W,
     desk: &mut Desk<B>,
     today: Day,
@@ -70,7 +75,7 @@ fn import_file<F: Folder, M: Remarks, W: Write, B: Book>(
         return Outcome::FileFault;
     };
     let is_file = file.length.is_some();
-    let told = StatementTelling::new(alloc, folder, path, is_file, today, remarks);
+    let told = StatementTelling::new(alloc, folder, path, is_file, today, remarks, earlier);
     outcome_of_statement(run_import(alloc, file.reader, file.length, writer, desk, today, &told))
 }
 
@@ -96,12 +101,14 @@ fn serve_input<R: Read, W: Write, B: Book>(
     outcome_of_stream(serve_stream(alloc, reader, writer, desk, today))
 }
 
-// Runs a plan over a desk, whatever book the plan names. What is said of words is of any that mean the plan.
+// Runs a plan over a desk, whatever book the plan names, which has these lines before an import, where they were read.
+// What is said of words is of any that mean the plan.
 fn run_plan<R: Read, F: Folder, C: Clock + Drop, N: Network, M: Remarks, W: Write, B: Book>(
     alloc: Global,
     plan: &Plan<'_>,
     reader: &mut R,
     around: Surroundings<'_, F, C, N, M>,
+    earlier: Option<&EarlierLines>,
     writer: &mut W,
     desk: &mut Desk<B>,
 ) -> Outcome
@@ -114,8 +121,10 @@ fn run_plan<R: Read, F: Folder, C: Clock + Drop, N: Network, M: Remarks, W: Writ
         (ports_of N.Listener.Writer.contents (N.comes around.entry.network.now)
         (N.refuses around.entry.network.now)) (B.firm desk.old) (B.firm desk.new)
         (W.contents writer.old) (W.contents writer.new) result }
-    ensures kept { LeavesBook B.clean B.sure B.stands B.lasts B.refusals (CountsStore Outcome.StoreFault result)
-        desk.old desk.new }
+    ensures sound { B.clean desk.new → B.readable desk.old → plan.now.task ≡ Task.Check → result ≡ Outcome.Done
+        → IsSaidSound (B.firm desk.old) (W.contents writer.old) (W.contents writer.new) }
+    ensures kept { (words : List Text) → Means words plan.now.today plan.now.task
+        → LeavesBook B.clean B.sure B.stands B.lasts B.refusals (CountsStoreIn words result) desk.old desk.new }
     ensures crash { (words : List Text) → Means words plan.now.today plan.now.task
         → B.sure desk.new → B.clean desk.old → B.stands desk.old
         → LeavesRun B.clean B.sure B.stands B.lasts B.leaves B.firm B.refusals words (R.remaining reader.old)
@@ -132,7 +141,18 @@ fn run_plan<R: Read, F: Folder, C: Clock + Drop, N: Network, M: Remarks, W: Writ
     let remarks = &asked;
     match plan.task {
         Task::Sheet => outcome_of_sheet(run_sheet(alloc, reader, remarks, writer, desk, today)),
-        Task::Import(path) => import_file(alloc, around.folder, path, remarks, writer, desk, today),
+        Task::Import(path) => {
+            import_file(
+                alloc,
+                around.folder,
+                path,
+                remarks,
+                earlier,
+                writer,
+                desk,
+                today,
+            )
+        }
         Task::Match(path) => run_match(alloc, around.folder, path, remarks, writer, desk, today),
         Task::Stream => serve_input(alloc, reader, writer, desk, today),
         Task::Serve { port, count } => run_serve(alloc, around, port, count, writer, desk, today),
@@ -140,6 +160,7 @@ fn run_plan<R: Read, F: Folder, C: Clock + Drop, N: Network, M: Remarks, W: Writ
             let is_past = is_past(around.clock, today);
             run_report(alloc, command, remarks, writer, desk, today, is_past)
         }
+        Task::Check => run_check(alloc, remarks, writer, desk, today),
     }
 }
 
@@ -184,8 +205,13 @@ pub fn run_words<
         (ports_of N.Listener.Writer.contents (N.comes around.entry.network.now)
         (N.refuses around.entry.network.now)) (B.firm desk.old) (B.firm desk.new)
         (W.contents writer.old) (W.contents writer.new) result }
-    ensures kept { LeavesBook B.clean B.sure B.stands B.lasts B.refusals (CountsStore Outcome.StoreFault result)
-        desk.old desk.new }
+
+    // Whatever the book's store keeps, as long as it can be read as rows: what a check calls sound is sound.
+    ensures sound { B.clean desk.new → B.readable desk.old → MeansCheck (words_of words.entry.now)
+        → result ≡ Outcome.Done
+        → IsSaidSound (B.firm desk.old) (W.contents writer.old) (W.contents writer.new) }
+    ensures kept { LeavesBook B.clean B.sure B.stands B.lasts B.refusals
+        (CountsStoreIn (words_of words.entry.now) result) desk.old desk.new }
 
     // What a crash leaves once all that is over: of what was written as accepted, all.
     ensures crash { B.sure desk.new → B.clean desk.old → B.stands desk.old
@@ -200,7 +226,7 @@ pub fn run_words<
         Err(CliFault::Line) => return Outcome::CommandLine,
         Err(CliFault::Memory) => return Outcome::MemoryFault,
     };
-    run_plan(alloc, &plan, reader, around, writer, desk)
+    run_plan(alloc, &plan, reader, around, None, writer, desk)
 }
 
 // Runs a plan over a book that is kept in memory, begins without rows and is given up at the end.
@@ -223,12 +249,13 @@ fn run_in_memory<R: Read, F: Folder, C: Clock + Drop, N: Network, M: Remarks, W:
 {
     let remarks = around.remarks;
     let mut desk = Desk::new(PlainBook::new(alloc));
-    let ended = run_plan(alloc, plan, reader, around, writer, &mut desk);
+    let ended = run_plan(alloc, plan, reader, around, None, writer, &mut desk);
     tell_of_loss(remarks, plan, desk.into_book());
     ended
 }
 
-// Runs a plan over a book of a store, and puts the book back.
+// Runs a plan over a book of a store, which has these lines before an import, where they were read, and puts the book
+// back.
 fn run_over_book<R: Read, F: Folder, C: Clock + Drop, N: Network, M: Remarks, S: Stores, W: Write>(
     alloc: Global,
     plan: &Plan<'_>,
@@ -236,6 +263,7 @@ fn run_over_book<R: Read, F: Folder, C: Clock + Drop, N: Network, M: Remarks, S:
     around: Surroundings<'_, F, C, N, M>,
     stores: &S,
     book: S::AtPath,
+    earlier: Option<&EarlierLines>,
     writer: &mut W,
 ) -> Outcome
     ensures began { result ≢ Outcome.CommandLine }
@@ -250,7 +278,7 @@ fn run_over_book<R: Read, F: Folder, C: Clock + Drop, N: Network, M: Remarks, S:
         (N.refuses around.entry.network.now)) (W.contents writer.old) (W.contents writer.new) result }
 {
     let mut desk = Desk::new(book);
-    let ended = run_plan(alloc, plan, reader, around, writer, &mut desk);
+    let ended = run_plan(alloc, plan, reader, around, earlier, writer, &mut desk);
     let put = stores.put_back(desk.into_book());
     outcome_put_back(ended, put)
 }
@@ -277,10 +305,20 @@ fn run_at_path<R: Read, F: Folder, C: Clock + Drop, N: Network, M: Remarks, S: S
         ⊎ HadNoBook ((reader.new ≡ reader.old) × (writer.new ≡ writer.old)) result }
 {
     let found = around.folder.presence(path);
+    let earlier = lines_before(alloc, around.remarks, plan, stores, path, found);
     match stores.at(alloc, path) {
         Ok(book) => {
             tell_of_new_book(around.remarks, plan, path, found);
-            run_over_book(alloc, plan, reader, around, stores, book, writer)
+            run_over_book(
+                alloc,
+                plan,
+                reader,
+                around,
+                stores,
+                book,
+                earlier.as_ref(),
+                writer,
+            )
         }
         Err(fault) => {
             tell_of_no_book(alloc, around.remarks, plan, stores, path, fault);
@@ -292,11 +330,14 @@ fn run_at_path<R: Read, F: Folder, C: Clock + Drop, N: Network, M: Remarks, S: S
 /// Runs what the program's words ask for over the book that is kept at the path of `--db`, or, where `--db` names none,
 /// over one that is kept in memory, begins without rows and is given up at the end.
 ///
+/// Before a statement is imported the book at the path is taken once more, read and put back, where somebody is told
+/// which of the statement's lines stand on another entry by an earlier import. Nothing else hangs on that.
+///
 /// Where the command line is at fault nothing is read, run or written, and no book is asked for; nor is it where a
-/// growth was refused before the plan was known. Where the book can't be had nothing is read or written, and no file but
-/// its own and no port is asked for: the outcome is `StoreFault`, or `MemoryFault` where a growth was refused. Else it
-/// is that of the task (`run_words`). Then the book is put back at its path. Where that fails, and the task ended by no
-/// fault, the outcome is `StoreFault` or `MemoryFault` too: what was accepted is kept all the same.
+/// growth was refused before the plan was known. Where the book can't be had nothing is read or written, and no file
+/// but its own and no port is asked for: the outcome is `StoreFault`, or `MemoryFault` where a growth was refused. Else
+/// it is that of the task (`run_words`). Then the book is put back at its path. Where that fails, and the task ended by
+/// no fault, the outcome is `StoreFault` or `MemoryFault` too: what was accepted is kept all the same.
 ///
 /// The firm that is left in memory is sound, as it is after each record, each line of a statement and each message.
 pub fn run_over_stores<

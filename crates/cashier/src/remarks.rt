@@ -3,7 +3,9 @@
 mod beginning;
 mod beside;
 mod caution;
+mod check;
 mod day_meant;
+mod earlier_line;
 mod entry_line;
 mod exception;
 mod excerpt;
@@ -29,8 +31,10 @@ mod whole_file;
 
 pub use beginning::{is_past, tell_of_day, tell_of_new_book, tell_of_no_book};
 pub use beside::{ClearedTwice, NowTelling, TwiceTelling};
-use beside::{write_of_now, write_rows_end};
+use beside::{write_earlier_end, write_of_now, write_rows_end};
 pub use caution::Caution;
+use check::{write_flaw, write_unread};
+pub use earlier_line::EarlierLine;
 pub use entry_line::{EntryFault, EntryLine};
 use exception::write_end;
 pub use exception::{ExceptionRemark, ExceptionTelling};
@@ -49,6 +53,7 @@ pub use statement::StatementTelling;
 use std::fmt;
 pub use telling::Telling;
 use trust_base::{Day, StoreFault};
+use trust_desk::{Flaw, Unread};
 use trust_store::NoBook;
 pub use unmatched::UnmatchedLine;
 pub use verb_fault::VerbFault;
@@ -93,6 +98,12 @@ pub enum Remark<'a> {
     OfNow { today: Day, last: Day },
     /// What is told beside a report ended by this fault.
     RowsEnd(StoreFault),
+    /// The lines that a book has before an import were not read, by this fault.
+    EarlierEnd(StoreFault),
+    /// This is not sound of the book's rows.
+    Flaw(Flaw),
+    /// This can't be read of the book's rows.
+    Unread(Unread),
 }
 
 // Why there is no book to be had, as it stands behind a path.
@@ -149,6 +160,9 @@ impl fmt::Display for Remark<'_> {
             Remark::ClearedTwice(told) => told.fmt(f),
             Remark::OfNow { today, last } => write_of_now(f, *today, *last),
             Remark::RowsEnd(fault) => write_rows_end(f, *fault),
+            Remark::EarlierEnd(fault) => write_earlier_end(f, *fault),
+            Remark::Flaw(flaw) => write_flaw(f, *flaw),
+            Remark::Unread(unread) => write_unread(f, unread),
             Remark::NewBook(path) => write!(f, "{path} was not there: a new book was begun"),
             Remark::EmptyBook(path) => write!(
                 f,
@@ -187,6 +201,11 @@ impl Remark<'_> {
 pub trait Remarks {
     /// Tells a remark.
     fn tell(&self, remark: &Remark<'_>);
+
+    /// Whether somebody is told. What is only read to be told is not read else.
+    fn are_told(&self) -> bool {
+        true
+    }
 }
 
 /// Nobody is told.
@@ -195,6 +214,10 @@ pub struct NoRemarks;
 
 impl Remarks for NoRemarks {
     fn tell(&self, _remark: &Remark<'_>) {}
+
+    fn are_told(&self) -> bool {
+        false
+    }
 }
 
 /// Who is told as a command line asks: nobody where it is quiet.
@@ -208,8 +231,12 @@ pub struct AskedRemarks<'a, M> {
 
 impl<M: Remarks> Remarks for AskedRemarks<'_, M> {
     fn tell(&self, remark: &Remark<'_>) {
-        if !self.is_quiet {
+        if self.are_told() {
             self.remarks.tell(remark);
         }
+    }
+
+    fn are_told(&self) -> bool {
+        !self.is_quiet && self.remarks.are_told()
     }
 }

@@ -105,7 +105,7 @@ fn tell_reasons<M: Remarks, B: Book>(alloc: Global, remarks: &M, desk: &mut Desk
 /// refusal. Behind the exceptions a person is told why each is one, or that an import would take it now; behind these
 /// and a reconciliation, which lines of the bank look like one; and behind a trial balance or a journal of a day that
 /// `is_past`, that there is later work. Of that no clause speaks; a fault that ends it is told too, and is no fault of
-/// the run.
+/// the run. Where nobody is told, the book is not read for it.
 ///
 /// The outcome is `Done` where the text was written, and `Refused` where the line of a refusal was; where the store or
 /// memory was refused, that was told by its line, and it is `StoreFault` or `MemoryFault`. Where a write failed it is
@@ -131,7 +131,7 @@ pub fn run_report<M: Remarks, W: Write, B: Book>(
         → LeavesOr (B.firm desk.old) (B.leaves desk.old) (B.leaves desk.new) }
 {
     let outcome = print_report(alloc, command, writer, desk, today);
-    if !is_done(outcome) {
+    if !is_done(outcome) || !remarks.are_told() {
         return outcome;
     }
     match &command {

@@ -149,6 +149,11 @@ fn refuse_whole<W: Write, M: Remarks>(remarks: &M, writer: &mut W) -> SheetEnd
 ///
 /// A sheet above 4,194,304 bytes runs no record and is answered by one line. What is written is a function of the
 /// sheet's bytes, the firm's rows before and the day, however the reads and writes are cut.
+///
+/// The records of a reader, and their lines into a writer, with nobody told of what is refused. Where the reader has
+/// `open,000001,,Ada Chen,lee` twice, the second line is 409, since the matter is open by then:
+///
+///     let end = run_sheet(alloc, &mut sheet, &NoRemarks, &mut lines, &mut desk, today);    // SheetEnd::Refused
 pub fn run_sheet<R: Read, W: Write, B: Book, M: Remarks>(
     alloc: Global,
     reader: &mut R,

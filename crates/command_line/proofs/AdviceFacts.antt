@@ -18,7 +18,7 @@ use Rattle.std.specs.Borrow.{Bor}
 use Rattle.trust_base.specs.Texts.{day_of, matter_of}
 use Rattle.command_line.specs.Advice.{HasCommand, HasWrongValue, IsFront, IsRepeated, IsStrayed, IsStray, IsTakenSoFar, IsWrong, IsWrongOperand, IsWrongToday, IsWrongValue, LacksValue, LacksValueAt, Names, front_by, last_setting, names_day, setting_named, verb_name}
 use Rattle.command_line.specs.Numerals.{IsCount, IsPort}
-use Rattle.command_line.specs.Program.{FailsAs, IsParse, IsRefused, db_rule, import_app, match_app, operand_app, operand_rule, options_app, program, quiet_rule, report_apps, run_apps, serve_app, sheet_app, stream_app, today_rule, words_of}
+use Rattle.command_line.specs.Program.{FailsAs, IsParse, IsRefused, check_app, db_rule, import_app, match_app, operand_app, operand_rule, options_app, program, quiet_rule, report_apps, run_apps, serve_app, sheet_app, stream_app, today_rule, words_of}
 use Rattle.command_line.specs.declared.advice.Setting.{Setting}
 use Rattle.command_line.specs.declared.advice.Verb.{Verb}
 use Rattle.command_line.specs.declared.advice.Wrong.{Wrong}
@@ -28,7 +28,7 @@ use Rattle.command_line.specs.declared.faults.Front.TheVariants as fronts
 
 -- without words a command is wanted
 pub none-taken : FailsAs [] kind.MissingSubcommand
-unfolding clap_on_literals program options_app today_rule db_rule quiet_rule sheet_app import_app match_app operand_app operand_rule stream_app serve_app run_apps report_apps
+unfolding clap_on_literals program options_app today_rule db_rule quiet_rule sheet_app import_app match_app operand_app operand_rule stream_app serve_app check_app run_apps report_apps
 none-taken = inl refl
 
 -- a value of the day that is none

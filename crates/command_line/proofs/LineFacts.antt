@@ -14,7 +14,7 @@ use Rattle.std.specs.Borrow.{Bor}
 use Rattle.std.specs.Result.{IsErrAnd}
 use Rattle.std.specs.Str.{bytes_eq}
 use Rattle.trust_base.specs.Texts.{day_of, matter_of}
-use Rattle.command_line.specs.Program.{Gives, IsParse, IsRefused, IsTask, LeavesNoPlan, MatchReadsNothing, MeetsTask, Means, MeansNothing, db_of, db_rule, fault_by, import_app, is_flag_set, match_app, operand_app, operand_rule, options_app, quiet_of, quiet_rule, report_apps, ImportIsNoSheet, ImportIsNoStream, IsReportCommand, ReportReadsNothing, ServeReadsNothing, program, report_name, run_apps, serve_app, sheet_app, stream_app, today_rule}
+use Rattle.command_line.specs.Program.{Gives, IsParse, IsRefused, IsTask, LeavesNoPlan, MatchReadsNothing, MeetsTask, Means, MeansNothing, db_of, db_rule, fault_by, import_app, is_flag_set, match_app, operand_app, operand_rule, options_app, quiet_of, quiet_rule, report_apps, ImportIsNoSheet, ImportIsNoStream, IsReportCommand, CheckReadsNothing, ReportReadsNothing, ServeReadsNothing, check_app, program, report_name, run_apps, serve_app, sheet_app, stream_app, today_rule}
 use Rattle.command_line.specs.declared.command.CliFault.{CliFault}
 use Rattle.command_line.specs.declared.report_command.ReportCommand.{ReportCommand}
 use Rattle.command_line.specs.declared.report_command.ReportCommand.TheVariants as reports
@@ -22,11 +22,11 @@ use Rattle.command_line.specs.declared.command.Task.{Task}
 use Rattle.command_line.specs.declared.command.Task.TheVariants as tasks
 
 pub is_simple_program : is_simple program ≡ true
-unfolding clap_on_literals program options_app today_rule db_rule quiet_rule sheet_app import_app match_app operand_app operand_rule stream_app serve_app run_apps report_apps
+unfolding clap_on_literals program options_app today_rule db_rule quiet_rule sheet_app import_app match_app operand_app operand_rule stream_app serve_app check_app run_apps report_apps
 is_simple_program = refl
 
 pub is_free_program : is_simple_and_free program ≡ true
-unfolding clap_on_literals program options_app today_rule db_rule quiet_rule sheet_app import_app match_app operand_app operand_rule stream_app serve_app run_apps report_apps
+unfolding clap_on_literals program options_app today_rule db_rule quiet_rule sheet_app import_app match_app operand_app operand_rule stream_app serve_app check_app run_apps report_apps
 is_free_program = refl
 
 pub parses : (a : App) (words : List Text) → a ≡ program → (is_simple_and_free a ≡ true → fault_of a words ≡ []) → fault_of program words ≡ []
@@ -202,6 +202,18 @@ no_import_serve = differ _ _ refl refl
 no_sheet_serve : codes "sheet" ≡ codes "serve" → ⊥
 no_sheet_serve = differ _ _ refl refl
 
+no_import_check : codes "import" ≡ codes "check" → ⊥
+no_import_check = differ _ _ refl refl
+
+no_match_check : codes "match" ≡ codes "check" → ⊥
+no_match_check = differ _ _ refl refl
+
+no_sheet_check : codes "sheet" ≡ codes "check" → ⊥
+no_sheet_check = differ _ _ refl refl
+
+no_stream_check : codes "stream" ≡ codes "check" → ⊥
+no_stream_check = differ _ _ refl refl
+
 no_stream_serve : codes "stream" ≡ codes "serve" → ⊥
 no_stream_serve = differ _ _ refl refl
 
@@ -213,6 +225,7 @@ no_file f name (tasks.Match path) n v is = no_import_match (sym n ∙ is.named)
 no_file f name tasks.Stream n v is = no_import_stream (sym n ∙ is.named)
 no_file f name (tasks.Serve port count) n v is = no_import_serve (sym n ∙ is.named)
 no_file f name (tasks.Report r) n v is = no_import_report r (sym n ∙ is.named)
+no_file f name tasks.Check n v is = no_import_check (sym n ∙ is.named)
 
 pub no_match_file : (f : Found) (name : Text) (task : Task) → name ≡ codes "match" → first_value f (codes "FILE") ≡ None → IsTask name (rows_of f) task → ⊥
 no_match_file f name tasks.Sheet n v is = no_match_sheet (sym n ∙ is.named)
@@ -221,6 +234,7 @@ no_match_file f name (tasks.Match path) n v is = let e = sym v ∙ first_value-r
 no_match_file f name tasks.Stream n v is = no_match_stream (sym n ∙ is.named)
 no_match_file f name (tasks.Serve port count) n v is = no_match_serve (sym n ∙ is.named)
 no_match_file f name (tasks.Report r) n v is = no_match_report r (sym n ∙ is.named)
+no_match_file f name tasks.Check n v is = no_match_check (sym n ∙ is.named)
 
 -- a reconciliation without a day is no report
 pub no_day_report : (name : Text) (values : List Row) (r : ReportCommand) → name ≡ codes "reconcile" → option_and_then day_of (first_of (codes "DAY") values) ≡ None
@@ -307,4 +321,19 @@ pub serve-reads-nothing : ServeReadsNothing
 serve-reads-nothing words (today, port, count, a) = (
   λ (later, b). serve_or_sheet (subcommand_of program words) port count a.gives.meets b.gives.meets,
   λ (later, b). serve_or_stream (subcommand_of program words) port count a.gives.meets b.gives.meets,
+)
+
+-- nor is a check
+check_or_sheet : (m : Option (Text × List Row)) → MeetsTask m tasks.Check → MeetsTask m tasks.Sheet → ⊥
+check_or_sheet None a b = a
+check_or_sheet (Some command) a b = no_sheet_check (sym b.named ∙ a.named)
+
+check_or_stream : (m : Option (Text × List Row)) → MeetsTask m tasks.Check → MeetsTask m tasks.Stream → ⊥
+check_or_stream None a b = a
+check_or_stream (Some command) a b = no_stream_check (sym b.named ∙ a.named)
+
+pub check-reads-nothing : CheckReadsNothing
+check-reads-nothing words (today, a) = (
+  λ (later, b). check_or_sheet (subcommand_of program words) a.gives.meets b.gives.meets,
+  λ (later, b). check_or_stream (subcommand_of program words) a.gives.meets b.gives.meets,
 )

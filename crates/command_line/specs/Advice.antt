@@ -34,11 +34,12 @@ verb_name verbs.Journal = codes "journal"
 verb_name verbs.Retention = codes "retention"
 verb_name verbs.Exceptions = codes "exceptions"
 verb_name verbs.Ledger = codes "ledger"
+verb_name verbs.Check = codes "check"
 
 -- how a command is written behind the options; all of them, where none is named
 abbrev pub verb_usage : Option Verb → Text
 verb_usage None = codes "(sheet | import FILE | match FILE | stream | serve PORT COUNT | reconcile DAY | trial | "
-    ++ codes "journal | retention | exceptions | ledger MATTER|FIRM)"
+    ++ codes "journal | retention | exceptions | ledger MATTER|FIRM | check)"
 verb_usage (Some verbs.Sheet) = codes "sheet"
 verb_usage (Some verbs.Import) = codes "import FILE"
 verb_usage (Some verbs.Match) = codes "match FILE"
@@ -50,6 +51,7 @@ verb_usage (Some verbs.Journal) = codes "journal"
 verb_usage (Some verbs.Retention) = codes "retention"
 verb_usage (Some verbs.Exceptions) = codes "exceptions"
 verb_usage (Some verbs.Ledger) = codes "ledger MATTER|FIRM"
+verb_usage (Some verbs.Check) = codes "check"
 
 -- a command as it may be typed
 abbrev pub verb_example : Option Verb → Text
@@ -65,6 +67,7 @@ verb_example (Some verbs.Journal) = codes "journal"
 verb_example (Some verbs.Retention) = codes "retention"
 verb_example (Some verbs.Exceptions) = codes "exceptions"
 verb_example (Some verbs.Ledger) = codes "ledger 000001"
+verb_example (Some verbs.Check) = codes "check"
 
 -- what is wrong
 abbrev pub wrong_text : Wrong → Text

@@ -63,12 +63,15 @@ stream_app = new_app (codes "stream")
 unfoldable pub serve_app : App
 serve_app = with_rule (operand_app (codes "serve") (codes "PORT")) (operand_rule (codes "COUNT"))
 
--- the commands that are no reports: `sheet`, `import FILE`, `match FILE`, `stream`, `serve PORT COUNT`
-unfoldable pub run_apps : List App
-run_apps = sheet_app ∷ import_app ∷ match_app ∷ stream_app ∷ serve_app ∷ []
+unfoldable pub check_app : App
+check_app = new_app (codes "check")
 
--- the commands of reports: `reconcile DAY`, `trial`, `journal`, `retention`, `exceptions`, `ledger MATTER`; the word FIRM
--- may stand for a matter's number
+-- the commands that are no reports: `sheet`, `import FILE`, `match FILE`, `stream`, `serve PORT COUNT`, `check`
+unfoldable pub run_apps : List App
+run_apps = sheet_app ∷ import_app ∷ match_app ∷ stream_app ∷ serve_app ∷ check_app ∷ []
+
+-- the commands of reports: `reconcile DAY`, `trial`, `journal`, `retention`, `exceptions`, `ledger MATTER`; the word
+-- FIRM may stand for a matter's number
 unfoldable pub report_apps : List App
 report_apps =
     operand_app (codes "reconcile") (codes "DAY") ∷ new_app (codes "trial") ∷ new_app (codes "journal")
@@ -141,6 +144,7 @@ task_text (tasks.Match path) = codes "match"
 task_text tasks.Stream = codes "stream"
 task_text (tasks.Serve port count) = codes "serve"
 task_text (tasks.Report report) = report_name report
+task_text tasks.Check = codes "check"
 
 -- the text that was given is this port's
 abbrev pub IsPortGiven : Option Text → ℕ → Type 0
@@ -163,6 +167,7 @@ HasOperands values (tasks.Match path) = first_of (codes "FILE") values ≡ Some 
 HasOperands values tasks.Stream = ⊤
 HasOperands values (tasks.Serve port count) = IsServing values port count
 HasOperands values (tasks.Report report) = HasReportOperands values report
+HasOperands values tasks.Check = ⊤
 
 -- a command of this name with these values is the task
 pub record IsTask (name : Text) (values : List Row) (task : Task) : Type 0 where
@@ -221,6 +226,10 @@ MeansServe words = (today : ℕ) × (port : ℕ) × (count : ℕ) × Means words
 abbrev pub MeansReport : List Text → Type 0
 MeansReport words = (today : ℕ) × (report : ReportCommand) × Means words today (tasks.Report report)
 
+-- the words mean that the book is checked
+abbrev pub MeansCheck : List Text → Type 0
+MeansCheck words = (today : ℕ) × Means words today tasks.Check
+
 -- the words of an import mean no sheet
 abbrev pub ImportIsNoSheet : Type 0
 ImportIsNoSheet = (words : List Text) → MeansImport words → ¬ MeansSheet words
@@ -240,6 +249,10 @@ ReportReadsNothing = (words : List Text) → MeansReport words → (¬ MeansShee
 -- the words of serving mean no sheet and no stream
 abbrev pub ServeReadsNothing : Type 0
 ServeReadsNothing = (words : List Text) → MeansServe words → (¬ MeansSheet words) × (¬ MeansStream words)
+
+-- the words of a check mean no sheet and no stream
+abbrev pub CheckReadsNothing : Type 0
+CheckReadsNothing = (words : List Text) → MeansCheck words → (¬ MeansSheet words) × (¬ MeansStream words)
 
 -- the words mean no plan
 abbrev pub MeansNothing : List Text → Type 0

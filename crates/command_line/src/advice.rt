@@ -30,6 +30,8 @@ pub enum Verb {
     Exceptions,
     /// Print a ledger card.
     Ledger,
+    /// Check the book's rows.
+    Check,
 }
 
 /// The options.
@@ -93,6 +95,7 @@ pub fn verb_of(name: &str) -> Option<Verb>
         "retention" => Some(Verb::Retention),
         "exceptions" => Some(Verb::Exceptions),
         "ledger" => Some(Verb::Ledger),
+        "check" => Some(Verb::Check),
         _ => None,
     }
 }
@@ -104,7 +107,7 @@ fn usage_of(verb: Option<Verb>) -> &'static str
     match verb {
         None =>
             "(sheet | import FILE | match FILE | stream | serve PORT COUNT | reconcile DAY | trial | \
-            journal | retention | exceptions | ledger MATTER|FIRM)",
+            journal | retention | exceptions | ledger MATTER|FIRM | check)",
         Some(Verb::Sheet) => "sheet",
         Some(Verb::Import) => "import FILE",
         Some(Verb::Match) => "match FILE",
@@ -116,6 +119,7 @@ fn usage_of(verb: Option<Verb>) -> &'static str
         Some(Verb::Retention) => "retention",
         Some(Verb::Exceptions) => "exceptions",
         Some(Verb::Ledger) => "ledger MATTER|FIRM",
+        Some(Verb::Check) => "check",
     }
 }
 
@@ -135,6 +139,7 @@ fn example_of(verb: Option<Verb>) -> &'static str
         Some(Verb::Retention) => "retention",
         Some(Verb::Exceptions) => "exceptions",
         Some(Verb::Ledger) => "ledger 000001",
+        Some(Verb::Check) => "check",
     }
 }
 

@@ -34,6 +34,8 @@ pub enum Task<'a> {
     },
     /// Print this report.
     Report(ReportCommand),
+    /// Check the book's rows.
+    Check,
 }
 
 /// A plan of a run: the business day, where the book is kept, whether a person is told of it, and what is to be done.
@@ -84,6 +86,7 @@ fn task_of<'a>(name: &str, values: &ArgMatches<'a>) -> Option<Task<'a>>
             port: port_operand(values, "PORT")?,
             count: count_operand(values, "COUNT")?,
         }),
+        "check" => Some(Task::Check),
         _ => Some(Task::Report(report_command_of(name, values)?)),
     }
 }
@@ -117,8 +120,9 @@ fn plan_of<'a>(matches: &ArgMatches<'a>) -> Option<Plan<'a>>
 }
 
 /// The plan that words mean, the program's name first among them; its `db` is the value of `--db` where that is given,
-/// be it the path of a file or not, and it is quiet where `--quiet` is given. `Line` comes only where they mean none: the
-/// command line does not take them, asks for help included, or the word of `--today` or an operand is not of its form.
+/// be it the path of a file or not, and it is quiet where `--quiet` is given. `Line` comes only where they mean none:
+/// the command line does not take them, asks for help included, or the word of `--today` or an operand is not of its
+/// form.
 ///
 /// `Memory` comes where a growth was refused. That it comes nowhere else can't be said here, for `parse`'s reason; the
 /// values of a parse are read without memory.

@@ -43,7 +43,8 @@ fn with_runs<'a>(alloc: Global, command: Command<'a>) -> Result<Command<'a>, All
     let with_import = with_operand(alloc, with_sheet, "import", "FILE")?;
     let with_match = with_operand(alloc, with_import, "match", "FILE")?;
     let with_stream = with_bare(alloc, with_match, "stream")?;
-    with_serve(alloc, with_stream)
+    let with_serve = with_serve(alloc, with_stream)?;
+    with_bare(alloc, with_serve, "check")
 }
 
 // A command line with the commands of reports behind its own.

@@ -1,7 +1,7 @@
 //! Laws over the definitions, each the contract of a function with nothing to do.
 
 ghost use Rattle.command_line.specs.Program.{ImportIsNoSheet, ImportIsNoStream, MatchReadsNothing, ReportReadsNothing};
-ghost use Rattle.command_line.specs.Program.{ServeReadsNothing};
+ghost use Rattle.command_line.specs.Program.{CheckReadsNothing, ServeReadsNothing};
 
 /// Words that mean an import mean no sheet, so that an import leaves standard input as it was.
 pub fn import_is_no_sheet()
@@ -27,4 +27,9 @@ pub fn report_reads_nothing()
 /// as it was.
 pub fn serve_reads_nothing()
     ensures { ServeReadsNothing }
+{}
+
+/// Words that mean a check mean neither a sheet nor a stream, so that a check leaves standard input as it was.
+pub fn check_reads_nothing()
+    ensures { CheckReadsNothing }
 {}

@@ -5,7 +5,8 @@ ghost use Rattle.portal_http.specs.Served.{Served};
 use crate::listener::Connection;
 use crate::pace::{Pace, time_left};
 use crate::paced::{PacedReader, PacedWriter};
-use crate::stream::{StreamEnd, serve_stream};
+use crate::stream::{StreamEnd, serve_stream_by};
+use portal_requests::Routes;
 use std::alloc::Global;
 use std::io;
 use std::io::{Read, Write};
@@ -64,6 +65,7 @@ fn serve_paced<C: Clock + Drop, R: Read + OpenStream + Drop, W: Write + OpenStre
     reader: &mut R,
     writer: W,
     desk: &mut Desk<B>,
+    routes: &Option<Routes>,
     day: Day,
 ) -> Answered<W>
     ensures { Served B.clean B.sure B.stands B.lasts B.leaves B.firm B.refusals day (R.remaining reader.old)
@@ -71,7 +73,7 @@ fn serve_paced<C: Clock + Drop, R: Read + OpenStream + Drop, W: Write + OpenStre
 {
     let messages = PacedReader { pace, half: reader };
     let mut answers = PacedWriter { pace, half: writer };
-    let end = serve_stream(alloc, messages, &mut answers, desk, day);
+    let end = serve_stream_by(alloc, messages, &mut answers, desk, routes, day);
     let PacedWriter { pace: _, half } = answers;
     Answered { end, writer: half }
 }
@@ -81,18 +83,33 @@ fn serve_paced<C: Clock + Drop, R: Read + OpenStream + Drop, W: Write + OpenStre
 /// client that takes longer ends the stream by `ReadFault` or `WriteFault`, and so does a clock that can't be read. The
 /// time in which the desk works counts for nothing. So a connection ends at last, since a stream has 1,000 messages.
 /// Where an answer ended the stream, the client still gets it: up to 4,194,304 bytes or one second of what it still
-/// sends are read and dropped before the close.
+/// sends are read and dropped before the close. The routes are made for it where none are given.
 pub fn serve_connection<
     C: Clock + Drop,
     R: Read + OpenStream + Drop,
     W: Write + OpenStream + Drop,
     B: Book,
->(alloc: Global, clock: &C, client: Connection<R, W>, desk: &mut Desk<B>, day: Day) -> Answered<W>
+>(
+    alloc: Global,
+    clock: &C,
+    client: Connection<R, W>,
+    desk: &mut Desk<B>,
+    routes: &Option<Routes>,
+    day: Day,
+) -> Answered<W>
     ensures { Served B.clean B.sure B.stands B.lasts B.leaves B.firm B.refusals day (R.remaining client.reader)
         (W.contents client.writer) desk.old result.end (W.contents result.writer) desk.new }
 {
     let Connection { mut reader, writer } = client;
-    let answered = serve_paced(alloc, &Pace::new(clock), &mut reader, writer, desk, day);
+    let answered = serve_paced(
+        alloc,
+        &Pace::new(clock),
+        &mut reader,
+        writer,
+        desk,
+        routes,
+        day,
+    );
     match answered.end {
         StreamEnd::BadFraming | StreamEnd::Limit | StreamEnd::NoMemory => {
             close(clock, &mut reader, &answered.writer);

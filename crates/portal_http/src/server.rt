@@ -9,6 +9,7 @@ use crate::end_line::line_of;
 use crate::listener::{AcceptFault, ClientListener};
 use crate::stream::StreamEnd;
 use byte_streams::send;
+use portal_requests::Routes;
 use std::alloc::Global;
 use std::io::Write;
 use std::rt::Clock;
@@ -34,6 +35,7 @@ fn serve_next<C: Clock + Drop, L: ClientListener, B: Book>(
     clock: &C,
     listener: &mut L,
     desk: &mut Desk<B>,
+    routes: &Option<Routes>,
     day: Day,
 ) -> Option<StreamEnd>
     ensures some { IfSome result (λ end. IsClientServed B.clean B.sure B.stands B.lasts B.leaves B.firm B.refusals
@@ -43,7 +45,7 @@ fn serve_next<C: Clock + Drop, L: ClientListener, B: Book>(
     ensures next { (k : ℕ) (c : Comes L.Writer) → L.comes listener.new k c → L.comes listener.old (k + 1) c }
 {
     match listener.accept() {
-        Ok(client) => Some(serve_connection(alloc, clock, client, desk, day).end),
+        Ok(client) => Some(serve_connection(alloc, clock, client, desk, routes, day).end),
         Err(AcceptFault::Aborted) => Some(StreamEnd::ReadFault),
         Err(AcceptFault::Network) => None,
     }
@@ -66,8 +68,10 @@ pub fn serve_connections<C: Clock + Drop, L: ClientListener, W: Write, B: Book>(
     // The firm that is left is sound where it was, as it is after each message of each client.
     ensures kept { KeepsStanding B.clean B.sure B.stands B.lasts desk.old desk.new }
 {
+    // Made once for all clients; where memory is short now, each makes its own.
+    let routes = Routes::new(alloc).ok();
     for _ in 0..count {
-        let Some(end) = serve_next(alloc, clock, listener, desk, day) else {
+        let Some(end) = serve_next(alloc, clock, listener, desk, &routes, day) else {
             return ServeEnd::NetworkFault;
         };
         match send(writer, line_of(end)) {

@@ -113,6 +113,10 @@ fn serve_routes<R: Read + Drop, W: Write, B: Book>(
 /// A crash behind the call may leave what it might have left before, or the rows after some front of the messages, with
 /// a part of the next, where the store served as the call began and no reply but the last is Store or Memory. Where
 /// none is, a store that served serves still, and a settled book is settled.
+///
+/// The messages of a reader, and their answers into a writer:
+///
+///     let end = serve_stream(alloc, messages, &mut answers, &mut desk, today);    // StreamEnd::Ended
 pub fn serve_stream<R: Read + Drop, W: Write, B: Book>(
     alloc: Global,
     reader: R,
@@ -129,5 +133,23 @@ pub fn serve_stream<R: Read + Drop, W: Write, B: Book>(
             Ok(()) => StreamEnd::NoMemory,
             Err(_) => StreamEnd::WriteFault,
         },
+    }
+}
+
+/// Serves a stream as `serve_stream` does, with these routes, or, where there are none, with its own.
+pub(crate) fn serve_stream_by<R: Read + Drop, W: Write, B: Book>(
+    alloc: Global,
+    reader: R,
+    writer: &mut W,
+    desk: &mut Desk<B>,
+    routes: &Option<Routes>,
+    day: Day,
+) -> StreamEnd
+    ensures { Served B.clean B.sure B.stands B.lasts B.leaves B.firm B.refusals day (R.remaining reader)
+        (W.contents writer.old) desk.old result (W.contents writer.new) desk.new }
+{
+    match routes {
+        Some(routes) => serve_routes(alloc, reader, writer, desk, routes, day),
+        None => serve_stream(alloc, reader, writer, desk, day),
     }
 }

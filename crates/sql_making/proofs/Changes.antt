@@ -1,4 +1,5 @@
--- What a statement of the batch that copies, empties or sets makes of one table. The schema is that of this version then.
+-- What a statement of the batch that copies, empties or sets makes of one table. The schema is that of this version
+-- then.
 use Rattle.std.proofs.Common.{◌≡◌, ◌≢◌, ℕ, ℤ, ◌<ℤ◌, true, false, not, cond, ◌==◌, List, [], ◌∷◌, ◌++◌, map, filter, length, slice_get, Option, Some, Ok, refl, sym, ap, ap₂, subst, subst₂, ◌∙◌, append-nil}
 use Rattle.std.specs.List.{AllByRecursion, flat_map, filter_map}
 use Rattle.std.specs.List.Sorted.{IsPermutation}

@@ -7,11 +7,13 @@ pub mod HeadsRead
 pub mod NamedEntries
 pub mod Parts
 pub mod Values
+pub mod AllMatters
 pub mod Answer
 pub mod Fed
 pub mod Going
 pub mod Handed
 pub mod Shown
+pub mod RowLists
 pub mod Steps
 pub mod Streams
 pub mod Walk

@@ -1,10 +1,11 @@
 -- What the tables hold of one matter, column by column.
-use Rattle.std.specs.Prelude.{◌≡◌, ℕ, pos, ◌==◌, ◌||◌, Bool, cond, List, map, find, Option, Some, None, option_map}
+use Rattle.std.specs.Prelude.{◌≡◌, ℕ, pos, ◌==◌, ◌||◌, Bool, cond, List, [], map, find, Option, Some, None, option_map}
 use Rattle.matter_rows.specs.declared.seat.Seat.{Seat}
 use Rattle.matter_parts.specs.declared.figures.Figures.{Figures}
 use Rattle.matter_parts.specs.declared.kept.Kept.{Kept}
 use Rattle.matter_parts.specs.Parts.{Part, IsWhole, is_it, kept_in, no_figures, target_by}
-use Rattle.firm_rows.specs.Firm.{of}
+use Rattle.firm_rows.specs.Firm.{Firm, of}
+use Rattle.trust_store.specs.declared.plain.KeptMatter.{KeptMatter}
 use Rattle.sql_tables.specs.Lists.{Lists}
 use Rattle.sql_tables.specs.Rows as table
 use Rattle.sql_rows.specs.Meaning.{AreSound, figures_from, firm_from, head_from, kept_from, seat_from}
@@ -50,6 +51,14 @@ part_at m a = record {
   figures = figures_at m a;
   kept = map kept_from (table.entries_of (pos m) a.entries);
 }
+
+-- with its number
+abbrev pub numbered_at : Lists → ℕ → KeptMatter
+numbered_at a m = record { number = m; matter = part_at m a }
+
+-- the firm without the rows of its matters
+abbrev pub without_matters : Firm → Firm
+without_matters firm = record firm { rows = [] }
 
 -- where the rows stand for those of a sound firm, these are all rows of the matter
 abbrev pub PartsAreWhole : Type 0

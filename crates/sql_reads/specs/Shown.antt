@@ -1,5 +1,5 @@
 -- What a row that a query shows stands for.
-use Rattle.std.specs.Prelude.{ℕ, pos, nat_abs, List, ◌∷◌, ◌++◌, map}
+use Rattle.std.specs.Prelude.{◌≡◌, ℕ, pos, nat_abs, List, ◌∷◌, ◌++◌, map}
 use Rattle.sqlite_value.specs.declared.value.Value.TheVariants.{Int, Null}
 use Rattle.sqlite_value.specs.Order.{Row, column}
 use Rattle.trust_base.specs.declared.line.Line.{Line}
@@ -31,6 +31,10 @@ numbered_from h = record { matter = nat_abs h.no; head = head_from h }
 -- the head that a row shows in front of its number
 abbrev pub next_at : Row → NumberedHead
 next_at r = numbered_from (table.head_in (column r 12 ∷ Null ∷ r))
+
+-- these are the numbers of the heads, in their order
+abbrev pub AreNumbersOf : List table.Head → List ℕ → Type 0
+AreNumbersOf heads numbers = map pos numbers ≡ map (λ (h : table.Head). h.no) heads
 
 -- the seats of a matter by person, and its entries by number, as rows
 abbrev pub seat_rows : Lists → ℕ → List (ℕ × FirmRow)

@@ -7,7 +7,8 @@ ghost use Rattle.firm_rows.specs.Countable.{IsFirmLineInRange};
 ghost use Rattle.sql_schema.specs.declared.layout.Layout.{Layout};
 ghost use Rattle.trust_store.specs.Calls.{AreHanded};
 ghost use Rattle.sql_tables.specs.Reading.{LeavesAll};
-ghost use Rattle.sql_rows.specs.Standing.{StandsSound, firm_in};
+ghost use Rattle.sql_tables.specs.Standing.{Stands};
+ghost use Rattle.sql_rows.specs.Standing.{firm_in};
 ghost use Rattle.sql_reads.specs.Shown.{firm_line_at};
 
 use crate::stream::{RowTaking, hand_rows};
@@ -61,7 +62,7 @@ pub fn each_firm_line<S: Alter, K: RowSink>(
 ) -> Result<(), StoreFault>
     requires { conn.old.in_transaction ≡ false }
     ensures mode { conn.new.in_transaction ≡ false }
-    ensures handed { (l : Layout) → HasCleanDisk (state S.Store conn.new) → StandsSound l (state S.Store conn.old).now
+    ensures handed { (l : Layout) → HasCleanDisk (state S.Store conn.new) → Stands l (state S.Store conn.old).now
         → AreHanded K.lined IsFirmLineInRange (firm_in l (state S.Store conn.old).now.trees).firm_lines
         result sink.old sink.new }
     ensures left { LeavesAll result (state S.Store conn.old) (state S.Store conn.new) }

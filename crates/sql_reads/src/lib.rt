@@ -2,7 +2,7 @@
 //! for nothing is Store, and never guessed at; a growth that was refused is Memory.
 //!
 //! The rows of all matters, the movements, the lines of the firm's own, the exceptions and the balances are handed over
-//! one at a time (`each_row` and its like).
+//! one at a time (`each_row` and its like), or are all read at once (`all_rows`).
 #![tactic(auto)]
 
 mod balance;
@@ -12,6 +12,7 @@ mod entries;
 mod entry;
 mod exceptions;
 mod fault;
+mod firm;
 mod firm_lines;
 mod head;
 mod heads;
@@ -21,6 +22,7 @@ mod matter;
 mod matters;
 mod movements;
 mod named;
+mod row_lists;
 mod seat;
 mod seats;
 mod stream;
@@ -32,6 +34,7 @@ pub use balances::each_balance;
 pub use entry::{entries_of, entry_at};
 pub use exceptions::each_exception;
 pub use fault::{answered, fault_of};
+pub use firm::all_rows;
 pub use firm_lines::each_firm_line;
 pub use head::{HeadWithTotals, head_of_matter, head_with_totals};
 pub use ledger::firm_ledger;

@@ -13,8 +13,8 @@ use Rattle.sqlite_typed.proofs.TestLemmas.{at_ints, then_term, last_term, then_k
 use Rattle.sqlite.specs.Effect.{Database}
 use Rattle.sql_schema.specs.declared.layout.Layout.{Layout}
 use Rattle.sql_schema.specs.Schema.{matter_tree, seat_tree, entry_tree, journal_tree, firm_line_tree, exception_tree, balance_tree}
-use Rattle.sql_tables.specs.Texts.{head_read_query, next_head_query, seats_read_query, entry_read_query, entries_read_query, balance_read_query, journal_scan_query, firm_scan_query, exception_scan_query, balance_scan_query}
-use Rattle.sql_tables.specs.Rows.{text_cmp, Head, head_row, head_shown, next_shown, heads_in, is_head, is_past, Seat, seat_row, seat_cmp, seat_shown, seats_in, seats_of, is_seat_of, Entry, entry_row, entry_cmp, entry_shown, numbered_shown, entries_in, entries_of, is_entry_of, is_entry_at, Movement, movement_row, movement_values, movements_in, FirmLine, firm_line_row, firm_line_values, firm_lines_in, Exception, exception_row, exception_cmp, exception_values, exceptions_in, Balance, balance_row, balance_cmp, balance_shown, balance_values, balances_in, is_balance_at}
+use Rattle.sql_tables.specs.Texts.{head_read_query, next_head_query, head_scan_query, seats_read_query, entry_read_query, entries_read_query, balance_read_query, journal_scan_query, firm_scan_query, exception_scan_query, balance_scan_query}
+use Rattle.sql_tables.specs.Rows.{text_cmp, Head, head_row, head_shown, next_shown, no_shown, heads_in, is_head, is_past, Seat, seat_row, seat_cmp, seat_shown, seats_in, seats_of, is_seat_of, Entry, entry_row, entry_cmp, entry_shown, numbered_shown, entries_in, entries_of, is_entry_of, is_entry_at, Movement, movement_row, movement_values, movements_in, FirmLine, firm_line_row, firm_line_values, firm_lines_in, Exception, exception_row, exception_cmp, exception_values, exceptions_in, Balance, balance_row, balance_cmp, balance_shown, balance_values, balances_in, is_balance_at}
 use Rattle.sql_tables.specs.Standing.{Stands}
 use Rattle.sql_tables.proofs.Calls.{no_lets}
 
@@ -67,6 +67,14 @@ entries_read_answer l now m s rows answer =
 all_kept : {X : Type 0} (xs : List X) → filter (λ _. true) xs ≡ xs
 all_kept [] = refl
 all_kept (x ∷ xs) = ap (λ l. x ∷ l) (all_kept xs)
+
+pub head_scan_answer : (l : Layout) (now : Database) → Stands l now → (rows : List Row) → IsAnswer (head_scan_query l) (overlay now.trees []) [] rows → rows ≡ map no_shown (heads_in l now.trees)
+head_scan_answer l now s rows answer =
+    let db = now.trees in
+    let xs = heads_in l db in
+    let source = last_table (overlay db []) (matter_tree l) head_row (λ (x : Head). x.no) xs (no_lets db _ ∙ s.heads.stored) s.heads.rise (at_end (overlay db [])) in
+    let found = answer_by_keys (head_scan_query l) (overlay db []) [] source (λ _. true) (λ x. refl) (λ (r : Row). r) no_shown (λ x. refl) refl refl (λ a b. last_key (value_cmp-Int a.no b.no)) rows answer in
+    sym (map-id rows) ∙ found ∙ ap (map no_shown) (all_kept xs)
 
 pub journal_scan_answer : (l : Layout) (now : Database) → Stands l now → (rows : List Row) → IsAnswer (journal_scan_query l) (overlay now.trees []) [] rows → rows ≡ map movement_values (movements_in l now.trees)
 journal_scan_answer l now s rows answer =

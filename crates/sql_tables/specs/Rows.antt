@@ -47,6 +47,10 @@ abbrev pub next_shown : Head → Row
 next_shown h = Text h.client ∷ Int h.opened ∷ Int h.closed ∷ Int h.last ∷ Int h.entries ∷ Int h.held ∷ Int h.available ∷
     Int h.disputed ∷ Int h.fees ∷ Int h.claims ∷ Int h.pending ∷ Int h.purged ∷ Int h.no ∷ []
 
+-- what the query for the numbers of all heads shows
+abbrev pub no_shown : Head → Row
+no_shown h = Int h.no ∷ []
+
 abbrev pub head_values : Head → Row
 head_values h = Int h.no ∷ head_shown h
 

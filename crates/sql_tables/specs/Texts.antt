@@ -62,6 +62,28 @@ next_head_names = codes "client" ∷ codes "opened" ∷ codes "closed" ∷ codes
 abbrev pub next_head_command : Layout → Command
 next_head_command l = Select (record { lets = []; body = next_head_query l }) next_head_names
 
+abbrev pub head_scan_text : List ℕ
+head_scan_text = codes "SELECT no FROM matter_v2 ORDER BY no"
+
+abbrev pub head_scan_query : Layout → Query
+head_scan_query l = record {
+  from = inner (matter_tree l) end;
+  filter = [];
+  group = None;
+  project = col 1 0 ∷ [];
+  distinct = false;
+  collations = [];
+  order = (col 1 0, record { collation = Binary; descending = false }) ∷ [];
+  limit = lit (Int (negsuc 0));
+  offset = lit (Int (pos 0));
+}
+
+abbrev pub head_scan_names : List (List ℕ)
+head_scan_names = codes "no" ∷ []
+
+abbrev pub head_scan_command : Layout → Command
+head_scan_command l = Select (record { lets = []; body = head_scan_query l }) head_scan_names
+
 abbrev pub seats_read_text : List ℕ
 seats_read_text = codes "SELECT person, role FROM seat_v2 WHERE matter = ?1 ORDER BY person, rowid"
 

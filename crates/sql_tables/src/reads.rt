@@ -9,7 +9,7 @@ ghost use Rattle.sqlite.specs.Held.{state};
 ghost use Rattle.sqlite.specs.Values.{bound};
 ghost use Rattle.sqlite_keyed.specs.Lists.{sort_by};
 ghost use Rattle.sql_tables.specs.Reading.{IsAsked, IsRead};
-ghost use Rattle.sql_tables.specs.Rows.{head_shown, next_shown, is_head, is_past, heads_in};
+ghost use Rattle.sql_tables.specs.Rows.{head_shown, next_shown, no_shown, is_head, is_past, heads_in};
 ghost use Rattle.sql_tables.specs.Rows.{seat_shown, seats_of, seats_in};
 ghost use Rattle.sql_tables.specs.Rows.{entry_shown, numbered_shown, is_entry_at, entries_of, entries_in};
 ghost use Rattle.sql_tables.specs.Rows.{movement_values, movements_in, firm_line_values, firm_lines_in};
@@ -65,6 +65,17 @@ pub fn next_head_rows<S: Alter>(conn: &mut Connection<S>, after: i64) -> Result<
          pending, purged, no FROM matter_v2 WHERE no > ?1 ORDER BY no LIMIT 1",
         &[ValueRef::Int(after)],
     )
+}
+
+/// The numbers of all heads, in order.
+pub fn head_number_rows<S: Alter>(conn: &mut Connection<S>) -> Result<Vec<Row>, Error>
+    requires { conn.old.in_transaction ≡ false }
+    ensures mode { conn.new.in_transaction ≡ false }
+    ensures read { IsRead result (λ rows. rows.items)
+        (λ l. map no_shown (heads_in l (state S.Store conn.old).now.trees))
+        (state S.Store conn.old) (state S.Store conn.new) }
+{
+    ask(conn, "SELECT no FROM matter_v2 ORDER BY no", &[])
 }
 
 /// The persons and roles of a matter, by person.

@@ -93,7 +93,8 @@ module _ {T : Type 0} (p q : T → Bool) (narrows : Narrows p q) (found : List (
   pub filtered : filter p (elements found) ≡ filter p all
   filtered = ap (filter p) same ∙ filter_among p q narrows all
 
--- where those that pass another test, which all that pass this one pass, are the same among the elements that were found
+-- where those that pass another test, which all that pass this one pass, are the same among the elements that were
+-- found
 module _ {T : Type 0} (p q : T → Bool) (narrows : Narrows p q) (found : List (ℕ × Bor T)) (all : List T)
     (same : filter q (elements found) ≡ filter q all) where
   pub filtered_kept : filter p (elements found) ≡ filter p all

@@ -183,10 +183,10 @@ fn text_in(writer: Writer<Vec<u8>>) -> Result<Vec<u8>, AllocError>
     Ok(text)
 }
 
-/// The statement that an import takes, of one whose references may be empty and whose records these are, by what becomes
-/// of each line: the header, and the records in their order. A record with a reference, and one that is no line, is
-/// written as it is; one without a reference where it is filled, or is an exception under a reference, with that. A
-/// line feed ends each. Fails only for want of memory.
+/// The statement that an import takes, of one whose references may be empty and whose records these are, by what
+/// becomes of each line: the header, and the records in their order. A record with a reference, and one that is no
+/// line, is written as it is; one without a reference where it is filled, or is an exception under a reference, with
+/// that. A line feed ends each. Fails only for want of memory.
 pub(crate) fn statement_of(
     alloc: Global,
     statement: &[u8],

@@ -12,7 +12,10 @@ use std::marker::Model;
 
 /// A label: 1 to 80 bytes of UTF-8 without a character U+0000 to U+001F or U+007F to U+009F.
 ///
-/// Contracts see it as the list of its bytes.
+/// Contracts see it as the list of its bytes. It is checked once, as it is made:
+///
+///     Label::read(alloc, b"Court Clerk")?    // Some
+///     Label::read(alloc, b"")?               // None, and so is a text with a line's end
 #[derive(Drop, Debug)]
 pub struct Label {
     bytes: Vec<u8>,

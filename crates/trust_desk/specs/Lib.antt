@@ -16,6 +16,7 @@ pub mod OnceOnly
 pub mod Counts
 pub mod Plan
 pub mod Calls
+pub mod Checking
 pub mod Crashes
 pub mod Matching
 pub mod Kept

@@ -12,15 +12,15 @@ use trust_base::{Day, EntryNo, Line, MatterNo, StoreFault};
 use trust_matter::{Clearing, Deposit, DepositState, Entry, Head, PaymentState, Seat};
 use trust_store::Book;
 
-// Keeps the lines of the bank that cleared entries, and the firm's own, dated from one day to another, both by their
-// numbers; and the last day of any matter.
-//
-// Contracts see nothing of it.
+/// Keeps the lines of the bank that cleared entries, and the firm's own, dated from one day to another, both by their
+/// numbers; and the last day of any matter.
+///
+/// Contracts see nothing of it.
 #[derive(Drop)]
-struct ClearedLines {
+pub(crate) struct ClearedLines {
     from: u32,
     to: u32,
-    lines: Vec<ClearedLine>,
+    pub(crate) lines: Vec<ClearedLine>,
     last: Option<Day>,
 }
 
@@ -133,8 +133,8 @@ impl RowSink for ClearedLines {
     }
 }
 
-// By date, amount and bank reference.
-fn order_of(one: &ClearedLine, other: &ClearedLine) -> Ordering {
+/// By date, amount and bank reference.
+pub(crate) fn order_of(one: &ClearedLine, other: &ClearedLine) -> Ordering {
     let by_date = one.date.get().cmp(&other.date.get());
     let by_amount = by_date.then(one.amount.cmp(&other.amount));
     by_amount.then(one.bank_ref.as_slice().cmp(other.bank_ref.as_slice()))
@@ -160,13 +160,18 @@ fn month_before(day: Day) -> u32 {
     }
 }
 
-// The rows of a book.
-fn rows_of<B: Book>(alloc: Global, book: &mut B, day: Day) -> Result<ClearedLines, StoreFault>
+/// The rows of a book, with the lines dated from one day to another, both by their numbers.
+pub(crate) fn rows_of<B: Book>(
+    alloc: Global,
+    book: &mut B,
+    from: u32,
+    to: u32,
+) -> Result<ClearedLines, StoreFault>
     ensures { IsRead B.firm B.clean B.sure B.stands B.lasts B.leaves B.refusals result book.old book.new }
 {
     let mut found = ClearedLines {
-        from: month_before(day),
-        to: day.get(),
+        from,
+        to,
         lines: Vec::new(alloc),
         last: None,
     };
@@ -195,7 +200,7 @@ fn tell_of_book<B: Book, V: RowWatch>(
 ) -> Result<(), StoreFault>
     ensures { IsRead B.firm B.clean B.sure B.stands B.lasts B.leaves B.refusals result book.old book.new }
 {
-    let rows = rows_of(alloc, book, day)?;
+    let rows = rows_of(alloc, book, month_before(day), day.get())?;
     match tell_of_rows(rows, watch) {
         Ok(()) => Ok(()),
         Err(_) => Err(StoreFault::Memory),
@@ -205,8 +210,8 @@ fn tell_of_book<B: Book, V: RowWatch>(
 impl<B: Book> Desk<B> {
     /// Tells what the rows of a book show beside a report of a day: each line of the bank that cleared an entry, or is
     /// the firm's own, where one of the same date, bank reference and amount did so too, dated by that day in its month
-    /// or in the month before; and the last day on which a matter was changed. The book stays as it is. `watch` is told,
-    /// of which no clause speaks.
+    /// or in the month before; and the last day on which a matter was changed. The book stays as it is. `watch` is
+    /// told, of which no clause speaks.
     ///
     /// Store is answered where the book's store was at fault, and Memory where a growth was refused.
     pub fn tell_rows<V: RowWatch>(

@@ -32,6 +32,11 @@ use trust_matter::{Ask, Caller};
 use trust_store::Book;
 
 /// Answers requests over a book. Contracts see it as the book.
+///
+/// The trial balance of a book that is empty:
+///
+///     let mut desk = Desk::new(PlainBook::new(alloc));
+///     let reply = desk.answer(alloc, &Request::Trial(Caller::Cashier), today);
 #[derive(Drop)]
 pub struct Desk<B: Book> {
     pub(crate) book: B,

@@ -170,6 +170,18 @@ pub(crate) fn counted_verdict(verdict: &LineVerdict) -> Counted
     }
 }
 
+// Tells of a line that was applied. A balance is none.
+fn tell_of_applied<V: ItemWatch>(at: &At<'_, V>, item: &Item, counted: Counted) {
+    if counted != Counted::Applied {
+        return;
+    }
+    match item {
+        Item::OfMatter(line) => at.watch.applied(at.number, &line.line),
+        Item::OfFirm(line) => at.watch.applied(at.number, line),
+        Item::Opening(_) | Item::Closing(_) | Item::Stray(_) | Item::Unreadable(_) => (),
+    }
+}
+
 /// Tells of a line that names an entry, where it is an exception.
 pub(crate) fn tell_of_line<V: ItemWatch>(
     at: &At<'_, V>,
@@ -351,8 +363,8 @@ impl<B: Book> Desk<B> {
     }
 
     /// Applies the items of a statement on a business day, each before the next is read, until the statement ends or a
-    /// fault comes. The items so far stay applied then, and no other is begun. `watch` is told of each item that is
-    /// an exception or no line, and of the end, of which no clause speaks.
+    /// fault comes. The items so far stay applied then, and no other is begun. `watch` is told of each line that was
+    /// applied, of each item that is an exception or no line, and of the end, of which no clause speaks.
     ///
     /// No clause says that `ReadFault` and `Memory` come only where a read failed and a growth was refused: `csv` tells
     /// nothing of its reader after an error.
@@ -495,6 +507,7 @@ impl<B: Book> Desk<B> {
     {
         let counted = self.apply_line(alloc, &item, day, at)?;
         count_item(reply, &item, counted);
+        tell_of_applied(at, &item, counted);
         Ok(())
     }
 }

@@ -60,8 +60,8 @@ pub fn every_item_is_counted()
     ensures { EveryItemIsCounted }
 {}
 
-/// Purging a matter of a sound firm, as the desk does it, changes no figure and no list of a day whose records are whole
-/// afterwards, no purged matter having been closed after it.
+/// Purging a matter of a sound firm, as the desk does it, changes no figure and no list of a day whose records are
+/// whole afterwards, no purged matter having been closed after it.
 pub fn purging_changes_no_figure()
     ensures { PurgingChangesNoFigure }
 {}

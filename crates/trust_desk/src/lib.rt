@@ -3,9 +3,11 @@
 #![tactic(auto)]
 
 mod callers;
+mod checking;
 mod cleared_lines;
 mod desk;
 mod dismissing;
+mod earlier_lines;
 mod exceptions;
 mod exceptions_sink;
 mod explaining;
@@ -21,12 +23,17 @@ mod reporting;
 mod requests;
 mod retention;
 mod trial;
+mod unread;
 mod watching;
 
+pub use checking::{Checked, RowCounts};
 pub use desk::Desk;
+pub use earlier_lines::EarlierLines;
+pub use firm_audit::Flaw;
 pub use importing::{Counted, ImportEnd, ImportStop};
 pub use matter_bodies::{ImportReply, entry_body, import_body, matter_body, receipt_body};
 pub use requests::{Body, End, Reply, Request, RunEnd};
 pub use statement_match::Matched;
 pub use trust_base::OwnedBytes;
+pub use unread::Unread;
 pub use watching::{At, ClearedLine, ItemWatch, NoWatch, NotApplied, RowWatch};

@@ -1,4 +1,4 @@
-// Who is told of the items of a statement that are not applied, of the exceptions, and of rows beside a report.
+// Who is told of the items of a statement, of the exceptions, and of rows beside a report.
 
 use crate::importing::ImportStop;
 use firm_rows::{BalanceKind, FirmLedger, Owner};
@@ -42,9 +42,12 @@ pub enum NotApplied<'a> {
     },
 }
 
-/// Who is told of the items of a statement that are not applied, or of the exceptions. Nothing hangs on whether one can
-/// be told.
+/// Who is told of the items of a statement, or of the exceptions. Nothing hangs on whether one can be told.
 pub trait ItemWatch {
+    /// Tells of a line once it was applied: it cleared its entry or took it back, or it joined the firm's own. The
+    /// number is that of its item, of which the first record behind the header has 1.
+    fn applied(&self, number: u64, line: &Line);
+
     /// Tells of an item once it was not applied: its number, of which the first record behind the header has 1; or of
     /// an exception: its number in their list.
     fn not_applied(&self, number: u64, told: &NotApplied<'_>);
@@ -79,6 +82,8 @@ pub trait RowWatch {
 pub struct NoWatch;
 
 impl ItemWatch for NoWatch {
+    fn applied(&self, _number: u64, _line: &Line) {}
+
     fn not_applied(&self, _number: u64, _told: &NotApplied<'_>) {}
 
     fn ended(&self, _taken: u64, _end: &ImportStop) {}

@@ -12,6 +12,7 @@ use Rattle.firm_rows.specs.declared.ledger.FirmLine.{FirmLine}
 use Rattle.firm_rows.specs.declared.ledger.StatementRow.{StatementRow}
 use Rattle.firm_rows.specs.Firm.{Row, EntryRow, Firm, pairs, with_line, without_line}
 use Rattle.firm_rows.specs.FirmSound.{FirmSound}
+use Rattle.trust_store.specs.declared.all_rows.AllRows.{AllRows}
 use Rattle.trust_store.specs.declared.plain.KeptMatter.{KeptMatter}
 
 -- the rows of a matter that keeps all its entries
@@ -54,6 +55,11 @@ pub record AreKeptWhole (ks : List KeptMatter) : Type 0 where
 abbrev pub firm_of : List KeptMatter → List Movement → List FirmLine → List Line → List StatementRow → Firm
 firm_of ks movements own lines balances =
     record { rows = joined ks; movements = movements; firm_lines = own; exceptions = lines; balances = balances }
+
+-- the firm of all rows that were read
+abbrev pub firm_of_all : AllRows → Firm
+firm_of_all rows =
+    firm_of rows.matters.items rows.movements.items rows.firm_lines.items rows.exceptions.items rows.balances.items
 
 -- sound matters with all their entries, and the firm that they make with the other rows is sound
 pub record AreKept (ks : List KeptMatter) (movements : List Movement) (own : List FirmLine) (lines : List Line)

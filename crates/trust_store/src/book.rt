@@ -9,8 +9,10 @@ ghost use Rattle.firm_rows.specs.FirmChange.{OfMatter, Repeated, Unmatched, Fits
 ghost use Rattle.firm_rows.specs.FirmLines.{kept_balance};
 ghost use Rattle.firm_rows.specs.FirmSound.{IsVerdictOn, IsFirmVerdict, IsBalanceVerdict};
 ghost use Rattle.trust_store.specs.Calls.{IsRead, IsWrite, AreHanded};
+ghost use Rattle.trust_store.specs.Kept.{firm_of_all};
 ghost use Rattle.trust_store.specs.Named.{IsPartFor};
 
+use crate::all_rows::AllRows;
 use firm_rows::{BalanceKind, FirmLedger, RowSink, Verdict};
 use std::alloc::Global;
 use trust_base::{Day, EntryNo, Line, MatterNo, StoreFault};
@@ -44,6 +46,9 @@ pub trait Book {
 
     /// What the store keeps stands for the rows of a sound firm.
     ghost stands: { Self → Type 0 };
+
+    /// What the store keeps can be read as rows, which may be sound or not.
+    ghost readable: { Self → Type 0 };
 
     /// Whatever a crash leaves now is taken as a book again, and stands for the rows of a sound firm.
     ghost lasts: { Self → Type 0 };
@@ -88,6 +93,12 @@ pub trait Book {
     fn balance(&mut self, kind: BalanceKind, day: Day) -> Result<Option<i64>, StoreFault>
         ensures found { clean self.new → stands self.old
             → IfOk result (λ kept. kept ≡ kept_balance kind day (firm self.old).balances) }
+        ensures read { IsRead firm clean sure stands lasts leaves refusals result self.old self.new };
+
+    /// All rows, each matter with all its entries. They need not be those of a sound firm; but a matter that is not the
+    /// whole of sound rows is Store.
+    fn all_rows(&mut self, alloc: Global) -> Result<AllRows, StoreFault>
+        ensures found { clean self.new → readable self.old → IfOk result (λ rows. firm_of_all rows ≡ firm self.old) }
         ensures read { IsRead firm clean sure stands lasts leaves refusals result self.old self.new };
 
     /// Hands over each row. They come in order: by matter, and in each the head, the seats by person and the entries by

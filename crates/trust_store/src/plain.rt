@@ -11,9 +11,12 @@ ghost use Rattle.firm_rows.specs.FirmSound.{FirmSound};
 ghost use Rattle.trust_store.specs.Books.{FoldsFront};
 ghost use Rattle.trust_store.specs.Calls.{AreHanded};
 ghost use Rattle.trust_store.specs.Named.{IsPartFor};
-ghost use Rattle.trust_store.specs.Kept.{AreKeptWhole, IsKeptAs, joined, kept_pairs, rows_kept, rows_in, seek};
+ghost use Rattle.trust_store.specs.Kept.{firm_of_all, AreKeptWhole, IsKeptAs, joined, kept_pairs, rows_kept, rows_in, seek};
 
 use crate::Book;
+use crate::all_rows::{
+    AllRows, balances_copied, firm_lines_copied, lines_copied, matters_copied, movements_copied,
+};
 use crate::balances::{add_balance, balance_kept};
 use crate::exceptions::{add_line, remove_line};
 use crate::handing::{hand_balances, hand_firm_lines, hand_lines, hand_movements};
@@ -80,6 +83,24 @@ impl PlainBook {
         ensures { FirmSound self.now }
     {
         let _matters = &self.matters;
+    }
+
+    // A copy of all its rows.
+    fn copied(&self, alloc: Global) -> Result<AllRows, AllocError>
+        ensures { IfOk result (λ rows. firm_of_all rows ≡ self.now) }
+    {
+        let matters = matters_copied(alloc, &self.matters)?;
+        let movements = movements_copied(alloc, &self.movements)?;
+        let firm_lines = firm_lines_copied(alloc, self.own.lines())?;
+        let exceptions = lines_copied(alloc, &self.exceptions)?;
+        let balances = balances_copied(alloc, &self.balances)?;
+        Ok(AllRows {
+            matters,
+            movements,
+            firm_lines,
+            exceptions,
+            balances,
+        })
     }
 
     // Makes one change of a matter, or none at an error.
@@ -150,6 +171,8 @@ impl Book for PlainBook {
 
     ghost stands = { FirmSound };
 
+    ghost readable = { λ _. Unit {0} };
+
     ghost lasts = { λ _. Unit {0} };
 
     ghost leaves = { λ _ _. ⊥ };
@@ -180,6 +203,10 @@ impl Book for PlainBook {
 
     fn balance(&mut self, kind: BalanceKind, day: Day) -> Result<Option<i64>, StoreFault> {
         Ok(balance_kept(&self.balances, kind, day))
+    }
+
+    fn all_rows(&mut self, alloc: Global) -> Result<AllRows, StoreFault> {
+        Ok(self.copied(alloc)?)
     }
 
     fn each_row<S: RowSink>(&mut self, sink: &mut S) -> Result<(), StoreFault> {

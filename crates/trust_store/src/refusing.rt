@@ -4,6 +4,7 @@ ghost use Rattle.std.specs.Prelude.{◌≡◌, ◌==◌, ◌-◌};
 ghost use Rattle.trust_store.specs.Books.{counted_fault};
 
 use crate::Book;
+use crate::all_rows::AllRows;
 use firm_rows::{BalanceKind, FirmLedger, RowSink, Verdict};
 use std::alloc::Global;
 use trust_base::{Day, EntryNo, Line, MatterNo, StoreFault};
@@ -39,6 +40,8 @@ impl<B: Book> Book for RefusingBook<B> {
     ghost sure = { λ b. B.sure b.inner };
 
     ghost stands = { λ b. B.stands b.inner };
+
+    ghost readable = { λ b. B.readable b.inner };
 
     ghost lasts = { λ b. B.lasts b.inner };
 
@@ -79,6 +82,13 @@ impl<B: Book> Book for RefusingBook<B> {
 
     fn balance(&mut self, kind: BalanceKind, day: Day) -> Result<Option<i64>, StoreFault> {
         match self.inner.balance(kind, day) {
+            Ok(found) => Ok(found),
+            Err(fault) => Err(told(&mut self.refusals, fault)),
+        }
+    }
+
+    fn all_rows(&mut self, alloc: Global) -> Result<AllRows, StoreFault> {
+        match self.inner.all_rows(alloc) {
             Ok(found) => Ok(found),
             Err(fault) => Err(told(&mut self.refusals, fault)),
         }

@@ -11,7 +11,10 @@ use std::marker::Model;
 
 /// An amount of whole cents, from 1 to 99,999,999,999: 0.01 to 999999999.99 dollars.
 ///
-/// Contracts see it as the number of cents.
+/// Contracts see it as the number of cents. Of texts only the one that it is written as is read:
+///
+///     Cents::read(b"500.00")    // Some, of 50,000 cents
+///     Cents::read(b"$500")      // None, and so are "500", "0500.00" and "0.00"
 #[derive(Clone, Copy, PartialEq, Eq, PartialOrd, Ord, Debug)]
 pub struct Cents {
     value: u64,

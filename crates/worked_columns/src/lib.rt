@@ -1,5 +1,5 @@
-//! Rows as the columns of their tables: good ones are read, and those of which one column is spoiled are Store. Each row
-//! of a table below has the words for what it is.
+//! Rows as the columns of their tables: good ones are read, and those of which one column is spoiled are Store. Each
+//! row of a table below has the words for what it is.
 #![tactic(auto)]
 
 #[cfg(test)]

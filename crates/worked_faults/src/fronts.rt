@@ -96,8 +96,8 @@ pub(crate) fn whole(alloc: Global, trial: &Trial, bytes: &[u8]) -> Result<Became
     Ok(found)
 }
 
-// A read fails, or is interrupted, behind so many good ones: of a stream the messages that were read whole are answered,
-// of a sheet or a statement nothing is.
+// A read fails, or is interrupted, behind so many good ones: of a stream the messages that were read whole are
+// answered, of a sheet or a statement nothing is.
 fn read_fails(alloc: Global, trial: &Trial, bytes: &[u8], good: u64) -> Result<(), Wrong> {
     let day = today()?;
     let size = match trial.given {

@@ -56,8 +56,8 @@ impl<W: Write> Write for OnceInterrupted<W> {
     }
 }
 
-/// Reads what is given at a desk over a book without rows, at most `most` bytes at a read and at a write. Its reader and
-/// its writer are interrupted once, behind so many calls; the calls behind that one would succeed.
+/// Reads what is given at a desk over a book without rows, at most `most` bytes at a read and at a write. Its reader
+/// and its writer are interrupted once, behind so many calls; the calls behind that one would succeed.
 pub(crate) fn interrupted(
     alloc: Global,
     day: Day,

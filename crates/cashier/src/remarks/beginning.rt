@@ -48,8 +48,8 @@ pub fn tell_of_day<C: Clock, M: Remarks>(clock: &C, remarks: &M, plan: &Plan<'_>
     }
 }
 
-/// Tells that the book at a path was begun, where none was there, since the path may be mistyped; or where an empty file
-/// was, since something may have emptied a book.
+/// Tells that the book at a path was begun, where none was there, since the path may be mistyped; or where an empty
+/// file was, since something may have emptied a book.
 pub fn tell_of_new_book<M: Remarks>(remarks: &M, plan: &Plan<'_>, path: &str, found: Presence) {
     if plan.is_quiet {
         return;

@@ -18,8 +18,8 @@ pub struct ClearedTwice<'a> {
     pub amount: i64,
 }
 
-// Writes the reference of a line.
-fn write_owner<W: fmt::Write>(f: &mut fmt::Formatter<W>, owner: Owner) -> fmt::Result {
+/// Writes the reference of a line.
+pub fn write_owner<W: fmt::Write>(f: &mut fmt::Formatter<W>, owner: Owner) -> fmt::Result {
     match owner {
         Owner::Matter { matter, entry } => write!(f, "M{matter}-{entry}"),
         Owner::Firm => f.write_str("FIRM"),
@@ -58,6 +58,21 @@ pub fn write_rows_end<W: fmt::Write>(f: &mut fmt::Formatter<W>, fault: StoreFaul
     f.write_str(match fault {
         StoreFault::Store => "the store failed: nothing more is told beside the report",
         StoreFault::Memory => "memory ran out: nothing more is told beside the report",
+    })
+}
+
+/// Writes by what fault the lines that a book has before an import were not read.
+pub fn write_earlier_end<W: fmt::Write>(
+    f: &mut fmt::Formatter<W>,
+    fault: StoreFault,
+) -> fmt::Result {
+    f.write_str(match fault {
+        StoreFault::Store => {
+            "the store failed: it is not told which lines stand on another entry by an earlier import"
+        }
+        StoreFault::Memory => {
+            "memory ran out: it is not told which lines stand on another entry by an earlier import"
+        }
     })
 }
 

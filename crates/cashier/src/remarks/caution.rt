@@ -12,7 +12,8 @@ use std::fmt;
 pub enum Caution<'a> {
     /// This payee of the general fund is not the firm, by other letters or blanks.
     NotFirm(Excerpt<'a>),
-    /// A double quote stands alone in a field that is in double quotes: the field of this number, from 1, is read as this.
+    /// A double quote stands alone in a field that is in double quotes: the field of this number, from 1, is read as
+    /// this.
     LoneQuote(usize, Excerpt<'a>),
     /// The field of this number, from 1, is in single quotes, which are a part of it.
     SingleQuotes(usize, Excerpt<'a>),

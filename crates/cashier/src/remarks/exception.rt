@@ -67,6 +67,8 @@ fn line_of<'a>(told: &NotApplied<'a>) -> Option<&'a Line> {
 }
 
 impl<M: Remarks> ItemWatch for ExceptionTelling<'_, M> {
+    fn applied(&self, _number: u64, _line: &Line) {}
+
     fn not_applied(&self, _number: u64, told: &NotApplied<'_>) {
         if let Some(line) = line_of(told) {
             self.remarks.tell(&Remark::Exception(ExceptionRemark {

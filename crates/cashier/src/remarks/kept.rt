@@ -89,8 +89,8 @@ fn has_rows(book: &mut PlainBook) -> bool {
     seen.has_come
 }
 
-/// Tells that what a sheet or a statement brought into a book in memory is lost, if it brought something and the plan is
-/// not quiet.
+/// Tells that what a sheet or a statement brought into a book in memory is lost, if it brought something and the plan
+/// is not quiet.
 pub fn tell_of_loss<M: Remarks>(remarks: &M, plan: &Plan<'_>, mut book: PlainBook) {
     if plan.is_quiet {
         return;

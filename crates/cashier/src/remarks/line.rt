@@ -1,5 +1,6 @@
-// What is told of a line of a statement that was not applied, or of an exception.
+// What is told of a line of a statement as it is imported, or of an exception.
 
+use crate::remarks::earlier_line::EarlierLine;
 use crate::remarks::entry_line::EntryLine;
 use crate::remarks::line_fault::{LineFault, fault_of_line};
 use crate::remarks::own_line::OwnLine;
@@ -9,7 +10,7 @@ use std::fmt;
 use trust_base::{Day, StoreFault};
 use trust_desk::NotApplied;
 
-/// What is told of a line of a statement that was not applied, or of an exception.
+/// What is told of a line of a statement as it is imported, or of an exception.
 #[derive(Clone, Copy, PartialEq, Eq, Debug)]
 pub enum LineRemark<'a> {
     /// It names an entry.
@@ -26,6 +27,8 @@ pub enum LineRemark<'a> {
     WouldApply { is_out: bool },
     /// It is an exception that an import would take for a line that came again.
     WouldRepeat,
+    /// It was applied, and is like one that an earlier import applied.
+    Earlier(EarlierLine<'a>),
 }
 
 // What is wrong with a record that is no line, where it could be read again.
@@ -111,6 +114,10 @@ impl LineRemark<'_> {
                 write!(f, ", {reference}")
             }
             LineRemark::Stray(reference) if !reference.is_empty() => write!(f, ", {reference}"),
+            LineRemark::Earlier(line) => {
+                let reference = line.reference;
+                write!(f, ", {reference}")
+            }
             _ => Ok(()),
         }
     }
@@ -127,6 +134,7 @@ impl LineRemark<'_> {
             LineRemark::WouldRepeat => f.write_str(
                 "it is in the book already: import the statement again, and it is no exception any more",
             ),
+            LineRemark::Earlier(line) => write!(f, "{line}"),
         }
     }
 }

@@ -1,6 +1,7 @@
 // What is told of a statement as it is imported.
 
 use crate::folder::Folder;
+use crate::remarks::earlier_line::EarlierLine;
 use crate::remarks::header::{HeaderRemark, remark_on_header};
 use crate::remarks::line::{LineRemark, remark_on_item};
 use crate::remarks::place::Place;
@@ -11,8 +12,8 @@ use crate::remarks::{Remark, Remarks};
 use csv::ByteRecord;
 use std::alloc::Global;
 use std::cell::RefCell;
-use trust_base::{Day, Field, Refusal, StoreFault};
-use trust_desk::{ImportStop, ItemWatch, NotApplied};
+use trust_base::{Day, Field, Line, Refusal, StoreFault};
+use trust_desk::{EarlierLines, ImportStop, ItemWatch, NotApplied};
 
 // The file, which is read again once something is to be told of it.
 #[derive(Drop)]
@@ -31,11 +32,14 @@ pub struct StatementTelling<'a, F, M> {
     path: &'a str,
     today: Day,
     remarks: &'a M,
+    earlier: Option<&'a EarlierLines>,
     again: RefCell<Again>,
 }
 
 impl<'a, F: Folder, M: Remarks> StatementTelling<'a, F, M> {
     /// The statement at a path, whose file can be opened again where it is no pipe.
+    ///
+    /// `earlier` are the lines that the book had before it, where they were read.
     pub fn new(
         alloc: Global,
         folder: &'a F,
@@ -43,6 +47,7 @@ impl<'a, F: Folder, M: Remarks> StatementTelling<'a, F, M> {
         is_file: bool,
         today: Day,
         remarks: &'a M,
+        earlier: Option<&'a EarlierLines>,
     ) -> StatementTelling<'a, F, M> {
         StatementTelling {
             alloc,
@@ -50,6 +55,7 @@ impl<'a, F: Folder, M: Remarks> StatementTelling<'a, F, M> {
             path,
             today,
             remarks,
+            earlier,
             again: RefCell::new(if is_file {
                 Again::Unopened
             } else {
@@ -72,16 +78,23 @@ impl<'a, F: Folder, M: Remarks> StatementTelling<'a, F, M> {
         }
     }
 
-    // Tells of a record that the store or memory stopped.
-    fn tell_not_run(&self, number: u64, fault: StoreFault) {
+    // Where the record with a number is, unless that can't be looked for now.
+    fn place_at(&self, number: u64) -> Option<Place> {
         let Ok(mut again) = self.again.try_borrow_mut() else {
-            return;
+            return None;
         };
         let is_there = self.has_read(&mut again, number);
-        self.remarks.tell(&Remark::Line {
-            place: place_of(found_in(&again, is_there), number),
-            told: LineRemark::NotRun(fault),
-        });
+        Some(place_of(found_in(&again, is_there), number))
+    }
+
+    // Tells of a record that the store or memory stopped.
+    fn tell_not_run(&self, number: u64, fault: StoreFault) {
+        if let Some(place) = self.place_at(number) {
+            self.remarks.tell(&Remark::Line {
+                place,
+                told: LineRemark::NotRun(fault),
+            });
+        }
     }
 
     // Tells of a header that is another.
@@ -159,6 +172,21 @@ fn row_of<'a>(found: Option<Found<'a>>) -> Option<&'a ByteRecord> {
 }
 
 impl<F: Folder, M: Remarks> ItemWatch for StatementTelling<'_, F, M> {
+    fn applied(&self, number: u64, line: &Line) {
+        let Some(earlier) = self.earlier else {
+            return;
+        };
+        let Some(before) = earlier.same_as(line) else {
+            return;
+        };
+        if let Some(place) = self.place_at(number) {
+            self.remarks.tell(&Remark::Line {
+                place,
+                told: LineRemark::Earlier(EarlierLine::new(line, before)),
+            });
+        }
+    }
+
     fn not_applied(&self, number: u64, told: &NotApplied<'_>) {
         let Ok(mut again) = self.again.try_borrow_mut() else {
             return;

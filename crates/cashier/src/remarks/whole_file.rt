@@ -44,8 +44,8 @@ impl fmt::Display for FileRemark {
 // How many of the records before one it is held against.
 const WINDOW: usize = 64;
 
-// A record that was seen: the line in which it begins, 0 where there is none, and marks of its reference and of its day,
-// bank reference and amount. Those that have the same mark are the same, but for a chance in 2 to the 64.
+// A record that was seen: the line in which it begins, 0 where there is none, and marks of its reference and of its
+// day, bank reference and amount. Those that have the same mark are the same, but for a chance in 2 to the 64.
 #[derive(Clone, Copy)]
 struct Sighting {
     line: u64,

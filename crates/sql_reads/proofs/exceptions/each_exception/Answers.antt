@@ -15,8 +15,8 @@ pub returns-in_err-hand_rows-clause-handed : goal.returns-in_err-hand_rows-claus
 returns-in_err-hand_rows-clause-handed g c l clean stands =
     let old = state g.S.Store c.args.conn.now in
     let lines = sort_by exception_cmp (exceptions_in l old.now.trees) in
-    some_handed (exception_scan_asks l) [] old (state g.S.Store c.hand_rows.new.conn) stands.tables.schema
-    (map exception_values lines) (λ found a. exception_scan_answer l old.now stands.tables found a)
+    some_handed (exception_scan_asks l) [] old (state g.S.Store c.hand_rows.new.conn) stands.schema
+    (map exception_values lines) (λ found a. exception_scan_answer l old.now stands found a)
     g.K.RowSink.noted exception_at IsLineInRange (map exception_from lines) (exceptions_shown lines)
     c.hand_rows.result c.args.sink.now c.hand_rows.new.sink (c.hand_rows.ensures.handed clean exception_scan_selects)
     c.from_residual.result c.from_residual.ensures.0
@@ -30,8 +30,8 @@ pub returns-clause-handed : goal.returns-clause-handed
 returns-clause-handed g c l clean stands =
     let old = state g.S.Store c.args.conn.now in
     let lines = sort_by exception_cmp (exceptions_in l old.now.trees) in
-    all_handed (exception_scan_asks l) [] old (state g.S.Store c.hand_rows.new.conn) stands.tables.schema
-    (map exception_values lines) (λ found a. exception_scan_answer l old.now stands.tables found a)
+    all_handed (exception_scan_asks l) [] old (state g.S.Store c.hand_rows.new.conn) stands.schema
+    (map exception_values lines) (λ found a. exception_scan_answer l old.now stands found a)
     g.K.RowSink.noted exception_at IsLineInRange (map exception_from lines) (exceptions_shown lines)
     c.hand_rows.result c.in_ok-hand_rows.field-0 c.in_ok-hand_rows.was c.args.sink.now c.hand_rows.new.sink
     (c.hand_rows.ensures.handed clean exception_scan_selects)

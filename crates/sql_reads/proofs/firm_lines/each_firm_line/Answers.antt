@@ -14,8 +14,8 @@ pub returns-in_err-hand_rows-clause-handed : goal.returns-in_err-hand_rows-claus
 returns-in_err-hand_rows-clause-handed g c l clean stands =
     let old = state g.S.Store c.args.conn.now in
     let lines = firm_lines_in l old.now.trees in
-    some_handed (firm_scan_asks l) [] old (state g.S.Store c.hand_rows.new.conn) stands.tables.schema
-    (map firm_line_values lines) (λ found a. firm_scan_answer l old.now stands.tables found a)
+    some_handed (firm_scan_asks l) [] old (state g.S.Store c.hand_rows.new.conn) stands.schema
+    (map firm_line_values lines) (λ found a. firm_scan_answer l old.now stands found a)
     g.K.RowSink.lined firm_line_at IsFirmLineInRange (map firm_line_from lines) (firm_lines_shown lines)
     c.hand_rows.result c.args.sink.now c.hand_rows.new.sink (c.hand_rows.ensures.handed clean firm_scan_selects)
     c.from_residual.result c.from_residual.ensures.0
@@ -29,8 +29,8 @@ pub returns-clause-handed : goal.returns-clause-handed
 returns-clause-handed g c l clean stands =
     let old = state g.S.Store c.args.conn.now in
     let lines = firm_lines_in l old.now.trees in
-    all_handed (firm_scan_asks l) [] old (state g.S.Store c.hand_rows.new.conn) stands.tables.schema
-    (map firm_line_values lines) (λ found a. firm_scan_answer l old.now stands.tables found a)
+    all_handed (firm_scan_asks l) [] old (state g.S.Store c.hand_rows.new.conn) stands.schema
+    (map firm_line_values lines) (λ found a. firm_scan_answer l old.now stands found a)
     g.K.RowSink.lined firm_line_at IsFirmLineInRange (map firm_line_from lines) (firm_lines_shown lines)
     c.hand_rows.result c.in_ok-hand_rows.field-0 c.in_ok-hand_rows.was c.args.sink.now c.hand_rows.new.sink
     (c.hand_rows.ensures.handed clean firm_scan_selects)

@@ -14,8 +14,8 @@ pub returns-in_err-hand_rows-clause-handed : goal.returns-in_err-hand_rows-claus
 returns-in_err-hand_rows-clause-handed g c l clean stands =
     let old = state g.S.Store c.args.conn.now in
     let movements = movements_in l old.now.trees in
-    some_handed (journal_scan_asks l) [] old (state g.S.Store c.hand_rows.new.conn) stands.tables.schema
-    (map movement_values movements) (λ found a. journal_scan_answer l old.now stands.tables found a)
+    some_handed (journal_scan_asks l) [] old (state g.S.Store c.hand_rows.new.conn) stands.schema
+    (map movement_values movements) (λ found a. journal_scan_answer l old.now stands found a)
     g.K.RowSink.moved movement_at IsMovementInRange (map movement_from movements) (movements_shown movements)
     c.hand_rows.result c.args.sink.now c.hand_rows.new.sink (c.hand_rows.ensures.handed clean journal_scan_selects)
     c.from_residual.result c.from_residual.ensures.0
@@ -29,8 +29,8 @@ pub returns-clause-handed : goal.returns-clause-handed
 returns-clause-handed g c l clean stands =
     let old = state g.S.Store c.args.conn.now in
     let movements = movements_in l old.now.trees in
-    all_handed (journal_scan_asks l) [] old (state g.S.Store c.hand_rows.new.conn) stands.tables.schema
-    (map movement_values movements) (λ found a. journal_scan_answer l old.now stands.tables found a)
+    all_handed (journal_scan_asks l) [] old (state g.S.Store c.hand_rows.new.conn) stands.schema
+    (map movement_values movements) (λ found a. journal_scan_answer l old.now stands found a)
     g.K.RowSink.moved movement_at IsMovementInRange (map movement_from movements) (movements_shown movements)
     c.hand_rows.result c.in_ok-hand_rows.field-0 c.in_ok-hand_rows.was c.args.sink.now c.hand_rows.new.sink
     (c.hand_rows.ensures.handed clean journal_scan_selects)

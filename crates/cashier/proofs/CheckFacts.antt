@@ -1,0 +1,41 @@
+-- What a check that was printed says of the firm, and what its reads leave of the book.
+use Rattle.std.proofs.Common.{◌≡◌, ◌⊎◌, ℕ, List, Option, Result, Ok, Err, IfOk, OnOk, inl, inr, refl}
+use Rattle.std.specs.Io.KnownBytes.{Appends}
+use Rattle.trust_base.specs.declared.refusal.StoreFault.{StoreFault}
+use Rattle.trust_base.specs.declared.refusal.StoreFault.TheVariants as faults
+use Rattle.firm_rows.specs.Firm.{Firm}
+use Rattle.trust_desk.specs.Checking.{AreReads}
+use Rattle.trust_desk.specs.declared.checking.RowCounts.{RowCounts}
+use Rattle.cashier.specs.Calls.{IsAny, LeavesBook}
+use Rattle.cashier.specs.Check.{CheckEnds, IsSaid, IsSaidSound, IsTrueOf, PrintsCheck}
+use Rattle.cashier.specs.declared.check.CheckFound.{CheckFound}
+use Rattle.cashier.specs.declared.check.CheckFound.TheVariants as found
+use Rattle.cashier.specs.declared.outcome.Outcome.{Outcome}
+
+-- what was found was printed, or that there was no memory for its text
+pub check-ends : (before after : Firm) (told : Result CheckFound StoreFault) (old new : Option (List ℕ)) (ended : Outcome) → after ≡ before
+    → PrintsCheck told old new ended ⊎ PrintsCheck (Err faults.Memory) old new ended → CheckEnds before after old new ended
+check-ends before after told old new ended same (inl h) = record { firm = same; found = told; prints = h }
+check-ends before after told old new ended same (inr h) = record { firm = same; found = Err faults.Memory; prints = h }
+
+-- what was called sound is
+pub said-sound : (firm : Firm) (told : Result CheckFound StoreFault) (old new : Option (List ℕ)) → IfOk told (IsTrueOf firm) → IsSaid told old new
+    → IsSaidSound firm old new
+said-sound firm told old new true said =
+    let t : IsTrueOf firm (found.Sound said.counts) = rw said.is at true in
+    record { counts = said.counts; printed = said.printed; sound = t.0; are = t.1 }
+
+-- what was printed of an Ok
+pub said-ok : (told : Result CheckFound StoreFault) (old new : Option (List ℕ)) (P : Type 0) → IsSaid told old new → OnOk told P → P
+said-ok told old new P said on = rw said.is at on
+
+-- reads of which any may have been refused
+pub reads-leave : {B : Type 0} {firm : B → Firm} {clean sure stands lasts : B → Type 0} {leaves : B → Firm → Type 0} {refusals : B → ℕ} {old new : B}
+    → AreReads firm clean sure stands lasts leaves old new → LeavesBook clean sure stands lasts refusals IsAny old new
+reads-leave h = record {
+  was_clean = h.was_clean;
+  was_sure = h.was_sure;
+  still_stands = h.still_stands;
+  still_lasts = λ sure _ lasts. h.still_lasts sure lasts;
+  cause = λ _ _. tt;
+}

@@ -1,0 +1,130 @@
+-- What a check of the book prints, and how it ends.
+use Rattle.std.specs.Prelude.{◌≡◌, ◌++◌, ℕ, List, Option, Some, None, Result, Ok, Err, codes, ⊤}
+use Rattle.std.specs.Fmt.{decimal}
+use Rattle.std.specs.Io.KnownBytes.{Appends}
+use Rattle.trust_base.specs.Refusals.{refused_by}
+use Rattle.trust_base.specs.Texts.{entry_text, matter_text}
+use Rattle.trust_base.specs.declared.refusal.StoreFault.{StoreFault}
+use Rattle.firm_audit.specs.declared.flaw.Flaw.{Flaw}
+use Rattle.firm_audit.specs.declared.flaw.Flaw.TheVariants as flaws
+use Rattle.firm_rows.specs.Firm.{Firm}
+use Rattle.firm_rows.specs.FirmSound.{FirmSound}
+use Rattle.trust_desk.specs.Checking.{AreCountsOf}
+use Rattle.trust_desk.specs.declared.checking.RowCounts.{RowCounts}
+use Rattle.trust_desk.specs.declared.unread.Unread.{Unread}
+use Rattle.trust_desk.specs.declared.unread.Unread.TheVariants as unread
+use Rattle.cashier.specs.Report.{reply_outcome}
+use Rattle.cashier.specs.Sent.{IsSent}
+use Rattle.cashier.specs.Sheet.{refusal_kind, refusal_line}
+use Rattle.cashier.specs.declared.check.CheckFound.{CheckFound}
+use Rattle.cashier.specs.declared.check.CountedRow.{CountedRow}
+use Rattle.cashier.specs.declared.check.CountedRow.TheVariants as counted
+use Rattle.cashier.specs.declared.check.CheckFound.TheVariants as found
+use Rattle.cashier.specs.declared.outcome.Outcome.{Outcome}
+use Rattle.cashier.specs.declared.outcome.Outcome.TheVariants as outcome
+
+-- ---- texts
+
+-- the line of a count
+abbrev pub count_text : CountedRow → ℕ → List ℕ
+count_text counted.Matters n = codes "MATTERS " ++ (decimal n ++ codes "\n")
+count_text counted.Entries n = codes "ENTRIES " ++ (decimal n ++ codes "\n")
+count_text counted.Movements n = codes "MOVEMENTS " ++ (decimal n ++ codes "\n")
+count_text counted.FirmLines n = codes "FIRM LINES " ++ (decimal n ++ codes "\n")
+count_text counted.Exceptions n = codes "EXCEPTIONS " ++ (decimal n ++ codes "\n")
+count_text counted.Balances n = codes "BALANCES " ++ (decimal n ++ codes "\n")
+
+-- those of the rows of matters, and of what they moved
+abbrev pub matters_text : RowCounts → List ℕ
+matters_text c =
+    count_text counted.Matters c.matters
+    ++ (count_text counted.Entries c.entries ++ count_text counted.Movements c.movements)
+
+-- those of the firm's own rows
+abbrev pub firm_rows_text : RowCounts → List ℕ
+firm_rows_text c =
+    count_text counted.FirmLines c.firm_lines
+    ++ (count_text counted.Exceptions c.exceptions ++ count_text counted.Balances c.balances)
+
+-- how many rows there are of each kind, a line each
+abbrev pub counts_text : RowCounts → List ℕ
+counts_text c = matters_text c ++ firm_rows_text c
+
+-- what is not sound
+abbrev pub flaw_text : Flaw → List ℕ
+flaw_text (flaws.Matter m) = codes "MATTER " ++ matter_text m
+flaw_text (flaws.Entry m n) = codes "ENTRY " ++ (matter_text m ++ (codes "-" ++ entry_text n))
+flaw_text (flaws.Journal m) = codes "JOURNAL " ++ matter_text m
+flaw_text (flaws.Movement n) = codes "MOVEMENT " ++ decimal n
+flaw_text flaws.OwnMovements = codes "OWN MOVEMENTS"
+flaw_text (flaws.FirmLine n) = codes "FIRM LINE " ++ decimal n
+flaw_text (flaws.Exception n) = codes "EXCEPTION " ++ decimal n
+flaw_text (flaws.Balance n) = codes "BALANCE " ++ decimal n
+
+-- which row stands for nothing, by its table
+abbrev pub unread_text : Unread → List ℕ
+unread_text (unread.Matter m) = codes "MATTER " ++ matter_text m
+unread_text (unread.Head None) = codes "ROW matter_v2 FIRST"
+unread_text (unread.Head (Some m)) = codes "ROW matter_v2 AFTER " ++ matter_text m
+unread_text (unread.Seat m) = codes "ROW seat_v2 OF " ++ matter_text m
+unread_text (unread.Entry m None) = codes "ROW entry_v2 FIRST OF " ++ matter_text m
+unread_text (unread.Entry m (Some n)) =
+    codes "ROW entry_v2 AFTER " ++ (matter_text m ++ (codes "-" ++ entry_text n))
+unread_text (unread.Movement n) = codes "ROW journal " ++ decimal n
+unread_text (unread.FirmLine n) = codes "ROW firm_line " ++ decimal n
+unread_text (unread.Exception n) = codes "ROW exception " ++ decimal n
+unread_text (unread.Balance n) = codes "ROW balance " ++ decimal n
+unread_text unread.Elsewhere = codes "ROW ELSEWHERE"
+
+-- what a check found
+abbrev pub check_text : CheckFound → List ℕ
+check_text (found.Sound counts) = codes "SOUND\n" ++ counts_text counts
+check_text (found.Flawed flaw) = codes "UNSOUND\n" ++ (flaw_text flaw ++ codes "\n")
+check_text (found.Unreadable row) = codes "UNSOUND\n" ++ (unread_text row ++ codes "\n")
+
+-- ---- how it ends
+
+-- what is printed: what was found, or the line of the fault by which the book could not be read
+abbrev pub check_line : Result CheckFound StoreFault → List ℕ
+check_line (Ok told) = check_text told
+check_line (Err fault) = refusal_line (refused_by fault)
+
+-- the outcome of what was found
+abbrev pub found_outcome : CheckFound → Outcome
+found_outcome (found.Sound counts) = outcome.Done
+found_outcome (found.Flawed flaw) = outcome.Refused
+found_outcome (found.Unreadable row) = outcome.Refused
+
+-- the outcome of a check that was printed
+abbrev pub check_outcome : Result CheckFound StoreFault → Outcome
+check_outcome (Ok told) = found_outcome told
+check_outcome (Err fault) = reply_outcome (refusal_kind (refused_by fault))
+
+-- it was printed whole, and the run ended as that says; or a write failed, and a proper front of it was printed
+abbrev pub PrintsCheck : Result CheckFound StoreFault → Option (List ℕ) → Option (List ℕ) → Outcome → Type 0
+PrintsCheck told old new ended = IsSent (check_line told) (check_outcome told) outcome.OutputFault old new ended
+
+-- a check of the book: the firm stays, and what was found was printed
+pub record CheckEnds (before after : Firm) (old new : Option (List ℕ)) (told : Outcome) : Type 0 where
+  pub firm : after ≡ before
+  pub found : Result CheckFound StoreFault
+  pub prints : PrintsCheck found old new told
+
+-- what is called sound is sound, and has so many rows
+abbrev pub IsTrueOf : Firm → CheckFound → Type 0
+IsTrueOf firm (found.Sound counts) = FirmSound firm × AreCountsOf firm counts
+IsTrueOf firm (found.Flawed flaw) = ⊤
+IsTrueOf firm (found.Unreadable row) = ⊤
+
+-- it was found sound, and that was printed
+pub record IsSaid (told : Result CheckFound StoreFault) (old new : Option (List ℕ)) : Type 0 where
+  pub counts : RowCounts
+  pub is : told ≡ Ok (found.Sound counts)
+  pub printed : Appends old new (check_text (found.Sound counts))
+
+-- the firm was called sound, and is
+pub record IsSaidSound (firm : Firm) (old new : Option (List ℕ)) : Type 0 where
+  pub counts : RowCounts
+  pub printed : Appends old new (check_text (found.Sound counts))
+  pub sound : FirmSound firm
+  pub are : AreCountsOf firm counts

@@ -1,0 +1,328 @@
+// The check of the book's rows.
+
+ghost use Rattle.std.specs.Prelude.{◌≡◌, ◌≢◌, ◌⊎◌, IfOk, OnOk, Ok, Err, None, Some};
+ghost use Rattle.std.specs.Io.KnownBytes.{Appends};
+ghost use Rattle.cashier.specs.Calls.{IsAny, LeavesBook};
+ghost use Rattle.cashier.specs.Check.{CheckEnds, IsSaid, IsSaidSound, IsTrueOf, PrintsCheck, check_text, count_text, firm_rows_text, flaw_text, matters_text};
+ghost use Rattle.cashier.specs.Check.{found_outcome, unread_text};
+ghost use Rattle.firm_rows.specs.Firm.{Firm};
+ghost use Rattle.firm_rows.specs.FirmSound.{FirmSound};
+ghost use Rattle.trust_desk.specs.Checking.{AreCountsOf, AreReads};
+ghost use Rattle.trust_desk.specs.declared.checking.RowCounts.{RowCounts};
+ghost use Rattle.trust_store.specs.Crashes.{LeavesOr};
+
+use crate::outcome::{Outcome, outcome_of_reply};
+use crate::remarks::{Remark, Remarks};
+use crate::reply_kind::kind_of_refusal;
+use crate::reply_line::write_refusal;
+use std::alloc::Global;
+use std::fmt;
+use std::io::Write;
+use trust_base::{Day, Refusal, StoreFault, send};
+use trust_desk::{Checked, Desk, Flaw, RowCounts, Unread};
+use trust_store::Book;
+
+/// What a check of the book found.
+#[derive(Clone, Copy, PartialEq, Eq, Debug)]
+pub enum CheckFound {
+    /// Its rows, so many, are those of a sound firm.
+    Sound(RowCounts),
+    /// They are not.
+    Flawed(Flaw),
+    /// A row stands for nothing, or a matter is not the whole of sound rows.
+    Unreadable(Unread),
+}
+
+// The line of a count.
+#[derive(Clone, Copy)]
+struct CountLine {
+    row: CountedRow,
+    count: u64,
+}
+
+// What is counted.
+#[derive(Clone, Copy)]
+enum CountedRow {
+    Matters,
+    Entries,
+    Movements,
+    FirmLines,
+    Exceptions,
+    Balances,
+}
+
+impl fmt::Display for CountLine {
+    ghost output = { λ line. Some (count_text line.row line.count) };
+
+    fn fmt<W: fmt::Write>(&self, f: &mut fmt::Formatter<W>) -> fmt::Result {
+        let count = self.count;
+        match self.row {
+            CountedRow::Matters => write!(f, "MATTERS {count}\n"),
+            CountedRow::Entries => write!(f, "ENTRIES {count}\n"),
+            CountedRow::Movements => write!(f, "MOVEMENTS {count}\n"),
+            CountedRow::FirmLines => write!(f, "FIRM LINES {count}\n"),
+            CountedRow::Exceptions => write!(f, "EXCEPTIONS {count}\n"),
+            CountedRow::Balances => write!(f, "BALANCES {count}\n"),
+        }
+    }
+}
+
+// The lines of the rows of matters, and of what they moved.
+#[derive(Clone, Copy)]
+struct MatterLines {
+    counts: RowCounts,
+}
+
+impl fmt::Display for MatterLines {
+    ghost output = { λ lines. Some (matters_text lines.counts) };
+
+    fn fmt<W: fmt::Write>(&self, f: &mut fmt::Formatter<W>) -> fmt::Result {
+        let row = CountedRow::Matters;
+        let matters = CountLine {
+            row,
+            count: self.counts.matters,
+        };
+        let row = CountedRow::Entries;
+        let entries = CountLine {
+            row,
+            count: self.counts.entries,
+        };
+        let row = CountedRow::Movements;
+        let movements = CountLine {
+            row,
+            count: self.counts.movements,
+        };
+        write!(f, "{matters}{entries}{movements}")
+    }
+}
+
+// The lines of the firm's own rows.
+#[derive(Clone, Copy)]
+struct FirmRowLines {
+    counts: RowCounts,
+}
+
+impl fmt::Display for FirmRowLines {
+    ghost output = { λ lines. Some (firm_rows_text lines.counts) };
+
+    fn fmt<W: fmt::Write>(&self, f: &mut fmt::Formatter<W>) -> fmt::Result {
+        let row = CountedRow::FirmLines;
+        let firm_lines = CountLine {
+            row,
+            count: self.counts.firm_lines,
+        };
+        let row = CountedRow::Exceptions;
+        let exceptions = CountLine {
+            row,
+            count: self.counts.exceptions,
+        };
+        let row = CountedRow::Balances;
+        let balances = CountLine {
+            row,
+            count: self.counts.balances,
+        };
+        write!(f, "{firm_lines}{exceptions}{balances}")
+    }
+}
+
+// What a flaw is called.
+#[derive(Clone, Copy)]
+struct FlawName {
+    flaw: Flaw,
+}
+
+impl fmt::Display for FlawName {
+    ghost output = { λ name. Some (flaw_text name.flaw) };
+
+    fn fmt<W: fmt::Write>(&self, f: &mut fmt::Formatter<W>) -> fmt::Result {
+        match self.flaw {
+            Flaw::Matter(matter) => write!(f, "MATTER {matter}"),
+            Flaw::Entry { matter, entry } => write!(f, "ENTRY {matter}-{entry}"),
+            Flaw::Journal(matter) => write!(f, "JOURNAL {matter}"),
+            Flaw::Movement(number) => write!(f, "MOVEMENT {number}"),
+            Flaw::OwnMovements => f.write_str("OWN MOVEMENTS"),
+            Flaw::FirmLine(number) => write!(f, "FIRM LINE {number}"),
+            Flaw::Exception(number) => write!(f, "EXCEPTION {number}"),
+            Flaw::Balance(number) => write!(f, "BALANCE {number}"),
+        }
+    }
+}
+
+// What a row is called that can't be read.
+#[derive(Clone, Copy)]
+struct RowName {
+    row: Unread,
+}
+
+impl fmt::Display for RowName {
+    ghost output = { λ name. Some (unread_text name.row) };
+
+    fn fmt<W: fmt::Write>(&self, f: &mut fmt::Formatter<W>) -> fmt::Result {
+        match self.row {
+            Unread::Matter(matter) => write!(f, "MATTER {matter}"),
+            Unread::Head(None) => f.write_str("ROW matter_v2 FIRST"),
+            Unread::Head(Some(matter)) => write!(f, "ROW matter_v2 AFTER {matter}"),
+            Unread::Seat(matter) => write!(f, "ROW seat_v2 OF {matter}"),
+            Unread::Entry {
+                matter,
+                after: None,
+            } => write!(f, "ROW entry_v2 FIRST OF {matter}"),
+            Unread::Entry {
+                matter,
+                after: Some(entry),
+            } => write!(f, "ROW entry_v2 AFTER {matter}-{entry}"),
+            Unread::Movement(number) => write!(f, "ROW journal {number}"),
+            Unread::FirmLine(number) => write!(f, "ROW firm_line {number}"),
+            Unread::Exception(number) => write!(f, "ROW exception {number}"),
+            Unread::Balance(number) => write!(f, "ROW balance {number}"),
+            Unread::Elsewhere => f.write_str("ROW ELSEWHERE"),
+        }
+    }
+}
+
+impl fmt::Display for CheckFound {
+    ghost output = { λ found. Some (check_text found) };
+
+    fn fmt<W: fmt::Write>(&self, f: &mut fmt::Formatter<W>) -> fmt::Result {
+        match *self {
+            CheckFound::Sound(counts) => {
+                let matters = MatterLines { counts };
+                let firm_rows = FirmRowLines { counts };
+                write!(f, "SOUND\n{matters}{firm_rows}")
+            }
+            CheckFound::Flawed(flaw) => {
+                let name = FlawName { flaw };
+                write!(f, "UNSOUND\n{name}\n")
+            }
+            CheckFound::Unreadable(row) => {
+                let name = RowName { row };
+                write!(f, "UNSOUND\n{name}\n")
+            }
+        }
+    }
+}
+
+// What a check found, where all rows could be read.
+fn found_of(checked: Checked) -> CheckFound
+    ensures { (firm : Firm) → (checked.flaw ≡ None → FirmSound firm) → AreCountsOf firm checked.counts
+        → IsTrueOf firm result }
+{
+    match checked.flaw {
+        Some(flaw) => CheckFound::Flawed(flaw),
+        None => CheckFound::Sound(checked.counts),
+    }
+}
+
+// What there is to be told of the rows of a desk's book on a business day.
+fn find_flaw<B: Book>(
+    alloc: Global,
+    desk: &mut Desk<B>,
+    today: Day,
+) -> Result<CheckFound, StoreFault>
+    ensures sound { B.clean desk.new → B.readable desk.old → IfOk result (IsTrueOf (B.firm desk.old)) }
+    ensures reads { AreReads B.firm B.clean B.sure B.stands B.lasts B.leaves desk.old desk.new }
+    ensures serves { B.sure desk.new → OnOk result (B.clean desk.new) }
+{
+    match desk.check(alloc) {
+        Ok(checked) => Ok(found_of(checked)),
+        Err(StoreFault::Memory) => Err(StoreFault::Memory),
+        Err(StoreFault::Store) => {
+            let unread = desk.find_unread(alloc, today)?;
+            Ok(CheckFound::Unreadable(unread))
+        }
+    }
+}
+
+// The outcome of what was found.
+fn outcome_of_found(found: &CheckFound) -> Outcome
+    ensures { result ≡ found_outcome found.now }
+{
+    match found {
+        CheckFound::Sound(_) => Outcome::Done,
+        CheckFound::Flawed(_) | CheckFound::Unreadable(_) => Outcome::Refused,
+    }
+}
+
+// Prints the line of the fault by which the book could not be read.
+fn print_fault<W: Write>(writer: &mut W, fault: StoreFault) -> Outcome
+    ensures began { result ≢ Outcome.CommandLine }
+    ensures prints { PrintsCheck (Err fault) (W.contents writer.old) (W.contents writer.new) result }
+    ensures unsaid { result ≢ Outcome.Done }
+{
+    let refusal = Refusal::from(fault);
+    let Ok(()) = write_refusal(writer, &refusal) else {
+        return Outcome::OutputFault;
+    };
+    outcome_of_reply(kind_of_refusal(&refusal))
+}
+
+// Prints what was found, or that there was no memory for its text.
+fn print_told<W: Write>(alloc: Global, writer: &mut W, told: &CheckFound) -> Outcome
+    ensures began { result ≢ Outcome.CommandLine }
+    ensures prints { PrintsCheck (Ok told.now) (W.contents writer.old) (W.contents writer.new) result
+        ⊎ PrintsCheck (Err StoreFault.Memory) (W.contents writer.old) (W.contents writer.new) result }
+    ensures said { result ≡ Outcome.Done → IsSaid (Ok told.now) (W.contents writer.old) (W.contents writer.new) }
+{
+    let Ok(text) = format!(in alloc; "{told}") else {
+        return print_fault(writer, StoreFault::Memory);
+    };
+    let Ok(()) = send(writer, text.as_bytes()) else {
+        return Outcome::OutputFault;
+    };
+    outcome_of_found(told)
+}
+
+// Prints what was found, or the line of the fault by which the book could not be read.
+fn print_found<W: Write>(
+    alloc: Global,
+    writer: &mut W,
+    found: &Result<CheckFound, StoreFault>,
+) -> Outcome
+    ensures began { result ≢ Outcome.CommandLine }
+    ensures prints { PrintsCheck found.now (W.contents writer.old) (W.contents writer.new) result
+        ⊎ PrintsCheck (Err StoreFault.Memory) (W.contents writer.old) (W.contents writer.new) result }
+    ensures said { result ≡ Outcome.Done → IsSaid found.now (W.contents writer.old) (W.contents writer.new) }
+{
+    match found {
+        Ok(told) => print_told(alloc, writer, told),
+        Err(fault) => print_fault(writer, *fault),
+    }
+}
+
+// Tells a person what was found.
+fn tell_found<M: Remarks>(remarks: &M, found: &Result<CheckFound, StoreFault>) {
+    match found {
+        Ok(CheckFound::Flawed(flaw)) => remarks.tell(&Remark::Flaw(*flaw)),
+        Ok(CheckFound::Unreadable(row)) => remarks.tell(&Remark::Unread(*row)),
+        _ => (),
+    }
+}
+
+/// Checks all rows of a desk's book, and prints that they are those of a sound firm and how many they are, or what is
+/// not sound of them, of which a person is told more. Whatever the book's store keeps, as long as it can be read as
+/// rows: where the outcome is `Done`, they are those of a sound firm. The book stays as it is.
+///
+/// The outcome is `Done` where they are sound, and `Refused` where they are not, or a row stands for nothing. Where the
+/// book could not be read or memory was refused, that was told by the line of its refusal, and it is `StoreFault` or
+/// `MemoryFault`. Where a write failed it is `OutputFault`, and a proper front of the text or line was written.
+pub fn run_check<M: Remarks, W: Write, B: Book>(
+    alloc: Global,
+    remarks: &M,
+    writer: &mut W,
+    desk: &mut Desk<B>,
+    today: Day,
+) -> Outcome
+    ensures began { result ≢ Outcome.CommandLine }
+    ensures ends { B.clean desk.new → B.stands desk.old
+        → CheckEnds (B.firm desk.old) (B.firm desk.new) (W.contents writer.old) (W.contents writer.new) result }
+    ensures sound { B.clean desk.new → B.readable desk.old → result ≡ Outcome.Done
+        → IsSaidSound (B.firm desk.old) (W.contents writer.old) (W.contents writer.new) }
+    ensures kept { LeavesBook B.clean B.sure B.stands B.lasts B.refusals IsAny desk.old desk.new }
+    ensures serves { result ≡ Outcome.Done → B.sure desk.new → B.clean desk.new }
+    ensures crash { B.clean desk.new → B.stands desk.old
+        → LeavesOr (B.firm desk.old) (B.leaves desk.old) (B.leaves desk.new) }
+{
+    let found = find_flaw(alloc, desk, today);
+    tell_found(remarks, &found);
+    print_found(alloc, writer, &found)
+}

@@ -1,0 +1,78 @@
+-- The rows of sound matters that are kept by number.
+use Rattle.std.proofs.Common.{◌≡◌, ◌≢◌, ℕ, ◌<◌, ◌≤◌, Bool, true, false, List, [], ◌∷◌, ◌++◌, cond, refl, sym, ap, ◌∙◌, subst, arith}
+use Rattle.std.specs.Prelude.{nat_lt, ◌==◌}
+use Rattle.std.specs.List.{AllByRecursion}
+use Rattle.std.proofs.lemmas.Bool.Decides.{nat_tests}
+use Rattle.matter_rows.specs.Rows.{Rows, unopened}
+use Rattle.matter_rows.specs.Sound.{Sound}
+use Rattle.firm_rows.specs.Firm.{pairs, put}
+use Rattle.firm_rows.proofs.Joined.{passing, passing-append, pairs_pass, pairs_fail}
+use Rattle.firm_rows.proofs.Kept.{unopened-sound}
+use Rattle.firm_rows.proofs.Order.{put-again, put-other}
+use Rattle.trust_store.specs.declared.plain.KeptMatter.{KeptMatter}
+use Rattle.trust_store.specs.Kept.{rows_kept, joined, IsBefore, Ascends, IsKeptWhole, rows_in}
+
+-- A matter by its number.
+
+-- nothing is kept of a number below the others
+pub rows_in-below : (m n : ℕ) (ks : List KeptMatter) → m ≤ n → IsBefore n ks → rows_in m ks ≡ unopened
+rows_in-below m n [] le h = refl
+rows_in-below m n (k ∷ ks) le h =
+    let low : nat_lt k.number m ≡ false = grind (arith, nat_tests, h.0) in
+    let apart : (k.number == m) ≡ false = grind (arith, nat_tests, h.0) in
+    rw (low, apart) refl
+
+-- what holds of each kept matter's rows, and of those of a matter that was never opened, holds of all
+pub at-each : (P : ℕ → Rows → Type 0) (m : ℕ) (ks : List KeptMatter) → (rows_in m ks ≡ unopened → P m unopened) → AllByRecursion (λ k. P k.number (rows_kept k.matter)) ks → P m (rows_in m ks)
+at-each P m [] none all = none refl
+at-each P m (k ∷ ks) none all = cases (nat_lt k.number m) (k.number == m) refl none (λ h. at-each P m ks h all.1)
+  where
+    cases : (b c : Bool) → (k.number == m) ≡ c → (cond b (rows_in m ks) (cond c (rows_kept k.matter) unopened) ≡ unopened → P m unopened) → ((rows_in m ks ≡ unopened → P m unopened) → P m (rows_in m ks)) → P m (cond b (rows_in m ks) (cond c (rows_kept k.matter) unopened))
+    cases true c is none again = again none
+    cases false true is none again = let same : k.number ≡ m = grind (arith, nat_tests) in subst (λ (n : ℕ). P n (rows_kept k.matter)) same all.0
+    cases false false is none again = none refl
+
+pub sound_in : (m : ℕ) (ks : List KeptMatter) → AllByRecursion IsKeptWhole ks → Sound (rows_in m ks)
+sound_in m ks all = at-each (λ m rows. Sound rows) m ks (λ _. unopened-sound) (sounds ks all)
+  where
+    sounds : (ks : List KeptMatter) → AllByRecursion IsKeptWhole ks → AllByRecursion (λ k. Sound (rows_kept k.matter)) ks
+    sounds [] all = tt
+    sounds (k ∷ ks) all = (all.0.sound, sounds ks all.1)
+
+-- The joined rows.
+
+joined_pass : (t : ℕ → Bool) (n : ℕ) (ks : List KeptMatter) → IsBefore n ks → ((x : ℕ) → n < x → t x ≡ true) → passing t (joined ks) ≡ joined ks
+joined_pass t n [] h f = refl
+joined_pass t n (k ∷ ks) h f = passing-append t (pairs k.number (rows_kept k.matter)) (joined ks) ∙ (λ i. pairs_pass t k.number (rows_kept k.matter) (f k.number h.0) i ++ joined_pass t n ks h.1 f i)
+
+joined_fail : (t : ℕ → Bool) (n : ℕ) (ks : List KeptMatter) → IsBefore n ks → ((x : ℕ) → n < x → t x ≡ false) → passing t (joined ks) ≡ []
+joined_fail t n [] h f = refl
+joined_fail t n (k ∷ ks) h f = passing-append t (pairs k.number (rows_kept k.matter)) (joined ks) ∙ (λ i. pairs_fail t k.number (rows_kept k.matter) (f k.number h.0) i ++ joined_fail t n ks h.1 f i)
+
+-- the first matter is put in among the others
+joined-put : (k : KeptMatter) (ks : List KeptMatter) → IsBefore k.number ks → joined (k ∷ ks) ≡ put k.number (rows_kept k.matter) (joined ks)
+joined-put k ks h =
+    let low : passing (λ x. nat_lt x k.number) (joined ks) ≡ [] = joined_fail (λ x. nat_lt x k.number) k.number ks h (λ x lt. grind (arith, nat_tests)) in
+    let high : passing (λ x. nat_lt k.number x) (joined ks) ≡ joined ks = joined_pass (λ x. nat_lt k.number x) k.number ks h (λ x lt. grind (arith, nat_tests)) in
+    sym (λ i. low i ++ (pairs k.number (rows_kept k.matter) ++ high i))
+
+-- the rows of each matter stand together
+pub joined-in_order : (m : ℕ) (ks : List KeptMatter) → Ascends ks → put m (rows_in m ks) (joined ks) ≡ joined ks
+joined-in_order m [] up = refl
+joined-in_order m (k ∷ ks) up = cases (nat_lt k.number m) (k.number == m) refl refl (joined-in_order m ks up.1)
+  where
+    at : joined (k ∷ ks) ≡ put k.number (rows_kept k.matter) (joined ks)
+    at = joined-put k ks up.0
+
+    among-others : m ≢ k.number → put m (rows_in m ks) (joined ks) ≡ joined ks → put m (rows_in m ks) (joined (k ∷ ks)) ≡ joined (k ∷ ks)
+    among-others apart again = ap (put m (rows_in m ks)) at ∙ (put-other m k.number (rows_in m ks) (rows_kept k.matter) (joined ks) apart again ∙ sym at)
+
+    cases : (b c : Bool) → nat_lt k.number m ≡ b → (k.number == m) ≡ c → put m (rows_in m ks) (joined ks) ≡ joined ks → put m (cond b (rows_in m ks) (cond c (rows_kept k.matter) unopened)) (joined (k ∷ ks)) ≡ joined (k ∷ ks)
+    cases true c bi ci again = among-others (grind (arith, nat_tests)) again
+    cases false true bi ci again =
+        let same : m ≡ k.number = grind (arith, nat_tests) in
+        ap (λ n. put n (rows_kept k.matter) (joined (k ∷ ks))) same ∙ (ap (put k.number (rows_kept k.matter)) at ∙ (put-again k.number (rows_kept k.matter) (joined ks) ∙ sym at))
+    cases false false bi ci again =
+        let below : m ≤ k.number = grind (arith, nat_tests) in
+        let apart : m ≢ k.number = grind (arith, nat_tests) in
+        ap (λ rows. put m rows (joined (k ∷ ks))) (sym (rows_in-below m k.number ks below up.0)) ∙ among-others apart again

@@ -1,0 +1,42 @@
+-- Lists of which each element stands before the next.
+use Rattle.std.proofs.Common.{◌≡◌, ℕ, suc, ◌+◌, ◌-◌, ◌<◌, ◌≤◌, List, [], ◌∷◌, length, get_or, subst, ◌∙◌, ap, arith, ◌⊎◌, inl, inr}
+use Rattle.std.specs.List.{AllByRecursion}
+use Rattle.std.proofs.lemmas.List.{get_or_default}
+use Rattle.std.proofs.lemmas.Bool.{cases_lt}
+
+-- of the first elements of the list each stands before the next
+abbrev pub AreBefore : {A : Type 0} → (A → A → Type 0) → ℕ → List A → Type 0
+AreBefore {A} R n xs = (j : ℕ) (d : A) → suc j < n → suc j < length xs → R (get_or xs j d) (get_or xs (suc j) d)
+
+-- each stands before all behind it
+abbrev pub AreAllBefore : {A : Type 0} → (A → A → Type 0) → List A → Type 0
+AreAllBefore R [] = Unit {0}
+AreAllBefore R (x ∷ xs) = AllByRecursion (R x) xs × AreAllBefore R xs
+
+module _ {A : Type 0} (R : A → A → Type 0) where
+  -- the element that was looked at last
+  pub before-more : (xs : List A) (n : ℕ) (x y : A) → AreBefore R n xs → 1 ≤ n → n < length xs → x ≡ get_or xs (n - 1) x → y ≡ get_or xs n y → R x y → AreBefore R (n + 1) xs
+  before-more xs n x y more one within is_x is_y here j d few in_range = cases (cases_lt (suc j) n)
+    where
+      cases : (suc j < n) ⊎ (n ≤ suc j) → R (get_or xs j d) (get_or xs (suc j) d)
+      cases (inl less) = more j d less in_range
+      cases (inr past) =
+          let at : n ≡ suc j = omega arith in
+          let front : n - 1 ≡ j = omega arith in
+          let old : x ≡ get_or xs j d = is_x ∙ (ap (λ i. get_or xs i x) front ∙ get_or_default xs j x d (omega arith)) in
+          let new : y ≡ get_or xs (suc j) d = is_y ∙ (ap (λ i. get_or xs i y) at ∙ get_or_default xs (suc j) y d in_range) in
+          subst (λ (z : A). R z (get_or xs (suc j) d)) old (subst (λ (z : A). R x z) new here)
+
+  module _ (trans : (x y z : A) → R x y → R y z → R x z) where
+    -- what stands before the first stands before all
+    further : (x y : A) (xs : List A) → R x y → AllByRecursion (R y) xs → AllByRecursion (R x) xs
+    further x y [] here all = tt
+    further x y (z ∷ xs) here all = (trans x y z here all.0, further x y xs here all.1)
+
+    pub all-before : (n : ℕ) (xs : List A) → length xs ≤ n → AreBefore R n xs → AreAllBefore R xs
+    all-before n [] long is = tt
+    all-before n (x ∷ []) long is = (tt, tt)
+    all-before n (x ∷ y ∷ xs) long is =
+        let rest = all-before n (y ∷ xs) (omega arith) (λ j d few within. is (suc j) d (omega arith) (omega arith)) in
+        let first = is 0 x (omega arith) (omega arith) in
+        ((first, further x y xs first rest.0), rest)

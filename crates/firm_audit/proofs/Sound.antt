@@ -1,0 +1,39 @@
+-- Rows that pass are those of a sound firm.
+use Rattle.std.proofs.Common.{◌≡◌, ℕ, sym, ap, ◌∙◌, subst}
+use Rattle.matter_rows.specs.Rows.{Rows, entry_at}
+use Rattle.matter_rows.specs.Events.{events_in}
+use Rattle.matter_rows.specs.Sound.{Sound}
+use Rattle.firm_rows.specs.Firm.{Firm, of, put}
+use Rattle.firm_rows.specs.FirmSound.{FirmSound}
+use Rattle.trust_store.specs.declared.all_rows.AllRows.{AllRows}
+use Rattle.trust_store.specs.Kept.{joined, AreKeptWhole, rows_in, firm_of_all}
+use Rattle.trust_store.proofs.KeptMatters.{rows_of-joined}
+use Rattle.firm_audit.specs.Audited.{IsJournalOf, IsOwnMoney, AreAscending}
+use Rattle.firm_audit.proofs.KeptRows.{sound_in, joined-in_order}
+use Rattle.firm_audit.proofs.Journals.{IsMovedAs, moved-in, events-in}
+
+module _ (rows : AllRows) (kept : AreKeptWhole rows.matters.items) (journal : IsJournalOf rows.matters.items rows.movements.items) (own : IsOwnMoney rows.movements.items rows.firm_lines.items) (order : AreAscending rows.exceptions.items rows.balances.items) where
+  abbrev firm : Firm
+  firm = firm_of_all rows
+
+  own_rows : (m : ℕ) → rows_in m rows.matters.items ≡ of m firm
+  own_rows m = sym (rows_of-joined m rows.matters.items kept.ascends)
+
+  moved : (m : ℕ) → IsMovedAs rows.movements.items m (of m firm)
+  moved m = subst (IsMovedAs rows.movements.items m) (own_rows m) (moved-in m rows.matters.items rows.movements.items kept.whole journal)
+
+  pub firm_is_sound : FirmSound firm
+  firm_is_sound = record {
+    in_order = record {
+      rows = λ m. ap (λ (r : Rows). put m r (joined rows.matters.items)) (sym (own_rows m)) ∙ joined-in_order m rows.matters.items kept.ascends;
+      exceptions = order.exceptions;
+      balances = order.balances;
+    };
+    matters = λ m. subst Sound (own_rows m) (sound_in m rows.matters.items kept.whole);
+    events = λ m n. events-in m n rows.matters.items rows.movements.items kept.whole journal ∙ ap (λ (r : Rows). events_in (entry_at r.entries n)) (own_rows m);
+    own = own.moved;
+    in_time = λ m. record { rising = (moved m).in_time.0; by_last = (moved m).in_time.1 };
+    ledgers = λ m. (moved m).ledger;
+    covered = λ m k. (moved m).covered k;
+    within = own.within;
+  }

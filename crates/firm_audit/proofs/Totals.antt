@@ -1,0 +1,34 @@
+-- Sums over the first elements of a list.
+use Rattle.std.proofs.Common.{◌≡◌, ℕ, ◌+◌, ◌<◌, ◌≤◌, List, [], ◌∷◌, ◌++◌, length, take, get_or, sym, ap, ◌∙◌, subst, arith, ◌⊎◌, inl, inr}
+use Rattle.std.specs.Prelude.{ℤ, ◌+ℤ◌}
+use Rattle.std.proofs.lemmas.Bool.{cases_lt}
+use Rattle.std.proofs.lemmas.Int.{ints}
+use Rattle.std.proofs.lemmas.List.{take_more, take_all}
+use Rattle.firm_rows.specs.Sums.{sum_of}
+use Rattle.firm_rows.proofs.Sums.{sum-append}
+
+-- with one element more
+pub sum-more : {A : Type 0} (f : A → ℤ) (xs : List A) (i : ℕ) (x : A) → i < length xs → x ≡ get_or xs i x → sum_of f (take (i + 1) xs) ≡ sum_of f (take i xs) +ℤ f x
+sum-more f xs i x lt is =
+    let one : sum_of f (x ∷ []) ≡ f x = omega (arith, ints) in
+    ap (sum_of f) (take_more xs i x lt ∙ ap (λ y. take i xs ++ y ∷ []) (sym is)) ∙ (sum-append f (take i xs) (x ∷ []) ∙ ap (λ z. sum_of f (take i xs) +ℤ z) one)
+
+module _ {A : Type 0} (P : ℤ → Type 0) (f : A → ℤ) (xs : List A) (i : ℕ) (all : (k : ℕ) → k ≤ i → P (sum_of f (take k xs))) where
+  -- what holds at each place so far, and at the next
+  pub each-more : P (sum_of f (take (i + 1) xs)) → (k : ℕ) → k ≤ i + 1 → P (sum_of f (take k xs))
+  each-more here k le = cases (cases_lt i k)
+    where
+      cases : (i < k) ⊎ (k ≤ i) → P (sum_of f (take k xs))
+      cases (inl past) = let at : i + 1 ≡ k = omega arith in subst (λ (n : ℕ). P (sum_of f (take n xs))) at here
+      cases (inr old) = all k old
+
+  -- up to the end it holds at each place whatever
+  pub each-all : length xs ≤ i → (k : ℕ) → P (sum_of f (take k xs))
+  each-all long k = cases (cases_lt i k)
+    where
+      cases : (i < k) ⊎ (k ≤ i) → P (sum_of f (take k xs))
+      cases (inl past) =
+          let over : length xs ≤ k = omega arith in
+          let same : take i xs ≡ take k xs = take_all i xs long ∙ sym (take_all k xs over) in
+          subst (λ (ys : List A). P (sum_of f ys)) same (all i (omega arith))
+      cases (inr old) = all k old

@@ -1,0 +1,7 @@
+use Rattle.std.proofs.Common.{drop}
+use Rattle.std.specs.List.{AllByRecursion}
+use Rattle.trust_store.specs.Kept.{IsKeptWhole}
+use Rattle.firm_audit.proofs.matters.unsound.Given as goal
+
+abbrev pub invariant-loop-kept : goal.invariant-loop-kept
+invariant-loop-kept l = AllByRecursion IsKeptWhole (drop l.kept-index l.matters) → AllByRecursion IsKeptWhole l.matters

@@ -1,0 +1,25 @@
+use Rattle.std.proofs.Common.{◌≡◌, ◌+◌, take, ap, ℕ, arith, to_z, of_z}
+use Rattle.std.specs.Prelude.{◌+ℤ◌}
+use Rattle.std.specs.Int.{w64}
+use Rattle.std.proofs.lemmas.Int.{ints}
+use Rattle.firm_rows.specs.FirmLines.{balance_of, IsOwnBalance}
+use Rattle.firm_audit.proofs.Totals.{sum-more, each-more}
+use Rattle.firm_audit.proofs.own_money.outside.Goals as goal
+
+pub loop-line-preserved : goal.loop-line-preserved
+loop-line-preserved c =
+    let lines = c.args.lines.now in
+    let place = c.loop-line.line-index in
+    let so = c.loop-line.invariant in
+    let amount = c.get-balance.ensures.value in
+    let before : IsOwnBalance (balance_of (take place lines)) = so.within place (omega arith) in
+    let step : balance_of (take (place + 1) lines) ≡ balance_of (take place lines) +ℤ c.line-item.result.amount =
+    sum-more (λ l. l.amount) lines place c.line-item.result c.loop-line-test.true c.line-item.is in
+    -- one after another a tactic would read the first beside the second
+    let both : IsOwnBalance (balance_of (take (place + 1) lines)) × (to_z w64 (of_z w64 (to_z w64 c.loop-line.balance-bits +ℤ to_z w64 (of_z w64 c.get-balance.result))) ≡ balance_of (take (place + 1) lines)) =
+    ((omega (arith, ints, step, amount, so.sum, before.0, before.1), omega (arith, ints, step, amount, so.sum, before.0, before.1)), omega (arith, ints, step, amount, so.sum, before.0, before.1)) in
+    record {
+      place = ap (λ (n : ℕ). n + 1) so.place;
+      sum = both.1;
+      within = each-more IsOwnBalance (λ l. l.amount) lines place so.within both.0;
+    }

@@ -1,0 +1,93 @@
+// Whether the journal is that of the matters.
+
+ghost use Rattle.std.specs.Prelude.{◌≡◌, true, None, IfOk, IsTrue, is_some};
+ghost use Rattle.std.specs.List.{AllByRecursion};
+ghost use Rattle.matter_rows.specs.Rows.{entry_at};
+ghost use Rattle.trust_store.specs.Kept.{Ascends, IsKeptWhole, AreKeptWhole, rows_in, seek};
+ghost use Rattle.firm_audit.specs.Audited.{moved_of, IsJournal, IsOwned, IsJournalOf};
+
+use crate::Flaw;
+use crate::matter_journal::matter_flaw;
+use firm_rows::{Movement, Owner};
+use std::alloc::{AllocError, Global};
+use trust_base::{EntryNo, MatterNo};
+use trust_store::KeptMatter;
+
+// The place of a matter, or where it would stand.
+fn search(matters: &[KeptMatter], number: MatterNo) -> Result<usize, usize>
+    requires { Ascends matters.now }
+    ensures { result ≡ seek number matters.now }
+{
+    matters.binary_search_by_key(&number.get(), |k| k.number.get())
+}
+
+// Does the matter have an entry of this number?
+fn has_entry(matters: &[KeptMatter], matter: MatterNo, entry: EntryNo) -> bool
+    requires { Ascends matters.now }
+    ensures { IsTrue result → is_some (entry_at (rows_in matter matters.now).entries entry) ≡ true }
+{
+    match search(matters, matter) {
+        Ok(place) => entry.get() as usize <= matters[place].matter.kept().len(),
+        Err(_) => false,
+    }
+}
+
+// Is it the firm, or an entry that is there?
+fn is_owner(matters: &[KeptMatter], owner: &Owner) -> bool
+    requires { Ascends matters.now }
+    ensures { IsTrue result → IsOwned matters.now owner.now }
+{
+    match owner {
+        Owner::Matter { matter, entry } => has_entry(matters, *matter, *entry),
+        Owner::Firm => true,
+    }
+}
+
+// The place of the first movement that is of no entry, the first being 1.
+fn unowned(matters: &[KeptMatter], movements: &[Movement]) -> Option<u64>
+    requires { Ascends matters.now }
+    ensures { result ≡ None → AllByRecursion (λ v. IsOwned matters.now v.owner) movements.now }
+{
+    let mut place = 0;
+    for movement in movements {
+        place += 1;
+        if !is_owner(matters, &movement.owner) {
+            return Some(place);
+        }
+    }
+    None
+}
+
+// What is not sound of the movements of the first matter for which something is not.
+fn first_flaw(
+    alloc: Global,
+    matters: &[KeptMatter],
+    movements: &[Movement],
+) -> Result<Option<Flaw>, AllocError>
+    requires { AllByRecursion IsKeptWhole matters.now }
+    ensures { IfOk result
+        (λ found. found ≡ None → AllByRecursion (λ k. IsJournal k (moved_of k.number movements.now)) matters.now) }
+{
+    for kept in matters {
+        let found = matter_flaw(alloc, kept, movements)?;
+        if found.is_some() {
+            return Ok(found);
+        }
+    }
+    Ok(None)
+}
+
+/// What is not sound of the movements beside the matters.
+pub(crate) fn journal_flaw(
+    alloc: Global,
+    matters: &[KeptMatter],
+    movements: &[Movement],
+) -> Result<Option<Flaw>, AllocError>
+    requires { AreKeptWhole matters.now }
+    ensures { IfOk result (λ found. found ≡ None → IsJournalOf matters.now movements.now) }
+{
+    if let Some(place) = unowned(matters, movements) {
+        return Ok(Some(Flaw::Movement(place)));
+    }
+    first_flaw(alloc, matters, movements)
+}

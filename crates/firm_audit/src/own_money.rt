@@ -1,0 +1,77 @@
+// Whether the firm's own money is sound.
+
+ghost use Rattle.std.specs.Prelude.{◌≡◌, Some, None, IsTrue, map, slice_get};
+ghost use Rattle.firm_rows.specs.FirmLines.{StaysWithin};
+ghost use Rattle.firm_rows.specs.Journal.{event_of, line_event, is_of_firm, firm_events};
+ghost use Rattle.firm_audit.specs.Audited.{IsOwnMoney};
+
+use crate::Flaw;
+use firm_rows::{FirmLine, MAX_OWN, Movement, Owner};
+
+// Is it a movement of the firm's own money?
+fn is_own(owner: &Owner) -> bool
+    ensures { result ≡ is_of_firm owner.now }
+{
+    matches!(owner, Owner::Firm)
+}
+
+// Did the line move this?
+fn is_line(movement: &Movement, line: &FirmLine) -> bool
+    ensures { IsTrue result → event_of movement.now ≡ line_event line.now }
+{
+    movement.day.get() == line.date.get() && movement.amount == line.amount.get()
+}
+
+// Did the line at this place, the first being 0, move this?
+fn is_line_at(movement: &Movement, lines: &[FirmLine], place: usize) -> bool
+    ensures { IsTrue result → slice_get (map line_event lines.now) place ≡ Some (event_of movement.now) }
+{
+    if place >= lines.len() {
+        return false;
+    }
+    let line = &lines[place];
+    is_line(movement, line)
+}
+
+// Are the movements of the firm's own money the lines of its ledger, one each and in order?
+fn are_lines(movements: &[Movement], lines: &[FirmLine]) -> bool
+    ensures { IsTrue result → firm_events movements.now ≡ map line_event lines.now }
+{
+    let mut place = 0;
+    for movement in movements {
+        if is_own(&movement.owner) {
+            if !is_line_at(movement, lines, place) {
+                return false;
+            }
+            place += 1;
+        }
+    }
+    place >= lines.len()
+}
+
+// The place of the first line up to which the firm's own money is not within its range, the first being 1.
+fn outside(lines: &[FirmLine]) -> Option<u64>
+    ensures { result ≡ None → StaysWithin lines.now }
+{
+    let mut place = 0;
+    let mut balance = 0i64;
+    for line in lines {
+        place += 1;
+        balance += line.amount.get();
+        if balance < 0 || balance > MAX_OWN as i64 {
+            return Some(place);
+        }
+    }
+    None
+}
+
+/// What is not sound of the firm's own money.
+pub(crate) fn own_flaw(movements: &[Movement], lines: &[FirmLine]) -> Option<Flaw>
+    ensures { result ≡ None → IsOwnMoney movements.now lines.now }
+{
+    if !are_lines(movements, lines) {
+        return Some(Flaw::OwnMovements);
+    }
+    let place = outside(lines)?;
+    Some(Flaw::FirmLine(place))
+}

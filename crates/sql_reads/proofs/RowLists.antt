@@ -1,0 +1,40 @@
+-- What lists of rows are once all rows were handed to them.
+use Rattle.std.proofs.Common.{◌≡◌, List, [], ◌∷◌, ◌++◌, fold, refl, sym, ap, ◌∙◌, append-nil, append_assoc}
+use Rattle.trust_base.specs.declared.line.Line.{Line}
+use Rattle.firm_rows.specs.declared.movement.Movement.{Movement}
+use Rattle.firm_rows.specs.declared.ledger.FirmLine.{FirmLine}
+use Rattle.firm_rows.specs.declared.ledger.StatementRow.{StatementRow}
+use Rattle.firm_rows.specs.Firm.{Firm, empty_firm}
+use Rattle.trust_store.specs.Kept.{firm_of}
+use Rattle.sql_reads.specs.Parts.{without_matters}
+
+module _ {F A : Type 0} (step : F → A → F) (with : List A → F) (steps : (ys : List A) (x : A) → step (with ys) x ≡ with (ys ++ x ∷ [])) where
+  gathered : (ys xs : List A) → fold step (with ys) xs ≡ with (ys ++ xs)
+  gathered ys [] = ap with (sym (append-nil ys))
+  gathered ys (x ∷ xs) =
+      ap (λ f. fold step f xs) (steps ys x) ∙ gathered (ys ++ x ∷ []) xs ∙ ap with (append_assoc ys (x ∷ []) xs)
+
+  pub gathered_on : (a b : F) (xs : List A) → a ≡ with [] → b ≡ fold step a xs → b ≡ with xs
+  gathered_on a b xs start is = is ∙ ap (λ f. fold step f xs) start ∙ gathered [] xs
+
+abbrev pub and_movement : Firm → Movement → Firm
+and_movement lists movement = record lists { movements = lists.movements ++ movement ∷ [] }
+
+abbrev pub and_firm_line : Firm → FirmLine → Firm
+and_firm_line lists line = record lists { firm_lines = lists.firm_lines ++ line ∷ [] }
+
+abbrev pub and_exception : Firm → Line → Firm
+and_exception lists line = record lists { exceptions = lists.exceptions ++ line ∷ [] }
+
+abbrev pub and_balance : Firm → StatementRow → Firm
+and_balance lists row = record lists { balances = lists.balances ++ row ∷ [] }
+
+-- lists that were handed the movements, then the firm's lines, the exceptions and the balances
+pub all_gathered : (firm a b c d e : Firm) → a ≡ empty_firm → b ≡ fold and_movement a firm.movements
+    → c ≡ fold and_firm_line b firm.firm_lines → d ≡ fold and_exception c firm.exceptions
+    → e ≡ fold and_balance d firm.balances → e ≡ without_matters firm
+all_gathered firm a b c d e none moved lined noted balanced =
+    let one = gathered_on and_movement (λ ms. firm_of [] ms [] [] []) (λ ys x. refl) a b firm.movements none moved in
+    let two = gathered_on and_firm_line (λ ls. firm_of [] firm.movements ls [] []) (λ ys x. refl) b c firm.firm_lines one lined in
+    let three = gathered_on and_exception (λ es. firm_of [] firm.movements firm.firm_lines es []) (λ ys x. refl) c d firm.exceptions two noted in
+    gathered_on and_balance (λ bs. firm_of [] firm.movements firm.firm_lines firm.exceptions bs) (λ ys x. refl) d e firm.balances three balanced

@@ -1,0 +1,8 @@
+use Rattle.trust_desk.specs.Checking.{AreReads}
+use Rattle.trust_desk.proofs.unread.unread_matter.Given as goal
+
+-- so far the book was only read
+abbrev pub invariant-loop-matter : goal.invariant-loop-matter
+invariant-loop-matter g l =
+    let B = g.B.Book in
+    AreReads B.firm B.clean B.sure B.stands B.lasts B.leaves l.fn.book l.book
