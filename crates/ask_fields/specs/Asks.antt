@@ -1,5 +1,5 @@
--- The asks, each from its fields in order: the first that is not of its form is told. An ask with fields of its own has
--- the number of its entry before them.
+-- How asks are made from their fields, in order: the first invalid field is reported. If an ask has fields besides its
+-- entry, the number of the entry comes first.
 use Rattle.std.specs.Prelude.{ℕ, List, Option, Some, None, Result, Ok, Err}
 use Rattle.trust_base.specs.declared.refusal.Field.{Field}
 use Rattle.trust_base.specs.declared.refusal.Field.TheVariants as field
@@ -86,6 +86,6 @@ splitting way number (Some part) = Ok (way (record { number = number; to_client 
 
 -- ---- asks of an entry alone
 
--- to cancel a deposit, to approve, decline or void a payment, or to show an entry, by the text of its number
+-- to cancel a deposit, to approve, decline or void a payment, or to show an entry, given the text of its number
 abbrev pub naming : (ℕ → Ask) → List ℕ → Result Ask Field
 naming way bs = of_entry bs (λ number. Ok (way number))

@@ -1,4 +1,4 @@
--- The fields of asks: their values, by their texts.
+-- The fields of asks: their values, from their texts.
 use Rattle.std.specs.Prelude.{◌≡◌, ℕ, List, codes, Option, Some, None, option_map, option_and_then, Result, Ok, Err, if◌then◌else◌, ⊤}
 use Rattle.std.specs.Option.{ok_or}
 use Rattle.std.specs.Str.{bytes_eq}
@@ -18,20 +18,20 @@ use Rattle.matter_bodies.specs.Values.{role_name}
 
 -- ---- what was read
 
--- what is wanted was read, or its fault was told, or memory was refused
+-- what was wanted was read, or its invalid field was reported, or memory ran out
 abbrev pub Reads : {T : Type 0} → Result T Field → Result T Refusal → Type 0
 Reads wanted (Ok x) = wanted ≡ Ok x
 Reads wanted (Err (BadField f)) = wanted ≡ Err f
 Reads wanted (Err Memory) = ⊤
 Reads wanted (Err _) = ⊥
 
--- ---- the entry, which comes before all other fields
+-- ---- the entry, which is checked before all other fields
 
 abbrev pub of_number : {T : Type 0} → Option ℕ → (ℕ → Result T Field) → Result T Field
 of_number None asked = Err field.Entry
 of_number (Some number) asked = asked number
 
--- what is asked of the entry of a text
+-- what is asked of the entry whose number is written as these bytes
 abbrev pub of_entry : {T : Type 0} → List ℕ → (ℕ → Result T Field) → Result T Field
 of_entry bs asked = of_number (entry_of bs) asked
 
@@ -43,9 +43,9 @@ role_of bs =
     else if bytes_eq bs (role_name role.Lawyer) then Some role.Lawyer
     else None
 
--- ---- the fund of a payment: its kind is told first, and then the entry that it is of
+-- ---- the fund of a payment: its kind is checked first, then the entry that it is
 
--- the general fund, which is of no entry
+-- the general fund, which has no entry
 abbrev pub general_of : Option (List ℕ) → Option Fund
 general_of None = Some fund.General
 general_of (Some of) = None
@@ -57,14 +57,14 @@ fund_in from of =
     else if bytes_eq from (codes "claim") then ok_or (option_map fund.Claim (option_and_then entry_of of)) field.Of
     else Err field.From
 
--- ---- what a claim is on: its kind is told first, then the fee that it is on, then who claims
+-- ---- what a claim is on: its kind is checked first, then the fee that it is on, then who claims
 
--- the general fund, of no entry, by a claimant
+-- on the general fund: there is a claimant and no entry
 abbrev pub on_general : Option (List ℕ) → Option (List ℕ) → Result Against Field
 on_general (Some of) claimant = Err field.Of
 on_general None claimant = ok_or (option_map against.General (option_and_then label_of claimant)) field.Claimant
 
--- a fee, by its entry, which the client claims: nobody is named
+-- on a fee: there is an entry and no claimant, since the client claims it
 abbrev pub on_fee : Option ℕ → Option (List ℕ) → Result Against Field
 on_fee None claimant = Err field.Of
 on_fee (Some number) (Some claimant) = Err field.Claimant

@@ -19,14 +19,14 @@ pub struct ClaimTexts<'a> {
     pub amount: &'a [u8],
     /// What it is on: `general`, the general fund, or `fee`.
     pub on: &'a [u8],
-    /// The number of the fee; none on the general fund.
+    /// The number of the fee; None on the general fund.
     pub of: Option<&'a [u8]>,
-    /// Who claims on the general fund; none on a fee.
+    /// Who claims on the general fund; None on a fee.
     pub claimant: Option<&'a [u8]>,
     pub reason: &'a [u8],
 }
 
-// The general fund, of no entry, by a claimant.
+// Reads a claim on the general fund: there is a claimant and no entry.
 fn read_on_general(
     alloc: Global,
     of: Option<&[u8]>,
@@ -46,7 +46,7 @@ fn read_on_general(
     }
 }
 
-// A fee, by its entry, with no claimant.
+// Reads a claim on a fee: there is an entry and no claimant.
 fn read_on_fee(of: Option<&[u8]>, claimant: Option<&[u8]>) -> Result<Against, Refusal>
     ensures { Reads (on_fee (option_and_then entry_of (option_copied of.entry)) (option_copied claimant.entry)) result }
 {
@@ -59,7 +59,7 @@ fn read_on_fee(of: Option<&[u8]>, claimant: Option<&[u8]>) -> Result<Against, Re
     }
 }
 
-// What a claim is on.
+// Reads what a claim is on.
 fn read_against(
     alloc: Global,
     on: &[u8],
@@ -77,7 +77,7 @@ fn read_against(
     }
 }
 
-/// To raise a claim under a number.
+/// Reads an ask to raise a claim under a number.
 pub fn read_claiming(alloc: Global, number: EntryNo, texts: &ClaimTexts<'_>) -> Result<Ask, Refusal>
     ensures { Reads (claiming number (amount_of texts.now.amount.now)
         (against_in texts.now.on.now (option_copied texts.now.of) (option_copied texts.now.claimant))
@@ -98,7 +98,7 @@ pub fn read_claiming(alloc: Global, number: EntryNo, texts: &ClaimTexts<'_>) -> 
     }))
 }
 
-/// To offer a part of the claim of that number to the client. Takes no memory.
+/// Reads an ask to offer the client a part of the claim with this number. Allocates nothing.
 pub fn read_offering(number: EntryNo, to_client: &[u8]) -> Result<Ask, Refusal>
     ensures value { Reads (splitting ask.Offer number (amount_or_zero_of to_client.now)) result }
     ensures memory { IfErr result (λ why. why ≢ Refusal.Memory) }
@@ -109,7 +109,7 @@ pub fn read_offering(number: EntryNo, to_client: &[u8]) -> Result<Ask, Refusal>
     }
 }
 
-/// To accept the part of the claim of that number that is offered. Takes no memory.
+/// Reads an ask to accept the offered part of the claim with this number. Allocates nothing.
 pub fn read_accepting(number: EntryNo, to_client: &[u8]) -> Result<Ask, Refusal>
     ensures value { Reads (splitting ask.Accept number (amount_or_zero_of to_client.now)) result }
     ensures memory { IfErr result (λ why. why ≢ Refusal.Memory) }
@@ -120,7 +120,7 @@ pub fn read_accepting(number: EntryNo, to_client: &[u8]) -> Result<Ask, Refusal>
     }
 }
 
-/// To award a part of the claim of that number to the client. Takes no memory.
+/// Reads an ask to award the client a part of the claim with this number. Allocates nothing.
 pub fn read_awarding(number: EntryNo, to_client: &[u8]) -> Result<Ask, Refusal>
     ensures value { Reads (splitting ask.Award number (amount_or_zero_of to_client.now)) result }
     ensures memory { IfErr result (λ why. why ≢ Refusal.Memory) }

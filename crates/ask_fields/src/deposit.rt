@@ -12,7 +12,7 @@ use std::alloc::Global;
 use trust_base::{Cents, EntryNo, Field, Label, Refusal};
 use trust_matter::{Ask, DepositAsk};
 
-/// To book a deposit under a number.
+/// Reads an ask to book a deposit under a number.
 pub fn read_depositing(
     alloc: Global,
     number: EntryNo,
@@ -39,7 +39,7 @@ pub fn read_depositing(
     }))
 }
 
-/// To cancel the deposit of that number. Takes no memory.
+/// Reads an ask to cancel the deposit with this number. Allocates nothing.
 pub fn read_cancelling(number: &[u8]) -> Result<Ask, Refusal>
     ensures value { Reads (naming ask.CancelDeposit number.now) result }
     ensures memory { IfErr result (λ why. why ≢ Refusal.Memory) }

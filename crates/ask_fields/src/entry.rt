@@ -9,14 +9,14 @@ ghost use Rattle.ask_fields.specs.Fields.{Reads};
 use trust_base::{EntryNo, Field, Refusal};
 use trust_matter::Ask;
 
-/// The refusal of a field that is not of its form.
+/// The refusal of an invalid field.
 pub fn bad(field: Field) -> Refusal
     ensures { result ≡ Refusal.BadField field }
 {
     Refusal::BadField(field)
 }
 
-/// The number of the entry of a text. Takes no memory.
+/// Parses the number of an entry. Allocates nothing.
 pub fn read_entry(text: &[u8]) -> Result<EntryNo, Refusal>
     ensures ok { IfOk result (λ number. entry_of text.now ≡ Some number) }
     ensures err { IfErr result (λ why. (why ≡ Refusal.BadField Field.Entry) × (entry_of text.now ≡ None)) }
@@ -27,7 +27,7 @@ pub fn read_entry(text: &[u8]) -> Result<EntryNo, Refusal>
     }
 }
 
-/// To show the entry of that number. Takes no memory.
+/// Reads an ask to show the entry with this number. Allocates nothing.
 pub fn read_showing(number: &[u8]) -> Result<Ask, Refusal>
     ensures value { Reads (naming ask.ShowEntry number.now) result }
     ensures memory { IfErr result (λ why. why ≢ Refusal.Memory) }

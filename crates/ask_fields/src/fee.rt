@@ -10,7 +10,7 @@ use std::alloc::Global;
 use trust_base::{Cents, EntryNo, Field, Label, Refusal};
 use trust_matter::{Ask, FeeAsk};
 
-/// To set apart a fee under a number.
+/// Reads an ask to set apart a fee under a number.
 pub fn read_earning(
     alloc: Global,
     number: EntryNo,

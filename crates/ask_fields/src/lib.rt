@@ -1,9 +1,9 @@
-//! What is asked of a matter, read from the texts of its fields, whoever hands them in. The errors of each reader are
-//! the first field that is not of its form, and want of memory.
+//! Reads asks of a matter from the texts of their fields, wherever these come from. A reader's errors are the first
+//! invalid field, and out of memory.
 //!
-//! The matter comes before all fields, then the entry, then the others in the order of a reader's parameters. Asks to
-//! close a matter, to purge it and to show it have no fields. A missing field is given as the empty text, which is of
-//! no field's form; only where a missing one is good, as `of` and `claimant`, the two are told apart.
+//! The matter is checked before all fields, then the entry, then the other fields in the order of the reader's
+//! parameters. Asks to close, purge or show a matter have no fields. Pass an empty text for a missing field; no field
+//! accepts it. Fields that may be missing, such as `of` and `claimant`, are `Option`.
 #![tactic(auto)]
 
 mod claim;

@@ -19,14 +19,14 @@ pub struct PaymentTexts<'a> {
     pub amount: &'a [u8],
     /// The kind of its fund: `general`, `fee` or `claim`.
     pub from: &'a [u8],
-    /// The number of the fee or claim that it is from; none from the general fund.
+    /// The number of the fee or claim that it is from; None for the general fund.
     pub of: Option<&'a [u8]>,
     pub payee: &'a [u8],
     pub purpose: &'a [u8],
     pub instrument: &'a [u8],
 }
 
-// The general fund, which is of no entry.
+// Reads the general fund, which has no entry.
 fn read_general(of: Option<&[u8]>) -> Option<Fund>
     ensures { result ≡ general_of (option_copied of.entry) }
 {
@@ -36,7 +36,7 @@ fn read_general(of: Option<&[u8]>) -> Option<Fund>
     }
 }
 
-// The fund of a payment, by its kind and the entry that it is of.
+// Reads the fund of a payment, from its kind and its entry.
 fn read_fund(from: &[u8], of: Option<&[u8]>) -> Result<Fund, Refusal>
     ensures { Reads (fund_in from.now (option_copied of.entry)) result }
 {
@@ -52,7 +52,7 @@ fn read_fund(from: &[u8], of: Option<&[u8]>) -> Result<Fund, Refusal>
     fund.ok_or(bad(Field::Of))
 }
 
-/// To propose a payment under a number.
+/// Reads an ask to propose a payment under a number.
 pub fn read_proposing(
     alloc: Global,
     number: EntryNo,
@@ -85,7 +85,7 @@ pub fn read_proposing(
     }))
 }
 
-/// To approve the payment of that number. Takes no memory.
+/// Reads an ask to approve the payment with this number. Allocates nothing.
 pub fn read_approving(number: &[u8]) -> Result<Ask, Refusal>
     ensures value { Reads (naming ask.Approve number.now) result }
     ensures memory { IfErr result (λ why. why ≢ Refusal.Memory) }
@@ -96,7 +96,7 @@ pub fn read_approving(number: &[u8]) -> Result<Ask, Refusal>
     }
 }
 
-/// To decline the payment of that number. Takes no memory.
+/// Reads an ask to decline the payment with this number. Allocates nothing.
 pub fn read_declining(number: &[u8]) -> Result<Ask, Refusal>
     ensures value { Reads (naming ask.Decline number.now) result }
     ensures memory { IfErr result (λ why. why ≢ Refusal.Memory) }
@@ -107,7 +107,7 @@ pub fn read_declining(number: &[u8]) -> Result<Ask, Refusal>
     }
 }
 
-/// To void the payment of that number. Takes no memory.
+/// Reads an ask to void the payment with this number. Allocates nothing.
 pub fn read_voiding(number: &[u8]) -> Result<Ask, Refusal>
     ensures value { Reads (naming ask.VoidPayment number.now) result }
     ensures memory { IfErr result (λ why. why ≢ Refusal.Memory) }

@@ -22,7 +22,7 @@ fn read_role(text: &[u8]) -> Option<Role>
     }
 }
 
-/// To open a matter for a client with a lawyer.
+/// Reads an ask to open a matter for a client with a lawyer.
 pub fn read_opening(alloc: Global, client: &[u8], lawyer: &[u8]) -> Result<Ask, Refusal>
     ensures { Reads (opening (label_of client.now) (person_of lawyer.now)) result }
 {
@@ -35,7 +35,7 @@ pub fn read_opening(alloc: Global, client: &[u8], lawyer: &[u8]) -> Result<Ask, 
     Ok(Ask::OpenMatter(OpenAsk { client, lawyer }))
 }
 
-/// To seat a person in a role, `client` or `lawyer`.
+/// Reads an ask to seat a person in a role, `client` or `lawyer`.
 pub fn read_seating(alloc: Global, person: &[u8], role: &[u8]) -> Result<Ask, Refusal>
     ensures { Reads (seating (person_of person.now) (role_of role.now)) result }
 {
@@ -48,7 +48,7 @@ pub fn read_seating(alloc: Global, person: &[u8], role: &[u8]) -> Result<Ask, Re
     Ok(Ask::AddSeat(Seat { person, role }))
 }
 
-/// To drop a person's seat.
+/// Reads an ask to drop a person's seat.
 pub fn read_dropping(alloc: Global, person: &[u8]) -> Result<Ask, Refusal>
     ensures { Reads (dropping (person_of person.now)) result }
 {

@@ -1,9 +1,9 @@
-// Numbers of a fixed count of digits.
+// Numbers written with a fixed count of digits.
 
 ghost use Rattle.std.specs.Prelude.{◌≡◌, ◌≢◌, ℕ, ◌^◌, ◌<◌, ◌≤◌, length, IfSome, IfNone};
 ghost use Rattle.byte_streams.specs.Digits.{fixed_digits};
 
-/// The number that a text of digits alone writes, at most nine of them.
+/// Parses a number of at most nine digits. Returns None if any byte is not a digit.
 pub fn read_fixed(text: &[u8]) -> Option<u32>
     requires { length text.now ≤ 9 }
     ensures below { IfSome result (λ n. n < 10 ^ length text.now) }

@@ -10,16 +10,16 @@ use std::io::Read;
 /// Why an input was not read.
 #[derive(Clone, Copy, PartialEq, Eq, Debug)]
 pub enum InputFault {
-    /// A read failed, an interrupted one too.
+    /// A read failed. An interrupted read counts as failed.
     Reader,
-    /// The growth of the bytes read was refused.
+    /// Out of memory for the bytes read.
     Memory,
 }
 
-/// The bytes of a whole input, or none exactly where it has more than `limit` bytes.
+/// Reads an input to its end. Returns None if it has more than `limit` bytes.
 ///
-/// `limit` is below 2^63. At most `limit` + 1 reads are made. At a fault no more than `limit` bytes were taken from the
-/// reader; of a longer input up to 4,096 bytes past the limit may have been taken.
+/// `limit` is below 2^63. Makes at most `limit` + 1 reads. On an error, at most `limit` bytes were taken from the
+/// reader. If the input is too long, up to 4,096 bytes past the limit may have been taken.
 pub fn read_whole<R: Read>(
     alloc: Global,
     reader: &mut R,

@@ -1,4 +1,4 @@
-// Writing a text.
+// Writing bytes to the end.
 
 ghost use Rattle.std.specs.Prelude.{ℕ, ◌<◌, length, take, OnOk, OnErr};
 ghost use Rattle.std.specs.Io.KnownBytes.{Appends};
@@ -9,8 +9,8 @@ use std::io::Write;
 #[derive(Clone, Copy, PartialEq, Eq, Debug)]
 pub struct WriteFault;
 
-/// Writes a text, by one write after another. Any error of a write is a fault, an interrupted one
-/// too, and so is a write that takes no byte. At a fault a front of the text was written.
+/// Writes all of `text`, in as many writes as it takes. Any failed write is a fault, even an interrupted one, and so is
+/// a write of zero bytes. On a fault, only the first bytes of `text` were written.
 pub fn send<W: Write>(writer: &mut W, text: &[u8]) -> Result<(), WriteFault>
     ensures ok { OnOk result (Appends (W.contents writer.old) (W.contents writer.new) text.now) }
     ensures err { OnErr result ((n : ℕ) × (n < length text.now)

@@ -1,10 +1,10 @@
-// Bytes that are owned.
+// Owned bytes.
 
 ghost use Rattle.std.specs.Prelude.{◌≡◌, List, ℕ};
 
 use std::marker::Model;
 
-/// Bytes of whatever form, owned: a body, a text, a statement. Contracts see it as the list of these bytes.
+/// Owned bytes of any content: a body, a text, a statement. Contracts see them as the list of these bytes.
 #[derive(Debug, Drop)]
 pub struct OwnedBytes {
     bytes: Vec<u8>,
@@ -17,7 +17,7 @@ impl Model for OwnedBytes {
 }
 
 impl OwnedBytes {
-    /// These bytes. Takes no memory.
+    /// Wraps these bytes. Allocates nothing.
     pub fn new(bytes: Vec<u8>) -> OwnedBytes
         ensures { result ≡ bytes.items }
     {
@@ -31,7 +31,7 @@ impl OwnedBytes {
         self.bytes.as_slice()
     }
 
-    /// The bytes, on their own. Takes no memory.
+    /// Unwraps the bytes. Allocates nothing.
     pub fn into_vec(self) -> Vec<u8>
         ensures { result.items ≡ self }
     {

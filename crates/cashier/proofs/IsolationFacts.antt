@@ -14,9 +14,9 @@ use Rattle.trust_matter.specs.declared.ask.Ask.{Ask}
 use Rattle.firm_rows.specs.Firm.{Firm, of}
 use Rattle.trust_desk.specs.Heard.{concerns, is_the, names}
 use Rattle.trust_desk.proofs.Own.{other-rows, same-reply, same-rows}
-use Rattle.cashier.specs.Records.{ask_of, asked_of, by_cashier, dismissing, dismissing_in, is_dismissal, of_matter, of_verb, text_at, verb_in}
-use Rattle.cashier.specs.Sheet.{OwnRecordsAlone, heard_as, heard_of, lines_at, lines_from, names_matter, record_step, reply_line}
-use Rattle.cashier.specs.declared.record.Verb.{Verb}
+use Rattle.cashier_remarks.specs.Records.{ask_of, asked_of, by_cashier, dismissing, dismissing_in, heard_as, heard_of, is_dismissal, of_matter, of_verb, text_at, verb_in}
+use Rattle.cashier.specs.Sheet.{OwnRecordsAlone, lines_at, lines_from, names_matter, record_step, reply_line}
+use Rattle.cashier_remarks.specs.declared.record.Verb.{Verb}
 
 -- ---- the matter of a record is that of what the desk hears
 

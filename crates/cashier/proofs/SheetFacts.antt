@@ -1,6 +1,5 @@
 -- What the lines of a sheet are, record after record.
 use Rattle.std.proofs.Common.{◌≡◌, ◌≢◌, ◌∙◌, ◌<◌, ◌≤◌, ◌+◌, ◌++◌, nat_lt, IfSome, ◌∷◌, ◌&&◌, ◌||◌, not, cond, ℕ, Bool, true, false, List, [], length, take, Option, Some, None, Result, Ok, Err, inl, inr, refl, sym, ap, arith, append_assoc, length-append}
-use Rattle.std.specs.Prelude.{⊤}
 use Rattle.std.proofs.Math.Seq.{take-append-add, take-append_seam}
 use Rattle.std.proofs.KnownBytes.{Appends-trans}
 use Rattle.std.proofs.lemmas.Bool.Decides.{nat_tests}
@@ -8,28 +7,19 @@ use Rattle.std.proofs.lemmas.List.{append-nil, take-append-le}
 use Rattle.std.specs.Io.KnownBytes.{Appends}
 use Rattle.std.specs.List.{concat}
 use Rattle.trust_base.specs.Refusals.{is_fault}
-use Rattle.trust_base.specs.Texts.{matter_of}
-use Rattle.statement_csv.specs.Lines.{line_of_texts}
-use Rattle.trust_base.specs.declared.line.Line.{Line}
-use Rattle.trust_base.specs.declared.refusal.Field.{Field}
-use Rattle.trust_base.specs.declared.refusal.Field.TheVariants as field
 use Rattle.trust_base.specs.declared.refusal.Refusal.{Refusal}
-use Rattle.trust_base.specs.declared.refusal.Refusal.TheVariants.{BadField, Store, Memory}
+use Rattle.trust_base.specs.declared.refusal.Refusal.TheVariants.{Store, Memory}
 use Rattle.firm_rows.specs.Firm.{Firm}
 use Rattle.trust_desk.specs.Counts.{counted_body, counted_refusal}
-use Rattle.trust_desk.specs.FirmStep.{KindStopped, Steps, firm_step}
-use Rattle.trust_desk.specs.Heard.{Asks, Dismisses, Heard, Kind, NotRead, OfItems, OfMatter, OnlyTold, Unread, kind_of}
+use Rattle.trust_desk.specs.FirmStep.{Steps, firm_step}
+use Rattle.trust_desk.specs.Heard.{Heard}
 use Rattle.trust_desk.specs.Replies.{is_fault_body, is_fault_reply, refused}
 use Rattle.trust_desk.specs.declared.requests.Body.{Body}
 use Rattle.trust_desk.specs.declared.requests.Body.TheVariants.{Json, Refused, Text}
 use Rattle.trust_desk.specs.declared.requests.Reply.{Reply}
-use Rattle.trust_desk.specs.declared.requests.Request.{Request}
-use Rattle.trust_desk.proofs.Steps.{nothing-done, steps-fault as steps-stopped}
-use Rattle.trust_matter.specs.declared.ask.Ask.{Ask}
-use Rattle.ask_fields.specs.Fields.{Reads}
-use Rattle.cashier.specs.Records.{ask_of, asked_of, by_cashier, dismissing, dismissing_in, has_dismissal_form, is_dismissal, of_matter, of_verb, text_at, verb_in}
-use Rattle.cashier.specs.declared.record.Verb.{Verb}
-use Rattle.cashier.specs.Sheet.{Cut, CutsLine, Ends, LargeEnds, Leaves, RunEnds, sheet_records, all_accepted, body_line, body_kind, end_of, firm_from, heard_as, heard_of, is_accepting, lines_from, ran_by, record_step, refusal_kind, refusal_line, reply_kind, reply_line, IsCounted, RecordEnds}
+use Rattle.cashier_remarks.specs.Records.{heard_of}
+use Rattle.cashier_remarks.proofs.RecordFacts.{steps-fault}
+use Rattle.cashier.specs.Sheet.{Cut, CutsLine, Ends, LargeEnds, Leaves, RunEnds, sheet_records, all_accepted, body_line, body_kind, end_of, firm_from, is_accepting, lines_from, ran_by, record_step, refusal_kind, refusal_line, reply_kind, reply_line, IsCounted, RecordEnds}
 use Rattle.cashier.specs.declared.sheet.SheetEnd.{SheetEnd}
 use Rattle.cashier.specs.declared.sheet.SheetEnd.TheVariants as end
 use Rattle.cashier.specs.declared.reply_kind.ReplyKind.{ReplyKind}
@@ -93,71 +83,7 @@ accepted-push day firm (p ∷ past) r = by (is_accepting (record_step day firm p
 pub first_records : (all past rest : List (List (List ℕ))) → past ++ rest ≡ all → take (length past) all ≡ past
 first_records all past rest e = rw (← e) (take-append_seam past rest)
 
--- ---- what the desk hears
-
-pub heard-read : (fields : List (List ℕ)) (request : Request) → asked_of fields ≡ Ok request → heard_of fields ≡ Asks request
-unfolding heard_of
-heard-read fields request e = ap (λ (o : Result Request Field). heard_as o (matter_of (text_at fields 1))) e
-
-heard-bad : (fields : List (List ℕ)) (f : Field) → asked_of fields ≡ Err f → heard_of fields ≡ Unread (matter_of (text_at fields 1)) (BadField f)
-unfolding heard_of
-heard-bad fields f e = ap (λ (o : Result Request Field). heard_as o (matter_of (text_at fields 1))) e
-
--- it brings no items of a statement
-abbrev IsNoImport : Kind → Type 0
-IsNoImport (OfMatter m caller a) = ⊤
-IsNoImport (OfItems refused items) = ⊥
-IsNoImport (Dismisses caller line) = ⊤
-IsNoImport (OnlyTold text) = ⊤
-IsNoImport (NotRead named r) = ⊤
-
--- no record asks for an import
-by_cashier-none : (n : ℕ) (asked : Result Ask Field) (named : Option ℕ) → IsNoImport (kind_of (heard_as (by_cashier n asked) named))
-by_cashier-none n (Err f) named = tt
-by_cashier-none n (Ok a) named = tt
-
-of_matter-none : (read : Option ℕ) (asked : Result Ask Field) (named : Option ℕ) → IsNoImport (kind_of (heard_as (of_matter read asked) named))
-of_matter-none None asked named = tt
-of_matter-none (Some n) asked named = by_cashier-none n asked named
-
-of_verb-none : (verb : Option Verb) (fields : List (List ℕ)) (named : Option ℕ) → IsNoImport (kind_of (heard_as (of_verb verb fields) named))
-of_verb-none None fields named = tt
-of_verb-none (Some v) fields named = of_matter-none (matter_of (text_at fields 1)) (ask_of v fields) named
-
-dismissing-none : (line : Option Line) (named : Option ℕ) → IsNoImport (kind_of (heard_as (dismissing line) named))
-dismissing-none None named = tt
-dismissing-none (Some line) named = tt
-
-dismissal-none : (b : Bool) (line : Option Line) (named : Option ℕ) → IsNoImport (kind_of (heard_as (cond b (dismissing line) (Err field.Record)) named))
-dismissal-none true line named = dismissing-none line named
-dismissal-none false line named = tt
-
-record-none : (fields : List (List ℕ)) → IsNoImport (kind_of (heard_of fields))
-unfolding heard_of asked_of
-record-none fields = cases (is_dismissal fields)
-  where
-    cases : (b : Bool) → IsNoImport (kind_of (heard_as (cond b (dismissing_in fields) (of_verb (verb_in fields) fields)) (matter_of (text_at fields 1))))
-    cases true = dismissal-none (has_dismissal_form fields) (line_of_texts (text_at fields 3) (text_at fields 4) (text_at fields 5) (text_at fields 6) (text_at fields 7)) (matter_of (text_at fields 1))
-    cases false = of_verb-none (verb_in fields) fields (matter_of (text_at fields 1))
-
--- a record that could not be read is refused, and changes nothing
-pub refused-step : (day : ℕ) (firm : Firm) (fields : List (List ℕ)) (r : Refusal) → Reads (asked_of fields) (Err r) → Steps day firm (heard_of fields) (refused r) firm
-refused-step day firm fields (BadField f) h = rw (heard-bad fields f h) (refl, refl)
-refused-step day firm fields Memory h = steps-stopped day firm firm (heard_of fields) Memory refl (nothing-done day firm (heard_of fields))
-refused-step day firm fields _ h = absurd h
-
 -- ---- what replies say
-
-stopped-is : (day : ℕ) (firm after : Firm) (k : Kind) → IsNoImport k → KindStopped day firm k after → after ≡ firm
-stopped-is day firm after (OfMatter m caller a) none s = s
-stopped-is day firm after (OfItems refused items) none s = absurd none
-stopped-is day firm after (Dismisses caller line) none s = s
-stopped-is day firm after (OnlyTold text) none s = s
-stopped-is day firm after (NotRead named r) none s = s
-
-steps-fault : (day : ℕ) (firm after : Firm) (fields : List (List ℕ)) (reply : Reply) → is_fault_reply reply ≡ true → Steps day firm (heard_of fields) reply after
-    → after ≡ firm
-steps-fault day firm after fields reply e steps = let stopped = rw e at steps in stopped-is day firm after (kind_of (heard_of fields)) (record-none fields) stopped.leaves
 
 pub steps-plain : (day : ℕ) (firm after : Firm) (h : Heard) (reply : Reply) → is_fault_reply reply ≡ false → Steps day firm h reply after
     → (reply ≡ (firm_step day firm h).reply) × (after ≡ (firm_step day firm h).firm)

@@ -1,6 +1,6 @@
 -- What a crash leaves of a sheet.
 use Rattle.std.proofs.Common.{◌≡◌, ◌∙◌, ◌<◌, ◌≤◌, ◌++◌, ◌∷◌, ◌⊎◌, nat_lt, ℕ, Bool, true, false, List, [], length, take, Option, Some, None, Result, Ok, Err, IfSome, inl, inr, refl, sym, ap, subst, arith}
-use Rattle.std.specs.Prelude.{⊤, IsOk}
+use Rattle.std.specs.Prelude.{IsOk}
 use Rattle.std.proofs.KnownBytes.{Appends-nil, Appends-trans}
 use Rattle.std.proofs.lemmas.Bool.Decides.{nat_tests}
 use Rattle.std.proofs.lemmas.List.{append-nil}
@@ -13,36 +13,21 @@ use Rattle.firm_rows.specs.Firm.{Firm}
 use Rattle.trust_store.specs.Crashes.{LeavesAlone}
 use Rattle.trust_desk.specs.Crashes.{IsMade, MayLeave}
 use Rattle.trust_desk.specs.FirmStep.{Steps, firm_step}
-use Rattle.trust_desk.specs.Heard.{Asks, Heard}
-use Rattle.trust_desk.specs.Replies.{is_fault_body, is_fault_reply, refused}
+use Rattle.trust_desk.specs.Heard.{Heard}
+use Rattle.trust_desk.specs.Replies.{is_fault_body, is_fault_reply}
 use Rattle.trust_desk.specs.declared.requests.Body.{Body}
 use Rattle.trust_desk.specs.declared.requests.Body.TheVariants.{Json, Refused, Text}
 use Rattle.trust_desk.specs.declared.requests.Reply.{Reply}
-use Rattle.trust_desk.specs.declared.requests.Request.{Request}
-use Rattle.trust_desk.proofs.Crashes.{leave-as, leave-still}
+use Rattle.trust_desk.proofs.Crashes.{leave-as}
 use Rattle.trust_desk.proofs.MadeRows.{plain-step}
-use Rattle.ask_fields.specs.Fields.{Reads}
-use Rattle.cashier.specs.Records.{asked_of}
+use Rattle.cashier_remarks.specs.Records.{heard_of}
 use Rattle.cashier.specs.Sent.{IsSent}
-use Rattle.cashier.specs.Sheet.{IsBehindLines, IsNextMade, IsWhole, LargeEnds, LinesAreKept, TellsLine, body_kind, body_line, firm_from, heard_of, lines_from, ran_by, record_step, records_run, refusal_line, reply_kind, reply_line, sheet_records}
+use Rattle.cashier.specs.Sheet.{IsBehindLines, IsWhole, LargeEnds, LinesAreKept, TellsLine, body_kind, body_line, firm_from, lines_from, ran_by, record_step, records_run, refusal_line, reply_kind, reply_line, sheet_records}
 use Rattle.cashier.specs.declared.sheet.SheetEnd.{SheetEnd}
 use Rattle.cashier.specs.declared.sheet.SheetEnd.TheVariants as end
-use Rattle.cashier.proofs.SheetFacts.{SoFar, ends-other, goes-body, heard-read, refused-step, steps-plain}
+use Rattle.cashier.proofs.SheetFacts.{SoFar, ends-other, goes-body, steps-plain}
 
 -- One record.
-
-pub record-asked : {B : Type 0} {clean : B → Type 0} {leaves : B → Firm → Type 0} (day : ℕ) (firm : Firm) (old new : B) (fields : List (List ℕ)) (request : Request) (reply : Reply) → asked_of fields ≡ Ok request
-    → MayLeave clean leaves (is_fault_reply reply ≡ false) (IsMade day firm (Asks request)) firm (firm_step day firm (Asks request)).firm old new
-    → MayLeave clean leaves (is_fault_reply reply ≡ false) (IsMade day firm (heard_of fields)) firm (firm_step day firm (heard_of fields)).firm old new
-record-asked {clean} {leaves} day firm old new fields request reply e may =
-    subst (λ (h : Heard). MayLeave clean leaves (is_fault_reply reply ≡ false) (IsMade day firm h) firm (firm_step day firm h).firm old new) (sym (heard-read fields request e)) may
-
--- a record that could not be read changes nothing
-pub record-refused : {B : Type 0} {clean : B → Type 0} {leaves : B → Firm → Type 0} (day : ℕ) (firm : Firm) (b : B) (fields : List (List ℕ)) (why : Refusal) (reply : Reply) → Reads (asked_of fields) (Err why) → reply ≡ refused why
-    → MayLeave clean leaves (is_fault_reply reply ≡ false) (IsMade day firm (heard_of fields)) firm (firm_step day firm (heard_of fields)).firm b b
-record-refused day firm b fields why reply unread is =
-    let step = subst (λ (x : Reply). Steps day firm (heard_of fields) x firm) (sym is) (refused-step day firm fields why unread) in
-    leave-as {done = ⊤} (λ fine. tt) (λ found made. made) (λ fine. sym (plain-step day firm firm (heard_of fields) reply fine step)) (leave-still firm b)
 
 -- a record that lets the run go on was answered by no fault
 pub goes-plain : (reply : Reply) (ran : Result Bool SheetEnd) → ran ≡ ran_by (reply_kind reply) → IsOk ran → is_fault_reply reply ≡ false

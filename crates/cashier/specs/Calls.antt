@@ -7,9 +7,10 @@ use Rattle.command_line.specs.Program.{MeansCheck}
 use Rattle.cashier.specs.declared.outcome.Outcome.{Outcome}
 use Rattle.cashier.specs.declared.outcome.Outcome.TheVariants as outcome
 
--- what its store is sure of now it was sure of before, and where it serves now it served before; where it stood for a
--- sound firm it still does; what a crash leaves still lasts, and its count of faults went as the end of the run tells,
--- both where it is sure, also if a fault has shut it before the run or in it, and where it stood if it served
+-- if the store is sure now it was sure before, and if it is clean now it was clean before; a book that stood for a
+-- sound firm still does; if the store is sure, and stood for a sound firm if it was clean, then what a crash leaves
+-- still lasts, and its count of faults changed as the end of the run says, even if a fault shut the store before or
+-- during the run
 pub record LeavesBook {B : Type 0} (clean sure stands lasts : B → Type 0) (refusals : B → ℕ)
     (Goes : ℕ → ℕ → Type 0) (old new : B) : Type 0 where
   pub was_clean : clean new → clean old
@@ -22,14 +23,14 @@ pub record LeavesBook {B : Type 0} (clean sure stands lasts : B → Type 0) (ref
 abbrev pub IsSame : ℕ → ℕ → Type 0
 IsSame before after = after ≡ before
 
--- the count is any
+-- the count may be anything
 abbrev pub IsAny : ℕ → ℕ → Type 0
 IsAny before after = ⊤
 
--- one more fault of the store was counted, where a run ended by it
+-- if the run ended because of the store, one more of its faults was counted
 abbrev pub CountsStore : {E : Type 0} → E → E → ℕ → ℕ → Type 0
 CountsStore store end before after = end ≡ store → after ≡ counted_fault faults.Store before
 
--- the same of a run of words; of a check, which goes on where the store was at fault, the count is any
+-- the same for a run of words; for a check, which goes on after a fault of the store, the count may be anything
 abbrev pub CountsStoreIn : List Text → Outcome → ℕ → ℕ → Type 0
 CountsStoreIn words told before after = CountsStore outcome.StoreFault told before after ⊎ MeansCheck words

@@ -25,7 +25,7 @@ use Rattle.cashier.specs.declared.outcome.Outcome.TheVariants as outcome
 
 -- ---- texts
 
--- the line of a count
+-- the line for a count
 abbrev pub count_text : CountedRow → ℕ → List ℕ
 count_text counted.Matters n = codes "MATTERS " ++ (decimal n ++ codes "\n")
 count_text counted.Entries n = codes "ENTRIES " ++ (decimal n ++ codes "\n")
@@ -34,19 +34,19 @@ count_text counted.FirmLines n = codes "FIRM LINES " ++ (decimal n ++ codes "\n"
 count_text counted.Exceptions n = codes "EXCEPTIONS " ++ (decimal n ++ codes "\n")
 count_text counted.Balances n = codes "BALANCES " ++ (decimal n ++ codes "\n")
 
--- those of the rows of matters, and of what they moved
+-- the lines for the rows of matters and their movements
 abbrev pub matters_text : RowCounts → List ℕ
 matters_text c =
     count_text counted.Matters c.matters
     ++ (count_text counted.Entries c.entries ++ count_text counted.Movements c.movements)
 
--- those of the firm's own rows
+-- the lines for the firm's own rows
 abbrev pub firm_rows_text : RowCounts → List ℕ
 firm_rows_text c =
     count_text counted.FirmLines c.firm_lines
     ++ (count_text counted.Exceptions c.exceptions ++ count_text counted.Balances c.balances)
 
--- how many rows there are of each kind, a line each
+-- how many rows of each kind there are, one line each
 abbrev pub counts_text : RowCounts → List ℕ
 counts_text c = matters_text c ++ firm_rows_text c
 
@@ -61,7 +61,7 @@ flaw_text (flaws.FirmLine n) = codes "FIRM LINE " ++ decimal n
 flaw_text (flaws.Exception n) = codes "EXCEPTION " ++ decimal n
 flaw_text (flaws.Balance n) = codes "BALANCE " ++ decimal n
 
--- which row stands for nothing, by its table
+-- which row is invalid, with its table
 abbrev pub unread_text : Unread → List ℕ
 unread_text (unread.Matter m) = codes "MATTER " ++ matter_text m
 unread_text (unread.Head None) = codes "ROW matter_v2 FIRST"
@@ -76,7 +76,7 @@ unread_text (unread.Exception n) = codes "ROW exception " ++ decimal n
 unread_text (unread.Balance n) = codes "ROW balance " ++ decimal n
 unread_text unread.Elsewhere = codes "ROW ELSEWHERE"
 
--- what a check found
+-- the result of a check
 abbrev pub check_text : CheckFound → List ℕ
 check_text (found.Sound counts) = codes "SOUND\n" ++ counts_text counts
 check_text (found.Flawed flaw) = codes "UNSOUND\n" ++ (flaw_text flaw ++ codes "\n")
@@ -84,45 +84,45 @@ check_text (found.Unreadable row) = codes "UNSOUND\n" ++ (unread_text row ++ cod
 
 -- ---- how it ends
 
--- what is printed: what was found, or the line of the fault by which the book could not be read
+-- what is printed: the result, or the line for the fault that kept the book from being read
 abbrev pub check_line : Result CheckFound StoreFault → List ℕ
 check_line (Ok told) = check_text told
 check_line (Err fault) = refusal_line (refused_by fault)
 
--- the outcome of what was found
+-- the outcome for a result
 abbrev pub found_outcome : CheckFound → Outcome
 found_outcome (found.Sound counts) = outcome.Done
 found_outcome (found.Flawed flaw) = outcome.Refused
 found_outcome (found.Unreadable row) = outcome.Refused
 
--- the outcome of a check that was printed
+-- the outcome of a check whose result was printed
 abbrev pub check_outcome : Result CheckFound StoreFault → Outcome
 check_outcome (Ok told) = found_outcome told
 check_outcome (Err fault) = reply_outcome (refusal_kind (refused_by fault))
 
--- it was printed whole, and the run ended as that says; or a write failed, and a proper front of it was printed
+-- everything was printed, and the run ended accordingly; or a write failed, and only a prefix was printed
 abbrev pub PrintsCheck : Result CheckFound StoreFault → Option (List ℕ) → Option (List ℕ) → Outcome → Type 0
 PrintsCheck told old new ended = IsSent (check_line told) (check_outcome told) outcome.OutputFault old new ended
 
--- a check of the book: the firm stays, and what was found was printed
+-- a check of the book: the firm is unchanged, and the result was printed
 pub record CheckEnds (before after : Firm) (old new : Option (List ℕ)) (told : Outcome) : Type 0 where
   pub firm : after ≡ before
   pub found : Result CheckFound StoreFault
   pub prints : PrintsCheck found old new told
 
--- what is called sound is sound, and has so many rows
+-- what is said to be sound is sound, and has this many rows
 abbrev pub IsTrueOf : Firm → CheckFound → Type 0
 IsTrueOf firm (found.Sound counts) = FirmSound firm × AreCountsOf firm counts
 IsTrueOf firm (found.Flawed flaw) = ⊤
 IsTrueOf firm (found.Unreadable row) = ⊤
 
--- it was found sound, and that was printed
+-- it was found sound, and this was printed
 pub record IsSaid (told : Result CheckFound StoreFault) (old new : Option (List ℕ)) : Type 0 where
   pub counts : RowCounts
   pub is : told ≡ Ok (found.Sound counts)
   pub printed : Appends old new (check_text (found.Sound counts))
 
--- the firm was called sound, and is
+-- the firm was said to be sound, and is
 pub record IsSaidSound (firm : Firm) (old new : Option (List ℕ)) : Type 0 where
   pub counts : RowCounts
   pub printed : Appends old new (check_text (found.Sound counts))

@@ -21,8 +21,8 @@ use Rattle.cashier.specs.declared.outcome.Outcome.TheVariants as outcome
 use Rattle.cashier.specs.declared.sheet.SheetEnd.{SheetEnd}
 use Rattle.cashier.specs.declared.statement.StatementEnd.{StatementEnd}
 
--- Of a book only these are looked at: when its store is clean, is sure, and stands for a sound firm, when what a crash
--- leaves of it lasts, what that may be, the firm, and how often it failed.
+-- Only these are used of a book: whether its store is clean, whether it is sure, whether it stands for a sound firm,
+-- whether what a crash leaves of it lasts, what that may be, its firm, and how often it failed.
 module _ {B : Type 0} (clean sure stands lasts : B → Type 0) (leaves : B → Firm → Type 0) (firm : B → Firm)
     (refusals : B → ℕ) where
   -- a sheet was run: the lines that were written as accepted are of records that a crash leaves done
@@ -35,7 +35,7 @@ module _ {B : Type 0} (clean sure stands lasts : B → Type 0) (leaves : B → F
     pub lines : IfSome input
         (λ bytes. LinesAreKept clean leaves today (firm old) (records_run bytes) old given written end new)
 
-  -- a statement of these bytes, where they are known, was imported: a crash leaves its first items applied, or what it
+  -- a statement of these bytes, if they are known, was imported: a crash leaves its first items applied, or what it
   -- might have left before; or its file was not opened
   abbrev pub LeavesItems : ℕ → Option (List ℕ) → (Option (Option ℕ) → Type 0) → B → Outcome → B → Type 0
   LeavesItems day bytes opens old told new =
@@ -51,14 +51,14 @@ module _ {B : Type 0} (clean sure stands lasts : B → Type 0) (leaves : B → F
     pub means : Means words today (task.Import path)
     pub items : LeavesItems today (known path.now) (opens path.now) old told new
 
-  -- a statement was matched against the book: a crash leaves what it might have left before, or these same rows
+  -- a statement was matched against the book: a crash leaves what it might have left before, or these rows unchanged
   pub record LeavesMatch (words : List Text) (old new : B) : Type 0 where
     pub today : ℕ
     pub path : Bor (List ℕ)
     pub means : Means words today (task.Match path)
     pub rows : LeavesOr (firm old) (leaves old) (leaves new)
 
-  -- a stream was served: its answers, and with them what a crash leaves of its messages
+  -- a stream was served: its answers, and what a crash leaves of its messages
   abbrev pub LeavesMessages : ℕ → Option (List ℕ) → B → Option (List ℕ) → Option (List ℕ) → Outcome → B → Type 0
   LeavesMessages day input old given written told new =
       (end : StreamEnd) × (stream_outcome end ≡ told)
@@ -70,8 +70,8 @@ module _ {B : Type 0} (clean sure stands lasts : B → Type 0) (leaves : B → F
     pub means : Means words today task.Stream
     pub messages : LeavesMessages today input old given written told new
 
-  -- clients of a port were served in turn, none where it could not be had: of each its answers, and with them what a
-  -- crash leaves of its messages
+  -- clients of a port were served in turn, or none if it was not available: for each its answers, and what a crash
+  -- leaves of its messages
   abbrev pub LeavesClients : {W : Type 0} → ℕ → Ports W → ℕ → B → B → Type 0
   LeavesClients day ports port old new =
       (ends : List StreamEnd)
@@ -84,22 +84,22 @@ module _ {B : Type 0} (clean sure stands lasts : B → Type 0) (leaves : B → F
     pub means : Means words today (task.Serve port count)
     pub clients : LeavesClients today ports port old new
 
-  -- a report was printed: a crash leaves what it might have left before, or these same rows
+  -- a report was printed: a crash leaves what it might have left before, or these rows unchanged
   pub record LeavesReport (words : List Text) (old new : B) : Type 0 where
     pub today : ℕ
     pub command : ReportCommand
     pub means : Means words today (task.Report command)
     pub rows : LeavesOr (firm old) (leaves old) (leaves new)
 
-  -- the book was checked: where its store still serves, as it does where all was sound, a crash leaves what it might
-  -- have left before, or these same rows
+  -- the book was checked: if its store is still clean, as it is if all was sound, a crash leaves what it might have
+  -- left before, or these rows unchanged
   pub record LeavesCheck (words : List Text) (old new : B) (told : Outcome) : Type 0 where
     pub today : ℕ
     pub means : Means words today task.Check
     pub serves : told ≡ outcome.Done → clean new
     pub rows : clean new → LeavesOr (firm old) (leaves old) (leaves new)
 
-  -- what a crash leaves of the book once words were run over it; where nothing was run, the book is as it was
+  -- what a crash leaves of the book after words were run over it; if nothing was run, the book is unchanged
   abbrev pub LeavesRun : {W : Type 0} → List Text → Option (List ℕ) → (Text → Option (List ℕ))
       → (Text → Option (Option ℕ) → Type 0) → Ports W → Option (List ℕ) → Option (List ℕ) → B → B → Outcome → Type 0
   LeavesRun words input known opens ports given written old new told =

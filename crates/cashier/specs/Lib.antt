@@ -4,7 +4,6 @@ pub mod Crashes
 pub mod Matching
 pub mod Notice
 pub mod Outcome
-pub mod Records
 pub mod Report
 pub mod Runs
 pub mod Sent

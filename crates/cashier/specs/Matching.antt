@@ -1,5 +1,6 @@
 -- What the match of a bank's file against the book prints, and how it ends.
-use Rattle.std.specs.Prelude.{◌≡◌, ℕ, Bool, true, false, List, [], Option, Some, None, IfSome, Result, Ok, Err, MatchBool}
+use Rattle.std.specs.Prelude.{◌≡◌, ℕ, Bool, true, false, List, []}
+use Rattle.std.specs.Prelude.{Option, Some, None, IfSome, Result, Ok, Err, MatchBool}
 use Rattle.std.specs.Io.KnownBytes.{Appends}
 use Rattle.trust_base.specs.declared.refusal.Refusal.{Refusal}
 use Rattle.trust_base.specs.declared.refusal.Refusal.TheVariants.{TooLarge}
@@ -14,45 +15,44 @@ use Rattle.cashier.specs.Statement.{is_told_longer}
 use Rattle.cashier.specs.declared.outcome.Outcome.{Outcome}
 use Rattle.cashier.specs.declared.outcome.Outcome.TheVariants as outcome
 
--- what a statement becomes, both its texts, or why it does not
+-- the result of matching a statement: both its texts, or why there is none
 abbrev pub Found : Type 0
 Found = Result MatchedTexts Refusal
 
--- what is printed of it: the statement that an import takes, or the line of the refusal
+-- what is printed of it: the statement for the import, or the line of the refusal
 abbrev pub found_text : Found → List ℕ
 found_text (Ok texts) = texts.statement
 found_text (Err r) = refusal_line r
 
--- the outcome of a match by whether a record has to be looked at
+-- the outcome of a match, depending on whether a record has to be looked at
 abbrev pub left_outcome : Bool → Outcome
 left_outcome true = outcome.Refused
 left_outcome false = outcome.Done
 
--- the outcome once that was printed, as a record has to be looked at, or the refusal says
+-- the outcome after that was printed: according to whether a record has to be looked at, or to the refusal
 abbrev pub found_outcome : Found → Outcome
 found_outcome (Ok texts) = left_outcome texts.is_left
 found_outcome (Err r) = reply_outcome (refusal_kind r)
 
--- what a statement becomes was printed whole, and the run ended as that says; or a write failed, and a proper front of
--- it was printed
+-- the result was printed completely, and the run ended accordingly; or a write failed, and only a prefix was printed
 abbrev pub PrintsFound : Found → Option (List ℕ) → Option (List ℕ) → Outcome → Type 0
 PrintsFound found old new told = IsSent (found_text found) (found_outcome found) outcome.OutputFault old new told
 
--- this is what a statement of this length, where it is told, and these bytes, where they are known, becomes over the
--- firm on a day, asked by the cashier; one that tells a length above the limit is refused, whatever its bytes are
+-- this is the result for a statement with this length, if it is reported, and these bytes, if they are known, over the
+-- firm on a day, asked for by the cashier; one that reports a length above the limit is refused, whatever its bytes are
 abbrev pub IsFound : ℕ → Firm → Option ℕ → Option (List ℕ) → Found → Type 0
 IsFound day firm size bytes found = MatchBool (is_told_longer size) (found ≡ Err TooLarge)
     (IfSome bytes (λ all. IsMatched day firm Cashier all found))
 
--- a read failed, and nothing was printed; or what the statement becomes was
+-- a read failed, and nothing was printed; or the result was printed
 abbrev pub MatchPrints : ℕ → Firm → Option ℕ → Option (List ℕ) → Option Found → Option (List ℕ) → Option (List ℕ)
     → Outcome → Type 0
 MatchPrints day firm size bytes None old new told = Appends old new [] × (told ≡ outcome.FileFault)
 MatchPrints day firm size bytes (Some found) old new told =
     IsFound day firm size bytes found × PrintsFound found old new told
 
--- how the match of a statement of this length, where it is told, and these bytes, where they are known, ends on a day:
--- the firm stays, and what was printed is what the statement becomes
+-- how the match of a statement with this length, if it is reported, and these bytes, if they are known, ends on a day:
+-- the firm is unchanged, and the result was printed
 pub record MatchEnds (day : ℕ) (before : Firm) (size : Option ℕ) (bytes : Option (List ℕ)) (after : Firm)
     (old new : Option (List ℕ)) (told : Outcome) : Type 0 where
   pub firm : after ≡ before

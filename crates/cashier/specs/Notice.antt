@@ -1,4 +1,4 @@
--- What standard error is told of the outcome of a run.
+-- What standard error is told about the outcome of a run.
 use Rattle.std.specs.Prelude.{◌≡◌, ◌⊎◌, ◌++◌, ℕ, List, Option, Some, None, IfSome, codes}
 use Rattle.std.specs.Borrow.{Bor}
 use Rattle.std.specs.Fmt.{decimal}
@@ -21,23 +21,23 @@ abbrev pub source_text : Source → Text
 source_text (source.File path) = path.now ++ codes " could not be opened or read"
 source_text source.Input = codes "standard input could not be read"
 
--- the line of what could not be read, where that is known
+-- the line about what could not be read, if that is known
 abbrev pub source_line : Option Source → Text
 source_line None = codes "file fault"
 source_line (Some s) = codes "file fault\n" ++ source_text s
 
--- the line of the book, and of its path where that is known
+-- the line about the book, with its path if that is known
 abbrev pub book_line : Option (Bor (List ℕ)) → Text
 book_line None = codes "store fault"
 book_line (Some path) = codes "store fault\n" ++ (path.now ++ codes " could not be opened, read or written as a book")
 
--- the line of the port, where it is known
+-- the line about the port, if it is known
 abbrev pub port_line : Option ℕ → Text
 port_line None = codes "network fault"
 port_line (Some port) = codes "network fault\nport " ++ (decimal port
     ++ codes " could not be had, or an accept on it was refused")
 
--- the lines on standard error, without the last one's end
+-- the lines on standard error, without the end of the last
 abbrev pub notice_text : Notice → Text
 notice_text (notice.CommandLine advice) = advice_text advice
 notice_text (notice.FileFault s) = source_line s
@@ -48,18 +48,18 @@ notice_text (notice.NetworkFault port) = port_line port
 
 -- ---- what is true of the run
 
--- the advice is that of the words
+-- the advice fits the words
 pub record IsAdvice (words : List Text) (advice : Advice) : Type 0 where
   pub verb : IfSome advice.verb (Names words)
   pub wrong : IfSome advice.wrong (IsWrong words)
 
--- the words mean that this is read
+-- the words say to read this
 abbrev pub IsSource : List Text → Source → Type 0
 IsSource words (source.File path) =
     ((today : ℕ) × Means words today (task.Import path)) ⊎ ((today : ℕ) × Means words today (task.Match path))
 IsSource words source.Input = MeansSheet words ⊎ MeansStream words
 
--- the words mean that clients of this port are served
+-- the words say to serve clients of this port
 abbrev pub IsServedPort : List Text → ℕ → Type 0
 IsServedPort words port = (today : ℕ) × (count : ℕ) × Means words today (task.Serve port count)
 
@@ -67,7 +67,7 @@ IsServedPort words port = (today : ℕ) × (count : ℕ) × Means words today (t
 abbrev pub IsBookPath : List Text → Text → Type 0
 IsBookPath words path = db_of words ≡ Some path
 
--- what is told of an outcome of the words: nothing, where all was done or something was refused
+-- what is reported about the outcome of the words: nothing if all was done or something was refused
 abbrev pub IsTold : List Text → Outcome → Option Notice → Type 0
 IsTold words outcome.Done told = told ≡ None
 IsTold words outcome.Refused told = told ≡ None

@@ -29,7 +29,7 @@ use Rattle.cashier.specs.declared.statement.StatementEnd.TheVariants as statemen
 use Rattle.portal_http.specs.declared.stream.StreamEnd.{StreamEnd}
 use Rattle.portal_http.specs.declared.stream.StreamEnd.TheVariants as stream
 
--- 0 done, 1 something was refused, 2 the command line, 3 a fault
+-- 0 for done, 1 for something refused, 2 for the command line, 3 for a fault
 abbrev pub exit_status : Outcome → ℕ
 exit_status outcome.Done = 0
 exit_status outcome.Refused = 1
@@ -40,17 +40,17 @@ exit_status outcome.StoreFault = 3
 exit_status outcome.MemoryFault = 3
 exit_status outcome.NetworkFault = 3
 
--- what an error in reading the words is to the program
+-- the outcome after an error in reading the words
 abbrev pub words_outcome : ErrorKind → Outcome
 words_outcome kind.OutOfMemory = outcome.MemoryFault
 words_outcome _ = outcome.CommandLine
 
--- what a store that refuses a run its book is to the program
+-- the outcome if the store does not open the book
 abbrev pub store_outcome : StoreFault → Outcome
 store_outcome faults.Store = outcome.StoreFault
 store_outcome faults.Memory = outcome.MemoryFault
 
--- what a run that ended so is to the program, once its book was put back, or could not be: no other fault gives way
+-- the outcome of a run after its book was put back, or could not be; an earlier fault takes precedence
 abbrev pub put_outcome : Outcome → Result Unit StoreFault → Outcome
 put_outcome ended (Ok done) = ended
 put_outcome outcome.Done (Err fault) = store_outcome fault
@@ -62,7 +62,7 @@ put_outcome outcome.StoreFault (Err fault) = outcome.StoreFault
 put_outcome outcome.MemoryFault (Err fault) = outcome.MemoryFault
 put_outcome outcome.NetworkFault (Err fault) = outcome.NetworkFault
 
--- what the end of a sheet is to the program
+-- the outcome for the end of a sheet
 abbrev pub sheet_outcome : SheetEnd → Outcome
 sheet_outcome sheet.Done = outcome.Done
 sheet_outcome sheet.Refused = outcome.Refused
@@ -71,7 +71,7 @@ sheet_outcome sheet.WriteFault = outcome.OutputFault
 sheet_outcome sheet.Store = outcome.StoreFault
 sheet_outcome sheet.NoMemory = outcome.MemoryFault
 
--- what the end of an import is to the program
+-- the outcome for the end of an import
 abbrev pub statement_outcome : StatementEnd → Outcome
 statement_outcome statement.Done = outcome.Done
 statement_outcome statement.Refused = outcome.Refused
@@ -80,7 +80,7 @@ statement_outcome statement.WriteFault = outcome.OutputFault
 statement_outcome statement.Store = outcome.StoreFault
 statement_outcome statement.NoMemory = outcome.MemoryFault
 
--- what the end of a stream is to the program, whatever its messages were answered
+-- the outcome for the end of a stream, whatever the replies to its messages were
 abbrev pub stream_outcome : StreamEnd → Outcome
 stream_outcome stream.Ended = outcome.Done
 stream_outcome stream.BadFraming = outcome.Refused
@@ -100,7 +100,7 @@ HasBegun outcome.StoreFault = ⊤
 HasBegun outcome.MemoryFault = ⊥
 HasBegun outcome.NetworkFault = ⊤
 
--- the file of a path was not opened, as its folder may tell, and nothing was done
+-- the file at a path was not opened, as its folder allows, and nothing was done
 pub record IsUnopened (opens : Option (Option ℕ) → Type 0) (before after : Firm) (old new : Option (List ℕ))
     (told : Outcome) : Type 0 where
   pub opened : opens None
@@ -108,7 +108,7 @@ pub record IsUnopened (opens : Option (Option ℕ) → Type 0) (before after : F
   pub written : Appends old new []
   pub firm : after ≡ before
 
--- the statement of these bytes, where they are known, was imported with the length that its folder may tell, and that
+-- the statement of these bytes, if they are known, was imported with a length that its folder may report, and that
 -- ended with this outcome
 pub record IsImported (day : ℕ) (before : Firm) (bytes : Option (List ℕ)) (opens : Option (Option ℕ) → Type 0)
     (after : Firm) (old new : Option (List ℕ)) (told : Outcome) : Type 0 where
@@ -118,13 +118,13 @@ pub record IsImported (day : ℕ) (before : Firm) (bytes : Option (List ℕ)) (o
   pub outcome : statement_outcome end ≡ told
   pub ends : StatementEnds day before size bytes after old new end
 
--- what became of a file that is to be imported, by its bytes, where they are known, and what opening it may tell
+-- how a file that should be imported ends, given its bytes, if they are known, and what opening it may return
 abbrev pub FileEnds : ℕ → Firm → Option (List ℕ) → (Option (Option ℕ) → Type 0) → Firm → Option (List ℕ)
     → Option (List ℕ) → Outcome → Type 0
 FileEnds day before bytes opens after old new told =
     IsImported day before bytes opens after old new told ⊎ IsUnopened opens before after old new told
 
--- the words mean that a sheet is run on a day, and it ended with that outcome
+-- the words say to run a sheet on a day, and it ended with this outcome
 pub record RanSheet (words : List Text) (input : Option (List ℕ)) (before after : Firm) (old new : Option (List ℕ))
     (told : Outcome) : Type 0 where
   pub today : ℕ
@@ -133,7 +133,7 @@ pub record RanSheet (words : List Text) (input : Option (List ℕ)) (before afte
   pub outcome : sheet_outcome end ≡ told
   pub ends : IfSome input (λ bytes. Ends today before bytes after old new end)
 
--- the words mean that the statement of a path is imported on a day, and that ended with that outcome
+-- the words say to import the statement at a path on a day, and that ended with this outcome
 pub record RanImport (words : List Text) (known : Text → Option (List ℕ))
     (opens : Text → Option (Option ℕ) → Type 0) (before after : Firm) (old new : Option (List ℕ))
     (told : Outcome) : Type 0 where
@@ -142,21 +142,21 @@ pub record RanImport (words : List Text) (known : Text → Option (List ℕ))
   pub means : Means words today (task.Import path)
   pub ends : FileEnds today before (known path.now) (opens path.now) after old new told
 
--- the statement of these bytes, where they are known, was matched against the firm with the length that its folder may
--- tell, and that ended with this outcome
+-- the statement of these bytes, if they are known, was matched against the firm with a length that its folder may
+-- report, and that ended with this outcome
 pub record IsMatchedFile (day : ℕ) (before : Firm) (bytes : Option (List ℕ)) (opens : Option (Option ℕ) → Type 0)
     (after : Firm) (old new : Option (List ℕ)) (told : Outcome) : Type 0 where
   pub size : Option ℕ
   pub opened : opens (Some size)
   pub ends : MatchEnds day before size bytes after old new told
 
--- what became of a file that is to be matched, by its bytes, where they are known, and what opening it may tell
+-- how a file that should be matched ends, given its bytes, if they are known, and what opening it may return
 abbrev pub MatchFileEnds : ℕ → Firm → Option (List ℕ) → (Option (Option ℕ) → Type 0) → Firm → Option (List ℕ)
     → Option (List ℕ) → Outcome → Type 0
 MatchFileEnds day before bytes opens after old new told =
     IsMatchedFile day before bytes opens after old new told ⊎ IsUnopened opens before after old new told
 
--- the words mean that the statement of a path is matched on a day, and that ended with that outcome
+-- the words say to match the statement at a path on a day, and that ended with this outcome
 pub record RanMatch (words : List Text) (known : Text → Option (List ℕ))
     (opens : Text → Option (Option ℕ) → Type 0) (before after : Firm) (old new : Option (List ℕ))
     (told : Outcome) : Type 0 where
@@ -172,14 +172,14 @@ pub record IsServed (day : ℕ) (before : Firm) (input : Option (List ℕ)) (aft
   pub outcome : stream_outcome end ≡ told
   pub ends : StreamEnds day before input after old new end
 
--- the words mean that standard input is served on a day, and that ended with that outcome
+-- the words say to serve standard input on a day, and that ended with this outcome
 pub record RanStream (words : List Text) (input : Option (List ℕ)) (before after : Firm) (old new : Option (List ℕ))
     (told : Outcome) : Type 0 where
   pub today : ℕ
   pub means : Means words today task.Stream
   pub ends : IsServed today before input after old new told
 
--- the words mean that clients of a port are served on a day, and that ended with that outcome
+-- the words say to serve clients of a port on a day, and that ended with this outcome
 pub record RanServe {W : Type 0} (words : List Text) (ports : Ports W) (before after : Firm)
     (old new : Option (List ℕ)) (told : Outcome) : Type 0 where
   pub today : ℕ
@@ -188,7 +188,7 @@ pub record RanServe {W : Type 0} (words : List Text) (ports : Ports W) (before a
   pub means : Means words today (task.Serve port count)
   pub ends : PortEnds today count ports port before after old new told
 
--- the words mean that a report is printed on a day, and that ended with that outcome
+-- the words say to print a report on a day, and that ended with this outcome
 pub record RanReport (words : List Text) (before after : Firm) (old new : Option (List ℕ)) (told : Outcome)
     : Type 0 where
   pub today : ℕ
@@ -196,20 +196,21 @@ pub record RanReport (words : List Text) (before after : Firm) (old new : Option
   pub means : Means words today (task.Report command)
   pub prints : PrintsReport today before command after old new told
 
--- the words mean that the book is checked, and that ended with that outcome
-pub record RanCheck (words : List Text) (before after : Firm) (old new : Option (List ℕ)) (told : Outcome) : Type 0 where
+-- the words say to check the book, and that ended with this outcome
+pub record RanCheck (words : List Text) (before after : Firm) (old new : Option (List ℕ)) (told : Outcome)
+    : Type 0 where
   pub today : ℕ
   pub means : Means words today task.Check
   pub ends : CheckEnds before after old new told
 
--- memory was refused before anything was run
+-- memory ran out before anything was run
 pub record RanNothing (before after : Firm) (old new : Option (List ℕ)) (told : Outcome) : Type 0 where
   pub outcome : told ≡ outcome.MemoryFault
   pub written : Appends old new []
   pub firm : after ≡ before
 
--- what became of the words, the sheet or the stream on standard input, the files of paths, the clients of ports, by
--- what is known of them, a report, a check and the firm
+-- how a run of the words ends: a sheet or a stream on standard input, files at paths, and clients of ports, given what
+-- is known of them, a report or a check; and the firm after it
 abbrev pub Ran : {W : Type 0} → List Text → Option (List ℕ) → (Text → Option (List ℕ))
     → (Text → Option (Option ℕ) → Type 0) → Ports W → Firm → Firm → Option (List ℕ) → Option (List ℕ) → Outcome
     → Type 0

@@ -1,4 +1,4 @@
--- What a command that prints a report asks, and what it writes.
+-- What a command for a report asks, and what it writes.
 use Rattle.std.specs.Prelude.{ℕ, List, Option}
 use Rattle.trust_matter.specs.declared.ask.Ask.TheVariants.{Accounting}
 use Rattle.trust_matter.specs.declared.ask.Caller.TheVariants.{Cashier}
@@ -17,7 +17,7 @@ use Rattle.cashier.specs.declared.outcome.Outcome.TheVariants as outcome
 use Rattle.cashier.specs.declared.reply_kind.ReplyKind.{ReplyKind}
 use Rattle.cashier.specs.declared.reply_kind.ReplyKind.TheVariants as kind
 
--- what the cashier asks for a report: of the firm, or of a matter its accounting
+-- the cashier's request for a report: of the firm, or the accounting of a matter
 abbrev pub asked_for : ReportCommand → Request
 asked_for (commands.Reconcile day) = requests.Reconcile Cashier day
 asked_for commands.Trial = requests.Trial Cashier
@@ -27,20 +27,20 @@ asked_for commands.Exceptions = requests.Exceptions Cashier
 asked_for (commands.Ledger matter) = requests.Matter matter Cashier Accounting
 asked_for commands.OwnLedger = requests.OwnLedger Cashier
 
--- the outcome of a run by what the reply says, once that was written
+-- the outcome of a run according to the reply, after it was written
 abbrev pub reply_outcome : ReplyKind → Outcome
 reply_outcome kind.Accepted = outcome.Done
 reply_outcome kind.Refused = outcome.Refused
 reply_outcome kind.Store = outcome.StoreFault
 reply_outcome kind.Memory = outcome.MemoryFault
 
--- a reply was written whole, its text alone or its refusal's line, and says the outcome; or a write failed, and a
--- proper front of it was written
+-- a reply was written completely, as its text or its refusal's line, and decides the outcome; or a write failed, and
+-- only a prefix was written
 abbrev pub Prints : Reply → Option (List ℕ) → Option (List ℕ) → Outcome → Type 0
 Prints reply old new told =
     IsSent (reply_line reply) (reply_outcome (reply_kind reply)) outcome.OutputFault old new told
 
--- the cashier asked for the report on a day, the firm's step gave the reply, and that was printed
+-- the cashier asked for the report on a day, the firm's step gave the reply, and it was printed
 pub record PrintsReport (day : ℕ) (before : Firm) (command : ReportCommand) (after : Firm)
     (old new : Option (List ℕ)) (told : Outcome) : Type 0 where
   pub reply : Reply

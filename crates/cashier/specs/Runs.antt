@@ -1,4 +1,4 @@
--- What became of a run of the program over a book.
+-- The result of a run of the program over a book.
 use Rattle.std.specs.Prelude.{◌≡◌, ◌≢◌, ◌⊎◌, ℕ, List, Option, Some, None, Result}
 use Rattle.clap.specs.Words.{Text}
 use Rattle.firm_rows.specs.Firm.{Firm, empty_firm}
@@ -13,26 +13,26 @@ use Rattle.cashier.specs.Outcome.{HasBegun, Ran, put_outcome, store_outcome}
 use Rattle.cashier.specs.declared.outcome.Outcome.{Outcome}
 use Rattle.cashier.specs.declared.outcome.Outcome.TheVariants as outcome
 
--- what became of a run over a book in memory, which begins without rows and is given up at the end: the firm that was
--- left is sound. `runs` is what became of the words, by the firm before and after and the outcome
+-- a run over a new, empty book in memory, which is dropped at the end: the firm that was left is sound; `runs` is how
+-- the words end, given the firm before and after and the outcome
 abbrev pub RanInMemory : (Firm → Firm → Outcome → Type 0) → Outcome → Type 0
 RanInMemory runs told = (after : Firm) × FirmSound after × runs empty_firm after told
 
--- no book could be had, and nothing was done
+-- no book was available, and nothing was done
 pub record HadNoBook (untouched : Type 0) (told : Outcome) : Type 0 where
   pub fault : StoreFault
   pub outcome : told ≡ store_outcome fault
   pub nothing : untouched
 
--- Of a book only these are looked at: when its store is clean, is sure, and stands for a sound firm, when what a crash
--- leaves of it lasts, what that may be, the firm, and how often it failed; and of a store of books which it may find at
--- a path, and what it may answer to one that is put back.
+-- Only these are used of a book: whether its store is clean, whether it is sure, whether it stands for a sound firm,
+-- whether what a crash leaves of it lasts, what that may be, its firm, and how often it failed; and of a store of
+-- books, which it may find at a path, and what it may return when one is put back.
 module _ {B W : Type 0} (clean sure stands lasts : B → Type 0) (leaves : B → Firm → Type 0) (firm : B → Firm)
     (refusals : B → ℕ) where
-  -- what became of a run over the book that was found at a path: it serves, and the run ended so over it; then the book
-  -- that the run left was put back, or could not be, as that was answered. What is said of the firm holds where the
-  -- book's store is clean once all was run, and where it stood for a sound firm as it was found; what a crash leaves is
-  -- said also where a fault has shut the store
+  -- a run over the book that was found at a path: the book is clean, and the run over it ended this way; then the book
+  -- that the run left was put back, or could not be, with this result. The claims about the firm hold if the book's
+  -- store is clean after the run, and if it stood for a sound firm when it was found; the claims about a crash hold
+  -- even if a fault has shut the store
   pub record RanAtPath (finds : B → Type 0) (puts : B → Result Unit StoreFault → Type 0) (words : List Text)
       (input : Option (List ℕ)) (known : Text → Option (List ℕ)) (opens : Text → Option (Option ℕ) → Type 0)
       (ports : Ports W) (old new : Option (List ℕ)) (told : Outcome) : Type 0 where
@@ -51,10 +51,10 @@ module _ {B W : Type 0} (clean sure stands lasts : B → Type 0) (leaves : B →
     pub left : puts after put
     pub outcome : told ≡ put_outcome ended put
 
-  -- the run of words over a book: it ended at the command line only where they mean nothing; they mean what was begun;
-  -- and of any other end, what became of the sheet, the file, the stream, the port or the report, and of the firm: over
-  -- a book in memory where `--db` names no path, and else over that at its path, where such books may be found, if one
-  -- could be had, and which was then put back so
+  -- a run of words over a book: it ended at the command line only if they mean nothing; if anything was begun, they
+  -- mean it; for any other end, how the sheet, the file, the stream, the port or the report ended, and the firm. It is
+  -- over a book in memory if `--db` names no path, and otherwise over one that may be found at the path, if it was
+  -- available, which was then put back
   pub record HasRun (finds : Text → B → Type 0) (puts : B → Result Unit StoreFault → Type 0) (untouched : Type 0)
       (words : List Text) (input : Option (List ℕ)) (known : Text → Option (List ℕ))
       (opens : Text → Option (Option ℕ) → Type 0) (ports : Ports W) (old new : Option (List ℕ)) (told : Outcome)

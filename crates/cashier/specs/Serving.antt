@@ -12,7 +12,7 @@ use Rattle.cashier.specs.Stream.{StreamEnds}
 use Rattle.cashier.specs.declared.outcome.Outcome.{Outcome}
 use Rattle.cashier.specs.declared.outcome.Outcome.TheVariants as outcome
 
--- what the end of serving is to the program, however the streams of the clients ended
+-- the outcome for the end of serving, however the streams of the clients ended
 abbrev pub serving_outcome : ServeEnd → Outcome
 serving_outcome serving.Done = outcome.Done
 serving_outcome serving.NetworkFault = outcome.NetworkFault
@@ -28,26 +28,26 @@ module _ {W : Type 0} (contents : W → Option (List ℕ)) where
     pub came : comes (Client stream writer)
     pub ends : StreamEnds day before stream after (contents writer) (contents left) end
 
-  -- a client could not be had, since it was gone or the system could not make its connection; nothing was done
+  -- a client could not be served, because it was gone or the system could not make its connection; nothing was done
   pub record IsGone (comes : Comes W → Type 0) (before : Firm) (end : StreamEnd) (after : Firm) : Type 0 where
     pub came : comes Gone
     pub ended : end ≡ stream.ReadFault
     pub firm : after ≡ before
 
-  -- what became of a client
+  -- how a client ends
   abbrev pub IsMet : ℕ → (Comes W → Type 0) → Firm → StreamEnd → Firm → Type 0
   IsMet day comes before end after = IsAnswered day comes before end after ⊎ IsGone comes before end after
 
-  -- clients were served in turn, each over the firm that the one before it left; `comes k` is what may come of the
-  -- accept behind k others
+  -- clients were served in turn, each over the firm that the one before it left; `comes k` is what the accept after k
+  -- others may return
   abbrev pub AreMetInTurn : ℕ → (ℕ → Comes W → Type 0) → Firm → List StreamEnd → Firm → Type 0
   AreMetInTurn day comes before [] after = after ≡ before
   AreMetInTurn day comes before (end ∷ ends) after =
       (mid : Firm) × IsMet day (comes 0) before end mid × AreMetInTurn day (λ k. comes (suc k)) mid ends after
 
   -- clients of a port were served, and that ended with this outcome: how each one's stream ended, in order, and what
-  -- was told of that; it ended early where a line could not be written, as is told, and else only where the network
-  -- refused an accept
+  -- was written about that; serving stopped early if a line could not be written, as the end then says, and otherwise
+  -- only if the network refused an accept
   pub record IsPortServed (day count : ℕ) (comes : ℕ → Comes W → Type 0) (before after : Firm)
       (old new : Option (List ℕ)) (told : Outcome) : Type 0 where
     pub end : ServeEnd
@@ -57,7 +57,7 @@ module _ {W : Type 0} (contents : W → Option (List ℕ)) where
     pub lines : IsTold end count ends old new
     pub refused : end ≡ serving.NetworkFault → comes (length ends) Refused
 
--- a port could not be had, and nothing was done
+-- a port was not available, and nothing was done
 pub record IsPortRefused (refused : Type 0) (before after : Firm) (old new : Option (List ℕ)) (told : Outcome)
     : Type 0 where
   pub cause : refused
@@ -65,8 +65,8 @@ pub record IsPortRefused (refused : Type 0) (before after : Firm) (old new : Opt
   pub written : Appends old new []
   pub firm : after ≡ before
 
--- what became of a port, of which so many clients were to be served on a day; what may come of its accepts, the firm
--- before and after, and what a writer was given by then
+-- how a port ends of which this many clients were to be served on a day, given what its accepts may return, the firm
+-- before and after, and what was written by then
 abbrev pub PortEnds : {W : Type 0} → ℕ → ℕ → Ports W → ℕ → Firm → Firm → Option (List ℕ) → Option (List ℕ) → Outcome
     → Type 0
 PortEnds day count ports port before after old new told =

@@ -1,5 +1,6 @@
 -- What a day sheet prints, and the firm that it leaves.
-use Rattle.std.specs.Prelude.{◌≡◌, ◌<◌, ◌⊎◌, ℕ, Bool, true, false, List, [], ◌∷◌, ◌++◌, Option, Result, Ok, Err, length, nat_lt, take, ⊤, if◌then◌else◌, MatchBool}
+use Rattle.std.specs.Prelude.{◌≡◌, ◌<◌, ◌⊎◌, ℕ, Bool, true, false, List, [], ◌∷◌}
+use Rattle.std.specs.Prelude.{◌++◌, Option, Result, Ok, Err, length, nat_lt, take, ⊤, if◌then◌else◌, MatchBool}
 use Rattle.std.specs.Fmt.{decimal}
 use Rattle.std.specs.Io.KnownBytes.{Appends}
 use Rattle.std.specs.List.{concat, filter}
@@ -7,22 +8,20 @@ use Rattle.csv.specs.Reading.{default_config, records, strip_bom}
 use Rattle.trust_base.specs.declared.limits.TheConstants.{MAX_FILE_BYTES}
 use Rattle.trust_base.specs.Refusals.{refusal_text, status_of}
 use Rattle.trust_base.specs.Texts.{matter_of}
-use Rattle.trust_base.specs.declared.refusal.Field.{Field}
 use Rattle.trust_base.specs.declared.refusal.Refusal.{Refusal}
-use Rattle.trust_base.specs.declared.refusal.Refusal.TheVariants.{BadField, TooLarge, Store, Memory}
+use Rattle.trust_base.specs.declared.refusal.Refusal.TheVariants.{TooLarge, Store, Memory}
 use Rattle.trust_base.specs.declared.refusal.StoreFault.TheVariants as faults
 use Rattle.firm_rows.specs.Firm.{Firm, of}
 use Rattle.trust_store.specs.Books.{counted_fault}
 use Rattle.trust_store.specs.Crashes.{LeavesAlone}
 use Rattle.trust_desk.specs.Crashes.{IsMade}
 use Rattle.trust_desk.specs.FirmStep.{Stepped, Steps, firm_step}
-use Rattle.trust_desk.specs.Heard.{Asks, Heard, Unread, is_the}
+use Rattle.trust_desk.specs.Heard.{is_the}
 use Rattle.trust_desk.specs.Replies.{is_fault_reply}
 use Rattle.trust_desk.specs.declared.requests.Body.{Body}
 use Rattle.trust_desk.specs.declared.requests.Body.TheVariants.{Json, Refused, Text}
 use Rattle.trust_desk.specs.declared.requests.Reply.{Reply}
-use Rattle.trust_desk.specs.declared.requests.Request.{Request}
-use Rattle.cashier.specs.Records.{asked_of, text_at}
+use Rattle.cashier_remarks.specs.Records.{heard_of, text_at}
 use Rattle.cashier.specs.Sent.{IsSent}
 use Rattle.cashier.specs.declared.sheet.SheetEnd.{SheetEnd}
 use Rattle.cashier.specs.declared.sheet.SheetEnd.TheVariants as end
@@ -30,14 +29,6 @@ use Rattle.cashier.specs.declared.reply_kind.ReplyKind.{ReplyKind}
 use Rattle.cashier.specs.declared.reply_kind.ReplyKind.TheVariants as kind
 
 -- ---- one record
-
-abbrev pub heard_as : Result Request Field → Option ℕ → Heard
-heard_as (Ok request) named = Asks request
-heard_as (Err f) named = Unread named (BadField f)
-
--- what the desk hears of a record: its request, or its refusal; a record names the matter of its second field
-unfoldable pub heard_of : List (List ℕ) → Heard
-heard_of fields = heard_as (asked_of fields) (matter_of (text_at fields 1))
 
 -- what a record does to a firm on a day
 abbrev pub record_step : ℕ → Firm → List (List ℕ) → Stepped
@@ -57,7 +48,7 @@ body_line status (Json text) = line_of status text
 body_line status (Text text) = text
 body_line status (Refused r) = refusal_line r
 
--- the line of a reply; the lines of a report stand as they are, without a status
+-- the line of a reply; the lines of a report are unchanged, without a status
 abbrev pub reply_line : Reply → List ℕ
 reply_line reply = body_line reply.status reply.body
 
@@ -73,7 +64,7 @@ body_kind (Json text) = kind.Accepted
 body_kind (Text text) = kind.Accepted
 body_kind (Refused r) = refusal_kind r
 
--- whether a reply accepts, refuses or tells of a fault
+-- the reply accepts, refuses or reports a fault
 abbrev pub reply_kind : Reply → ReplyKind
 reply_kind reply = body_kind reply.body
 
@@ -84,50 +75,50 @@ is_accepting (Refused r) = false
 
 -- ---- all records
 
--- the lines of records, one for each
+-- the lines of records, one each
 abbrev pub lines_from : ℕ → Firm → List (List (List ℕ)) → List (List ℕ)
 lines_from day firm [] = []
 lines_from day firm (r ∷ rest) =
     reply_line (record_step day firm r).reply ∷ lines_from day (record_step day firm r).firm rest
 
--- the firm once records were run
+-- the firm after records were run
 abbrev pub firm_from : ℕ → Firm → List (List (List ℕ)) → Firm
 firm_from day firm [] = firm
 firm_from day firm (r ∷ rest) = firm_from day (record_step day firm r).firm rest
 
--- whether each record is accepted
+-- each record is accepted
 abbrev pub all_accepted : ℕ → Firm → List (List (List ℕ)) → Bool
 all_accepted day firm [] = true
 all_accepted day firm (r ∷ rest) =
     if is_accepting (record_step day firm r).reply.body then all_accepted day (record_step day firm r).firm rest
     else false
 
--- how a run ends of which all records were run, by whether one was refused
+-- how a run ends after all records were run, depending on whether one was refused
 abbrev pub end_of : Bool → SheetEnd
 end_of true = end.Refused
 end_of false = end.Done
 
--- the records of a sheet, as CSV, with a byte order mark taken off
+-- the records of a sheet as CSV, without a byte order mark
 abbrev pub sheet_records : List ℕ → List (List (List ℕ))
 sheet_records bytes = records default_config (strip_bom bytes)
 
 -- ---- the end of a run
 
--- these records were run and no others: their lines were written, and more behind them, and the firm is the one
--- that they leave
+-- these records were run and no others: their lines were written, and `more` after them, and the firm is the one that
+-- they leave
 pub record Leaves (day : ℕ) (before : Firm) (past : List (List (List ℕ))) (more : List ℕ) (after : Firm)
     (old new : Option (List ℕ)) : Type 0 where
   pub written : Appends old new (concat (lines_from day before past) ++ more)
   pub firm : after ≡ firm_from day before past
 
--- the records before one, that one, and those behind it
+-- the records before one, that one, and those after it
 pub record Cut (all : List (List (List ℕ))) : Type 0 where
   pub past : List (List (List ℕ))
   pub here : List (List ℕ)
   pub later : List (List (List ℕ))
   pub parts : past ++ here ∷ later ≡ all
 
--- a record was run, and of its line a proper front was written
+-- a record was run, and only a prefix of its line was written
 pub record CutsLine (day : ℕ) (before : Firm) (past : List (List (List ℕ))) (here : List (List ℕ)) (after : Firm)
     (old new : Option (List ℕ)) : Type 0 where
   pub reply : Reply
@@ -136,14 +127,14 @@ pub record CutsLine (day : ℕ) (before : Firm) (past : List (List (List ℕ))) 
   pub proper : count < length (reply_line reply)
   pub written : Appends old new (concat (lines_from day before past) ++ take count (reply_line reply))
 
--- how a run goes on once a record was answered so and its line written: whether it was accepted, or the run's end
+-- how a run continues after the line of a record with this reply was written: whether it was accepted, or the run's end
 abbrev pub ran_by : ReplyKind → Result Bool SheetEnd
 ran_by kind.Accepted = Ok true
 ran_by kind.Refused = Ok false
 ran_by kind.Store = Err end.Store
 ran_by kind.Memory = Err end.NoMemory
 
--- a record was run, its line was written, and its reply says how the run goes on
+-- a record was run, its line was written, and its reply decides how the run continues
 pub record WritesLine (day : ℕ) (before : Firm) (here : List (List ℕ)) (after : Firm) (old new : Option (List ℕ))
     (ran : Result Bool SheetEnd) : Type 0 where
   pub reply : Reply
@@ -151,22 +142,22 @@ pub record WritesLine (day : ℕ) (before : Firm) (here : List (List ℕ)) (afte
   pub written : Appends old new (reply_line reply)
   pub goes : ran ≡ ran_by (reply_kind reply)
 
--- how the run of one record goes: its line was written, or a write failed
+-- how the run of one record ends: its line was written, or a write failed
 abbrev pub RecordEnds : ℕ → Firm → List (List ℕ) → Firm → Option (List ℕ) → Option (List ℕ) → Result Bool SheetEnd
     → Type 0
 RecordEnds day before here after old new ran =
     WritesLine day before here after old new ran
     ⊎ ((ran ≡ Err end.WriteFault) × CutsLine day before [] here after old new)
 
--- the count of calls of the book that answered Store, before and after a record: one more at an end by Store
+-- the count of calls of the book that returned `Store`, before and after a record: one more if it ends with `Store`
 abbrev pub IsCounted : Result Bool SheetEnd → ℕ → ℕ → Type 0
 IsCounted (Ok accepted) before after = after ≡ before
 IsCounted (Err end.Store) before after = after ≡ counted_fault faults.Store before
 IsCounted (Err _) before after = ⊤
 
--- how a run of these records ends, the firm before and after, and what a writer was given by then: all lines; nothing
--- before a read failed; where a write failed a front of that record's line; where the store or memory was refused
--- the lines before, and the refusal's own where a record was answered so
+-- how a run of these records ends, given the firm before and after, and what was written by then: all lines; nothing if
+-- a read failed first; a prefix of that record's line if a write failed; and if the store failed or memory ran out, the
+-- lines before, and the refusal's own line if it was the reply to a record
 abbrev pub RunEnds : ℕ → Firm → List (List (List ℕ)) → Firm → Option (List ℕ) → Option (List ℕ) → SheetEnd → Type 0
 RunEnds day before all after old new end.Done = Leaves day before all [] after old new
     × (all_accepted day before all ≡ true)
@@ -181,7 +172,7 @@ RunEnds day before all after old new end.NoMemory =
     ((k : ℕ) × Leaves day before (take k all) [] after old new)
     ⊎ ((cut : Cut all) × Leaves day before cut.past (refusal_line Memory) after old new)
 
--- how a sheet above the limit ends, of which no record is run: by one line
+-- how a sheet above the limit ends: no record is run, and one line is written
 abbrev pub LargeEnds : Firm → Firm → Option (List ℕ) → Option (List ℕ) → SheetEnd → Type 0
 LargeEnds before after old new end.Done = ⊥
 LargeEnds before after old new end.Refused = Appends old new (refusal_line TooLarge) × (after ≡ before)
@@ -199,29 +190,29 @@ Ends day before bytes after old new e =
 
 -- ---- what a crash leaves of a sheet
 
--- the records of a sheet that are run: all, or none of one above the limit
+-- the records of a sheet that are run: all, or none if it is above the limit
 abbrev pub records_run : List ℕ → List (List (List ℕ))
 records_run bytes = if nat_lt MAX_FILE_BYTES (length bytes) then [] else sheet_records bytes
 
--- a text is a line that was cut: a proper front of it
+-- a text is a proper prefix of a line, which was cut off
 abbrev pub IsCutOff : List ℕ → List ℕ → Type 0
 IsCutOff line text = (n : ℕ) × (n < length line) × (text ≡ take n line)
 
--- the line of a refusal, whole or cut
+-- the line of a refusal, complete or cut off
 abbrev pub IsOfRefusal : List ℕ → Type 0
 IsOfRefusal text = (r : Refusal) × ((text ≡ refusal_line r) ⊎ IsCutOff (refusal_line r) text)
 
--- the line of the next of these records, as the firm's step answers it, cut
+-- the line of the next of these records, as the firm's step answers it, cut off
 abbrev pub IsCutNext : ℕ → Firm → List (List (List ℕ)) → List ℕ → Type 0
 IsCutNext day firm [] text = ⊥
 IsCutNext day firm (here ∷ later) text = IsCutOff (reply_line (record_step day firm here).reply) text
 
--- what may stand behind the lines of the first records: nothing, the line of a refusal, or a part of the next one's
+-- what may follow the lines of the first records: nothing, the line of a refusal, or a part of the next one's
 abbrev pub IsBehindLines : ℕ → Firm → List (List (List ℕ)) → List ℕ → Type 0
 IsBehindLines day firm later text = (text ≡ []) ⊎ (IsOfRefusal text ⊎ IsCutNext day firm later text)
 
--- a record was run: its reply is that of the firm's step, or tells of a fault. Its line was written whole, and the
--- reply says how the run goes on; or a write failed
+-- a record was run: its reply is that of the firm's step, or reports a fault. Its line was written completely, and the
+-- reply decides how the run continues; or a write failed
 pub record TellsLine (day : ℕ) (firm : Firm) (here : List (List ℕ)) (old new : Option (List ℕ))
     (ran : Result Bool SheetEnd) : Type 0 where
   pub reply : Reply
@@ -242,9 +233,9 @@ abbrev pub IsNextMade : ℕ → Firm → List (List (List ℕ)) → Firm → Typ
 IsNextMade day firm [] found = ⊥
 IsNextMade day firm (here ∷ later) found = IsMade day firm (heard_of here) found
 
--- a run of records ended: the lines of the first of them were written, and behind these no whole line but that of a
--- refusal. Where a crash left the rows before and no others, it leaves those behind these records, or those with the
--- next; and where all were run, the store serves and none is left
+-- a run of records ended: the lines of the first ones were written, and after them no complete line except that of a
+-- refusal. If a crash could have left only the rows before, it now leaves those after these records, or those with the
+-- next; and if all were run, the store is clean and none is left
 pub record LinesAreKept {B : Type 0} (clean : B → Type 0) (leaves : B → Firm → Type 0) (day : ℕ) (before : Firm)
     (all : List (List (List ℕ))) (old : B) (given told : Option (List ℕ)) (ended : SheetEnd) (new : B) : Type 0 where
   pub past : List (List (List ℕ))
@@ -259,7 +250,7 @@ pub record LinesAreKept {B : Type 0} (clean : B → Type 0) (leaves : B → Firm
 
 -- ---- the lines of one matter
 
--- a record names a matter: its second field is the matter's six digits, whatever the others are
+-- a record names a matter: its second field is the matter's six digits, whatever the other fields are
 abbrev pub names_matter : ℕ → List (List ℕ) → Bool
 names_matter m fields = is_the m (matter_of (text_at fields 1))
 
@@ -269,8 +260,8 @@ lines_at test [] lines = []
 lines_at test (r ∷ rest) [] = []
 lines_at test (r ∷ rest) (line ∷ lines) = if test r then line ∷ lines_at test rest lines else lines_at test rest lines
 
--- the lines of a matter depend on its own rows and records alone: two firms with the same rows of a matter, and
--- records of which the same name it, among whatever others, print the same lines at them
+-- the lines of a matter depend only on its own rows and records: two firms with the same rows of a matter, and records
+-- with the same ones that name it, among any others, print the same lines for them
 abbrev pub OwnRecordsAlone : Type 0
 OwnRecordsAlone =
     (m day : ℕ) (f g : Firm) (a b : List (List (List ℕ))) → of m f ≡ of m g

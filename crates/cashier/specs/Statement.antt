@@ -20,44 +20,44 @@ use Rattle.cashier.specs.declared.statement.StatementEnd.TheVariants as end
 use Rattle.cashier.specs.declared.reply_kind.ReplyKind.{ReplyKind}
 use Rattle.cashier.specs.declared.reply_kind.ReplyKind.TheVariants as kind
 
--- ---- what is told of an import
+-- ---- what an import prints
 
 -- the line of the counts
 abbrev pub counts_line : ImportReply → List ℕ
 counts_line c = line_of 200 (import_body c.applied c.exceptions c.repeated c.statement c.unreadable)
 
--- what is printed of an import: its counts where it is done, its refusal, and nothing where a read failed
+-- what is printed of an import: its counts if it is done, its refusal, or nothing if a read failed
 abbrev pub stop_text : ImportReply → ImportStop → List ℕ
 stop_text counts stop.Done = counts_line counts
 stop_text counts (stop.Refused r) = refusal_line r
 stop_text counts stop.Limit = refusal_line TooLarge
 stop_text counts stop.ReadFault = []
 
--- how its run ends by what a refusal says
+-- how its run ends after a refusal
 abbrev pub refused_end : ReplyKind → StatementEnd
 refused_end kind.Accepted = end.Done
 refused_end kind.Refused = end.Refused
 refused_end kind.Store = end.Store
 refused_end kind.Memory = end.NoMemory
 
--- how its run ends, where all of that was written
+-- how its run ends, if all of that was written
 abbrev pub stop_end : ImportStop → StatementEnd
 stop_end stop.Done = end.Done
 stop_end (stop.Refused r) = refused_end (refusal_kind r)
 stop_end stop.Limit = end.Refused
 stop_end stop.ReadFault = end.ReadFault
 
--- a text was written and the run ended so, or a write failed and a proper front of the text was written
+-- a text was written and the run ended this way, or a write failed and only a prefix of the text was written
 abbrev pub Sent : List ℕ → StatementEnd → Option (List ℕ) → Option (List ℕ) → StatementEnd → Type 0
 Sent text told old new result = IsSent text told end.WriteFault old new result
 
--- what is told of an import was written; where memory for its counts was refused, that was told in their place
+-- what an import prints was written; if there was no memory for its counts, that was written instead
 abbrev pub Answers : ImportEnd → Option (List ℕ) → Option (List ℕ) → StatementEnd → Type 0
 Answers ran old new result =
     Sent (stop_text ran.reply ran.end) (stop_end ran.end) old new result
     ⊎ ((ran.end ≡ stop.Done) × Sent (refusal_line Memory) end.NoMemory old new result)
 
--- neither the store nor memory ended it, and what was to be told of it was written
+-- neither the store nor memory ended it, and its line was written
 abbrev pub EndsByNoFault : StatementEnd → Type 0
 EndsByNoFault end.Done = ⊤
 EndsByNoFault end.Refused = ⊤
@@ -68,8 +68,8 @@ EndsByNoFault end.NoMemory = ⊥
 
 -- ---- what an import has done
 
--- the first items of a statement of these bytes, where they are known, were applied and counted; and what the import's
--- end says of the bytes
+-- the first items of a statement of these bytes, if they are known, were applied and counted; and what the import's end
+-- says about the bytes
 pub record Imported (day : ℕ) (before : Firm) (bytes : Option (List ℕ)) (after : Firm) (ran : ImportEnd) : Type 0 where
   pub imports : Imports day before (option_map items bytes) ran after
   pub stops : IsStop ran.end
@@ -79,25 +79,25 @@ pub record Imported (day : ℕ) (before : Firm) (bytes : Option (List ℕ)) (aft
 
 -- ---- the end of a run
 
--- the length is told, and above the limit
+-- the length is reported, and is above the limit
 abbrev pub is_told_longer : Option ℕ → Bool
 is_told_longer None = false
 is_told_longer (Some n) = nat_lt MAX_FILE_BYTES n
 
--- a statement that tells so is refused, and no item of it applied
+-- a statement with such a length is refused, and none of its items is applied
 pub record Large (before after : Firm) (old new : Option (List ℕ)) (result : StatementEnd) : Type 0 where
   pub firm : after ≡ before
   pub sent : Sent (refusal_line TooLarge) end.Refused old new result
 
--- any other is imported, and the import answered
+-- any other statement is imported, and the import answered
 pub record Run (day : ℕ) (before : Firm) (bytes : Option (List ℕ)) (after : Firm) (old new : Option (List ℕ))
     (result : StatementEnd) : Type 0 where
   pub ran : ImportEnd
   pub imported : Imported day before bytes after ran
   pub answers : Answers ran old new result
 
--- how the import of a statement of this length, where it is told, and these bytes, where they are known, ends on a day;
--- the firm before and after, and what a writer was given by then
+-- how the import of a statement with this length, if it is reported, and these bytes, if they are known, ends on a day,
+-- given the firm before and after, and what was written by then
 abbrev pub StatementEnds : ℕ → Firm → Option ℕ → Option (List ℕ) → Firm → Option (List ℕ) → Option (List ℕ)
     → StatementEnd → Type 0
 StatementEnds day before size bytes after old new result =

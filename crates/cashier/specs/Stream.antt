@@ -1,4 +1,4 @@
--- What a stream of messages is answered, and the firm that it leaves.
+-- The replies to a stream of messages, and the firm that it leaves.
 use Rattle.std.specs.Prelude.{◌≡◌, ℕ, List, Option, IfSome, length, map}
 use Rattle.trust_base.specs.declared.refusal.Refusal.{Refusal}
 use Rattle.firm_rows.specs.Firm.{Firm}
@@ -11,8 +11,8 @@ use Rattle.portal_http.specs.Requests.{heard_of}
 use Rattle.portal_http.specs.Served.{IsRead, IsTail, IsWritten}
 use Rattle.portal_http.specs.declared.stream.StreamEnd.{StreamEnd}
 
--- how a stream of these bytes, where they are known, ends on a day: its messages and their replies, in order, the
--- refusal behind them, where there is one, the firm before and after, and what a writer was given by then
+-- how a stream of these bytes, if they are known, ends on a day: its messages and their replies, in order, the refusal
+-- after them, if there is one, the firm before and after, and what was written by then
 pub record StreamEnds (day : ℕ) (before : Firm) (stream : Option (List ℕ)) (after : Firm) (old new : Option (List ℕ))
     (end : StreamEnd) : Type 0 where
   pub messages : List Message
@@ -24,8 +24,8 @@ pub record StreamEnds (day : ℕ) (before : Firm) (stream : Option (List ℕ)) (
   pub written : IsWritten end replies tail old new
   -- each reply is that of the firm's step, and the firm is sound after it
   pub run : RunsSoundly day before (map heard_of messages) replies after
-  -- each matter is answered by its own machine, which leaves it its rows
+  -- each matter is answered by its own machine, which leaves its rows
   pub own : (m : ℕ) → IsUnstopped m (map heard_of messages) replies
       → IsOwn m day before (map heard_of messages) replies after
-  -- no ledger is below zero, before, in and after each message and each item of an import
+  -- no ledger is below zero, before, during and after each message and each item of an import
   pub covered : CoveredRun day before (map heard_of messages) replies after

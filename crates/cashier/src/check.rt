@@ -1,10 +1,10 @@
-// The check of the book's rows.
+// Checks the book's rows.
 
 ghost use Rattle.std.specs.Prelude.{◌≡◌, ◌≢◌, ◌⊎◌, IfOk, OnOk, Ok, Err, None, Some};
 ghost use Rattle.std.specs.Io.KnownBytes.{Appends};
 ghost use Rattle.cashier.specs.Calls.{IsAny, LeavesBook};
-ghost use Rattle.cashier.specs.Check.{CheckEnds, IsSaid, IsSaidSound, IsTrueOf, PrintsCheck, check_text, count_text, firm_rows_text, flaw_text, matters_text};
-ghost use Rattle.cashier.specs.Check.{found_outcome, unread_text};
+ghost use Rattle.cashier.specs.Check.{CheckEnds, IsSaid, IsSaidSound, IsTrueOf, PrintsCheck, check_text, count_text};
+ghost use Rattle.cashier.specs.Check.{firm_rows_text, flaw_text, found_outcome, matters_text, unread_text};
 ghost use Rattle.firm_rows.specs.Firm.{Firm};
 ghost use Rattle.firm_rows.specs.FirmSound.{FirmSound};
 ghost use Rattle.trust_desk.specs.Checking.{AreCountsOf, AreReads};
@@ -12,9 +12,9 @@ ghost use Rattle.trust_desk.specs.declared.checking.RowCounts.{RowCounts};
 ghost use Rattle.trust_store.specs.Crashes.{LeavesOr};
 
 use crate::outcome::{Outcome, outcome_of_reply};
-use crate::remarks::{Remark, Remarks};
 use crate::reply_kind::kind_of_refusal;
 use crate::reply_line::write_refusal;
+use cashier_remarks::{Remark, Remarks};
 use std::alloc::Global;
 use std::fmt;
 use std::io::Write;
@@ -22,25 +22,25 @@ use trust_base::{Day, Refusal, StoreFault, send};
 use trust_desk::{Checked, Desk, Flaw, RowCounts, Unread};
 use trust_store::Book;
 
-/// What a check of the book found.
+/// The result of checking a book.
 #[derive(Clone, Copy, PartialEq, Eq, Debug)]
 pub enum CheckFound {
-    /// Its rows, so many, are those of a sound firm.
+    /// The rows are those of a sound firm; these are their counts.
     Sound(RowCounts),
-    /// They are not.
+    /// The rows are not sound, for this reason.
     Flawed(Flaw),
-    /// A row stands for nothing, or a matter is not the whole of sound rows.
+    /// A row is invalid, or a matter is not the whole of sound rows.
     Unreadable(Unread),
 }
 
-// The line of a count.
+// The line for a count.
 #[derive(Clone, Copy)]
 struct CountLine {
     row: CountedRow,
     count: u64,
 }
 
-// What is counted.
+// The kind of row that is counted.
 #[derive(Clone, Copy)]
 enum CountedRow {
     Matters,
@@ -67,7 +67,7 @@ impl fmt::Display for CountLine {
     }
 }
 
-// The lines of the rows of matters, and of what they moved.
+// The lines for the rows of matters and their movements.
 #[derive(Clone, Copy)]
 struct MatterLines {
     counts: RowCounts,
@@ -96,7 +96,7 @@ impl fmt::Display for MatterLines {
     }
 }
 
-// The lines of the firm's own rows.
+// The lines for the firm's own rows.
 #[derive(Clone, Copy)]
 struct FirmRowLines {
     counts: RowCounts,
@@ -125,7 +125,7 @@ impl fmt::Display for FirmRowLines {
     }
 }
 
-// What a flaw is called.
+// The name of a flaw.
 #[derive(Clone, Copy)]
 struct FlawName {
     flaw: Flaw,
@@ -148,7 +148,7 @@ impl fmt::Display for FlawName {
     }
 }
 
-// What a row is called that can't be read.
+// The name of a row that can't be read.
 #[derive(Clone, Copy)]
 struct RowName {
     row: Unread,
@@ -202,7 +202,7 @@ impl fmt::Display for CheckFound {
     }
 }
 
-// What a check found, where all rows could be read.
+// The result of a check in which all rows could be read.
 fn found_of(checked: Checked) -> CheckFound
     ensures { (firm : Firm) → (checked.flaw ≡ None → FirmSound firm) → AreCountsOf firm checked.counts
         → IsTrueOf firm result }
@@ -213,7 +213,7 @@ fn found_of(checked: Checked) -> CheckFound
     }
 }
 
-// What there is to be told of the rows of a desk's book on a business day.
+// Checks the rows of a desk's book on a business day.
 fn find_flaw<B: Book>(
     alloc: Global,
     desk: &mut Desk<B>,
@@ -233,7 +233,7 @@ fn find_flaw<B: Book>(
     }
 }
 
-// The outcome of what was found.
+// The outcome for a result.
 fn outcome_of_found(found: &CheckFound) -> Outcome
     ensures { result ≡ found_outcome found.now }
 {
@@ -243,7 +243,7 @@ fn outcome_of_found(found: &CheckFound) -> Outcome
     }
 }
 
-// Prints the line of the fault by which the book could not be read.
+// Prints the line for the fault that kept the book from being read.
 fn print_fault<W: Write>(writer: &mut W, fault: StoreFault) -> Outcome
     ensures began { result ≢ Outcome.CommandLine }
     ensures prints { PrintsCheck (Err fault) (W.contents writer.old) (W.contents writer.new) result }
@@ -256,7 +256,7 @@ fn print_fault<W: Write>(writer: &mut W, fault: StoreFault) -> Outcome
     outcome_of_reply(kind_of_refusal(&refusal))
 }
 
-// Prints what was found, or that there was no memory for its text.
+// Prints the result, or that there was no memory for its text.
 fn print_told<W: Write>(alloc: Global, writer: &mut W, told: &CheckFound) -> Outcome
     ensures began { result ≢ Outcome.CommandLine }
     ensures prints { PrintsCheck (Ok told.now) (W.contents writer.old) (W.contents writer.new) result
@@ -272,7 +272,7 @@ fn print_told<W: Write>(alloc: Global, writer: &mut W, told: &CheckFound) -> Out
     outcome_of_found(told)
 }
 
-// Prints what was found, or the line of the fault by which the book could not be read.
+// Prints the result, or the line for the fault that kept the book from being read.
 fn print_found<W: Write>(
     alloc: Global,
     writer: &mut W,
@@ -289,7 +289,7 @@ fn print_found<W: Write>(
     }
 }
 
-// Tells a person what was found.
+// Reports the result to a person.
 fn tell_found<M: Remarks>(remarks: &M, found: &Result<CheckFound, StoreFault>) {
     match found {
         Ok(CheckFound::Flawed(flaw)) => remarks.tell(&Remark::Flaw(*flaw)),
@@ -298,13 +298,13 @@ fn tell_found<M: Remarks>(remarks: &M, found: &Result<CheckFound, StoreFault>) {
     }
 }
 
-/// Checks all rows of a desk's book, and prints that they are those of a sound firm and how many they are, or what is
-/// not sound of them, of which a person is told more. Whatever the book's store keeps, as long as it can be read as
-/// rows: where the outcome is `Done`, they are those of a sound firm. The book stays as it is.
+/// Checks all rows of a desk's book, and prints that they are those of a sound firm and how many there are, or what is
+/// not sound in them. Remarks tell a person more. The store may hold anything that can be read as rows. If the outcome
+/// is `Done`, the rows are those of a sound firm. The book is unchanged.
 ///
-/// The outcome is `Done` where they are sound, and `Refused` where they are not, or a row stands for nothing. Where the
-/// book could not be read or memory was refused, that was told by the line of its refusal, and it is `StoreFault` or
-/// `MemoryFault`. Where a write failed it is `OutputFault`, and a proper front of the text or line was written.
+/// The outcome is `Done` if the rows are sound, and `Refused` if they are not, or a row is invalid. If the book could
+/// not be read or memory ran out, the line of that refusal was printed, and the outcome is `StoreFault` or
+/// `MemoryFault`. If a write failed, it is `OutputFault`, and only a prefix of the text or line was written.
 pub fn run_check<M: Remarks, W: Write, B: Book>(
     alloc: Global,
     remarks: &M,

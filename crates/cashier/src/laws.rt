@@ -1,8 +1,8 @@
-//! Laws over the definitions, each the contract of a function with nothing to do.
+//! Laws over the definitions. Each is the contract of a function that does nothing.
 
 ghost use Rattle.cashier.specs.Sheet.{OwnRecordsAlone};
 
-/// The lines that a sheet prints at the records of one matter depend on its rows and on these records alone.
+/// The lines that a sheet prints for the records of one matter depend only on its rows and these records.
 pub fn own_records_alone()
     ensures { OwnRecordsAlone }
 {}

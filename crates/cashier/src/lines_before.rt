@@ -1,14 +1,13 @@
-// The lines of the bank that a book has before a statement is imported.
+// The bank lines that a book has before a statement is imported.
 
-use crate::folder::Presence;
-use crate::remarks::{Remark, Remarks};
+use cashier_remarks::{Presence, Remark, Remarks};
 use command_line::{Plan, Task};
 use std::alloc::Global;
 use trust_base::StoreFault;
 use trust_desk::{Desk, EarlierLines};
 use trust_store::Stores;
 
-// Whether a plan imports a statement into a book that is there, and somebody is told of its lines.
+// Whether the plan imports a statement into an existing book, and somebody is told about its lines.
 fn is_wanted<M: Remarks>(remarks: &M, plan: &Plan<'_>, found: Presence) -> bool {
     matches!(plan.task, Task::Import(_))
         && matches!(found, Presence::There)
@@ -16,9 +15,10 @@ fn is_wanted<M: Remarks>(remarks: &M, plan: &Plan<'_>, found: Presence) -> bool 
         && remarks.are_told()
 }
 
-// The lines that the book at a path has; None where there is no book to be had, which its run tells of.
+// Reads the bank lines of the book at a path. `None` if the book is not available; its run then reports that.
 //
-// The book is put back at once, and the run takes it anew: so a row that can't be read ends no import of other rows.
+// The book is put back at once, and the run opens it again. So a row that can't be read does not stop an import of
+// other rows.
 fn read_at<S: Stores>(
     alloc: Global,
     stores: &S,
@@ -29,13 +29,13 @@ fn read_at<S: Stores>(
     };
     let mut desk = Desk::new(book);
     let lines = desk.earlier_lines(alloc);
-    // What it has is kept also where this fails.
+    // The book's contents are kept even if this fails.
     let _ = stores.put_back(desk.into_book());
     Some(lines)
 }
 
-/// The lines of the bank that the book at a path has before a plan is run, where the plan imports a statement of which
-/// somebody is told; None where they are not wanted or could not be read, which is told.
+/// Reads the bank lines that the book at a path has before a plan is run, if the plan imports a statement and somebody
+/// is told about it. `None` if they are not wanted or could not be read; the latter is reported.
 pub fn lines_before<M: Remarks, S: Stores>(
     alloc: Global,
     remarks: &M,

@@ -1,4 +1,4 @@
-// The match of a bank's file against the book.
+// Matches a bank's file against the book.
 
 ghost use Rattle.std.specs.Prelude.{◌≡◌, ◌≢◌, Err, IfSome, Some};
 ghost use Rattle.trust_base.specs.declared.refusal.Refusal.TheVariants as refusals;
@@ -7,12 +7,11 @@ ghost use Rattle.cashier.specs.Calls.{CountsStore, LeavesBook};
 ghost use Rattle.cashier.specs.Matching.{IsFound, MatchEnds, PrintsFound, left_outcome};
 ghost use Rattle.cashier.specs.Outcome.{MatchFileEnds};
 
-use crate::folder::{Folder, Opened};
 use crate::outcome::{Outcome, outcome_of_reply};
-use crate::remarks::{Remarks, StatementTelling};
 use crate::reply_kind::kind_of_refusal;
 use crate::reply_line::write_refusal;
 use crate::statement::is_told_longer;
+use cashier_remarks::{Folder, Opened, Remarks, StatementTelling};
 use std::alloc::Global;
 use std::io::{Read, Write};
 use trust_base::{Day, InputFault, MAX_FILE_BYTES, Refusal, read_whole, send};
@@ -20,8 +19,8 @@ use trust_desk::{Desk, Matched};
 use trust_matter::Caller;
 use trust_store::Book;
 
-// What the statement in a file becomes, as the cashier asks it, or why it does not. None where a read failed. Nothing
-// is asked of the book where the file is above 4,194,304 bytes.
+// Matches the statement in a file for the cashier, or returns why not. `None` if a read failed. The book is not read if
+// the file is above 4,194,304 bytes.
 fn found_in<R: Read + Drop, B: Book>(
     alloc: Global,
     file: Opened<R>,
@@ -31,8 +30,8 @@ fn found_in<R: Read + Drop, B: Book>(
     ensures found { B.clean desk.new → B.stands desk.old
         → IfSome result (IsFound today (B.firm desk.old) file.length (R.remaining file.reader)) }
     ensures same { B.clean desk.new → B.stands desk.old → B.firm desk.new ≡ B.firm desk.old }
-    ensures kept { LeavesBook B.clean B.sure B.stands B.lasts B.refusals (CountsStore (Some (Err refusals.Store)) result)
-        desk.old desk.new }
+    ensures kept { LeavesBook B.clean B.sure B.stands B.lasts B.refusals
+        (CountsStore (Some (Err refusals.Store)) result) desk.old desk.new }
     ensures crash { B.sure desk.new → B.clean desk.old → B.stands desk.old
         → LeavesOr (B.firm desk.old) (B.leaves desk.old) (B.leaves desk.new) }
 {
@@ -50,7 +49,7 @@ fn found_in<R: Read + Drop, B: Book>(
     }
 }
 
-// How a match ends by whether a record has to be looked at.
+// The outcome of a match, depending on whether a record has to be looked at.
 fn outcome_by(is_left: bool) -> Outcome
     ensures { result ≡ left_outcome is_left }
 {
@@ -61,8 +60,8 @@ fn outcome_by(is_left: bool) -> Outcome
     }
 }
 
-// Prints what a statement becomes, and tells a person what of it has to be looked at; or prints the line of its
-// refusal, and tells a person why.
+// Prints the matched statement, and reports to a person what in it has to be looked at; or prints the line of its
+// refusal, and reports why.
 fn print_found<W: Write, F: Folder, M: Remarks>(
     telling: &StatementTelling<'_, F, M>,
     writer: &mut W,
@@ -90,7 +89,7 @@ fn print_found<W: Write, F: Folder, M: Remarks>(
     }
 }
 
-// Matches the statement in a file, and prints what it becomes.
+// Matches the statement in a file, and prints the result.
 fn match_in<R: Read + Drop, F: Folder, M: Remarks, W: Write, B: Book>(
     alloc: Global,
     file: Opened<R>,
@@ -114,15 +113,15 @@ fn match_in<R: Read + Drop, F: Folder, M: Remarks, W: Write, B: Book>(
     }
 }
 
-/// Matches the bank's statement at a path, whose references may be empty, against a desk's book on a business day:
-/// prints the statement that an import takes, and tells a person line by line what of it has to be looked at, of which
-/// no clause speaks; or prints the line of its refusal. The book stays as it is.
+/// Matches the bank's statement at a path, whose references may be empty, against a desk's book on a business day.
+/// Prints the statement for the import, and reports to a person, line by line, what in it has to be looked at; the
+/// contract does not say what is reported. Or prints the line of its refusal. The book is unchanged.
 ///
-/// The outcome is `Done` where no record has to be looked at, and `Refused` where one has, or where the line of a
-/// refusal was written: of another header, or of more than 4,194,304 bytes. Where the store or memory was refused, that
-/// was told by its line, and it is `StoreFault` or `MemoryFault`. Where the file can't be opened or a read failed it is
-/// `FileFault`, and nothing was printed; where a write failed it is `OutputFault`, and a proper front of the text or
-/// line was.
+/// The outcome is `Done` if no record has to be looked at. It is `Refused` if one has, or if the line of a refusal was
+/// written, for another header or more than 4,194,304 bytes. If the store failed or memory ran out, the line for that
+/// was printed, and it is `StoreFault` or `MemoryFault`. If the file can't be opened or a read failed, it is
+/// `FileFault`, and nothing was printed. If a write failed, it is `OutputFault`, and only a prefix of the text or line
+/// was printed.
 pub fn run_match<'a, F: Folder, M: Remarks, W: Write, B: Book>(
     alloc: Global,
     folder: &'a F,
@@ -137,7 +136,7 @@ pub fn run_match<'a, F: Folder, M: Remarks, W: Write, B: Book>(
         → MatchFileEnds today (B.firm desk.old) (F.known folder.now path.now) (F.opens folder.now path.now)
         (B.firm desk.new) (W.contents writer.old) (W.contents writer.new) result }
 
-    // It ends by Store only where a call of the book was refused.
+    // It ends with `StoreFault` only if a call of the book returned `Store`.
     ensures kept { LeavesBook B.clean B.sure B.stands B.lasts B.refusals (CountsStore Outcome.StoreFault result)
         desk.old desk.new }
     ensures crash { B.sure desk.new → B.clean desk.old → B.stands desk.old

@@ -1,4 +1,4 @@
-// What standard error is told of the outcome of a run.
+// What standard error is told about the outcome of a run.
 
 ghost use Rattle.std.specs.Prelude.{◌≡◌, IfSome, List, Some};
 ghost use Rattle.clap.specs.Words.{Text};
@@ -19,20 +19,20 @@ pub enum Source<'a> {
     Input,
 }
 
-/// What standard error is told of a run that ended by a fault or that its words do not name.
+/// What standard error is told about a run that ended with a fault or with invalid words.
 #[derive(Clone, Copy, PartialEq, Eq, Debug)]
 pub enum Notice<'a> {
-    /// The command line names no run: the usage, an example, and what is wrong.
+    /// The command line is invalid: the usage, an example, and what is wrong.
     CommandLine(Advice<'a>),
     /// This could not be opened or read.
     FileFault(Option<Source<'a>>),
     /// Standard output could not be written.
     OutputFault,
-    /// The book at this path could not be had, read or written.
+    /// The book at this path could not be opened, read or written.
     StoreFault(Option<&'a str>),
-    /// A growth was refused.
+    /// Memory ran out.
     MemoryFault,
-    /// This port could not be had, or an accept on it was refused.
+    /// This port was not available, or an accept on it was refused.
     NetworkFault(Option<u16>),
 }
 
@@ -71,7 +71,7 @@ impl fmt::Display for Notice<'_> {
     }
 }
 
-// What words mean that is read.
+// Returns what these words say to read.
 fn source_of<'a>(alloc: Global, words: &'a [&'a str]) -> Option<Source<'a>>
     ensures { IfSome result (IsSource (words_of words.entry.now)) }
 {
@@ -87,7 +87,7 @@ fn source_of<'a>(alloc: Global, words: &'a [&'a str]) -> Option<Source<'a>>
     }
 }
 
-// The path of the book that words name.
+// Returns the path of the book that the words name.
 fn book_path<'a>(alloc: Global, words: &'a [&'a str]) -> Option<&'a str>
     ensures { IfSome result (λ path. IsBookPath (words_of words.entry.now) path.now) }
 {
@@ -97,7 +97,7 @@ fn book_path<'a>(alloc: Global, words: &'a [&'a str]) -> Option<&'a str>
     plan.db
 }
 
-// The port whose clients words mean that are served.
+// Returns the port whose clients these words say to serve.
 fn port_served<'a>(alloc: Global, words: &'a [&'a str]) -> Option<u16>
     ensures { IfSome result (IsServedPort (words_of words.entry.now)) }
 {
@@ -110,7 +110,7 @@ fn port_served<'a>(alloc: Global, words: &'a [&'a str]) -> Option<u16>
     }
 }
 
-/// What standard error is told of an outcome, whatever the words of the run were.
+/// What standard error is told about an outcome, whatever the words of the run were.
 pub fn bare_notice_of(outcome: Outcome) -> Option<Notice<'static>>
     ensures { (words : List Text) → IsTold words outcome result }
 {
@@ -129,8 +129,8 @@ pub fn bare_notice_of(outcome: Outcome) -> Option<Notice<'static>>
     }
 }
 
-/// What standard error is told of an outcome of a run of these words, the program's name first among them: nothing
-/// where all was done or something was refused. Where memory is wanting it tells less.
+/// Returns what standard error is told about the outcome of a run of these words, the program's name first: nothing if
+/// all was done or something was refused. If memory runs out it says less.
 pub fn notice_of<'a>(alloc: Global, outcome: Outcome, words: &'a [&'a str]) -> Option<Notice<'a>>
     ensures { IsTold (words_of words.entry.now) outcome result }
 {

@@ -18,25 +18,25 @@ use trust_base::StoreFault;
 /// How a run of the program ended.
 #[derive(Clone, Copy, PartialEq, Eq, Debug)]
 pub enum Outcome {
-    /// All was done.
+    /// Everything was done.
     Done,
     /// Something was refused.
     Refused,
-    /// The command line names no run.
+    /// The command line is invalid.
     CommandLine,
     /// A file could not be opened, or a read of it or of standard input failed.
     FileFault,
     /// A write to standard output failed.
     OutputFault,
-    /// The book could not be had from its store or put back there, or the store refused a call.
+    /// The book could not be opened or put back, or the store refused a call.
     StoreFault,
-    /// A growth was refused.
+    /// Memory ran out.
     MemoryFault,
-    /// A port could not be had, or an accept was refused.
+    /// A port was not available, or an accept was refused.
     NetworkFault,
 }
 
-// 0 done, 1 something was refused, 2 the command line, 3 a fault.
+// 0 for done, 1 for something refused, 2 for the command line, 3 for a fault.
 fn status_of(outcome: Outcome) -> u8
     ensures { result ≡ exit_status outcome }
 {
@@ -52,15 +52,14 @@ fn status_of(outcome: Outcome) -> u8
     }
 }
 
-/// What the program exits with, as `main` answers it: status 0 done, 1 something was refused, 2 the command line,
-/// 3 a fault.
+/// The exit status, as `main` returns it: 0 for done, 1 for something refused, 2 for the command line, 3 for a fault.
 pub fn exit_of(outcome: Outcome) -> ExitCode
     ensures { process_status result ≡ exit_status outcome }
 {
     ExitCode::from(status_of(outcome))
 }
 
-/// The outcome of a run whose words were not read: want of memory, or a word that is no text.
+/// The outcome of a run whose words could not be read: out of memory, or a word that is not text.
 pub fn outcome_of_words(kind: ErrorKind) -> Outcome
     ensures { result ≡ words_outcome kind }
 {
@@ -70,7 +69,7 @@ pub fn outcome_of_words(kind: ErrorKind) -> Outcome
     }
 }
 
-/// The outcome of a run whose store refused it its book.
+/// The outcome of a run whose book could not be opened.
 pub fn outcome_of_store(fault: StoreFault) -> Outcome
     ensures { result ≡ store_outcome fault }
 {
@@ -80,7 +79,8 @@ pub fn outcome_of_store(fault: StoreFault) -> Outcome
     }
 }
 
-/// The outcome of a run that ended so, once its book was to be put back: a fault of that is told where no other was.
+/// The outcome of a run after its book was put back, or could not be. A fault of that is reported only if there was no
+/// other.
 pub fn outcome_put_back(ended: Outcome, put: Result<(), StoreFault>) -> Outcome
     ensures { result ≡ put_outcome ended put }
 {
@@ -138,7 +138,7 @@ pub fn outcome_of_statement(end: StatementEnd) -> Outcome
     }
 }
 
-/// The outcome of a stream, by its end alone: what its messages were answered is no part of it.
+/// The outcome of a stream, which depends only on its end, not on the replies to its messages.
 pub fn outcome_of_stream(end: StreamEnd) -> Outcome
     ensures { result ≡ stream_outcome end }
 {
@@ -151,7 +151,7 @@ pub fn outcome_of_stream(end: StreamEnd) -> Outcome
     }
 }
 
-/// The outcome of serving the clients of a port: how each one's stream ended is no part of it.
+/// The outcome of serving the clients of a port, which does not depend on how each one's stream ended.
 pub fn outcome_of_serving(end: ServeEnd) -> Outcome
     ensures { result ≡ serving_outcome end }
 {

@@ -13,22 +13,21 @@ ghost use Rattle.command_line.specs.declared.command.Task.{Task};
 ghost use Rattle.portal_http.specs.Clients.{ports_of};
 
 use crate::check::run_check;
-use crate::folder::Folder;
 use crate::lines_before::lines_before;
 use crate::matching::run_match;
 use crate::outcome::{
     Outcome, outcome_of_sheet, outcome_of_statement, outcome_of_store, outcome_of_stream,
     outcome_of_words, outcome_put_back,
 };
-use crate::remarks::{
-    AskedRemarks, Remarks, StatementTelling, is_past, tell_of_day, tell_of_loss, tell_of_new_book,
-    tell_of_no_book,
-};
 use crate::report::run_report;
 use crate::serving::run_serve;
 use crate::sheet::run_sheet;
 use crate::statement::run_import;
 use crate::surroundings::Surroundings;
+use cashier_remarks::{
+    AskedRemarks, Folder, Remarks, StatementTelling, is_past, tell_of_day, tell_of_loss,
+    tell_of_new_book, tell_of_no_book,
+};
 use command_line::{CliFault, Plan, Task, command_of};
 use portal_http::{Network, serve_stream};
 use std::alloc::{AllocError, Global};
@@ -38,7 +37,7 @@ use trust_base::Day;
 use trust_desk::{Desk, EarlierLines};
 use trust_store::{Book, PlainBook, Stores};
 
-/// The texts of words, in their order.
+/// Returns the words as strings, in order.
 pub fn texts_of<'a>(alloc: Global, words: &'a [String]) -> Result<Vec<&'a str>, AllocError>
     ensures { IfOk result (λ texts. words_of texts.items ≡ map string_bytes words.entry.now) }
 {
@@ -49,7 +48,7 @@ pub fn texts_of<'a>(alloc: Global, words: &'a [String]) -> Result<Vec<&'a str>, 
     Ok(texts)
 }
 
-// Imports the statement at a path, where it can be opened, over a book that has these lines before it, where they were
+// Imports the statement at a path, if it can be opened. `earlier` are the lines that the book had before, if they were
 // read.
 fn import_file<F: Folder, M: Remarks, W: Write, B: Book>(
     alloc: Global,
@@ -79,8 +78,8 @@ fn import_file<F: Folder, M: Remarks, W: Write, B: Book>(
     outcome_of_statement(run_import(alloc, file.reader, file.length, writer, desk, today, &told))
 }
 
-// Serves the messages of standard input. It never ends by `StoreFault`: what the store refused was answered, and the
-// end of a stream does not tell of it.
+// Serves the messages of standard input. It never ends with `StoreFault`: a failure of the store was answered, and is
+// not part of how a stream ends.
 fn serve_input<R: Read, W: Write, B: Book>(
     alloc: Global,
     reader: &mut R,
@@ -101,8 +100,8 @@ fn serve_input<R: Read, W: Write, B: Book>(
     outcome_of_stream(serve_stream(alloc, reader, writer, desk, today))
 }
 
-// Runs a plan over a desk, whatever book the plan names, which has these lines before an import, where they were read.
-// What is said of words is of any that mean the plan.
+// Runs a plan over a desk, whatever book the plan names. Before an import the book has these lines, if they were read.
+// The contract holds for any words that mean the plan.
 fn run_plan<R: Read, F: Folder, C: Clock + Drop, N: Network, M: Remarks, W: Write, B: Book>(
     alloc: Global,
     plan: &Plan<'_>,
@@ -164,13 +163,13 @@ fn run_plan<R: Read, F: Folder, C: Clock + Drop, N: Network, M: Remarks, W: Writ
     }
 }
 
-/// Runs what the program's words ask for, its name first among them, over a desk, whatever book `--db` names among
-/// them. Where the command line is at fault nothing is read, run or written; nor where a growth was refused before its
-/// plan was known, and the outcome is `MemoryFault` then. Else the outcome is that of the sheet's, the statement's or
-/// the stream's end, or the report's own, or `FileFault` where the statement can't be opened, or that of serving
-/// clients, `NetworkFault` where their port can't be had or an accept was refused. Standard input is read only for a
-/// sheet or a stream. A stream goes by its end alone, and serving clients by its own: neither is ever `StoreFault`,
-/// since what the store refused was answered to its message.
+/// Runs what the program's words ask for, its name first among them, over a desk, whatever book `--db` names. If the
+/// command line is invalid, or memory runs out before it is parsed, nothing is read, run or written; in the latter case
+/// the outcome is `MemoryFault`. Otherwise the outcome is that of the sheet's, the statement's or the stream's end, or
+/// that of the report. It is `FileFault` if the statement can't be opened. For serving clients it is that of serving,
+/// and `NetworkFault` if their port is not available or an accept was refused. Standard input is only read for a sheet
+/// or a stream. The outcome of a stream, or of serving clients, depends only on how it ended. It is never `StoreFault`,
+/// because a failure of the store was answered to its message.
 pub fn run_words<
     'a,
     R: Read,
@@ -193,8 +192,7 @@ pub fn run_words<
     ensures unwritten { result ≡ Outcome.CommandLine → writer.new ≡ writer.old }
     ensures unasked { result ≡ Outcome.CommandLine → desk.new ≡ desk.old }
 
-    // An import, a report, the clients of a port, and whatever else is no sheet and no stream, leaves standard input
-    // as it was.
+    // Anything but a sheet or a stream leaves standard input unread: an import, a report, serving a port, and the rest.
     ensures input { MeansSheet (words_of words.entry.now)
         ⊎ (MeansStream (words_of words.entry.now) ⊎ (reader.new ≡ reader.old)) }
 
@@ -206,14 +204,14 @@ pub fn run_words<
         (N.refuses around.entry.network.now)) (B.firm desk.old) (B.firm desk.new)
         (W.contents writer.old) (W.contents writer.new) result }
 
-    // Whatever the book's store keeps, as long as it can be read as rows: what a check calls sound is sound.
+    // Whatever the book's store holds that can be read as rows: if a check says that it is sound, it is.
     ensures sound { B.clean desk.new → B.readable desk.old → MeansCheck (words_of words.entry.now)
         → result ≡ Outcome.Done
         → IsSaidSound (B.firm desk.old) (W.contents writer.old) (W.contents writer.new) }
     ensures kept { LeavesBook B.clean B.sure B.stands B.lasts B.refusals
         (CountsStoreIn (words_of words.entry.now) result) desk.old desk.new }
 
-    // What a crash leaves once all that is over: of what was written as accepted, all.
+    // What a crash leaves after all that: everything that was written as accepted.
     ensures crash { B.sure desk.new → B.clean desk.old → B.stands desk.old
         → LeavesRun B.clean B.sure B.stands B.lasts B.leaves B.firm B.refusals (words_of words.entry.now)
         (R.remaining reader.old) (F.known around.entry.folder.now) (F.opens around.entry.folder.now)
@@ -229,7 +227,7 @@ pub fn run_words<
     run_plan(alloc, &plan, reader, around, None, writer, desk)
 }
 
-// Runs a plan over a book that is kept in memory, begins without rows and is given up at the end.
+// Runs a plan over a new, empty book in memory, which is dropped at the end.
 fn run_in_memory<R: Read, F: Folder, C: Clock + Drop, N: Network, M: Remarks, W: Write>(
     alloc: Global,
     plan: &Plan<'_>,
@@ -254,8 +252,8 @@ fn run_in_memory<R: Read, F: Folder, C: Clock + Drop, N: Network, M: Remarks, W:
     ended
 }
 
-// Runs a plan over a book of a store, which has these lines before an import, where they were read, and puts the book
-// back.
+// Runs a plan over a book of a store, and puts the book back. Before an import the book has these lines, if they were
+// read.
 fn run_over_book<R: Read, F: Folder, C: Clock + Drop, N: Network, M: Remarks, S: Stores, W: Write>(
     alloc: Global,
     plan: &Plan<'_>,
@@ -283,7 +281,7 @@ fn run_over_book<R: Read, F: Folder, C: Clock + Drop, N: Network, M: Remarks, S:
     outcome_put_back(ended, put)
 }
 
-// Runs a plan over the book at a path, where that can be had.
+// Runs a plan over the book at a path, if it is available.
 fn run_at_path<R: Read, F: Folder, C: Clock + Drop, N: Network, M: Remarks, S: Stores, W: Write>(
     alloc: Global,
     plan: &Plan<'_>,
@@ -327,17 +325,17 @@ fn run_at_path<R: Read, F: Folder, C: Clock + Drop, N: Network, M: Remarks, S: S
     }
 }
 
-/// Runs what the program's words ask for over the book that is kept at the path of `--db`, or, where `--db` names none,
-/// over one that is kept in memory, begins without rows and is given up at the end.
+/// Runs what the program's words ask for over the book at the path of `--db`. If there is no `--db`, it uses a new,
+/// empty book in memory, which is dropped at the end.
 ///
-/// Before a statement is imported the book at the path is taken once more, read and put back, where somebody is told
-/// which of the statement's lines stand on another entry by an earlier import. Nothing else hangs on that.
+/// Before a statement is imported, the book at the path is opened an extra time, read and put back, if somebody is told
+/// which of the statement's lines an earlier import put on another entry. Nothing else depends on that.
 ///
-/// Where the command line is at fault nothing is read, run or written, and no book is asked for; nor is it where a
-/// growth was refused before the plan was known. Where the book can't be had nothing is read or written, and no file
-/// but its own and no port is asked for: the outcome is `StoreFault`, or `MemoryFault` where a growth was refused. Else
-/// it is that of the task (`run_words`). Then the book is put back at its path. Where that fails, and the task ended by
-/// no fault, the outcome is `StoreFault` or `MemoryFault` too: what was accepted is kept all the same.
+/// If the command line is invalid, or memory runs out before it is parsed, nothing is read, run or written, and no book
+/// is opened. If the book can't be opened, nothing is read or written, and no other file and no port is opened; the
+/// outcome is `StoreFault`, or `MemoryFault` if memory ran out. Otherwise it is that of the task (`run_words`). Then
+/// the book is put back at its path. If that fails, and the task ended without a fault, the outcome is `StoreFault` or
+/// `MemoryFault`; what was accepted is kept even then.
 ///
 /// The firm that is left in memory is sound, as it is after each record, each line of a statement and each message.
 pub fn run_over_stores<
@@ -385,8 +383,8 @@ pub fn run_over_stores<
 
 /// Runs the program on the words that it was called with, its name first among them, as `run_over_stores` does.
 ///
-/// Where the words can't be told, nothing is read, run or written: the outcome is `MemoryFault` where a growth was
-/// refused, and `CommandLine` where a word is no text.
+/// If the words can't be read, nothing is read, run or written: the outcome is `MemoryFault` if memory ran out, and
+/// `CommandLine` if a word is not text.
 pub fn run_called<R: Read, F: Folder, C: Clock + Drop, N: Network, M: Remarks, S: Stores, W: Write>(
     alloc: Global,
     called: &Result<Vec<String>, ErrorKind>,
@@ -410,7 +408,7 @@ pub fn run_called<R: Read, F: Folder, C: Clock + Drop, N: Network, M: Remarks, S
         (λ words. MeansSheet (map string_bytes words.items)
         ⊎ (MeansStream (map string_bytes words.items) ⊎ (reader.new ≡ reader.old))) }
 
-    // Without words nothing begins.
+    // Without words nothing is done.
     ensures untold { IfErr called.now (λ kind. (result ≡ words_outcome kind) × (reader.new ≡ reader.old)
         × (writer.new ≡ writer.old)) }
 {

@@ -1,4 +1,4 @@
-// What a reply says of its record.
+// What a reply means for its record.
 
 ghost use Rattle.std.specs.Prelude.{◌≡◌};
 ghost use Rattle.cashier.specs.Sheet.{refusal_kind, reply_kind};
@@ -6,20 +6,20 @@ ghost use Rattle.cashier.specs.Sheet.{refusal_kind, reply_kind};
 use trust_base::Refusal;
 use trust_desk::{Body, Reply};
 
-/// What a reply says of its record.
+/// What a reply means for its record.
 #[derive(Clone, Copy, PartialEq, Eq, Debug)]
 pub enum ReplyKind {
     /// It was accepted.
     Accepted,
     /// It was refused.
     Refused,
-    /// The store refused a call.
+    /// The store failed.
     Store,
-    /// A growth was refused.
+    /// Memory ran out.
     Memory,
 }
 
-/// What a refusal says of what was asked.
+/// What a refusal means for the request.
 pub fn kind_of_refusal(refusal: &Refusal) -> ReplyKind
     ensures { result ≡ refusal_kind refusal.now }
 {
@@ -30,7 +30,7 @@ pub fn kind_of_refusal(refusal: &Refusal) -> ReplyKind
     }
 }
 
-/// Whether a reply accepts, refuses or tells of a fault.
+/// Whether a reply accepts, refuses or reports a fault.
 pub fn kind_of_reply(reply: &Reply) -> ReplyKind
     ensures { result ≡ reply_kind reply.now }
 {

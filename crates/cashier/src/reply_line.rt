@@ -1,4 +1,4 @@
-// The lines of replies.
+// Writes the lines of replies.
 
 ghost use Rattle.std.specs.Prelude.{ℕ, ◌<◌, length, take, OnOk, OnErr};
 ghost use Rattle.std.specs.Io.KnownBytes.{Appends};
@@ -9,7 +9,7 @@ use std::io::Write;
 use trust_base::{Refusal, WriteFault, send};
 use trust_desk::{Body, Reply};
 
-/// Writes a status, a space, a body and the line's end. At a fault a proper front of it was written. Takes no memory.
+/// Writes a status, a space, a body and a line feed. After a fault only a prefix of it was written. Does not allocate.
 #[tactic(auto, unfolding(crate::specs::Sheet::line_of))]
 pub fn write_answer_line<W: Write>(
     writer: &mut W,
@@ -33,7 +33,7 @@ pub fn write_answer_line<W: Write>(
     send(writer, b"\n".as_slice())
 }
 
-/// Writes the line of a refusal. At a fault a proper front of it was written. Takes no memory.
+/// Writes the line of a refusal. After a fault only a prefix of it was written. Does not allocate.
 pub fn write_refusal<W: Write>(writer: &mut W, refusal: &Refusal) -> Result<(), WriteFault>
     ensures ok { OnOk result (Appends (W.contents writer.old) (W.contents writer.new) (refusal_line refusal.now)) }
     ensures err { OnErr result ((n : ℕ) × (n < length (refusal_line refusal.now))
@@ -42,8 +42,8 @@ pub fn write_refusal<W: Write>(writer: &mut W, refusal: &Refusal) -> Result<(), 
     write_answer_line(writer, refusal.status(), refusal.json().as_slice())
 }
 
-/// Writes the line of a reply, or the lines of a report as they are. At a fault a proper front of them was written.
-/// Takes no memory, so that what a record changed is told wherever it can be written.
+/// Writes the line of a reply, or the lines of a report as they are. After a fault only a prefix of them was written.
+/// Does not allocate, so what a record changed is reported whenever it can be written.
 pub fn write_reply<W: Write>(writer: &mut W, reply: &Reply) -> Result<(), WriteFault>
     ensures ok { OnOk result (Appends (W.contents writer.old) (W.contents writer.new) (reply_line reply.now)) }
     ensures err { OnErr result ((n : ℕ) × (n < length (reply_line reply.now))

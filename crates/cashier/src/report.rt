@@ -1,4 +1,4 @@
-// The reports that commands print.
+// Prints the reports that commands ask for.
 
 ghost use Rattle.std.specs.Prelude.{◌≡◌, ◌≢◌, Result, true};
 ghost use Rattle.trust_base.specs.declared.refusal.StoreFault.{StoreFault};
@@ -8,9 +8,9 @@ ghost use Rattle.trust_store.specs.Calls.{IsRead};
 ghost use Rattle.trust_store.specs.Crashes.{LeavesOr};
 
 use crate::outcome::{Outcome, outcome_of_reply};
-use crate::remarks::{ExceptionTelling, NowTelling, Remark, Remarks, TwiceTelling};
 use crate::reply_kind::kind_of_reply;
 use crate::reply_line::write_reply;
+use cashier_remarks::{ExceptionTelling, NowTelling, Remark, Remarks, TwiceTelling};
 use command_line::ReportCommand;
 use std::alloc::Global;
 use std::io::Write;
@@ -19,7 +19,7 @@ use trust_desk::{Desk, Request, RowWatch};
 use trust_matter::{Ask, Caller};
 use trust_store::Book;
 
-// What the cashier asks for a report.
+// The cashier's request for a report.
 fn request_for(command: ReportCommand) -> Request
     ensures { result ≡ asked_for command }
 {
@@ -54,7 +54,7 @@ fn print_report<W: Write, B: Book>(
         desk.old desk.new }
     ensures crash { B.sure desk.new → B.clean desk.old → B.stands desk.old
         → LeavesOr (B.firm desk.old) (B.leaves desk.old) (B.leaves desk.new) }
-    // Where the text was written, the store has met no fault.
+    // If the text was written, the store has met no fault.
     ensures serves { result ≡ Outcome.Done → B.sure desk.new → B.clean desk.old → B.stands desk.old
         → B.clean desk.new }
 {
@@ -72,7 +72,7 @@ fn is_done(outcome: Outcome) -> bool
     matches!(outcome, Outcome::Done)
 }
 
-// Tells a person what the rows of a desk's book show beside a report of a day, and what fault ended that, if one did.
+// Reports what the rows of a desk's book show in addition to a report of a day, and which fault ended that, if any.
 fn tell_rows<M: Remarks, V: RowWatch, B: Book>(
     alloc: Global,
     remarks: &M,
@@ -88,8 +88,8 @@ fn tell_rows<M: Remarks, V: RowWatch, B: Book>(
     }
 }
 
-// Tells a person why each exception of a desk's book is one on a business day, and which lines of the bank look like
-// one; and what fault ended that, if one did.
+// Reports why each exception of a desk's book is one on a business day, which bank lines look like the same line, and
+// which fault ended that, if any.
 fn tell_reasons<M: Remarks, B: Book>(alloc: Global, remarks: &M, desk: &mut Desk<B>, today: Day)
     ensures { (told : Result Unit StoreFault)
         × IsRead B.firm B.clean B.sure B.stands B.lasts B.leaves B.refusals told desk.old desk.new }
@@ -101,15 +101,15 @@ fn tell_reasons<M: Remarks, B: Book>(alloc: Global, remarks: &M, desk: &mut Desk
     }
 }
 
-/// Prints a report of a desk's book on a business day, which the cashier asks: its text as it is, or the line of its
-/// refusal. Behind the exceptions a person is told why each is one, or that an import would take it now; behind these
-/// and a reconciliation, which lines of the bank look like one; and behind a trial balance or a journal of a day that
-/// `is_past`, that there is later work. Of that no clause speaks; a fault that ends it is told too, and is no fault of
-/// the run. Where nobody is told, the book is not read for it.
+/// Prints a report of a desk's book on a business day, as the cashier: its text as it is, or the line of its refusal.
+/// After the exceptions, a person is told why each is one, or that an import would now accept it. After these and a
+/// reconciliation, which bank lines look like the same line. After a trial balance or a journal of a day that
+/// `is_past`, that there is later work. The contract does not say what is told. A fault that ends it is reported too,
+/// but is not a fault of the run. If nobody is told, the book is not read for it.
 ///
-/// The outcome is `Done` where the text was written, and `Refused` where the line of a refusal was; where the store or
-/// memory was refused, that was told by its line, and it is `StoreFault` or `MemoryFault`. Where a write failed it is
-/// `OutputFault`, and a proper front of the text or line was written. Nothing is read.
+/// The outcome is `Done` if the text was written, and `Refused` if the line of a refusal was. If the store failed or
+/// memory ran out, the line for that was printed, and it is `StoreFault` or `MemoryFault`. If a write failed, it is
+/// `OutputFault`, and only a prefix of the text or line was written. Nothing is read.
 pub fn run_report<M: Remarks, W: Write, B: Book>(
     alloc: Global,
     command: ReportCommand,
@@ -124,7 +124,7 @@ pub fn run_report<M: Remarks, W: Write, B: Book>(
         → PrintsReport today (B.firm desk.old) command (B.firm desk.new) (W.contents writer.old)
         (W.contents writer.new) result }
 
-    // It ends by Store only where a call of the book was refused.
+    // It ends with `StoreFault` only if a call of the book returned `Store`.
     ensures kept { LeavesBook B.clean B.sure B.stands B.lasts B.refusals (CountsStore Outcome.StoreFault result)
         desk.old desk.new }
     ensures crash { B.sure desk.new → B.clean desk.old → B.stands desk.old

@@ -1,4 +1,4 @@
-// The clients of a port.
+// Serves the clients of a port.
 
 ghost use Rattle.std.specs.Prelude.{◌≡◌, ◌≢◌};
 ghost use Rattle.cashier.specs.Calls.{CountsStore, LeavesBook};
@@ -6,10 +6,9 @@ ghost use Rattle.cashier.specs.Crashes.{LeavesClients};
 ghost use Rattle.cashier.specs.Serving.{PortEnds};
 ghost use Rattle.portal_http.specs.Clients.{ports_of};
 
-use crate::folder::Folder;
 use crate::outcome::{Outcome, outcome_of_serving};
-use crate::remarks::Remarks;
 use crate::surroundings::Surroundings;
+use cashier_remarks::{Folder, Remarks};
 use portal_http::{Network, serve_connections};
 use std::alloc::Global;
 use std::io::Write;
@@ -18,13 +17,13 @@ use trust_base::Day;
 use trust_desk::Desk;
 use trust_store::Book;
 
-/// Serves so many clients of a port over a desk on a business day, one after the other, and writes a line for each: the
+/// Serves `count` clients of a port over a desk on a business day, one after the other, and writes a line for each, the
 /// name of its stream's end.
 ///
-/// The outcome is `Done` where as many were served as were asked for, however their streams ended; `NetworkFault` where
-/// the port can't be had, and then nothing is served or written, or where an accept was refused; `OutputFault` where a
-/// line could not be written, and then a proper front of the lines was. It is never `StoreFault`: what the store
-/// refused was answered to its message.
+/// The outcome is `Done` if as many were served as requested, however their streams ended. It is `NetworkFault` if the
+/// port is not available, and then nothing is served or written, or if an accept was refused. It is `OutputFault` if a
+/// line could not be written, and then only a prefix of the lines was. It is never `StoreFault`, because a failure of
+/// the store was answered to its message.
 pub fn run_serve<F: Folder, C: Clock + Drop, N: Network, M: Remarks, W: Write, B: Book>(
     alloc: Global,
     around: Surroundings<'_, F, C, N, M>,
@@ -43,7 +42,7 @@ pub fn run_serve<F: Folder, C: Clock + Drop, N: Network, M: Remarks, W: Write, B
     ensures kept { LeavesBook B.clean B.sure B.stands B.lasts B.refusals (CountsStore Outcome.StoreFault result)
         desk.old desk.new }
 
-    // Of each client its answers, and what a crash leaves of its messages.
+    // For each client its answers, and what a crash leaves of its messages.
     ensures crash { LeavesClients B.clean B.sure B.stands B.lasts B.leaves B.firm B.refusals today
         (ports_of N.Listener.Writer.contents (N.comes around.entry.network.now)
         (N.refuses around.entry.network.now)) port desk.old desk.new }

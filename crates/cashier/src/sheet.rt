@@ -1,4 +1,4 @@
-// A day sheet.
+// Runs a day sheet.
 
 ghost use Rattle.std.specs.Prelude.{◌≡◌, ◌≢◌, IfErr, IfSome, IsOk, []};
 ghost use Rattle.std.specs.Io.KnownBytes.{Appends};
@@ -6,13 +6,13 @@ ghost use Rattle.csv.specs.Records.{fields_of};
 ghost use Rattle.firm_rows.specs.Firm.{Firm};
 ghost use Rattle.cashier.specs.Calls.{CountsStore, LeavesBook};
 ghost use Rattle.cashier.specs.Sheet.{Ends, IsCounted, LargeEnds, LinesAreKept, RecordEnds, RunEnds, TellsLine};
-ghost use Rattle.cashier.specs.Sheet.{end_of, heard_of, ran_by, records_run, sheet_records};
+ghost use Rattle.cashier.specs.Sheet.{end_of, ran_by, records_run, sheet_records};
+ghost use Rattle.cashier_remarks.specs.Records.{heard_of};
 ghost use Rattle.trust_desk.specs.Crashes.{IsMade, MayLeave};
 
-use crate::record::answer_record;
-use crate::remarks::{Remark, Remarks, Telling};
 use crate::reply_kind::{ReplyKind, kind_of_reply};
 use crate::reply_line::{write_refusal, write_reply};
+use cashier_remarks::{Remark, Remarks, Telling, answer_record};
 use csv::{ByteRecord, ReaderBuilder};
 use std::alloc::Global;
 use std::io::{Read, Write};
@@ -23,23 +23,23 @@ use trust_store::Book;
 /// How a sheet ended.
 #[derive(Clone, Copy, PartialEq, Eq, Debug)]
 pub enum SheetEnd {
-    /// Each record was accepted.
+    /// Every record was accepted.
     Done,
-    /// A record was refused, or the whole sheet as too large.
+    /// A record was refused, or the whole sheet was too large.
     Refused,
-    /// A read failed: no record was run, and nothing was written.
+    /// A read failed. No record was run, and nothing was written.
     ReadFault,
-    /// A write failed: a part of the lines was written. The changes of the record whose line was cut stay.
+    /// A write failed. Only a part of the lines was written. The changes of the record whose line was cut off stay.
     WriteFault,
-    /// A record was answered Store: its line was written, and no later record was run.
+    /// The reply to a record was `Store`. Its line was written, and no later record was run.
     Store,
-    /// A growth was refused: the lines of the first records were written, each whole, and the line of the record
-    /// that was answered Memory, if one was.
+    /// Memory ran out. The lines of the first records were written, each complete, and the line of the record whose
+    /// reply was `Memory`, if there was one.
     NoMemory,
 }
 
-// How the run of a sheet goes on once a record was answered so, and its line written: whether the record was accepted,
-// or the end of the run.
+// How a run continues after the line of a record with this reply was written: whether the record was accepted, or the
+// end of the run.
 fn ran_of(kind: ReplyKind) -> Result<bool, SheetEnd>
     ensures is { result ≡ ran_by kind }
     ensures read { IfErr result (λ end. end ≢ SheetEnd.ReadFault) }
@@ -52,7 +52,7 @@ fn ran_of(kind: ReplyKind) -> Result<bool, SheetEnd>
     }
 }
 
-// Runs one record and writes its line: whether it was accepted, or the end of the run.
+// Runs one record and writes its line. Returns whether it was accepted, or the end of the run.
 fn run_record<W: Write, B: Book, M: Remarks>(
     alloc: Global,
     row: &ByteRecord,
@@ -80,7 +80,7 @@ fn run_record<W: Write, B: Book, M: Remarks>(
     ran_of(kind_of_reply(&reply))
 }
 
-// How a sheet ended of which all records were run, by whether one was refused.
+// How a sheet ends after all records were run, depending on whether one was refused.
 fn end_of_all(refused: bool) -> SheetEnd
     ensures { result ≡ end_of refused }
 {
@@ -131,7 +131,7 @@ fn run_records<W: Write, B: Book, M: Remarks>(
     end_of_all(refused)
 }
 
-// Answers a sheet above the limit.
+// Answers a sheet above the size limit.
 fn refuse_whole<W: Write, M: Remarks>(remarks: &M, writer: &mut W) -> SheetEnd
     ensures ends { (firm : Firm) → LargeEnds firm firm (W.contents writer.old) (W.contents writer.new) result }
     ensures read { result ≢ SheetEnd.ReadFault }
@@ -144,14 +144,14 @@ fn refuse_whole<W: Write, M: Remarks>(remarks: &M, writer: &mut W) -> SheetEnd
     SheetEnd::Refused
 }
 
-/// Runs a day sheet over a desk on a business day: reads it whole, and writes a line for each of its records, which
-/// the cashier asks. Of each that is not accepted a remark is told, which no clause speaks of.
+/// Runs a day sheet over a desk on a business day: reads it whole, and writes a line for each of its records, which are
+/// run as the cashier. Makes a remark about each that is not accepted; the contract does not say what it is.
 ///
-/// A sheet above 4,194,304 bytes runs no record and is answered by one line. What is written is a function of the
-/// sheet's bytes, the firm's rows before and the day, however the reads and writes are cut.
+/// Of a sheet above 4,194,304 bytes no record is run; one line is written. The output depends only on the sheet's
+/// bytes, the firm's rows before and the day, however the reads and writes are split.
 ///
-/// The records of a reader, and their lines into a writer, with nobody told of what is refused. Where the reader has
-/// `open,000001,,Ada Chen,lee` twice, the second line is 409, since the matter is open by then:
+/// The following runs the records of a reader and writes their lines to a writer, with nobody told about refused ones.
+/// If the reader has `open,000001,,Ada Chen,lee` twice, the second line is 409, because the matter is then open:
 ///
 ///     let end = run_sheet(alloc, &mut sheet, &NoRemarks, &mut lines, &mut desk, today);    // SheetEnd::Refused
 pub fn run_sheet<R: Read, W: Write, B: Book, M: Remarks>(
@@ -168,12 +168,12 @@ pub fn run_sheet<R: Read, W: Write, B: Book, M: Remarks>(
     ensures unread { result ≡ SheetEnd.ReadFault
         → Appends (W.contents writer.old) (W.contents writer.new) [] × (desk.new ≡ desk.old) }
 
-    // It ends by Store only where a call of the book was refused.
+    // It ends with `Store` only if a call of the book returned `Store`.
     ensures kept { LeavesBook B.clean B.sure B.stands B.lasts B.refusals (CountsStore SheetEnd.Store result)
         desk.old desk.new }
 
-    // Each line that was written as accepted is of a record that a crash leaves done, however the sheet ended: a line
-    // is written once its change is settled.
+    // Each line that was written as accepted is of a record that a crash leaves done, however the sheet ended. A line
+    // is written only after its change is settled.
     ensures crash { B.sure desk.new → B.clean desk.old → B.stands desk.old → IfSome (R.remaining reader.old)
         (λ bytes. LinesAreKept B.clean B.leaves day (B.firm desk.old) (records_run bytes) desk.old
         (W.contents writer.old) (W.contents writer.new) result desk.new) }

@@ -1,4 +1,4 @@
-// A bank's statement.
+// Imports a bank's statement.
 
 ghost use Rattle.std.specs.Prelude.{◌≡◌, ◌⊎◌, option_map};
 ghost use Rattle.std.specs.Io.KnownBytes.{Appends};
@@ -21,22 +21,22 @@ use trust_store::Book;
 /// How the import of a statement ended.
 #[derive(Clone, Copy, PartialEq, Eq, Debug)]
 pub enum StatementEnd {
-    /// Each item was taken, and the counts were written.
+    /// Every item was handled, and the counts were written.
     Done,
-    /// The statement was refused: its header is another, or it is too large. Where its length told so, none of its
-    /// items was applied.
+    /// The statement was refused: it has another header, or is too large. If its reported length was too large, none of
+    /// its items was applied.
     Refused,
-    /// A read failed: the items before stay applied, and nothing was written.
+    /// A read failed. The items before that stay applied, and nothing was written.
     ReadFault,
-    /// A write failed: a part of the line was written. The items that were applied stay so.
+    /// A write failed. Only a part of the line was written. The items that were applied stay so.
     WriteFault,
-    /// The store refused a call: its line was written, and the items before stay applied.
+    /// The store failed. The line for that was written, and the items before stay applied.
     Store,
-    /// A growth was refused: its line was written, and the items before stay applied.
+    /// Memory ran out. The line for that was written, and the items before stay applied.
     NoMemory,
 }
 
-/// Whether the length in bytes is told and above the limit of a file.
+/// Whether a length in bytes is reported and is above the size limit of a file.
 pub fn is_told_longer(length: Option<u64>) -> bool
     ensures { result ≡ spec.is_told_longer length }
 {
@@ -46,7 +46,7 @@ pub fn is_told_longer(length: Option<u64>) -> bool
     }
 }
 
-// How a run ends by a refusal.
+// How a run ends after a refusal.
 fn end_of(refusal: &Refusal) -> StatementEnd
     ensures { result ≡ refused_end (refusal_kind refusal.now) }
 {
@@ -82,7 +82,7 @@ fn accept<W: Write>(writer: &mut W, alloc: Global, counts: &ImportReply) -> Stat
     StatementEnd::Done
 }
 
-// Writes the line of an import, where it has one.
+// Writes the line of an import, if it has one.
 fn answer<W: Write>(writer: &mut W, alloc: Global, ran: &ImportEnd) -> StatementEnd
     ensures { Answers ran.now (W.contents writer.old) (W.contents writer.new) result }
 {
@@ -95,12 +95,12 @@ fn answer<W: Write>(writer: &mut W, alloc: Global, ran: &ImportEnd) -> Statement
 }
 
 /// Imports a bank's statement over a desk on a business day, and writes one line: the counts of its items, or its
-/// refusal. `length` is what the statement tells of its length in bytes before it is read.
+/// refusal. `length` is the length in bytes that the statement reports before it is read.
 ///
-/// A statement that tells a length above 4,194,304 bytes is refused, and nothing of it applied. One that tells none is
-/// read until it passes that length; the items before stay applied then, as they do at any fault.
+/// A statement that reports a length above 4,194,304 bytes is refused, and nothing of it is applied. One that reports
+/// no length is read until it exceeds the limit; the items before that then stay applied, as they do after any fault.
 ///
-/// `watch` is told of each item that is not applied, and of the end, of which no clause speaks.
+/// `watch` is told about each item that is not applied, and about the end. The contract does not say what it is told.
 pub fn run_import<R: Read + Drop, W: Write, B: Book, V: ItemWatch>(
     alloc: Global,
     reader: R,
@@ -114,12 +114,12 @@ pub fn run_import<R: Read + Drop, W: Write, B: Book, V: ItemWatch>(
         → StatementEnds today (B.firm desk.old) length (R.remaining reader) (B.firm desk.new)
         (W.contents writer.old) (W.contents writer.new) result }
 
-    // It ends by Store only where a call of the book was refused.
+    // It ends with `Store` only if a call of the book returned `Store`.
     ensures kept { LeavesBook B.clean B.sure B.stands B.lasts B.refusals (CountsStore StatementEnd.Store result)
         desk.old desk.new }
 
-    // A crash may leave what it might have left before, or the rows after some front of the items; and a settled book
-    // is settled, where neither the store nor memory ended it. The line is written behind that.
+    // A crash may leave what it might have left before, or the rows after some first items. A settled book is still
+    // settled, unless the store or memory ended the import. The line is written after that.
     ensures crash { B.sure desk.new → B.clean desk.old → B.stands desk.old
         → MayLeave B.clean B.leaves (EndsByNoFault result)
         (IsAfterFirst today (B.firm desk.old) (option_map items (R.remaining reader)))

@@ -1,14 +1,14 @@
-// What lies around a run.
+// What a run can use.
 
-/// What a run may reach beside its standard streams.
+/// What a run can use in addition to its standard streams.
 #[derive(Drop)]
 pub struct Surroundings<'a, F, C, N, M> {
-    /// The files that a command line names.
+    /// The files that a command line can name.
     pub folder: &'a F,
-    /// The clock that clients are held to.
+    /// The clock that times clients.
     pub clock: &'a C,
-    /// The ports that a command line names.
+    /// The ports that a command line can name.
     pub network: &'a N,
-    /// Who is told what a person needs to go on.
+    /// Receives the remarks, which say what a person needs to go on.
     pub remarks: &'a M,
 }

@@ -1,13 +1,12 @@
-// The program on the system that it runs on.
+// Runs the program on the operating system.
 
 ghost use Rattle.std.specs.Prelude.{None, ⊤};
 
-use crate::folder::{Folder, Opened, Presence};
 use crate::notice::{Notice, bare_notice_of, notice_of};
 use crate::outcome::{Outcome, exit_of};
 use crate::program::{run_called, texts_of};
-use crate::remarks::{Remark, Remarks};
 use crate::surroundings::Surroundings;
+use cashier_remarks::{Folder, Opened, Presence, Remark, Remarks};
 use portal_http::SystemNetwork;
 use std::fs::{self, OpenFile};
 use std::io::{self, ErrorKind};
@@ -16,7 +15,7 @@ use std::process::ExitCode;
 use std::rt::{Clock, Env, Files};
 use trust_store::Stores;
 
-// The files of the system, of which nothing is known.
+// The files of the system. Nothing is known about them.
 #[derive(Drop)]
 struct SystemFiles<'a, R> {
     rt: &'a R,
@@ -49,7 +48,7 @@ impl<R: Files> Folder for SystemFiles<'_, R> {
     }
 }
 
-// The standard error of the system, which is told remarks as they come.
+// The standard error of the system, which prints remarks as they come.
 #[derive(Drop)]
 struct SystemRemarks<'a, R> {
     rt: &'a R,
@@ -61,7 +60,7 @@ impl<R: Eprint> Remarks for SystemRemarks<'_, R> {
     }
 }
 
-// The words that the program was called with, or why they can't be told.
+// Returns the words that the program was called with, or why they can't be read.
 fn words(rt: &(impl Env + AllocGlobal)) -> Result<Vec<String>, ErrorKind> {
     match std::env::args(rt) {
         Ok(words) => words
@@ -71,14 +70,14 @@ fn words(rt: &(impl Env + AllocGlobal)) -> Result<Vec<String>, ErrorKind> {
     }
 }
 
-// Tells standard error what there is to tell.
+// Prints a notice on standard error, if there is one.
 fn tell(rt: &impl Eprint, notice: Option<Notice<'_>>) {
     if let Some(notice) = notice {
         let _ = eprintln!(rt; "{notice}");
     }
 }
 
-// Tells standard error of an outcome, with what the words have to do with it where they are known.
+// Reports an outcome on standard error, with what the words have to do with it, if they are known.
 fn tell_outcome(
     rt: &(impl Eprint + AllocGlobal),
     outcome: Outcome,
@@ -93,12 +92,12 @@ fn tell_outcome(
     }
 }
 
-/// The whole program: runs what the words that it was called with ask for, over standard input, standard output, the
-/// system's files and ports and the books of `stores`, tells standard error of a fault or of wrong words, and answers
+/// The whole program. Runs what the words that it was called with ask for, over standard input, standard output, the
+/// system's files and ports and the books of `stores`. Reports a fault or invalid words on standard error, and returns
 /// the exit status.
 ///
-/// It joins `run_called`, `notice_of` and `exit_of`, whose contracts say what a run does, what is told of it and how it
-/// ends. What the system's words, files, streams and clients hold no contract can tell, so there is none here.
+/// It combines `run_called`, `notice_of` and `exit_of`, whose contracts say what a run does, what is reported about it
+/// and how it ends. This function has no contract: nothing can be promised about what the operating system supplies.
 pub fn run_on_system<S: Stores>(
     rt: &(impl Env + Input + Files + Print + Eprint + Clock + Net + Drop + AllocGlobal),
     stores: &S,

@@ -1,5 +1,5 @@
-//! Trust account records of a law firm: a day sheet or HTTP messages from standard input, or a bank's statement from a
-//! file, to standard output.
+//! Trust account records of a law firm. Reads a day sheet or HTTP messages from standard input, or a bank statement
+//! from a file, and writes to standard output.
 #![tactic(auto)]
 
 use cashier::run_on_system;

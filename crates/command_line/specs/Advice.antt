@@ -1,4 +1,4 @@
--- What is told of words that mean nothing: the usage of the command that they name, an example, and what is wrong.
+-- The advice for words that mean nothing: the usage of the command that they name, an example, and what is wrong.
 use Rattle.std.specs.Prelude.{◌≡◌, ◌≢◌, ◌⊎◌, ◌++◌, ◌+◌, ℕ, Bool, false, List, [], Option, Some, None, codes, fold, if◌then◌else◌, slice_get, take, ⊤}
 use Rattle.std.specs.List.{list_any}
 use Rattle.std.specs.Option.{option_or}
@@ -36,7 +36,7 @@ verb_name verbs.Exceptions = codes "exceptions"
 verb_name verbs.Ledger = codes "ledger"
 verb_name verbs.Check = codes "check"
 
--- how a command is written behind the options; all of them, where none is named
+-- how a command is written after the options; without a command, all of them
 abbrev pub verb_usage : Option Verb → Text
 verb_usage None = codes "(sheet | import FILE | match FILE | stream | serve PORT COUNT | reconcile DAY | trial | "
     ++ codes "journal | retention | exceptions | ledger MATTER|FIRM | check)"
@@ -86,32 +86,32 @@ wrong_text wrong.MissingDay = codes "--today DAY is missing"
 wrong_text wrong.MissingCommand = codes "a command is missing"
 wrong_text wrong.MissingWord = codes "a word is missing"
 
--- the line of what is wrong, where that is known
+-- the line that says what is wrong, if that is known
 abbrev pub wrong_line : Option Wrong → Text
 wrong_line None = []
 wrong_line (Some w) = codes "\nwrong: " ++ wrong_text w
 
--- the lines that are told, without the last one's end
+-- the lines of the advice, without the last newline
 abbrev pub advice_text : Advice → Text
 advice_text a = codes "usage: cashier_cli [--db PATH] [--quiet] --today DAY " ++ (verb_usage a.verb
     ++ (codes "\nexample: cashier_cli --today 2026-03-31 " ++ (verb_example a.verb ++ wrong_line a.wrong)))
 
--- ---- what is true of the words
+-- ---- what holds of the words
 
--- the command line takes the words, or wants only required ones behind them: they name a command
+-- the command line accepts the words, or only misses required ones after them, so they name a command
 abbrev pub HasCommand : List Text → Type 0
 HasCommand words = (fault_of program words ≡ []) ⊎ FailsAs words kind.MissingRequiredArgument
 
--- the command line takes the words, or wants more of them
+-- the command line accepts the words, or needs more of them
 abbrev pub IsTakenSoFar : List Text → Type 0
 IsTakenSoFar words = HasCommand words ⊎ (FailsAs words kind.MissingSubcommand ⊎ FailsAs words kind.InvalidValue)
 
--- a word among them is no option and no command where it stands, or one word too many
+-- one of the words is no option and no command where it stands, or is one too many
 abbrev pub IsStrayed : List Text → Type 0
 IsStrayed words = FailsAs words kind.UnknownArgument
     ⊎ (FailsAs words kind.InvalidSubcommand ⊎ FailsAs words kind.TooManyValues)
 
--- how far the command line takes words, by its error, where it has one
+-- how far the command line accepts words, by its error, if it has one
 abbrev pub front_by : Option ErrorKind → Front
 front_by None = fronts.Met
 front_by (Some kind.MissingRequiredArgument) = fronts.Met
@@ -123,7 +123,7 @@ front_by (Some kind.InvalidSubcommand) = fronts.Strays
 front_by (Some kind.TooManyValues) = fronts.Strays
 front_by (Some _) = fronts.Fails
 
--- the command line takes the words as far as that
+-- the command line accepts the words this far
 abbrev pub IsFront : List Text → Front → Type 0
 IsFront words fronts.Met = HasCommand words
 IsFront words fronts.WantsCommand = FailsAs words kind.MissingSubcommand
@@ -132,52 +132,52 @@ IsFront words fronts.Repeats = FailsAs words kind.ArgumentConflict
 IsFront words fronts.Strays = IsStrayed words
 IsFront words fronts.Fails = ⊤
 
--- the word is not taken where it stands: those before it are, so far
+-- the word is not accepted where it stands, but those before it are so far
 pub record IsStray (words : List Text) (word : Text) : Type 0 where
   pub place : ℕ
   pub stands : slice_get words place ≡ Some word
   pub before : IsTakenSoFar (take place words)
   pub refused : IsStrayed (take (place + 1) words)
 
--- the words name the command: it stands where one is wanted, and with it none is any more
+-- the words name the command: it stands where one is required, and with it none is required any more
 pub record Names (words : List Text) (verb : Verb) : Type 0 where
   pub place : ℕ
   pub stands : slice_get words place ≡ Some (verb_name verb)
   pub wanted : FailsAs (take place words) kind.MissingSubcommand
   pub met : HasCommand (take (place + 1) words)
 
--- the word begins as the option of the business day does
+-- whether the word begins like the option of the business day
 abbrev pub names_day : Text → Bool
 names_day word = bytes_eq (take 7 word) (codes "--today")
 
--- the word begins as the option of the database does
+-- whether the word begins like the option of the database
 abbrev pub names_db : Text → Bool
 names_db word = bytes_eq (take 4 word) (codes "--db")
 
--- the word begins as the flag of a quiet run does
+-- whether the word begins like the flag of a quiet run
 abbrev pub names_quiet : Text → Bool
 names_quiet word = bytes_eq (take 7 word) (codes "--quiet")
 
--- the option that a word begins as
+-- the option that a word begins like
 abbrev pub setting_named : Text → Option Setting
 setting_named word =
     if names_day word then Some settings.Today
     else (if names_db word then Some settings.Db else (if names_quiet word then Some settings.Quiet else None))
 
--- the option that the last of the words that begin as one begins as
+-- the option of the last word that begins like one
 abbrev pub last_setting : List Text → Option Setting
 last_setting = fold (λ before word. option_or (setting_named word) before) None
 
--- the option is given again: the command line takes the words before this place so far, and with the word that stands
--- there it refuses them as a repetition; the option that was named last is that which is repeated
+-- the option is repeated: the command line accepts the words before this place so far, and refuses them with the next
+-- word as a repetition; the option named last is the one that is repeated
 pub record IsRepeated (words : List Text) (setting : Setting) : Type 0 where
   pub place : ℕ
   pub before : IsTakenSoFar (take place words)
   pub refused : FailsAs (take (place + 1) words) kind.ArgumentConflict
   pub named : last_setting (take (place + 1) words) ≡ Some setting
 
--- with the word at this place an option's value is wanted, while before it a command is, and the next word, where there
--- is one, does not give it
+-- before this place a command is required, and with the word there the value of an option, which the next word, if
+-- there is one, does not give
 pub record LacksValueAt (words : List Text) (place : ℕ) : Type 0 where
   pub before : FailsAs (take place words) kind.MissingSubcommand
   pub wanted : FailsAs (take (place + 1) words) kind.InvalidValue
@@ -189,13 +189,13 @@ pub record LacksValue (words : List Text) (setting : Setting) : Type 0 where
   pub lacks : LacksValueAt words place
   pub named : last_setting (take (place + 1) words) ≡ Some setting
 
--- of the matched values, that of `--today` is wrong
+-- of the parsed values, that of `--today` is wrong
 abbrev pub IsWrongToday : List Row → Wrong → Type 0
 IsWrongToday values (wrong.NoDay text) =
     (first_of (codes "today") values ≡ Some text.now) × (day_of text.now ≡ None)
 IsWrongToday values _ = ⊥
 
--- of the values of a command of this name, this one is wrong
+-- of the values of a command with this name, this one is wrong
 abbrev pub IsWrongOperand : Text → List Row → Wrong → Type 0
 IsWrongOperand name values (wrong.NoDay text) =
     (name ≡ codes "reconcile") × (first_of (codes "DAY") values ≡ Some text.now) × (day_of text.now ≡ None)
@@ -208,17 +208,17 @@ IsWrongOperand name values (wrong.NoCount text) = (name ≡ codes "serve")
     × (first_of (codes "COUNT") values ≡ Some text.now) × ((count : ℕ) → ¬ IsCount text.now count)
 IsWrongOperand name values _ = ⊥
 
--- of the matched values and those of the command that was met, this one is wrong
+-- of the parsed values and those of the command, if there is one, this one is wrong
 abbrev pub IsWrongValue : List Row → Option (Text × List Row) → Wrong → Type 0
 IsWrongValue rows None w = IsWrongToday rows w
 IsWrongValue rows (Some met) w = IsWrongToday rows w ⊎ IsWrongOperand met.0 met.1 w
 
--- the command line takes the words, and this value of theirs is wrong
+-- the command line accepts the words, but this value is wrong
 pub record HasWrongValue (words : List Text) (w : Wrong) : Type 0 where
   pub taken : fault_of program words ≡ []
   pub value : IsWrongValue (matches_of program words) (subcommand_of program words) w
 
--- this is wrong with the words
+-- this is what is wrong with the words
 abbrev pub IsWrong : List Text → Wrong → Type 0
 IsWrong words (wrong.Word text) = IsStray words text.now
 IsWrong words (wrong.Repeated setting) = IsRepeated words setting

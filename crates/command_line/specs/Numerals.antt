@@ -3,13 +3,13 @@ use Rattle.std.specs.Prelude.{◌≡◌, ◌≤◌, ℕ, List}
 use Rattle.std.specs.Fmt.{decimal}
 use Rattle.command_line.specs.declared.numerals.TheConstants.{MAX_COUNT, MAX_PORT, MIN_PORT}
 
--- the text is the digits of the number, without leading zeros, and that is from `least` to `most`
+-- the text is the digits of the number, without leading zeros, and the number is from `least` to `most`
 pub record IsNumberBetween (least most : ℕ) (text : List ℕ) (number : ℕ) : Type 0 where
   pub digits : text ≡ decimal number
   pub above : least ≤ number
   pub below : number ≤ most
 
--- a port that is not the system's own
+-- a port that is not reserved for the system
 abbrev pub IsPort : List ℕ → ℕ → Type 0
 IsPort text port = IsNumberBetween MIN_PORT MAX_PORT text port
 

@@ -1,4 +1,4 @@
--- The program's command line, as a parser of words sees it, and the plan that words mean.
+-- The program's command line as a parser of words sees it, and the plan that words mean.
 use Rattle.std.specs.Prelude.{◌≡◌, ◌⊎◌, ℕ, Bool, List, [], ◌∷◌, Option, Some, None, IsSomeAnd, false, true, codes, map, option_and_then, ⊤}
 use Rattle.std.specs.Borrow.{Bor}
 use Rattle.std.specs.Option.{option_map_or}
@@ -23,7 +23,7 @@ unfoldable pub today_rule : Rule
 today_rule =
     record (new_rule (codes "today")) { long = Some (codes "today"); required = true; action = Some action.Set }
 
--- `--db PATH`, which may be left out
+-- `--db PATH`, optional
 unfoldable pub db_rule : Rule
 db_rule = record (new_rule (codes "db")) { long = Some (codes "db"); action = Some action.Set }
 
@@ -32,7 +32,7 @@ unfoldable pub quiet_rule : Rule
 quiet_rule =
     record (new_rule (codes "quiet")) { long = Some (codes "quiet"); action = Some action.SetTrue }
 
--- the command line's options, without its commands
+-- the options of the command line, without its commands
 unfoldable pub options_app : App
 options_app =
     with_rule (with_rule (with_rule (new_app (codes "cashier_cli")) today_rule) db_rule) quiet_rule
@@ -40,7 +40,7 @@ options_app =
 unfoldable pub sheet_app : App
 sheet_app = new_app (codes "sheet")
 
--- an operand, required
+-- a required operand
 unfoldable pub operand_rule : Text → Rule
 operand_rule operand = record (new_rule operand) { required = true; action = Some action.Set }
 
@@ -70,21 +70,21 @@ check_app = new_app (codes "check")
 unfoldable pub run_apps : List App
 run_apps = sheet_app ∷ import_app ∷ match_app ∷ stream_app ∷ serve_app ∷ check_app ∷ []
 
--- the commands of reports: `reconcile DAY`, `trial`, `journal`, `retention`, `exceptions`, `ledger MATTER`; the word
--- FIRM may stand for a matter's number
+-- the commands of reports: `reconcile DAY`, `trial`, `journal`, `retention`, `exceptions`, `ledger MATTER`; instead
+-- of a matter's number there may be the word FIRM
 unfoldable pub report_apps : List App
 report_apps =
     operand_app (codes "reconcile") (codes "DAY") ∷ new_app (codes "trial") ∷ new_app (codes "journal")
     ∷ new_app (codes "retention") ∷ new_app (codes "exceptions")
     ∷ operand_app (codes "ledger") (codes "MATTER") ∷ []
 
--- a command line with these commands behind its own
+-- a command line with these commands added after its own
 abbrev pub with_commands : App → List App → App
 with_commands app [] = app
 with_commands app (command ∷ rest) = with_commands (with_subcommand app command.top) rest
 
--- the command line: its options, which are `--today DAY`, `--db PATH` and `--quiet`, in any order among the words and
--- each at most once, and a command behind them
+-- the command line: its options `--today DAY`, `--db PATH` and `--quiet`, each at most once and in any order, and a
+-- command after them
 unfoldable pub program : App
 program =
     on_top (λ s. record s { subcommand_required = true })
@@ -94,17 +94,17 @@ program =
 abbrev pub words_of : List (Bor (List ℕ)) → List Text
 words_of = map (λ s. s.now)
 
--- the command line takes the words, and these are their values and the command that they name
+-- the command line accepts the words, with these values and this command
 pub record IsParse (words : List Text) (matches : ArgMatches) : Type 0 where
   pub taken : fault_of program words ≡ []
   pub values : rows_of (found_of matches) ≡ matches_of program words
   pub met : subcommand_rows_of matches ≡ subcommand_of program words
 
--- the command line refuses the words by an error of this kind
+-- the command line refuses the words with an error of this kind
 abbrev pub FailsAs : List Text → ErrorKind → Type 0
 FailsAs words k = IsAmong k (fault_of program words)
 
--- they are refused by an error of this kind; a want of memory may come before what is wrong with them
+-- the words are refused with an error of this kind; memory may run out before their own error is found
 abbrev pub IsRefused : List Text → ErrorKind → Type 0
 IsRefused words k = (k ≡ kind.OutOfMemory) ⊎ FailsAs words k
 
@@ -118,7 +118,7 @@ report_name reports.Exceptions = codes "exceptions"
 report_name (reports.Ledger matter) = codes "ledger"
 report_name reports.OwnLedger = codes "ledger"
 
--- the values of its command are the report's operands: the text of a day, a matter's six digits, or the word for
+-- the values of the command are the operands of the report: the text of a day, a matter's six digits, or the word for
 -- the firm
 abbrev pub HasReportOperands : List Row → ReportCommand → Type 0
 HasReportOperands values (reports.Reconcile day) =
@@ -146,11 +146,11 @@ task_text (tasks.Serve port count) = codes "serve"
 task_text (tasks.Report report) = report_name report
 task_text tasks.Check = codes "check"
 
--- the text that was given is this port's
+-- the given text is that of this port
 abbrev pub IsPortGiven : Option Text → ℕ → Type 0
 IsPortGiven given port = IsSomeAnd given (λ text. IsPort text port)
 
--- the text that was given is this count's
+-- the given text is that of this count
 abbrev pub IsCountGiven : Option Text → ℕ → Type 0
 IsCountGiven given count = IsSomeAnd given (λ text. IsCount text count)
 
@@ -174,27 +174,27 @@ pub record IsTask (name : Text) (values : List Row) (task : Task) : Type 0 where
   pub named : name ≡ task_text task
   pub operands : HasOperands values task
 
--- the command that was met is the task
+-- the command is that of the task
 abbrev pub MeetsTask : Option (Text × List Row) → Task → Type 0
 MeetsTask None task = ⊥
 MeetsTask (Some met) task = IsTask met.0 met.1 task
 
--- the matched values and the command that was met give this business day and this task
+-- the parsed values and the command give this business day and this task
 pub record Gives (rows : List Row) (met : Option (Text × List Row)) (today : ℕ) (task : Task) : Type 0 where
   -- the value of `--today` is the text of the day
   pub day : option_and_then day_of (first_of (codes "today") rows) ≡ Some today
   pub meets : MeetsTask met task
 
--- the words mean this plan: the command line takes them, and their values give it
+-- the words mean this plan: the command line accepts them, and their values give it
 pub record Means (words : List Text) (today : ℕ) (task : Task) : Type 0 where
   pub parses : fault_of program words ≡ []
   pub gives : Gives (matches_of program words) (subcommand_of program words) today task
 
--- the value of `--db`, where it is given
+-- the value of `--db`, if given
 abbrev pub db_of : List Text → Option Text
 db_of words = first_of (codes "db") (matches_of program words)
 
--- the matched values say that a flag is given
+-- the parsed values say that a flag is given
 abbrev pub is_flag_set : Text → List Row → Bool
 is_flag_set id rows = option_map_or (λ text. bytes_eq text (codes "true")) (first_of id rows) false
 
@@ -202,55 +202,55 @@ is_flag_set id rows = option_map_or (λ text. bytes_eq text (codes "true")) (fir
 abbrev pub quiet_of : List Text → Bool
 quiet_of words = is_flag_set (codes "quiet") (matches_of program words)
 
--- the words mean that a sheet is run
+-- the words ask to run a sheet
 abbrev pub MeansSheet : List Text → Type 0
 MeansSheet words = (today : ℕ) × Means words today tasks.Sheet
 
--- the words mean that a statement is imported
+-- the words ask to import a statement
 abbrev pub MeansImport : List Text → Type 0
 MeansImport words = (today : ℕ) × (path : Bor (List ℕ)) × Means words today (tasks.Import path)
 
--- the words mean that a statement is matched against the book
+-- the words ask to match a statement against the book
 abbrev pub MeansMatch : List Text → Type 0
 MeansMatch words = (today : ℕ) × (path : Bor (List ℕ)) × Means words today (tasks.Match path)
 
--- the words mean that the messages of standard input are served
+-- the words ask to serve the messages of standard input
 abbrev pub MeansStream : List Text → Type 0
 MeansStream words = (today : ℕ) × Means words today tasks.Stream
 
--- the words mean that so many connections of a port are served
+-- the words ask to serve connections of a port
 abbrev pub MeansServe : List Text → Type 0
 MeansServe words = (today : ℕ) × (port : ℕ) × (count : ℕ) × Means words today (tasks.Serve port count)
 
--- the words mean that a report is printed
+-- the words ask to print a report
 abbrev pub MeansReport : List Text → Type 0
 MeansReport words = (today : ℕ) × (report : ReportCommand) × Means words today (tasks.Report report)
 
--- the words mean that the book is checked
+-- the words ask to check the book
 abbrev pub MeansCheck : List Text → Type 0
 MeansCheck words = (today : ℕ) × Means words today tasks.Check
 
--- the words of an import mean no sheet
+-- words that ask for an import do not ask for a sheet
 abbrev pub ImportIsNoSheet : Type 0
 ImportIsNoSheet = (words : List Text) → MeansImport words → ¬ MeansSheet words
 
--- the words of an import mean no stream
+-- words that ask for an import do not ask for a stream
 abbrev pub ImportIsNoStream : Type 0
 ImportIsNoStream = (words : List Text) → MeansImport words → ¬ MeansStream words
 
--- the words of a match mean no sheet and no stream
+-- words that ask for a match ask for neither a sheet nor a stream
 abbrev pub MatchReadsNothing : Type 0
 MatchReadsNothing = (words : List Text) → MeansMatch words → (¬ MeansSheet words) × (¬ MeansStream words)
 
--- the words of a report mean no sheet and no stream
+-- words that ask for a report ask for neither a sheet nor a stream
 abbrev pub ReportReadsNothing : Type 0
 ReportReadsNothing = (words : List Text) → MeansReport words → (¬ MeansSheet words) × (¬ MeansStream words)
 
--- the words of serving mean no sheet and no stream
+-- words that ask to serve connections ask for neither a sheet nor a stream
 abbrev pub ServeReadsNothing : Type 0
 ServeReadsNothing = (words : List Text) → MeansServe words → (¬ MeansSheet words) × (¬ MeansStream words)
 
--- the words of a check mean no sheet and no stream
+-- words that ask for a check ask for neither a sheet nor a stream
 abbrev pub CheckReadsNothing : Type 0
 CheckReadsNothing = (words : List Text) → MeansCheck words → (¬ MeansSheet words) × (¬ MeansStream words)
 
@@ -258,7 +258,7 @@ CheckReadsNothing = (words : List Text) → MeansCheck words → (¬ MeansSheet 
 abbrev pub MeansNothing : List Text → Type 0
 MeansNothing words = (today : ℕ) → (task : Task) → ¬ Means words today task
 
--- why words give no plan where a parse ends by this error
+-- why there is no plan if a parse ends with this error
 abbrev pub fault_by : ErrorKind → CliFault
 fault_by kind.OutOfMemory = faults.Memory
 fault_by _ = faults.Line

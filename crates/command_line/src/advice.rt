@@ -1,4 +1,4 @@
-// What is told of words that mean nothing.
+// The advice that is printed for words that mean nothing.
 
 ghost use Rattle.std.specs.Prelude.{◌≡◌, ◌⊎◌, IfNone, IfSome, Some};
 ghost use Rattle.command_line.specs.Advice.{advice_text, verb_example, verb_name, verb_usage, wrong_text};
@@ -10,9 +10,9 @@ use std::fmt;
 pub enum Verb {
     /// Run a day sheet.
     Sheet,
-    /// Import a statement of the bank.
+    /// Import a bank statement.
     Import,
-    /// Match a bank's file against the book.
+    /// Match a bank statement against the book.
     Match,
     /// Serve the messages of standard input.
     Stream,
@@ -39,24 +39,25 @@ pub enum Verb {
 pub enum Setting {
     /// `--today`, the business day.
     Today,
-    /// `--db`, the path of the database that keeps the book.
+    /// `--db`, the path of the database that holds the book.
     Db,
-    /// `--quiet`, by which a person is told nothing of the run as it goes.
+    /// `--quiet`, which turns off the messages about the progress of the run.
     Quiet,
 }
 
 /// What is wrong with words that mean nothing.
 #[derive(Clone, Copy, PartialEq, Eq, Debug)]
 pub enum Wrong<'a> {
-    /// The command line does not take this word where it stands: it is no option or no command, or one too many.
+    /// The command line does not accept this word where it stands: it is no option and no command, or is one too
+    /// many.
     Word(&'a str),
-    /// The value of `--today`, or the operand of `reconcile`, is no day.
+    /// The value of `--today`, or the operand of `reconcile`, is not a day.
     NoDay(&'a str),
     /// The operand of `ledger` is neither a matter's number nor the word for the firm.
     NoMatter(&'a str),
-    /// The first operand of `serve` is no port.
+    /// The first operand of `serve` is not a port.
     NoPort(&'a str),
-    /// The second operand of `serve` is no count of connections.
+    /// The second operand of `serve` is not a count of connections.
     NoCount(&'a str),
     /// This option is given more than once.
     Repeated(Setting),
@@ -66,20 +67,20 @@ pub enum Wrong<'a> {
     MissingDay,
     /// No command is given.
     MissingCommand,
-    /// A word is not given that the command line requires.
+    /// A required word is missing.
     MissingWord,
 }
 
-/// What is told of words that mean nothing.
+/// The advice for words that mean nothing.
 #[derive(Clone, Copy, PartialEq, Eq, Debug)]
 pub struct Advice<'a> {
-    /// The command whose usage is told; none where that of the whole program is.
+    /// The command whose usage is printed; `None` for the usage of the whole program.
     pub verb: Option<Verb>,
-    /// What is wrong, where that is known.
+    /// What is wrong, if that is known.
     pub wrong: Option<Wrong<'a>>,
 }
 
-/// The command of a name.
+/// Returns the command with this name.
 pub fn verb_of(name: &str) -> Option<Verb>
     ensures { IfSome result (λ verb. name.now ≡ verb_name verb) }
 {
@@ -100,7 +101,7 @@ pub fn verb_of(name: &str) -> Option<Verb>
     }
 }
 
-// How a command is written behind the options.
+// Returns how a command is written after the options.
 fn usage_of(verb: Option<Verb>) -> &'static str
     ensures { result.now ≡ verb_usage verb }
 {
@@ -123,7 +124,7 @@ fn usage_of(verb: Option<Verb>) -> &'static str
     }
 }
 
-// A command as it may be typed.
+// Returns an example of a command.
 fn example_of(verb: Option<Verb>) -> &'static str
     ensures { result.now ≡ verb_example verb }
 {

@@ -1,4 +1,4 @@
-// The plan of a run that words mean.
+// The plan of a run, given by the words of the command line.
 
 ghost use Rattle.std.specs.Prelude.{◌≡◌, ℕ, IfErr, IfOk, IfSome, IfNone, codes, option_map};
 ghost use Rattle.clap.specs.Words.{first_of, found_of, rows_of, subcommand_rows_of};
@@ -17,11 +17,11 @@ use trust_base::Day;
 /// What a run is to do.
 #[derive(Clone, Copy, PartialEq, Eq, Debug)]
 pub enum Task<'a> {
-    /// Run the day sheet of standard input.
+    /// Run the day sheet on standard input.
     Sheet,
-    /// Import the bank's statement that lies at this path.
+    /// Import the bank statement at this path.
     Import(&'a str),
-    /// Match the bank's statement that lies at this path against the book: its lines' references may be empty.
+    /// Match the bank statement at this path against the book. References of its lines may be empty.
     Match(&'a str),
     /// Serve the messages of standard input.
     Stream,
@@ -38,26 +38,26 @@ pub enum Task<'a> {
     Check,
 }
 
-/// A plan of a run: the business day, where the book is kept, whether a person is told of it, and what is to be done.
+/// The plan of a run: the business day, where the book is kept, whether its progress is reported, and the task.
 #[derive(Clone, Copy, Debug)]
 pub struct Plan<'a> {
-    /// The business day that the run is on.
+    /// The business day of the run.
     pub today: Day,
-    /// The path of the database that keeps the book; none where the book is kept in memory.
+    /// The path of the database that holds the book; `None` to keep the book in memory.
     pub db: Option<&'a str>,
-    /// Whether what a person is told of the run as it goes is left out.
+    /// Whether to leave out the messages about the progress of the run.
     pub is_quiet: bool,
-    /// What is to be done.
+    /// The task.
     pub task: Task<'a>,
 }
 
 /// Why words give no plan.
 #[derive(Clone, Copy, PartialEq, Eq, Debug)]
 pub enum CliFault {
-    /// The words are not of the command line's form, help among them, or a day, a matter's number, a port or a count
-    /// among them is none.
+    /// The words do not fit the command line, or ask for help, or a day, a matter's number, a port or a count in them
+    /// is invalid.
     Line,
-    /// A growth was refused.
+    /// Out of memory.
     Memory,
 }
 
@@ -72,7 +72,7 @@ impl From<ErrorKind> for CliFault {
     }
 }
 
-// The task of a command, by its name and its values.
+// Returns the task of a command, given by its name and its values.
 fn task_of<'a>(name: &str, values: &ArgMatches<'a>) -> Option<Task<'a>>
     ensures some { IfSome result (IsTask name.now (rows_of (found_of values.now))) }
     ensures none { IfNone result ((task : Task) → ¬ IsTask name.now (rows_of (found_of values.now)) task) }
@@ -91,7 +91,7 @@ fn task_of<'a>(name: &str, values: &ArgMatches<'a>) -> Option<Task<'a>>
     }
 }
 
-// The plan of a parse, where its values give one.
+// Returns the plan of a parse, if its values give one.
 fn plan_of<'a>(matches: &ArgMatches<'a>) -> Option<Plan<'a>>
     ensures some { IfSome result
         (λ p. Gives (rows_of (found_of matches.now)) (subcommand_rows_of matches.now) p.today p.task) }
@@ -119,13 +119,13 @@ fn plan_of<'a>(matches: &ArgMatches<'a>) -> Option<Plan<'a>>
     })
 }
 
-/// The plan that words mean, the program's name first among them; its `db` is the value of `--db` where that is given,
-/// be it the path of a file or not, and it is quiet where `--quiet` is given. `Line` comes only where they mean none:
-/// the command line does not take them, asks for help included, or the word of `--today` or an operand is not of its
-/// form.
+/// Returns the plan that words mean; the first word is the program's name. `db` is the value of `--db` if given,
+/// whether or not it is the path of a file, and the plan is quiet if `--quiet` is given. Returns `Line` only if the
+/// words mean no plan: the command line does not accept them, they ask for help, or the value of `--today` or an
+/// operand is invalid.
 ///
-/// `Memory` comes where a growth was refused. That it comes nowhere else can't be said here, for `parse`'s reason; the
-/// values of a parse are read without memory.
+/// Returns `Memory` if memory runs out. For the same reason as in `parse`, the contract cannot say that it never does
+/// otherwise. Reading the values of a parse does not allocate.
 pub fn command_of<'a>(alloc: Global, words: &'a [&'a str]) -> Result<Plan<'a>, CliFault>
     ensures plan { IfOk result (λ p. Means (words_of words.entry.now) p.today p.task) }
     ensures none { IfErr result (LeavesNoPlan (words_of words.entry.now)) }

@@ -1,4 +1,4 @@
-// What is wrong with words that mean nothing, as clap's errors on their fronts tell it.
+// Finds what is wrong with words that mean nothing, from clap's errors on their first words.
 
 ghost use Rattle.std.specs.Prelude.{◌≡◌, ◌≢◌, ◌<◌, ℕ, IfNone, IfSome, None, [], codes, false, length, true};
 ghost use Rattle.std.specs.List.{list_any};
@@ -19,7 +19,7 @@ use clap::error::ErrorKind;
 use std::alloc::Global;
 use trust_base::{Day, MatterNo};
 
-// The kind of error that the command line refuses words by, where it does; want of memory is one too.
+// Returns the kind of error with which the command line refuses the words, if it does. Out of memory is one of them.
 fn failure_of<'a>(alloc: Global, words: &'a [&'a str]) -> Option<ErrorKind>
     ensures none { IfNone result (fault_of program (words_of words.entry.now) ≡ []) }
     ensures some { IfSome result (IsRefused (words_of words.entry.now)) }
@@ -27,20 +27,20 @@ fn failure_of<'a>(alloc: Global, words: &'a [&'a str]) -> Option<ErrorKind>
     parse(alloc, words).err()
 }
 
-// How far the command line takes words.
+// How far the command line accepts words.
 #[derive(Clone, Copy)]
 enum Front {
-    // As far as a command: it takes them, or wants only required ones.
+    // As far as a command: accepts them, or only misses required ones.
     Met,
-    // A command is wanted.
+    // A command is required.
     WantsCommand,
-    // An option's value is wanted.
+    // The value of an option is required.
     WantsValue,
-    // An option is given again.
+    // An option is repeated.
     Repeats,
-    // A word is not taken where it stands.
+    // A word is not accepted where it stands.
     Strays,
-    // They fail otherwise, or memory was wanting.
+    // Another error, or out of memory.
     Fails,
 }
 
@@ -67,8 +67,8 @@ fn front_of<'a>(alloc: Global, words: &'a [&'a str]) -> Front
     front_by(failure_of(alloc, words))
 }
 
-// The first word that the command line does not take where it stands, or the option that is given again with it. None
-// also where memory was wanting.
+// Returns the first word that the command line does not accept where it stands, or the option that is repeated there.
+// Also returns `None` if memory runs out.
 fn refused_word<'a>(alloc: Global, words: &'a [&'a str]) -> Option<Wrong<'a>>
     ensures { IfSome result (IsWrong (words_of words.entry.now)) }
 {
@@ -84,8 +84,8 @@ fn refused_word<'a>(alloc: Global, words: &'a [&'a str]) -> Option<Wrong<'a>>
     None
 }
 
-// Whether with the word at this place an option's value is wanted that the next word, if there is one, does not give.
-// No also where memory was wanting.
+// Whether the word at this place requires the value of an option and the next word, if any, does not give it. Also
+// returns false if memory runs out.
 fn is_value_lacking<'a>(alloc: Global, words: &'a [&'a str], place: usize) -> bool
     requires { place < length words.now }
     ensures { result ≡ true → LacksValueAt (words_of words.entry.now) place }
@@ -103,7 +103,7 @@ fn is_value_lacking<'a>(alloc: Global, words: &'a [&'a str], place: usize) -> bo
     }
 }
 
-// The option that has no value. None also where memory was wanting.
+// Returns the option that has no value. Also returns `None` if memory runs out.
 fn empty_setting<'a>(alloc: Global, words: &'a [&'a str]) -> Option<Setting>
     ensures { IfSome result (LacksValue (words_of words.entry.now)) }
 {
@@ -115,7 +115,7 @@ fn empty_setting<'a>(alloc: Global, words: &'a [&'a str]) -> Option<Setting>
     None
 }
 
-// The command that words name. None also where memory was wanting.
+// Returns the command that the words name. Also returns `None` if memory runs out.
 fn verb_named<'a>(alloc: Global, words: &'a [&'a str]) -> Option<Verb>
     ensures { IfSome result (Names (words_of words.entry.now)) }
 {
@@ -131,7 +131,7 @@ fn verb_named<'a>(alloc: Global, words: &'a [&'a str]) -> Option<Verb>
     None
 }
 
-// Whether a word begins as the option of the business day does.
+// Whether a word begins like the option of the business day.
 fn is_naming_day(word: &str) -> bool
     ensures { result ≡ names_day word.now }
 {
@@ -139,7 +139,7 @@ fn is_naming_day(word: &str) -> bool
     &bytes[..bytes.len().min(7)] == b"--today".as_slice()
 }
 
-// Whether a word begins as the option of the database does.
+// Whether a word begins like the option of the database.
 fn is_naming_db(word: &str) -> bool
     ensures { result ≡ names_db word.now }
 {
@@ -147,7 +147,7 @@ fn is_naming_db(word: &str) -> bool
     &bytes[..bytes.len().min(4)] == b"--db".as_slice()
 }
 
-// Whether a word begins as the flag of a quiet run does.
+// Whether a word begins like the flag of a quiet run.
 fn is_naming_quiet(word: &str) -> bool
     ensures { result ≡ names_quiet word.now }
 {
@@ -155,7 +155,7 @@ fn is_naming_quiet(word: &str) -> bool
     &bytes[..bytes.len().min(7)] == b"--quiet".as_slice()
 }
 
-// The option that a word begins as.
+// Returns the option that a word begins like.
 fn setting_named(word: &str) -> Option<Setting>
     ensures { result ≡ setting_named word.now }
 {
@@ -170,7 +170,7 @@ fn setting_named(word: &str) -> Option<Setting>
     }
 }
 
-// The option that the last of the words that begin as one begins as.
+// Returns the option of the last word that begins like one.
 fn last_setting(words: &[&str]) -> Option<Setting>
     ensures { result ≡ last_setting (words_of words.now) }
 {
@@ -181,7 +181,7 @@ fn last_setting(words: &[&str]) -> Option<Setting>
     last
 }
 
-// Whether any word begins as the option of the business day does.
+// Whether any word begins like the option of the business day.
 fn is_day_named(words: &[&str]) -> bool
     ensures { result ≡ list_any names_day (words_of words.now) }
 {
@@ -192,7 +192,7 @@ fn is_day_named(words: &[&str]) -> bool
     is_named
 }
 
-// Tells a text that is no day.
+// Reports a text that is not a day.
 fn no_day<'a>(text: &'a str) -> Option<Wrong<'a>>
     ensures { IfSome result (λ wrong. (wrong ≡ Wrong.NoDay text.entry) × (day_of text.entry.now ≡ None)) }
 {
@@ -202,7 +202,7 @@ fn no_day<'a>(text: &'a str) -> Option<Wrong<'a>>
     }
 }
 
-// Tells a text that is neither a matter's number nor the word for the firm.
+// Reports a text that is neither a matter's number nor the word for the firm.
 fn no_card<'a>(text: &'a str) -> Option<Wrong<'a>>
     ensures { IfSome result (λ wrong. (wrong ≡ Wrong.NoMatter text.entry)
         × (text.entry.now ≢ codes "FIRM") × (matter_of text.entry.now ≡ None)) }
@@ -216,7 +216,7 @@ fn no_card<'a>(text: &'a str) -> Option<Wrong<'a>>
     }
 }
 
-// Tells a text that is no port.
+// Reports a text that is not a port.
 fn no_port<'a>(text: &'a str) -> Option<Wrong<'a>>
     ensures { IfSome result
         (λ wrong. (wrong ≡ Wrong.NoPort text.entry) × ((port : ℕ) → ¬ IsPort text.entry.now port)) }
@@ -227,7 +227,7 @@ fn no_port<'a>(text: &'a str) -> Option<Wrong<'a>>
     }
 }
 
-// Tells a text that is no count.
+// Reports a text that is not a count.
 fn no_count<'a>(text: &'a str) -> Option<Wrong<'a>>
     ensures { IfSome result
         (λ wrong. (wrong ≡ Wrong.NoCount text.entry) × ((count : ℕ) → ¬ IsCount text.entry.now count)) }
@@ -238,7 +238,7 @@ fn no_count<'a>(text: &'a str) -> Option<Wrong<'a>>
     }
 }
 
-// The operand of a command that is wrong, by its name and its values.
+// Returns the wrong operand of a command, given by its name and its values.
 fn wrong_operand<'a>(name: &str, values: &ArgMatches<'a>) -> Option<Wrong<'a>>
     ensures { IfSome result (IsWrongOperand name.now (rows_of (found_of values.now))) }
 {
@@ -253,14 +253,14 @@ fn wrong_operand<'a>(name: &str, values: &ArgMatches<'a>) -> Option<Wrong<'a>>
     }
 }
 
-// The value of `--today`, where it is wrong.
+// Returns the value of `--today` if it is wrong.
 fn wrong_today<'a>(values: &ArgMatches<'a>) -> Option<Wrong<'a>>
     ensures { IfSome result (IsWrongToday (rows_of (found_of values.now))) }
 {
     no_day(values.get_str("today")?)
 }
 
-// The value that is wrong in a parse.
+// Returns the wrong value of a parse.
 fn wrong_value<'a>(matches: &ArgMatches<'a>) -> Option<Wrong<'a>>
     ensures { IfSome result (IsWrongValue (rows_of (found_of matches.now)) (subcommand_rows_of matches.now)) }
 {
@@ -271,7 +271,7 @@ fn wrong_value<'a>(matches: &ArgMatches<'a>) -> Option<Wrong<'a>>
     wrong_operand(name, values)
 }
 
-// What is wrong with words that the command line refuses by an error of this kind.
+// Returns what is wrong with words that the command line refuses with an error of this kind.
 fn wrong_words<'a>(alloc: Global, words: &'a [&'a str], kind: ErrorKind) -> Option<Wrong<'a>>
     requires { IsRefused (words_of words.now) kind }
     ensures { IfSome result (IsWrong (words_of words.entry.now)) }
@@ -290,7 +290,7 @@ fn wrong_words<'a>(alloc: Global, words: &'a [&'a str], kind: ErrorKind) -> Opti
     }
 }
 
-// What is wrong with words.
+// Returns what is wrong with words.
 fn wrong_of<'a>(alloc: Global, words: &'a [&'a str]) -> Option<Wrong<'a>>
     ensures { IfSome result (IsWrong (words_of words.entry.now)) }
 {
@@ -300,8 +300,9 @@ fn wrong_of<'a>(alloc: Global, words: &'a [&'a str]) -> Option<Wrong<'a>>
     }
 }
 
-/// What is told of words that mean nothing, the program's name first among them: the command that they name, and what
-/// is wrong. Both are known only where memory suffices, and nothing is wrong where help was asked for.
+/// Returns the advice for words that mean nothing: the command that they name, and what is wrong. The first word is
+/// the program's name. Either is known only if there is enough memory, and nothing is wrong if the words ask for
+/// help.
 pub fn advice_of<'a>(alloc: Global, words: &'a [&'a str]) -> Advice<'a>
     ensures verb { IfSome result.verb (Names (words_of words.entry.now)) }
     ensures wrong { IfSome result.wrong (IsWrong (words_of words.entry.now)) }

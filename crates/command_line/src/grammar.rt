@@ -1,4 +1,4 @@
-// The program's own command line, as clap's parser takes it, and its parse of words.
+// The program's command line as clap's parser takes it, and its parse of words.
 
 ghost use Rattle.std.specs.Prelude.{◌≡◌, IfErr, IfOk, false};
 ghost use Rattle.clap.specs.Words.{app_of, new_app, with_subcommand};
@@ -10,7 +10,7 @@ use clap::error::ErrorKind;
 use clap::{Arg, ArgAction, ArgMatches, Command};
 use std::alloc::{AllocError, Global};
 
-// The command line: its options, the commands that are no reports, and those of reports.
+// Builds the command line: its options, the commands that print no report, and those that print one.
 fn program_command<'a>(alloc: Global) -> Result<Command<'a>, AllocError>
     ensures { IfOk result (λ c. app_of c ≡ program) }
 {
@@ -35,7 +35,7 @@ fn options_command<'a>(alloc: Global) -> Result<Command<'a>, AllocError>
     with_db.arg(quiet)
 }
 
-// A command line with the commands that are no reports behind its own.
+// Adds the commands that print no report.
 fn with_runs<'a>(alloc: Global, command: Command<'a>) -> Result<Command<'a>, AllocError>
     ensures { IfOk result (λ c. app_of c ≡ with_commands (app_of command.entry) run_apps) }
 {
@@ -47,7 +47,7 @@ fn with_runs<'a>(alloc: Global, command: Command<'a>) -> Result<Command<'a>, All
     with_bare(alloc, with_serve, "check")
 }
 
-// A command line with the commands of reports behind its own.
+// Adds the commands that print a report.
 fn with_reports<'a>(alloc: Global, command: Command<'a>) -> Result<Command<'a>, AllocError>
     ensures { IfOk result (λ c. app_of c ≡ with_commands (app_of command.entry) report_apps) }
 {
@@ -59,7 +59,7 @@ fn with_reports<'a>(alloc: Global, command: Command<'a>) -> Result<Command<'a>, 
     with_operand(alloc, with_exceptions, "ledger", "MATTER")
 }
 
-// A command line with a command more that has no operand.
+// Adds a command without operands.
 fn with_bare<'a>(
     alloc: Global,
     command: Command<'a>,
@@ -70,7 +70,7 @@ fn with_bare<'a>(
     command.subcommand(Command::new(alloc, name))
 }
 
-// A command line with a command more that has one operand.
+// Adds a command with one operand.
 fn with_operand<'a>(
     alloc: Global,
     command: Command<'a>,
@@ -84,7 +84,7 @@ fn with_operand<'a>(
     command.subcommand(behind)
 }
 
-// A command line with the command behind it that serves connections.
+// Adds the command that serves connections.
 fn with_serve<'a>(alloc: Global, command: Command<'a>) -> Result<Command<'a>, AllocError>
     ensures { IfOk result (λ c. app_of c ≡ with_subcommand (app_of command.entry) serve_app.top) }
 {
@@ -92,7 +92,7 @@ fn with_serve<'a>(alloc: Global, command: Command<'a>) -> Result<Command<'a>, Al
     command.subcommand(behind)
 }
 
-// A command with one operand, which has to be given.
+// Builds a command with one required operand.
 fn operand_command<'a>(
     alloc: Global,
     name: &'a str,
@@ -107,7 +107,7 @@ fn operand_command<'a>(
     Command::new(alloc, name).arg(value)
 }
 
-// The command that serves connections: its port and their count.
+// Builds the command that serves connections, with its port and their count.
 fn serve_command<'a>(alloc: Global) -> Result<Command<'a>, AllocError>
     ensures ok { IfOk result (λ c. app_of c ≡ serve_app) }
     ensures local { IfOk result (λ c. (out-Command c).has_globals ≡ false) }
@@ -119,11 +119,11 @@ fn serve_command<'a>(alloc: Global) -> Result<Command<'a>, AllocError>
     with_port.arg(count)
 }
 
-/// The command line's parse of words, the program's name first among them, or the kind of the error that it refuses
-/// them by, help among them.
+/// Parses words, the first of which is the program's name. Returns the kind of error with which the command line
+/// refuses them; asking for help is one too.
 ///
-/// `OutOfMemory` comes where a growth was refused. That it comes nowhere else can't be said here: by clap's contract a
-/// parse may end by want of memory at any words, and nothing tells whether memory was refused.
+/// Returns `OutOfMemory` if memory runs out. The contract cannot say that it never does otherwise: by clap's
+/// contract, a parse of any words may end with it, and nothing shows whether memory really ran out.
 pub fn parse<'a>(alloc: Global, words: &'a [&'a str]) -> Result<ArgMatches<'a>, ErrorKind>
     ensures ok { IfOk result (IsParse (words_of words.entry.now)) }
     ensures err { IfErr result (IsRefused (words_of words.entry.now)) }

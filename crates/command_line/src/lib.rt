@@ -1,4 +1,4 @@
-//! The program's command line: its words to the plan of a run, and what is told of words that mean nothing.
+//! The program's command line: turns its words into the plan of a run, or into advice if they mean nothing.
 #![tactic(auto)]
 
 mod advice;

@@ -1,11 +1,11 @@
-// The numbers of the command line, from their texts: a port and a count of connections.
+// Parses the numbers of the command line: a port and a count of connections.
 
 ghost use Rattle.std.specs.Prelude.{ℕ, IfNone, IfSome};
 ghost use Rattle.command_line.specs.Numerals.{IsCount, IsNumberBetween, IsPort};
 
 use itoa::Buffer;
 
-/// The lowest port that is served: those below are the system's own.
+/// The lowest port that can be served. Those below are reserved for the system.
 pub const MIN_PORT: u32 = 1_024;
 
 /// The highest port of TCP (RFC 9293, 3.1).
@@ -14,7 +14,7 @@ pub const MAX_PORT: u32 = 65_535;
 /// The most connections of one run.
 pub const MAX_COUNT: u32 = 1_000_000;
 
-// The number from `least` to `most` whose digits a text is, without leading zeros.
+// Parses a number from `least` to `most`, in digits without leading zeros.
 fn number_between(text: &str, least: u32, most: u32) -> Option<u32>
     ensures some { IfSome result (IsNumberBetween least most text.now) }
     ensures none { IfNone result ((number : ℕ) → ¬ IsNumberBetween least most text.now number) }
@@ -30,7 +30,7 @@ fn number_between(text: &str, least: u32, most: u32) -> Option<u32>
     }
 }
 
-/// The port whose text this is: a number from 1,024 to 65,535 in digits, without leading zeros.
+/// Parses a port: a number from 1,024 to 65,535, in digits without leading zeros.
 pub fn port_of(text: &str) -> Option<u16>
     ensures some { IfSome result (IsPort text.now) }
     ensures none { IfNone result ((port : ℕ) → ¬ IsPort text.now port) }
@@ -41,7 +41,7 @@ pub fn port_of(text: &str) -> Option<u16>
     }
 }
 
-/// The count of connections whose text this is: a number from 1 to 1,000,000 in digits, without leading zeros.
+/// Parses a count of connections: a number from 1 to 1,000,000, in digits without leading zeros.
 pub fn count_of(text: &str) -> Option<u32>
     ensures some { IfSome result (IsCount text.now) }
     ensures none { IfNone result ((count : ℕ) → ¬ IsCount text.now count) }

@@ -1,4 +1,4 @@
-// The values of the command line.
+// Reads the values of the command line.
 
 ghost use Rattle.std.specs.Prelude.{◌≡◌, ℕ, IfNone, IfSome, codes, option_and_then};
 ghost use Rattle.std.specs.Str.{bytes_eq};
@@ -10,29 +10,29 @@ use crate::numerals::{count_of, port_of};
 use clap::ArgMatches;
 use trust_base::{Day, MatterNo};
 
-/// The day whose text is the first value of an argument; none where it has no value, or one that is no day's text.
+/// Returns the day that is the first value of an argument; `None` without a value, or if it is not a day.
 pub fn day_operand(values: &ArgMatches, id: &str) -> Option<Day>
     ensures { result ≡ option_and_then day_of (first_of id.now (rows_of (found_of values.now))) }
 {
     Day::read(values.get_str(id)?.as_bytes())
 }
 
-/// The matter whose number is the first value of an argument; none where it has no value, or one that is no matter's
-/// six digits.
+/// Returns the matter whose number is the first value of an argument; `None` without a value, or if it is not six
+/// digits of a matter.
 pub fn matter_operand(values: &ArgMatches, id: &str) -> Option<MatterNo>
     ensures { result ≡ option_and_then matter_of (first_of id.now (rows_of (found_of values.now))) }
 {
     MatterNo::read(values.get_str(id)?.as_bytes())
 }
 
-/// Whether a text is the word that stands for the firm where a matter's number may stand.
+/// Whether a text is the word FIRM, which may be given instead of a matter's number.
 pub fn is_firm(text: &str) -> bool
     ensures { result ≡ bytes_eq text.now (codes "FIRM") }
 {
     text == "FIRM"
 }
 
-/// The port whose text is the first value of an argument; none where it has no value, or one that is no port's text.
+/// Returns the port that is the first value of an argument; `None` without a value, or if it is not a port.
 pub fn port_operand(values: &ArgMatches, id: &str) -> Option<u16>
     ensures some { IfSome result (IsPortGiven (first_of id.now (rows_of (found_of values.now)))) }
     ensures none { IfNone result
@@ -41,7 +41,7 @@ pub fn port_operand(values: &ArgMatches, id: &str) -> Option<u16>
     port_of(values.get_str(id)?)
 }
 
-/// The count whose text is the first value of an argument; none where it has no value, or one that is no count's text.
+/// Returns the count that is the first value of an argument; `None` without a value, or if it is not a count.
 pub fn count_operand(values: &ArgMatches, id: &str) -> Option<u32>
     ensures some { IfSome result (IsCountGiven (first_of id.now (rows_of (found_of values.now)))) }
     ensures none { IfNone result
@@ -50,7 +50,7 @@ pub fn count_operand(values: &ArgMatches, id: &str) -> Option<u32>
     count_of(values.get_str(id)?)
 }
 
-/// Whether a flag is given; not where there is no argument of this name.
+/// Whether a flag is given; false if no argument has this name.
 pub fn is_flag_set(values: &ArgMatches, id: &str) -> bool
     ensures { result ≡ is_flag_set id.now (rows_of (found_of values.now)) }
 {

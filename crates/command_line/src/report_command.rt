@@ -9,7 +9,7 @@ use crate::operands::{day_operand, is_firm, matter_operand};
 use clap::ArgMatches;
 use trust_base::{Day, MatterNo};
 
-/// A report that is to be printed.
+/// A report to print.
 #[derive(Clone, Copy, PartialEq, Eq, Debug)]
 pub enum ReportCommand {
     /// The three-way reconciliation of this day.
@@ -28,7 +28,7 @@ pub enum ReportCommand {
     OwnLedger,
 }
 
-// The ledger card that the operand asks for: the firm's own, or that of a matter.
+// Returns the ledger card that the operand names: the firm's own, or that of a matter.
 fn ledger_of(values: &ArgMatches) -> Option<ReportCommand>
     ensures some { IfSome result (IsReportCommand (codes "ledger") (rows_of (found_of values.now))) }
     ensures none { IfNone result
@@ -40,7 +40,7 @@ fn ledger_of(values: &ArgMatches) -> Option<ReportCommand>
     Some(ReportCommand::Ledger(matter_operand(values, "MATTER")?))
 }
 
-/// The report of a command, by its name and its values.
+/// Returns the report of a command, given by its name and its values.
 pub fn report_command_of(name: &str, values: &ArgMatches) -> Option<ReportCommand>
     ensures some { IfSome result (IsReportCommand name.now (rows_of (found_of values.now))) }
     ensures none { IfNone result

@@ -1,4 +1,4 @@
--- What the audit of a firm's rows looks at, part by part.
+-- What the audit of a firm's rows checks, part by part.
 use Rattle.std.specs.Prelude.{◌≡◌, ℕ, ◌≤◌, true, List, map, take, ℤ, pos, ◌≤ℤ◌, is_some}
 use Rattle.std.specs.List.{filter, AllByRecursion}
 use Rattle.std.specs.List.Sorted.{IsStrictlySortedBy}
@@ -28,24 +28,24 @@ use Rattle.trust_store.specs.Kept.{rows_in}
 abbrev pub moved_of : ℕ → List Movement → List Movement
 moved_of m movements = filter (λ v. is_of_matter m v.owner) movements
 
--- days that rise from one day and go up to another
+-- days in order, from one day up to another
 abbrev pub RiseWithin : ℕ → ℕ → List ℕ → Type 0
 RiseWithin from last days = AreRising from days × AllByRecursion (λ day. day ≤ last) days
 
--- what movements add up to
+-- the sum of movements
 abbrev pub moved_sum : List Movement → ℤ
 moved_sum own = sum_of (λ v. v.amount) own
 
--- at every place they add up to at least zero
+-- no running sum is negative
 abbrev pub AreCovered : List Movement → Type 0
 AreCovered own = (k : ℕ) → pos 0 ≤ℤ moved_sum (take k own)
 
--- the movements of each kept entry are its events
+-- the movements of each loaded entry are its events
 abbrev pub AreMoved : ℕ → List Kept → List Movement → Type 0
 AreMoved m kept own = AllByRecursion (λ k. events_moved m k.number own ≡ events_of k.entry) kept
 
--- a matter's movements are the events of its entries, follow one another in time up to its last day, are covered, and
--- add up to its ledger
+-- a matter's movements are the events of its entries, are in order of day up to its last day, never sum to less than
+-- zero, and add up to its ledger
 pub record IsJournal (k : KeptMatter) (own : List Movement) : Type 0 where
   pub events : AreMoved k.number k.matter.kept own
   pub in_time : RiseWithin 0 (last_of k.matter.head) (map (λ v. v.day) own)
@@ -54,24 +54,24 @@ pub record IsJournal (k : KeptMatter) (own : List Movement) : Type 0 where
 
 -- The journal.
 
--- the movement is of the firm's own money, or of an entry that is there
+-- the movement is of the firm's own money, or of an entry that exists
 abbrev pub IsOwned : List KeptMatter → Owner → Type 0
 IsOwned ks (owner.Matter m n) = is_some (entry_at (rows_in m ks).entries n) ≡ true
 IsOwned ks owner.Firm = Unit {0}
 
--- each movement is of the firm's own money or of an entry, and those of each matter are sound
+-- each movement is of the firm's own money or of an existing entry, and each matter's movements are sound
 pub record IsJournalOf (ks : List KeptMatter) (movements : List Movement) : Type 0 where
   pub owned : AllByRecursion (λ v. IsOwned ks v.owner) movements
   pub matters : AllByRecursion (λ k. IsJournal k (moved_of k.number movements)) ks
 
 -- The rest.
 
--- the movements of the firm's own money are the lines of its ledger, which stays within what it may have
+-- the movements of the firm's own money are the lines of its ledger, whose balance is always permitted
 pub record IsOwnMoney (movements : List Movement) (lines : List FirmLine) : Type 0 where
   pub moved : firm_events movements ≡ map line_event lines
   pub within : StaysWithin lines
 
--- exceptions and balances stand in their order
+-- exceptions and balances are sorted
 pub record AreAscending (lines : List Line) (rows : List StatementRow) : Type 0 where
   pub exceptions : IsStrictlySortedBy line_cmp lines
   pub balances : IsStrictlySortedBy balance_cmp rows

@@ -1,4 +1,4 @@
-// What the journal has of an entry.
+// Whether movements of the journal are an entry's events.
 
 ghost use Rattle.std.specs.Prelude.{◌≡◌, Some, slice_get, IsTrue};
 ghost use Rattle.matter_rows.specs.Events.{events_of, nth_moved};
@@ -14,7 +14,7 @@ fn moved(entry: EntryNo, day: Day, amount: i64) -> Option<EntryMovement>
     Some(EntryMovement { entry, day, amount })
 }
 
-// The event of a deposit at this place, the first being 0.
+// Event `place`, counted from 0, of a deposit.
 #[tactic(auto, unfolding(matter_rows::specs::Events::events_of))]
 fn deposit_event(deposit: &Deposit, number: EntryNo, place: usize) -> Option<EntryMovement>
     ensures { result ≡ nth_moved number place (events_of (Entry.Deposit deposit.now)) }
@@ -30,7 +30,7 @@ fn deposit_event(deposit: &Deposit, number: EntryNo, place: usize) -> Option<Ent
     }
 }
 
-// The event of a payment at this place, the first being 0.
+// Event `place`, counted from 0, of a payment.
 #[tactic(auto, unfolding(matter_rows::specs::Events::events_of))]
 fn payment_event(payment: &Payment, number: EntryNo, place: usize) -> Option<EntryMovement>
     ensures { result ≡ nth_moved number place (events_of (Entry.Payment payment.now)) }
@@ -45,7 +45,7 @@ fn payment_event(payment: &Payment, number: EntryNo, place: usize) -> Option<Ent
     }
 }
 
-// The event of an entry at this place, the first being 0.
+// Event `place`, counted from 0, of an entry.
 #[tactic(auto, unfolding(matter_rows::specs::Events::events_of))]
 fn event(entry: &Entry, number: EntryNo, place: usize) -> Option<EntryMovement>
     ensures { result ≡ nth_moved number place (events_of entry.now) }
@@ -57,7 +57,7 @@ fn event(entry: &Entry, number: EntryNo, place: usize) -> Option<EntryMovement>
     }
 }
 
-// Is the movement the event of an entry at this place, the first being 0?
+// Whether the movement is event `place`, counted from 0, of the entry.
 fn is_event(movement: &Movement, entry: &Entry, number: EntryNo, place: usize) -> bool
     ensures { IsTrue result → slice_get (events_of entry.now) place ≡ Some (event_of movement.now) }
 {
@@ -67,7 +67,7 @@ fn is_event(movement: &Movement, entry: &Entry, number: EntryNo, place: usize) -
     }
 }
 
-// Is it a movement of this entry of the matter?
+// Whether it is a movement of this entry of the matter.
 fn is_of_entry(owner: &Owner, number: MatterNo, of: EntryNo) -> bool
     ensures { result ≡ is_of_entry number of owner.now }
 {
@@ -79,7 +79,7 @@ fn is_of_entry(owner: &Owner, number: MatterNo, of: EntryNo) -> bool
     }
 }
 
-/// Are the movements of this entry of the matter its events, each once and in order?
+/// Whether the movements of this entry of the matter are its events, each once and in order.
 pub(crate) fn is_moved(
     movements: &[Movement],
     matter: MatterNo,

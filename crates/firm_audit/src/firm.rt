@@ -1,4 +1,4 @@
-// All rows of a firm, tested.
+// The audit of all rows of a firm.
 
 ghost use Rattle.std.specs.Prelude.{◌≡◌, None, IfOk};
 ghost use Rattle.firm_rows.specs.FirmSound.{FirmSound};
@@ -12,14 +12,16 @@ use crate::own_money::own_flaw;
 use std::alloc::{AllocError, Global};
 use trust_store::AllRows;
 
-/// What of all rows of a firm is not sound, the first that is found, or `None` where they are those of a sound firm.
+/// Returns the first flaw found in all rows of a firm, or `None` if they are those of a sound firm.
 ///
-/// It looks at the rows alone, from whatever book they were read: that each matter is the whole of sound rows and the
-/// matters stand by number; that each movement is of an entry or of the firm's own money, and those of each entry are
-/// what it moved; that those of each matter follow one another in time, up to its last day, never fall below zero and
-/// add up to its ledger; that the firm's own movements are the lines of its ledger, which stays within 0.00 to 500.00;
-/// and that exceptions and balances stand in their order. So it takes the time of one pass over all movements for each
-/// matter, and memory for a copy of one matter at a time. An error means that memory ran out.
+/// It looks only at the rows, whatever book they were read from. It checks that each matter is complete and sound, and
+/// matters are sorted by number. Each movement must be of an entry or of the firm's own money, and each entry's
+/// movements must be what it moved. A matter's movements must be in order of day, up to its last day, never sum to less
+/// than zero, and add up to its ledger. The firm's own movements must be the lines of its ledger, which stays within
+/// 0.00 to 500.00. Exceptions and balances must be sorted.
+///
+/// This takes one pass over all movements for each matter, and memory for a copy of one matter at a time. The only
+/// error is out of memory.
 pub fn audit(alloc: Global, rows: &AllRows) -> Result<Option<Flaw>, AllocError>
     ensures sound { IfOk result (λ found. found ≡ None → FirmSound (firm_of_all rows.now)) }
 {

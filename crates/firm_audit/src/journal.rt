@@ -1,4 +1,4 @@
-// Whether the journal is that of the matters.
+// Whether the journal fits the matters.
 
 ghost use Rattle.std.specs.Prelude.{◌≡◌, true, None, IfOk, IsTrue, is_some};
 ghost use Rattle.std.specs.List.{AllByRecursion};
@@ -13,7 +13,7 @@ use std::alloc::{AllocError, Global};
 use trust_base::{EntryNo, MatterNo};
 use trust_store::KeptMatter;
 
-// The place of a matter, or where it would stand.
+// The index of a matter, or where it would be inserted.
 fn search(matters: &[KeptMatter], number: MatterNo) -> Result<usize, usize>
     requires { Ascends matters.now }
     ensures { result ≡ seek number matters.now }
@@ -21,7 +21,7 @@ fn search(matters: &[KeptMatter], number: MatterNo) -> Result<usize, usize>
     matters.binary_search_by_key(&number.get(), |k| k.number.get())
 }
 
-// Does the matter have an entry of this number?
+// Whether the matter has an entry with this number.
 fn has_entry(matters: &[KeptMatter], matter: MatterNo, entry: EntryNo) -> bool
     requires { Ascends matters.now }
     ensures { IsTrue result → is_some (entry_at (rows_in matter matters.now).entries entry) ≡ true }
@@ -32,7 +32,7 @@ fn has_entry(matters: &[KeptMatter], matter: MatterNo, entry: EntryNo) -> bool
     }
 }
 
-// Is it the firm, or an entry that is there?
+// Whether the owner is the firm, or an entry that exists.
 fn is_owner(matters: &[KeptMatter], owner: &Owner) -> bool
     requires { Ascends matters.now }
     ensures { IsTrue result → IsOwned matters.now owner.now }
@@ -43,7 +43,7 @@ fn is_owner(matters: &[KeptMatter], owner: &Owner) -> bool
     }
 }
 
-// The place of the first movement that is of no entry, the first being 1.
+// The position of the first movement that belongs to no entry, counted from 1.
 fn unowned(matters: &[KeptMatter], movements: &[Movement]) -> Option<u64>
     requires { Ascends matters.now }
     ensures { result ≡ None → AllByRecursion (λ v. IsOwned matters.now v.owner) movements.now }
@@ -58,7 +58,7 @@ fn unowned(matters: &[KeptMatter], movements: &[Movement]) -> Option<u64>
     None
 }
 
-// What is not sound of the movements of the first matter for which something is not.
+// The first flaw in any matter's movements.
 fn first_flaw(
     alloc: Global,
     matters: &[KeptMatter],
@@ -77,7 +77,7 @@ fn first_flaw(
     Ok(None)
 }
 
-/// What is not sound of the movements beside the matters.
+/// The first flaw in the movements, given the matters.
 pub(crate) fn journal_flaw(
     alloc: Global,
     matters: &[KeptMatter],

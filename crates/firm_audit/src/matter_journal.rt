@@ -18,7 +18,7 @@ use std::alloc::{AllocError, Global};
 use trust_base::{EntryNo, MatterNo};
 use trust_store::KeptMatter;
 
-// Is it a movement of this matter?
+// Whether it is a movement of this matter.
 fn is_of_matter(owner: &Owner, number: MatterNo) -> bool
     ensures { result ≡ is_of_matter number owner.now }
 {
@@ -57,7 +57,7 @@ fn unlike(own: &[Movement], matter: MatterNo, kept: &[Kept]) -> Option<EntryNo>
     None
 }
 
-// The last day of the matter, 0 for one that was never opened.
+// The last day of the matter; 0 if it was never opened.
 fn last_day(head: Option<&Head>) -> u32
     ensures { result ≡ last_of (option_copied head.entry) }
 {
@@ -67,7 +67,7 @@ fn last_day(head: Option<&Head>) -> u32
     }
 }
 
-// Do the movements follow one another in time, up to the last day?
+// Whether the movements are in order of day, up to the last day.
 fn is_in_time(own: &[Movement], last: u32) -> bool
     ensures { IsTrue result → RiseWithin 0 last (map (λ v. v.day) own.now) }
 {
@@ -82,7 +82,7 @@ fn is_in_time(own: &[Movement], last: u32) -> bool
     true
 }
 
-// What the movements add up to, if at every place that is at least zero.
+// The sum of the movements. None if any running sum is negative.
 fn covered_sum(own: &[Movement]) -> Option<u64>
     ensures sum { IfSome result (λ sum. pos sum ≡ moved_sum own.now) }
     ensures covered { IfSome result (λ _. AreCovered own.now) }
@@ -100,7 +100,7 @@ fn covered_sum(own: &[Movement]) -> Option<u64>
     Some(sum as u64)
 }
 
-// Do the movements add up to the matter's ledger, and at every place to at least zero?
+// Whether the movements add up to the matter's ledger, and never to less than zero on the way.
 fn adds_up(own: &[Movement], kept: &KeptMatter) -> bool
     requires { IsKeptWhole kept.now }
     ensures sum { IsTrue result → moved_sum own.now ≡ ledger (entries_kept kept.now.matter.kept) }
@@ -116,7 +116,7 @@ fn adds_up(own: &[Movement], kept: &KeptMatter) -> bool
     sum - told.total == told.held
 }
 
-/// What is not sound of a matter's movements.
+/// The first flaw in a matter's movements.
 pub(crate) fn matter_flaw(
     alloc: Global,
     kept: &KeptMatter,

@@ -1,4 +1,4 @@
-// Whether the matters are whole and sound, by number.
+// Whether the matters are complete and sound, and sorted by number.
 
 ghost use Rattle.std.specs.Prelude.{◌≡◌, None, IfOk};
 ghost use Rattle.std.specs.List.{AllByRecursion};
@@ -10,7 +10,7 @@ use std::alloc::{AllocError, Global};
 use trust_base::MatterNo;
 use trust_store::KeptMatter;
 
-// The first matter that is not the whole of sound rows.
+// The first matter that is not complete and sound.
 fn unsound(alloc: Global, matters: &[KeptMatter]) -> Result<Option<MatterNo>, AllocError>
     ensures { IfOk result (λ found. found ≡ None → AllByRecursion IsKeptWhole matters.now) }
 {
@@ -22,7 +22,7 @@ fn unsound(alloc: Global, matters: &[KeptMatter]) -> Result<Option<MatterNo>, Al
     Ok(None)
 }
 
-// The first matter whose number is not above the one before it.
+// The first matter whose number is not higher than the one before it.
 fn out_of_order(matters: &[KeptMatter]) -> Option<MatterNo>
     ensures { result ≡ None → Ascends matters.now }
 {
@@ -36,7 +36,7 @@ fn out_of_order(matters: &[KeptMatter]) -> Option<MatterNo>
     None
 }
 
-/// What is not sound of the matters by themselves.
+/// The first flaw in the matters themselves.
 pub(crate) fn matters_flaw(
     alloc: Global,
     matters: &[KeptMatter],

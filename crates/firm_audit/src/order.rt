@@ -1,4 +1,4 @@
-// Whether the exceptions and the balances stand in their order.
+// Whether the exceptions and the balances are sorted.
 
 ghost use Rattle.std.specs.Prelude.{◌≡◌, None, IsTrue};
 ghost use Rattle.std.specs.declared.cmp.Ordering.TheVariants.{Less};
@@ -24,7 +24,7 @@ fn is_balance_before(row: &StatementRow, next: &StatementRow) -> bool
     matches!(row.compare(next), Ordering::Less)
 }
 
-// The place of the first line that is not behind the one before it, the first being 1.
+// The position of the first line that does not sort after the one before it, counted from 1.
 fn line_out_of_order(lines: &[Line]) -> Option<u64>
     ensures { result ≡ None → IsStrictlySortedBy line_cmp lines.now }
 {
@@ -38,7 +38,7 @@ fn line_out_of_order(lines: &[Line]) -> Option<u64>
     None
 }
 
-// The place of the first balance that is not behind the one before it, the first being 1.
+// The position of the first balance that does not sort after the one before it, counted from 1.
 fn balance_out_of_order(rows: &[StatementRow]) -> Option<u64>
     ensures { result ≡ None → IsStrictlySortedBy balance_cmp rows.now }
 {
@@ -52,7 +52,7 @@ fn balance_out_of_order(rows: &[StatementRow]) -> Option<u64>
     None
 }
 
-/// What is not sound of the order of exceptions and balances.
+/// The first flaw in the order of exceptions and balances.
 pub(crate) fn order_flaw(exceptions: &[Line], balances: &[StatementRow]) -> Option<Flaw>
     ensures { result ≡ None → AreAscending exceptions.now balances.now }
 {

@@ -8,21 +8,21 @@ ghost use Rattle.firm_audit.specs.Audited.{IsOwnMoney};
 use crate::Flaw;
 use firm_rows::{FirmLine, MAX_OWN, Movement, Owner};
 
-// Is it a movement of the firm's own money?
+// Whether it is a movement of the firm's own money.
 fn is_own(owner: &Owner) -> bool
     ensures { result ≡ is_of_firm owner.now }
 {
     matches!(owner, Owner::Firm)
 }
 
-// Did the line move this?
+// Whether the line moved this.
 fn is_line(movement: &Movement, line: &FirmLine) -> bool
     ensures { IsTrue result → event_of movement.now ≡ line_event line.now }
 {
     movement.day.get() == line.date.get() && movement.amount == line.amount.get()
 }
 
-// Did the line at this place, the first being 0, move this?
+// Whether the line at this position, counted from 0, moved this.
 fn is_line_at(movement: &Movement, lines: &[FirmLine], place: usize) -> bool
     ensures { IsTrue result → slice_get (map line_event lines.now) place ≡ Some (event_of movement.now) }
 {
@@ -33,7 +33,7 @@ fn is_line_at(movement: &Movement, lines: &[FirmLine], place: usize) -> bool
     is_line(movement, line)
 }
 
-// Are the movements of the firm's own money the lines of its ledger, one each and in order?
+// Whether the movements of the firm's own money are the lines of its ledger, one each and in order.
 fn are_lines(movements: &[Movement], lines: &[FirmLine]) -> bool
     ensures { IsTrue result → firm_events movements.now ≡ map line_event lines.now }
 {
@@ -49,7 +49,7 @@ fn are_lines(movements: &[Movement], lines: &[FirmLine]) -> bool
     place >= lines.len()
 }
 
-// The place of the first line up to which the firm's own money is not within its range, the first being 1.
+// The position of the first line after which the firm's own money is out of range, counted from 1.
 fn outside(lines: &[FirmLine]) -> Option<u64>
     ensures { result ≡ None → StaysWithin lines.now }
 {
@@ -65,7 +65,7 @@ fn outside(lines: &[FirmLine]) -> Option<u64>
     None
 }
 
-/// What is not sound of the firm's own money.
+/// The first flaw in the firm's own money.
 pub(crate) fn own_flaw(movements: &[Movement], lines: &[FirmLine]) -> Option<Flaw>
     ensures { result ≡ None → IsOwnMoney movements.now lines.now }
 {

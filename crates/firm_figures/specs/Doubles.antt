@@ -1,4 +1,4 @@
--- DOUBLE: payments whose instrument another payment has.
+-- DOUBLE: payments with the same instrument as another payment.
 use Rattle.std.specs.Prelude.{◌≡◌, ℕ, Bool, not, ◌&&◌, nat_lt, cond, List, [], ◌∷◌, ◌++◌, length, Option, Some, None, fold}
 use Rattle.std.specs.List.{filter, flat_map}
 use Rattle.firm_figures.specs.declared.doubles.Issued.{Issued}
@@ -28,7 +28,7 @@ issued_line m n (Some day) e = record {
   instrument = instrument_of e;
 } ∷ []
 
--- a payment issued by p, and not voided by p
+-- a payment issued on or before day p, and not voided by then
 abbrev pub is_issued_by : ℕ → Entry → Bool
 is_issued_by p e = is_payment e && (is_by p (booked_on e) && not (is_by p (undone_on e)))
 
@@ -37,11 +37,11 @@ issued_in p (m, HeadRow head) = []
 issued_in p (m, SeatRow seat) = []
 issued_in p (m, EntryRow n e) = cond (is_issued_by p e) (issued_line m n (booked_on e) e) []
 
--- the payments issued by p and not voided by p
+-- the payments issued on or before day p, and not voided by then
 abbrev pub issued_list : ℕ → Firm → List Issued
 issued_list p firm = flat_map (issued_in p) firm.rows
 
--- by instrument in the order of bytes, matter and entry
+-- by instrument, byte by byte, then matter, then entry
 abbrev pub issued_cmp : Issued → Issued → Ordering
 issued_cmp a b =
     ordering_then (slice_cmp nat_cmp a.instrument b.instrument)
@@ -51,12 +51,12 @@ issued_cmp a b =
 abbrev pub is_before_issued : Issued → Issued → Bool
 is_before_issued a b = is_lt (issued_cmp a b)
 
--- with one more, in front of the first that is not before it
+-- the list with one more, inserted before the first item that does not sort before it
 abbrev pub put_in_order : {X : Type 0} → (X → X → Bool) → X → List X → List X
 put_in_order lt x [] = x ∷ []
 put_in_order lt x (y ∷ ys) = cond (lt y x) (y ∷ put_in_order lt x ys) (x ∷ y ∷ ys)
 
--- a list in order; those of which neither is before the other stay as they stand
+-- the list sorted; items that compare as equal keep their order
 abbrev pub in_order : {X : Type 0} → (X → X → Bool) → List X → List X
 in_order lt [] = []
 in_order lt (x ∷ xs) = put_in_order lt x (in_order lt xs)
@@ -64,19 +64,19 @@ in_order lt (x ∷ xs) = put_in_order lt x (in_order lt xs)
 abbrev pub has_same_instrument : Issued → Issued → Bool
 has_same_instrument x y = bytes_eq x.instrument y.instrument
 
--- another payment of the list has the same instrument, so that two or more have it
+-- at least one other payment in the list has the same instrument
 abbrev pub is_double_in : List Issued → Issued → Bool
 is_double_in all x = nat_lt 1 (length (filter (has_same_instrument x) all))
 
--- those of a list of which that is so, in order
+-- the payments of a list for which that is so, sorted
 abbrev pub doubles_in : List Issued → List Issued
 doubles_in all = filter (is_double_in all) (in_order is_before_issued all)
 
--- DOUBLE
+-- the lines of DOUBLE as of p
 abbrev pub double_list : ℕ → Firm → List Issued
 double_list p firm = doubles_in (issued_list p firm)
 
--- what is kept of the rows
+-- what the collector stores
 pub record IssuedKept : Type 0 where
   pub day : ℕ
   pub issued : List Issued
@@ -87,6 +87,6 @@ no_issued p = record { day = p; issued = [] }
 abbrev pub with_row_issued : IssuedKept → ℕ × Row → IssuedKept
 with_row_issued s row = record s { issued = s.issued ++ issued_in s.day row }
 
--- what is kept of a firm's rows are the payments issued by the day and not voided by it
+-- what is stored from a firm's rows is the list of payments issued on or before the day, and not voided by then
 abbrev pub IssuedIsKept : Type 0
 IssuedIsKept = (p : ℕ) (firm : Firm) → (fold with_row_issued (no_issued p) firm.rows).issued ≡ issued_list p firm

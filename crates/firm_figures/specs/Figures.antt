@@ -1,4 +1,4 @@
--- The figures of the firm as of a day: sums over lists of its rows. "By the day" means on it or earlier.
+-- The firm's figures as of a day: sums over lists of its rows. "By the day" means on or before it.
 use Rattle.std.specs.Prelude.{◌≡◌, ℕ, Bool, true, false, not, ◌&&◌, ◌||◌, nat_le, ◌==◌, codes, List, [], ◌∷◌, map, ℤ, pos, ◌+ℤ◌, ◌-ℤ◌, Option, Some, None, find}
 use Rattle.std.specs.List.{filter, flat_map}
 use Rattle.std.specs.Option.{option_map}
@@ -28,7 +28,7 @@ use Rattle.firm_rows.specs.FirmSound.{FirmSound}
 abbrev pub entries_in : List (ℕ × Row) → List Entry
 entries_in joined = entries_among (map (λ p. p.1) joined)
 
--- there is a day, and it is by p
+-- there is a day, and it is on or before p
 abbrev pub is_by : ℕ → Option ℕ → Bool
 is_by p None = false
 is_by p (Some day) = nat_le day p
@@ -40,7 +40,7 @@ issued_on (payment.Issued day) = Some day
 issued_on (payment.Cleared c) = Some c.issued
 issued_on (payment.Voided v) = Some v.issued
 
--- the day of an entry's money by the books: a deposit was made, a payment issued
+-- the day on which an entry's money was booked: a deposit made, a payment issued
 abbrev pub booked_on : Entry → Option ℕ
 booked_on (entry.Deposit d) = Some d.book
 booked_on (entry.Payment p) = issued_on p.state
@@ -60,8 +60,8 @@ voided_on (payment.Issued day) = None
 voided_on (payment.Cleared c) = None
 voided_on (payment.Voided v) = Some v.undone
 
--- the day on which that was undone: a deposit was cancelled, a payment voided; a return undoes none, since the bank
--- told of both
+-- the day on which that was undone: a deposit cancelled, a payment voided; a return undoes nothing, since the bank
+-- reported both
 abbrev pub undone_on : Entry → Option ℕ
 undone_on (entry.Deposit d) = cancelled_on d.state
 undone_on (entry.Payment p) = voided_on p.state
@@ -74,7 +74,7 @@ deposit_returned_on (deposit.Cleared c) = None
 deposit_returned_on (deposit.Cancelled day) = None
 deposit_returned_on (deposit.Returned r) = Some r.undone
 
--- the day by the books on which the bank took a deposit back
+-- the day on which the bank's return of a deposit was booked
 abbrev pub returned_on : Entry → Option ℕ
 returned_on (entry.Deposit d) = deposit_returned_on d.state
 returned_on (entry.Payment p) = None
@@ -94,7 +94,7 @@ payment_banked_on (payment.Issued day) = None
 payment_banked_on (payment.Cleared c) = Some c.clearing.bank_day
 payment_banked_on (payment.Voided v) = None
 
--- the day of the bank's line that cleared it
+-- the day of the bank line that cleared the entry
 abbrev pub banked_on : Entry → Option ℕ
 banked_on (entry.Deposit d) = deposit_banked_on d.state
 banked_on (entry.Payment p) = payment_banked_on p.state
@@ -107,7 +107,7 @@ deposit_back_on (deposit.Cleared c) = None
 deposit_back_on (deposit.Cancelled day) = None
 deposit_back_on (deposit.Returned r) = Some r.returning.bank_day
 
--- the day of the bank's line that took it back
+-- the day of the bank line that took the entry back
 abbrev pub back_on : Entry → Option ℕ
 back_on (entry.Deposit d) = deposit_back_on d.state
 back_on (entry.Payment p) = None
@@ -126,15 +126,15 @@ is_payment (entry.Payment p) = true
 is_payment (entry.Fee f) = false
 is_payment (entry.Claim c) = false
 
--- booked by p, not undone by p, and without a bank day by p
+-- booked by p, neither undone nor cleared at the bank by p
 abbrev pub is_waiting : ℕ → Entry → Bool
 is_waiting p e = is_by p (booked_on e) && (not (is_by p (undone_on e)) && not (is_by p (banked_on e)))
 
--- the bank had it by p, the books only later
+-- at the bank by p, but booked only later
 abbrev pub is_banked_early : ℕ → Entry → Bool
 is_banked_early p e = is_by p (banked_on e) && not (is_by p (booked_on e))
 
--- the bank had taken it back by p, the books only later
+-- taken back at the bank by p, but booked only later
 abbrev pub is_back_early : ℕ → Entry → Bool
 is_back_early p e = is_by p (back_on e) && not (is_by p (returned_on e))
 
@@ -144,7 +144,7 @@ is_in_transit p e = is_deposit e && is_waiting p e
 abbrev pub is_outstanding : ℕ → Entry → Bool
 is_outstanding p e = is_payment e && is_waiting p e
 
--- a line of the bank that an entry was cleared or taken back by: its day there and by the books, and the signed amount
+-- a bank line that cleared an entry or took it back: its day at the bank, the day it was booked, and the signed amount
 pub record MatchedLine : Type 0 where
   pub bank : ℕ
   pub book : ℕ
@@ -166,14 +166,14 @@ payment_lines (payment.Cleared c) amount =
     record { bank = c.clearing.bank_day; book = c.issued; amount = pos 0 -ℤ pos amount } ∷ []
 payment_lines (payment.Voided v) amount = []
 
--- the lines that an entry was cleared by, and taken back by
+-- the bank lines that cleared an entry and took it back
 abbrev pub lines_of : Entry → List MatchedLine
 lines_of (entry.Deposit d) = deposit_lines d.state d.book d.amount
 lines_of (entry.Payment p) = payment_lines p.state p.amount
 lines_of (entry.Fee f) = []
 lines_of (entry.Claim c) = []
 
--- The tests by the day.
+-- Tests for a day p.
 
 abbrev pub is_event_by : ℕ → Event → Bool
 is_event_by p e = nat_le e.day p
@@ -187,54 +187,54 @@ is_dated_by p l = nat_le l.date p
 abbrev pub is_matched_by : ℕ → MatchedLine → Bool
 is_matched_by p l = nat_le l.bank p
 
--- the bank had it by p, the books only later
+-- at the bank by p, but booked only later
 abbrev pub is_early : ℕ → MatchedLine → Bool
 is_early p l = nat_le l.bank p && not (nat_le l.book p)
 
--- OPEN and CLOSE
+-- the reference is OPEN or CLOSE
 abbrev pub names_balance : List ℕ → Bool
 names_balance reference = bytes_eq reference (codes "OPEN") || bytes_eq reference (codes "CLOSE")
 
--- an exception dated by p that is of no balance
+-- an exception dated by p that is not a balance
 abbrev pub is_counted : ℕ → Line → Bool
 is_counted p l = nat_le l.date p && not (names_balance l.reference)
 
 -- The figures.
 
--- deposits that the books have and the bank has not
+-- deposits that are booked but not at the bank yet
 abbrev pub transit : ℕ → Firm → ℤ
 transit p firm = sum_of (λ e. pos (entry_amount e)) (filter (is_in_transit p) (entries_in firm.rows))
 
--- payments that the books have and the bank has not
+-- payments that are booked but not at the bank yet
 abbrev pub outstanding : ℕ → Firm → ℤ
 outstanding p firm = sum_of (λ e. pos (entry_amount e)) (filter (is_outstanding p) (entries_in firm.rows))
 
--- the movements by p
+-- the sum of movements by p
 abbrev pub journal : ℕ → Firm → ℤ
 journal p firm = sum_of (λ v. v.amount) (filter (is_moved_by p) firm.movements)
 
--- the lines of the firm by p
+-- the sum of the firm's own lines by p
 abbrev pub own_by : ℕ → Firm → ℤ
 own_by p firm = sum_of (λ l. l.amount) (filter (is_dated_by p) firm.firm_lines)
 
--- the ledgers of the matters and of the firm by p, taken from the entries and the firm's lines
+-- the ledgers of the matters and of the firm by p, computed from the entries and the firm's own lines
 abbrev pub ledgers : ℕ → Firm → ℤ
 ledgers p firm =
     sum_of (λ e. e.amount) (filter (is_event_by p) (flat_map events_of (entries_in firm.rows))) +ℤ own_by p firm
 
--- the lines by p that match nothing
+-- the sum of unmatched lines by p
 abbrev pub exceptions : ℕ → Firm → ℤ
 exceptions p firm = sum_of (λ l. l.amount) (filter (is_counted p) firm.exceptions)
 
--- the lines by p that cleared an entry or took one back
+-- the sum of lines by p that cleared an entry or took one back
 abbrev pub matched : ℕ → Firm → ℤ
 matched p firm = sum_of (λ l. l.amount) (filter (is_matched_by p) (flat_map lines_of (entries_in firm.rows)))
 
--- those of them that the books have only later; a line of the firm has one day, and is never early
+-- the sum of those that are booked only later; a line of the firm's own has one day, so it is never early
 abbrev pub early : ℕ → Firm → ℤ
 early p firm = sum_of (λ l. l.amount) (filter (is_early p) (flat_map lines_of (entries_in firm.rows)))
 
--- as of p, where the bank's closing balance of p is this
+-- the figures as of p, given the bank's closing balance of p
 abbrev pub figures : ℕ → ℤ → Firm → Figures
 figures p closing firm = record {
   closing = closing;
@@ -253,21 +253,21 @@ abbrev pub is_closing : BalanceKind → Bool
 is_closing kind.Opening = false
 is_closing kind.Closing = true
 
--- a closing balance of p
+-- the row is a closing balance of p
 abbrev pub is_closing_of : ℕ → StatementRow → Bool
 is_closing_of p row = is_closing row.kind && row.day == p
 
--- the closing balance of p, if the bank told of one
+-- the closing balance of p, if the bank reported one
 abbrev pub closing_on : ℕ → List StatementRow → Option ℤ
 closing_on p rows = option_map (λ r. r.amount) (find (is_closing_of p) rows)
 
--- the figures as of p, where there is a closing balance of p
+-- the figures as of p, if there is a closing balance of p
 abbrev pub figures_on : ℕ → Firm → Option Figures
 figures_on p firm = option_map (λ closing. figures p closing firm) (closing_on p firm.balances)
 
--- What always holds of them.
+-- What is always true of them.
 
--- the journal is the ledgers, and the difference is told
+-- the journal equals the ledgers, and the difference is explained
 pub record FiguresAgree (f : Figures) : Type 0 where
   pub journal : f.journal ≡ f.ledgers
   pub difference : f.difference ≡ (f.exceptions +ℤ f.early) +ℤ f.gap

@@ -1,4 +1,4 @@
--- The lists beside the figures as of a day, and what their sink makes of rows handed over one at a time.
+-- The lists that go with the figures as of a day, and how they are built from rows that arrive one at a time.
 use Rattle.std.specs.Prelude.{◌≡◌, ℕ, Bool, cond, nat_le, List, [], ◌∷◌, ◌++◌, ℤ, pos, ◌-ℤ◌, Option, Some, None, fold, if◌then◌else◌}
 use Rattle.std.specs.List.{filter, flat_map}
 use Rattle.trust_base.specs.declared.line.Line.{Line}
@@ -8,40 +8,40 @@ use Rattle.firm_figures.specs.declared.lister.EntryLine.{EntryLine}
 use Rattle.firm_rows.specs.Firm.{Row, HeadRow, SeatRow, EntryRow, Firm}
 use Rattle.firm_figures.specs.Figures.{booked_on, banked_on, back_on, is_banked_early, is_back_early, is_in_transit, is_outstanding}
 
--- an entry by its matter and number, a day of it, and the signed amount; none where it has no such day
+-- an entry with its matter and number, one of its days, and the signed amount; empty if it has no such day
 abbrev pub entry_line : ℕ → ℕ → Option ℕ → ℤ → List EntryLine
 entry_line m n None amount = []
 entry_line m n (Some day) amount = record { matter = m; entry = n; day = day; amount = amount } ∷ []
 
--- the lines of the entries that pass a test, at a day of each
+-- the entries that pass a test, each with one of its days
 abbrev pub line_where : (Entry → Bool) → (Entry → Option ℕ) → ℕ × Row → List EntryLine
 line_where test day (m, HeadRow head) = []
 line_where test day (m, SeatRow seat) = []
 line_where test day (m, EntryRow n e) = cond (test e) (entry_line m n (day e) (cleared_amount e)) []
 
--- TRANSIT: the deposits in transit, at the day of the books
+-- TRANSIT: the deposits in transit, with the day they were booked
 abbrev pub transit_list : ℕ → Firm → List EntryLine
 transit_list p firm = flat_map (line_where (is_in_transit p) booked_on) firm.rows
 
--- OUT: the payments outstanding, at the day of issue
+-- OUT: the outstanding payments, with the day of issue
 abbrev pub out_list : ℕ → Firm → List EntryLine
 out_list p firm = flat_map (line_where (is_outstanding p) booked_on) firm.rows
 
--- the line that cleared an entry, where the bank had it before the books
+-- the line that cleared an entry, if it was at the bank before it was booked
 abbrev pub banked_line : ℕ → ℕ → ℕ → Entry → List EntryLine
 banked_line p m n e = cond (is_banked_early p e) (entry_line m n (banked_on e) (cleared_amount e)) []
 
--- the line that took it back, where the bank had it before the books
+-- the line that took the entry back, if it was at the bank before it was booked
 abbrev pub back_line : ℕ → ℕ → ℕ → Entry → List EntryLine
 back_line p m n e = cond (is_back_early p e) (entry_line m n (back_on e) (pos 0 -ℤ cleared_amount e)) []
 
--- the lines of the bank of an entry that it had before the books, the one that took it back behind the other
+-- an entry's bank lines that were at the bank before they were booked: the clearing first, then the return
 abbrev pub early_lines : ℕ → ℕ × Row → List EntryLine
 early_lines p (m, HeadRow head) = []
 early_lines p (m, SeatRow seat) = []
 early_lines p (m, EntryRow n e) = banked_line p m n e ++ back_line p m n e
 
--- EARLY: what the bank had before the books, at the bank's day
+-- EARLY: what was at the bank before it was booked, with the bank's day
 abbrev pub early_list : ℕ → Firm → List EntryLine
 early_list p firm = flat_map (early_lines p) firm.rows
 
@@ -49,7 +49,7 @@ early_list p firm = flat_map (early_lines p) firm.rows
 abbrev pub exception_list : ℕ → Firm → List Line
 exception_list p firm = filter (λ l. nat_le l.date p) firm.exceptions
 
--- what the sink keeps
+-- what the lister stores
 pub record Listed : Type 0 where
   pub day : ℕ
   pub transit : List EntryLine
@@ -60,14 +60,14 @@ pub record Listed : Type 0 where
 abbrev pub none_listed : ℕ → Listed
 none_listed p = record { day = p; transit = []; out = []; early = []; exceptions = [] }
 
--- with one row more among the deposits in transit and the payments outstanding
+-- with one more row added to the deposits in transit and the outstanding payments
 abbrev pub with_waiting : Listed → ℕ × Row → Listed
 with_waiting s row = record s {
   transit = s.transit ++ line_where (is_in_transit s.day) booked_on row;
   out = s.out ++ line_where (is_outstanding s.day) booked_on row;
 }
 
--- with the lines of one row more at the end of each list
+-- with the lines of one more row appended to each list
 abbrev pub with_row_listed : Listed → ℕ × Row → Listed
 with_row_listed s row = record s {
   transit = s.transit ++ line_where (is_in_transit s.day) booked_on row;
@@ -78,7 +78,7 @@ with_row_listed s row = record s {
 abbrev pub with_exception_listed : Listed → Line → Listed
 with_exception_listed s line = if nat_le line.date s.day then record s { exceptions = s.exceptions ++ line ∷ [] } else s
 
--- what the sink keeps of a firm's rows and exceptions are the lists
+-- what is stored from a firm's rows and exceptions is these lists
 abbrev pub ListsKept : Type 0
 ListsKept =
     (p : ℕ) (firm : Firm)

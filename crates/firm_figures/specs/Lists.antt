@@ -1,4 +1,4 @@
--- The journal list and the trial balance, as they are now, and what their sinks make of rows handed over one at a time.
+-- The journal list and the trial balance as they are now, and how they are built from rows that arrive one at a time.
 use Rattle.std.specs.Prelude.{◌≡◌, ℕ, Bool, true, false, Option, Some, None, cond, ◌==◌, List, [], ◌∷◌, ◌++◌, map, ℤ, pos, ◌+ℤ◌, ◌≤ℤ◌, is_none, fold}
 use Rattle.std.specs.List.{AllByRecursion}
 use Rattle.matter_rows.specs.declared.head.Head.{Head}
@@ -18,25 +18,25 @@ use Rattle.firm_figures.specs.Reconciling.{added}
 
 -- The journal.
 
--- each movement with the sum so far, where the sum before is z
+-- each movement with the running sum, which starts at z
 abbrev pub journal_from : ℤ → List Movement → List JournalLine
 journal_from z [] = []
 journal_from z (v ∷ vs) = record { movement = v; sum = z +ℤ v.amount } ∷ journal_from (z +ℤ v.amount) vs
 
--- in the order of the list
+-- each movement with the running sum, in the order of the list
 abbrev pub journal_of : List Movement → List JournalLine
 journal_of movements = journal_from (pos 0) movements
 
--- in the order of acceptance
+-- the firm's journal, in the order of acceptance
 abbrev pub journal_list : Firm → List JournalLine
 journal_list firm = journal_of firm.movements
 
--- the last sum, or z where there is none
+-- the last running sum; z if the list is empty
 abbrev pub last_sum : ℤ → List JournalLine → ℤ
 last_sum z [] = z
 last_sum z (l ∷ ls) = last_sum l.sum ls
 
--- what the journal's sink keeps
+-- what the journal's sink stores
 pub record JournalKept : Type 0 where
   pub lines : List JournalLine
   pub sum : ℤ
@@ -50,7 +50,7 @@ with_moved s v = record {
   sum = added s.sum v.amount;
 }
 
--- what the sink keeps of movements that can be counted is the journal
+-- what the sink stores from countable movements is the journal
 abbrev pub JournalIsKept : Type 0
 JournalIsKept =
     (movements : List Movement) → AreCountable IsMovementInRange movements
@@ -58,22 +58,22 @@ JournalIsKept =
 
 -- The trial balance.
 
--- the matters that are open, in the order of their heads
+-- the open matters, in the order of their heads
 abbrev pub open_matters : List (ℕ × Row) → List ℕ
 open_matters [] = []
 open_matters ((m, HeadRow h) ∷ rows) = cond (is_none h.closed) (m ∷ open_matters rows) (open_matters rows)
 open_matters ((m, SeatRow seat) ∷ rows) = open_matters rows
 open_matters ((m, EntryRow number entry) ∷ rows) = open_matters rows
 
--- each with its ledger
+-- each open matter with its ledger
 abbrev pub trial_lines : Firm → List TrialLine
 trial_lines firm = map (λ m. record { matter = m; ledger = ledger (of m firm).entries }) (open_matters firm.rows)
 
--- TOTAL: these, and the firm's own balance
+-- TOTAL: the sum of these and of the firm's own balance
 abbrev pub trial_total : Firm → ℤ
 trial_total firm = sum_of (λ l. l.ledger) (trial_lines firm) +ℤ balance_of firm.firm_lines
 
--- what the trial balance's sink keeps
+-- what the trial balance's sink stores
 pub record TrialKept : Type 0 where
   pub lines : List TrialLine
   pub own : ℤ
@@ -81,7 +81,7 @@ pub record TrialKept : Type 0 where
 abbrev pub no_trial : TrialKept
 no_trial = record { lines = []; own = pos 0 }
 
--- an amount added to the last line, where it is of this matter
+-- with an amount added to the last line, if that is of this matter
 abbrev pub add_last : ℕ → ℤ → List TrialLine → List TrialLine
 add_last m z [] = []
 add_last m z (l ∷ []) = cond (l.matter == m) (record l { ledger = added l.ledger z }) l ∷ []
@@ -97,19 +97,19 @@ with_trial_row s (m, EntryRow number e) = record s { lines = add_last m (ledger_
 abbrev pub with_trial_own : TrialKept → FirmLine → TrialKept
 with_trial_own s l = record s { own = added s.own l.amount }
 
--- a head that is there and has no close day
+-- there is a head, and it has no closing day
 abbrev pub is_open : Option Head → Bool
 is_open None = false
 is_open (Some h) = is_none h.closed
 
--- each matter that is listed is open
+-- every listed matter is open
 abbrev pub ListedAreOpen : Type 0
 ListedAreOpen =
     (firm : Firm) → IsInOrder firm → AllByRecursion (λ l. is_open (of l.matter firm).head ≡ true) (trial_lines firm)
 
--- What holds of both.
+-- What is true of both.
 
--- in a sound firm no sum so far is below zero, and the last is the trial balance's TOTAL
+-- in a sound firm no running sum is negative, and the last one is the trial balance's TOTAL
 pub record ListsAgree (firm : Firm) : Type 0 where
   pub covered : AllByRecursion (λ l. pos 0 ≤ℤ l.sum) (journal_list firm)
   pub total : last_sum (pos 0) (journal_list firm) ≡ trial_total firm
@@ -117,34 +117,33 @@ pub record ListsAgree (firm : Firm) : Type 0 where
 abbrev pub ListsAlwaysAgree : Type 0
 ListsAlwaysAgree = (firm : Firm) → FirmSound firm → ListsAgree firm
 
--- what the sink keeps of all rows and lines of a firm
+-- what the sink stores from all rows and lines of a firm
 abbrev pub trial_kept : Firm → TrialKept
 trial_kept firm = fold with_trial_own (fold with_trial_row no_trial firm.rows) firm.firm_lines
 
--- the lines and the firm's own balance
+-- the lines, and the firm's own balance
 abbrev pub trial_of : Firm → TrialKept
 trial_of firm = record { lines = trial_lines firm; own = balance_of firm.firm_lines }
 
--- what is kept of an ordered firm that can be counted are the open matters with their ledgers, and the firm's own
--- balance
+-- what is stored from an ordered, countable firm is the open matters with their ledgers, and the firm's own balance
 abbrev pub TrialIsKept : Type 0
 TrialIsKept =
     (firm : Firm) → IsInOrder firm
     → AreCountable IsRowInRange firm.rows → AreCountable IsFirmLineInRange firm.firm_lines
     → trial_kept firm ≡ trial_of firm
 
--- these added up, in 128 bits
+-- the sum of what is stored, in 128 bits
 abbrev pub trial_sum : TrialKept → ℤ
 trial_sum s = fold (λ z (l : TrialLine). added z l.ledger) s.own s.lines
 
--- where the firm is sound they add up to TOTAL
+-- if the firm is sound, that sum is TOTAL
 abbrev pub TotalIsKept : Type 0
 TotalIsKept =
     (firm : Firm) → FirmSound firm
     → AreCountable IsRowInRange firm.rows → AreCountable IsFirmLineInRange firm.firm_lines
     → trial_sum (trial_of firm) ≡ trial_total firm
 
--- a trial balance in memory is that of a firm
+-- the trial balance in memory is that of the firm
 pub record IsTrialBalance (firm : Firm) (balance : TrialBalance) : Type 0 where
   pub lines : balance.lines.items ≡ trial_lines firm
   pub own : balance.own ≡ balance_of firm.firm_lines

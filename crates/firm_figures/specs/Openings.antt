@@ -8,15 +8,15 @@ use Rattle.firm_rows.specs.FirmLines.{balance_cmp}
 use Rattle.firm_figures.specs.declared.openings.OpeningLine.{OpeningLine}
 use Rattle.firm_figures.specs.Figures.{is_closing}
 
--- a closing dated before a day
+-- a closing dated before this day
 abbrev pub is_closing_before : ℕ → StatementRow → Bool
 is_closing_before day r = is_closing r.kind && nat_lt r.day day
 
--- the last of them in the list, which is the latest where the balances ascend
+-- the last of these in the list, which is the latest if the balances are sorted
 abbrev pub latest_before : ℕ → List StatementRow → Option StatementRow
 latest_before day rows = fold (λ found r. if is_closing_before day r then Some r else found) None rows
 
--- an opening after a closing of another amount
+-- an opening whose latest closing has another amount
 abbrev pub after_closing : StatementRow → Option StatementRow → List OpeningLine
 after_closing r None = []
 after_closing r (Some c) =
@@ -31,13 +31,13 @@ is_opening_by p r = not (is_closing r.kind) && nat_le r.day p
 abbrev pub opening_line : List StatementRow → ℕ → StatementRow → List OpeningLine
 opening_line rows p r = if is_opening_by p r then after_closing r (latest_before r.day rows) else []
 
--- OPENING
+-- the lines of OPENING as of p
 abbrev pub opening_list : ℕ → List StatementRow → List OpeningLine
 opening_list p rows = flat_map (opening_line rows p) rows
 
--- What is kept of the balances handed over one at a time.
+-- How they are built from balances that arrive one at a time.
 
--- those dated by the day, openings and closings apart
+-- the balances dated by the day, openings and closings apart
 pub record BalancesKept : Type 0 where
   pub day : ℕ
   pub openings : List StatementRow
@@ -55,12 +55,12 @@ with_dated s r =
 abbrev pub with_balance_kept : BalancesKept → StatementRow → BalancesKept
 with_balance_kept s r = if nat_le r.day s.day then with_dated s r else s
 
--- closings that ascend by their days
+-- closings in order of day
 pub record AreClosings (rows : List StatementRow) : Type 0 where
   pub rising : IsNonDecreasingBy (λ (r : StatementRow). r.day) rows
   pub closings : AllByRecursion (λ (r : StatementRow). is_closing r.kind ≡ true) rows
 
--- the lines of openings, each after the latest of these closings before it
+-- the lines of openings, each with the latest of these closings before it
 abbrev pub openings_after : List StatementRow → List StatementRow → List OpeningLine
 openings_after closings openings =
     flat_map (λ (r : StatementRow). after_closing r (latest_before r.day closings)) openings
@@ -68,7 +68,8 @@ openings_after closings openings =
 abbrev pub openings_kept : BalancesKept → List OpeningLine
 openings_kept s = openings_after s.closings s.openings
 
--- what is kept of all balances has the openings that differ, and of balances in order the closings ascend
+-- what is stored from all balances gives the openings that differ; if the balances are sorted, so are the closings by
+-- day
 pub record AreOpeningsKept (p : ℕ) (rows : List StatementRow) : Type 0 where
   pub lines : openings_kept (fold with_balance_kept (no_balances p) rows) ≡ opening_list p rows
   pub rising : IsStrictlySortedBy balance_cmp rows → AreClosings (fold with_balance_kept (no_balances p) rows).closings

@@ -1,4 +1,4 @@
--- When the records of a day are no longer whole, and what purging a matter leaves of the figures and lists as of a day.
+-- When the records of a day are no longer complete, and which figures and lists a purge leaves unchanged.
 use Rattle.std.specs.Prelude.{◌≡◌, ℕ, ◌≤◌, Bool, false, ◌&&◌, ◌||◌, nat_lt, Option, Some, None}
 use Rattle.std.specs.List.{list_any}
 use Rattle.matter_rows.specs.declared.head.Head.{Head}
@@ -10,7 +10,7 @@ use Rattle.firm_rows.specs.FirmSound.{FirmSound}
 use Rattle.firm_figures.specs.Figures.{figures_on}
 use Rattle.firm_figures.specs.Listing.{transit_list, out_list, early_list, exception_list}
 
--- Days whose figures a purge may have taken away.
+-- Days whose figures a purge may have changed.
 
 abbrev pub is_day_after : ℕ → Option ℕ → Bool
 is_day_after p None = false
@@ -25,11 +25,11 @@ is_purged_after p (m, HeadRow head) = is_head_purged_after p head
 is_purged_after p (m, SeatRow seat) = false
 is_purged_after p (m, EntryRow number entry) = false
 
--- some matter that was closed after p has been purged, so that the records of p are no longer whole
+-- some matter that was closed after p was purged, so the records of p are no longer complete
 unfoldable pub is_period_purged : ℕ → Firm → Bool
 is_period_purged p firm = list_any (is_purged_after p) firm.rows
 
--- what is kept of the heads handed over: whether one of them is such a matter's
+-- what is stored from the heads: whether one of them is of such a matter
 pub record PeriodKept : Type 0 where
   pub day : ℕ
   pub purged : Bool
@@ -40,48 +40,48 @@ whole_period p = record { day = p; purged = false }
 abbrev pub with_row_purged : PeriodKept → ℕ × Row → PeriodKept
 with_row_purged s row = record s { purged = is_purged_after s.day row || s.purged }
 
--- What a purge leaves.
+-- What a purge leaves unchanged.
 
--- the matter was closed on the day or earlier
+-- the matter was closed on or before the day
 abbrev pub IsClosedBy : ℕ → Option Head → Type 0
 IsClosedBy p head = (day : ℕ) × ((closed_on head ≡ Some day) × (day ≤ p))
 
--- the change purges the matter whose rows it is decided on
+-- the change purges the matter whose rows it was decided on
 pub record IsPurge (m : ℕ) (firm : Firm) (change : MatterChange) : Type 0 where
   pub fits : IsChange (of m firm) change
   pub day : ℕ
   pub clears : change.edit ≡ edit.Clear day
 
--- the lists beside the figures, but for that of the payments of one instrument
+-- the lists that go with the figures, except that of payments with the same instrument
 pub record AreListsLeft (p : ℕ) (before after : Firm) : Type 0 where
   pub transit : transit_list p after ≡ transit_list p before
   pub out : out_list p after ≡ out_list p before
   pub early : early_list p after ≡ early_list p before
   pub exceptions : exception_list p after ≡ exception_list p before
 
--- purging a matter of a sound firm changes no figure of a day that is not before the matter's close, whatever the
--- closing balance, nor whether there is one
+-- purging a matter of a sound firm changes no figure of the day on which it was closed or of a later day, whatever the
+-- closing balance is, or if there is none
 abbrev pub PurgeChangesNoFigure : Type 0
 PurgeChangesNoFigure =
     (p m : ℕ) (change : MatterChange) (firm : Firm)
     → FirmSound firm → IsClosedBy p (of m firm).head → IsPurge m firm change
     → figures_on p (after_change m change firm) ≡ figures_on p firm
 
--- nor any of the lists
+-- nor does it change any of the lists
 abbrev pub PurgeChangesNoList : Type 0
 PurgeChangesNoList =
     (p m : ℕ) (change : MatterChange) (firm : Firm)
     → FirmSound firm → IsClosedBy p (of m firm).head → IsPurge m firm change
     → AreListsLeft p firm (after_change m change firm)
 
--- purging a matter of a sound firm changes no figure of a day whose records are whole afterwards
+-- purging a matter of a sound firm changes no figure of a day whose records are still complete afterwards
 abbrev pub PurgeChangesNoFigureLeft : Type 0
 PurgeChangesNoFigureLeft =
     (p m : ℕ) (change : MatterChange) (firm : Firm)
     → FirmSound firm → IsPurge m firm change → is_period_purged p (after_change m change firm) ≡ false
     → figures_on p (after_change m change firm) ≡ figures_on p firm
 
--- nor any of the lists
+-- nor does it change any of the lists
 abbrev pub PurgeChangesNoListLeft : Type 0
 PurgeChangesNoListLeft =
     (p m : ℕ) (change : MatterChange) (firm : Firm)

@@ -30,7 +30,7 @@ pub record ReconciliationTold : Type 0 where
   pub doubles : List Issued
   pub openings : List OpeningLine
 
--- what a reconciliation in memory tells
+-- the figures and lists of a reconciliation in memory
 abbrev pub told : Reconciliation → ReconciliationTold
 told r = record {
   figures = r.figures;
@@ -42,7 +42,7 @@ told r = record {
   openings = r.openings.items;
 }
 
--- the reconciliation of a firm as of p, where these are its figures
+-- the reconciliation of a firm as of p, given its figures
 abbrev pub reconciled : ℕ → Firm → Figures → ReconciliationTold
 reconciled p firm figures = record {
   figures = figures;
@@ -54,11 +54,11 @@ reconciled p firm figures = record {
   openings = opening_list p firm.balances;
 }
 
--- where there is a closing balance of p
+-- the reconciliation of a firm as of p, if there is a closing balance of p
 abbrev pub reconciliation_on : ℕ → Firm → Option ReconciliationTold
 reconciliation_on p firm = option_map (reconciled p firm) (figures_on p firm)
 
--- What is kept of the rows handed over one at a time.
+-- How it is built from rows that arrive one at a time.
 
 pub record ReconciliationKept : Type 0 where
   pub figures : Tallies
@@ -96,7 +96,7 @@ with_exception_kept s l = record s { figures = with_exception s.figures l; lists
 abbrev pub with_balance_noted : ReconciliationKept → StatementRow → ReconciliationKept
 with_balance_noted s r = record s { figures = with_balance_told s.figures r; balances = with_balance_kept s.balances r }
 
--- the rows, movements, lines, exceptions and balances of a firm, in their order
+-- what is stored from the rows, movements, lines, exceptions and balances of a firm, in their order
 abbrev pub all_kept : ℕ → Firm → ReconciliationKept
 all_kept p firm =
     fold with_balance_noted
@@ -105,7 +105,7 @@ all_kept p firm =
     (fold with_movement_kept
     (fold with_row_kept (nothing_kept p) firm.rows) firm.movements) firm.firm_lines) firm.exceptions) firm.balances
 
--- with the figures of what was kept
+-- the stored lists, with these figures
 abbrev pub kept_with : ReconciliationKept → Figures → ReconciliationTold
 kept_with s figures = record {
   figures = figures;
@@ -120,7 +120,7 @@ kept_with s figures = record {
 abbrev pub kept_told : ReconciliationKept → Option ReconciliationTold
 kept_told s = option_map (kept_with s) (finished s.figures)
 
--- what is kept of a sound firm that can be counted is its reconciliation, and whether the records of the day are whole
+-- what is stored from a sound, countable firm gives its reconciliation, and whether the records of the day are complete
 pub record IsReconciliationKept (p : ℕ) (firm : Firm) : Type 0 where
   pub told : kept_told (all_kept p firm) ≡ reconciliation_on p firm
   pub rising : AreClosings (all_kept p firm).balances.closings

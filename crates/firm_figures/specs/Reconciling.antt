@@ -1,4 +1,4 @@
--- What a reconciler makes of the rows that it is handed, one at a time.
+-- What a reconciler does with rows that arrive one at a time.
 use Rattle.std.specs.Prelude.{◌≡◌, ℕ, ◌||◌, cond, ℤ, pos, ◌+ℤ◌, ◌-ℤ◌, Option, Some, None, fold}
 use Rattle.std.specs.Option.{option_map}
 use Rattle.std.specs.Int.{int_wrap, w128}
@@ -25,7 +25,7 @@ transit_share p e = cond (is_in_transit p e) (pos (entry_amount e)) (pos 0)
 abbrev pub outstanding_share : ℕ → Entry → ℤ
 outstanding_share p e = cond (is_outstanding p e) (pos (entry_amount e)) (pos 0)
 
--- its signed amount where it was booked, less that where this was undone or the deposit returned
+-- its signed amount if it was booked by p, less that amount if it was undone or returned by p
 abbrev pub ledger_share_by : ℕ → Entry → ℤ
 ledger_share_by p e =
     cond (is_by p (booked_on e)) (cleared_amount e) (pos 0)
@@ -43,11 +43,11 @@ early_share p e =
 
 -- The sums.
 
--- a sum with one amount more, in 128 bits
+-- a sum plus an amount, in 128 bits
 unfoldable pub added : ℤ → ℤ → ℤ
 added sum amount = int_wrap w128 (sum +ℤ amount)
 
--- what is kept of the rows: the day, its closing balance, and a sum for each figure
+-- what is stored from the rows: the day, its closing balance, and one sum for each figure
 pub record Tallies : Type 0 where
   pub day : ℕ
   pub closing : Option ℤ
@@ -60,7 +60,7 @@ pub record Tallies : Type 0 where
   pub matched : ℤ
   pub early : ℤ
 
--- before any row
+-- the start, with no rows added yet
 abbrev pub no_tallies : ℕ → Tallies
 no_tallies p = record {
   day = p;
@@ -98,7 +98,7 @@ with_own s l = record s { own = added s.own (cond (is_dated_by s.day l) l.amount
 abbrev pub with_exception : Tallies → Line → Tallies
 with_exception s l = record s { exceptions = added s.exceptions (cond (is_counted s.day l) l.amount (pos 0)) }
 
--- the first closing balance of the day stays
+-- the first closing balance of the day is kept
 abbrev pub first_of : Option ℤ → Option ℤ → Option ℤ
 first_of None o = o
 first_of (Some z) o = Some z
@@ -106,9 +106,9 @@ first_of (Some z) o = Some z
 abbrev pub with_balance_told : Tallies → StatementRow → Tallies
 with_balance_told s r = record s { closing = first_of s.closing (cond (is_closing_of s.day r) (Some r.amount) None) }
 
--- The figures of what was kept.
+-- The figures from what is stored.
 
--- what is left of it without an amount, in 128 bits
+-- a sum minus an amount, in 128 bits
 unfoldable pub less : ℤ → ℤ → ℤ
 less sum amount = int_wrap w128 (sum -ℤ amount)
 
@@ -129,9 +129,9 @@ figures_kept s closing = record {
 abbrev pub finished : Tallies → Option Figures
 finished s = option_map (figures_kept s) s.closing
 
--- What was handed over.
+-- What is stored from a whole firm.
 
--- the rows, movements, lines and balances of a firm, in their order
+-- what is stored from the rows, movements, lines and balances of a firm, in their order
 abbrev pub all_taken : ℕ → Firm → Tallies
 all_taken p firm =
     fold with_balance_told
@@ -140,7 +140,7 @@ all_taken p firm =
     (fold with_movement
     (fold with_row (no_tallies p) firm.rows) firm.movements) firm.firm_lines) firm.exceptions) firm.balances
 
--- each figure fits 128 bits
+-- every figure fits 128 bits
 pub record AreInRange (f : Figures) : Type 0 where
   pub transit : FitsSigned w128 f.transit
   pub outstanding : FitsSigned w128 f.outstanding
@@ -152,20 +152,20 @@ pub record AreInRange (f : Figures) : Type 0 where
   pub early : FitsSigned w128 f.early
   pub gap : FitsSigned w128 f.gap
 
--- where each figure fits, the figures kept are those of the firm
+-- if every figure fits, the stored figures are those of the firm
 abbrev pub FiguresKept : Type 0
 FiguresKept =
     (p : ℕ) (firm : Firm)
     → ((closing : ℤ) → closing_on p firm.balances ≡ Some closing → AreInRange (figures p closing firm))
     → finished (all_taken p firm) ≡ figures_on p firm
 
--- the figures of a sound firm whose rows can be counted fit 128 bits
+-- the figures of a sound, countable firm fit 128 bits
 abbrev pub FiguresFit : Type 0
 FiguresFit =
     (p : ℕ) (closing : ℤ) (firm : Firm) → FirmSound firm → IsCountable firm → IsBankAmount closing
     → AreInRange (figures p closing firm)
 
--- and so the figures kept of the rows of a sound firm are its figures
+-- so the figures stored from a sound, countable firm are those of the firm
 abbrev pub FiguresTold : Type 0
 FiguresTold =
     (p : ℕ) (firm : Firm) → FirmSound firm → IsCountable firm → finished (all_taken p firm) ≡ figures_on p firm

@@ -1,4 +1,4 @@
-// Payments whose instrument another payment has.
+// Payments with the same instrument as another payment.
 
 ghost use Rattle.std.specs.Prelude.{◌≡◌, ℕ, ◌<◌, ◌++◌, take, length, slice_index_or, IfOk, OnOk, OnErr};
 ghost use Rattle.std.specs.List.{filter};
@@ -15,7 +15,7 @@ use std::marker::Model;
 use trust_base::{Day, EntryNo, Label, MatterNo};
 use trust_matter::{Entry, Payment};
 
-/// A payment issued, with the day of issue, the negative amount in cents and the instrument.
+/// An issued payment: the day of issue, the negative amount in cents, and the instrument.
 #[derive(Drop, Debug)]
 pub struct Issued {
     pub matter: MatterNo,
@@ -55,7 +55,7 @@ impl Issued {
     }
 }
 
-// Puts them in order by instrument, matter and entry.
+// Sorts by instrument, matter and entry.
 fn sort(all: &mut Vec<Issued>) -> Result<(), AllocError>
     ensures sorted { OnOk result (IsSortedBy is_before_issued all.new.items) }
     ensures same { OnOk result (all.new.items ≡ in_order is_before_issued all.old.items) }
@@ -64,7 +64,8 @@ fn sort(all: &mut Vec<Issued>) -> Result<(), AllocError>
     Ok(())
 }
 
-// In a list in order, those of one instrument stand side by side.
+// Whether a neighbour has the same instrument. In a sorted list, payments with the same instrument are next to each
+// other.
 fn is_double(sorted: &[Issued], place: usize) -> bool
     requires within { place < length sorted.now }
     requires order { IsSortedBy is_before_issued sorted.now }
@@ -92,9 +93,9 @@ fn doubles_of(alloc: Global, sorted: &[Issued]) -> Result<Vec<Issued>, AllocErro
     Ok(doubles)
 }
 
-/// Keeps the payments issued by a day and not voided by it.
+/// Collects the payments issued on or before a day, and not voided by then.
 ///
-/// Contracts see it as the day and their list.
+/// Contracts see it as the day and the list.
 #[derive(Drop)]
 pub struct IssuedList {
     day: Day,
@@ -107,7 +108,7 @@ impl Model for IssuedList {
     ghost view = { λ s. record { day = s.day; issued = s.issued.items } };
 }
 
-// Adds a payment with its day of issue, where it has one.
+// Appends a payment with its day of issue, if it has one.
 fn push_issued(
     xs: &mut Vec<Issued>,
     matter: MatterNo,
@@ -152,7 +153,7 @@ fn push_entry(
 }
 
 impl IssuedList {
-    /// Begins as of a day.
+    /// An empty collection as of a day.
     pub fn new(alloc: Global, day: Day) -> IssuedList
         ensures { result ≡ no_issued day }
     {
@@ -162,21 +163,21 @@ impl IssuedList {
         }
     }
 
-    /// How many they are.
+    /// How many payments it has.
     pub fn len(&self) -> usize
         ensures { result ≡ length self.now.issued }
     {
         self.issued.len()
     }
 
-    /// Leaves the first so many of them.
+    /// Drops all but the first `kept` payments.
     pub fn truncate(&mut self, kept: usize)
         ensures { self.new ≡ record self.old { issued = take kept self.old.issued } }
     {
         self.issued.truncate(kept);
     }
 
-    /// Adds an entry, where it is such a payment. It stays as it was where memory is refused.
+    /// Adds an entry, if it is such a payment. If memory runs out, the collection is unchanged.
     pub fn add(
         &mut self,
         matter: MatterNo,
@@ -189,7 +190,7 @@ impl IssuedList {
         push_entry(&mut self.issued, self.day, matter, number, entry)
     }
 
-    /// Those whose instrument another of them has, by instrument in the order of bytes, matter and entry.
+    /// The payments with the same instrument as another, sorted by instrument (byte by byte), matter and entry.
     pub fn finish(self, alloc: Global) -> Result<Vec<Issued>, AllocError>
         ensures { IfOk result (λ xs. xs.items ≡ doubles_in self.issued) }
     {

@@ -1,4 +1,4 @@
-// Rows in memory, and how a sink is handed lists of them.
+// Rows in memory, and how lists of them are passed to a sink.
 
 ghost use Rattle.std.specs.Prelude.{◌≡◌, fold, map, OnOk, FitsSigned};
 ghost use Rattle.std.specs.Int.{w64};
@@ -7,7 +7,10 @@ ghost use Rattle.matter_rows.specs.Rows.{entry_amount};
 ghost use Rattle.firm_rows.specs.Countable.{AreCountable, IsRowInRange, IsMovementInRange, IsFirmLineInRange, IsLineInRange, IsBalanceInRange};
 ghost use Rattle.firm_figures.specs.Copied.{row_pair};
 
-use firm_rows::{FirmLine, Movement, RowSink, StatementRow};
+use firm_rows::{
+    BalanceSink, ExceptionSink, FirmLine, FirmLineSink, Movement, MovementSink, RowSink,
+    StatementRow,
+};
 use std::alloc::AllocError;
 use trust_base::{EntryNo, Line, MatterNo};
 use trust_matter::{Entry, Head, Seat};
@@ -20,7 +23,7 @@ pub enum FirmRow {
     Entry(MatterNo, EntryNo, Entry),
 }
 
-// The amount of an entry is one that an entry may have.
+// An entry's amount is always in range.
 fn has_an_amount(entry: &Entry)
     ensures { IsAmount (entry_amount entry.now) }
 {
@@ -32,7 +35,7 @@ fn has_an_amount(entry: &Entry)
     };
 }
 
-// What a movement moved is a number of 64 bits.
+// A movement's amount always fits 64 bits.
 fn fits_a_word(movement: &Movement)
     ensures { FitsSigned w64 movement.now.amount }
 {
@@ -53,7 +56,7 @@ fn hand_row<S: RowSink>(sink: &mut S, row: &FirmRow) -> Result<(), AllocError>
     }
 }
 
-/// Hands over rows of matters, in the order of the list. One for which the sink wants memory ends the call.
+/// Passes rows of matters to the sink, in the order of the list. Stops if the sink runs out of memory.
 pub fn hand_rows<S: RowSink>(sink: &mut S, rows: &[FirmRow]) -> Result<(), AllocError>
     ensures taken { OnOk result (sink.new ≡ fold S.stepped sink.old (map row_pair rows.now)) }
     ensures countable { OnOk result (AreCountable IsRowInRange (map row_pair rows.now)) }
@@ -64,8 +67,11 @@ pub fn hand_rows<S: RowSink>(sink: &mut S, rows: &[FirmRow]) -> Result<(), Alloc
     Ok(())
 }
 
-/// Hands over movements, in the order of the list. One for which the sink wants memory ends the call.
-pub fn hand_movements<S: RowSink>(sink: &mut S, movements: &[Movement]) -> Result<(), AllocError>
+/// Passes movements to the sink, in the order of the list. Stops if the sink runs out of memory.
+pub fn hand_movements<S: MovementSink>(
+    sink: &mut S,
+    movements: &[Movement],
+) -> Result<(), AllocError>
     ensures taken { OnOk result (sink.new ≡ fold S.moved sink.old movements.now) }
     ensures countable { OnOk result (AreCountable IsMovementInRange movements.now) }
 {
@@ -76,8 +82,8 @@ pub fn hand_movements<S: RowSink>(sink: &mut S, movements: &[Movement]) -> Resul
     Ok(())
 }
 
-/// Hands over lines of the firm's own, in the order of the list. One for which the sink wants memory ends the call.
-pub fn hand_firm_lines<S: RowSink>(sink: &mut S, lines: &[FirmLine]) -> Result<(), AllocError>
+/// Passes lines of the firm's own to the sink, in the order of the list. Stops if the sink runs out of memory.
+pub fn hand_firm_lines<S: FirmLineSink>(sink: &mut S, lines: &[FirmLine]) -> Result<(), AllocError>
     ensures taken { OnOk result (sink.new ≡ fold S.lined sink.old lines.now) }
     ensures countable { OnOk result (AreCountable IsFirmLineInRange lines.now) }
 {
@@ -88,8 +94,8 @@ pub fn hand_firm_lines<S: RowSink>(sink: &mut S, lines: &[FirmLine]) -> Result<(
     Ok(())
 }
 
-/// Hands over exceptions, in the order of the list. One for which the sink wants memory ends the call.
-pub fn hand_exceptions<S: RowSink>(sink: &mut S, lines: &[Line]) -> Result<(), AllocError>
+/// Passes exceptions to the sink, in the order of the list. Stops if the sink runs out of memory.
+pub fn hand_exceptions<S: ExceptionSink>(sink: &mut S, lines: &[Line]) -> Result<(), AllocError>
     ensures taken { OnOk result (sink.new ≡ fold S.noted sink.old lines.now) }
     ensures countable { OnOk result (AreCountable IsLineInRange lines.now) }
 {
@@ -100,8 +106,8 @@ pub fn hand_exceptions<S: RowSink>(sink: &mut S, lines: &[Line]) -> Result<(), A
     Ok(())
 }
 
-/// Hands over balances, in the order of the list. One for which the sink wants memory ends the call.
-pub fn hand_balances<S: RowSink>(sink: &mut S, rows: &[StatementRow]) -> Result<(), AllocError>
+/// Passes balances to the sink, in the order of the list. Stops if the sink runs out of memory.
+pub fn hand_balances<S: BalanceSink>(sink: &mut S, rows: &[StatementRow]) -> Result<(), AllocError>
     ensures taken { OnOk result (sink.new ≡ fold S.balanced sink.old rows.now) }
     ensures countable { OnOk result (AreCountable IsBalanceInRange rows.now) }
 {

@@ -1,4 +1,4 @@
-// The journal, from its movements one at a time.
+// Builds the journal from movements that arrive one at a time.
 
 ghost use Rattle.std.specs.Prelude.{◌≡◌, IfOk};
 ghost use Rattle.firm_figures.specs.Lists.{JournalKept, no_journal, with_moved, journal_of};
@@ -6,20 +6,18 @@ ghost use Rattle.firm_figures.specs.declared.journal_sink.JournalLine.{JournalLi
 
 use crate::firm_row::hand_movements;
 use crate::reconciler::added;
-use firm_rows::{FirmLine, Movement, RowSink, StatementRow};
+use firm_rows::{Movement, MovementSink};
 use std::alloc::{AllocError, Global};
 use std::marker::Model;
-use trust_base::{EntryNo, Line, MatterNo};
-use trust_matter::{Entry, Head, Seat};
 
-/// A movement with the sum so far, in cents.
+/// A movement with the running sum, in cents.
 #[derive(Clone, Copy, Debug)]
 pub struct JournalLine {
     pub movement: Movement,
     pub sum: i128,
 }
 
-/// Lists the journal.
+/// Builds the journal.
 ///
 /// Contracts see it as the lines and the last sum.
 #[derive(Drop)]
@@ -35,7 +33,7 @@ impl Model for JournalSink {
 }
 
 impl JournalSink {
-    /// Begins without a movement.
+    /// An empty journal.
     pub fn new(alloc: Global) -> JournalSink
         ensures { result ≡ no_journal }
     {
@@ -53,37 +51,8 @@ impl JournalSink {
     }
 }
 
-impl RowSink for JournalSink {
-    ghost stepped = { λ s row. s };
-
-    ghost noted = { λ s line. s };
-
+impl MovementSink for JournalSink {
     ghost moved = { with_moved };
-
-    ghost lined = { λ s line. s };
-
-    ghost balanced = { λ s row. s };
-
-    fn head(&mut self, _matter: MatterNo, _head: &Head) -> Result<(), AllocError> {
-        Ok(())
-    }
-
-    fn seat(&mut self, _matter: MatterNo, _seat: &Seat) -> Result<(), AllocError> {
-        Ok(())
-    }
-
-    fn entry(
-        &mut self,
-        _matter: MatterNo,
-        _number: EntryNo,
-        _entry: &Entry,
-    ) -> Result<(), AllocError> {
-        Ok(())
-    }
-
-    fn exception(&mut self, _line: &Line) -> Result<(), AllocError> {
-        Ok(())
-    }
 
     fn movement(&mut self, movement: &Movement) -> Result<(), AllocError> {
         let sum = added(self.sum, movement.amount);
@@ -94,17 +63,9 @@ impl RowSink for JournalSink {
         self.sum = sum;
         Ok(())
     }
-
-    fn firm_line(&mut self, _line: &FirmLine) -> Result<(), AllocError> {
-        Ok(())
-    }
-
-    fn balance(&mut self, _row: &StatementRow) -> Result<(), AllocError> {
-        Ok(())
-    }
 }
 
-/// The journal of movements in memory: each with the sum so far, in the order of the list. Fails only for want of
+/// The journal of movements in memory: each with the running sum, in the order of the list. The only error is out of
 /// memory.
 pub fn journal_list(alloc: Global, movements: &[Movement]) -> Result<Vec<JournalLine>, AllocError>
     ensures { IfOk result (λ lines. lines.items ≡ journal_of movements.now) }

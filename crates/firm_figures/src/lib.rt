@@ -1,5 +1,5 @@
-//! The figures of a firm as of a day and the lists beside them, its journal, its trial balance and its retention list:
-//! each from the firm's rows one at a time or from lists of them.
+//! A firm's figures as of a day and the lists that go with them, its journal, its trial balance and its retention list.
+//! Each is built from rows that arrive one at a time, or from lists of rows.
 #![tactic(auto)]
 
 mod doubles;

@@ -1,4 +1,4 @@
-// The lists beside the figures as of a day, from rows one at a time.
+// The lists that go with the figures as of a day, from rows that arrive one at a time.
 
 ghost use Rattle.std.specs.Prelude.{◌≡◌, ◌++◌, option_to_list, OnOk, OnErr};
 ghost use Rattle.matter_rows.specs.Clearings.{cleared_amount};
@@ -14,7 +14,7 @@ use std::marker::Model;
 use trust_base::{Day, EntryNo, Line, MatterNo};
 use trust_matter::Entry;
 
-/// An entry at a day, with its signed amount in cents.
+/// An entry with one of its days, and its signed amount in cents.
 #[derive(Clone, Copy, Debug)]
 pub struct EntryLine {
     pub matter: MatterNo,
@@ -23,7 +23,7 @@ pub struct EntryLine {
     pub amount: i64,
 }
 
-/// The lists beside the figures: entries by matter and number, exceptions in their order.
+/// The lists that go with the figures: entries by matter and number, and exceptions in their order.
 #[derive(Drop)]
 pub struct ReconciliationLists {
     pub transit: Vec<EntryLine>,
@@ -32,7 +32,7 @@ pub struct ReconciliationLists {
     pub exceptions: Vec<Line>,
 }
 
-/// Lists deposits in transit, payments outstanding, what came early, and exceptions, as of a day.
+/// Lists deposits in transit, outstanding payments, what came early, and exceptions, as of a day.
 ///
 /// Contracts see it as these lists.
 pub struct Lister {
@@ -67,7 +67,7 @@ impl Model for Lister {
     } };
 }
 
-// An entry at a day, where there is one.
+// An entry with this day. None if there is no day.
 fn line_at(matter: MatterNo, entry: EntryNo, day: Option<Day>, amount: i64) -> Option<EntryLine>
     ensures { option_to_list result ≡ entry_line matter entry day amount }
 {
@@ -82,7 +82,7 @@ fn line_at(matter: MatterNo, entry: EntryNo, day: Option<Day>, amount: i64) -> O
     }
 }
 
-// The line of an entry that the bank had before the books.
+// The line that cleared an entry, if it was at the bank before it was booked.
 fn banked_line(matter: MatterNo, number: EntryNo, entry: &Entry, p: Day) -> Option<EntryLine>
     ensures { option_to_list result ≡ banked_line p matter number entry.now }
 {
@@ -93,7 +93,7 @@ fn banked_line(matter: MatterNo, number: EntryNo, entry: &Entry, p: Day) -> Opti
     line_at(matter, number, shares::banked_on(entry), amount)
 }
 
-// The line that took an entry back before the books had it.
+// The line that took an entry back, if it was at the bank before it was booked.
 fn back_line(matter: MatterNo, number: EntryNo, entry: &Entry, p: Day) -> Option<EntryLine>
     ensures { option_to_list result ≡ back_line p matter number entry.now }
 {
@@ -104,7 +104,7 @@ fn back_line(matter: MatterNo, number: EntryNo, entry: &Entry, p: Day) -> Option
     line_at(matter, number, shares::back_on(entry), amount)
 }
 
-// The line of an entry that the books have and the bank has not.
+// The line of an entry that is booked but not at the bank yet.
 fn waiting_line(matter: MatterNo, number: EntryNo, entry: &Entry) -> Option<EntryLine>
     ensures { option_to_list result ≡ entry_line matter number (booked_on entry.now) (cleared_amount entry.now) }
 {
@@ -112,7 +112,7 @@ fn waiting_line(matter: MatterNo, number: EntryNo, entry: &Entry) -> Option<Entr
     line_at(matter, number, shares::booked_on(entry), amount)
 }
 
-// Adds a line, where there is one.
+// Appends a line, if there is one.
 fn push_line(lines: &mut Vec<EntryLine>, line: Option<EntryLine>) -> Result<(), AllocError>
     ensures ok { OnOk result (lines.new.items ≡ lines.old.items ++ option_to_list line) }
     ensures err { OnErr result (lines.new.items ≡ lines.old.items) }
@@ -123,7 +123,7 @@ fn push_line(lines: &mut Vec<EntryLine>, line: Option<EntryLine>) -> Result<(), 
     Ok(())
 }
 
-// Adds both lines, or none.
+// Appends both lines, or neither if memory runs out.
 fn push_both(
     lines: &mut Vec<EntryLine>,
     first: Option<EntryLine>,
@@ -142,7 +142,7 @@ fn push_both(
 }
 
 impl Lister {
-    /// Begins as of a day.
+    /// Empty lists as of a day.
     pub fn new(alloc: Global, day: Day) -> Lister
         ensures { result ≡ none_listed day }
     {
@@ -155,7 +155,7 @@ impl Lister {
         }
     }
 
-    // Adds a deposit in transit or a payment outstanding.
+    // Adds the entry if it is a deposit in transit or an outstanding payment.
     fn add_waiting(
         &mut self,
         matter: MatterNo,
@@ -174,7 +174,7 @@ impl Lister {
         }
     }
 
-    /// Adds an entry to each list that it stands in. They stay as they were where memory is refused.
+    /// Adds an entry to each list that it belongs to. If memory runs out, all lists are unchanged.
     pub fn add_entry(
         &mut self,
         matter: MatterNo,
@@ -195,7 +195,7 @@ impl Lister {
         Ok(())
     }
 
-    /// Adds an exception that is dated by the day. They stay as they were where memory is refused.
+    /// Adds an exception dated on or before the day. If memory runs out, all lists are unchanged.
     pub fn add_exception(&mut self, line: &Line) -> Result<(), AllocError>
         ensures ok { OnOk result (self.new ≡ with_exception_listed self.old line.now) }
         ensures err { OnErr result (self.new ≡ self.old) }
@@ -207,7 +207,7 @@ impl Lister {
         Ok(())
     }
 
-    /// The lists: deposits in transit, payments outstanding, what came early, and exceptions.
+    /// The lists: deposits in transit, outstanding payments, what came early, and exceptions.
     pub fn finish(self) -> ReconciliationLists
         ensures transit { result.transit.items ≡ self.transit }
         ensures out { result.out.items ≡ self.out }

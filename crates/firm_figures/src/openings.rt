@@ -8,7 +8,7 @@ use std::alloc::{AllocError, Global};
 use std::marker::Model;
 use trust_base::{BankAmount, Day};
 
-/// An opening, and the closing of another amount that it follows.
+/// An opening, and the latest closing before it, whose amount differs.
 #[derive(Clone, Copy, Debug)]
 pub struct OpeningLine {
     pub day: Day,
@@ -17,7 +17,7 @@ pub struct OpeningLine {
     pub closing: BankAmount,
 }
 
-/// Keeps the balances dated by a day, openings and closings apart.
+/// Collects the balances dated on or before a day, openings and closings apart.
 ///
 /// Contracts see it as the day and these two lists.
 #[derive(Drop)]
@@ -33,7 +33,7 @@ impl Model for BalanceList {
     ghost view = { λ s. record { day = s.day; openings = s.openings.items; closings = s.closings.items } };
 }
 
-// The latest of closings dated before a day.
+// The latest closing dated before a day.
 fn latest_before(day: Day, closings: &[StatementRow]) -> Option<StatementRow>
     ensures { AreClosings closings.now → result ≡ latest_before day closings.now }
 {
@@ -44,7 +44,7 @@ fn latest_before(day: Day, closings: &[StatementRow]) -> Option<StatementRow>
     Some(closings[passed - 1])
 }
 
-// An opening after a closing of another amount.
+// The opening, if its latest closing has another amount.
 fn after_closing(opening: StatementRow, latest: Option<StatementRow>) -> Option<OpeningLine>
     ensures { option_to_list result ≡ after_closing opening latest }
 {
@@ -77,7 +77,7 @@ fn openings_after(
 }
 
 impl BalanceList {
-    /// Begins as of a day.
+    /// An empty collection as of a day.
     pub fn new(alloc: Global, day: Day) -> BalanceList
         ensures { result ≡ no_balances day }
     {
@@ -88,7 +88,7 @@ impl BalanceList {
         }
     }
 
-    /// Adds a balance, where it is dated by the day. It stays as it was where memory is refused.
+    /// Adds a balance, if it is dated on or before the day. If memory runs out, the collection is unchanged.
     pub fn add(&mut self, row: &StatementRow) -> Result<(), AllocError>
         ensures ok { OnOk result (self.new ≡ with_balance_kept self.old row.now) }
         ensures err { OnErr result (self.new ≡ self.old) }
@@ -103,7 +103,7 @@ impl BalanceList {
         Ok(())
     }
 
-    /// The openings that differ from the latest closing before them, where the closings came by day.
+    /// The openings that differ from the latest closing before them, if the closings were added in order of day.
     pub fn finish(self, alloc: Global) -> Result<Vec<OpeningLine>, AllocError>
         ensures { AreClosings self.closings → IfOk result (λ lines. lines.items ≡ openings_kept self) }
     {

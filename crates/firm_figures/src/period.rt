@@ -1,4 +1,4 @@
-// Whether the records of a day are whole.
+// Whether the records of a day are complete.
 
 ghost use Rattle.std.specs.Prelude.{◌≡◌};
 ghost use Rattle.firm_rows.specs.Firm.{HeadRow};
@@ -8,9 +8,9 @@ use std::marker::Model;
 use trust_base::{Day, MatterNo};
 use trust_matter::{Head, Holder};
 
-/// Looks among the heads of matters for one that was closed after a day and has been purged since.
+/// Looks through the heads of matters for one that was closed after a day and then purged.
 ///
-/// Contracts see it as the day, and whether there was one.
+/// Contracts see it as the day, and whether one was found.
 #[derive(Drop)]
 pub struct Period {
     day: Day,
@@ -23,7 +23,7 @@ impl Model for Period {
     ghost view = { λ s. record { day = s.day; purged = s.purged } };
 }
 
-// The matter was purged, and had been closed after a day.
+// Whether the matter was purged, and had been closed after the day.
 fn is_purged_after(day: Day, head: &Head) -> bool
     ensures { result ≡ is_head_purged_after day head.now }
 {
@@ -34,14 +34,14 @@ fn is_purged_after(day: Day, head: &Head) -> bool
 }
 
 impl Period {
-    /// Begins as of a day.
+    /// Starts as of a day, with nothing found.
     pub fn new(day: Day) -> Period
         ensures { result ≡ whole_period day }
     {
         Period { day, purged: false }
     }
 
-    /// Adds the head of a matter.
+    /// Looks at the head of a matter.
     pub fn add_head(&mut self, matter: MatterNo, head: &Head)
         ensures { self.new ≡ with_row_purged self.old (matter, HeadRow head.now) }
     {
@@ -50,7 +50,7 @@ impl Period {
         }
     }
 
-    /// There was one.
+    /// Whether one was found.
     pub fn is_purged(&self) -> bool
         ensures { result ≡ self.now.purged }
     {

@@ -1,4 +1,4 @@
-// The figures of the firm as of a day, from its rows one at a time.
+// The firm's figures as of a day, from rows that arrive one at a time.
 
 ghost use Rattle.std.specs.Prelude.{◌≡◌};
 ghost use Rattle.firm_figures.specs.declared.reconciler.Figures.{Figures};
@@ -10,7 +10,7 @@ use std::marker::Model;
 use trust_base::{Day, Line};
 use trust_matter::Entry;
 
-/// The ten figures of the firm as of a day, in cents.
+/// The firm's ten figures as of a day, in cents.
 #[derive(Clone, Copy, Debug)]
 pub struct Figures {
     pub closing: i64,
@@ -25,7 +25,7 @@ pub struct Figures {
     pub gap: i128,
 }
 
-/// Adds up the figures of the firm as of a day, from its rows one at a time. It keeps sums alone.
+/// Adds up the firm's figures as of a day, from rows that arrive one at a time. It stores only sums.
 ///
 /// Contracts see it as these sums.
 #[derive(Drop)]
@@ -59,7 +59,7 @@ impl Model for Reconciler {
     } };
 }
 
-/// A sum in cents with one amount more, in 128 bits.
+/// A sum in cents plus an amount, in 128 bits.
 #[tactic(auto, unfolding(crate::specs::Reconciling::added))]
 pub fn added(sum: i128, amount: i64) -> i128
     ensures { result ≡ added sum amount }
@@ -67,7 +67,7 @@ pub fn added(sum: i128, amount: i64) -> i128
     sum.wrapping_add(amount as i128)
 }
 
-/// Two sums in cents together, in 128 bits.
+/// Two sums in cents added, in 128 bits.
 #[tactic(auto, unfolding(crate::specs::Reconciling::added))]
 pub fn together(a: i128, b: i128) -> i128
     ensures { result ≡ added a b }
@@ -75,7 +75,7 @@ pub fn together(a: i128, b: i128) -> i128
     a.wrapping_add(b)
 }
 
-// A sum without another, in 128 bits.
+// A sum minus another, in 128 bits.
 #[tactic(auto, unfolding(crate::specs::Reconciling::less))]
 fn less(sum: i128, amount: i128) -> i128
     ensures { result ≡ less sum amount }
@@ -83,14 +83,14 @@ fn less(sum: i128, amount: i128) -> i128
     sum.wrapping_sub(amount)
 }
 
-// The closing balance with what the bank has not yet.
+// The closing balance, adjusted for what is not at the bank yet.
 fn adjusted_by(closing: i64, transit: i128, outstanding: i128) -> i128
     ensures { result ≡ less (added transit closing) outstanding }
 {
     less(added(transit, closing), outstanding)
 }
 
-// The closing balance without what is known of it.
+// The part of the closing balance that nothing explains.
 fn gap_by(closing: i64, matched: i128, own: i128, exceptions: i128) -> i128
     ensures { result ≡ less (less (less closing matched) own) exceptions }
 {
@@ -98,7 +98,7 @@ fn gap_by(closing: i64, matched: i128, own: i128, exceptions: i128) -> i128
 }
 
 impl Reconciler {
-    /// Begins as of a day.
+    /// Starts as of a day, with nothing added.
     pub fn new(day: Day) -> Reconciler
         ensures { result ≡ no_tallies day }
     {
@@ -116,7 +116,7 @@ impl Reconciler {
         }
     }
 
-    /// Adds what an entry adds to each figure.
+    /// Adds an entry to each figure.
     pub fn add_entry(&mut self, entry: &Entry)
         ensures { self.new ≡ with_entry_told self.old entry.now }
     {
@@ -168,7 +168,7 @@ impl Reconciler {
         self.own = added(self.own, amount);
     }
 
-    /// Notes the closing balance of the day.
+    /// Notes the balance, if it is the day's closing balance.
     pub fn add_balance(&mut self, row: &StatementRow)
         ensures { self.new ≡ with_balance_told self.old row.now }
     {
@@ -195,7 +195,7 @@ impl Reconciler {
         }
     }
 
-    /// The figures, where a closing balance of the day came.
+    /// The figures. None if no closing balance of the day was added.
     pub fn finish(&self) -> Option<Figures>
         ensures { result ≡ finished self.now }
     {

@@ -1,4 +1,4 @@
-// The reconciliation as of a day: its figures and its lists, from the rows of the firm one at a time.
+// The reconciliation as of a day, its figures and lists, from rows that arrive one at a time.
 
 ghost use Rattle.std.specs.Prelude.{◌≡◌, Option, IfOk, OnOk, OnErr};
 ghost use Rattle.std.specs.Option.{option_map};
@@ -16,15 +16,18 @@ use crate::lister::{Lister, ReconciliationLists};
 use crate::openings::{BalanceList, OpeningLine};
 use crate::period::Period;
 use crate::reconciler::{Figures, Reconciler};
-use firm_rows::{FirmLine, Movement, RowSink, StatementRow};
+use firm_rows::{
+    BalanceSink, ExceptionSink, FirmLine, FirmLineSink, Movement, MovementSink, RowSink,
+    StatementRow,
+};
 use std::alloc::{AllocError, Global};
 use std::marker::Model;
 use trust_base::{Day, EntryNo, Line, MatterNo};
 use trust_matter::{Entry, Head, Seat};
 
-/// The reconciliation as of a day: the ten figures, and the lists beside them. Doubles are payments whose instrument
-/// another has, by instrument in the order of bytes, matter and entry; openings are those that differ from the latest
-/// closing before them, by day.
+/// The reconciliation as of a day: the ten figures, and the lists that go with them. Doubles are payments with the same
+/// instrument as another, sorted by instrument (byte by byte), matter and entry. Openings are those that differ from
+/// the latest closing before them, by day.
 #[derive(Drop)]
 pub struct Reconciliation {
     pub figures: Figures,
@@ -33,9 +36,9 @@ pub struct Reconciliation {
     pub openings: Vec<OpeningLine>,
 }
 
-/// Makes the reconciliation as of a day from the rows, movements, lines, exceptions and balances of a firm, one at a
-/// time. It keeps sums, the lists that it tells, each payment issued by the day and not voided by it, the balances
-/// dated by the day, and whether the records of the day are whole.
+/// Builds the reconciliation as of a day from the rows, movements, lines, exceptions and balances of a firm, one at a
+/// time. It stores sums, the lists that it returns, every payment issued on or before the day and not voided by then,
+/// the balances dated on or before the day, and whether the day's records are complete.
 ///
 /// Contracts see it as these.
 pub struct ReconciliationSink {
@@ -71,7 +74,7 @@ impl Model for ReconciliationSink {
 }
 
 impl ReconciliationSink {
-    /// Begins as of a day.
+    /// Starts as of a day, with nothing added.
     pub fn new(alloc: Global, day: Day) -> ReconciliationSink
         ensures { result ≡ nothing_kept day }
     {
@@ -84,7 +87,7 @@ impl ReconciliationSink {
         }
     }
 
-    // Adds an entry to the payments and to the lists, or to neither.
+    // Adds an entry to the payments and to the lists. If memory runs out, to neither.
     fn list_entry(
         &mut self,
         matter: MatterNo,
@@ -104,15 +107,15 @@ impl ReconciliationSink {
         Ok(())
     }
 
-    /// A matter that was closed after the day has been purged, so that the records of the day are no longer whole.
+    /// Whether a matter that was closed after the day was purged. The day's records are then no longer complete.
     pub fn is_period_purged(&self) -> bool
         ensures { result ≡ self.now.period.purged }
     {
         self.period.is_purged()
     }
 
-    /// The reconciliation, or None where no closing balance of the day came. The closings have to have come by day, as
-    /// those of a firm do. Fails only for want of memory.
+    /// The reconciliation, or None if no closing balance of the day was added. The closings must have been added in
+    /// order of day, as they are in a firm. The only error is out of memory.
     pub fn finish(self, alloc: Global) -> Result<Option<Reconciliation>, AllocError>
         ensures { AreClosings self.balances.closings → IfOk result (λ found. option_map told found ≡ kept_told self) }
     {
@@ -140,14 +143,6 @@ impl ReconciliationSink {
 impl RowSink for ReconciliationSink {
     ghost stepped = { with_row_kept };
 
-    ghost noted = { with_exception_kept };
-
-    ghost moved = { with_movement_kept };
-
-    ghost lined = { with_own_kept };
-
-    ghost balanced = { with_balance_noted };
-
     fn head(&mut self, matter: MatterNo, head: &Head) -> Result<(), AllocError> {
         self.period.add_head(matter, head);
         Ok(())
@@ -167,22 +162,38 @@ impl RowSink for ReconciliationSink {
         self.figures.add_entry(entry);
         Ok(())
     }
+}
+
+impl ExceptionSink for ReconciliationSink {
+    ghost noted = { with_exception_kept };
 
     fn exception(&mut self, line: &Line) -> Result<(), AllocError> {
         self.lists.add_exception(line)?;
         self.figures.add_exception(line);
         Ok(())
     }
+}
+
+impl MovementSink for ReconciliationSink {
+    ghost moved = { with_movement_kept };
 
     fn movement(&mut self, movement: &Movement) -> Result<(), AllocError> {
         self.figures.add_movement(movement);
         Ok(())
     }
+}
+
+impl FirmLineSink for ReconciliationSink {
+    ghost lined = { with_own_kept };
 
     fn firm_line(&mut self, line: &FirmLine) -> Result<(), AllocError> {
         self.figures.add_own(line);
         Ok(())
     }
+}
+
+impl BalanceSink for ReconciliationSink {
+    ghost balanced = { with_balance_noted };
 
     fn balance(&mut self, row: &StatementRow) -> Result<(), AllocError> {
         self.balances.add(row)?;
@@ -191,8 +202,8 @@ impl RowSink for ReconciliationSink {
     }
 }
 
-/// The reconciliation of rows in memory as of a day, or None where no closing balance of the day is among them: the
-/// definition's, where they are those of a sound firm. Fails only for want of memory.
+/// The reconciliation as of a day of rows in memory, or None if they have no closing balance of the day. It is the one
+/// in the definitions if the rows are those of a sound firm. The only error is out of memory.
 pub fn reconcile_at(
     alloc: Global,
     day: Day,

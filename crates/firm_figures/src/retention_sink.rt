@@ -1,4 +1,4 @@
-// Until when the records of closed matters are kept, from rows one at a time.
+// How long the records of closed matters are kept, from rows that arrive one at a time.
 
 ghost use Rattle.std.specs.Prelude.{◌≡◌, [], option_to_list, IfOk, OnOk, OnErr};
 ghost use Rattle.firm_rows.specs.Firm.{HeadRow};
@@ -6,13 +6,13 @@ ghost use Rattle.firm_figures.specs.Copied.{in_memory};
 ghost use Rattle.firm_figures.specs.Retained.{retention_line, retention_list as retention_lines, Retained, none_retained, with_row_retained};
 
 use crate::firm_row::{FirmRow, hand_rows};
-use firm_rows::{FirmLine, Movement, RowSink, StatementRow};
+use firm_rows::RowSink;
 use std::alloc::{AllocError, Global};
 use std::marker::Model;
-use trust_base::{CivilDay, Day, EntryNo, Line, MatterNo};
+use trust_base::{CivilDay, Day, EntryNo, MatterNo};
 use trust_matter::{Entry, Head, Holder, Seat};
 
-/// A closed matter: the day of its close, the last day for which its records are kept, which may lie past 2199, and
+/// A closed matter: the day it was closed, the last day on which its records are kept, which may lie after 2199, and
 /// whether it may be purged on the business day.
 #[derive(Clone, Copy, Debug)]
 pub struct RetentionLine {
@@ -56,7 +56,7 @@ fn line_of(today: Day, matter: MatterNo, head: &Head) -> Option<RetentionLine>
 }
 
 impl RetentionSink {
-    /// Begins as of a business day.
+    /// An empty list as of a business day.
     pub fn new(alloc: Global, today: Day) -> RetentionSink
         ensures { result ≡ none_retained today }
     {
@@ -87,14 +87,6 @@ impl RetentionSink {
 impl RowSink for RetentionSink {
     ghost stepped = { with_row_retained };
 
-    ghost noted = { λ s line. s };
-
-    ghost moved = { λ s movement. s };
-
-    ghost lined = { λ s line. s };
-
-    ghost balanced = { λ s row. s };
-
     fn head(&mut self, matter: MatterNo, head: &Head) -> Result<(), AllocError> {
         self.add_head(matter, head)
     }
@@ -111,26 +103,9 @@ impl RowSink for RetentionSink {
     ) -> Result<(), AllocError> {
         Ok(())
     }
-
-    fn exception(&mut self, _line: &Line) -> Result<(), AllocError> {
-        Ok(())
-    }
-
-    fn movement(&mut self, _movement: &Movement) -> Result<(), AllocError> {
-        Ok(())
-    }
-
-    fn firm_line(&mut self, _line: &FirmLine) -> Result<(), AllocError> {
-        Ok(())
-    }
-
-    fn balance(&mut self, _row: &StatementRow) -> Result<(), AllocError> {
-        Ok(())
-    }
 }
 
-/// Until when the records of the closed matters among rows in memory are kept, by the business day. Fails only for want
-/// of memory.
+/// The retention list of rows in memory, as of a business day. The only error is out of memory.
 pub fn retention_list(
     alloc: Global,
     today: Day,

@@ -1,4 +1,4 @@
-// What a row adds to each figure as of a day.
+// What an entry or a line adds to each figure as of a day.
 
 ghost use Rattle.std.specs.Prelude.{◌≡◌, ◌≤◌, ◌&&◌, not, ℕ, pos, ◌+ℤ◌, ◌≤ℤ◌};
 ghost use Rattle.std.specs.Option.{option_copied};
@@ -23,7 +23,7 @@ fn issued_on(state: &PaymentState) -> Option<Day>
     }
 }
 
-/// The day of an entry's money by the books.
+/// The day on which an entry's money was booked.
 pub fn booked_on(entry: &Entry) -> Option<Day>
     ensures { result ≡ booked_on entry.now }
 {
@@ -51,7 +51,7 @@ fn undone_on(entry: &Entry) -> Option<Day>
     }
 }
 
-/// The day by the books on which the bank took a deposit back.
+/// The day on which the bank's return of a deposit was booked.
 fn returned_on(entry: &Entry) -> Option<Day>
     ensures { result ≡ returned_on entry.now }
 {
@@ -64,7 +64,7 @@ fn returned_on(entry: &Entry) -> Option<Day>
     }
 }
 
-/// The day of the bank's line that took a deposit back.
+/// The day of the bank line that took a deposit back.
 pub fn back_on(entry: &Entry) -> Option<Day>
     ensures { result ≡ back_on entry.now }
 {
@@ -77,7 +77,7 @@ pub fn back_on(entry: &Entry) -> Option<Day>
     }
 }
 
-/// The day of the bank's line that cleared it.
+/// The day of the bank line that cleared the entry.
 pub fn banked_on(entry: &Entry) -> Option<Day>
     ensures { result ≡ banked_on entry.now }
 {
@@ -95,7 +95,7 @@ pub fn banked_on(entry: &Entry) -> Option<Day>
     }
 }
 
-// Is there a day, and is it on another or earlier?
+// Whether there is a day, and it is on or before `p`.
 fn is_by(day: Option<Day>, p: Day) -> bool
     ensures { result ≡ is_by p day }
 {
@@ -111,7 +111,7 @@ fn is_waiting(entry: &Entry, p: Day) -> bool
     is_by(booked_on(entry), p) && !is_by(undone_on(entry), p) && !is_by(banked_on(entry), p)
 }
 
-/// Is it a deposit that the books have and the bank has not?
+/// Whether it is a deposit that is booked but not at the bank yet.
 pub fn is_in_transit(entry: &Entry, p: Day) -> bool
     ensures { result ≡ is_in_transit p entry.now }
 {
@@ -121,7 +121,7 @@ pub fn is_in_transit(entry: &Entry, p: Day) -> bool
     }
 }
 
-/// Is it a payment that the books have and the bank has not?
+/// Whether it is a payment that is booked but not at the bank yet.
 pub fn is_outstanding(entry: &Entry, p: Day) -> bool
     ensures { result ≡ is_outstanding p entry.now }
 {
@@ -131,21 +131,21 @@ pub fn is_outstanding(entry: &Entry, p: Day) -> bool
     }
 }
 
-/// Is it booked by a day and not undone by it?
+/// Whether it was booked on or before the day, and not undone by then.
 pub fn is_issued(entry: &Entry, p: Day) -> bool
     ensures { result ≡ (is_by p (booked_on entry.now) && not (is_by p (undone_on entry.now))) }
 {
     is_by(booked_on(entry), p) && !is_by(undone_on(entry), p)
 }
 
-/// Has the bank had it by a day, and the books only later?
+/// Whether it was at the bank on or before the day, but booked only later.
 pub fn is_banked_early(entry: &Entry, p: Day) -> bool
     ensures { result ≡ is_banked_early p entry.now }
 {
     is_by(banked_on(entry), p) && !is_by(booked_on(entry), p)
 }
 
-/// Had the bank taken it back by a day, and the books only later?
+/// Whether it was taken back at the bank on or before the day, but that was booked only later.
 pub fn is_back_early(entry: &Entry, p: Day) -> bool
     ensures { result ≡ is_back_early p entry.now }
 {
@@ -163,7 +163,7 @@ pub fn transit_share(entry: &Entry, p: Day) -> i64
     }
 }
 
-/// What it adds to the payments outstanding.
+/// What it adds to the outstanding payments.
 pub fn outstanding_share(entry: &Entry, p: Day) -> i64
     ensures { result ≡ outstanding_share p entry.now }
 {
@@ -174,7 +174,7 @@ pub fn outstanding_share(entry: &Entry, p: Day) -> i64
     }
 }
 
-/// The amount of its line of the bank, in cents: a deposit comes in, a payment goes out.
+/// The amount of its bank line, in cents: positive for a deposit, negative for a payment.
 pub fn signed_amount(entry: &Entry) -> i64
     ensures value { result ≡ cleared_amount entry.now }
     ensures low { pos 0 ≤ℤ (result +ℤ pos MAX_AMOUNT) }
@@ -219,7 +219,7 @@ pub fn matched_share(entry: &Entry, p: Day) -> i64
     banked - back
 }
 
-/// What it adds to those that the books have only later.
+/// What it adds to the matched lines that are booked only later.
 pub fn early_share(entry: &Entry, p: Day) -> i64
     ensures { result ≡ early_share p entry.now }
 {
@@ -235,7 +235,7 @@ fn names_balance(reference: &BankText) -> bool
     reference.as_slice() == b"OPEN".as_slice() || reference.as_slice() == b"CLOSE".as_slice()
 }
 
-/// Is an exception dated by a day, and of no balance?
+/// Whether an exception is dated on or before the day, and is not a balance.
 pub fn is_counted(line: &Line, p: Day) -> bool
     ensures { result ≡ is_counted p line.now }
 {

@@ -1,4 +1,4 @@
-// The trial balance, from rows one at a time.
+// The trial balance, from rows that arrive one at a time.
 
 ghost use Rattle.std.specs.Prelude.{◌≡◌, IfOk, fold, map};
 ghost use Rattle.firm_rows.specs.Firm.{Firm};
@@ -11,10 +11,10 @@ ghost use Rattle.firm_figures.specs.declared.trial_sink.TrialLine.{TrialLine};
 
 use crate::firm_row::{FirmRow, hand_firm_lines, hand_rows};
 use crate::reconciler::{added, together};
-use firm_rows::{FirmLine, Movement, RowSink, StatementRow};
+use firm_rows::{FirmLine, FirmLineSink, RowSink};
 use std::alloc::{AllocError, Global};
 use std::marker::Model;
-use trust_base::{EntryNo, Line, MatterNo};
+use trust_base::{EntryNo, MatterNo};
 use trust_matter::{DepositState, Entry, Head, PaymentState, Seat};
 
 /// An open matter and its ledger, in cents.
@@ -24,8 +24,7 @@ pub struct TrialLine {
     pub ledger: i128,
 }
 
-/// The trial balance: the open matters by number with their ledgers, the firm's own balance, and the sum of all of
-/// them, in cents.
+/// The trial balance: the open matters by number with their ledgers, the firm's own balance, and their sum, in cents.
 #[derive(Drop)]
 pub struct TrialBalance {
     pub lines: Vec<TrialLine>,
@@ -33,7 +32,7 @@ pub struct TrialBalance {
     pub total: i128,
 }
 
-/// Lists the ledgers of the open matters, and adds up the firm's own.
+/// Lists the ledgers of the open matters, and adds up the firm's own lines.
 ///
 /// Contracts see it as the lines and the firm's balance.
 #[derive(Drop)]
@@ -74,7 +73,7 @@ impl TrialLine {
     }
 }
 
-// Adds an amount to the last line, where it is of this matter.
+// Adds an amount to the last line, if that is of this matter.
 fn add_last(lines: &mut [TrialLine], matter: MatterNo, amount: i64)
     ensures { lines.new ≡ add_last matter amount lines.old }
 {
@@ -85,7 +84,7 @@ fn add_last(lines: &mut [TrialLine], matter: MatterNo, amount: i64)
     }
 }
 
-// The ledgers and the firm's own balance, added up.
+// The sum of the ledgers and the firm's own balance.
 fn total_of(lines: &[TrialLine], own: i128) -> i128
     ensures { result ≡ fold (λ z (l : TrialLine). added z l.ledger) own lines.now }
 {
@@ -97,7 +96,7 @@ fn total_of(lines: &[TrialLine], own: i128) -> i128
 }
 
 impl TrialSink {
-    /// Begins without a row.
+    /// An empty trial balance.
     pub fn new(alloc: Global) -> TrialSink
         ensures { result ≡ no_trial }
     {
@@ -125,14 +124,6 @@ impl TrialSink {
 impl RowSink for TrialSink {
     ghost stepped = { with_trial_row };
 
-    ghost noted = { λ s line. s };
-
-    ghost moved = { λ s movement. s };
-
-    ghost lined = { with_trial_own };
-
-    ghost balanced = { λ s row. s };
-
     fn head(&mut self, matter: MatterNo, head: &Head) -> Result<(), AllocError> {
         if head.closed.is_none() {
             self.lines.push(TrialLine { matter, ledger: 0 })?;
@@ -154,27 +145,19 @@ impl RowSink for TrialSink {
         add_last(&mut self.lines, matter, amount);
         Ok(())
     }
+}
 
-    fn exception(&mut self, _line: &Line) -> Result<(), AllocError> {
-        Ok(())
-    }
-
-    fn movement(&mut self, _movement: &Movement) -> Result<(), AllocError> {
-        Ok(())
-    }
+impl FirmLineSink for TrialSink {
+    ghost lined = { with_trial_own };
 
     fn firm_line(&mut self, line: &FirmLine) -> Result<(), AllocError> {
         self.own = added(self.own, line.amount.get());
         Ok(())
     }
-
-    fn balance(&mut self, _row: &StatementRow) -> Result<(), AllocError> {
-        Ok(())
-    }
 }
 
-/// The trial balance of rows and lines of the firm's own in memory, where they are those of a sound firm. Fails only
-/// for want of memory.
+/// The trial balance of rows and lines of the firm's own in memory, if they are those of a sound firm. The only error
+/// is out of memory.
 pub fn trial_balance(
     alloc: Global,
     rows: &[FirmRow],

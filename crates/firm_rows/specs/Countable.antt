@@ -1,4 +1,4 @@
--- Rows that can be counted and added up in numbers of a machine.
+-- Rows few enough, and with amounts small enough, to be counted and added up in machine integers.
 use Rattle.std.specs.Prelude.{ℕ, ◌≤◌, List, length, FitsSigned}
 use Rattle.std.specs.Int.{w64}
 use Rattle.std.specs.List.{AllByRecursion}
@@ -10,11 +10,11 @@ use Rattle.firm_rows.specs.declared.ledger.FirmLine.{FirmLine}
 use Rattle.firm_rows.specs.declared.ledger.StatementRow.{StatementRow}
 use Rattle.firm_rows.specs.Firm.{Row, HeadRow, SeatRow, EntryRow, Firm}
 
--- the most rows of a kind: one less than 2^64
+-- the most rows of one kind: one less than 2^64
 abbrev pub MOST_ROWS : ℕ
 MOST_ROWS = 18_446_744_073_709_551_615
 
--- an entry's amount is one that may be booked
+-- an entry's amount is in range
 abbrev pub IsRowInRange : ℕ × Row → Type 0
 IsRowInRange (m, HeadRow head) = Unit {0}
 IsRowInRange (m, SeatRow seat) = Unit {0}
@@ -32,12 +32,12 @@ IsLineInRange l = IsBankAmount l.amount
 abbrev pub IsBalanceInRange : StatementRow → Type 0
 IsBalanceInRange row = IsBankAmount row.amount
 
--- fewer than 2^64 rows, with amounts in range
+-- fewer than 2^64 rows, each with its amount in range
 pub record AreCountable {A : Type 0} (IsInRange : A → Type 0) (rows : List A) : Type 0 where
   pub few : length rows ≤ MOST_ROWS
   pub ranged : AllByRecursion IsInRange rows
 
--- all rows of a firm
+-- all rows of a firm are countable
 pub record IsCountable (firm : Firm) : Type 0 where
   pub rows : AreCountable IsRowInRange firm.rows
   pub movements : AreCountable IsMovementInRange firm.movements

@@ -1,5 +1,5 @@
--- The rows of a firm: one joined list of pairs of a matter and a row, one of what was moved, the lines of the firm's
--- own ledger, the lines of the bank that match nothing, and the balances that the bank told of.
+-- The rows of a firm: a joined list of the rows of all matters, each paired with its matter; the movements; the lines
+-- of the firm's own ledger; the bank lines that match nothing; and the balances that the bank reported.
 use Rattle.std.specs.Prelude.{ℕ, Bool, false, ◌+◌, ◌==◌, nat_lt, List, [], ◌∷◌, ◌++◌, map, not, Option, Some, None}
 use Rattle.std.specs.List.{filter}
 use Rattle.trust_base.specs.LineOrder.{is_before, is_same_line}
@@ -25,9 +25,9 @@ pub data Row : Type 0 where
   SeatRow : (seat : Seat) → Row
   EntryRow : (number : ℕ) (entry : Entry) → Row
 
--- the rows of all matters, each with the number of its matter; the movements and the lines of the firm's own ledger,
--- both in the order of acceptance; the exceptions, a set of whole lines, in their order; and the balances, openings and
--- then closings, by day
+-- the rows of all matters, each with its matter's number; the movements and the lines of the firm's own ledger, both in
+-- the order of acceptance; the exceptions, a sorted set of whole lines; and the balances, openings before closings,
+-- each by day
 pub record Firm : Type 0 where
   pub rows : List (ℕ × Row)
   pub movements : List Movement
@@ -41,7 +41,7 @@ empty_firm = record { rows = []; movements = []; firm_lines = []; exceptions = [
 
 -- A matter's own rows.
 
--- the rows of a matter among the joined ones
+-- the rows of one matter among the joined ones
 abbrev pub rows_of : ℕ → List (ℕ × Row) → List Row
 rows_of m joined = map (λ p. p.1) (filter (λ p. p.0 == m) joined)
 
@@ -71,7 +71,7 @@ among rows = record { head = head_among rows; seats = seats_among rows; entries 
 abbrev pub of : ℕ → Firm → Rows
 of m firm = among (rows_of m firm.rows)
 
--- Other rows of a matter.
+-- Replacing the rows of a matter.
 
 abbrev pub head_pairs : ℕ → Option Head → List (ℕ × Row)
 head_pairs m None = []
@@ -81,40 +81,40 @@ abbrev pub seat_pairs : ℕ → List Seat → List (ℕ × Row)
 seat_pairs m [] = []
 seat_pairs m (seat ∷ seats) = (m, SeatRow seat) ∷ seat_pairs m seats
 
--- entries with their numbers, from a number on
+-- entries paired with their matter and their numbers, counted from `number`
 abbrev pub entry_pairs : ℕ → ℕ → List Entry → List (ℕ × Row)
 entry_pairs m number [] = []
 entry_pairs m number (entry ∷ entries) = (m, EntryRow number entry) ∷ entry_pairs m (number + 1) entries
 
--- a matter's rows in order, the head, the seats and the entries by number, each paired with the matter
+-- a matter's rows in order: the head, the seats, the entries by number, each paired with the matter
 abbrev pub pairs : ℕ → Rows → List (ℕ × Row)
 pairs m rows = head_pairs m rows.head ++ (seat_pairs m rows.seats ++ entry_pairs m 1 rows.entries)
 
--- the joined rows with other rows of a matter, and the same of each other
+-- the joined rows with the rows of one matter replaced, and those of all others unchanged
 abbrev pub put : ℕ → Rows → List (ℕ × Row) → List (ℕ × Row)
 put m rows joined = filter (λ p. nat_lt p.0 m) joined ++ (pairs m rows ++ filter (λ p. nat_lt m p.0) joined)
 
 -- A change of a matter.
 
--- what an entry of a matter moves, in the firm's list
+-- what an entry of a matter moves, as items of the firm's list
 abbrev pub joined_movement : ℕ → Option change.EntryMovement → List Movement
 joined_movement m None = []
 joined_movement m (Some v) = record { owner = owner.Matter m v.entry; day = v.day; amount = v.amount } ∷ []
 
--- what an edit of these rows of a matter moves
+-- what an edit of a matter's rows moves
 abbrev pub moved_by : ℕ → Edit → Rows → List Movement
 moved_by m e rows = joined_movement m (movement_of rows.entries e)
 
--- the movement is one of a matter's
+-- the movement belongs to this matter
 abbrev pub is_of_matter : ℕ → Owner → Bool
 is_of_matter m (owner.Matter k j) = k == m
 is_of_matter m owner.Firm = false
 
--- the movements without those of a matter
+-- the movements without those of one matter
 abbrev pub moved_without : ℕ → List Movement → List Movement
 moved_without m movements = filter (λ v. not (is_of_matter m v.owner)) movements
 
--- the movements that an edit of a matter leaves: those of a matter that is purged go, and else all stay
+-- the movements left after an edit of a matter: without its own if it is purged, otherwise all
 abbrev pub kept_movements : ℕ → Edit → List Movement → List Movement
 kept_movements m edit.Nothing movements = movements
 kept_movements m (edit.Open opening) movements = movements
@@ -125,18 +125,18 @@ kept_movements m (edit.Clear day) movements = moved_without m movements
 kept_movements m (edit.Append entry) movements = movements
 kept_movements m (edit.Exchange entry) movements = movements
 
--- the firm with these rows in the place of a matter's, and without what the matter moved
+-- the firm with a matter's rows replaced and its movements removed
 abbrev pub cleared_by : ℕ → Rows → Firm → Firm
 cleared_by m rows firm = record firm { rows = put m rows firm.rows; movements = moved_without m firm.movements }
 
--- the firm with an edit of a matter, whose last day is then this one, and what the edit moves
+-- the firm after an edit of a matter, with the matter's new last day and what the edit moves
 abbrev pub rewritten_by : ℕ → Edit → ℕ → Firm → Firm
 rewritten_by m e last firm = record firm {
   rows = put m (changed_by e last (of m firm)) firm.rows;
   movements = firm.movements ++ moved_by m e (of m firm);
 }
 
--- the firm after an edit of a matter; where nothing is edited all stays as it is
+-- the firm after an edit of a matter; editing nothing changes nothing
 abbrev pub after_edit : ℕ → Edit → ℕ → Firm → Firm
 after_edit m edit.Nothing last firm = firm
 after_edit m (edit.Open opening) last firm = rewritten_by m (edit.Open opening) last firm
@@ -147,17 +147,17 @@ after_edit m (edit.Clear day) last firm = cleared_by m (changed_by (edit.Clear d
 after_edit m (edit.Append entry) last firm = rewritten_by m (edit.Append entry) last firm
 after_edit m (edit.Exchange entry) last firm = rewritten_by m (edit.Exchange entry) last firm
 
--- the firm after one change of a matter; where the change is nothing all stays as it is
+-- the firm after a change of a matter; a change of nothing changes nothing
 abbrev pub after_change : ℕ → MatterChange → Firm → Firm
 after_change m change firm = after_edit m change.edit change.last firm
 
--- A line of the bank.
+-- A bank line.
 
--- the lines with one more, in its place among the others
+-- the lines with one more, inserted in order
 abbrev pub with_line : Line → List Line → List Line
 with_line line lines = filter (λ x. is_before x line) lines ++ (line ∷ filter (λ x. is_before line x) lines)
 
--- the lines without one
+-- the lines without this one
 abbrev pub without_line : Line → List Line → List Line
 without_line line lines = filter (λ x. not (is_same_line x line)) lines
 
@@ -165,22 +165,22 @@ without_line line lines = filter (λ x. not (is_same_line x line)) lines
 abbrev pub after_stray : Line → Firm → Firm
 after_stray line firm = record firm { exceptions = with_line line firm.exceptions }
 
--- the firm with one exception less, if it was one
+-- the firm without this exception, if it was one
 abbrev pub after_match : Line → Firm → Firm
 after_match line firm = record firm { exceptions = without_line line firm.exceptions }
 
 -- A line of the firm's own ledger.
 
--- what a line moves
+-- what a line of the firm's own moves
 abbrev pub own_movement : FirmLine → Movement
 own_movement l = record { owner = owner.Firm; day = l.date; amount = l.amount }
 
--- the firm with one more line of its own, and what it moved
+-- the firm with one more line of its own, and with what it moves
 abbrev pub with_firm_line : FirmLine → Firm → Firm
 with_firm_line l firm =
     record firm { firm_lines = firm.firm_lines ++ l ∷ []; movements = firm.movements ++ own_movement l ∷ [] }
 
--- A balance that the bank told of.
+-- A balance that the bank reported.
 
 -- the firm with one more balance
 abbrev pub with_statement : StatementRow → Firm → Firm

@@ -1,4 +1,4 @@
--- What the movements of a firm say of a matter and of an entry.
+-- What a firm's movements say about a matter and an entry.
 use Rattle.std.specs.Prelude.{ℕ, Bool, true, false, cond, ◌==◌, ◌&&◌, List, map, ℤ, pos, ◌+ℤ◌}
 use Rattle.std.specs.List.{filter}
 use Rattle.trust_matter.specs.entry.Entry.{Entry}
@@ -15,7 +15,7 @@ use Rattle.firm_rows.specs.Firm.{Row, HeadRow, SeatRow, EntryRow, Firm, is_of_ma
 abbrev pub event_of : Movement → Event
 event_of v = record { day = v.day; amount = v.amount }
 
--- Who moved.
+-- Whose movement it is.
 
 abbrev pub is_of_entry : ℕ → ℕ → Owner → Bool
 is_of_entry m n (owner.Matter k j) = k == m && j == n
@@ -33,7 +33,7 @@ events_moved m n movements = map event_of (filter (λ v. is_of_entry m n v.owner
 abbrev pub days_moved : ℕ → List Movement → List ℕ
 days_moved m movements = map (λ v. v.day) (filter (λ v. is_of_matter m v.owner) movements)
 
--- a line of the firm's own ledger as what it moved
+-- what a line of the firm's own ledger moved
 abbrev pub line_event : FirmLine → Event
 line_event l = record { day = l.date; amount = l.amount }
 
@@ -47,7 +47,7 @@ firm_events movements = map event_of (filter (λ v. is_of_firm v.owner) movement
 abbrev pub amount_for : ℕ → Movement → ℤ
 amount_for m v = cond (is_of_matter m v.owner) v.amount (pos 0)
 
--- what the movements of a matter add up to
+-- the sum of a matter's movements
 abbrev pub moved_for : ℕ → List Movement → ℤ
 moved_for m movements = sum_of (amount_for m) movements
 
@@ -55,16 +55,16 @@ moved_for m movements = sum_of (amount_for m) movements
 abbrev pub ledger_share : Entry → ℤ
 ledger_share e = total_share e +ℤ held_share e
 
--- what a row adds to the ledger of its matter: an entry what was received less what was paid
+-- what a row adds to the ledger of its matter: for an entry, what was received less what was paid
 abbrev pub row_share : Row → ℤ
 row_share (HeadRow head) = pos 0
 row_share (SeatRow seat) = pos 0
 row_share (EntryRow number entry) = ledger_share entry
 
--- the ledgers of all matters, added up over the joined rows
+-- the sum of all matters' ledgers, over the joined rows
 abbrev pub ledger_sum : Firm → ℤ
 ledger_sum firm = sum_of (λ p. row_share p.1) firm.rows
 
--- all movements, added up
+-- the sum of all movements
 abbrev pub journal_sum : List Movement → ℤ
 journal_sum movements = sum_of (λ v. v.amount) movements

@@ -1,4 +1,4 @@
--- What is applied of the firm's own lines and of the balances is kept, and stays kept.
+-- An applied line of the firm's own, or an applied balance, is stored and stays stored.
 use Rattle.std.specs.Prelude.{◌≡◌, ℕ, ℤ, Bool, true, Some}
 use Rattle.std.specs.List.{list_any}
 use Rattle.trust_base.specs.declared.line.Line.{Line}
@@ -9,15 +9,15 @@ use Rattle.firm_rows.specs.FirmChange.{FirmChange, OfFirm, OfBalance, after, Fit
 
 -- A line of the firm's own.
 
--- one of this date, bank's reference and amount is kept
+-- a line with this date, bank reference and amount is stored
 abbrev pub is_line_kept : Line → Firm → Bool
 is_line_kept line firm = list_any (is_kept_as line) firm.firm_lines
 
--- a line that is applied is kept
+-- an applied line is stored
 abbrev pub FirmLineIsKept : Type 0
 FirmLineIsKept = (line : Line) (firm : Firm) → is_line_kept line (after (OfFirm line) firm) ≡ true
 
--- and one that is kept stays kept, whatever changes, purging too
+-- a stored line stays stored after any change, even a purge
 abbrev pub FirmLinesStay : Type 0
 FirmLinesStay =
     (line : Line) (change : FirmChange) (firm : Firm) → is_line_kept line firm ≡ true
@@ -25,13 +25,13 @@ FirmLinesStay =
 
 -- A balance.
 
--- a balance that is applied is kept with its amount
+-- an applied balance is on file with its amount
 abbrev pub BalanceIsKept : Type 0
 BalanceIsKept =
     (kind : BalanceKind) (line : Line) (firm : Firm)
     → kept_balance kind line.date (after (OfBalance kind line) firm).balances ≡ Some line.amount
 
--- and one that is kept stays with its amount, whatever change is made that fits, purging too
+-- a balance on file keeps its amount after any change that fits, even a purge
 abbrev pub BalancesStay : Type 0
 BalancesStay =
     (kind : BalanceKind) (day : ℕ) (amount : ℤ) (change : FirmChange) (firm : Firm) → FitsFirm firm change

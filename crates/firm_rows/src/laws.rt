@@ -1,4 +1,4 @@
-//! Laws over the definitions, each the contract of a function with nothing to do.
+//! Laws over the definitions. Each is the contract of a function that does nothing.
 
 ghost use Rattle.firm_rows.specs.Exceptions.{WithLineAdds, WithoutLineTakes, WithLineAgain};
 ghost use Rattle.firm_rows.specs.Firm.{empty_firm};
@@ -7,13 +7,13 @@ ghost use Rattle.firm_rows.specs.LinesStay.{FirmLineIsKept, FirmLinesStay, Balan
 
 use trust_matter::laws::sound_is_covered;
 
-/// A change of the firm's rows makes of those of the matter that it names what it says, and leaves those of each other
-/// matter; one that names none leaves those of all.
+/// A change of the firm changes the rows of the matter that it names, in the way that it says, and of no other matter.
+/// A change that names no matter changes no matter's rows.
 pub fn changes_one_matter()
     ensures { ChangesOne }
 {}
 
-/// A firm without rows is sound, and a change that fits leaves a sound firm sound.
+/// A firm without rows is sound, and a change that fits keeps a sound firm sound.
 pub fn firm_stays_sound()
     ensures empty { FirmSound empty_firm }
     ensures kept { StaysSound }
@@ -21,27 +21,28 @@ pub fn firm_stays_sound()
     sound_is_covered();
 }
 
-/// A firm without rows is in order, and a change leaves a firm in order.
+/// A firm without rows is in order, and every change keeps an ordered firm in order.
 pub fn firm_stays_in_order()
     ensures empty { IsInOrder empty_firm }
     ensures kept { StaysInOrder }
 {}
 
-/// Purging a matter takes all its movements, and leaves those of each other matter as they were.
+/// Purging a matter removes all its movements, and leaves those of every other matter as they were.
 pub fn purging_takes_the_movements()
     ensures own { PurgedMovesNothing }
     ensures others { PurgeLeavesOthers }
 {}
 
-/// What is decided of a line of the bank, of the firm's own or of a balance is a change that fits.
+/// Every verdict on a bank line is a change that fits, be it a line that names an entry, one of the firm's own, or a
+/// balance.
 pub fn verdicts_fit()
     ensures line { LineFits }
     ensures firm_line { FirmLineFits }
     ensures balance { BalanceFits }
 {}
 
-/// A line of the firm's own that is applied is kept, and so is a balance, with its amount; and what is kept stays kept
-/// in every change that fits, purging too.
+/// An applied line of the firm's own is stored, and so is an applied balance with its amount. What is stored stays
+/// stored after any change that fits, even a purge.
 pub fn applied_stays_kept()
     ensures firm_line { FirmLineIsKept }
     ensures firm_lines { FirmLinesStay }
@@ -49,8 +50,8 @@ pub fn applied_stays_kept()
     ensures balances { BalancesStay }
 {}
 
-/// The exceptions are a set of whole lines: a line joins or leaves it alone, and one that is there already joins no
-/// more.
+/// The exceptions are a set of whole lines. A line is added or removed on its own, and adding one that is already there
+/// changes nothing.
 pub fn exceptions_are_a_set()
     ensures with { WithLineAdds }
     ensures without { WithoutLineTakes }

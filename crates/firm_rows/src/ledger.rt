@@ -1,4 +1,4 @@
-// The firm's own ledger, the balances that the bank tells of, and what becomes of their lines.
+// The firm's own ledger, the balances that the bank reports, and the verdicts on their lines.
 
 ghost use Rattle.std.specs.Prelude.{◌≡◌, List, [], ◌∷◌, ◌++◌, IfOk, OnOk, OnErr, ◌+ℤ◌};
 ghost use Rattle.std.specs.List.{list_any};
@@ -12,7 +12,7 @@ use std::cmp::Ordering;
 use std::marker::Model;
 use trust_base::{BankAmount, BankText, Day, Line, LineText};
 
-/// A line of the firm's own ledger: the bank's line without its reference. Its day by the books is its date.
+/// A line of the firm's own ledger: the bank line without its reference. It is booked on its date.
 #[derive(Drop, Debug)]
 pub struct FirmLine {
     pub date: Day,
@@ -21,7 +21,7 @@ pub struct FirmLine {
     pub text: LineText,
 }
 
-/// What becomes of a line of the firm, or of a balance.
+/// The verdict on a line of the firm's own, or on a balance.
 #[derive(Clone, Copy, Debug, PartialEq, Eq)]
 pub enum Verdict {
     Applied,
@@ -36,7 +36,7 @@ pub enum BalanceKind {
     Closing,
 }
 
-/// A balance that the bank told of.
+/// A balance that the bank reported.
 #[derive(Clone, Copy, Debug)]
 pub struct StatementRow {
     pub kind: BalanceKind,
@@ -45,7 +45,7 @@ pub struct StatementRow {
 }
 
 impl FirmLine {
-    /// The line as the firm's ledger keeps it, or an error for want of memory.
+    /// The line as the firm's ledger stores it. The only error is out of memory.
     pub fn of(line: &Line) -> Result<FirmLine, AllocError>
         ensures { IfOk result (λ l. l ≡ as_firm_line line.now) }
     {
@@ -59,7 +59,7 @@ impl FirmLine {
         })
     }
 
-    /// A copy, or an error for want of memory.
+    /// A copy. The only error is out of memory.
     pub fn copied(&self) -> Result<FirmLine, AllocError>
         ensures { IfOk result (λ same. same ≡ self.now) }
     {
@@ -73,7 +73,7 @@ impl FirmLine {
         })
     }
 
-    // Does it have the date, the bank's reference and the amount of a line?
+    // Whether it has the line's date, bank reference and amount.
     fn is_kept_as(&self, line: &Line) -> bool
         ensures { result ≡ is_kept_as line.now self.now }
     {
@@ -84,7 +84,7 @@ impl FirmLine {
 }
 
 impl BalanceKind {
-    // Openings stand before closings.
+    // The sort key: openings before closings.
     fn place(self) -> u8
         ensures { result ≡ place_of self }
     {
@@ -96,7 +96,7 @@ impl BalanceKind {
 }
 
 impl StatementRow {
-    /// The line as a balance of a kind. It takes no memory.
+    /// The line as a balance of this kind. Allocates nothing.
     pub fn of(kind: BalanceKind, line: &Line) -> StatementRow
         ensures { result ≡ balance_row kind line.now }
     {
@@ -107,7 +107,7 @@ impl StatementRow {
         }
     }
 
-    /// The order of balances: openings before closings, each by day.
+    /// Orders balances: openings before closings, each by day.
     pub fn compare(&self, other: &StatementRow) -> Ordering
         ensures { result ≡ balance_cmp self.now other.now }
     {
@@ -116,7 +116,7 @@ impl StatementRow {
         by_kind.then(by_day)
     }
 
-    /// Whether it is the balance of a kind and day.
+    /// Whether it is the balance of this kind and day.
     pub fn is_on(&self, kind: BalanceKind, day: Day) -> bool
         ensures { result ≡ is_balance_on kind day self.now }
     {
@@ -124,7 +124,7 @@ impl StatementRow {
     }
 }
 
-/// The firm's own money in the account: its lines in the order of acceptance, which add up to a balance of 0 to 50,000
+/// The firm's own money in the account: its lines in the order of acceptance. They add up to between 0 and 50,000
 /// cents.
 ///
 /// Contracts see it as the list of its lines.
@@ -153,21 +153,21 @@ fn lines_copied(alloc: Global, lines: &[FirmLine]) -> Result<Vec<FirmLine>, Allo
     Ok(copies)
 }
 
-// Is it a balance that the firm may have of its own money?
+// Whether the firm may have this much as its own money.
 fn is_own_balance(cents: i64) -> bool
     ensures { result ≡ is_own_balance cents }
 {
     0 <= cents && cents <= MAX_OWN as i64
 }
 
-// Is a line with this one's date, bank's reference and amount kept?
+// Whether a line with this date, bank reference and amount is stored.
 fn is_kept(lines: &[FirmLine], line: &Line) -> bool
     ensures { result ≡ list_any (is_kept_as line.now) lines.now }
 {
     lines.iter().any(|l| l.is_kept_as(line))
 }
 
-// May the line be booked on this day, where the lines kept add up to this balance?
+// Whether the line may be booked on this day, if the stored lines add up to `balance`.
 fn is_bookable(balance: i64, line: &Line, today: Day) -> bool
     requires { IsOwnBalance balance }
     ensures { (lines : List FirmLine) → balance ≡ balance_of lines → result ≡ is_bookable lines line.now today }
@@ -187,7 +187,7 @@ impl FirmLedger {
         }
     }
 
-    /// What the lines add up to, in cents.
+    /// The sum of the lines, in cents.
     pub fn balance(&self) -> i64
         ensures value { result ≡ balance_of self.now }
         ensures within { IsOwnBalance result }
@@ -202,7 +202,7 @@ impl FirmLedger {
         self.lines.as_slice()
     }
 
-    /// A copy with the allocator given, or an error for want of memory.
+    /// A copy, made with the given allocator. The only error is out of memory.
     pub fn copied(&self, alloc: Global) -> Result<FirmLedger, AllocError>
         ensures { IfOk result (λ same. same ≡ self.now) }
     {
@@ -213,7 +213,7 @@ impl FirmLedger {
         })
     }
 
-    /// Adds a line at the end; where memory is refused, the ledger stays and the line is lost.
+    /// Appends a line. If memory runs out, the ledger is unchanged and the line is lost.
     pub fn add(&mut self, line: FirmLine) -> Result<(), AllocError>
         requires { IsOwnBalance (balance_of self.old +ℤ line.amount) }
         ensures ok { OnOk result (self.new ≡ self.old ++ line ∷ []) }
@@ -226,9 +226,9 @@ impl FirmLedger {
     }
 }
 
-/// What becomes of a line of the firm on a business day: a repeat where the ledger holds its date, bank's reference and
-/// amount; applied where it is not dated after the day, moves something and leaves the ledger within 0 to 50,000 cents;
-/// and otherwise unmatched. Takes no memory.
+/// The verdict on a line of the firm's own on a business day. It is a repeat if the ledger has a line with its date,
+/// bank reference and amount. It is applied if it is not dated after the business day, moves something, and leaves the
+/// ledger between 0 and 50,000 cents. Otherwise it is unmatched. Allocates nothing.
 pub fn decide_firm_line(ledger: &FirmLedger, line: &Line, today: Day) -> Verdict
     ensures { result ≡ firm_verdict ledger.now line.now today }
 {
@@ -242,9 +242,9 @@ pub fn decide_firm_line(ledger: &FirmLedger, line: &Line, today: Day) -> Verdict
     }
 }
 
-/// What becomes of a balance on a business day, where the one of its kind and day is given, if it is kept: a repeat of
-/// an equal one, applied where none is kept and it is not dated after the day, and otherwise unmatched. Takes no
-/// memory.
+/// The verdict on a balance on a business day. `kept` is the amount on file for its kind and day, if any. It is a
+/// repeat if that is the same amount. It is applied if none is on file and it is not dated after the business day.
+/// Otherwise it is unmatched. Allocates nothing.
 pub fn decide_balance(kept: Option<i64>, line: &Line, today: Day) -> Verdict
     ensures { result ≡ balance_verdict kept line.now today }
 {

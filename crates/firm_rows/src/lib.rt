@@ -1,4 +1,4 @@
-//! The joined rows of a firm, what moved in them, and what holds of both at every moment.
+//! The joined rows of a firm, its movements, and what is true of both at every moment.
 #![tactic(auto)]
 
 pub mod laws;
@@ -12,4 +12,4 @@ pub use ledger::{
 };
 pub use limits::MAX_OWN;
 pub use movement::{Movement, Owner};
-pub use sink::RowSink;
+pub use sink::{BalanceSink, ExceptionSink, FirmLineSink, MovementSink, RowSink};

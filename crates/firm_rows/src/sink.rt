@@ -1,4 +1,4 @@
-// Who takes rows, one after the other.
+// Traits for receiving rows one at a time, one trait for each kind of row.
 
 ghost use Rattle.std.specs.Prelude.{◌≡◌, ℕ, OnOk, OnErr};
 ghost use Rattle.firm_rows.specs.Firm.{Row, HeadRow, SeatRow, EntryRow};
@@ -9,62 +9,77 @@ use std::alloc::AllocError;
 use trust_base::{EntryNo, Line, MatterNo};
 use trust_matter::{Entry, Head, Seat};
 
-/// Takes the rows of a firm in order, one call for each kind of row. A row that is refused for want of memory
-/// leaves it as it was.
+/// Receives the rows of a firm's matters in order. If memory runs out, the sink is unchanged.
 pub trait RowSink {
     ghost use Rattle.std.specs.Prelude.{ℕ};
-    ghost use Rattle.trust_base.specs.declared.line.Line.{Line};
     ghost use Rattle.firm_rows.specs.Firm.{Row};
-    ghost use Rattle.firm_rows.specs.declared.movement.Movement.{Movement};
-    ghost use Rattle.firm_rows.specs.declared.ledger.FirmLine.{FirmLine};
-    ghost use Rattle.firm_rows.specs.declared.ledger.StatementRow.{StatementRow};
 
-    /// What a row of a matter makes of it.
+    /// The sink after a row of a matter.
     ghost stepped: { Self → ℕ × Row → Self };
 
-    /// What an exception makes of it.
-    ghost noted: { Self → Line → Self };
-
-    /// What a movement makes of it.
-    ghost moved: { Self → Movement → Self };
-
-    /// What a line of the firm's own makes of it.
-    ghost lined: { Self → FirmLine → Self };
-
-    /// What a balance makes of it.
-    ghost balanced: { Self → StatementRow → Self };
-
-    /// Takes the head of a matter.
+    /// Receives the head of a matter.
     fn head(&mut self, matter: MatterNo, head: &Head) -> Result<(), AllocError>
         ensures ok { OnOk result (self.new ≡ stepped self.old (matter, HeadRow head.now)) }
         ensures err { OnErr result (self.new ≡ self.old) };
 
-    /// Takes a seat of a matter.
+    /// Receives a seat of a matter.
     fn seat(&mut self, matter: MatterNo, seat: &Seat) -> Result<(), AllocError>
         ensures ok { OnOk result (self.new ≡ stepped self.old (matter, SeatRow seat.now)) }
         ensures err { OnErr result (self.new ≡ self.old) };
 
-    /// Takes the entry of a number of a matter.
+    /// Receives an entry of a matter, with its number.
     fn entry(&mut self, matter: MatterNo, number: EntryNo, entry: &Entry) -> Result<(), AllocError>
         ensures ok { OnOk result (self.new ≡ stepped self.old (matter, EntryRow number entry.now)) }
         ensures err { OnErr result (self.new ≡ self.old) };
+}
 
-    /// Takes an exception: a whole line of the bank that matches nothing.
+/// Receives the exceptions of a firm in order. If memory runs out, the sink is unchanged.
+pub trait ExceptionSink {
+    ghost use Rattle.trust_base.specs.declared.line.Line.{Line};
+
+    /// The sink after an exception.
+    ghost noted: { Self → Line → Self };
+
+    /// Receives an exception: a whole bank line that matches nothing.
     fn exception(&mut self, line: &Line) -> Result<(), AllocError>
         ensures ok { OnOk result (self.new ≡ noted self.old line.now) }
         ensures err { OnErr result (self.new ≡ self.old) };
+}
 
-    /// Takes a movement.
+/// Receives the movements of a firm in order. If memory runs out, the sink is unchanged.
+pub trait MovementSink {
+    ghost use Rattle.firm_rows.specs.declared.movement.Movement.{Movement};
+
+    /// The sink after a movement.
+    ghost moved: { Self → Movement → Self };
+
+    /// Receives a movement.
     fn movement(&mut self, movement: &Movement) -> Result<(), AllocError>
         ensures ok { OnOk result (self.new ≡ moved self.old movement.now) }
         ensures err { OnErr result (self.new ≡ self.old) };
+}
 
-    /// Takes a line of the firm's own.
+/// Receives the lines of the firm's own in order. If memory runs out, the sink is unchanged.
+pub trait FirmLineSink {
+    ghost use Rattle.firm_rows.specs.declared.ledger.FirmLine.{FirmLine};
+
+    /// The sink after a line of the firm's own.
+    ghost lined: { Self → FirmLine → Self };
+
+    /// Receives a line of the firm's own.
     fn firm_line(&mut self, line: &FirmLine) -> Result<(), AllocError>
         ensures ok { OnOk result (self.new ≡ lined self.old line.now) }
         ensures err { OnErr result (self.new ≡ self.old) };
+}
 
-    /// Takes an opening or a closing balance.
+/// Receives the opening and closing balances of a firm in order. If memory runs out, the sink is unchanged.
+pub trait BalanceSink {
+    ghost use Rattle.firm_rows.specs.declared.ledger.StatementRow.{StatementRow};
+
+    /// The sink after a balance.
+    ghost balanced: { Self → StatementRow → Self };
+
+    /// Receives an opening or a closing balance.
     fn balance(&mut self, row: &StatementRow) -> Result<(), AllocError>
         ensures ok { OnOk result (self.new ≡ balanced self.old row.now) }
         ensures err { OnErr result (self.new ≡ self.old) };

@@ -1,4 +1,4 @@
--- What the body of an accepted answer says: a JSON object, its keys in ascending order of their bytes.
+-- What the body of an accepted answer contains: a JSON object, its keys sorted by their bytes.
 use Rattle.std.specs.Prelude.{ℕ, ℤ, pos, List, [], ◌∷◌, length, codes, map, Option, Some, None}
 use Rattle.serde_json.specs.Data.{Data, null, string}
 use Rattle.serde_json.specs.Written.{compact_text}
@@ -27,7 +27,7 @@ use Rattle.matter_bodies.specs.Json.{object_of, array_of, amount_value, sum_valu
 
 -- ---- a matter
 
--- the sums that a matter's body says
+-- the sums in a matter's body
 pub record Sums : Type 0 where
   pub available : ℤ
   pub claims : ℤ
@@ -36,7 +36,7 @@ pub record Sums : Type 0 where
   pub held : ℤ
   pub total : ℤ
 
--- the client's label; of a purged matter there is none
+-- the client's label; null for a purged matter
 abbrev pub holder_value : Holder → Data
 holder_value (holder.Client c) = string c
 holder_value (holder.Purged day) = null
@@ -47,7 +47,7 @@ client_value head = or_null (λ h. holder_value h.holder) head
 abbrev pub opened_value : Option Head → Data
 opened_value head = or_null (λ h. day_value h.opened) head
 
--- a matter with this number, head and seats, this many entries and these sums
+-- a matter with this number, head, seats, count of entries and sums
 abbrev pub matter_members : ℕ → Option Head → List Seat → ℕ → Sums → List (List ℕ × Data)
 matter_members m head seats entries sums =
     (codes "available", sum_value sums.available)
@@ -64,7 +64,7 @@ matter_members m head seats entries sums =
     ∷ (codes "total", sum_value sums.total)
     ∷ []
 
--- the sums of the entries, added up anew
+-- the sums added up from the entries
 abbrev pub sums_of : List Entry → Sums
 sums_of es = record {
   available = available es;
@@ -97,11 +97,11 @@ purge_members m day = (codes "matter", matter_value m) ∷ (codes "purged", or_n
 abbrev pub purge_object : ℕ → Rows → Data
 purge_object m rows = object_of (purge_members m (purged_on rows.head))
 
--- what is told of a matter that was purged: its number and the day
+-- what a purged matter's body contains: its number and the day of the purge
 abbrev pub purge_body : ℕ → Rows → List ℕ
 purge_body m rows = compact_text (purge_object m rows)
 
--- the sums that balances say
+-- the sums of given balances
 abbrev pub balance_sums : Balances → Sums
 balance_sums b = record {
   available = pos b.available;
@@ -119,7 +119,7 @@ fund_name fund.General = codes "general"
 fund_name (fund.Fee k) = codes "fee"
 fund_name (fund.Claim k) = codes "claim"
 
--- the entry that the money is taken from
+-- the entry that a payment is paid from, if any
 abbrev pub fund_entry : Fund → Option ℕ
 fund_entry fund.General = None
 fund_entry (fund.Fee k) = Some k
@@ -129,7 +129,7 @@ abbrev pub against_name : Against → List ℕ
 against_name (against.General c) = codes "general"
 against_name (against.Fee k) = codes "fee"
 
--- the fee that is claimed
+-- the fee that is claimed, if any
 abbrev pub against_entry : Against → Option ℕ
 against_entry (against.General c) = None
 against_entry (against.Fee k) = Some k
@@ -187,7 +187,7 @@ receipt_object m n e = object_of (receipt_members m n e)
 abbrev pub receipt_body : ℕ → ℕ → Entry → List ℕ
 receipt_body m n e = compact_text (receipt_object m n e)
 
--- ---- an entry: its receipt, and what became of it
+-- ---- an entry: its receipt, and what happened to it
 
 abbrev pub deposit_state_name : DepositState → List ℕ
 deposit_state_name deposit.Held = codes "held"
@@ -195,21 +195,21 @@ deposit_state_name (deposit.Cleared c) = codes "cleared"
 deposit_state_name (deposit.Cancelled day) = codes "cancelled"
 deposit_state_name (deposit.Returned r) = codes "returned"
 
--- the bank's line of a deposit
+-- the bank line that cleared a deposit
 abbrev pub deposit_clearing : DepositState → Option Clearing
 deposit_clearing deposit.Held = None
 deposit_clearing (deposit.Cleared c) = Some c
 deposit_clearing (deposit.Cancelled day) = None
 deposit_clearing (deposit.Returned r) = Some r.clearing
 
--- the bank's line that took a deposit back
+-- the bank line that took a deposit back
 abbrev pub deposit_returning : DepositState → Option Clearing
 deposit_returning deposit.Held = None
 deposit_returning (deposit.Cleared c) = None
 deposit_returning (deposit.Cancelled day) = None
 deposit_returning (deposit.Returned r) = Some r.returning
 
--- the day of a deposit's cancelling, or that on which its return was booked
+-- the day a deposit was cancelled, or its return was booked
 abbrev pub undone_on : DepositState → Option ℕ
 undone_on deposit.Held = None
 undone_on (deposit.Cleared c) = None
@@ -223,7 +223,7 @@ payment_state_name (payment.Issued day) = codes "issued"
 payment_state_name (payment.Cleared c) = codes "cleared"
 payment_state_name (payment.Voided v) = codes "voided"
 
--- the bank's line of a payment
+-- the bank line that cleared a payment
 abbrev pub payment_clearing : PaymentState → Option Clearing
 payment_clearing payment.Proposed = None
 payment_clearing payment.Declined = None
@@ -231,7 +231,7 @@ payment_clearing (payment.Issued day) = None
 payment_clearing (payment.Cleared c) = Some c.clearing
 payment_clearing (payment.Voided v) = None
 
--- the day of a payment's issue
+-- the day a payment was issued
 abbrev pub issued_on : PaymentState → Option ℕ
 issued_on payment.Proposed = None
 issued_on payment.Declined = None
@@ -239,7 +239,7 @@ issued_on (payment.Issued day) = Some day
 issued_on (payment.Cleared c) = Some c.issued
 issued_on (payment.Voided v) = Some v.issued
 
--- the day of a payment's voiding
+-- the day a payment was voided
 abbrev pub voided_on : PaymentState → Option ℕ
 voided_on payment.Proposed = None
 voided_on payment.Declined = None
@@ -247,19 +247,19 @@ voided_on (payment.Issued day) = None
 voided_on (payment.Cleared c) = None
 voided_on (payment.Voided v) = Some v.undone
 
--- a claim with an offer is open
+-- a claim with an offer is still open
 abbrev pub claim_state_name : ClaimState → List ℕ
 claim_state_name claim.Open = codes "open"
 claim_state_name (claim.Offered part) = codes "open"
 claim_state_name (claim.Settled s) = codes "settled"
 
--- the part of a claim that is offered to the client, or that it got
+-- the part of a claim that is offered to the client, or that the client got
 abbrev pub client_part : ClaimState → Option ℕ
 client_part claim.Open = None
 client_part (claim.Offered part) = Some part
 client_part (claim.Settled s) = Some s.part
 
--- the day on which a claim was settled
+-- the day a claim was settled
 abbrev pub settled_on : ClaimState → Option ℕ
 settled_on claim.Open = None
 settled_on (claim.Offered part) = None
@@ -271,12 +271,12 @@ bank_day_value o = or_null (λ c. day_value c.bank_day) o
 abbrev pub bank_ref_value : Option Clearing → Data
 bank_ref_value o = or_null (λ c. string c.bank_ref) o
 
--- what is left of a claim on the general fund; a claim on a fee has nothing of its own
+-- what is left of a claim on the general fund; null for a claim on a fee, which has nothing of its own
 abbrev pub claim_left_value : Against → ℤ → Data
 claim_left_value (against.General c) left = sum_value left
 claim_left_value (against.Fee k) left = null
 
--- the entry as it is; `left` is what is left of it, where it is a fee or a claim on the general fund
+-- the entry in its current state; `left` is what is left of it if it is a fee or a claim on the general fund
 abbrev pub entry_members : ℕ → ℕ → Entry → ℤ → List (List ℕ × Data)
 entry_members m n (entry.Deposit d) left =
     (codes "amount", amount_value d.amount)
@@ -338,14 +338,14 @@ entry_members m n (entry.Claim c) left =
 abbrev pub entry_object : ℕ → ℕ → Entry → ℤ → Data
 entry_object m n e left = object_of (entry_members m n e left)
 
--- the body of entry n of matter m as it is
+-- the body of entry n of matter m in its current state
 abbrev pub entry_body : ℕ → ℕ → Entry → ℤ → List ℕ
 entry_body m n e left = compact_text (entry_object m n e left)
 
--- ---- an import of a bank's statement
+-- ---- an import of a bank statement
 
--- how many lines were applied, became exceptions, were repeated or could not be read, and the day of the
--- statement's balance
+-- how many lines were applied, became exceptions or were repeats, how many records could not be read, and the day of
+-- the statement's balance
 abbrev pub import_members : ℕ → ℕ → ℕ → Option ℕ → ℕ → List (List ℕ × Data)
 import_members applied exceptions repeated statement unreadable =
     (codes "applied", count_value applied)

@@ -1,4 +1,4 @@
--- The laws of the bodies: what serde_json reads of a body is the object that it is the text of.
+-- The laws of the bodies: serde_json reads a body back as the object that it was written from.
 use Rattle.std.specs.Prelude.{◌≡◌, ◌<◌, ◌^◌, ℕ, ℤ, length, Option, Some}
 use Rattle.serde_json.specs.Read.{read}
 use Rattle.matter_rows.specs.declared.entry.Entry.{Entry}

@@ -1,4 +1,4 @@
--- The values of the answers' JSON bodies.
+-- The values in the JSON bodies of answers.
 use Rattle.std.specs.Prelude.{ℕ, ℤ, List, [], ◌∷◌, Option, Some, None}
 use Rattle.json.specs.Token.{Token}
 use Rattle.json.specs.Tree.{json_tokens}
@@ -42,7 +42,7 @@ entry_value n = string (entry_text n)
 abbrev pub count_value : ℕ → Data
 count_value n = number (unsigned n)
 
--- null where there is none
+-- null if there is no value
 abbrev pub or_null : {A : Type 0} → (A → Data) → Option A → Data
 or_null value None = null
 or_null value (Some a) = value a

@@ -1,4 +1,4 @@
--- The values that the writers are given.
+-- The values passed to the writers.
 use Rattle.std.specs.Prelude.{ℕ, List, [], ◌∷◌, codes, map}
 use Rattle.std.specs.Borrow.{Bor}
 use Rattle.serde_json.specs.Data.{Data, null, string}

@@ -1,4 +1,4 @@
-//! The bodies of accepted answers: compact JSON objects, their keys in ascending order of their bytes.
+//! The bodies of accepted answers: compact JSON objects, their keys sorted by their bytes.
 
 ghost use Rattle.std.specs.Prelude.{◌≡◌, IfOk, pos};
 ghost use Rattle.std.specs.Option.{option_copied};
@@ -47,7 +47,7 @@ fn closed_on(head: Option<&Head>) -> Option<Day>
     }
 }
 
-// The body of a matter with this head, these seats, so many entries and these balances.
+// The body of a matter with this head, these seats, this count of entries and these balances.
 fn matter_text<'a>(
     alloc: Global,
     number: MatterNo,
@@ -79,10 +79,10 @@ fn matter_text<'a>(
     )
 }
 
-/// The body of a matter: its number, its head, its seats by person, the count of its entries and its
-/// balances. Of a matter that was never opened client and opening day are null.
+/// The body of a matter: its number, its head, its seats by person, how many entries it has, and its balances. If the
+/// matter was never opened, client and opening day are null.
 ///
-/// The only error is want of memory.
+/// The only error is out of memory.
 pub fn matter_body(alloc: Global, number: MatterNo, matter: &Matter) -> Result<Vec<u8>, AllocError>
     ensures { IfOk result (λ bytes. (rows : Rows) → Sound rows → IsPart matter.now rows
         → bytes.items ≡ matter_body number rows) }
@@ -104,9 +104,9 @@ fn purged_on(head: Option<&Head>) -> Option<Day>
     }
 }
 
-/// The body of a matter that was purged: its number and the day of the purging, which is null of any other.
+/// The body of a purged matter: its number and the day of the purge, which is null for any other matter.
 ///
-/// The only error is want of memory.
+/// The only error is out of memory.
 pub fn purge_body(alloc: Global, number: MatterNo, matter: &Matter) -> Result<Vec<u8>, AllocError>
     ensures { IfOk result (λ bytes. (rows : Rows) → IsPart matter.now rows → bytes.items ≡ purge_body number rows) }
 {
@@ -126,9 +126,9 @@ fn purge_text(alloc: Global, number: MatterNo, day: Option<Day>) -> Result<Vec<u
     )
 }
 
-/// The body of an entry as it was made: the answer to the ask that makes it, and to its repeat.
+/// The body of an entry as it was first made: the answer to the ask that makes it, and to a repeat of that ask.
 ///
-/// The only error is want of memory.
+/// The only error is out of memory.
 pub fn receipt_body(
     alloc: Global,
     matter: MatterNo,
@@ -145,10 +145,10 @@ pub fn receipt_body(
     }
 }
 
-/// The body of an entry as it is. `left` is what is left of it in cents, where it is a fee or a claim on
-/// the general fund, and of no effect elsewhere.
+/// The body of an entry in its current state. `left` is what is left of it in cents, if it is a fee or a claim on the
+/// general fund; otherwise it is ignored.
 ///
-/// The only error is want of memory.
+/// The only error is out of memory.
 pub fn entry_body(
     alloc: Global,
     matter: MatterNo,
@@ -166,9 +166,9 @@ pub fn entry_body(
     }
 }
 
-/// What became of the items of a bank's statement: how many lines were applied, came again or are now exceptions, how
-/// many records could not be read, and the day of the last closing balance that was applied or came again: none as
-/// long as no balances are kept.
+/// The outcome of importing a bank statement: how many lines were applied, were repeats or are now exceptions, how many
+/// records could not be read, and the day of the last closing balance that was applied or repeated. That day is None as
+/// long as no balances are stored.
 #[derive(Clone, Copy, PartialEq, Eq, Debug)]
 pub struct ImportReply {
     pub applied: u64,
@@ -178,7 +178,7 @@ pub struct ImportReply {
     pub statement: Option<Day>,
 }
 
-/// The body of an import of a bank's statement. The only error is want of memory.
+/// The body of an import of a bank statement. The only error is out of memory.
 pub fn import_body(alloc: Global, counts: &ImportReply) -> Result<Vec<u8>, AllocError>
     ensures { IfOk result (λ bytes.
         bytes.items

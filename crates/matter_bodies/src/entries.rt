@@ -1,4 +1,4 @@
-//! The bodies of entries as they are.
+//! The bodies of entries in their current state.
 
 ghost use Rattle.std.specs.Prelude.{◌≡◌, IfOk, pos};
 ghost use Rattle.std.specs.Option.{option_copied};
@@ -138,7 +138,7 @@ fn settled_on(state: ClaimState) -> Option<Day>
     }
 }
 
-// The day of the bank's line, null where the bank told of nothing.
+// The day of the bank line; null if there is no bank line.
 fn bank_day(clearing: Option<&Clearing>) -> Value<'static>
     ensures { data_of result ≡ bank_day_value (option_copied clearing.entry) }
 {
@@ -148,7 +148,7 @@ fn bank_day(clearing: Option<&Clearing>) -> Value<'static>
     }
 }
 
-// The bank's reference, null where the bank told of nothing.
+// The bank's reference; null if there is no bank line.
 fn bank_ref(clearing: Option<&Clearing>) -> Value<'_>
     ensures { data_of result ≡ bank_ref_value (option_copied clearing.entry) }
 {
@@ -158,7 +158,7 @@ fn bank_ref(clearing: Option<&Clearing>) -> Value<'_>
     }
 }
 
-// What is left of a claim, null for a claim on a fee.
+// What is left of a claim; null for a claim on a fee.
 fn claim_left(against: &Against, left: u64) -> Value<'static>
     ensures { data_of result ≡ claim_left_value against.now (pos left) }
 {

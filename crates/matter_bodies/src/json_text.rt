@@ -1,4 +1,4 @@
-//! Writing the JSON object of an answer.
+//! Writes the JSON object of an answer.
 
 ghost use Rattle.std.specs.Prelude.{◌≡◌, ◌++◌, map, IfOk, OnOk};
 ghost use Rattle.std.specs.Option.{option_copied};
@@ -87,7 +87,7 @@ fn role_name(role: Role) -> &'static str
     }
 }
 
-// An object with a person and a role.
+// Writes an object with a person and a role.
 fn write_seat(out: &mut Writer, seat: &Seat) -> Result<(), AllocError>
     ensures before { out.new.before ≡ out.old.before }
     ensures tokens { OnOk result (out.new.tokens ≡ out.old.tokens ++ value_tokens (seat_object seat.now)) }
@@ -100,7 +100,7 @@ fn write_seat(out: &mut Writer, seat: &Seat) -> Result<(), AllocError>
     out.end_object()
 }
 
-// An array of the seats, in their order.
+// Writes an array of the seats, in their order.
 fn write_seats(out: &mut Writer, seats: &[Seat]) -> Result<(), AllocError>
     ensures before { out.new.before ≡ out.old.before }
     ensures tokens { OnOk result
@@ -167,7 +167,7 @@ fn write_member(alloc: Global, out: &mut Writer, member: &Member<'_>) -> Result<
     write_value(alloc, out, &member.1)
 }
 
-// An object with these members, in their order.
+// Writes an object with these members, in their order.
 fn write_object(alloc: Global, out: &mut Writer, members: &[Member<'_>]) -> Result<(), AllocError>
     ensures before { out.new.before ≡ out.old.before }
     ensures tokens { OnOk result
@@ -180,7 +180,7 @@ fn write_object(alloc: Global, out: &mut Writer, members: &[Member<'_>]) -> Resu
     out.end_object()
 }
 
-/// The compact text of an object with these members, in their order. The only error is want of memory.
+/// The compact text of an object with these members, in their order. The only error is out of memory.
 pub(crate) fn object_text(alloc: Global, members: &[Member<'_>]) -> Result<Vec<u8>, AllocError>
     ensures { IfOk result (λ bytes. bytes.items ≡ compact_text (object_of (map member_of members.now))) }
 {

@@ -1,4 +1,4 @@
-//! The JSON bodies of answers: of a matter, of an entry as it was made and as it is, and of an import.
+//! The JSON bodies of answers: of a matter, of an entry as it was made and in its current state, and of an import.
 #![tactic(auto)]
 
 mod bodies;

@@ -1,4 +1,4 @@
-//! The bodies of entries as they were made.
+//! The bodies of entries as they were first made.
 
 ghost use Rattle.std.specs.Prelude.{◌≡◌, IfOk};
 ghost use Rattle.std.specs.Option.{option_copied};
@@ -10,7 +10,7 @@ use std::alloc::{AllocError, Global};
 use trust_base::{EntryNo, Label, MatterNo};
 use trust_matter::{Against, Claim, Deposit, Fee, Fund, Payment};
 
-// The word for where a payment takes its money.
+// The word for what a payment is paid from.
 pub(crate) fn fund_name(fund: Fund) -> &'static str
     ensures { result.now ≡ fund_name_in fund }
 {
@@ -21,7 +21,7 @@ pub(crate) fn fund_name(fund: Fund) -> &'static str
     }
 }
 
-// The entry that a payment takes its money from.
+// The entry that a payment is paid from, if any.
 pub(crate) fn fund_entry(fund: Fund) -> Option<EntryNo>
     ensures { result ≡ fund_entry_in fund }
 {
@@ -41,7 +41,7 @@ pub(crate) fn ground_name(against: &Against) -> &'static str
     }
 }
 
-// The fee that is claimed.
+// The fee that is claimed, if any.
 pub(crate) fn claimed_fee(against: &Against) -> Option<EntryNo>
     ensures { result ≡ claimed_fee_in against.now }
 {
@@ -51,7 +51,7 @@ pub(crate) fn claimed_fee(against: &Against) -> Option<EntryNo>
     }
 }
 
-// Who claims what is available.
+// Who claims what is available, if anyone.
 pub(crate) fn claimant(against: &Against) -> Option<&Label>
     ensures { option_copied result ≡ claimant_in against.now }
 {

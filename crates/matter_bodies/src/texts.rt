@@ -1,4 +1,4 @@
-// Names and labels as texts of UTF-8.
+// Names and labels as UTF-8 strings.
 
 ghost use Rattle.std.specs.Prelude.{◌≡◌};
 

@@ -67,7 +67,7 @@ entries-left (k ∷ ks) n left =
       | false ↦ ap (λ l. k.entry ∷ l) (entries-left ks n left)
     ]
 
-numbered-left : (a : ℕ) (ks : List Kept) (n left : ℕ) → AreNumbered a ks → AreNumbered a (left_written ks n left)
+pub numbered-left : (a : ℕ) (ks : List Kept) (n left : ℕ) → AreNumbered a ks → AreNumbered a (left_written ks n left)
 numbered-left a [] n left numbered = tt
 numbered-left a (k ∷ ks) n left numbered =
     elim (eqb k.number n) as (λ b. AreNumbered a (cond b (record k { left = left } ∷ ks) (k ∷ left_written ks n left))) [

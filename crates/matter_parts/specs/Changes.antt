@@ -1,4 +1,4 @@
--- What a change makes of a matter's rows.
+-- What a change does to a matter's rows.
 use Rattle.std.specs.Prelude.{◌≡◌, false, ℕ, ◌+◌, ◌≤◌, List, [], ◌∷◌, ◌++◌, length, pos, Option, Some, None, IsSome}
 use Rattle.matter_rows.specs.declared.head.Head.{Head}
 use Rattle.matter_rows.specs.declared.seat.Seat.{Seat}
@@ -17,7 +17,7 @@ use Rattle.matter_parts.specs.declared.change.Left.{Left}
 use Rattle.matter_parts.specs.declared.change.TotalsAfter.{TotalsAfter}
 use Rattle.matter_parts.specs.Parts.{AreFigures, AreSmall}
 
--- a change: the edit, the matter's last day after it, how the totals move, and what it moves in the journal
+-- a change: the edit, the matter's last day after it, the totals after it, and its movement in the journal
 pub record MatterChange : Type 0 where
   pub edit : Edit
   pub last : ℕ
@@ -74,7 +74,7 @@ changed_by e last rows = record {
 abbrev pub changed : MatterChange → Rows → Rows
 changed c rows = changed_by c.edit c.last rows
 
--- what an edit moves: the event of the written entry that the one in its place did not have
+-- the movement of an edit: the event that the written entry has and the one that it replaces had not
 abbrev pub movement_of : List Entry → Edit → Option EntryMovement
 movement_of es (edit.Append x) = moved_beyond x.number [] (events_of x.entry)
 movement_of es (edit.Exchange x) = moved_beyond x.number (events_in (entry_at es x.number)) (events_of x.entry)
@@ -92,7 +92,7 @@ abbrev pub events_by : Option EntryMovement → List Event
 events_by None = []
 events_by (Some m) = entry_event m ∷ []
 
--- what a written entry has moved is what it had moved before, and then what the edit moves
+-- the events of a written entry are those that it had before, followed by the movement of the edit
 abbrev pub AreMoved : List Entry → Edit → Option EntryMovement → Type 0
 AreMoved es (edit.Append x) m = events_of x.entry ≡ events_by m
 AreMoved es (edit.Exchange x) m = events_of x.entry ≡ events_in (entry_at es x.number) ++ events_by m
@@ -103,20 +103,20 @@ AreMoved es (edit.Unseat p) m = m ≡ None
 AreMoved es (edit.Close d) m = m ≡ None
 AreMoved es (edit.Clear d) m = m ≡ None
 
--- what an edit moves, if anything, is of no day before the first and of none after the second
+-- the movement of an edit, if any, is booked between the two days, inclusive
 abbrev pub IsMovedWithin : ℕ → ℕ → Option EntryMovement → Type 0
 IsMovedWithin from to None = Unit {0}
 IsMovedWithin from to (Some v) = (from ≤ v.day) × (v.day ≤ to)
 
 -- Its place.
 
--- the exchanged entry keeps its kind, its day and all that was asked
+-- the exchanged entry keeps its kind, its day and all that was asked for
 pub record IsExchange (es : List Entry) (x : Numbered) (old : Entry) : Type 0 where
   pub there : entry_at es x.number ≡ Some old
   pub same : as_made x.entry ≡ as_made old
 
--- the edit fits: a matter is opened once, closed once and then purged once, a new entry is the next one, an exchanged
--- one stays what it was
+-- the edit fits: a matter is opened once, closed once and then purged once, a new entry has the next number, an
+-- exchanged one stays what it was
 abbrev pub IsPlace : Rows → Edit → Type 0
 IsPlace rows edit.Nothing = Unit {0}
 IsPlace rows (edit.Open o) = rows.head ≡ None
@@ -127,9 +127,9 @@ IsPlace rows (edit.Clear day) = IsSome (closed_on rows.head) × (is_purged rows.
 IsPlace rows (edit.Append x) = IsSome rows.head × (x.number ≡ length rows.entries + 1)
 IsPlace rows (edit.Exchange x) = IsSome rows.head × ((old : Entry) × IsExchange rows.entries x old)
 
--- What is left after it.
+-- What is left after the edit.
 
--- what is left of the entry that is named, number t, if one is
+-- what is left of the named entry, number t, if one is named
 abbrev pub IsOther : List Entry → ℕ → Option Left → Type 0
 IsOther es t None = t ≡ 0
 IsOther es t (Some o) = (o.number ≡ t) × ((e : Entry) → entry_at es t ≡ Some e → pos o.left ≡ left_of es t e)
@@ -138,7 +138,7 @@ IsOther es t (Some o) = (o.number ≡ t) × ((e : Entry) → entry_at es t ≡ S
 abbrev pub AreLeft : List Entry → Numbered → TotalsAfter → Type 0
 AreLeft fs x v = (pos v.left ≡ left_of fs x.number x.entry) × IsOther fs (target x.entry) v.other
 
--- no entry is written, and so nothing that is left
+-- no entry is written, so nothing is left of one
 pub record NoneLeft (v : TotalsAfter) : Type 0 where
   pub left : v.left ≡ 0
   pub other : v.other ≡ None
@@ -153,8 +153,8 @@ AreLefts fs (edit.Unseat p) v = NoneLeft v
 AreLefts fs (edit.Close d) v = NoneLeft v
 AreLefts fs (edit.Clear d) v = NoneLeft v
 
--- a change of these rows: it fits, leaves them sound, and carries their own totals and movement; it moves nothing
--- before the last day, nor after the one that it leaves
+-- a change of these rows: it fits, leaves them sound, and carries their own totals and movement; its movement is not
+-- before the matter's last day, nor after the last day that it leaves
 pub record IsChange (rows : Rows) (c : MatterChange) : Type 0 where
   pub place : IsPlace rows c.edit
   pub sound : Sound (changed c rows)

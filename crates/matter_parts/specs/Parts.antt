@@ -1,4 +1,4 @@
--- A matter as it is kept: its totals, its counts and some of its entries.
+-- A matter in memory: its totals, its counts and some of its entries.
 use Rattle.std.specs.Prelude.{◌≡◌, ℕ, ◌+◌, ◌≤◌, ◌==◌, ◌||◌, nat_lt, cond, Bool, true, false, List, [], ◌∷◌, length, map, ℤ, pos, Option, Some, None, find, is_some}
 use Rattle.std.specs.List.{filter}
 use Rattle.matter_rows.specs.declared.head.Head.{Head}
@@ -13,14 +13,14 @@ use Rattle.matter_parts.specs.declared.figures.Figures.{Figures}
 use Rattle.matter_parts.specs.declared.kept.Kept.{Kept}
 use Rattle.trust_base.specs.TheConstants.{MAX_ENTRY}
 
--- what is kept of a matter
+-- the parts of a matter that are in memory
 pub record Part : Type 0 where
   pub head : Option Head
   pub seats : List Seat
   pub figures : Figures
   pub kept : List Kept
 
--- a matter has at most 9,999 entries, and no total is above that many of the greatest amount
+-- a matter has at most 9,999 entries, and no total is above 9,999 times the greatest amount
 pub record AreSmall (f : Figures) : Type 0 where
   pub entries : f.entries ≤ MAX_ENTRY
   pub pending : f.pending ≤ MAX_TOTAL
@@ -30,35 +30,35 @@ pub record AreSmall (f : Figures) : Type 0 where
   pub fees : f.fees ≤ MAX_TOTAL
   pub claims : f.claims ≤ MAX_TOTAL
 
--- the totals of a matter without an entry
+-- the totals of a matter without entries
 abbrev pub no_figures : Figures
 no_figures = record { entries = 0; pending = 0; held = 0; available = 0; disputed = 0; fees = 0; claims = 0 }
 
--- the kept entry n
+-- the loaded entry n
 abbrev pub kept_in : List Kept → ℕ → Option Kept
 kept_in ks n = find (λ k. k.number == n) ks
 
 abbrev pub kept_at : Part → ℕ → Option Kept
 kept_at m n = kept_in m.kept n
 
--- totals, counts and what is left of each kept entry are no more than a matter may have
+-- totals, counts and what is left of each loaded entry are within the range of a matter
 pub record AreInRange (f : Figures) (kept : List Kept) : Type 0 where
   pub figures : AreSmall f
   pub lefts : (n : ℕ) (k : Kept) → find (λ k. k.number == n) kept ≡ Some k → k.left ≤ MAX_TOTAL
 
--- the entry is kept, or it is not there
+-- the entry is loaded or does not exist
 abbrev pub is_held : Part → ℕ → Bool
 is_held m n = is_some (kept_at m n) || nat_lt m.figures.entries n
 
--- every entry is kept, or is not there
+-- every entry is loaded or does not exist
 abbrev pub HoldsAll : Part → Type 0
 HoldsAll m = (n : ℕ) → 1 ≤ n → is_held m n ≡ true
 
--- what was held is held
+-- an entry that was loaded or did not exist is so after it
 abbrev pub HoldsOn : Part → Part → Type 0
 HoldsOn m m' = (n : ℕ) → is_held m n ≡ true → is_held m' n ≡ true
 
--- these totals and counts are those of the entries, added up anew
+-- these totals and counts are what the entries add up to
 pub record AreFigures (f : Figures) (es : List Entry) : Type 0 where
   pub entries : f.entries ≡ length es
   pub pending : pos f.pending ≡ pending es
@@ -68,7 +68,7 @@ pub record AreFigures (f : Figures) (es : List Entry) : Type 0 where
   pub fees : pos f.fees ≡ fees es
   pub claims : pos f.claims ≡ claims es
 
--- these balances are those of the entries, added up anew
+-- these balances are what the entries add up to
 pub record AreBalances (b : Balances) (es : List Entry) : Type 0 where
   pub held : pos b.held ≡ held es
   pub available : pos b.available ≡ available es
@@ -77,7 +77,7 @@ pub record AreBalances (b : Balances) (es : List Entry) : Type 0 where
   pub disputed : pos b.disputed ≡ disputed es
   pub total : pos b.total ≡ total es
 
--- the kept entry is that of the entries, and what is left of it is added up anew
+-- the loaded entry is the one of the rows, and what is left of it follows from the entries
 pub record IsEntryOf (es : List Entry) (n : ℕ) (k : Kept) : Type 0 where
   pub there : entry_at es n ≡ Some k.entry
   pub left : pos k.left ≡ left_of es n k.entry
@@ -85,36 +85,36 @@ pub record IsEntryOf (es : List Entry) (n : ℕ) (k : Kept) : Type 0 where
 abbrev pub AreKept : List Kept → List Entry → Type 0
 AreKept ks es = (n : ℕ) (k : Kept) → kept_in ks n ≡ Some k → IsEntryOf es n k
 
--- the matter is a part of the rows: it has their head, seats, totals and counts, and keeps some of the entries
+-- the matter is a part of the rows: it has their head, seats, totals and counts, and some of the entries loaded
 pub record IsPart (m : Part) (rows : Rows) : Type 0 where
   pub head : m.head ≡ rows.head
   pub seats : m.seats ≡ rows.seats
   pub figures : AreFigures m.figures rows.entries
   pub kept : AreKept m.kept rows.entries
 
--- what is kept has the numbers n, n + 1 and so on
+-- the loaded entries have the numbers n, n + 1 and so on
 abbrev pub AreNumbered : ℕ → List Kept → Type 0
 AreNumbered n [] = Unit {0}
 AreNumbered n (k ∷ ks) = (k.number ≡ n) × AreNumbered (n + 1) ks
 
--- the entries of what is kept
+-- the entries, without what is left of them
 abbrev pub entries_kept : List Kept → List Entry
 entries_kept ks = map (λ k. k.entry) ks
 
--- all entries are kept in the order of their numbers, each with what is left of it, in range
+-- all entries are loaded in the order of their numbers, each with what is left of it, in range
 pub record AreAllKept (ks : List Kept) (es : List Entry) : Type 0 where
   pub entries : entries_kept ks ≡ es
   pub numbered : AreNumbered 1 ks
   pub own : AreKept ks es
   pub small : (n : ℕ) (k : Kept) → kept_in ks n ≡ Some k → k.left ≤ MAX_TOTAL
 
--- the matter is a part of the rows that keeps all their entries, in the order of their numbers
+-- the matter is a part of the rows with all their entries loaded, in the order of their numbers
 pub record IsWhole (m : Part) (rows : Rows) : Type 0 where
   pub part : IsPart m rows
   pub entries : entries_kept m.kept ≡ rows.entries
   pub numbered : AreNumbered 1 m.kept
 
--- a matter that keeps all entries holds all
+-- a whole matter has every entry loaded
 abbrev pub WholeHoldsAll : Type 0
 WholeHoldsAll = (m : Part) (rows : Rows) → IsWhole m rows → HoldsAll m
 
@@ -126,7 +126,7 @@ abbrev pub left_kept : Option Kept → ℤ
 left_kept None = pos 0
 left_kept (Some k) = pos k.left
 
--- the entry that a named entry draws on, by what is kept, 0 for none
+-- the entry that a named, loaded entry draws on; 0 for none
 abbrev pub target_by : Part → Option ℕ → ℕ
 target_by m None = 0
 target_by m (Some n) = target_in (entry_in (kept_at m n))
@@ -135,28 +135,28 @@ abbrev pub is_it : Option ℕ → ℕ → Bool
 is_it None n = false
 is_it (Some m) n = n == m
 
--- the entry is one of two that are named, or one that either draws on
+-- the entry is one of the two that are named, or one that either of them draws on
 abbrev pub is_named : Part → Option ℕ → Option ℕ → ℕ → Bool
 is_named m a b n = is_it a n || (is_it b n || (n == target_by m a || n == target_by m b))
 
--- of what is kept only what is named
+-- the same matter, with only the named entries loaded
 abbrev pub named_part : Part → Option ℕ → Option ℕ → Part
 named_part m a b = record m { kept = filter (λ k. is_named m a b k.number) m.kept }
 
--- what is left of a kept entry, where it is of a kind
+-- what is left of a loaded entry, if it is of this kind
 abbrev pub left_if : (Entry → Bool) → Option Kept → Option ℤ
 left_if kind None = None
 left_if kind (Some k) = cond (kind k.entry) (Some (pos k.left)) None
 
--- cleared deposits less payments, by the totals
+-- cleared deposits less payments, according to the totals
 abbrev pub total_kept : Figures → ℕ
 total_kept f = f.available + f.disputed + f.fees + f.claims
 
--- no entry is named, or it is kept, or it is not there
+-- no entry is named, or it is loaded, or it does not exist
 abbrev pub is_held_or_none : Part → ℕ → Bool
 is_held_or_none m n = n == 0 || is_held m n
 
--- nothing is left, and nothing waits
+-- if the matter is closed, no money is left and nothing waits
 abbrev pub AreEmptyIfClosed : Option ℕ → Figures → Type 0
 AreEmptyIfClosed None f = Unit {0}
 AreEmptyIfClosed (Some day) f = (total_kept f + f.held ≡ 0) × (f.pending ≡ 0)

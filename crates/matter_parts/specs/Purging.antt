@@ -1,11 +1,11 @@
--- What stays of a matter's rows when it is purged.
+-- What is left of a matter's rows after a purge.
 use Rattle.std.specs.Prelude.{ℕ, Option}
 use Rattle.matter_rows.specs.declared.head.Head.{Head}
 use Rattle.matter_rows.specs.Rows.{Rows, cleared_head}
 use Rattle.matter_parts.specs.declared.edit.Edit.TheVariants as edit
 use Rattle.matter_parts.specs.Changes.{changed_by}
 
--- what stays of a head: when the matter was opened, closed and purged, and no client
+-- what is left of a head: when the matter was opened, closed and purged, and no client
 abbrev pub stub_of : ℕ → Option Head → Option Head
 stub_of day head = cleared_head head day day
 

@@ -1,4 +1,4 @@
--- How the totals and what is left move, by what is kept.
+-- How the totals and what is left of entries change, computed from the loaded entries.
 use Rattle.std.specs.Prelude.{◌≡◌, ℕ, ◌+◌, [], Option, Some, None, ℤ, pos, ◌+ℤ◌, ◌-ℤ◌}
 use Rattle.matter_rows.specs.declared.shares.Shares.{Shares}
 use Rattle.matter_rows.specs.declared.movement.EntryMovement.{EntryMovement}
@@ -20,7 +20,7 @@ TheTotalsAfter = TotalsAfter
 abbrev pub TheFigures : Type 0
 TheFigures = Figures
 
--- each total of g is that of f, less what one entry added to it and more what another adds
+-- each total of g is that of f, less what one entry added to it, plus what another adds
 pub record FiguresMoved (f : Figures) (entries : ℕ) (out shares : Shares) (g : Figures) : Type 0 where
   pub count : g.entries ≡ entries
   pub pending : pos g.pending ≡ (pos f.pending -ℤ out.pending) +ℤ shares.pending
@@ -30,7 +30,8 @@ pub record FiguresMoved (f : Figures) (entries : ℕ) (out shares : Shares) (g :
   pub fees : pos g.fees ≡ (pos f.fees -ℤ out.fees) +ℤ shares.fees
   pub claims : pos g.claims ≡ (pos f.claims -ℤ out.claims) +ℤ shares.claims
 
--- of entry t, the fee or claim that is drawn on, less is left by what is drawn now, and more by what was drawn before
+-- what is left of entry t, the fee or claim that is drawn on, falls by what is drawn now, and rises by what was drawn
+-- before
 abbrev pub OtherCases : Part → ℕ → ℤ → ℤ → Option Left → Type 0
 OtherCases m t out draw None = t ≡ 0
 OtherCases m t out draw (Some o) =
@@ -53,13 +54,13 @@ pub record ExchangeMoved (m : Part) (x : Numbered) (k : Kept) (v : TotalsAfter) 
   pub left : pos v.left ≡ (pos k.left -ℤ worth k.entry) +ℤ worth x.entry
   pub other : OtherMoved m (target x.entry) (draw k.entry) (draw x.entry) v.other
 
--- no entry is written: the figures stay, and nothing is left to write
+-- no entry is written: the figures stay, and nothing that is left is written
 pub record NoneMoved (m : Part) (v : TotalsAfter) : Type 0 where
   pub figures : v.figures ≡ m.figures
   pub left : v.left ≡ 0
   pub other : v.other ≡ None
 
--- no entry is left: all totals are zero, and nothing is left to write
+-- no entry stays: all totals are zero, and nothing that is left is written
 pub record AllCleared (v : TotalsAfter) : Type 0 where
   pub figures : v.figures ≡ no_figures
   pub left : v.left ≡ 0
@@ -75,7 +76,7 @@ EditMoved m (edit.Unseat p) v = NoneMoved m v
 EditMoved m (edit.Close d) v = NoneMoved m v
 EditMoved m (edit.Clear d) v = AllCleared v
 
--- what an edit moves in the journal, by what is kept
+-- the movement of an edit in the journal, computed from the loaded entries
 abbrev pub movement_kept : Part → Edit → Option EntryMovement
 movement_kept m (edit.Append x) = moved_beyond x.number [] (events_of x.entry)
 movement_kept m (edit.Exchange x) =
@@ -87,7 +88,7 @@ movement_kept m (edit.Unseat p) = None
 movement_kept m (edit.Close d) = None
 movement_kept m (edit.Clear d) = None
 
--- the change that an edit makes of what is kept
+-- the change that an edit makes to a matter in memory
 pub record IsMade (m : Part) (e : Edit) (last : ℕ) (c : MatterChange) : Type 0 where
   pub of_edit : c.edit ≡ e
   pub on_day : c.last ≡ last

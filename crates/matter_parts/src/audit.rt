@@ -1,4 +1,4 @@
-// A matter, tested against its own rows.
+// Tests a matter against its own rows.
 
 ghost use Rattle.std.specs.Prelude.{◌≡◌, ◌≤◌, ◌↔◌, IfOk, IsTrue, length};
 ghost use Rattle.matter_parts.specs.Parts.{entries_kept};
@@ -12,7 +12,7 @@ use matter_rows::{Entry, Head, are_in_form, are_in_order, head_copied};
 use std::alloc::{AllocError, Global};
 use trust_base::MAX_ENTRY;
 
-// Does the matter of this head and of these entries, with what is drawn on each, pass every test?
+// Whether the matter, with this head, these entries and what is drawn on each, passes every test.
 fn passes(matter: &Matter, head: &Option<Head>, entries: &[Entry], drawn: &[i64]) -> bool
     requires few { length entries.now ≤ MAX_ENTRY }
     requires head { head.now ≡ matter.now.head }
@@ -37,9 +37,9 @@ fn passes(matter: &Matter, head: &Option<Head>, entries: &[Entry], drawn: &[i64]
     are_in_place(matter.kept(), entries, drawn)
 }
 
-/// Does the matter keep all entries of sound rows, by number and each with what is left of it, and are its totals
-/// theirs? Of n entries it takes the time of n steps, and memory for a copy of the entries while it tests. An error
-/// means that a growth was refused.
+/// Whether the matter has loaded all entries of sound rows, by number and each with what is left of it, and its totals
+/// are those of the rows. Takes time linear in the number of entries, and memory for a copy of them during the test.
+/// The only error is out of memory.
 pub fn is_sound_whole(alloc: Global, matter: &Matter) -> Result<bool, AllocError>
     ensures { IfOk result (λ b. IsTrue b ↔ IsSoundWhole matter.now) }
 {

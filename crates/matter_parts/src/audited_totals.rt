@@ -1,4 +1,4 @@
-// Whether totals are those of the entries.
+// Checks totals against the entries.
 
 ghost use Rattle.std.specs.Prelude.{◌≡◌, ◌≤◌, ◌↔◌, IsTrue, length, pos, true};
 ghost use Rattle.std.specs.List.{AllByRecursion};
@@ -10,7 +10,7 @@ use crate::figures::Figures;
 use matter_rows::{Entry, Head, Shares, sums_of};
 use trust_base::MAX_ENTRY;
 
-// Are the counts, and what is held, these?
+// Whether the counts, and the sum of the held deposits, are these.
 fn are_counts(figures: &Figures, sums: &Shares, entries: u64) -> bool
     requires { AreSmall figures.now }
     ensures { IsTrue result
@@ -22,7 +22,7 @@ fn are_counts(figures: &Figures, sums: &Shares, entries: u64) -> bool
         && figures.held as i64 == sums.held
 }
 
-// Are the other totals these?
+// Whether the other totals are these.
 fn are_funds(figures: &Figures, sums: &Shares) -> bool
     requires { AreSmall figures.now }
     ensures { IsTrue result
@@ -35,7 +35,7 @@ fn are_funds(figures: &Figures, sums: &Shares) -> bool
         && figures.claims as i64 == sums.claims
 }
 
-// Are these the totals and counts of the entries?
+// Whether these are the totals and counts of the entries.
 pub(crate) fn are_totals(figures: &Figures, entries: &[Entry]) -> bool
     requires small { AreSmall figures.now }
     requires few { length entries.now ≤ MAX_ENTRY }
@@ -49,7 +49,7 @@ pub(crate) fn are_totals(figures: &Figures, entries: &[Entry]) -> bool
     are_funds(figures, &sums)
 }
 
-// Is nothing left of a matter that was closed, and does nothing wait?
+// Whether a closed matter has no money left and nothing waiting. True of a matter that is not closed.
 pub(crate) fn is_empty_if_closed(head: &Option<Head>, figures: &Figures) -> bool
     ensures { IsTrue result ↔ AreEmptyIfClosed (closed_on head.now) figures.now }
 {

@@ -1,4 +1,4 @@
-//! The change of a matter: its edit, the totals after it, and what it moves in the journal.
+//! A change of a matter: its edit, the totals after it, and its movement in the journal.
 
 ghost use Rattle.std.specs.Prelude.{◌≡◌, ◌+◌, ◌-◌, ◌<◌, ◌≤◌, ◌≤ℤ◌, ◌-ℤ◌, ◌+ℤ◌, IfOk, IfErr, IfSome, IfNone, OnErr, Option, []};
 ghost use Rattle.matter_rows.specs.Shares.{no_shares, draw, target, IsSmallShare, number_or_none};
@@ -23,8 +23,8 @@ pub struct Left {
     pub left: u64,
 }
 
-/// How what is kept moves: the totals after a change, what is then left of its entry, in cents, and of the one
-/// that this names.
+/// What changes besides the rows: the totals after a change, then what is left of its entry, in cents, and of the entry
+/// that this one names.
 #[derive(Clone, Copy)]
 pub struct TotalsAfter {
     pub figures: Figures,
@@ -32,7 +32,7 @@ pub struct TotalsAfter {
     pub other: Option<Left>,
 }
 
-/// A change of a matter: the edit, the last day after it, how what is kept moves, and what it moves in the
+/// A change of a matter: the edit, the matter's last day after it, the totals after it, and its movement in the
 /// journal.
 pub struct Change {
     edit: Edit,
@@ -63,21 +63,21 @@ impl Model for Change {
 }
 
 impl Change {
-    /// The place of the rows that changes.
+    /// The edit: the one place in the rows that changes.
     pub fn edit(&self) -> &Edit
         ensures { result.now ≡ self.now.edit }
     {
         &self.edit
     }
 
-    /// The matter's last day after it.
+    /// The matter's last day after the change.
     pub fn last(&self) -> Day
         ensures { result ≡ self.now.last }
     {
         self.last
     }
 
-    /// The totals after it, and what is then left.
+    /// The totals after the change, and what is then left of its entries.
     pub fn moves(&self) -> TotalsAfter
         ensures is { result ≡ self.now.moves }
         ensures small { AreSmallTotals result }
@@ -85,7 +85,7 @@ impl Change {
         self.moves
     }
 
-    /// What it moves in the journal.
+    /// The movement in the journal, if any.
     pub fn movement(&self) -> Option<EntryMovement>
         ensures { result ≡ self.now.movement }
     {
@@ -93,7 +93,7 @@ impl Change {
     }
 }
 
-/// What is left of the entry named, after what is drawn on it has changed.
+/// Returns what is left of the named entry after what is drawn on it has changed.
 fn other_after(
     matter: &Matter,
     target: Option<EntryNo>,
@@ -163,7 +163,7 @@ fn exchange_moves(matter: &Matter, kept: &Kept, changed: &Numbered) -> Option<To
     })
 }
 
-// How what is kept moves by an edit.
+// Returns the totals and what is left after an edit.
 fn edit_moves(matter: &Matter, edit: &Edit) -> Option<TotalsAfter>
     ensures small { IfSome result (λ v. AreSmallTotals v) }
     ensures some { IfSome result (λ v. EditMoved matter.now edit.now v) }
@@ -190,7 +190,7 @@ fn edit_moves(matter: &Matter, edit: &Edit) -> Option<TotalsAfter>
     }
 }
 
-// What an edit moves in the journal.
+// Returns the movement of an edit in the journal, if any.
 fn edit_movement(matter: &Matter, edit: &Edit) -> Option<EntryMovement>
     ensures { result ≡ movement_kept matter.now edit.now }
 {
@@ -209,8 +209,8 @@ fn edit_movement(matter: &Matter, edit: &Edit) -> Option<EntryMovement>
     }
 }
 
-/// The change that an edit makes, with the last day after it. Store where a total or what is left would leave its
-/// range, or where an entry that is needed is not kept.
+/// Returns the change that an edit makes, with the matter's last day after it. `Store` if a total or what is left would
+/// go out of range, or if an entry that is needed is not loaded.
 pub fn change_of(matter: &Matter, edit: Edit, last: Day) -> Result<Change, Refusal>
     ensures ok { IfOk result (λ c. IsMade matter.now edit last c) }
     ensures err { IfErr result (λ r. r ≡ Refusal.Store) }

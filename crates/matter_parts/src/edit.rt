@@ -1,4 +1,4 @@
-//! The one place of the rows of a matter that changes.
+//! The one place in a matter's rows that a change edits.
 
 use matter_rows::{Entry, Head, Seat};
 use trust_base::{Day, EntryNo, PersonId};
@@ -17,7 +17,7 @@ pub struct Opening {
     pub seat: Seat,
 }
 
-/// The one place of the rows that changes.
+/// The one place in the rows that changes.
 #[derive(Drop)]
 pub enum Edit {
     Nothing,
@@ -29,10 +29,10 @@ pub enum Edit {
     Unseat(PersonId),
     /// The matter is closed on a day.
     Close(Day),
-    /// The matter is purged on a day: its seats and entries go, and of the head a stub stays.
+    /// The matter is purged on a day: its seats and entries are removed, and only a stub of the head stays.
     Clear(Day),
-    /// An entry is added behind the others.
+    /// An entry is added after the others.
     Append(Numbered),
-    /// An entry takes the place of the one with its number.
+    /// An entry replaces the one with its number.
     Exchange(Numbered),
 }

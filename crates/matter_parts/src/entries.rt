@@ -7,7 +7,7 @@ use crate::kept::Kept;
 use matter_rows::Entry;
 use std::alloc::{AllocError, Global};
 
-// The kept entries again.
+// Copies the loaded entries.
 pub(crate) fn entries_copied(alloc: Global, kept: &[Kept]) -> Result<Vec<Entry>, AllocError>
     ensures { IfOk result (λ es. es.items ≡ entries_kept kept.now) }
 {

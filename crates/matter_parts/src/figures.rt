@@ -23,7 +23,7 @@ pub struct Figures {
 }
 
 impl Figures {
-    /// The totals of a matter without an entry.
+    /// The totals of a matter without entries.
     pub(crate) fn none() -> Figures
         ensures { result ≡ no_figures }
     {
@@ -42,21 +42,21 @@ impl Figures {
 /// The balances of a matter, in cents.
 #[derive(Clone, Copy)]
 pub struct Balances {
-    /// Deposits that the bank has not told of.
+    /// Deposits that the bank has not cleared yet.
     pub held: u64,
     /// What may be paid.
     pub available: u64,
-    /// What is left of fees that were earned.
+    /// What is left of earned fees.
     pub fees: u64,
     /// What is left of claims on the general fund.
     pub claims: u64,
     /// Open claims on fees.
     pub disputed: u64,
-    /// Cleared deposits less payments issued or cleared; the money of an issued payment may still lie at the bank.
+    /// Cleared deposits less payments issued or cleared. The money of an issued payment may still be at the bank.
     pub total: u64,
 }
 
-/// The figures with one entry's shares exchanged for another's; none where one of them would leave its range.
+/// Returns the figures with one entry's shares replaced by another's; `None` if one of them would go out of range.
 pub(crate) fn figures_after(
     figures: &Figures,
     entries: u64,
@@ -89,7 +89,8 @@ pub(crate) fn figures_after(
     })
 }
 
-// The totals of all entries, where each is one. The fees and claims are those of entries that name what is there.
+// Adds up the totals of all entries; `None` if one is out of range. The fees and claims are right if each entry names
+// one that exists.
 pub(crate) fn figures_of(entries: &[Entry]) -> Option<Figures>
     requires { length entries.now ≤ MAX_ENTRY }
     ensures small { IfSome result AreSmall }
@@ -115,7 +116,7 @@ pub(crate) fn figures_of(entries: &[Entry]) -> Option<Figures>
     })
 }
 
-// Are all totals and counts in range?
+// Whether all totals and counts are in range.
 pub(crate) fn are_small(figures: &Figures) -> bool
     ensures { IsTrue result ↔ AreSmall figures.now }
 {

@@ -1,8 +1,8 @@
-//! A law over the definitions, the contract of a function with nothing to do.
+//! A law over the definitions. It is the contract of a function that does nothing.
 
 ghost use Rattle.matter_parts.specs.Audit.{WholeIsSound};
 
-/// The whole of sound rows passes the test.
+/// A matter that is the whole of sound rows passes the test.
 pub fn whole_is_sound()
     ensures { WholeIsSound }
 {}

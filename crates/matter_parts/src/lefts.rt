@@ -1,4 +1,4 @@
-// What is left of each entry, all in one pass.
+// What is left of each entry, computed in one pass.
 
 ghost use Rattle.std.specs.Prelude.{◌≡◌, ◌+◌, ◌<◌, ◌≤◌, ◌↔◌, ◌-ℤ◌, IfNone, IfOk, IfSome, IsTrue, length, pos};
 ghost use Rattle.matter_rows.specs.Shares.{IsSmallSum, target, worth};
@@ -10,7 +10,7 @@ use matter_rows::Entry;
 use std::alloc::{AllocError, Global};
 use trust_base::MAX_ENTRY;
 
-// The place of the entry on which this one draws, the first being 0, where there are that many.
+// Returns the index of the entry that this one draws on, if there are that many entries.
 fn place_drawn(entry: &Entry, count: usize) -> Option<usize>
     ensures some { IfSome result (λ place. (place < count) × (target entry.now ≡ place + 1)) }
     ensures none { IfNone result (IsUntargeted entry.now count) }
@@ -20,7 +20,7 @@ fn place_drawn(entry: &Entry, count: usize) -> Option<usize>
     if place < count { Some(place) } else { None }
 }
 
-// What all entries draw on each of them, in cents, in the order of their numbers.
+// Returns what all entries draw on each of them, in cents, in the order of their numbers.
 pub(crate) fn drawn_on_each(alloc: Global, entries: &[Entry]) -> Result<Vec<i64>, AllocError>
     requires { length entries.now ≤ MAX_ENTRY }
     ensures { IfOk result (λ drawn. AreDrawn drawn.items entries.now) }
@@ -35,7 +35,7 @@ pub(crate) fn drawn_on_each(alloc: Global, entries: &[Entry]) -> Result<Vec<i64>
     Ok(drawn)
 }
 
-// Is it the entry of a place, with what is left of it where this is drawn on it?
+// Whether it is the entry of this index, with the right amount left if `drawn` is drawn on it.
 fn is_in_place(kept: &Kept, place: usize, drawn: i64) -> bool
     requires place { place < MAX_ENTRY }
     requires small { IsSmallSum drawn }
@@ -46,7 +46,7 @@ fn is_in_place(kept: &Kept, place: usize, drawn: i64) -> bool
     kept.number.get() as usize == place + 1 && left >= 0 && left as u64 == kept.left
 }
 
-// Is each kept entry the one of its place, with what is left of it where this is drawn on each?
+// Whether each loaded entry is the one of its index, with the right amount left for what is drawn on it.
 pub(crate) fn are_in_place(kept: &[Kept], entries: &[Entry], drawn: &[i64]) -> bool
     requires few { length entries.now ≤ MAX_ENTRY }
     requires entries { entries.now ≡ entries_kept kept.now }

@@ -1,6 +1,6 @@
-//! A matter as it is kept: its totals and some of its entries, and what a change makes of it. Whether a matter, from
-//! wherever its rows came, is the whole of sound rows: with all their entries by number, their own totals, and what is
-//! left of each entry.
+//! A matter in memory: its totals and some of its entries, and how a change updates it. Also tests whether a matter,
+//! from whatever source, is the whole of sound rows: all their entries by number, their own totals, and what is left of
+//! each entry.
 #![tactic(auto)]
 
 mod audit;

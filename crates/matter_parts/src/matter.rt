@@ -1,4 +1,4 @@
-//! A matter as it is kept: its head, seats and totals, and some of its entries.
+//! A matter in memory: its head, seats and totals, and those of its entries that are loaded.
 
 ghost use Rattle.std.specs.Prelude.{◌≡◌, ℕ, ◌+◌, ◌<◌, ◌≤◌, ◌++◌, ◌∷◌, [], true, false, find, is_some, None, pos, nat_lt, IfSome, IfOk, OnOk, OnErr, MatchOption, ◌≢◌, ◌↔◌, All, IsTrue, IsOk, IfErr, ◌&&◌, not};
 ghost use Rattle.std.specs.Option.{option_copied};
@@ -15,7 +15,9 @@ ghost use Rattle.matter_parts.specs.Applied.{IsWritten};
 use crate::change::{Change, TotalsAfter};
 use crate::edit::{Edit, Numbered, Opening};
 use crate::figures::{Figures, are_small, figures_of};
-use crate::kept::{Kept, all_kept, are_small_lefts, found, kept_copied, kept_of, put, set_other};
+use crate::kept::{
+    Kept, KeptEntries, all_kept, are_small_lefts, found, kept_copied, kept_of, put, set_other,
+};
 use crate::named_entries::NamedEntries;
 use matter_rows::{
     Entry, Fund, Head, Holder, Role, Seat, add_seat, are_in_form, are_in_order, clear_on, close_on,
@@ -25,14 +27,14 @@ use std::alloc::{AllocError, Global};
 use std::marker::Model;
 use trust_base::{Day, EntryNo, MAX_ENTRY, PersonId, StoreFault};
 
-/// A matter, with its head, its seats, its totals and some of its entries.
+/// A matter, with its head, its seats, its totals and its loaded entries.
 ///
-/// Contracts see it as a part of the rows that it is of.
+/// Contracts see it as a part of its rows.
 pub struct Matter {
     head: Option<Head>,
     seats: Vec<Seat>,
     figures: Figures,
-    kept: Vec<Kept>,
+    kept: KeptEntries,
 }
 
 impl Drop for Matter {
@@ -51,13 +53,13 @@ impl Model for Matter {
 
     ghost Value = { Part };
 
-    ghost view = { λ m. record { head = m.head; seats = m.seats.items; figures = m.figures; kept = m.kept.items } };
+    ghost view = { λ m. record { head = m.head; seats = m.seats.items; figures = m.figures; kept = m.kept } };
 
-    ghost invariant = { λ m. AreInRange m.figures m.kept.items };
+    ghost invariant = { λ m. AreInRange m.figures m.kept };
 }
 
 impl Matter {
-    /// A matter that was never opened. It takes no memory.
+    /// A matter that was never opened. Allocates nothing.
     pub fn unopened(alloc: Global) -> Matter
         ensures { IsWhole result unopened }
     {
@@ -65,19 +67,19 @@ impl Matter {
             head: None,
             seats: Vec::new(alloc),
             figures: Figures::none(),
-            kept: Vec::new(alloc),
+            kept: KeptEntries::none(alloc),
         }
     }
 
-    // A matter of what is kept.
+    // A matter of these parts.
     pub(crate) fn made(
         head: Option<Head>,
         seats: Vec<Seat>,
         figures: Figures,
-        kept: Vec<Kept>,
+        kept: KeptEntries,
     ) -> Matter
-        requires { AreInRange figures kept.items }
-        ensures { result ≡ record { head = head; seats = seats.items; figures = figures; kept = kept.items } }
+        requires { AreInRange figures kept }
+        ensures { result ≡ record { head = head; seats = seats.items; figures = figures; kept = kept } }
     {
         Matter {
             head,
@@ -87,14 +89,14 @@ impl Matter {
         }
     }
 
-    /// What the matter was opened with, if it was.
+    /// The head that the matter was opened with, if it was.
     pub fn head(&self) -> Option<&Head>
         ensures { option_copied result ≡ self.now.head }
     {
         self.head.as_ref()
     }
 
-    /// The seats, by person in the order of bytes.
+    /// The seats, sorted by the bytes of the person.
     pub fn seats(&self) -> &[Seat]
         ensures { result.now ≡ self.now.seats }
     {
@@ -109,29 +111,29 @@ impl Matter {
         self.figures
     }
 
-    /// Is the entry kept, or not there? It takes no memory.
+    /// Whether the entry is loaded or does not exist. Allocates nothing.
     pub fn holds(&self, number: EntryNo) -> bool
         ensures { result ≡ is_held self.now number }
     {
         self.find(number).is_some() || self.figures.entries < number.get() as u64
     }
 
-    /// The entry with this number, if it is kept.
+    /// Returns the entry with this number, if it is loaded.
     pub fn find(&self, number: EntryNo) -> Option<&Kept>
         ensures is { option_copied result ≡ kept_at self.now number }
         ensures small { IfSome result (λ k. k.now.left ≤ MAX_TOTAL) }
     {
-        found(&self.kept, number)
+        found(&self.kept, number.get())
     }
 
-    /// The entries that are kept, of a whole matter all in the order of their numbers.
+    /// The loaded entries. A whole matter has all of them, in the order of their numbers.
     pub fn kept(&self) -> &[Kept]
         ensures { result.now ≡ self.now.kept }
     {
         self.kept.as_slice()
     }
 
-    // The entry that a kept entry draws on.
+    // Returns the entry that a loaded entry draws on.
     fn target_by(&self, named: &Option<EntryNo>) -> Option<EntryNo>
         ensures { number_or_none result ≡ target_by self.now named.now }
     {
@@ -152,19 +154,19 @@ impl Matter {
         }
     }
 
-    /// The same matter, with all that it keeps. An error means that a growth was refused; `self` stays as it is.
+    /// A copy with the same loaded entries. The only error is out of memory.
     pub fn copied(&self, alloc: Global) -> Result<Matter, AllocError>
         ensures { IfOk result (λ m. m ≡ self.now) }
     {
         let figures = self.figures;
-        let kept = kept_copied(alloc, self.kept())?;
+        let kept = kept_copied(alloc, &self.kept)?;
         let head = head_copied(self.head())?;
         let seats = seats_copied(alloc, self.seats())?;
         Ok(Matter::made(head, seats, figures, kept))
     }
 
-    /// The same matter with, of what it keeps, only two entries and the ones that these draw on. An error means that
-    /// a growth was refused; `self` stays as it is.
+    /// A copy that keeps, of the loaded entries, only two and the ones that these draw on. The only error is out of
+    /// memory.
     pub fn part(
         &self,
         alloc: Global,
@@ -172,37 +174,37 @@ impl Matter {
         of: Option<EntryNo>,
     ) -> Result<Matter, AllocError>
         ensures is { IfOk result (λ m. m ≡ named_part self.now entry of) }
-        // It is a part of all rows of which this is one.
+        // It is a part of all rows that this matter is a part of.
         ensures part { IfOk result (λ m. (rows : Rows) → IsPart self.now rows → IsPart m rows) }
-        // What is named and was held is held.
+        // A named entry that was loaded or does not exist is so in the copy.
         ensures held { IfOk result (λ m. (n : ℕ) → is_named self.now entry of n ≡ true → is_held self.now n ≡ true
             → is_held m n ≡ true) }
-        // Nothing else is kept.
+        // No other entry is loaded.
         ensures only { IfOk result (λ m. (n : ℕ) → is_named self.now entry of n ≡ false → kept_at m n ≡ None) }
     {
         let figures = self.figures;
         let named = self.named(&entry, &of);
-        let kept = kept_of(alloc, self.kept(), named)?;
+        let kept = kept_of(alloc, &self.kept, named)?;
         let head = head_copied(self.head())?;
         let seats = seats_copied(alloc, self.seats())?;
         Ok(Matter::made(head, seats, figures, kept))
     }
 
-    /// The role of a person, if there is a seat.
+    /// Returns the role of a person, if the person has a seat.
     pub fn role_of(&self, person: &PersonId) -> Option<Role>
         ensures { result ≡ role_in self.now.seats person.now }
     {
         role_of(&self.seats, person)
     }
 
-    /// Has another person a lawyer's seat?
+    /// Whether another person has a lawyer's seat.
     pub fn has_other_lawyer(&self, person: &PersonId) -> bool
         ensures { result ≡ has_other_lawyer self.now.seats person.now }
     {
         has_other_lawyer(&self.seats, person)
     }
 
-    /// Was the matter purged?
+    /// Whether the matter was purged.
     pub fn is_purged(&self) -> bool
         ensures { result ≡ is_purged self.now.head }
     {
@@ -212,7 +214,7 @@ impl Matter {
         }
     }
 
-    /// Was the matter never opened, or was it purged?
+    /// Whether the matter was never opened, or was purged.
     pub fn is_gone(&self) -> bool
         ensures { result ≡ is_gone self.now.head }
     {
@@ -222,7 +224,7 @@ impl Matter {
         }
     }
 
-    /// Was the matter closed?
+    /// Whether the matter was closed.
     pub fn is_closed(&self) -> bool
         ensures { result ≡ is_some (closed_on self.now.head) }
     {
@@ -232,7 +234,7 @@ impl Matter {
         }
     }
 
-    /// The day on which the matter was closed, if it was.
+    /// Returns the day on which the matter was closed, if it was.
     pub fn closed_on(&self) -> Option<Day>
         ensures { result ≡ closed_on self.now.head }
     {
@@ -242,7 +244,7 @@ impl Matter {
         }
     }
 
-    /// The last day, where this day is before it.
+    /// Returns the last day, if `day` is before it.
     pub fn last_behind(&self, day: Day) -> Option<Day>
         ensures { MatchOption result (nat_lt day (last_of self.now.head) ≡ false)
             (λ last. (nat_lt day (last_of self.now.head) ≡ true) × (last ≡ last_of self.now.head)) }
@@ -259,7 +261,7 @@ impl Matter {
         }
     }
 
-    /// The last day after an edit that was asked for on this day.
+    /// Returns the last day after an edit that was asked for on `day`.
     pub fn last_after(&self, edit: &Edit, day: Day) -> Day
         ensures { result ≡ last_after self.now.head edit.now day }
     {
@@ -279,7 +281,7 @@ impl Matter {
         }
     }
 
-    /// The number of the next entry; none after 9999.
+    /// Returns the number of the next entry; `None` after 9999.
     pub fn next_number(&self) -> Option<EntryNo>
         ensures { result ≡ next_number self.now.figures.entries }
     {
@@ -290,22 +292,21 @@ impl Matter {
         }
     }
 
-    /// Does this number come next?
+    /// Whether this is the number of the next entry.
     pub fn is_next(&self, number: EntryNo) -> bool
         ensures { result ≡ is_number (next_number self.now.figures.entries) number }
     {
         self.figures.entries < MAX_ENTRY as u64 && number.get() as u64 == self.figures.entries + 1
     }
 
-    /// Makes a change. Where memory is refused, the matter is unchanged.
+    /// Makes a change. If memory runs out, the matter is unchanged.
     pub fn apply(&mut self, change: &Change) -> Result<(), AllocError>
-        // The matter is a part of the rows after the change, of all rows that it changes and of which the
-        // matter was a part.
+        // If the matter was a part of rows and this is a change of them, it is a part of the rows after the change.
         ensures ok { OnOk result ((rows : Rows) → Sound rows → IsPart self.old rows → IsChange rows change.now
             → IsPart self.new (changed change.now rows)) }
         ensures held { OnOk result ((rows : Rows) → Sound rows → IsPart self.old rows → IsChange rows change.now
             → HoldsOn self.old self.new) }
-        // A matter that keeps all entries keeps all of them.
+        // A matter that has loaded all entries still has all of them.
         ensures whole { OnOk result ((rows : Rows) → Sound rows → IsWhole self.old rows → IsChange rows change.now
             → IsWhole self.new (changed change.now rows)) }
         ensures err { OnErr result (self.new ≡ self.old) }
@@ -331,7 +332,7 @@ impl Matter {
         }
     }
 
-    // Takes a head and a seat.
+    // Sets the head and the first seat.
     fn open(&mut self, opening: &Opening) -> Result<(), AllocError>
         ensures ok { OnOk result (self.new
             ≡ record self.old { head = Some opening.now.head; seats = self.old.seats ++ opening.now.seat ∷ [] }) }
@@ -358,7 +359,7 @@ impl Matter {
         Ok(())
     }
 
-    // Takes out a seat.
+    // Removes a seat.
     fn unseat(&mut self, person: &PersonId, last: Day)
         ensures { self.new
             ≡ record self.old { head = seen_on self.old.head last; seats = seats_without self.old.seats person.now } }
@@ -367,7 +368,7 @@ impl Matter {
         see_on(&mut self.head, last);
     }
 
-    // Leaves nothing but the stub of its head.
+    // Removes everything but the stub of the head.
     fn clear(&mut self, day: Day, last: Day)
         ensures { self.new
             ≡ record { head = cleared_head self.old.head day last; seats = []; figures = no_figures; kept = [] } }
@@ -378,14 +379,14 @@ impl Matter {
         self.kept.clear();
     }
 
-    // Closes it on a day.
+    // Closes the matter on a day.
     fn close(&mut self, day: Day, last: Day)
         ensures { self.new ≡ record self.old { head = closed_head self.old.head day last } }
     {
         close_on(&mut self.head, day, last);
     }
 
-    // Keeps an entry, what is left of it and of the one that it names, and new totals.
+    // Stores an entry, what is left of it and of the one that it names, and new totals.
     fn keep(&mut self, entry: &Numbered, moves: TotalsAfter, last: Day) -> Result<(), AllocError>
         requires { AreSmallTotals moves }
         ensures ok { OnOk result (IsWritten self.old entry.now moves last self.new) }
@@ -404,8 +405,8 @@ impl Matter {
         Ok(())
     }
 
-    /// The matter of whole rows: a head, seats and all entries in order. It keeps them all. Store is answered where
-    /// the rows are not sound, and only there, and Memory for want of memory.
+    /// The matter of whole rows: a head, seats and all entries in order. It loads all of them. Returns `Store` exactly
+    /// if the rows are not sound, and `Memory` if memory runs out.
     pub fn of_rows(
         alloc: Global,
         head: Option<Head>,
@@ -436,9 +437,9 @@ impl Matter {
         Ok(Matter::made(head, seats, figures, kept))
     }
 
-    /// The matter of stored figures: a head, seats, totals and counts, and some of the entries, each with what is
-    /// left of it. Store is answered where a total or what is left is above the greatest total, or a count
-    /// above its own range, and only there.
+    /// The matter of stored figures: a head, seats, totals and counts, and some of the entries, each with what is left
+    /// of it. Returns `Store` exactly if a total or what is left is above the greatest total, or a count is above its
+    /// own range.
     pub fn of_part(
         head: Option<Head>,
         seats: Vec<Seat>,
@@ -453,10 +454,10 @@ impl Matter {
         if !are_small(&figures) || !are_small_lefts(kept.as_slice()) {
             return Err(StoreFault::Store);
         }
-        Ok(Matter::made(head, seats, figures, kept))
+        Ok(Matter::made(head, seats, figures, KeptEntries::some(kept)))
     }
 
-    /// Is the entry of this number held, if there is a number?
+    /// Whether the entry is loaded or does not exist. True if there is no number.
     pub fn holds_or_none(&self, number: Option<EntryNo>) -> bool
         ensures { result ≡ is_held_or_none self.now (number_or_none number) }
     {
@@ -466,15 +467,14 @@ impl Matter {
         }
     }
 
-    /// The entry of this number, if there is a number and it is kept; no entry has number 0.
+    /// Returns the loaded entry with this number, if there is one. No entry has number 0.
     pub fn kept_under(&self, number: Option<EntryNo>) -> Option<&Kept>
         ensures { option_copied result ≡ kept_at self.now (number_or_none number) }
     {
-        let number = number_or_zero(number);
-        self.kept().iter().find(|k| k.number.get() == number)
+        found(&self.kept, number_or_zero(number))
     }
 
-    /// What is left of a fund, in cents.
+    /// Returns what is left of a fund, in cents.
     pub fn left_of_fund(&self, fund: Fund) -> u64
         ensures { pos result ≡ fund_left fund (pos self.now.figures.available)
             (left_kept (kept_at self.now (fund_no fund))) }
@@ -488,7 +488,7 @@ impl Matter {
         }
     }
 
-    /// Does what is available cover the entry's amount?
+    /// Whether the available money covers the entry's amount.
     pub fn covers(&self, entry: &Entry) -> bool
         ensures { result ≡ not (exceeds (entry_amount entry.now) (pos self.now.figures.available)) }
     {
@@ -502,12 +502,12 @@ impl Matter {
     }
 }
 
-/// A matter that keeps all entries holds all.
+/// A whole matter has every entry loaded.
 pub fn whole_holds_all()
     ensures { WholeHoldsAll }
 {}
 
-// The number, 0 for none.
+// The number, or 0 for `None`.
 fn number_or_zero(number: Option<EntryNo>) -> u16
     ensures { result ≡ number_or_none number }
 {
@@ -517,7 +517,7 @@ fn number_or_zero(number: Option<EntryNo>) -> u16
     }
 }
 
-/// Is nothing left of a matter that was closed, and does nothing wait?
+/// Whether a closed matter has no money left and nothing waiting. True of a matter that is not closed.
 pub(crate) fn is_empty_if_closed(head: &Option<Head>, figures: &Figures) -> bool
     requires { AreSmall figures.now }
     ensures { IsTrue result ↔ AreEmptyIfClosed (closed_on head.now) figures.now }

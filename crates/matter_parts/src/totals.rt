@@ -12,7 +12,7 @@ use crate::matter::Matter;
 use matter_rows::{Against, Entry};
 use trust_base::EntryNo;
 
-/// The balances of a matter. It takes no memory.
+/// Returns the balances of a matter. Allocates nothing.
 pub fn balances(matter: &Matter) -> Balances
     ensures { (rows : Rows) → Sound rows → IsPart matter.now rows → AreBalances result rows.entries }
 {
@@ -27,7 +27,7 @@ pub fn balances(matter: &Matter) -> Balances
     }
 }
 
-// What is left of a kept entry, if it is a fee.
+// Returns what is left of a loaded entry, if it is a fee.
 fn left_if_fee(kept: &Kept) -> Option<u64>
     ensures { option_map pos result ≡ left_if is_fee (Some kept.now) }
 {
@@ -37,7 +37,7 @@ fn left_if_fee(kept: &Kept) -> Option<u64>
     }
 }
 
-// What is left of a kept entry, if it is a claim on the general fund.
+// Returns what is left of a loaded entry, if it is a claim on the general fund.
 fn left_if_claim(kept: &Kept) -> Option<u64>
     ensures { option_map pos result ≡ left_if is_general_claim (Some kept.now) }
 {
@@ -50,7 +50,7 @@ fn left_if_claim(kept: &Kept) -> Option<u64>
     }
 }
 
-/// What is left of a fee in cents, if the entry is one. It takes no memory.
+/// Returns what is left of a fee in cents, if the entry is one. Allocates nothing.
 pub fn fee_left(matter: &Matter, number: EntryNo) -> Option<u64>
     requires { is_held matter.now number ≡ true }
     ensures { (rows : Rows) → IsPart matter.now rows → option_map pos result ≡ fee_left rows.entries number }
@@ -59,7 +59,7 @@ pub fn fee_left(matter: &Matter, number: EntryNo) -> Option<u64>
     left_if_fee(kept)
 }
 
-/// What is left of a claim on the general fund in cents, if the entry is one. It takes no memory.
+/// Returns what is left of a claim on the general fund in cents, if the entry is one. Allocates nothing.
 pub fn claim_left(matter: &Matter, number: EntryNo) -> Option<u64>
     requires { is_held matter.now number ≡ true }
     ensures { (rows : Rows) → IsPart matter.now rows → option_map pos result ≡ claim_left rows.entries number }

@@ -1,4 +1,4 @@
--- What a line of the bank says of an entry: whether it clears it, takes it back, or did so before.
+-- What a bank line means for an entry: whether it clears it, takes it back, or already did so.
 use Rattle.std.specs.Prelude.{ℕ, Bool, true, false, ◌&&◌, ◌||◌, ◌==◌, ℤ, pos, ◌-ℤ◌, Option, Some, None}
 use Rattle.std.specs.Ordering.{int_eq}
 use Rattle.std.specs.Str.{bytes_eq}
@@ -12,9 +12,9 @@ use Rattle.matter_rows.specs.declared.payment.PaymentState.TheVariants as paymen
 use Rattle.matter_rows.specs.declared.entry.Entry.{Entry}
 use Rattle.matter_rows.specs.declared.entry.Entry.TheVariants as entry
 
--- What the line of an entry says.
+-- What a line means for the entry that it names.
 
--- the amount of the line that clears an entry: a deposit comes in, a payment goes out
+-- the amount of the line that clears an entry: positive for a deposit, negative for a payment
 abbrev pub cleared_amount : Entry → ℤ
 cleared_amount (entry.Deposit d) = pos d.amount
 cleared_amount (entry.Payment p) = pos 0 -ℤ pos p.amount
@@ -24,15 +24,15 @@ cleared_amount (entry.Claim c) = pos 0
 abbrev pub has_its_amount : Entry → Line → Bool
 has_its_amount e line = int_eq (cleared_amount e) line.amount
 
--- the amount of the line that takes a deposit back
+-- the line has the amount that takes a deposit back
 abbrev pub has_amount_back : Deposit → Line → Bool
 has_amount_back d line = int_eq (pos 0 -ℤ pos d.amount) line.amount
 
--- the line's date and the bank's reference
+-- the line's date and bank reference
 abbrev pub clearing_by : Line → Clearing
 clearing_by line = record { bank_day = line.date; bank_ref = line.bank_ref }
 
--- Whether it comes again.
+-- Whether a line is a repeat.
 
 abbrev pub is_clearing_by : Clearing → Line → Bool
 is_clearing_by c line = c.bank_day == line.date && bytes_eq c.bank_ref line.bank_ref
@@ -56,7 +56,7 @@ is_payment_cleared_by (payment.Issued day) line = false
 is_payment_cleared_by (payment.Cleared c) line = is_clearing_by c.clearing line
 is_payment_cleared_by (payment.Voided v) line = false
 
--- the entry was cleared, or the deposit taken back, with the line's date, the bank's reference and the amount
+-- this line already cleared the entry, or took the deposit back: its date, bank reference and amount are on record
 abbrev pub is_line_again : Option Entry → Line → Bool
 is_line_again None line = false
 is_line_again (Some (entry.Deposit d)) line =
@@ -73,7 +73,7 @@ is_cleared_state (deposit.Cleared c) = true
 is_cleared_state (deposit.Cancelled day) = false
 is_cleared_state (deposit.Returned r) = false
 
--- the line takes a cleared deposit back
+-- the line takes back a cleared deposit
 abbrev pub is_return : Option Entry → Line → Bool
 is_return None line = false
 is_return (Some (entry.Deposit d)) line = is_cleared_state d.state && has_amount_back d line
@@ -83,12 +83,12 @@ is_return (Some (entry.Claim c)) line = false
 
 -- What changes.
 
--- a payment keeps the day of its issue
+-- an issued payment is cleared, and keeps the day of its issue
 abbrev pub cleared_payment : Line → PaymentState → PaymentState
 cleared_payment line (payment.Issued day) = payment.Cleared (record { issued = day; clearing = clearing_by line })
 cleared_payment line s = s
 
--- a held deposit is cleared, and a cleared one goes back on the business day
+-- a held deposit is cleared; a cleared one is returned on the business day
 abbrev pub deposit_by : Line → ℕ → DepositState → DepositState
 deposit_by line today deposit.Held = deposit.Cleared (clearing_by line)
 deposit_by line today (deposit.Cleared c) =

@@ -1,4 +1,4 @@
--- What an entry moves in the journal, and when.
+-- What an entry moves in the journal, and on which day.
 use Rattle.std.specs.Prelude.{ℕ, List, [], ◌∷◌, ℤ, pos, ◌-ℤ◌, Option, Some, None, length, slice_get}
 use Rattle.std.specs.Option.{option_map}
 use Rattle.matter_rows.specs.declared.deposit.DepositState.{DepositState}
@@ -9,7 +9,7 @@ use Rattle.matter_rows.specs.declared.entry.Entry.{Entry}
 use Rattle.matter_rows.specs.declared.entry.Entry.TheVariants as entry
 use Rattle.matter_rows.specs.declared.movement.EntryMovement.{EntryMovement}
 
--- an amount in cents on a day: above zero received, below zero paid out
+-- an amount in cents on a day: positive if received, negative if paid out
 pub record Event : Type 0 where
   pub day : ℕ
   pub amount : ℤ
@@ -20,14 +20,14 @@ received day amount = record { day = day; amount = pos amount }
 abbrev pub paid_out : ℕ → ℕ → Event
 paid_out day amount = record { day = day; amount = pos 0 -ℤ pos amount }
 
--- a cancelling takes the amount out again, and so does a return, on the day of its booking; a clearing moves nothing
+-- the amount goes out again when a deposit is cancelled, or on the day its return was booked; clearing moves nothing
 abbrev pub cancelling : DepositState → ℕ → List Event
 cancelling deposit.Held amount = []
 cancelling (deposit.Cleared c) amount = []
 cancelling (deposit.Cancelled day) amount = paid_out day amount ∷ []
 cancelling (deposit.Returned r) amount = paid_out r.undone amount ∷ []
 
--- an issue pays the amount out, a voiding takes it back
+-- issuing a payment pays the amount out, voiding brings it back
 abbrev pub payments : PaymentState → ℕ → List Event
 payments payment.Proposed amount = []
 payments payment.Declined amount = []
@@ -42,20 +42,20 @@ events_of (entry.Payment p) = payments p.state p.amount
 events_of (entry.Fee f) = []
 events_of (entry.Claim c) = []
 
--- what an entry has moved that may not be there
+-- what an entry has moved so far; nothing if it does not exist
 abbrev pub events_in : Option Entry → List Event
 events_in None = []
 events_in (Some e) = events_of e
 
--- What it moves in the journal.
+-- Events as movements of the journal.
 
 abbrev pub as_movement : ℕ → Event → EntryMovement
 as_movement n e = record { entry = n; day = e.day; amount = e.amount }
 
--- the event of a place, the first being 0, as the movement of entry n
+-- event i, counted from 0, as a movement of entry n
 abbrev pub nth_moved : ℕ → ℕ → List Event → Option EntryMovement
 nth_moved n i es = option_map (λ e. as_movement n e) (slice_get es i)
 
--- the first of the events beyond those that were there
+-- the first event of `news` after as many as `olds` has
 abbrev pub moved_beyond : ℕ → List Event → List Event → Option EntryMovement
 moved_beyond n olds news = nth_moved n (length olds) news

@@ -4,8 +4,8 @@ use Rattle.matter_rows.specs.declared.entry.Entry.{Entry}
 use Rattle.matter_rows.specs.Balances.{held, available, disputed, fees, claims, total}
 use Rattle.matter_rows.specs.Sound.{AreBacked}
 
--- the total, cleared deposits less payments, is what is available, disputed, left of fees and left of claims; and
--- none of these is below zero
+-- the total, cleared deposits less payments, is the sum of what is available, disputed, left of fees and left of
+-- claims; none of these is negative
 pub record IsCovered (es : List Entry) : Type 0 where
   pub sum : total es ≡ ((available es +ℤ disputed es) +ℤ fees es) +ℤ claims es
   pub held : pos 0 ≤ℤ held es

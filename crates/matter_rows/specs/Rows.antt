@@ -1,4 +1,4 @@
--- The rows of a matter: its head, its seats by person, and its entries in the order of their numbers.
+-- The rows of a matter: its head, its seats by person, and its entries by number.
 use Rattle.std.specs.Prelude.{ℕ, Bool, true, false, not, cond, List, [], ◌∷◌, ◌++◌, ◌+◌, ◌-◌, ◌==◌, nat_lt, Option, Some, None, find, if◌then◌else◌, ◌&&◌}
 use Rattle.std.specs.List.{filter, list_any}
 use Rattle.std.specs.Option.{option_map}
@@ -24,7 +24,7 @@ use Rattle.matter_rows.specs.declared.claim.Against.{Against}
 use Rattle.matter_rows.specs.declared.claim.Against.TheVariants as against
 use Rattle.trust_base.specs.TheConstants.{MAX_ENTRY}
 
--- a client's ledger: entry n is the n-th of the list, so that the numbers are 1, 2 and so on
+-- a client's ledger; entry n is the n-th of the list, counted from 1
 pub record Rows : Type 0 where
   pub head : Option Head
   pub seats : List Seat
@@ -34,7 +34,7 @@ pub record Rows : Type 0 where
 abbrev pub unopened : Rows
 unopened = record { head = None; seats = []; entries = [] }
 
--- the last day of an accepted change or of a line, 0 for a matter never opened
+-- the last day of an accepted change or a bank line; 0 if the matter was never opened
 abbrev pub last_of : Option Head → ℕ
 last_of None = 0
 last_of (Some h) = h.last
@@ -53,22 +53,22 @@ abbrev pub is_purged : Option Head → Bool
 is_purged None = false
 is_purged (Some h) = is_of_nobody h.holder
 
--- the matter was never opened, or it was purged
+-- the matter was never opened, or was purged
 abbrev pub is_gone : Option Head → Bool
 is_gone None = true
 is_gone (Some h) = is_of_nobody h.holder
 
--- entry n, the first being 1
+-- entry n, counted from 1
 abbrev pub entry_at : List Entry → ℕ → Option Entry
 entry_at [] n = None
 entry_at (e ∷ es) n = cond (n == 1) (Some e) (entry_at es (n - 1))
 
--- the entries with entry n exchanged for e'
+-- the entries with entry n replaced by e'
 abbrev pub with_entry : List Entry → ℕ → Entry → List Entry
 with_entry [] n e' = []
 with_entry (e ∷ es) n e' = cond (n == 1) (e' ∷ es) (e ∷ with_entry es (n - 1) e')
 
--- the number that the next entry takes, where there are `count`; none after 9999
+-- the number of the next entry after `count` entries; None after 9999
 abbrev pub next_number : ℕ → Option ℕ
 next_number count = if nat_lt count MAX_ENTRY then Some (count + 1) else None
 
@@ -86,7 +86,7 @@ book_day (entry.Payment p) = p.book
 book_day (entry.Fee f) = f.book
 book_day (entry.Claim c) = c.book
 
--- the entry as it was made: its kind, its day and all that was asked, in the first state
+-- the entry as it was first made: what was asked and when, in its first state
 abbrev pub as_made : Entry → Entry
 as_made (entry.Deposit d) = entry.Deposit (record d { state = deposit.Held })
 as_made (entry.Payment p) = entry.Payment (record p { state = payment.Proposed })
@@ -101,16 +101,16 @@ seat_of seats person = find (λ s. bytes_eq s.person person) seats
 abbrev pub role_in : List Seat → List ℕ → Option Role
 role_in seats person = option_map (λ s. s.role) (seat_of seats person)
 
--- one name stands before another in the order of bytes
+-- a name sorts before another, byte by byte
 abbrev pub comes_before : List ℕ → List ℕ → Bool
 comes_before a b = is_lt (slice_cmp nat_cmp a b)
 
--- the seats with one more, in its place by person
+-- the seats with one more, inserted by person
 abbrev pub seats_with : List Seat → Seat → List Seat
 seats_with seats new =
     filter (λ s. comes_before s.person new.person) seats ++ new ∷ filter (λ s. comes_before new.person s.person) seats
 
--- the seats without that of a person
+-- the seats without this person's
 abbrev pub seats_without : List Seat → List ℕ → List Seat
 seats_without seats person = filter (λ s. not (bytes_eq s.person person)) seats
 
@@ -124,7 +124,7 @@ abbrev pub closed_head : Option Head → ℕ → ℕ → Option Head
 closed_head None day last = None
 closed_head (Some h) day last = Some (record h { closed = Some day; last = last })
 
--- what stays of a head: the stub of a matter that was purged on a day, with another last day
+-- the stub that is left of a head when the matter is purged on a day, with another last day
 abbrev pub cleared_head : Option Head → ℕ → ℕ → Option Head
 cleared_head None day last = None
 cleared_head (Some h) day last = Some (record h { holder = holder.Purged day; last = last })
@@ -157,7 +157,7 @@ abbrev pub is_lawyer : Role → Bool
 is_lawyer role.Client = false
 is_lawyer role.Lawyer = true
 
--- another person has a lawyer's seat
+-- someone other than this person has a lawyer's seat
 abbrev pub has_other_lawyer : List Seat → List ℕ → Bool
 has_other_lawyer seats person = list_any (λ s. not (bytes_eq s.person person) && is_lawyer s.role) seats
 

@@ -14,7 +14,7 @@ use Rattle.matter_rows.specs.declared.entry.Entry.{Entry}
 use Rattle.matter_rows.specs.declared.entry.Entry.TheVariants as entry
 use Rattle.matter_rows.specs.declared.shares.Shares.{Shares}
 
--- a payment counts while it is issued or cleared
+-- a payment counts while issued or cleared
 abbrev pub paid : PaymentState → ℕ → ℤ
 paid payment.Proposed a = pos 0
 paid payment.Declined a = pos 0
@@ -34,7 +34,7 @@ to_client claim.Open = pos 0
 to_client (claim.Offered part) = pos 0
 to_client (claim.Settled s) = pos s.part
 
--- what a claim takes from a fee: all while open, then the client's part
+-- what a claim takes from a fee: all of its amount while open, then the client's part
 abbrev pub off_fee : ClaimState → ℕ → ℤ
 off_fee s a = apart s a +ℤ to_client s
 
@@ -44,14 +44,14 @@ to_claimant claim.Open a = pos a
 to_claimant (claim.Offered part) a = pos a
 to_claimant (claim.Settled s) a = pos a -ℤ pos s.part
 
--- a deposit is held until the bank tells of it or it is cancelled
+-- a deposit is held until the bank clears it or it is cancelled
 abbrev pub held_deposit : DepositState → ℕ → ℤ
 held_deposit deposit.Held a = pos a
 held_deposit (deposit.Cleared c) a = pos 0
 held_deposit (deposit.Cancelled day) a = pos 0
 held_deposit (deposit.Returned r) a = pos 0
 
--- a deposit is in the account from its clearing until it is returned
+-- a deposit is in the account from when it is cleared until it is returned
 abbrev pub cleared_deposit : DepositState → ℕ → ℤ
 cleared_deposit deposit.Held a = pos 0
 cleared_deposit (deposit.Cleared c) a = pos a
@@ -74,7 +74,7 @@ from_claim fund.General z = pos 0
 from_claim (fund.Fee k) z = pos 0
 from_claim (fund.Claim k) z = z
 
--- what a claim comes to on a fee, and what it comes to on the general fund
+-- what a claim takes if it is on a fee, and if it is on the general fund
 abbrev pub on_fee : Against → ℤ → ℤ
 on_fee (against.General c) z = pos 0
 on_fee (against.Fee k) z = z
@@ -83,22 +83,22 @@ abbrev pub on_general : Against → ℤ → ℤ
 on_general (against.General c) z = z
 on_general (against.Fee k) z = pos 0
 
--- what an entry adds to each balance
+-- what an entry adds to what is held
 unfoldable pub held_share : Entry → ℤ
 held_share (entry.Deposit d) = held_deposit d.state d.amount
 held_share (entry.Payment p) = pos 0
 held_share (entry.Fee f) = pos 0
 held_share (entry.Claim c) = pos 0
 
--- what an entry adds to the total: what was cleared, less what was paid
+-- what an entry adds to the total: cleared deposits, less payments
 unfoldable pub total_share : Entry → ℤ
 total_share (entry.Deposit d) = cleared_deposit d.state d.amount
 total_share (entry.Payment p) = pos 0 -ℤ paid p.state p.amount
 total_share (entry.Fee f) = pos 0
 total_share (entry.Claim c) = pos 0
 
--- what an entry adds to what is available: what was cleared, less payments from it, fees and claims on it; of a settled
--- claim on a fee the client's part comes back
+-- what an entry adds to what is available: cleared deposits, less payments from it, fees, and claims on it; a settled
+-- claim on a fee brings back the client's part
 unfoldable pub available_share : Entry → ℤ
 available_share (entry.Deposit d) = cleared_deposit d.state d.amount
 available_share (entry.Payment p) = pos 0 -ℤ from_general p.fund (paid p.state p.amount)
@@ -106,21 +106,21 @@ available_share (entry.Fee f) = pos 0 -ℤ pos f.amount
 available_share (entry.Claim c) =
     on_fee c.against (to_client c.state) -ℤ on_general c.against (to_claimant c.state c.amount)
 
--- what an entry adds to what is disputed: an open claim on a fee its amount
+-- what an entry adds to what is disputed: the amount of an open claim on a fee
 unfoldable pub disputed_share : Entry → ℤ
 disputed_share (entry.Deposit d) = pos 0
 disputed_share (entry.Payment p) = pos 0
 disputed_share (entry.Fee f) = pos 0
 disputed_share (entry.Claim c) = on_fee c.against (apart c.state c.amount)
 
--- what an entry is worth before others draw on it: a fee, or a claim on the general fund
+-- what a fee, or a claim on the general fund, is worth before other entries draw on it
 unfoldable pub worth : Entry → ℤ
 worth (entry.Deposit d) = pos 0
 worth (entry.Payment p) = pos 0
 worth (entry.Fee f) = pos f.amount
 worth (entry.Claim c) = on_general c.against (to_claimant c.state c.amount)
 
--- the entry that an entry draws on, 0 for none
+-- the number of the entry that an entry draws on, or 0
 abbrev pub fund_no : Fund → ℕ
 fund_no fund.General = 0
 fund_no (fund.Fee k) = k
@@ -136,8 +136,8 @@ target (entry.Payment p) = fund_no p.fund
 target (entry.Fee f) = 0
 target (entry.Claim c) = against_no c.against
 
--- what an entry draws on the fee or claim that it names: a payment its amount, a claim all while it is open, and then
--- the client's part
+-- what an entry draws on the fee or claim that it names: a payment its amount, a claim all of its amount while open,
+-- then the client's part
 unfoldable pub draw : Entry → ℤ
 draw (entry.Deposit d) = pos 0
 draw (entry.Payment p) = paid p.state p.amount
@@ -153,7 +153,7 @@ has_settled claim.Open = false
 has_settled (claim.Offered part) = false
 has_settled (claim.Settled s) = true
 
--- what an entry adds to the sum of what is left of the fees, and of the claims on the general fund
+-- what an entry adds to the sum of what is left of fees, and of claims on the general fund
 unfoldable pub fee_share : Entry → ℤ
 fee_share (entry.Deposit d) = pos 0
 fee_share (entry.Payment p) = pos 0 -ℤ from_fee p.fund (paid p.state p.amount)
@@ -173,7 +173,7 @@ pending_payment (payment.Issued day) = pos 1
 pending_payment (payment.Cleared c) = pos 0
 pending_payment (payment.Voided v) = pos 0
 
--- 1 for a payment proposed or issued
+-- 1 for a proposed or issued payment
 unfoldable pub pending_share : Entry → ℤ
 pending_share (entry.Deposit d) = pos 0
 pending_share (entry.Payment p) = pending_payment p.state
@@ -194,7 +194,7 @@ shares_of e = record {
 abbrev pub no_shares : Shares
 no_shares = record { held = pos 0; available = pos 0; disputed = pos 0; fees = pos 0; claims = pos 0; pending = pos 0 }
 
--- what an entry adds to a balance is at most twice the greatest amount, up or down
+-- an entry adds at most twice the greatest amount to a balance, positive or negative
 pub record IsSmallShare (z : ℤ) : Type 0 where
   pub low : pos 0 ≤ℤ (z +ℤ pos 199_999_999_998)
   pub high : z ≤ℤ pos 199_999_999_998
@@ -207,17 +207,17 @@ pub record AreSmallShares (s : Shares) : Type 0 where
   pub claims : IsSmallShare s.claims
   pub pending : IsSmallShare s.pending
 
--- an entry's number, 0 for none
+-- an entry's number, or 0
 abbrev pub number_or_none : Option ℕ → ℕ
 number_or_none None = 0
 number_or_none (Some n) = n
 
--- the number of the entry that an entry draws on, 0 for none
+-- the number of the entry that an entry draws on, or 0
 abbrev pub target_in : Option Entry → ℕ
 target_in None = 0
 target_in (Some e) = target e
 
--- what all entries of a matter add to a balance, up or down
+-- the most that all entries of a matter add to a balance, positive or negative
 pub record IsSmallSum (z : ℤ) : Type 0 where
   pub low : pos 0 ≤ℤ (z +ℤ pos 1_999_800_000_000_000)
   pub high : z ≤ℤ pos 1_999_800_000_000_000

@@ -1,4 +1,4 @@
--- What holds of a matter's rows at every moment.
+-- What is true of a matter's rows at every moment.
 use Rattle.std.specs.Prelude.{◌≡◌, ℕ, ◌≤◌, true, List, [], ◌∷◌, ◌++◌, map, length, pos, ◌≤ℤ◌, Option, Some, None, IsSome}
 use Rattle.std.specs.List.{AllByRecursion}
 use Rattle.trust_base.specs.Limits.{IsAmount}
@@ -35,12 +35,12 @@ HasPart (entry.Payment p) = Unit {0}
 HasPart (entry.Fee f) = Unit {0}
 HasPart (entry.Claim c) = part_of c.state ≤ c.amount
 
--- an entry's amount is one, and a claim's part is within it
+-- the entry's amount is in range, and a claim's client part is at most its amount
 pub record IsRanged (e : Entry) : Type 0 where
   pub amount : IsAmount (entry_amount e)
   pub part : HasPart e
 
--- no balance is below zero, and what an entry names is there and of the kind that it wants
+-- no balance is negative, and every entry named exists and is of the required kind
 pub record AreBacked (es : List Entry) : Type 0 where
   pub few : length es ≤ MAX_ENTRY
   pub ranged : AllByRecursion IsRanged es
@@ -50,14 +50,14 @@ pub record AreBacked (es : List Entry) : Type 0 where
 
 -- The seats.
 
--- by person in the order of bytes, and so no person twice
+-- sorted by person, byte by byte, so that no person occurs twice
 abbrev pub AreInOrder : List Seat → Type 0
 AreInOrder [] = Unit {0}
 AreInOrder (s ∷ ss) = AllByRecursion (λ t. comes_before s.person t.person ≡ true) ss × AreInOrder ss
 
 -- The days.
 
--- the days on which an entry changed after it was made, in order
+-- the days on which a deposit changed after it was made, in order
 abbrev pub deposit_days : DepositState → List ℕ
 deposit_days deposit.Held = []
 deposit_days (deposit.Cleared c) = []
@@ -82,7 +82,7 @@ later_days (entry.Payment p) = payment_days p.state
 later_days (entry.Fee f) = []
 later_days (entry.Claim c) = claim_days c.state
 
--- the days of the bank's lines: that which cleared it, and that which took it back
+-- the days of the bank lines that cleared a deposit and took it back
 abbrev pub deposit_bank : DepositState → List ℕ
 deposit_bank deposit.Held = []
 deposit_bank (deposit.Cleared c) = c.bank_day ∷ []
@@ -106,30 +106,30 @@ bank_days (entry.Claim c) = []
 unfoldable pub days_of : Entry → List ℕ
 days_of e = book_day e ∷ (later_days e ++ bank_days e)
 
--- no day of the entry is after this one
+-- no day of the entry is after `day`
 abbrev pub IsBy : ℕ → Entry → Type 0
 IsBy day e = AllByRecursion (λ d. d ≤ day) (days_of e)
 
--- no day is before the one in front of it, nor the first before `from`
+-- no day is before the previous one, and the first is not before `from`
 abbrev pub AreRising : ℕ → List ℕ → Type 0
 AreRising from [] = Unit {0}
 AreRising from (day ∷ days) = (from ≤ day) × AreRising day days
 
--- the bank took a deposit back on no day after the one on which that was booked
+-- a return is booked on or after the bank's day
 abbrev pub IsBackInTime : DepositState → Type 0
 IsBackInTime deposit.Held = Unit {0}
 IsBackInTime (deposit.Cleared c) = Unit {0}
 IsBackInTime (deposit.Cancelled day) = Unit {0}
 IsBackInTime (deposit.Returned r) = r.returning.bank_day ≤ r.undone
 
--- an entry does not change on a day before an earlier change, and a return is booked on no day before the bank's
+-- an entry's changes are in order of day, and a return is booked on or after the bank's day
 abbrev pub IsRising : Entry → Type 0
 IsRising (entry.Deposit d) = AreRising d.book (deposit_days d.state) × IsBackInTime d.state
 IsRising (entry.Payment p) = AreRising p.book (payment_days p.state)
 IsRising (entry.Fee f) = Unit {0}
 IsRising (entry.Claim c) = AreRising c.book (claim_days c.state)
 
--- no change is on a day before an earlier one, days of the bank aside, and no day is after the last
+-- changes are in order of day, bank days aside, and no day at all is after the last day
 pub record AreDated (h : Head) (es : List Entry) : Type 0 where
   pub opened : h.opened ≤ h.last
   pub by_last : AllByRecursion (IsBy h.last) es
@@ -138,7 +138,7 @@ pub record AreDated (h : Head) (es : List Entry) : Type 0 where
 
 -- The matter.
 
--- a matter that was closed on a day: nothing is left in it, and nothing came after
+-- a matter closed on `day`: nothing is left in it, and nothing happened later
 pub record IsAtRest (h : Head) (day : ℕ) (es : List Entry) : Type 0 where
   pub empty : ledger es ≡ pos 0
   pub none_waits : pending es ≡ pos 0
@@ -151,31 +151,31 @@ abbrev pub IsAtRestIfClosed : Head → Option ℕ → List Entry → Type 0
 IsAtRestIfClosed h None es = Unit {0}
 IsAtRestIfClosed h (Some day) es = IsAtRest h day es
 
--- a matter never opened has no seat and no entry; the days of an opened one are in order, and a closed one is at rest
+-- a matter never opened has no seats and no entries; an opened one has its days in order and is at rest once closed
 abbrev pub IsHeaded : Option Head → List Seat → List Entry → Type 0
 IsHeaded None seats es = (seats ≡ []) × (es ≡ [])
 IsHeaded (Some h) seats es = AreDated h es × IsAtRestIfClosed h h.closed es
 
--- a purged matter was closed, and has no seat and no entry; its last day is that of the purging
+-- a purged matter was closed, has no seats and no entries, and its last day is the day of the purge
 abbrev pub IsBare : Holder → Option ℕ → ℕ → List Seat → List Entry → Type 0
 IsBare (holder.Client c) closed last seats es = Unit {0}
 IsBare (holder.Purged day) closed last seats es = IsSome closed × ((last ≡ day) × ((seats ≡ []) × (es ≡ [])))
 
--- of a purged matter only the head is left
+-- only the head of a purged matter is left
 abbrev pub IsBareIfPurged : Option Head → List Seat → List Entry → Type 0
 IsBareIfPurged None seats es = Unit {0}
 IsBareIfPurged (Some h) seats es = IsBare h.holder h.closed h.last seats es
 
--- Rows do not keep in what order entries changed. What they tell of it are the days: those of one entry, those on
--- which the entries were made, and that a claim is settled before it is paid from. They tell nothing of the order of
--- two changes on one day.
+-- Rows do not record the order in which entries changed. It shows only in the days: those within one entry, those on
+-- which entries were made, and that a claim is settled before it is paid from. The order of two changes on one day is
+-- lost.
 
 abbrev pub day_settled : ClaimState → ℕ
 day_settled claim.Open = 0
 day_settled (claim.Offered part) = 0
 day_settled (claim.Settled s) = s.day
 
--- the day on which a claim was settled, 0 for what was not
+-- the day on which a claim was settled, 0 if it is no settled claim
 abbrev pub settlement_day : Option Entry → ℕ
 settlement_day None = 0
 settlement_day (Some (entry.Deposit d)) = 0
@@ -183,21 +183,21 @@ settlement_day (Some (entry.Payment p)) = 0
 settlement_day (Some (entry.Fee f)) = 0
 settlement_day (Some (entry.Claim c)) = day_settled c.state
 
--- the day from which a fund may be paid from: that of the claim's settlement, 0 for the other funds
+-- the first day on which a fund may be paid from: for a claim, the day it was settled; otherwise 0
 abbrev pub funded_from : List Entry → Fund → ℕ
 funded_from es fund.General = 0
 funded_from es (fund.Fee k) = 0
 funded_from es (fund.Claim k) = settlement_day (entry_at es k)
 
--- a payment from a claim is booked on no day before the claim was settled
+-- a payment from a claim is booked on or after the day the claim was settled
 abbrev pub IsFundedInTime : List Entry → Entry → Type 0
 IsFundedInTime es (entry.Deposit d) = Unit {0}
 IsFundedInTime es (entry.Payment p) = funded_from es p.fund ≤ p.book
 IsFundedInTime es (entry.Fee f) = Unit {0}
 IsFundedInTime es (entry.Claim c) = Unit {0}
 
--- no balance is below zero, each person has one seat, the days are in order, a closed matter is at rest, of a purged
--- one the head alone is left, and no claim is paid from before it was settled
+-- no balance is negative, each person has one seat, days are in order, a closed matter is at rest, only the head of a
+-- purged one is left, and no claim is paid from before it was settled
 pub record Sound (rows : Rows) : Type 0 where
   pub backed : AreBacked rows.entries
   pub seated : AreInOrder rows.seats

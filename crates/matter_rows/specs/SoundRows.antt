@@ -1,4 +1,4 @@
--- Sound rows, entry by entry: what holds of each by itself and with those that it names, of the head, and of what is
+-- Sound rows, entry by entry: what is true of each on its own and with those that it names, of the head, and of what is
 -- left.
 use Rattle.std.specs.Prelude.{◌≡◌, ℕ, ◌≤◌, true, List, [], map, Option, Some, None}
 use Rattle.std.specs.List.{AllByRecursion}
@@ -13,8 +13,8 @@ abbrev pub IsByIfClosed : Option ℕ → Entry → Type 0
 IsByIfClosed None e = Unit {0}
 IsByIfClosed (Some day) e = IsBy day e
 
--- an entry's amount is one, what it names is there, its days are in order and within the matter's, and a claim that is
--- paid from was settled by the day of the payment
+-- the amount is in range, what the entry names exists, its days are in order and within the matter's, and a payment
+-- from a claim is not before the day the claim was settled
 pub record IsSoundEntry (h : Head) (es : List Entry) (e : Entry) : Type 0 where
   pub ranged : IsRanged e
   pub named : names es e ≡ true
@@ -23,7 +23,7 @@ pub record IsSoundEntry (h : Head) (es : List Entry) (e : Entry) : Type 0 where
   pub rising : IsRising e
   pub funded : IsFundedInTime es e
 
--- a matter is closed between its opening and the last day
+-- a matter is closed on or after its opening and by its last day
 abbrev pub IsClosedWithin : ℕ → ℕ → Option ℕ → Type 0
 IsClosedWithin opened last None = Unit {0}
 IsClosedWithin opened last (Some day) = (opened ≤ day) × (day ≤ last)
@@ -34,7 +34,7 @@ pub record IsSoundHead (h : Head) (es : List Entry) : Type 0 where
   pub made : AreRising h.opened (map book_day es)
   pub entries : AllByRecursion (IsSoundEntry h es) es
 
--- rows without a head have nothing else, nor has a purged matter
+-- without a head there are no seats and no entries; a purged matter has none either
 abbrev pub AreInForm : Option Head → List Seat → List Entry → Type 0
 AreInForm None seats es = (seats ≡ []) × (es ≡ [])
 AreInForm (Some h) seats es = IsSoundHead h es × IsBare h.holder h.closed h.last seats es

@@ -1,4 +1,4 @@
-//! Claims: their states and what they keep apart.
+//! Claims: their states, and what they keep apart.
 
 ghost use Rattle.std.specs.Prelude.{◌≡◌, IfOk, ◌+◌, ◌-◌, ◌<◌, ◌≤◌, ◌≤ℤ◌, ◌-ℤ◌, ◌+ℤ◌, pos, true, None, Some, ◌++◌, ◌↔◌, ◌&&◌, IsTrue};
 ghost use Rattle.std.specs.List.{AllByRecursion};
@@ -15,7 +15,7 @@ use crate::soundness::{has_fee, is_up_to};
 use std::alloc::AllocError;
 use trust_base::{Cents, CentsOrZero, Day, EntryNo, Label};
 
-/// What a claim is on: what is available, by the claimant named, or a fee.
+/// What a claim is on: the general fund, for a named claimant, or a fee.
 #[derive(Drop)]
 pub enum Against {
     General(Label),
@@ -23,7 +23,7 @@ pub enum Against {
 }
 
 impl Against {
-    /// The same, with texts of its own. An error means that a growth was refused; `self` stays as it is.
+    /// A deep copy. The only error is out of memory.
     pub fn copied(&self) -> Result<Against, AllocError>
         ensures { IfOk result (λ a. a ≡ self.now) }
     {
@@ -33,7 +33,7 @@ impl Against {
         }
     }
 
-    /// The number of the fee that it is, if it is one.
+    /// The fee's number, if it is a fee.
     pub fn number(&self) -> Option<EntryNo>
         ensures { number_or_none result ≡ against_no self.now }
     {
@@ -43,7 +43,7 @@ impl Against {
         }
     }
 
-    /// Whether both are the same fee, or what is available for the same claimant.
+    /// Whether both are the same fee, or both the general fund for the same claimant.
     pub fn is_same(&self, other: &Against) -> bool
         ensures { result ≡ is_same_against self.now other.now }
     {
@@ -59,7 +59,7 @@ impl Against {
         }
     }
 
-    // Is the fee among the entries?
+    // Whether the fee that it names, if any, is among the entries.
     pub(crate) fn is_in(&self, entries: &[Entry]) -> bool
         ensures { result ≡ is_against entries.now self.now }
     {
@@ -70,14 +70,14 @@ impl Against {
     }
 }
 
-/// How a claim ended: the day, and the part of its amount that went to the client.
+/// How a claim ended: on which day, and how much of its amount went to the client.
 #[derive(Clone, Copy)]
 pub struct Settlement {
     pub day: Day,
     pub part: CentsOrZero,
 }
 
-/// A claim is open, perhaps with an offer of a part to the client, until it is settled.
+/// A claim is open, with or without an offer to the client, until it is settled.
 #[derive(Clone, Copy)]
 pub enum ClaimState {
     Open,
@@ -86,7 +86,7 @@ pub enum ClaimState {
 }
 
 impl ClaimState {
-    // The client's part, offered or settled, in cents.
+    // The client's part in cents, offered or settled.
     pub(crate) fn part(&self) -> u64
         ensures { result ≡ part_of self.now }
     {
@@ -115,7 +115,7 @@ impl ClaimState {
         }
     }
 
-    // Was it settled by the day, if it was?
+    // Whether the claim was settled on or before the day. True if it is not settled.
     pub(crate) fn is_ready_by(&self, day: Day) -> bool
         ensures { IsTrue result ↔ (day_settled self.now ≤ day) }
     {
@@ -137,7 +137,7 @@ pub struct Claim {
 }
 
 impl Claim {
-    /// The claim in another state. An error means that a growth was refused; `self` stays as it is.
+    /// The claim in another state, as a deep copy. The only error is out of memory.
     pub fn restated(&self, state: ClaimState) -> Result<Claim, AllocError>
         ensures { IfOk result (λ c. c ≡ record self.now { state = state }) }
     {

@@ -1,4 +1,4 @@
-//! What the bank told of an entry.
+//! What the bank reported about an entry.
 
 ghost use Rattle.std.specs.Prelude.{◌≡◌, IfOk};
 ghost use Rattle.matter_rows.specs.Clearings.{clearing_by, is_clearing_by};
@@ -6,7 +6,7 @@ ghost use Rattle.matter_rows.specs.Clearings.{clearing_by, is_clearing_by};
 use std::alloc::AllocError;
 use trust_base::{BankText, Day, Line};
 
-/// The line of the bank that cleared an entry, or took a deposit back: its date and the bank's own reference.
+/// The bank line that cleared an entry or took a deposit back: its date and the bank's own reference.
 #[derive(Drop)]
 pub struct Clearing {
     pub bank_day: Day,
@@ -14,7 +14,7 @@ pub struct Clearing {
 }
 
 impl Clearing {
-    /// The same, with texts of its own. An error means that a growth was refused; `self` stays as it is.
+    /// A deep copy. The only error is out of memory.
     pub fn copied(&self) -> Result<Clearing, AllocError>
         ensures { IfOk result (λ m. m ≡ self.now) }
     {
@@ -25,7 +25,7 @@ impl Clearing {
         })
     }
 
-    // Is it the line's date and the bank's reference?
+    // Whether it has the line's date and bank reference.
     pub(crate) fn is_by(&self, line: &Line) -> bool
         ensures { result ≡ is_clearing_by self.now line.now }
     {
@@ -33,7 +33,7 @@ impl Clearing {
     }
 }
 
-// The line's date and the bank's reference.
+// The line's date and bank reference.
 pub(crate) fn clearing_by(line: &Line) -> Result<Clearing, AllocError>
     ensures { IfOk result (λ c. c ≡ clearing_by line.now) }
 {

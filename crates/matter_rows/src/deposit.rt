@@ -1,4 +1,4 @@
-//! Deposits: their states, what they add to the balances and what they move.
+//! Deposits: their states, what they add to the balances, and what they move.
 
 ghost use Rattle.std.specs.Prelude.{◌≡◌, IfOk, ◌+◌, ◌-◌, ◌<◌, ◌≤◌, ◌≤ℤ◌, ◌-ℤ◌, ◌+ℤ◌, true, ◌++◌, ◌↔◌, ◌&&◌, IsTrue};
 ghost use Rattle.std.specs.List.{AllByRecursion};
@@ -15,8 +15,7 @@ use crate::soundness::is_up_to;
 use std::alloc::AllocError;
 use trust_base::{Cents, Day, EntryNo, Label, Line};
 
-/// A deposit that the bank cleared and then took back: both of its lines, and the day on which the return was
-/// booked.
+/// A deposit that the bank cleared and then took back: both bank lines, and the day on which the return was booked.
 #[derive(Drop)]
 pub struct ReturnedDeposit {
     pub clearing: Clearing,
@@ -24,7 +23,7 @@ pub struct ReturnedDeposit {
     pub undone: Day,
 }
 
-/// A deposit is held until the bank tells of it, or is cancelled on a day; the bank may take a cleared one back.
+/// A deposit is held until the bank clears it or it is cancelled on a day. The bank may take a cleared one back.
 #[derive(Drop)]
 pub enum DepositState {
     Held,
@@ -34,7 +33,7 @@ pub enum DepositState {
 }
 
 impl DepositState {
-    /// The same, with texts of its own. An error means that a growth was refused; `self` stays as it is.
+    /// A deep copy. The only error is out of memory.
     pub fn copied(&self) -> Result<DepositState, AllocError>
         ensures { IfOk result (λ s. s ≡ self.now) }
     {
@@ -54,7 +53,7 @@ impl DepositState {
         }
     }
 
-    /// Was the deposit cleared with the line's date and the bank's reference?
+    /// Whether the deposit was cleared with the line's date and bank reference.
     pub fn is_cleared_by(&self, line: &Line) -> bool
         ensures { result ≡ is_deposit_cleared_by self.now line.now }
     {
@@ -65,7 +64,7 @@ impl DepositState {
         }
     }
 
-    // Was the deposit taken back with the line's date and the bank's reference?
+    // Whether the deposit was taken back with the line's date and bank reference.
     fn is_returned_by(&self, line: &Line) -> bool
         ensures { result ≡ is_deposit_returned_by self.now line.now }
     {
@@ -75,8 +74,8 @@ impl DepositState {
         }
     }
 
-    /// The state once the line has cleared a held deposit, or taken a cleared one back on the business day; the
-    /// same in any other state.
+    /// The state after this line: a held deposit is cleared, and a cleared one is returned on the business day. Any
+    /// other state is copied unchanged.
     pub fn told(&self, line: &Line, today: Day) -> Result<DepositState, AllocError>
         ensures { IfOk result (λ s. s ≡ deposit_by line.now today self.now) }
     {
@@ -135,7 +134,7 @@ pub struct Deposit {
 }
 
 impl Deposit {
-    /// The deposit in another state. An error means that a growth was refused; `self` stays as it is.
+    /// The deposit in another state, as a deep copy. The only error is out of memory.
     pub fn restated(&self, state: DepositState) -> Result<Deposit, AllocError>
         ensures { IfOk result (λ d. d ≡ record self.now { state = state }) }
     {
@@ -178,7 +177,7 @@ impl Deposit {
         }
     }
 
-    // Its event of this place, the first being 0.
+    // Event `place`, counted from 0, of the deposit.
     #[tactic(auto, unfolding(crate::specs::Events::events_of))]
     pub(crate) fn event(&self, number: EntryNo, place: usize) -> Option<EntryMovement>
         ensures { result ≡ nth_moved number place (events_of (Entry.Deposit self.now)) }
@@ -194,14 +193,14 @@ impl Deposit {
         }
     }
 
-    // Does the line have the negative of its amount?
+    // Whether the line has the negative of the deposit's amount.
     pub(crate) fn has_amount_back(&self, line: &Line) -> bool
         ensures { result ≡ has_amount_back self.now line.now }
     {
         -(self.amount.get() as i64) == line.amount.get()
     }
 
-    /// Did the line clear it, or take it back, before?
+    /// Whether this line already cleared the deposit or took it back.
     pub fn is_again(&self, line: &Line) -> bool
         ensures { result ≡ is_line_again (Some (Entry.Deposit self.now)) line.now }
     {

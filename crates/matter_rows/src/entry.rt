@@ -1,4 +1,4 @@
-//! The entries of a matter, of whatever kind.
+//! The entries of a matter, of all kinds.
 
 ghost use Rattle.std.specs.Prelude.{◌≡◌, IfOk, ◌+◌, ◌-◌, ◌<◌, ◌≤◌, ◌≤ℤ◌, ◌-ℤ◌, ◌+ℤ◌, length, ◌≢◌, ◌↔◌, IsTrue, true, ◌++◌, ◌&&◌};
 ghost use Rattle.matter_rows.specs.Shares.{shares_of, worth, draw, target, AreSmallShares, IsSmallShare, number_or_none, draw_on};
@@ -20,7 +20,7 @@ use crate::soundness::is_up_to;
 use std::alloc::AllocError;
 use trust_base::{Day, EntryNo, Line};
 
-/// An entry of a matter. `book` is in each the day on which it was made.
+/// An entry of a matter. In each kind, `book` is the day on which it was made.
 #[derive(Drop)]
 pub enum Entry {
     Deposit(Deposit),
@@ -30,7 +30,7 @@ pub enum Entry {
 }
 
 impl Entry {
-    /// The same entry, with texts of its own. An error means that a growth was refused; `self` stays as it is.
+    /// A deep copy. The only error is out of memory.
     pub fn copied(&self) -> Result<Entry, AllocError>
         ensures { IfOk result (λ e. e ≡ self.now) }
     {
@@ -42,8 +42,8 @@ impl Entry {
         }
     }
 
-    /// What the entry adds to each balance, in cents, and to the count of pending payments. No share is greater in
-    /// size than twice the greatest amount.
+    /// What the entry adds to each balance, in cents, and to the count of pending payments. No share is larger than
+    /// twice the greatest amount, positive or negative.
     pub fn shares(&self) -> Shares
         ensures is { result ≡ shares_of self.now }
         ensures small { AreSmallShares result }
@@ -57,8 +57,8 @@ impl Entry {
     }
 
     #[tactic(auto, unfolding(crate::specs::Shares::worth))]
-    /// What the entry is worth before others draw on it, in cents: a fee its amount; a claim on the general fund its
-    /// amount while open, then the claimant's part; otherwise 0.
+    /// What the entry is worth before other entries draw on it, in cents. For a fee, its amount. For a claim on the
+    /// general fund, its amount while open, then the claimant's part. Otherwise 0.
     pub fn worth(&self) -> i64
         ensures is { result ≡ worth self.now }
         ensures small { IsSmallShare result }
@@ -74,8 +74,8 @@ impl Entry {
     }
 
     #[tactic(auto, unfolding(crate::specs::Shares::draw))]
-    /// What it takes out of its fund, in cents: a payment while issued or cleared, from whatever fund; a claim on a
-    /// fee its amount while open, then the client's part; otherwise 0.
+    /// What the entry takes out of its fund, in cents. For a payment that is issued or cleared, its amount, whatever
+    /// its fund. For a claim on a fee, its amount while open, then the client's part. Otherwise 0.
     pub fn draw(&self) -> i64
         ensures is { result ≡ draw self.now }
         ensures small { IsSmallShare result }
@@ -90,7 +90,7 @@ impl Entry {
         }
     }
 
-    /// The entry that it draws on.
+    /// The entry that this one draws on.
     pub fn target(&self) -> Option<EntryNo>
         ensures { number_or_none result ≡ target self.now }
     {
@@ -107,7 +107,7 @@ impl Entry {
         }
     }
 
-    // How many events it has had.
+    // How many events the entry has had.
     #[tactic(auto, unfolding(crate::specs::Events::events_of))]
     pub(crate) fn event_count(&self) -> usize
         ensures { result ≡ length (events_of self.now) }
@@ -126,7 +126,7 @@ impl Entry {
         }
     }
 
-    // Its event of this place, the first being 0.
+    // Event `place`, counted from 0, of the entry.
     #[tactic(auto, unfolding(crate::specs::Events::events_of))]
     pub(crate) fn event(&self, number: EntryNo, place: usize) -> Option<EntryMovement>
         ensures { result ≡ nth_moved number place (events_of self.now) }
@@ -138,7 +138,7 @@ impl Entry {
         }
     }
 
-    // What the entry draws on the one of a number.
+    // What the entry draws on the entry with this number.
     pub(crate) fn draw_on(&self, number: EntryNo) -> i64
         ensures is { result ≡ draw_on number self.now }
         ensures small { IsSmallShare result }
@@ -156,7 +156,7 @@ impl Entry {
         }
     }
 
-    // The amount of the line that clears it, in cents: a deposit comes in, a payment goes out.
+    // The amount of the line that clears the entry, in cents: positive for a deposit, negative for a payment.
     fn cleared_amount(&self) -> i64
         ensures { result ≡ cleared_amount self.now }
     {
@@ -167,7 +167,8 @@ impl Entry {
         }
     }
 
-    /// Does the line take it back: is it a cleared deposit, and the line of the negative of its amount?
+    /// Whether the line takes the entry back: the entry is a cleared deposit, and the line has the negative of its
+    /// amount.
     pub fn is_return(&self, line: &Line) -> bool
         ensures { result ≡ is_return (Some self.now) line.now }
     {
@@ -179,14 +180,14 @@ impl Entry {
         }
     }
 
-    /// Does the line have this amount?
+    /// Whether the line has the amount that clears the entry.
     pub fn has_its_amount(&self, line: &Line) -> bool
         ensures { result ≡ has_its_amount self.now line.now }
     {
         self.cleared_amount() == line.amount.get()
     }
 
-    // Is it a claim on the general fund that was settled?
+    // Whether it is a settled claim on the general fund.
     pub(crate) fn is_settled(&self) -> bool
         ensures { result ≡ is_settled self.now }
     {
@@ -200,7 +201,7 @@ impl Entry {
         }
     }
 
-    // Is its amount one, and a claim's part within it? The type says the first.
+    // Whether a claim's client part is at most its amount. The type already keeps the amount in range.
     fn is_ranged(&self) -> bool
         ensures { IsTrue result ↔ IsRanged self.now }
     {
@@ -221,7 +222,7 @@ impl Entry {
         }
     }
 
-    // Is what it names there, and of the kind that it wants?
+    // Whether every entry that it names exists and is of the required kind.
     #[tactic(auto, unfolding(crate::specs::Balances::names))]
     fn names(&self, entries: &[Entry]) -> bool
         ensures { result ≡ names entries.now self.now }
@@ -233,7 +234,7 @@ impl Entry {
         }
     }
 
-    // Is no day of it after this one?
+    // Whether none of its days is after `day`.
     #[tactic(auto, unfolding(crate::specs::Sound::days_of))]
     fn is_by(&self, day: Day) -> bool
         ensures { IsTrue result ↔ IsBy day self.now }
@@ -246,7 +247,7 @@ impl Entry {
         }
     }
 
-    // Is no day of it after the closing?
+    // Whether none of its days is after the matter was closed.
     fn is_by_close(&self, closed: Option<Day>) -> bool
         ensures { IsTrue result ↔ IsByIfClosed closed self.now }
     {
@@ -256,7 +257,7 @@ impl Entry {
         }
     }
 
-    // Did it change on no day before an earlier change?
+    // Whether its changes are in order of day.
     fn is_rising(&self) -> bool
         ensures { IsTrue result ↔ IsRising self.now }
     {
@@ -268,7 +269,7 @@ impl Entry {
         }
     }
 
-    // Is a payment from a claim booked on no day before the settling?
+    // Whether, if it is a payment from a claim, it is booked on or after the day the claim was settled.
     fn is_funded_in_time(&self, entries: &[Entry]) -> bool
         ensures { IsTrue result ↔ IsFundedInTime entries.now self.now }
     {
@@ -278,7 +279,7 @@ impl Entry {
         }
     }
 
-    // Is it an entry of a sound matter with this head, among these entries?
+    // Whether it is an entry of a sound matter with this head and these entries.
     pub(crate) fn is_sound(&self, head: &Head, entries: &[Entry]) -> bool
         ensures { IsTrue result ↔ IsSoundEntry head.now entries.now self.now }
     {

@@ -7,7 +7,7 @@ ghost use Rattle.matter_rows.specs.Rows.{seen_on, closed_head, cleared_head};
 use std::alloc::AllocError;
 use trust_base::{Day, Label};
 
-/// Whose a matter is: a client's, or nobody's since it was purged on a day.
+/// Who a matter belongs to: a client, or nobody since it was purged on a day.
 #[derive(Drop)]
 pub enum Holder {
     Client(Label),
@@ -15,7 +15,7 @@ pub enum Holder {
 }
 
 impl Holder {
-    /// The same, with a text of its own. An error means that a growth was refused; `self` stays as it is.
+    /// A deep copy. The only error is out of memory.
     pub fn copied(&self) -> Result<Holder, AllocError>
         ensures { IfOk result (λ h. h ≡ self.now) }
     {
@@ -26,8 +26,8 @@ impl Holder {
     }
 }
 
-/// What a matter was opened with, when it was closed, and the last day of an accepted change or of a
-/// line of the bank.
+/// The client and day that a matter was opened with, when it was closed, and the last day of an accepted change or a
+/// bank line.
 #[derive(Drop)]
 pub struct Head {
     pub holder: Holder,
@@ -37,7 +37,7 @@ pub struct Head {
 }
 
 impl Head {
-    /// The same head, with texts of its own. An error means that a growth was refused; `self` stays as it is.
+    /// A deep copy. The only error is out of memory.
     pub fn copied(&self) -> Result<Head, AllocError>
         ensures { IfOk result (λ h. h ≡ self.now) }
     {
@@ -51,7 +51,7 @@ impl Head {
     }
 }
 
-/// The same head again.
+/// A deep copy of the head, if there is one. The only error is out of memory.
 pub fn head_copied(head: Option<&Head>) -> Result<Option<Head>, AllocError>
     ensures { IfOk result (λ h. h ≡ option_copied head.entry) }
 {
@@ -61,7 +61,7 @@ pub fn head_copied(head: Option<&Head>) -> Result<Option<Head>, AllocError>
     }
 }
 
-/// A day on which the matter changed.
+/// Sets the last day: the matter changed on `day`.
 pub fn see_on(head: &mut Option<Head>, day: Day)
     ensures { head.new ≡ seen_on head.old day }
 {
@@ -71,7 +71,7 @@ pub fn see_on(head: &mut Option<Head>, day: Day)
     }
 }
 
-/// The day on which the matter was purged, in the place of its client, and its last day.
+/// Makes the head that of a purged matter: the day of the purge replaces the client. Sets the last day.
 pub fn clear_on(head: &mut Option<Head>, day: Day, last: Day)
     ensures { head.new ≡ cleared_head head.old day last }
 {
@@ -84,7 +84,7 @@ pub fn clear_on(head: &mut Option<Head>, day: Day, last: Day)
     }
 }
 
-/// The day on which the matter was closed, and its last day.
+/// Marks the matter as closed on `day`, and sets its last day.
 pub fn close_on(head: &mut Option<Head>, day: Day, last: Day)
     ensures { head.new ≡ closed_head head.old day last }
 {

@@ -1,6 +1,6 @@
-// Limits that code and definitions share.
+// Limits used by both code and specs.
 
 use trust_base::{MAX_AMOUNT, MAX_ENTRY};
 
-/// No total of a matter is more than all its entries of the greatest amount, in cents.
+/// The greatest total of a matter, in cents: the most entries, each with the greatest amount.
 pub const MAX_TOTAL: u64 = MAX_ENTRY as u64 * MAX_AMOUNT;

@@ -7,7 +7,7 @@ ghost use Rattle.matter_rows.specs.Events.{events_of, events_in, moved_beyond};
 use crate::entry::Entry;
 use trust_base::{Day, EntryNo};
 
-/// What an entry moves in the journal on a day, in cents: above zero received, below zero paid out.
+/// What an entry moves in the journal on a day, in cents: positive if received, negative if paid out.
 #[derive(Clone, Copy)]
 pub struct EntryMovement {
     pub entry: EntryNo,
@@ -21,7 +21,7 @@ pub(crate) fn movement(entry: EntryNo, day: Day, amount: i64) -> EntryMovement
     EntryMovement { entry, day, amount }
 }
 
-/// What an entry moves beyond the one in whose place it stands.
+/// The movement that `new` adds to those of `old`, the entry that it replaces.
 pub fn movement_beyond(number: EntryNo, old: Option<&Entry>, new: &Entry) -> Option<EntryMovement>
     ensures { result ≡ moved_beyond number (events_in (option_copied old.entry)) (events_of new.now) }
 {

@@ -1,4 +1,4 @@
-//! Payments: their states, what they draw and what they move.
+//! Payments: their states, what they draw, and what they move.
 
 ghost use Rattle.std.specs.Prelude.{◌≡◌, IfOk, ◌+◌, ◌-◌, ◌<◌, ◌≤◌, ◌≤ℤ◌, ◌-ℤ◌, ◌+ℤ◌, pos, true, ◌&&◌, ◌++◌, ◌↔◌, IsTrue};
 ghost use Rattle.std.specs.List.{AllByRecursion};
@@ -20,7 +20,7 @@ use crate::soundness::{entry_at, has_fee, is_up_to};
 use std::alloc::AllocError;
 use trust_base::{Cents, Day, EntryNo, Label, Line};
 
-/// Where a payment takes its money: what is available, a fee that was earned, or a claim that was settled.
+/// What a payment is paid from: the general fund, an earned fee, or a settled claim.
 #[derive(Clone, Copy)]
 pub enum Fund {
     General,
@@ -29,7 +29,7 @@ pub enum Fund {
 }
 
 impl Fund {
-    /// The number of the fee or claim that it is, if it is one.
+    /// The number of the fee or claim, if the fund is one.
     pub fn number(self) -> Option<EntryNo>
         ensures { number_or_none result ≡ fund_no self }
     {
@@ -39,7 +39,7 @@ impl Fund {
         }
     }
 
-    /// Is it the same fund?
+    /// Whether both are the same fund.
     pub fn is_same(self, other: Fund) -> bool
         ensures { result ≡ is_same_fund self other }
     {
@@ -56,7 +56,7 @@ impl Fund {
         }
     }
 
-    // Is the fund among the entries, and of its kind?
+    // Whether the fund is among the entries, and of its kind.
     pub(crate) fn is_in(self, entries: &[Entry]) -> bool
         ensures { result ≡ funds entries.now self }
     {
@@ -70,7 +70,7 @@ impl Fund {
         }
     }
 
-    // Was it settled by the day, if it is a claim that was?
+    // Whether the fund, if it is a settled claim, was settled on or before the day.
     pub(crate) fn is_ready_by(self, entries: &[Entry], day: Day) -> bool
         ensures { IsTrue result ↔ (funded_from entries.now self ≤ day) }
     {
@@ -84,21 +84,21 @@ impl Fund {
     }
 }
 
-/// A payment that the bank told of: the day of its issue and the line.
+/// A payment that the bank cleared: the day of its issue, and the bank line.
 #[derive(Drop)]
 pub struct ClearedPayment {
     pub issued: Day,
     pub clearing: Clearing,
 }
 
-/// A payment that was taken back: the day of its issue and that of the voiding.
+/// A payment that was taken back: the day of its issue, and the day of its voiding.
 #[derive(Clone, Copy)]
 pub struct VoidedPayment {
     pub issued: Day,
     pub undone: Day,
 }
 
-/// A payment is proposed, and then declined, or issued on a day and then cleared or voided.
+/// A payment is proposed, then either declined, or issued on a day and then cleared or voided.
 #[derive(Drop)]
 pub enum PaymentState {
     Proposed,
@@ -109,7 +109,7 @@ pub enum PaymentState {
 }
 
 impl PaymentState {
-    /// The same, with texts of its own. An error means that a growth was refused; `self` stays as it is.
+    /// A deep copy. The only error is out of memory.
     pub fn copied(&self) -> Result<PaymentState, AllocError>
         ensures { IfOk result (λ s. s ≡ self.now) }
     {
@@ -128,7 +128,7 @@ impl PaymentState {
         }
     }
 
-    /// Was the payment cleared with the line's date and the bank's reference?
+    /// Whether the payment was cleared with the line's date and bank reference.
     pub fn is_cleared_by(&self, line: &Line) -> bool
         ensures { result ≡ is_payment_cleared_by self.now line.now }
     {
@@ -141,8 +141,8 @@ impl PaymentState {
         }
     }
 
-    /// The state once the line has cleared an issued payment, which keeps the day of its issue; the same in
-    /// any other state.
+    /// The state after this line: an issued payment is cleared, and keeps the day of its issue. Any other state is
+    /// copied unchanged.
     pub fn cleared(&self, line: &Line) -> Result<PaymentState, AllocError>
         ensures { IfOk result (λ s. s ≡ cleared_payment line.now self.now) }
     {
@@ -200,7 +200,7 @@ pub struct Payment {
 }
 
 impl Payment {
-    /// The payment in another state. An error means that a growth was refused; `self` stays as it is.
+    /// The payment in another state, as a deep copy. The only error is out of memory.
     pub fn restated(&self, state: PaymentState) -> Result<Payment, AllocError>
         ensures { IfOk result (λ p. p ≡ record self.now { state = state }) }
     {
@@ -225,7 +225,7 @@ impl Payment {
         self.restated(state)
     }
 
-    // What the payment takes out of its fund, in cents: its amount while issued or cleared.
+    // What the payment takes out of its fund, in cents: its amount while issued or cleared, otherwise 0.
     pub(crate) fn paid(&self) -> i64
         ensures is { result ≡ paid self.now.state self.now.amount }
         ensures low { pos 0 ≤ℤ result }
@@ -269,7 +269,7 @@ impl Payment {
         }
     }
 
-    // Its event of this place, the first being 0.
+    // Event `place`, counted from 0, of the payment.
     #[tactic(auto, unfolding(crate::specs::Events::events_of))]
     pub(crate) fn event(&self, number: EntryNo, place: usize) -> Option<EntryMovement>
         ensures { result ≡ nth_moved number place (events_of (Entry.Payment self.now)) }

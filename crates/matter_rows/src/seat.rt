@@ -23,7 +23,7 @@ pub struct Seat {
 }
 
 impl Seat {
-    /// The same seat, with texts of its own. An error means that a growth was refused; `self` stays as it is.
+    /// A deep copy. The only error is out of memory.
     pub fn copied(&self) -> Result<Seat, AllocError>
         ensures { IfOk result (λ s. s ≡ self.now) }
     {
@@ -35,7 +35,7 @@ impl Seat {
     }
 }
 
-/// The role of a person, if there is a seat.
+/// The role of a person. None if the person has no seat.
 pub fn role_of(seats: &Vec<Seat>, person: &PersonId) -> Option<Role>
     ensures { result ≡ role_in seats.now.items person.now }
 {
@@ -52,7 +52,7 @@ fn is_lawyer(role: Role) -> bool
     }
 }
 
-/// Has another person a lawyer's seat?
+/// Whether someone other than this person has a lawyer's seat.
 pub fn has_other_lawyer(seats: &Vec<Seat>, person: &PersonId) -> bool
     ensures { result ≡ has_other_lawyer seats.now.items person.now }
 {
@@ -61,21 +61,21 @@ pub fn has_other_lawyer(seats: &Vec<Seat>, person: &PersonId) -> bool
         .any(|s| !s.person.is_same(person) && is_lawyer(s.role))
 }
 
-/// Does one person stand before another in the order of bytes?
+/// Whether one person sorts before another, byte by byte.
 pub fn comes_before(person: &PersonId, other: &PersonId) -> bool
     ensures { result ≡ comes_before person.now other.now }
 {
     person.is_before(other)
 }
 
-/// The place of the first person who comes after this one.
+/// The index of the first seat whose person sorts after this one.
 fn first_after(seats: &Vec<Seat>, person: &PersonId) -> Option<usize>
     ensures { result ≡ position (λ s. comes_before person.now s.person) seats.now.items }
 {
     seats.iter().position(|s| comes_before(person, &s.person))
 }
 
-/// Adds a seat in its place. Where memory is refused, the seats are unchanged.
+/// Inserts a seat in its place by person. If memory runs out, the seats are unchanged.
 pub fn add_seat(seats: &mut Vec<Seat>, new: Seat) -> Result<(), AllocError>
     ensures ok { OnOk result (AreInOrder seats.old.items → role_in seats.old.items new.person ≡ None
         → seats.new.items ≡ seats_with seats.old.items new) }
@@ -93,14 +93,14 @@ pub fn add_seat(seats: &mut Vec<Seat>, new: Seat) -> Result<(), AllocError>
     }
 }
 
-/// Takes out the seat of a person.
+/// Removes the seat of a person.
 pub fn drop_seat(seats: &mut Vec<Seat>, person: &PersonId)
     ensures { seats.new.items ≡ seats_without seats.old.items person.now }
 {
     seats.retain(|s| !s.person.is_same(person));
 }
 
-/// The same seats again.
+/// A deep copy of the seats. The only error is out of memory.
 pub fn seats_copied(alloc: Global, seats: &[Seat]) -> Result<Vec<Seat>, AllocError>
     ensures { IfOk result (λ r. r.items ≡ seats.now) }
 {

@@ -6,7 +6,7 @@ ghost use Rattle.matter_rows.specs.declared.limits.TheConstants.{MAX_TOTAL};
 
 use crate::as_total;
 
-/// What an entry adds to each total, in cents, and `pending`, 1 for a payment proposed or issued.
+/// What an entry adds to each balance, in cents, and to `pending`: 1 for a proposed or issued payment.
 #[derive(Clone, Copy)]
 pub struct Shares {
     pub held: i64,
@@ -17,7 +17,7 @@ pub struct Shares {
     pub pending: i64,
 }
 
-/// The shares of an entry that adds nothing: zero to each balance, in cents, and no pending payment.
+/// The shares of an entry that adds nothing: zero for each balance, in cents, and no pending payment.
 pub fn no_shares() -> Shares
     ensures is { result ≡ no_shares }
     ensures small { AreSmallShares result }
@@ -32,8 +32,7 @@ pub fn no_shares() -> Shares
     }
 }
 
-/// The total with one share exchanged for another, in cents; none where that is below zero or above the
-/// greatest one.
+/// The total, in cents, with the share `out` replaced by `share`. None if that is negative or above `MAX_TOTAL`.
 pub fn moved(total: u64, out: i64, share: i64) -> Option<u64>
     requires total { total ≤ MAX_TOTAL }
     requires out { IsSmallShare out }

@@ -1,4 +1,4 @@
-//! Whether rows are sound: tests of each entry, of the seats, and of the head.
+//! Whether rows are sound: checks of each entry, of the seats, and of the head.
 
 ghost use Rattle.std.specs.Prelude.{◌≡◌, ◌+◌, ◌≤◌, ◌<◌, ◌++◌, ◌↔◌, ◌&&◌, IsTrue, map};
 ghost use Rattle.std.specs.List.{AllByRecursion};
@@ -13,14 +13,14 @@ use crate::head::{Head, Holder};
 use crate::seat::{Seat, comes_before};
 use trust_base::{Day, EntryNo};
 
-// Is the first day no later than the second?
+// Whether the first day is not after the second.
 pub(crate) fn is_up_to(first: Day, second: Day) -> bool
     ensures { IsTrue result ↔ (first ≤ second) }
 {
     first.get() <= second.get()
 }
 
-// The entry of a number, if it is there.
+// The entry with this number. None if it does not exist.
 pub(crate) fn entry_at(entries: &[Entry], number: EntryNo) -> Option<&Entry>
     ensures { option_copied result ≡ entry_at entries.now number }
 {
@@ -32,7 +32,7 @@ pub(crate) fn entry_at(entries: &[Entry], number: EntryNo) -> Option<&Entry>
     }
 }
 
-// Is there an entry of this number that is a fee?
+// Whether the entry with this number exists and is a fee.
 pub(crate) fn has_fee(entries: &[Entry], number: EntryNo) -> bool
     ensures { result ≡ passes is_fee (entry_at entries.now number) }
 {
@@ -42,7 +42,7 @@ pub(crate) fn has_fee(entries: &[Entry], number: EntryNo) -> bool
     }
 }
 
-// Are all entries of a sound matter with this head?
+// Whether each entry is one of a sound matter with this head.
 fn are_sound(head: &Head, entries: &[Entry]) -> bool
     ensures { IsTrue result ↔ AllByRecursion (IsSoundEntry head.now entries.now) entries.now }
 {
@@ -54,7 +54,7 @@ fn are_sound(head: &Head, entries: &[Entry]) -> bool
     true
 }
 
-// Was no entry made on a day before the one in front of it, nor the first before this day?
+// Whether entries were made in order of day, the first not before `from`.
 fn are_rising(from: Day, entries: &[Entry]) -> bool
     ensures { IsTrue result ↔ AreRising from (map book_day entries.now) }
 {
@@ -69,7 +69,7 @@ fn are_rising(from: Day, entries: &[Entry]) -> bool
     true
 }
 
-/// Does each person stand before the next in the order of bytes?
+/// Whether the seats are sorted by person, byte by byte, without repeats.
 pub fn are_in_order(seats: &[Seat]) -> bool
     ensures { IsTrue result ↔ AreInOrder seats.now }
 {
@@ -83,7 +83,7 @@ pub fn are_in_order(seats: &[Seat]) -> bool
     true
 }
 
-// Was the matter closed, if it was, between its opening and the last day?
+// Whether the matter, if closed, was closed on or after its opening and by its last day.
 fn is_closed_within(head: &Head) -> bool
     ensures { IsTrue result ↔ IsClosedWithin head.now.opened head.now.last head.now.closed }
 {
@@ -93,7 +93,7 @@ fn is_closed_within(head: &Head) -> bool
     }
 }
 
-// Are the days of the head and all entries sound?
+// Whether the days of the head and all entries are sound.
 fn is_sound_head(head: &Head, entries: &[Entry]) -> bool
     ensures { IsTrue result ↔ IsSoundHead head.now entries.now }
 {
@@ -103,7 +103,8 @@ fn is_sound_head(head: &Head, entries: &[Entry]) -> bool
         && are_sound(head, entries)
 }
 
-// Is the matter not purged, or else a stub: closed, with the day of the purging as the last, and nothing else?
+// Whether the matter, if purged, is only a stub: closed, last changed on the day of the purge, and without seats or
+// entries.
 fn is_bare_if_purged(head: &Head, seats: &[Seat], entries: &[Entry]) -> bool
     ensures { IsTrue result ↔ IsBare head.now.holder head.now.closed head.now.last seats.now entries.now }
 {
@@ -118,8 +119,8 @@ fn is_bare_if_purged(head: &Head, seats: &[Seat], entries: &[Entry]) -> bool
     }
 }
 
-/// Are the head and all entries sound, each by itself and with those that it names? Without a head there is
-/// nothing else, nor is there of a purged matter.
+/// Whether the head and all entries are sound, each on its own and with those that it names. Without a head, or if the
+/// matter was purged, there must be no seats and no entries.
 pub fn are_in_form(head: &Option<Head>, seats: &[Seat], entries: &[Entry]) -> bool
     ensures { IsTrue result ↔ AreInForm head.now seats.now entries.now }
 {

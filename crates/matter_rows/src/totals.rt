@@ -1,4 +1,4 @@
-//! The shares of many entries, added up.
+//! The sum of the shares of many entries.
 
 ghost use Rattle.std.specs.Prelude.{◌≡◌, ◌≢◌, ℕ, ◌+◌, ◌<◌, ◌≤◌, ◌↔◌, pos, length, IfSome, IfNone};
 ghost use Rattle.matter_rows.specs.Shares.{draw_on, held_share, available_share, disputed_share, fee_share, claim_share, pending_share, IsSmallSum, AreSmallSums};
@@ -10,7 +10,7 @@ use crate::entry::Entry;
 use crate::shares::{Shares, no_shares};
 use trust_base::EntryNo;
 
-/// The shares of all entries, added up.
+/// The sum of the shares of all entries.
 pub fn sums_of(entries: &[Entry]) -> Shares
     requires { length entries.now ≤ MAX_ENTRY }
     ensures held { result.held ≡ total_of held_share entries.now }
@@ -34,7 +34,7 @@ pub fn sums_of(entries: &[Entry]) -> Shares
     sums
 }
 
-/// A sum as a total, where it is one.
+/// The sum as a total, in cents. None if it is negative or above `MAX_TOTAL`.
 pub fn as_total(sum: i64) -> Option<u64>
     ensures some { IfSome result (λ t. (t ≤ MAX_TOTAL) × (pos t ≡ sum)) }
     ensures none { IfNone result ((t : ℕ) → t ≤ MAX_TOTAL → pos t ≢ sum) }
@@ -46,7 +46,7 @@ pub fn as_total(sum: i64) -> Option<u64>
     }
 }
 
-/// What all entries draw on the one of a number.
+/// What all entries together draw on the entry with this number.
 pub fn drawn_on(entries: &[Entry], number: EntryNo) -> i64
     requires { length entries.now ≤ MAX_ENTRY }
     ensures is { result ≡ total_of (draw_on number) entries.now }

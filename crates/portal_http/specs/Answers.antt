@@ -8,7 +8,7 @@ use Rattle.trust_desk.specs.declared.requests.Reply.{Reply}
 use Rattle.trust_desk.specs.declared.requests.Body.{Body}
 use Rattle.trust_desk.specs.declared.requests.Body.TheVariants.{Json, Text, Refused}
 
--- the phrase of a status that replies have
+-- the reason phrase of a status that replies use
 abbrev pub phrase_of : ℕ → List ℕ
 phrase_of n =
     if n == 200 then codes "OK"
@@ -26,7 +26,7 @@ phrase_of n =
     else if n == 503 then codes "Service Unavailable"
     else []
 
--- the statuses that replies have
+-- the statuses that replies use
 abbrev pub statuses : List ℕ
 statuses = 200 ∷ 201 ∷ 400 ∷ 401 ∷ 403 ∷ 404 ∷ 405 ∷ 409 ∷ 410 ∷ 411 ∷ 413 ∷ 422 ∷ 503 ∷ []
 
@@ -52,7 +52,7 @@ line_end = 13 ∷ 10 ∷ []
 unfoldable pub status_line : ℕ → List ℕ
 status_line status = codes "HTTP/1.1 " ++ decimal status ++ 32 ∷ (phrase_of status ++ line_end)
 
--- a field and its value
+-- a field line
 unfoldable pub field_line : List ℕ → List ℕ → List ℕ
 field_line name value = name ++ 58 ∷ 32 ∷ (value ++ line_end)
 

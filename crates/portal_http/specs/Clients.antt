@@ -1,10 +1,10 @@
--- What comes of accepts, and what is known of ports.
+-- What an accept may return, and what is known of ports.
 use Rattle.std.specs.Prelude.{ℕ, List, Option}
 use Rattle.portal_http.specs.declared.listener.AcceptFault.{AcceptFault}
 use Rattle.portal_http.specs.declared.listener.AcceptFault.TheVariants as fault
 
--- what comes of an accept: a client, with the bytes that it sends, where they are known, and what it is sent by; one
--- that is gone, or whose connection could not be made; or the network refuses it
+-- what an accept returns: a client, with the bytes that it sends, if known, and its writer; a client that is gone or
+-- whose connection could not be made; or a refusal of the network
 pub data Comes (W : Type 0) : Type 0 where
   Client : (stream : Option (List ℕ)) (writer : W) → Comes W
   Gone : Comes W
@@ -14,8 +14,8 @@ abbrev pub comes_of : {W : Type 0} → AcceptFault → Comes W
 comes_of fault.Aborted = Gone
 comes_of fault.Network = Refused
 
--- of ports: what was written to a client, where that is known; what may come of each accept of a port, by how many come
--- before it; and when a port can't be had
+-- for ports: what was written to a client, if known; what each accept of a port may return, by how many come before
+-- it; and when a port is not available
 pub record Ports (W : Type 0) : Type 1 where
   pub contents : W → Option (List ℕ)
   pub comes : ℕ → ℕ → Comes W → Type 0

@@ -1,4 +1,4 @@
--- The lines that tell how streams ended.
+-- The lines that say how streams ended.
 use Rattle.std.specs.Prelude.{◌≡◌, ◌≤◌, ◌<◌, ℕ, List, [], ◌∷◌, ◌++◌, Option, codes, length, take}
 use Rattle.std.specs.List.{flat_map}
 use Rattle.std.specs.Io.KnownBytes.{Appends}
@@ -16,7 +16,7 @@ end_name stream.ReadFault = codes "ReadFault"
 end_name stream.WriteFault = codes "WriteFault"
 end_name stream.NoMemory = codes "NoMemory"
 
--- the line of an end: its name and the line's end
+-- the name of an end and a newline
 abbrev pub end_line : StreamEnd → List ℕ
 end_line end = end_name end ++ 10 ∷ []
 
@@ -24,14 +24,13 @@ end_line end = end_name end ++ 10 ∷ []
 abbrev pub end_lines : List StreamEnd → List ℕ
 end_lines ends = flat_map end_line ends
 
--- a front of a text was written
+-- only a prefix of the text was written
 pub record IsFrontWritten (text : List ℕ) (before after : Option (List ℕ)) : Type 0 where
   pub size : ℕ
   pub less : size < length text
   pub written : Appends before after (take size text)
 
--- how many clients were served, and what was told of their ends: a line each; where a line could not be written, a
--- front of the lines
+-- how many clients were served, and a line written for each; if a line could not be written, a prefix of the lines
 abbrev pub IsTold : ServeEnd → ℕ → List StreamEnd → Option (List ℕ) → Option (List ℕ) → Type 0
 IsTold serving.Done count ends before after = (length ends ≡ count) × Appends before after (end_lines ends)
 IsTold serving.NetworkFault count ends before after = (length ends < count) × Appends before after (end_lines ends)

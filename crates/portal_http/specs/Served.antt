@@ -1,4 +1,4 @@
--- What is served of a stream.
+-- What serving a stream does.
 use Rattle.std.specs.Prelude.{◌≡◌, ◌⊎◌, ◌≤◌, ◌<◌, ◌+◌, ℕ, true, List, [], ◌∷◌, ◌++◌, Option, Some, None, length, map, take, IfSome}
 use Rattle.std.specs.Io.KnownBytes.{Appends}
 use Rattle.trust_base.specs.declared.refusal.Refusal.{Refusal}
@@ -21,7 +21,7 @@ use Rattle.portal_http.specs.Answers.{replies_bytes, reply_bytes}
 use Rattle.portal_http.specs.declared.stream.StreamEnd.{StreamEnd}
 use Rattle.portal_http.specs.declared.stream.StreamEnd.TheVariants as ends
 
--- the bytes of a refusal that is answered to no message
+-- the bytes of a refusal that answers no message
 abbrev pub tail_bytes : Option Refusal → List ℕ
 tail_bytes None = []
 tail_bytes (Some r) = reply_bytes (refused r)
@@ -29,14 +29,15 @@ tail_bytes (Some r) = reply_bytes (refused r)
 abbrev pub whole_text : List Reply → Option Refusal → List ℕ
 whole_text replies tail = replies_bytes replies ++ tail_bytes tail
 
--- the bytes of the last answer of all
+-- the bytes of the last answer
 abbrev pub last_text : List Reply → Option Refusal → List ℕ
 last_text replies (Some r) = reply_bytes (refused r)
 last_text [] None = []
 last_text (reply ∷ []) None = reply_bytes reply
 last_text (reply ∷ next ∷ replies) None = last_text (next ∷ replies) None
 
--- the refusal that is answered behind the replies, by the end: of what is no message, or want of memory
+-- the refusal that is sent after the replies, by the end of the stream: for bytes that are no message, or out of
+-- memory
 abbrev pub IsTail : StreamEnd → Option Refusal → Type 0
 IsTail ends.Ended tail = tail ≡ None
 IsTail ends.BadFraming tail = (r : Refusal) × (is_framing r ≡ true) × (tail ≡ Some r)
@@ -49,12 +50,12 @@ IsTail ends.NoMemory tail = tail ≡ Some Memory
 abbrev pub AreFirst : List ℕ → List Message → Type 0
 AreFirst bytes ms = (rest : List ℕ) × BeginsWithAll bytes ms rest
 
--- the bytes begin with these messages, and a refusal behind them is that of what stands there, or of want of memory
+-- the bytes begin with these messages, and a refusal after them is for the bytes that follow, or for lack of memory
 abbrev pub AreBehind : List ℕ → List Message → Option Refusal → Type 0
 AreBehind bytes ms None = AreFirst bytes ms
 AreBehind bytes ms (Some r) = AreMessages bytes ms (messages.BadFraming r) ⊎ ((r ≡ Memory) × AreFirst bytes ms)
 
--- these are all the messages, where the stream was served to its end, and else the first ones
+-- these are all the messages if the stream was served to its end, otherwise the first ones
 abbrev pub IsRead : StreamEnd → List ℕ → List Message → Option Refusal → Type 0
 IsRead ends.Ended bytes ms tail = AreMessages bytes ms messages.Ended
 IsRead ends.BadFraming bytes ms tail = (r : Refusal) × AreMessages bytes ms (messages.BadFraming r) × (tail ≡ Some r)
@@ -63,14 +64,14 @@ IsRead ends.ReadFault bytes ms tail = AreFirst bytes ms
 IsRead ends.WriteFault bytes ms tail = AreBehind bytes ms tail
 IsRead ends.NoMemory bytes ms tail = AreFirst bytes ms
 
--- a front of a text was written, with all of it but a part of the last answer
+-- only a prefix of the text was written: everything but a part of the last answer
 pub record IsCut (text last : List ℕ) (before after : Option (List ℕ)) : Type 0 where
   pub size : ℕ
   pub less : size < length text
   pub whole : length text ≤ size + length last
   pub written : Appends before after (take size text)
 
--- all answers were written; where a write failed, all before the last one, and a front of that
+-- all answers were written; if a write failed, all before the last one, and a prefix of that
 abbrev pub IsWritten : StreamEnd → List Reply → Option Refusal → Option (List ℕ) → Option (List ℕ) → Type 0
 IsWritten ends.Ended replies tail before after = Appends before after (whole_text replies tail)
 IsWritten ends.BadFraming replies tail before after = Appends before after (whole_text replies tail)
@@ -80,7 +81,7 @@ IsWritten ends.WriteFault replies tail before after =
     IsCut (whole_text replies tail) (last_text replies tail) before after
 IsWritten ends.NoMemory replies tail before after = Appends before after (whole_text replies tail)
 
--- these replies are those of a run of the first messages, in which the firm is sound after each
+-- these replies are those of a run of the first messages, and the firm is sound after each
 pub record IsFrontRun (day : ℕ) (firm : Firm) (messages : List Message) (replies : List Reply) : Type 0 where
   pub front : List Message
   pub rest : List Message
@@ -88,19 +89,19 @@ pub record IsFrontRun (day : ℕ) (firm : Firm) (messages : List Message) (repli
   pub mid : Firm
   pub run : RunsSoundly day firm (map heard_of front) replies mid
 
--- Of a book only these are looked at: when its store is clean, is sure, and stands for a sound firm, when what a crash
--- leaves of it lasts, what that may be, the firm, and how often it failed.
+-- Only these are used of a book: whether its store is clean, whether it is sure, whether it stands for a sound firm,
+-- whether what a crash leaves of it lasts, what that may be, its firm, and how often it failed.
 module _ {B : Type 0} (clean sure stands lasts : B → Type 0) (leaves : B → Firm → Type 0) (firm : B → Firm)
     (refusals : B → ℕ) where
-  -- what a crash may leave after these messages: what it might have left before, or the rows after some front of them,
-  -- with a part of the next; where no reply is Store or Memory, a settled book is settled, and a store that served
-  -- serves still
+  -- what a crash may leave after these messages: what it might have left before, or the rows after some first
+  -- messages and a part of the next; if no reply is `Store` or `Memory`, a settled book is settled, and a store that
+  -- was clean is still clean
   abbrev pub MayLeaveServed : ℕ → B → List Message → List Reply → B → Type 0
   MayLeaveServed day old messages replies new =
       MayLeave clean leaves (AreNoFaults replies) (IsMadeInRun day (firm old) (map heard_of messages)) (firm old)
       (firm new) old new
 
-  -- a stream was served: its messages and their replies, in order, what was written, and what became of the book
+  -- a stream was served: its messages and their replies in order, what was written, and how the book changed
   pub record Served (day : ℕ) (stream before : Option (List ℕ)) (old : B) (end : StreamEnd) (after : Option (List ℕ))
       (new : B) : Type 0 where
     pub messages : List Message
@@ -112,22 +113,22 @@ module _ {B : Type 0} (clean sure stands lasts : B → Type 0) (leaves : B → F
     pub written : IsWritten end replies tail before after
     -- each reply is that of the firm's step, and the firm is sound after it
     pub run : clean new → stands old → RunsSoundly day (firm old) (map heard_of messages) replies (firm new)
-    -- each matter is answered by its own machine, which leaves it its rows
+    -- each matter is answered by its own machine, which also gives its rows
     pub own : clean new → stands old → (m : ℕ) → IsUnstopped m (map heard_of messages) replies
         → IsOwn m day (firm old) (map heard_of messages) replies (firm new)
-    -- no ledger is below zero, before, in and after each message and each item of an import
+    -- no ledger is below zero before, in and after each message and each item of an import
     pub covered : clean new → stands old
         → CoveredRun day (firm old) (map heard_of messages) replies (firm new)
     pub kept : KeepsBook clean sure stands lasts refusals (counted_replies replies) old new
-    -- where the store served as the stream began, and no reply but the last is Store or Memory
+    -- if the store was clean when the stream began, and no reply except the last is `Store` or `Memory`
     pub crash : sure new → clean old → stands old → AreNoFaultsButLast replies
         → MayLeaveServed day old messages replies new
-    -- the replies before the first that is are those of a run, also where a fault has shut the store since
+    -- the replies before the first `Store` or `Memory` are those of a run, even if a fault has closed the store since
     pub shut : sure new → clean old → stands old → IsFrontRun day (firm old) messages (before_fault replies)
-    -- where none is, the store serves still, so that all of this holds of it
+    -- without such a reply the store is still clean, so all of this holds
     pub serves : sure new → clean old → stands old → AreNoFaults replies → clean new
 
-  -- a stream is being served: so many messages were read and answered
+  -- a stream is being served: this many messages were read and answered
   pub record Serving (day : ℕ) (stream before : Option (List ℕ)) (old : B) (n : ℕ) (unread after : Option (List ℕ))
       (new : B) : Type 0 where
     pub messages : List Message

@@ -1,4 +1,4 @@
--- No matter is answered by another.
+-- The answers for a matter do not depend on other matters.
 use Rattle.std.specs.Prelude.{ℕ, ◌≡◌, List, map}
 use Rattle.matter_rows.specs.Rows.{Rows}
 use Rattle.firm_rows.specs.Firm.{Firm, of}
@@ -13,11 +13,11 @@ use Rattle.portal_messages.specs.Messages.{AreMessages, MessagesEnd}
 use Rattle.portal_requests.specs.Requests.{heard_of}
 use Rattle.portal_http.specs.Answers.{reply_bytes}
 
--- the bytes of each answer to the messages that name a matter, in order
+-- the bytes of each answer to a message that names a matter, in order
 abbrev pub answers_to : ℕ → List Message → List Reply → List (List ℕ)
 answers_to m messages replies = map reply_bytes (told m (map heard_of messages) replies)
 
--- what comes to a matter of a stream's messages on a day: those that name it, and of imports the lines that do
+-- what a stream's messages bring to a matter on a day: those that name it, and the lines of imports that do
 abbrev pub comes_to : ℕ → ℕ → List Message → List Own
 comes_to m day messages = project m day (map heard_of messages)
 
@@ -26,7 +26,7 @@ abbrev pub own_answers : ℕ → Rows → List Own → List (List ℕ)
 own_answers m rows owns = map reply_bytes (solo_replies m rows owns)
 
 -- a stream was served over a sound firm, with these messages and replies, and no message that concerns the matter was
--- stopped by the store or want of memory
+-- stopped by the store or by lack of memory
 pub record WasServed (m day : ℕ) (firm : Firm) (bytes : List ℕ) (messages : List Message) (end : MessagesEnd)
     (replies : List Reply) (new : Firm) : Type 0 where
   pub sound : FirmSound firm
@@ -37,19 +37,19 @@ pub record WasServed (m day : ℕ) (firm : Firm) (bytes : List ℕ) (messages : 
 -- the matter is answered alike in two streams, by its own machine, and no ledger falls below zero
 pub record IsAnsweredAlike (m d e : ℕ) (f g : Firm) (ps qs : List Message) (rs ss : List Reply) (f' g' : Firm)
     : Type 0 where
-  -- each message that names the matter is answered by the same bytes
+  -- each message that names the matter gets an answer with the same bytes
   pub answers : answers_to m ps rs ≡ answers_to m qs ss
-  -- which are those of the matter's own machine
+  -- those bytes are the answers of the matter's own machine
   pub own : answers_to m ps rs ≡ own_answers m (of m f) (comes_to m d ps)
-  -- the matter's rows end the same
+  -- the matter has the same rows at the end
   pub rows : of m f' ≡ of m g'
   pub own_rows : of m f' ≡ solo_rows (of m f) (comes_to m d ps)
-  -- no ledger of any matter is below zero, before, in and after each message and each item of an import
+  -- no ledger of any matter is below zero before, in and after each message and each item of an import
   pub covered : CoveredRun d f (map heard_of ps) rs f'
   pub also_covered : CoveredRun e g (map heard_of qs) ss g'
 
--- two streams that were served to their ends over two firms with the same rows of a matter, and in which the same comes
--- to it
+-- this holds of two streams that were served to their ends, over two firms with the same rows of a matter, if the
+-- same comes to that matter in both
 abbrev pub SameBytesForTheMatter : Type 0
 SameBytesForTheMatter =
     (m d e : ℕ) (f g f' g' : Firm) (xs ys : List ℕ) (ps qs : List Message) (x y : MessagesEnd) (rs ss : List Reply)

@@ -13,10 +13,10 @@ use std::io::Write;
 use trust_base::{WriteFault, send};
 use trust_desk::{Body, Reply};
 
-// The head of an answer, on the stack.
+// The head of an answer, kept on the stack.
 type HeadText = ArrayVec<u8, 160>;
 
-// The phrase of a status that replies have.
+// The reason phrase of a status that replies use.
 fn phrase(status: u16) -> &'static str
     ensures value { result.now ≡ phrase_of status }
     ensures bound { length result.now ≤ 20 }
@@ -90,7 +90,7 @@ fn push_number_field(text: &mut HeadText, name: &[u8], number: u64)
     push_piece(text, b"\r\n");
 }
 
-// The head of an answer with a body of this kind and size.
+// Builds the head of an answer with a body of this kind and size.
 #[tactic(auto, unfolding(crate::specs::Answers::head_text))]
 fn head(status: u16, kind: &str, size: usize) -> HeadText
     requires { length kind.now ≤ 25 }
@@ -104,7 +104,7 @@ fn head(status: u16, kind: &str, size: usize) -> HeadText
     text
 }
 
-// Writes two texts, one behind the other. At a fault a front of them was written.
+// Writes two texts, one after the other. After a fault only a prefix of them was written.
 fn send_both<W: Write>(writer: &mut W, first: &[u8], second: &[u8]) -> Result<(), WriteFault>
     ensures ok { OnOk result (Appends (W.contents writer.old) (W.contents writer.new) (first.now ++ second.now)) }
     ensures err { OnErr result ((n : ℕ) × (n < length (first.now ++ second.now))
@@ -116,7 +116,8 @@ fn send_both<W: Write>(writer: &mut W, first: &[u8], second: &[u8]) -> Result<()
     }
 }
 
-/// Writes the bytes of a reply, as `bytes_of` has them. At a fault a front of them was written. Takes no memory.
+/// Writes the bytes of a reply, as `bytes_of` returns them. After a fault only a prefix of them was written. Does not
+/// allocate.
 pub fn write_reply<W: Write>(reply: &Reply, writer: &mut W) -> Result<(), WriteFault>
     ensures ok { OnOk result (Appends (W.contents writer.old) (W.contents writer.new) (reply_bytes reply.now)) }
     ensures err { OnErr result ((n : ℕ) × (n < length (reply_bytes reply.now))
@@ -144,7 +145,7 @@ pub fn write_reply<W: Write>(reply: &Reply, writer: &mut W) -> Result<(), WriteF
     }
 }
 
-// Two texts, one behind the other. The error is want of memory.
+// Joins two texts. Fails if memory runs out.
 fn joined(alloc: Global, first: &[u8], second: &[u8]) -> Result<Vec<u8>, AllocError>
     ensures { IfOk result (λ bytes. bytes.items ≡ first.now ++ second.now) }
 {
@@ -153,8 +154,8 @@ fn joined(alloc: Global, first: &[u8], second: &[u8]) -> Result<Vec<u8>, AllocEr
     Ok(bytes)
 }
 
-/// The bytes of a reply: its status line, `content-type` and `content-length`, an empty line and its body (RFC 9112).
-/// The error is want of memory.
+/// Returns the bytes of a reply: its status line, `content-type` and `content-length`, an empty line and its body
+/// (RFC 9112). Fails if memory runs out.
 pub fn bytes_of(alloc: Global, reply: &Reply) -> Result<Vec<u8>, AllocError>
     ensures { IfOk result (λ bytes. bytes.items ≡ reply_bytes reply.now) }
 {

@@ -17,16 +17,16 @@ use trust_base::Day;
 use trust_desk::Desk;
 use trust_store::Book;
 
-// How many bytes that no message is read from are taken before a connection is closed.
+// How many unread bytes are read and dropped before a connection is closed.
 const MAX_DROPPED: usize = 4_194_304;
 
-// How many seconds these bytes may take in all.
+// How many seconds reading them may take in total.
 const CLOSING_SECONDS: u64 = 1;
 
 /// A connection whose stream was served.
 #[derive(Drop)]
 pub struct Answered<W: Drop> {
-    /// How the stream ended.
+    /// How its stream ended.
     pub end: StreamEnd,
     /// What the answers were written to.
     pub writer: W,
@@ -50,15 +50,15 @@ fn drop_rest<C: Clock, R: Read + OpenStream>(clock: &C, reader: &mut R) -> io::R
     Ok(())
 }
 
-// Closes a connection on which something was answered that may stand before bytes that were not read. A socket that is
-// closed with such bytes resets the connection, and the client could lose the answer: so they are read first.
+// Closes a connection on which an answer may stand before bytes that were not read. Closing a socket with unread
+// bytes resets the connection, and the client could lose the answer, so they are read first.
 fn close<C: Clock, R: Read + OpenStream, W: OpenStream>(clock: &C, reader: &mut R, writer: &W) {
     if writer.shutdown(Shutdown::Write).is_ok() {
         let _ = drop_rest(clock, reader);
     }
 }
 
-// Serves a stream at this pace, and gives back what was written to.
+// Serves a stream at this pace, and returns its writer.
 fn serve_paced<C: Clock + Drop, R: Read + OpenStream + Drop, W: Write + OpenStream + Drop, B: Book>(
     alloc: Global,
     pace: &Pace<C>,
@@ -78,12 +78,15 @@ fn serve_paced<C: Clock + Drop, R: Read + OpenStream + Drop, W: Write + OpenStre
     Answered { end, writer: half }
 }
 
-/// Serves the stream of one connection, and closes it. The client may be silent for 10 seconds between messages. The
-/// bytes of a message have 60 seconds from the first; the head of an answer has 60 to be taken, and its body 60 more. A
-/// client that takes longer ends the stream by `ReadFault` or `WriteFault`, and so does a clock that can't be read. The
-/// time in which the desk works counts for nothing. So a connection ends at last, since a stream has 1,000 messages.
-/// Where an answer ended the stream, the client still gets it: up to 4,194,304 bytes or one second of what it still
-/// sends are read and dropped before the close. The routes are made for it where none are given.
+/// Serves the stream of one connection, and closes it.
+///
+/// The client may be silent for 10 seconds between messages. The bytes of a message may take 60 seconds from the
+/// first; the client may take 60 seconds to accept the head of an answer, and 60 more for its body. A client that
+/// takes longer ends the stream with `ReadFault` or `WriteFault`, as does a clock that cannot be read. The time that
+/// the desk works is not counted. So every connection ends, since a stream has at most 1,000 messages.
+///
+/// If an answer ended the stream, the client still gets it: before the close, up to 4,194,304 bytes or one second of
+/// what it still sends are read and dropped. If no routes are given, they are made for this connection.
 pub fn serve_connection<
     C: Clock + Drop,
     R: Read + OpenStream + Drop,

@@ -1,11 +1,11 @@
-// The lines of streams' ends.
+// The lines that say how streams ended.
 
 ghost use Rattle.std.specs.Prelude.{◌≡◌};
 ghost use Rattle.portal_http.specs.EndLines.{end_line};
 
 use crate::stream::StreamEnd;
 
-/// The line that tells how a stream ended: its end's name.
+/// Returns the line for the end of a stream: the name of the end.
 pub fn line_of(end: StreamEnd) -> &'static [u8]
     ensures { result.now ≡ end_line end }
 {

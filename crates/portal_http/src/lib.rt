@@ -1,8 +1,8 @@
-//! Streams of messages in, answers out; and the parts of it: the messages of a stream, the request of a message, the
-//! bytes of a reply.
+//! Serves streams of messages: reads the messages of a stream, turns each into a request, and writes the bytes of its
+//! reply.
 //!
-//! Connections that are served one after the other. Where a client is silent for too long, or takes too long to send
-//! a message or to take an answer, its connection is closed, and the next client is served.
+//! Connections are served one after the other. If a client is silent for too long, or takes too long to send a
+//! message or to accept an answer, its connection is closed and the next client is served.
 #![tactic(auto)]
 
 mod answers;

@@ -11,17 +11,17 @@ use std::net::OpenStream;
 pub struct Connection<R: Drop, W: Drop> {
     /// What the client sends.
     pub reader: R,
-    /// What the client is sent.
+    /// What is sent to the client.
     pub writer: W,
 }
 
-/// Why no connection came of an accept.
+/// Why an accept returned no connection.
 #[derive(Clone, Copy, PartialEq, Eq, Debug)]
 pub enum AcceptFault {
-    /// The connection of one client could not be had: the client ended it before, or its halves could not be made.
-    /// Other clients may still be accepted.
+    /// The connection of one client could not be made: the client had closed it, or its halves could not be made.
+    /// Other clients can still be accepted.
     Aborted,
-    /// The network refused the accept, and no client is accepted any more.
+    /// The network refused the accept. No client is accepted any more.
     Network,
 }
 
@@ -30,13 +30,13 @@ pub trait ClientListener {
     ghost use Rattle.std.specs.Prelude.{ℕ};
     ghost use Rattle.portal_http.specs.Clients.{Comes};
 
-    /// The half of a connection that is read.
+    /// The reading half of a connection.
     type Reader: Read + OpenStream + Drop;
 
-    /// The half of a connection that is written.
+    /// The writing half of a connection.
     type Writer: Write + OpenStream + Drop;
 
-    /// What may come of an accept, by how many come before it.
+    /// What an accept may return, by how many come before it.
     ghost comes: { Self → ℕ → Comes Self.Writer → Type 0 };
 
     /// Waits for the next client.
@@ -47,7 +47,7 @@ pub trait ClientListener {
         ensures next { (k : ℕ) (c : Comes Self.Writer) → comes self.new k c → comes self.old (k + 1) c };
 }
 
-/// Where the ports are that a command line names.
+/// The ports that a command line can name.
 pub trait Network {
     ghost use Rattle.std.specs.Prelude.{ℕ};
     ghost use Rattle.portal_http.specs.Clients.{Comes};
@@ -55,13 +55,13 @@ pub trait Network {
     /// What clients of a port connect to.
     type Listener: ClientListener + Drop;
 
-    /// What may come of each accept of a port, by how many come before it.
+    /// What each accept of a port may return, by how many come before it.
     ghost comes: { Self → ℕ → ℕ → Comes Self.Listener.Writer → Type 0 };
 
-    /// The port can't be had.
+    /// The port is not available.
     ghost refuses: { Self → ℕ → Type 0 };
 
-    /// Listens for clients at a port of this machine alone; none where the port can't be had.
+    /// Listens for clients at a port, for this machine only. Returns `None` if the port is not available.
     fn listen(&self, port: u16) -> Option<Self::Listener>
         ensures some { IfSome result (λ listener. (k : ℕ) (c : Comes Self.Listener.Writer)
             → Self.Listener.comes listener k c → comes self.now port k c) }

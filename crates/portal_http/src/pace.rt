@@ -12,26 +12,26 @@ use std::time::{Duration, Instant};
 // How many seconds a client may be silent between messages.
 const SILENCE_SECONDS: u64 = 10;
 
-// How many seconds the bytes of a message may take, from the first that comes.
+// How many seconds the bytes of a message may take, from the first one.
 const MESSAGE_SECONDS: u64 = 60;
 
-// How many seconds each text of an answer, its head or its body, may take, from the first byte that is offered.
+// How many seconds the client may take for the head or the body of an answer, from the first byte offered.
 const TEXT_SECONDS: u64 = 60;
 
-// What a connection is at.
+// What a connection is doing.
 #[derive(Clone, Copy)]
 enum Phase {
-    // All that was to be written is, and no byte came since.
+    // Everything was written, and no byte has come since.
     Between,
-    // A byte came, just now.
+    // The first byte of a message was just read.
     Begun,
-    // The bytes of a message come, since this time.
+    // A message is being read, since this time.
     Message(Instant),
-    // The bytes of a text of an answer go, since this time.
+    // The head or body of an answer is being written, since this time.
     Text(Instant),
 }
 
-/// What is left of a span of time that began then; `TimedOut` where nothing is.
+/// Returns what is left of a time span that began at `since`; `TimedOut` if nothing is left.
 pub fn time_left(clock: &impl Clock, since: Instant, span: Duration) -> io::Result<Duration>
     ensures { IfOk result (λ left. as_nanos left ≤ as_nanos span) }
 {
@@ -42,11 +42,11 @@ pub fn time_left(clock: &impl Clock, since: Instant, span: Duration) -> io::Resu
     }
 }
 
-/// The pace of a connection, which its two halves share: what it is at, and since when.
+/// The pace of a connection, shared by its two halves: what it is doing, and since when.
 ///
-/// No one but the halves tells where a message or an answer ends. A read behind a write begins the silence between two
-/// messages, a write behind a read ends a message, and a write that was taken whole ends a text. So the time between
-/// two calls of the halves, in which the desk works, is nobody's.
+/// The halves alone decide where a message or an answer ends. A read after a write starts the silence between two
+/// messages, a write after a read ends a message, and a write that was accepted whole ends the head or the body of an
+/// answer. So the time between two calls of the halves, in which the desk works, is not counted.
 #[derive(Drop)]
 pub struct Pace<C> {
     clock: C,
@@ -54,7 +54,7 @@ pub struct Pace<C> {
 }
 
 impl<C: Clock> Pace<C> {
-    /// The pace of a connection that begins.
+    /// The pace of a new connection.
     pub fn new(clock: C) -> Pace<C> {
         Pace {
             clock,
@@ -62,8 +62,8 @@ impl<C: Clock> Pace<C> {
         }
     }
 
-    /// How long the next read may take; `TimedOut` where its message had its time. Fails also where the clock can't be
-    /// read, which is asked behind the first byte of a message.
+    /// Returns how long the next read may take; `TimedOut` if the time for its message is over. Also fails if the
+    /// clock, which is asked after the first byte of a message, cannot be read.
     pub fn time_to_read(&self) -> io::Result<Duration>
         ensures { IfOk result (λ left. as_nanos left ≤ MESSAGE_SECONDS * 1_000_000_000) }
     {
@@ -81,15 +81,15 @@ impl<C: Clock> Pace<C> {
         }
     }
 
-    /// Some bytes were read: those of a message come.
+    /// Records that bytes of a message were read.
     pub fn has_read(&self) {
         if let Phase::Between = self.phase.get() {
             self.phase.set(Phase::Begun);
         }
     }
 
-    /// How long the next write may take; `TimedOut` where its text had its time. Fails also where the clock can't be
-    /// read.
+    /// Returns how long the next write may take; `TimedOut` if the time for its text is over. Also fails if the clock
+    /// cannot be read.
     pub fn time_to_write(&self) -> io::Result<Duration>
         ensures { IfOk result (λ left. as_nanos left ≤ TEXT_SECONDS * 1_000_000_000) }
     {
@@ -103,7 +103,7 @@ impl<C: Clock> Pace<C> {
         }
     }
 
-    /// All that was offered to the last write was taken: a text of an answer is written.
+    /// Records that the last write accepted everything, so that a head or body is written.
     pub fn has_written(&self) {
         self.phase.set(Phase::Between);
     }

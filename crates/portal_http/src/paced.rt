@@ -1,4 +1,4 @@
-// The halves of a connection that keep a pace.
+// The halves of a connection, held to a pace.
 
 use crate::pace::Pace;
 use std::io;
@@ -6,7 +6,7 @@ use std::io::{Read, Write};
 use std::net::OpenStream;
 use std::rt::Clock;
 
-/// A half of a connection that is read, each time within what is left of the silence between messages or of the
+/// The reading half of a connection. Each read may take what is left of the silence between messages, or of the
 /// message's time.
 #[derive(Drop)]
 pub struct PacedReader<'p, 'h, C, R> {
@@ -28,8 +28,8 @@ impl<C: Clock, R: Read + OpenStream> Read for PacedReader<'_, '_, C, R> {
     }
 }
 
-/// A half of a connection that is written, each time within what is left of the time of the text that goes. What a
-/// write leaves of a text has to be offered to the next.
+/// The writing half of a connection. Each write may take what is left of the time for the text being written. What a
+/// write leaves of a text has to be offered to the next write.
 #[derive(Drop)]
 pub struct PacedWriter<'p, C, W> {
     /// The pace of the connection.

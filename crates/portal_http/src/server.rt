@@ -20,16 +20,16 @@ use trust_store::Book;
 /// How serving ended.
 #[derive(Clone, Copy, PartialEq, Eq, Debug)]
 pub enum ServeEnd {
-    /// As many clients were served as were asked for.
+    /// As many clients were served as requested.
     Done,
     /// The network refused an accept. The clients before it were served.
     NetworkFault,
-    /// A line could not be written, whose client was served.
+    /// A line could not be written. Its client was served.
     WriteFault,
 }
 
-// Serves the next client, and tells how its stream ended; none where the network refused the accept. A client that was
-// gone before it was accepted ended by `ReadFault`.
+// Serves the next client and returns how its stream ended; `None` if the network refused the accept. A client that
+// was gone before it was accepted ends with `ReadFault`.
 fn serve_next<C: Clock + Drop, L: ClientListener, B: Book>(
     alloc: Global,
     clock: &C,
@@ -51,9 +51,9 @@ fn serve_next<C: Clock + Drop, L: ClientListener, B: Book>(
     }
 }
 
-/// Serves so many clients, one after the other, each over the book that the one before it left, and writes a line for
-/// each: the name of its stream's end. A fault of one connection ends that connection alone. It ends early where the
-/// network refuses an accept, or where a line can't be written.
+/// Serves `count` clients one after the other, each over the book that the one before it left. Writes a line for
+/// each, the name of its stream's end. A fault of one connection ends only that connection. Stops early if the
+/// network refuses an accept, or if a line cannot be written.
 pub fn serve_connections<C: Clock + Drop, L: ClientListener, W: Write, B: Book>(
     alloc: Global,
     clock: &C,
@@ -65,10 +65,10 @@ pub fn serve_connections<C: Clock + Drop, L: ClientListener, W: Write, B: Book>(
 ) -> ServeEnd
     ensures served { ServedAll B.clean B.sure B.stands B.lasts B.leaves B.firm B.refusals L.Writer.contents day count
         (L.comes listener.old) (W.contents writer.old) desk.old result (W.contents writer.new) desk.new }
-    // The firm that is left is sound where it was, as it is after each message of each client.
+    // A firm that was sound is still sound, as it is after each message of each client.
     ensures kept { KeepsStanding B.clean B.sure B.stands B.lasts desk.old desk.new }
 {
-    // Made once for all clients; where memory is short now, each makes its own.
+    // Made once for all clients. If memory runs out here, each connection makes its own.
     let routes = Routes::new(alloc).ok();
     for _ in 0..count {
         let Some(end) = serve_next(alloc, clock, listener, desk, &routes, day) else {

@@ -1,4 +1,4 @@
-// Serving a stream.
+// Serves a stream.
 
 ghost use Rattle.std.specs.Prelude.{◌≡◌, false, ℕ};
 ghost use Rattle.trust_desk.specs.Calls.{KeepsBook};
@@ -24,21 +24,21 @@ const MAX_MESSAGES: usize = 1_000;
 /// How a stream ended.
 #[derive(Clone, Copy, PartialEq, Eq, Debug)]
 pub enum StreamEnd {
-    /// All messages were answered, and the stream ended behind them.
+    /// All messages were answered, and the stream ended after them.
     Ended,
-    /// Behind the messages that were answered stands something that is none; that was answered too.
+    /// The bytes after the last message were not a valid message; an error response was sent.
     BadFraming,
-    /// The 1,000th message was answered. What stands behind it was not looked at.
+    /// The 1,000th message was answered. The bytes after it were not looked at.
     Limit,
-    /// A read failed, an interrupted one too. All messages before it were answered.
+    /// A read failed or was interrupted. All messages before that were answered.
     ReadFault,
-    /// A write failed, an interrupted one too. The message that was being answered was carried out.
+    /// A write failed or was interrupted. The message that was being answered was carried out.
     WriteFault,
-    /// The routes or the next message could not be held; that was answered.
+    /// Out of memory for the routes or the next message; an error response was sent.
     NoMemory,
 }
 
-// The reply to a message.
+// Returns the reply to a message.
 fn answer_message<B: Book>(
     alloc: Global,
     desk: &mut Desk<B>,
@@ -50,8 +50,8 @@ fn answer_message<B: Book>(
         → Steps day (B.firm desk.old) (heard_of message.now) result (B.firm desk.new) }
     ensures kept { KeepsBook B.clean B.sure B.stands B.lasts B.refusals (counted_reply result) desk.old desk.new }
 
-    // A crash may leave what it might have left before, or the rows with the message's change; of an import the rows
-    // after some front of its items.
+    // A crash may leave what it might have left before, or the rows with the message's change; for an import, the
+    // rows after some first items of it.
     ensures crash { B.sure desk.new → B.clean desk.old → B.stands desk.old → MayLeave B.clean B.leaves
         (is_fault_reply result ≡ false) (IsMade day (B.firm desk.old) (heard_of message.now)) (B.firm desk.old)
         (firm_step day (B.firm desk.old) (heard_of message.now)).firm desk.old desk.new }
@@ -102,19 +102,19 @@ fn serve_routes<R: Read + Drop, W: Write, B: Book>(
     StreamEnd::Limit
 }
 
-/// Serves a stream: its messages are answered one by one, in order, on a business day, until it ends. One message is
-/// held at a time.
+/// Serves a stream to its end: answers its messages one by one, in order, on a business day. Holds one message at a
+/// time.
 ///
-/// What is written is the bytes of the replies to the messages that the stream's bytes have, and then of the refusal
-/// where something stands there that is no message, however the reads are cut. Where the book's store is clean as the
-/// call ends and stood for a sound firm as it began, replies and rows are those of the firm's steps, one message after
-/// another, the firm is sound after each, no ledger is ever below zero, and each matter is answered by its own machine.
+/// Writes the bytes of the replies to the stream's messages and then, if something follows that is not a message, of
+/// the refusal, however the stream is cut into reads. If the book's store is clean when the call ends and the book
+/// stood for a sound firm when it began, replies and rows are those of the firm's steps, one message after another.
+/// The firm is sound after each, no ledger is ever below zero, and each matter is answered by its own machine.
 ///
-/// A crash behind the call may leave what it might have left before, or the rows after some front of the messages, with
-/// a part of the next, where the store served as the call began and no reply but the last is Store or Memory. Where
-/// none is, a store that served serves still, and a settled book is settled.
+/// If the store was clean when the call began and no reply except the last is `Store` or `Memory`, a crash after the
+/// call may leave what it might have left before, or the rows after some first messages and a part of the next. If no
+/// reply is either, a store that was clean is still clean, and a settled book is settled.
 ///
-/// The messages of a reader, and their answers into a writer:
+/// To answer the messages of a reader into a writer:
 ///
 ///     let end = serve_stream(alloc, messages, &mut answers, &mut desk, today);    // StreamEnd::Ended
 pub fn serve_stream<R: Read + Drop, W: Write, B: Book>(
@@ -136,7 +136,7 @@ pub fn serve_stream<R: Read + Drop, W: Write, B: Book>(
     }
 }
 
-/// Serves a stream as `serve_stream` does, with these routes, or, where there are none, with its own.
+/// Serves a stream as `serve_stream` does, with these routes; if there are none, it makes its own.
 pub(crate) fn serve_stream_by<R: Read + Drop, W: Write, B: Book>(
     alloc: Global,
     reader: R,

@@ -6,14 +6,14 @@ use crate::listener::{AcceptFault, ClientListener, Connection, Network};
 use std::io::ErrorKind;
 use std::net::{Ipv4Addr, Net, OpenListener, OpenStream, TcpListener};
 
-/// The network of the system, of which nothing is known. Its ports are those of the loopback address.
+/// The network of the system, whose behaviour is not known. Its ports are those of the loopback address.
 #[derive(Drop)]
 pub struct SystemNetwork<'a, R> {
     /// The system.
     pub rt: &'a R,
 }
 
-/// A port of the system that listens.
+/// A listening port of the system.
 #[derive(Drop)]
 pub struct SystemListener<L> {
     listener: L,
@@ -47,11 +47,12 @@ where
     fn accept(&mut self) -> Result<Connection<L::Stream, L::Stream>, AcceptFault> {
         match self.listener.accept() {
             Ok((reader, _)) => {
-                // An answer is two writes, of which the second would wait for the client to acknowledge the first.
+                // An answer is two writes. Without this, the second would wait until the client acknowledges the
+                // first.
                 let _ = reader.set_nodelay(true);
                 match reader.try_clone() {
                     Ok(writer) => Ok(Connection { reader, writer }),
-                    // The connection is closed here, and the port still listens.
+                    // This closes the connection, but the port still listens.
                     Err(_) => Err(AcceptFault::Aborted),
                 }
             }

@@ -1,4 +1,5 @@
--- What the fields of a head say of the body behind it: its size by Content-Length alone (RFC 9112, 6.2 and 6.3).
+-- What the fields of a head say of the body after it: its size, given by Content-Length alone (RFC 9112, 6.2 and
+-- 6.3).
 use Rattle.std.specs.Prelude.{◌==◌, ◌&&◌, ◌||◌, ℕ, Bool, nat_le, nat_lt, List, [], ◌∷◌, length, map, codes}
 use Rattle.std.specs.Prelude.{Option, Some, None, Result, Ok, Err, if◌then◌else◌}
 use Rattle.std.specs.List.{list_all}
@@ -10,7 +11,7 @@ use Rattle.trust_base.specs.declared.refusal.Refusal.TheVariants.{BadMessage, Le
 use Rattle.httparse.specs.Grammar.{RequestHead}
 use Rattle.httparse.specs.Spans.{name_and_value}
 
--- the values of the fields of a name, in order; letters of ASCII count in either case
+-- the values of all fields of a name, in order; ASCII letters match in either case
 abbrev pub values_of : List ℕ → List (List ℕ × List ℕ) → List (List ℕ)
 values_of name [] = []
 values_of name (p ∷ pairs) = if str_eq_ignore_ascii_case name p.0
@@ -21,11 +22,11 @@ values_of name (p ∷ pairs) = if str_eq_ignore_ascii_case name p.0
 abbrev pub is_size : List ℕ → Bool
 is_size text = nat_lt 0 (length text) && (nat_le (length text) 10 && list_all is_ascii_digit text)
 
--- the number that a text of one to ten digits writes
+-- the number that one to ten digits write
 abbrev pub size_of_text : List ℕ → Option ℕ
 size_of_text text = if is_size text then Some (digits_value 10 text) else None
 
--- the size that the values of Content-Length give: with none there is no body, and with two of them no size
+-- the size that the values of Content-Length give: no value means no body, two or more mean no valid size
 abbrev pub size_of : List (List ℕ) → Option ℕ
 size_of [] = Some 0
 size_of (v ∷ []) = size_of_text v
@@ -36,13 +37,13 @@ abbrev pub path_of : List ℕ → List ℕ
 path_of [] = []
 path_of (b ∷ bs) = if b == 63 then [] else b ∷ path_of bs
 
--- a bank's statement is sent to this path, to be imported or to be matched
+-- whether a bank statement is sent to this path, to be imported or matched
 abbrev pub takes_statement : List ℕ → Bool
 takes_statement path =
     bytes_eq path (codes "/firm/statements")
     || (bytes_eq path (codes "/firm/statements/match") || bytes_eq path (codes "/firm/statements/unmatched"))
 
--- a bank's statement is sent in
+-- whether the request sends a bank statement
 abbrev pub is_statement : List ℕ → List ℕ → Bool
 is_statement method target = bytes_eq method (codes "POST") && takes_statement (path_of target)
 
@@ -50,7 +51,7 @@ is_statement method target = bytes_eq method (codes "POST") && takes_statement (
 abbrev pub body_limit : List ℕ → List ℕ → ℕ
 body_limit method target = if is_statement method target then 4194304 else 65536
 
--- the size of the body, or why it is not read: first for its lengths, then for its codings, then for its size
+-- the size of the body, or why it is not read: its lengths are judged first, then its codings, then its size
 abbrev pub judged : Option ℕ → List (List ℕ) → ℕ → Result ℕ Refusal
 judged None codings limit = Err BadMessage
 judged (Some n) (v ∷ vs) limit = Err LengthRequired
@@ -64,6 +65,6 @@ body_size method target pairs = judged (size_of (values_of (codes "content-lengt
 abbrev pub pairs_of : RequestHead → List (List ℕ × List ℕ)
 pairs_of head = map name_and_value head.fields
 
--- the size of the body behind a head
+-- the size of the body after a head
 abbrev pub size_behind : RequestHead → Result ℕ Refusal
 size_behind head = body_size head.method head.target (pairs_of head)

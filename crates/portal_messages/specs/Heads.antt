@@ -1,4 +1,4 @@
--- The heads that a stream of bytes has: a request line and field lines by the grammar of httparse (RFC 9112, 2.1 to 5).
+-- The heads in a stream of bytes: a request line and field lines by the grammar of httparse (RFC 9112, 2.1 to 5).
 use Rattle.std.specs.Prelude.{◌≡◌, ◌≤◌, ◌<◌, ◌==◌, ◌||◌, ◌&&◌, ℕ, Bool, true, false, nat_le, min, List, ◌++◌, length, drop, take}
 use Rattle.std.specs.List.{list_all}
 use Rattle.httparse.specs.Grammar.{ReadsRequest, RequestHead, print_request}
@@ -8,7 +8,7 @@ use Rattle.httparse.specs.declared.spans.RequestSpans.{RequestSpans}
 use Rattle.portal_messages.specs.declared.head.Found.{Found}
 use Rattle.portal_messages.specs.declared.head.Found.TheVariants.{Head, Blank, More, Bad}
 
--- the most bytes of a head, empty lines before it included
+-- the most bytes of a head, including empty lines before it
 abbrev pub HEAD_LIMIT : ℕ
 HEAD_LIMIT = 8192
 
@@ -16,13 +16,13 @@ HEAD_LIMIT = 8192
 abbrev pub FIELD_LIMIT : ℕ
 FIELD_LIMIT = 64
 
--- the bytes begin with this head, which keeps the limits, and the rest follows
+-- the bytes begin with this head, which keeps the limits, and this rest follows
 pub record BeginsWith (bytes : List ℕ) (head : RequestHead) (rest : List ℕ) : Type 0 where
   pub reads : ReadsRequest bytes head rest
   pub size : length (print_request head) ≤ HEAD_LIMIT
   pub fields : length head.fields ≤ FIELD_LIMIT
 
--- no head stands at the front
+-- the bytes do not begin with a head
 abbrev pub HasNoHead : List ℕ → Type 0
 HasNoHead bytes = (head : RequestHead) (rest : List ℕ) → ¬ (BeginsWith bytes head rest)
 
@@ -30,21 +30,21 @@ HasNoHead bytes = (head : RequestHead) (rest : List ℕ) → ¬ (BeginsWith byte
 abbrev pub is_line_byte : ℕ → Bool
 is_line_byte b = (b == 13) || (b == 10)
 
--- nothing more than a few empty lines, or parts of them
+-- nothing but bytes of empty lines, at most as many as a head may have
 abbrev pub is_ended : List ℕ → Bool
 is_ended bytes = nat_le (length bytes) HEAD_LIMIT && list_all is_line_byte bytes
 
--- the first bytes, as many as a head may have
+-- the first bytes, at most as many as a head may have
 abbrev pub front_of : List ℕ → List ℕ
 front_of bytes = take (min (length bytes) HEAD_LIMIT) bytes
 
--- the bytes begin with a head, whose parts are at these places of the first bytes
+-- the bytes begin with a head whose parts are at these positions
 pub record IsHeadAt (bytes : List ℕ) (spans : List HeaderSpan) (r : RequestSpans) (head : RequestHead) : Type 0 where
   pub begins : BeginsWith bytes head (drop r.len bytes)
   pub at : IsRequestAt (front_of bytes) spans r head
   pub within : IsRequestWithin (front_of bytes) spans r
 
--- what is found at the front of the bytes that came so far
+-- what is found at the start of the bytes read so far
 abbrev pub IsFound : List ℕ → List HeaderSpan → Found → Type 0
 IsFound bytes spans (Head r) = (is_ended bytes ≡ false) × (head : RequestHead) × IsHeadAt bytes spans r head
 IsFound bytes spans Blank = is_ended bytes ≡ true

@@ -11,14 +11,14 @@ use Rattle.portal_messages.specs.declared.input.Last.TheVariants as lasts
 
 -- what a contract sees of a stream that is being read
 pub record Reading : Type 0 where
-  -- the bytes that its reader has still to give, where it tells them
+  -- the bytes that its reader has still to give, if known
   pub coming : Option (List ℕ)
-  -- the bytes that no message has used, where its reader tells them
+  -- the bytes that no message has used, if known
   pub unread : Option (List ℕ)
-  -- the last answer, if that was no message
+  -- the last answer, unless that was a message
   pub last : Option (Result Next Stop)
 
--- what comes next in known bytes, and what is left then
+-- what comes next in known bytes, and what is then left
 abbrev pub IsNext : Option (List ℕ) → Option (List ℕ) → Next → Type 0
 IsNext None new next = ⊤
 IsNext (Some bytes) None (nexts.Message m) = ⊥
@@ -26,20 +26,20 @@ IsNext (Some bytes) (Some rest) (nexts.Message m) = IsMessage bytes m rest
 IsNext (Some bytes) new nexts.Ended = is_ended bytes ≡ true
 IsNext (Some bytes) new (nexts.Framing r) = IsFault bytes r
 
--- what is refused as no message is refused as such, also where the reader tells no bytes
+-- a framing refusal is one of the refusals for framing, even if the reader's bytes are not known
 abbrev pub IsFramed : Next → Type 0
 IsFramed (nexts.Message m) = ⊤
 IsFramed nexts.Ended = ⊤
 IsFramed (nexts.Framing r) = is_framing r ≡ true
 
--- the answer, if it comes again from then on: any but a message
+-- the answer, if it is given again from then on: any answer but a message
 abbrev pub stays : Result Next Stop → Option (Result Next Stop)
 stays (Ok (nexts.Message m)) = None
 stays (Ok nexts.Ended) = Some (Ok nexts.Ended)
 stays (Ok (nexts.Framing r)) = Some (Ok (nexts.Framing r))
 stays (Err stop) = Some (Err stop)
 
--- the answer that is kept
+-- the answer that was stored
 abbrev pub answer_of : Last → Result Next Stop
 answer_of lasts.Ended = Ok nexts.Ended
 answer_of (lasts.Framing r) = Ok (nexts.Framing r)

@@ -1,4 +1,4 @@
--- The messages that a stream of bytes has.
+-- The messages in a stream of bytes.
 use Rattle.std.specs.Prelude.{◌≡◌, ◌≤◌, ◌<◌, ◌⊎◌, ℕ, Bool, true, false, List, [], ◌∷◌, length, drop, take, codes, Ok, Err}
 use Rattle.trust_base.specs.declared.refusal.Refusal.{Refusal}
 use Rattle.trust_base.specs.declared.refusal.Refusal.TheVariants.{BadMessage, LengthRequired, TooLarge}
@@ -16,7 +16,7 @@ message_of head body = record {
   body = body;
 }
 
--- the bytes begin with this message, and the rest follows
+-- the bytes begin with this message, and this rest follows
 pub record IsMessage (bytes : List ℕ) (m : Message) (rest : List ℕ) : Type 0 where
   pub goes_on : is_ended bytes ≡ false
   pub head : RequestHead
@@ -28,21 +28,21 @@ pub record IsMessage (bytes : List ℕ) (m : Message) (rest : List ℕ) : Type 0
   pub message : m ≡ message_of head (take size after)
   pub follows : rest ≡ drop size after
 
--- the refusals of what is no message: of its form, of a body whose length is not told, of a body that is too large
+-- the refusals for framing: the form is bad, the length of the body is not given, or the body is too large
 abbrev pub is_framing : Refusal → Bool
 is_framing BadMessage = true
 is_framing LengthRequired = true
 is_framing TooLarge = true
 is_framing _ = false
 
--- a head stands at the front, and its fields refuse the body
+-- the bytes begin with a head whose fields refuse the body
 pub record RefusesBody (bytes : List ℕ) (r : Refusal) : Type 0 where
   pub head : RequestHead
   pub after : List ℕ
   pub begins : BeginsWith bytes head after
   pub refused : size_behind head ≡ Err r
 
--- a head stands at the front, and its body is cut
+-- the bytes begin with a head whose body is cut short
 pub record CutsBody (bytes : List ℕ) : Type 0 where
   pub head : RequestHead
   pub after : List ℕ
@@ -51,13 +51,14 @@ pub record CutsBody (bytes : List ℕ) : Type 0 where
   pub sized : size_behind head ≡ Ok size
   pub short : length after < size
 
--- neither a message comes nor a clean end, by this refusal: no head or a bad length, a coding, too large, a cut body
+-- neither a message nor a clean end follows, with the refusal for it: no head or a bad length, a coding, too large, a
+-- cut body
 pub record IsFault (bytes : List ℕ) (r : Refusal) : Type 0 where
   pub goes_on : is_ended bytes ≡ false
   pub why : HasNoHead bytes × (r ≡ BadMessage) ⊎ RefusesBody bytes r ⊎ CutsBody bytes × (r ≡ BadMessage)
 
--- how the messages of a stream end: cleanly, after as many as are answered, or where neither a message nor a clean end
--- comes
+-- how the messages of a stream end: cleanly, at the limit of answered messages, or before something that is neither a
+-- message nor a clean end
 pub data MessagesEnd : Type 0 where
   Ended : MessagesEnd
   Limit : MessagesEnd
@@ -72,7 +73,7 @@ abbrev pub BeginsWithAll : List ℕ → List Message → List ℕ → Type 0
 BeginsWithAll bytes [] rest = rest ≡ bytes
 BeginsWithAll bytes (m ∷ ms) rest = (mid : List ℕ) × IsMessage bytes m mid × BeginsWithAll mid ms rest
 
--- the end, after so many messages, where these bytes are left
+-- the end after this many messages, with these bytes left
 abbrev pub IsEndAfter : ℕ → List ℕ → MessagesEnd → Type 0
 IsEndAfter n rest Ended = (n < MESSAGE_LIMIT) × (is_ended rest ≡ true)
 IsEndAfter n rest Limit = n ≡ MESSAGE_LIMIT

@@ -1,4 +1,4 @@
--- A reader with the bytes that it gave and that no message has used.
+-- A reader, with the bytes that it gave and no message has used.
 use Rattle.std.specs.Prelude.{◌≡◌, ◌<◌, ◌⊎◌, ℕ, true, false, List, Option, length, IfSome}
 use Rattle.std.specs.Io.KnownBytes.{prepend_known}
 use Rattle.httparse.specs.declared.spans.HeaderSpan.{HeaderSpan}
@@ -9,23 +9,23 @@ use Rattle.portal_messages.specs.declared.source.Source.{Source}
 use Rattle.portal_messages.specs.declared.source.HeadNext.{HeadNext}
 use Rattle.portal_messages.specs.declared.source.HeadNext.TheVariants as heads
 
--- the bytes that no message has used, where those of the reader are known
+-- the bytes that no message has used, if those of the reader are known
 abbrev pub unread : {R : Type 0} → (R → Option (List ℕ)) → Source R → Option (List ℕ)
 unread rem s = prepend_known s.buffer.items (rem s.reader)
 
--- a read came to the end, or brought bytes
+-- a read reached the end, or brought bytes
 abbrev pub Grew : {R : Type 0} → Source R → Source R → Type 0
 Grew old new = (new.ended ≡ true) × (new.buffer ≡ old.buffer)
     ⊎ (new.ended ≡ false) × (length old.buffer.items < length new.buffer.items)
 
--- the head that comes next stands in the buffer; or the bytes that are left have none
+-- the next head is in the buffer, or the bytes that are left have none
 abbrev pub IsHeadNext : Option (List ℕ) → List ℕ → List HeaderSpan → HeadNext → Type 0
 IsHeadNext known buffer spans (heads.Head r) =
     (is_ended buffer ≡ false) × (head : RequestHead) × IsHeadAt buffer spans r head
 IsHeadNext known buffer spans heads.Ended = IfSome known (λ bytes. is_ended bytes ≡ true)
 IsHeadNext known buffer spans heads.Bad = IfSome known (λ bytes. (is_ended bytes ≡ false) × HasNoHead bytes)
 
--- a head stands in the buffer
+-- the buffer begins with a head
 abbrev pub HeadStands : {R : Type 0} → Source R → List HeaderSpan → RequestSpans → Type 0
 HeadStands source spans r =
     (is_ended source.buffer.items ≡ false) × (head : RequestHead) × IsHeadAt source.buffer.items spans r head

@@ -18,21 +18,21 @@ const MAX_BODY_BYTES: u64 = 65_536;
 
 const MAX_STATEMENT_BYTES: u64 = 4_194_304;
 
-/// Where the value of a field is, and the place behind that field.
+/// The position of a field's value, and the index of the next field.
 #[derive(Clone, Copy, PartialEq, Eq, Debug)]
 pub(crate) struct FieldAt {
     pub(crate) value: Span,
     pub(crate) next: usize,
 }
 
-// Names of fields count without the case of ASCII letters (RFC 9110, 5.1).
+// Field names match without regard to the case of ASCII letters (RFC 9110, 5.1).
 fn is_name(name: &[u8], other: &[u8]) -> bool
     ensures { result ≡ str_eq_ignore_ascii_case name.now other.now }
 {
     name.eq_ignore_ascii_case(other)
 }
 
-// The size that a text of one to ten digits writes.
+// Parses a size of one to ten digits.
 fn read_size(text: &[u8]) -> Option<u64>
     ensures { result ≡ size_of_text text.now }
 {
@@ -49,7 +49,7 @@ fn read_size(text: &[u8]) -> Option<u64>
     Some(value)
 }
 
-// The first field of a name, at a place or behind it.
+// Finds the first field of a name, from an index on.
 fn find_field(bytes: &[u8], fields: &[HeaderSpan], from: usize, name: &[u8]) -> Option<FieldAt>
     requires within { All (IsHeaderWithin (length bytes.now)) fields.now }
     requires from { from ≤ length fields.now }
@@ -68,7 +68,7 @@ fn find_field(bytes: &[u8], fields: &[HeaderSpan], from: usize, name: &[u8]) -> 
     None
 }
 
-// The size that `Content-Length` gives: none of them means no body, and two of them no size.
+// Returns the size that `Content-Length` gives: 0 without one, `None` if there are two or more.
 fn read_length(bytes: &[u8], fields: &[HeaderSpan]) -> Option<u64>
     requires { All (IsHeaderWithin (length bytes.now)) fields.now }
     ensures { result ≡ size_of (values_of (codes "content-length") (map (header_bytes bytes.now) fields.now)) }
@@ -82,7 +82,7 @@ fn read_length(bytes: &[u8], fields: &[HeaderSpan]) -> Option<u64>
     read_size(first.value.of(bytes))
 }
 
-/// The path of a request target: what stands before its first question mark.
+/// Returns the path of a request target: everything before its first question mark.
 pub fn path(target: &[u8]) -> &[u8]
     ensures { result.now ≡ path_of target.now }
 {
@@ -94,7 +94,7 @@ pub fn path(target: &[u8]) -> &[u8]
     target
 }
 
-// Whether a bank's statement is sent to this path.
+// Whether a bank statement is sent to this path.
 fn takes_statement(path: &[u8]) -> bool
     ensures { result ≡ takes_statement path.now }
 {
@@ -114,8 +114,8 @@ fn find_limit(method: &[u8], target: &[u8]) -> u64
     }
 }
 
-/// The size of the body behind a head, in bytes, or why it is not read: `BadMessage` where the head tells no size or
-/// more than one, `LengthRequired` where it names a coding, `TooLarge` where the size is above the limit.
+/// Returns the size of the body after a head, in bytes, or why it is not read: `BadMessage` if the head gives no
+/// valid size or more than one, `LengthRequired` if it names a coding, `TooLarge` if the size is above the limit.
 pub(crate) fn size_of_body(
     bytes: &[u8],
     spans: &[HeaderSpan],
@@ -140,7 +140,7 @@ pub(crate) fn size_of_body(
     Ok(size)
 }
 
-/// The values of the fields that name a caller, copied. The error is want of memory.
+/// Copies the values of the fields that name a caller. Fails if memory runs out.
 pub(crate) fn copied_callers(
     alloc: Global,
     bytes: &[u8],

@@ -1,4 +1,4 @@
-// The head at the front of some bytes.
+// The head at the start of some bytes.
 
 ghost use Rattle.std.specs.Prelude.{◌≡◌, length};
 ghost use Rattle.std.specs.List.{list_all};
@@ -13,14 +13,14 @@ const MAX_HEAD_BYTES: usize = 8_192;
 /// The most fields of a head.
 pub(crate) const MAX_FIELDS: usize = 64;
 
-/// What stands at the front of the bytes that came so far.
+/// What the bytes read so far begin with.
 #[derive(Clone, Copy, PartialEq, Eq, Debug)]
 pub(crate) enum Found {
-    /// A head, with the places of its parts.
+    /// A head, with the positions of its parts.
     Head(RequestSpans),
-    /// Nothing but bytes of empty lines.
+    /// Only bytes of empty lines.
     Blank,
-    /// Perhaps the beginning of a head.
+    /// Possibly the beginning of a head.
     More,
     /// No head, whatever follows.
     Bad,
@@ -32,14 +32,14 @@ fn is_all_blank(bytes: &[u8]) -> bool
     bytes.iter().all(|b| *b == b'\r' || *b == b'\n')
 }
 
-// Whether nothing stands there but a few bytes of empty lines.
+// Whether there are only bytes of empty lines, at most as many as a head may have.
 fn is_blank(bytes: &[u8]) -> bool
     ensures { result ≡ is_ended bytes.now }
 {
     bytes.len() <= MAX_HEAD_BYTES && is_all_blank(bytes)
 }
 
-/// The first bytes, as many as a head may have.
+/// Returns the first bytes, at most as many as a head may have.
 pub(crate) fn first_bytes(bytes: &[u8]) -> &[u8]
     ensures { result.now ≡ front_of bytes.now }
 {
@@ -47,7 +47,7 @@ pub(crate) fn first_bytes(bytes: &[u8]) -> &[u8]
     &bytes[..limit]
 }
 
-/// The head at the front of the bytes that came so far, with the places of its fields.
+/// Finds the head that the bytes read so far begin with, and the positions of its fields.
 pub(crate) fn find_head(bytes: &[u8], spans: &mut [HeaderSpan; MAX_FIELDS]) -> Found
     requires { length spans.old ≡ 64 }
     ensures { IsFound bytes.now spans.new result }

@@ -18,20 +18,20 @@ pub enum Next {
     Message(Message),
     /// A clean end: at most 8,192 bytes are left, and all of them are of empty lines.
     Ended,
-    /// Neither of these, by this refusal: `BadMessage`, `LengthRequired` or `TooLarge`.
+    /// Neither of these, refused with `BadMessage`, `LengthRequired` or `TooLarge`.
     Framing(Refusal),
 }
 
-/// Why nothing could be said of what comes next.
+/// Why it is not known what comes next.
 #[derive(Clone, Copy, PartialEq, Eq, Debug)]
 pub enum Stop {
-    /// A read failed, an interrupted one too.
+    /// A read failed or was interrupted.
     Reader,
-    /// A growth was refused.
+    /// Out of memory.
     Memory,
 }
 
-// What was answered last, if it was no message.
+// The last answer, unless it was a message.
 #[derive(Clone, Copy, PartialEq, Eq, Debug)]
 pub(crate) enum Last {
     Ended,
@@ -39,10 +39,10 @@ pub(crate) enum Last {
     Stopped(Stop),
 }
 
-/// A stream that is being read: its reader, and the bytes that came and that no message has used.
+/// A stream that is being read: its reader, and the bytes that were read and no message has used.
 ///
-/// Contracts see the bytes that its reader has still to give and those that no message has used, where the reader tells
-/// them, and the last answer if that was no message.
+/// Contracts see the bytes that its reader has still to give and those that no message has used, if the reader's
+/// bytes are known, and the last answer unless that was a message.
 #[derive(Drop)]
 pub struct Input<R: Read> {
     source: Source<R>,
@@ -63,7 +63,7 @@ impl<R: Read> Model for Input<R> {
 }
 
 impl<R: Read> Input<R> {
-    /// A stream of which nothing was read. Takes no memory.
+    /// A stream from which nothing was read yet. Does not allocate.
     pub fn new(alloc: Global, reader: R) -> Input<R>
         ensures coming { result.coming ≡ R.remaining reader }
         ensures unread { Keeps (R.remaining reader) result.unread }
@@ -89,7 +89,7 @@ impl From<AllocError> for Stop {
 impl Last {
     ghost use Rattle.portal_messages.specs.Inputs.{answer_of, last_answer};
 
-    // The answer again.
+    // Returns the answer again.
     fn answer(self) -> Result<Next, Stop>
         ensures { result ≡ answer_of self }
     {
@@ -100,7 +100,7 @@ impl Last {
         }
     }
 
-    // What is kept of an answer.
+    // Returns what to store of an answer.
     fn of(answer: &Result<Next, Stop>) -> Option<Last>
         ensures { last_answer result ≡ stays answer.now }
     {
@@ -113,13 +113,13 @@ impl Last {
     }
 }
 
-/// What comes next in a stream, read as far as a byte is needed that has not come. After any answer but a message the
-/// same answer comes from then on, and nothing is read.
+/// Reads what comes next in a stream, and no further than it must. After any answer but a message, it reads nothing
+/// more and always returns the same answer.
 ///
-/// `Reader` comes where a read failed, and `Memory` where a growth was refused; the bytes then read count for nothing.
-/// A body has up to 65,536 bytes, or 4,194,304 for `POST /firm/statements`, `/match` and `/unmatched` below it. It is
-/// held once: the message keeps the memory that its bytes were read into, whose room is taken as soon as the head tells
-/// their number.
+/// Returns `Reader` if a read fails, and `Memory` if memory runs out; the bytes read by then are not used. A body has
+/// up to 65,536 bytes, or 4,194,304 for `POST /firm/statements`, `/firm/statements/match` and
+/// `/firm/statements/unmatched`. It is held once: the message keeps the memory that its bytes were read into,
+/// allocated as soon as the head gives its size.
 pub fn read_message<R: Read>(input: &mut Input<R>) -> Result<Next, Stop>
     ensures next { input.old.last ≡ None → IfOk result (IsNext input.old.unread input.new.unread) }
     ensures framing { input.old.last ≡ None → IfOk result IsFramed }

@@ -1,8 +1,8 @@
-//! Laws of the messages, each the contract of a function with nothing to do.
+//! Laws of the messages. Each is the contract of a function that does nothing.
 
 ghost use Rattle.portal_messages.specs.Messages.{OneReading};
 
-/// A stream of bytes has one list of messages, and one end.
+/// A stream of bytes has exactly one list of messages and one end.
 pub fn one_reading()
     ensures { OneReading }
 {}

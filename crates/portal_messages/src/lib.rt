@@ -1,5 +1,5 @@
-//! The messages of a stream of bytes: HTTP/1.1 requests (RFC 9112) with heads as `httparse` reads them, one at a time,
-//! however the reads are cut.
+//! Reads the messages of a stream of bytes: HTTP/1.1 requests (RFC 9112), with heads as `httparse` reads them, one at
+//! a time, however the stream is cut into reads.
 #![tactic(auto)]
 
 mod fields;

@@ -3,10 +3,10 @@
 use crate::text::Texts;
 use trust_base::OwnedBytes;
 
-/// A request message of HTTP/1.1 as far as it counts (RFC 9112): all other fields of its head are passed over.
+/// The parts of an HTTP/1.1 request that matter here (RFC 9112). All other fields of its head are ignored.
 #[derive(Debug, Drop)]
 pub struct Message {
-    /// The method, in the case in which it came.
+    /// The method, in the case in which it was sent.
     pub method: OwnedBytes,
     /// The request target, with its query.
     pub target: OwnedBytes,

@@ -1,4 +1,4 @@
-// A reader with the bytes that it gave and that no message has used.
+// A reader, with the bytes that it gave and no message has used.
 
 ghost use Rattle.std.specs.Prelude.{◌≡◌, ◌≤◌, ◌<◌, OnOk, IfOk, true, length, drop, slice_range, MatchBool};
 ghost use Rattle.std.specs.Io.KnownBytes.{IsAtEnd, Keeps};
@@ -19,7 +19,7 @@ use trust_base::{OwnedBytes, Refusal};
 // The most bytes of one read.
 const MAX_PART_BYTES: usize = 1_024;
 
-// The head that comes next, with the places of its parts, or none.
+// The next head, with the positions of its parts, or why there is none.
 #[derive(Clone, Copy, PartialEq, Eq, Debug)]
 pub(crate) enum HeadNext {
     Head(RequestSpans),
@@ -27,16 +27,16 @@ pub(crate) enum HeadNext {
     Bad,
 }
 
-/// A reader with the bytes that it gave and that no message has used.
+/// A reader, with the bytes that it gave and no message has used.
 #[derive(Drop)]
 pub(crate) struct Source<R> {
     pub(crate) reader: R,
     pub(crate) buffer: Vec<u8>,
-    // Whether the last read came to the end.
+    // Whether the last read reached the end.
     pub(crate) ended: bool,
 }
 
-// Takes the first bytes away.
+// Removes the first `n` bytes.
 fn drop_front(buffer: &mut Vec<u8>, n: usize)
     requires { n ≤ length buffer.old.items }
     ensures { buffer.new.items ≡ drop n buffer.old.items }
@@ -46,7 +46,7 @@ fn drop_front(buffer: &mut Vec<u8>, n: usize)
     buffer.truncate(left);
 }
 
-// Gives room for so many bytes and for what the last read may bring behind them, so that reading them moves nothing.
+// Makes room for `size` bytes and for what the last read may add after them, so that reading never moves bytes.
 fn make_room(buffer: &mut Vec<u8>, size: usize) -> Result<(), AllocError>
     requires { size ≤ 100000000 }
     ensures { buffer.new.items ≡ buffer.old.items }
@@ -54,8 +54,8 @@ fn make_room(buffer: &mut Vec<u8>, size: usize) -> Result<(), AllocError>
     buffer.reserve_exact((size + MAX_PART_BYTES).saturating_sub(buffer.len()))
 }
 
-// Takes the bytes before an end away, and gives those of them from a place on. They stay in their own memory: what is
-// copied is the bytes behind the end. The error is want of memory.
+// Removes the bytes before `end` and returns those from `from` on. They stay in their own memory; only the bytes
+// after `end` are copied. Fails if memory runs out.
 fn take_body(buffer: &mut Vec<u8>, from: usize, end: usize) -> Result<Vec<u8>, AllocError>
     requires ordered { from ≤ end }
     requires within { end ≤ length buffer.old.items }
@@ -73,7 +73,7 @@ fn take_body(buffer: &mut Vec<u8>, from: usize, end: usize) -> Result<Vec<u8>, A
 impl<R: Read> Source<R> {
     ghost use Rattle.portal_messages.specs.Sources.{Grew, HeadStands, IsHeadNext};
 
-    /// A reader that gave nothing yet. Takes no memory.
+    /// A reader from which nothing was read yet. Does not allocate.
     pub(crate) fn new(alloc: Global, reader: R) -> Source<R>
         ensures reader { result.reader ≡ reader }
         ensures unread { Keeps (R.remaining reader) (unread R.remaining result) }
@@ -108,13 +108,13 @@ impl<R: Read> Source<R> {
         }
     }
 
-    // The next head, read as far as a byte is needed that has not come.
+    // Finds the next head, reading no further than it must.
     fn next_head(&mut self, spans: &mut [HeaderSpan; MAX_FIELDS]) -> Result<HeadNext, Stop>
         requires { length spans.old ≡ 64 }
         ensures unread { OnOk result (Keeps (unread R.remaining self.old) (unread R.remaining self.new)) }
         ensures next { IfOk result (IsHeadNext (unread R.remaining self.old) self.new.buffer.items spans.new) }
     {
-        // Each turn but the last brings a byte, and 8,193 bytes settle it.
+        // Each turn but the last adds a byte, and 8,193 bytes are always enough to decide.
         for _ in 0..8_194usize {
             let at_end = match find_head(self.buffer.as_slice(), spans) {
                 Found::Head(head) => return Ok(HeadNext::Head(head)),
@@ -130,7 +130,7 @@ impl<R: Read> Source<R> {
         unreachable!()
     }
 
-    // Reads until so many bytes are there, or the end. They are held in one block, whose room is taken at once.
+    // Reads until the buffer has `size` bytes, or to the end. The room for them is allocated at once, as one block.
     fn fill_to(&mut self, size: usize) -> Result<bool, Stop>
         requires { size ≤ 100000000 }
         ensures unread { OnOk result (Keeps (unread R.remaining self.old) (unread R.remaining self.new)) }
@@ -150,7 +150,7 @@ impl<R: Read> Source<R> {
         unreachable!()
     }
 
-    // The next message, where its head stands in the buffer. The parts of the head are copied before the body is read.
+    // Reads the next message, whose head is in the buffer. The parts of the head are copied before the body is read.
     fn read_body(
         &mut self,
         spans: &[HeaderSpan; MAX_FIELDS],
@@ -182,7 +182,7 @@ impl<R: Read> Source<R> {
         }))
     }
 
-    /// What comes next, read as far as a byte is needed that has not come.
+    /// Reads what comes next, and no further than it must.
     pub(crate) fn read_next(&mut self) -> Result<Next, Stop>
         ensures next { IfOk result (IsNext (unread R.remaining self.old) (unread R.remaining self.new)) }
         ensures framing { IfOk result IsFramed }

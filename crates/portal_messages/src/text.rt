@@ -6,14 +6,14 @@ use std::alloc::{AllocError, Global};
 use std::marker::Model;
 use trust_base::OwnedBytes;
 
-/// A copy of some bytes. The error is want of memory.
+/// Copies some bytes. Fails if memory runs out.
 pub(crate) fn copied(alloc: Global, bytes: &[u8]) -> Result<OwnedBytes, AllocError>
     ensures { IfOk result (λ t. t ≡ bytes.now) }
 {
     Ok(OwnedBytes::new(Vec::from_slice(alloc, bytes)?))
 }
 
-/// Some texts of a message, in order. Contracts see it as the list of these.
+/// Texts of a message, in order. Contracts see the list of them.
 #[derive(Debug, Drop)]
 pub struct Texts {
     texts: Vec<OwnedBytes>,
@@ -26,7 +26,7 @@ impl Model for Texts {
 }
 
 impl Texts {
-    /// No texts. Takes no memory.
+    /// An empty list of texts. Does not allocate.
     pub fn new(alloc: Global) -> Texts
         ensures { result ≡ [] }
     {
@@ -35,7 +35,7 @@ impl Texts {
         }
     }
 
-    /// Appends a text. The error is want of memory, and the texts are then as before.
+    /// Appends a text. Fails if memory runs out, with the texts unchanged.
     pub fn push(&mut self, text: OwnedBytes) -> Result<(), AllocError>
         ensures ok { OnOk result (self.new ≡ self.old ++ text ∷ []) }
         ensures err { OnErr result (self.new ≡ self.old) }

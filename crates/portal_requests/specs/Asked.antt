@@ -1,4 +1,4 @@
--- What a place asks, with the fields of a body. The bodies of what only reads are passed over.
+-- What a place asks, with the fields of a body. The body of a request that only reads is ignored.
 use Rattle.std.specs.Prelude.{ℕ, List, [], ◌∷◌, codes, Result, Ok}
 use Rattle.trust_base.specs.Names.{label_of, person_of}
 use Rattle.trust_base.specs.Texts.{amount_of, amount_or_zero_of}
@@ -65,7 +65,7 @@ claiming_in number body = with_body claim_keys body
     (against_in (text_at (codes "on") d) (optional_text_at (codes "of") d) (optional_text_at (codes "claimant") d))
     (label_of (text_at (codes "reason") d)))
 
--- the client's part of a claim is offered, accepted or awarded
+-- offers, accepts or awards the client's part of a claim
 abbrev pub splitting_in : (SplitAsk → Ask) → ℕ → List ℕ → Result Ask Field
 splitting_in way number body = with_body (codes "to_client" ∷ []) body
     (λ d. splitting way number (amount_or_zero_of (text_at (codes "to_client") d)))
@@ -84,6 +84,6 @@ numbered_ask entry.Offer number body = splitting_in ask.Offer number body
 numbered_ask entry.Accept number body = splitting_in ask.Accept number body
 numbered_ask entry.Award number body = splitting_in ask.Award number body
 
--- the entry comes first, then the body and its fields
+-- the entry is judged first, then the body and its fields
 abbrev pub entry_ask : EntryPlace → List ℕ → List ℕ → Result Ask Field
 entry_ask place number body = of_entry number (λ n. numbered_ask place n body)

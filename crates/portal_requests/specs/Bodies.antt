@@ -1,4 +1,4 @@
--- The object that the body of a message is, and the texts of its fields.
+-- The object in the body of a message, and the texts of its fields.
 use Rattle.std.specs.Prelude.{ℕ, Bool, true, false, ◌&&◌, List, [], ◌∷◌, codes, map, Option, Some, None, unwrap_or}
 use Rattle.std.specs.Prelude.{Result, Err, option_and_then, if◌then◌else◌}
 use Rattle.std.specs.Borrow.{Bor}
@@ -10,11 +10,11 @@ use Rattle.serde_json.specs.Find.{as_str, get}
 use Rattle.trust_base.specs.declared.refusal.Field.{Field}
 use Rattle.trust_base.specs.declared.refusal.Field.TheVariants as field
 
--- the bytes of texts
+-- the bytes of some texts
 abbrev pub texts : List (Bor (List ℕ)) → List (List ℕ)
 texts = map (λ t. t.now)
 
--- a key is one of these
+-- whether the key is one of these
 abbrev pub is_key : List (List ℕ) → List ℕ → Bool
 is_key keys key = list_any (bytes_eq key) keys
 
@@ -30,22 +30,22 @@ is_object keys (string s) = false
 is_object keys (array ds) = false
 is_object keys (object ms) = has_keys keys ms
 
--- an object with no other keys
+-- an object, if it has no other keys
 abbrev pub object_with : List (List ℕ) → Data → Option Data
 object_with keys d = if is_object keys d then Some d else None
 
--- an empty body is an object without keys
+-- an empty body counts as an object without keys
 abbrev pub text_in : List ℕ → List ℕ
 text_in [] = codes "{}"
 text_in (b ∷ bs) = b ∷ bs
 
--- the object that a body is, with these keys or some of them
+-- the object in a body, if all its keys are among these
 abbrev pub body_in : List (List ℕ) → List ℕ → Option Data
 body_in keys body = if is_utf8 (text_in body)
     then option_and_then (object_with keys) (read_text (text_in body))
     else None
 
--- what is asked with the fields of an object, where the body is one with these keys or some of them
+-- what is asked with the fields of an object, or a refusal of the body without one
 abbrev pub on_body : {T : Type 0} → Option Data → (Data → Result T Field) → Result T Field
 on_body None asked = Err field.Body
 on_body (Some d) asked = asked d
@@ -53,11 +53,11 @@ on_body (Some d) asked = asked d
 abbrev pub with_body : {T : Type 0} → List (List ℕ) → List ℕ → (Data → Result T Field) → Result T Field
 with_body keys body asked = on_body (body_in keys body) asked
 
--- the text under a key; a missing one, and what is no text, is the empty text, which is of no field's form
+-- the text under a key; empty if the key is missing or has no text, which no field accepts
 abbrev pub text_at : List ℕ → Data → List ℕ
 text_at key d = unwrap_or (option_and_then as_str (get key d)) []
 
--- a value that may be null, which is then none
+-- a value that may be null; null gives `None`
 abbrev pub unless_null : Data → Option (List ℕ)
 unless_null null = None
 unless_null (boolean b) = Some []
@@ -66,6 +66,6 @@ unless_null (string s) = Some s
 unless_null (array ds) = Some []
 unless_null (object ms) = Some []
 
--- the text under a key that may be missing or null, which is then none
+-- the text under a key that may be missing or null; both give `None`
 abbrev pub optional_text_at : List ℕ → Data → Option (List ℕ)
 optional_text_at key d = option_and_then unless_null (get key d)

@@ -1,4 +1,4 @@
--- Who sends a message, by the values of its fields x-caller.
+-- Who sends a message, given by the values of its fields x-caller.
 use Rattle.std.specs.Prelude.{ℕ, List, [], ◌∷◌, codes, Option, Some, None, option_map, if◌then◌else◌}
 use Rattle.std.specs.Str.{bytes_eq}
 use Rattle.trust_base.specs.Names.{person_of}
@@ -11,7 +11,7 @@ caller_in value = if bytes_eq value (codes "cashier")
     then Some Cashier
     else option_map (λ p. Person p) (person_of value)
 
--- the caller, where exactly one value names one
+-- the caller, if there is exactly one value and it names one
 abbrev pub caller_of : List (List ℕ) → Option Caller
 caller_of [] = None
 caller_of (v ∷ []) = caller_in v

@@ -1,4 +1,4 @@
--- The line that a body has, to be dismissed from the exceptions.
+-- The bank line in a body, to be dismissed from the exceptions.
 use Rattle.std.specs.Prelude.{ℕ, List, [], ◌∷◌, codes, Option, Some, None, Result, Ok, Err}
 use Rattle.serde_json.specs.Data.{Data}
 use Rattle.trust_base.specs.declared.line.Line.{Line}
@@ -14,7 +14,7 @@ use Rattle.portal_requests.specs.Bodies.{body_in, text_at}
 abbrev pub line_keys : List (List ℕ)
 line_keys = codes "date" ∷ codes "reference" ∷ codes "bank_ref" ∷ codes "amount" ∷ codes "text" ∷ []
 
--- the line of an object's fields; one that is missing is empty
+-- the line that an object's fields give; a missing field counts as empty
 abbrev pub line_in : Option Data → Option Line
 line_in None = None
 line_in (Some d) =
@@ -25,6 +25,6 @@ abbrev pub dismissing : Caller → Option Line → Result Request Refusal
 dismissing caller None = Err (BadField field.Body)
 dismissing caller (Some line) = Ok (Dismiss caller line)
 
--- to dismiss the line that a body is
+-- the request to dismiss the line in a body
 abbrev pub dismissing_in : Caller → List ℕ → Result Request Refusal
 dismissing_in caller body = dismissing caller (line_in (body_in line_keys body))

@@ -8,16 +8,16 @@ abbrev pub up_to_slash : List ℕ → List ℕ
 up_to_slash [] = []
 up_to_slash (b ∷ bs) = if b == 47 then [] else b ∷ up_to_slash bs
 
--- the bytes behind the first slash
+-- the bytes after the first slash
 abbrev pub behind_slash : List ℕ → List ℕ
 behind_slash [] = []
 behind_slash (b ∷ bs) = if b == 47 then bs else behind_slash bs
 
--- the part that stands for an entry, behind /matters/, the matter and /entries/
+-- the part of a path that names an entry, after /matters/, the matter and /entries/
 abbrev pub entry_part : List ℕ → List ℕ
 entry_part path = up_to_slash (behind_slash (behind_slash (drop 9 path)))
 
--- the part that stands for a day, behind /firm/reconciliation/
+-- the part of a path that names a day, after /firm/reconciliation/
 abbrev pub day_part : List ℕ → List ℕ
 day_part path = drop 21 path
 
@@ -28,7 +28,7 @@ ends_or_goes_on (b ∷ bs) = b == 47
 abbrev pub has_matter : List ℕ → Bool
 has_matter path = bytes_eq (take 9 path) (codes "/matters/") && ends_or_goes_on (drop 15 path)
 
--- the matter that a path names, with a route or without one: /matters/ and its six digits, and then the end or a slash
+-- the matter that a path names, whether or not it has a route: /matters/ and six digits, and then the end or a slash
 abbrev pub named_in : List ℕ → Option ℕ
 named_in path = if nat_le 15 (length path)
     then (if has_matter path then matter_of (take 6 (drop 9 path)) else None)

@@ -7,7 +7,7 @@ use Rattle.portal_requests.specs.declared.place.EntryPlace.{EntryPlace}
 use Rattle.portal_requests.specs.declared.place.Place.TheVariants as place
 use Rattle.portal_requests.specs.declared.place.Place.{Place}
 
--- the method of a place: what only reads is got; what changes something, or comes with a statement, is posted
+-- the method of a place: GET for what only reads, POST for what changes something or sends a bank statement
 abbrev pub matter_method : MatterPlace → List ℕ
 matter_method matter.Show = codes "GET"
 matter_method matter.Open = codes "POST"

@@ -1,4 +1,4 @@
--- What a message asks. Its refusals come in this order: no route, another method, no caller, a field.
+-- What a message asks. Refusals are tried in this order: no route, another method, no caller, a bad field.
 use Rattle.std.specs.Prelude.{ℕ, List, Option, Some, None, Result, Ok, Err, if◌then◌else◌}
 use Rattle.std.specs.Str.{bytes_eq}
 use Rattle.trust_base.specs.Texts.{day_of}
@@ -26,13 +26,13 @@ use Rattle.portal_requests.specs.Dismissals.{dismissing_in}
 use Rattle.portal_requests.specs.Places.{method_of}
 use Rattle.portal_requests.specs.Routing.{place_of}
 
--- an ask of the matter of a path: the matter comes before all other fields
+-- an ask of the matter in a path; a bad matter is refused before all other fields
 abbrev pub of_matter : Caller → Option ℕ → Result Ask Field → Result Request Refusal
 of_matter caller None asked = Err (BadField field.Matter)
 of_matter caller (Some m) (Err f) = Err (BadField f)
 of_matter caller (Some m) (Ok a) = Ok (requests.Matter m caller a)
 
--- the reconciliation as of the day of a path
+-- the reconciliation as of the day in a path
 abbrev pub as_of : Caller → Option ℕ → Result Request Refusal
 as_of caller None = Err (BadField field.Day)
 as_of caller (Some day) = Ok (requests.Reconcile caller day)
@@ -44,7 +44,7 @@ reported report.Journal caller path = Ok (requests.Journal caller)
 reported report.Reconciliation caller path = as_of caller (day_of (day_part path))
 reported report.Retention caller path = Ok (requests.Retention caller)
 
--- what is asked of the bank's statement that a body is
+-- what is asked of the bank statement in a body
 abbrev pub with_statement : StatementPlace → Caller → List ℕ → Request
 with_statement statement.Import caller body = requests.Import caller body
 with_statement statement.Match caller body = requests.Match caller body

@@ -1,4 +1,4 @@
--- The routes, and a router that takes routes in order.
+-- The routes, and a router to which routes are added in order.
 use Rattle.std.specs.Prelude.{◌≡◌, ℕ, List, [], ◌∷◌, None, Result, Ok, Err, codes, map, ⊤}
 use Rattle.std.specs.Borrow.{Bor}
 use Rattle.matchit.specs.Rows.{RowsOf}
@@ -18,17 +18,17 @@ abbrev pub row_in : Result Scan InsertError → Place → RowsOf (RouteOf Place)
 row_in (Ok s) place rows = placed (s.pattern, route_from s place) rows
 row_in (Err e) place rows = rows
 
--- the rows with these routes, which go in one after another
+-- the rows with these routes, added one after another
 unfoldable pub route_rows : List (List ℕ × Place) → RowsOf (RouteOf Place) → RowsOf (RouteOf Place)
 route_rows [] rows = rows
 route_rows (p ∷ rest) rows = route_rows rest (row_in (parse_route p.0) p.1 rows)
 
--- the path is good, and none of the rows conflicts with it
+-- the route's path is valid, and conflicts with none of the rows
 abbrev pub IsTaken : Result Scan InsertError → RowsOf (RouteOf Place) → Type 0
 IsTaken (Ok s) rows = nearest s.pattern rows ≡ None
 IsTaken (Err e) rows = ⊥
 
--- each of these routes is taken, when they go in one after another
+-- each of these routes is accepted when they are added one after another
 unfoldable pub AreTaken : List (List ℕ × Place) → RowsOf (RouteOf Place) → Type 0
 AreTaken [] rows = ⊤
 AreTaken (p ∷ rest) rows = IsTaken (parse_route p.0) rows × AreTaken rest (row_in (parse_route p.0) p.1 rows)

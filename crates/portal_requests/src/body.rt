@@ -1,4 +1,4 @@
-// The object that a body is, and the texts of its fields.
+// The object in a body, and the texts of its fields.
 
 ghost use Rattle.std.specs.Prelude.{◌≡◌, IfOk, option_map};
 ghost use Rattle.std.specs.Option.{option_copied};
@@ -19,7 +19,7 @@ fn is_key(keys: &[&str], key: &str) -> bool
     false
 }
 
-// Whether each key is one of these.
+// Whether each key of the object is one of these.
 fn has_keys(keys: &[&str], members: &Map<String, Value>) -> bool
     ensures { result ≡ has_keys (texts keys.now) (members_view members.now.entries) }
 {
@@ -31,7 +31,7 @@ fn has_keys(keys: &[&str], members: &Map<String, Value>) -> bool
     true
 }
 
-// Whether a value is an object with these keys or some of them.
+// Whether a value is an object with no other keys than these.
 fn is_object(keys: &[&str], value: &Value) -> bool
     ensures { result ≡ is_object (texts keys.now) (view value.now) }
 {
@@ -41,15 +41,15 @@ fn is_object(keys: &[&str], value: &Value) -> bool
     }
 }
 
-// The bytes of an object.
+// Returns the bytes to parse; for an empty body, those of an empty object.
 fn object_text(body: &[u8]) -> &[u8]
     ensures { result.now ≡ text_in body.now }
 {
     if body.is_empty() { b"{}" } else { body }
 }
 
-/// The object that a body is, with these keys or some of them; an empty body is one without keys. The error is want of
-/// memory.
+/// Parses the object in a body, if all its keys are among `keys`. An empty body counts as an object without keys.
+/// Fails if memory runs out.
 pub(crate) fn read_body(
     alloc: Global,
     keys: &[&str],
@@ -73,7 +73,7 @@ pub(crate) fn read_body(
     }
 }
 
-/// The bytes of the text under a key, none where there is no text.
+/// Returns the bytes of the text under a key; empty if there is no text.
 pub(crate) fn text<'a>(value: &'a Value, key: &str) -> &'a [u8]
     ensures { result.now ≡ text_at key.now (view value.now) }
 {
@@ -83,7 +83,7 @@ pub(crate) fn text<'a>(value: &'a Value, key: &str) -> &'a [u8]
     }
 }
 
-/// The same of a field that may be missing or null, which is then none.
+/// Like `text`, for a field that may be missing or null; both give `None`.
 pub(crate) fn optional_text<'a>(value: &'a Value, key: &str) -> Option<&'a [u8]>
     ensures { option_copied result ≡ optional_text_at key.now (view value.now) }
 {

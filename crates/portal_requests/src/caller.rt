@@ -7,7 +7,7 @@ use std::alloc::{AllocError, Global};
 use trust_base::{OwnedBytes, PersonId};
 use trust_matter::Caller;
 
-// The caller that a value names. The error is want of memory.
+// Parses the caller that a value names. Fails if memory runs out.
 fn read_caller(alloc: Global, value: &[u8]) -> Result<Option<Caller>, AllocError>
     ensures { IfOk result (λ found. found ≡ caller_in value.now) }
 {
@@ -20,7 +20,7 @@ fn read_caller(alloc: Global, value: &[u8]) -> Result<Option<Caller>, AllocError
     }
 }
 
-/// The caller, where there is exactly one value and it names one. The error is want of memory.
+/// Returns the caller, if there is exactly one value and it names one. Fails if memory runs out.
 pub(crate) fn caller(alloc: Global, values: &[OwnedBytes]) -> Result<Option<Caller>, AllocError>
     ensures { IfOk result (λ found. found ≡ caller_of values.now) }
 {

@@ -1,4 +1,4 @@
-// The line that a body has, to be dismissed from the exceptions.
+// The bank line in a body, to be dismissed from the exceptions.
 
 ghost use Rattle.std.specs.Prelude.{◌≡◌, IfOk};
 ghost use Rattle.portal_requests.specs.Answers.{Answers};
@@ -12,7 +12,7 @@ use trust_base::{Field, Line, Refusal};
 use trust_desk::Request;
 use trust_matter::Caller;
 
-// The line that a body is, where it is one. The error is want of memory.
+// Parses the line in a body, if it has one. Fails if memory runs out.
 fn read_line(alloc: Global, body: &[u8]) -> Result<Option<Line>, AllocError>
     ensures { IfOk result (λ line. line ≡ line_in (body_in line_keys body.now)) }
 {
@@ -30,7 +30,8 @@ fn read_line(alloc: Global, body: &[u8]) -> Result<Option<Line>, AllocError>
     )
 }
 
-/// To dismiss the line that a body is; `BadField` of the body where it is none, or want of memory.
+/// Returns the request to dismiss the line in a body. Refuses with `BadField` of the body if it has none, or `Memory`
+/// if memory runs out.
 pub(crate) fn read_dismissal(alloc: Global, caller: Caller, body: &[u8]) -> Result<Request, Refusal>
     ensures { Answers (dismissing_in caller body.now) result }
 {

@@ -102,7 +102,7 @@ fn read_awarding_in(alloc: Global, number: EntryNo, body: &[u8]) -> Result<Ask, 
     }
 }
 
-// What a place asks of the entry of a number, with the fields of a body.
+// Returns what a place asks of the entry of this number, with the fields of a body.
 fn read_numbered_ask(
     alloc: Global,
     place: EntryPlace,
@@ -127,7 +127,7 @@ fn read_numbered_ask(
     }
 }
 
-/// What a place asks of the entry of a text, with the fields of a body.
+/// Returns what a place asks of the entry that a text names, with the fields of a body.
 pub(crate) fn read_entry_ask(
     alloc: Global,
     place: EntryPlace,

@@ -1,4 +1,4 @@
-//! What a message asks: the request of its route, its method, its caller, its path and its body, or why it is none.
+//! Turns a message into what it asks: the request given by its route, method, caller, path and body, or a refusal.
 #![tactic(auto)]
 
 mod body;

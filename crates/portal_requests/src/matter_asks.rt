@@ -12,7 +12,7 @@ use std::alloc::Global;
 use trust_base::{Field, Refusal};
 use trust_matter::Ask;
 
-/// An ask whose body has no fields.
+/// Returns an ask whose body has no fields.
 pub(crate) fn read_bare(alloc: Global, ask: Ask, body: &[u8]) -> Result<Ask, Refusal>
     ensures { Reads (with_body [] body.now (λ _. Ok ask)) result }
 {
@@ -49,7 +49,7 @@ fn read_dropping_in(alloc: Global, body: &[u8]) -> Result<Ask, Refusal>
     read_dropping(alloc, text(&fields, "person"))
 }
 
-/// What a place asks of a matter, with the fields of a body.
+/// Returns what a place asks of a matter, with the fields of a body.
 pub(crate) fn read_matter_ask(
     alloc: Global,
     place: MatterPlace,

@@ -11,7 +11,7 @@ fn ends_or_goes_on(bytes: &[u8]) -> bool
     bytes.is_empty() || bytes[0] == b'/'
 }
 
-// Whether the first bytes of a path are those before a matter, and the path ends or goes on behind it.
+// Whether the path begins as one before a matter, and ends or goes on with a slash after the matter's digits.
 fn has_matter(path: &[u8]) -> bool
     requires { 15 ≤ length path.now }
     ensures { result ≡ has_matter path.now }
@@ -20,8 +20,8 @@ fn has_matter(path: &[u8]) -> bool
     &path[..9] == b"/matters/".as_slice() && ends_or_goes_on(behind)
 }
 
-/// The matter that a path names, with a route or without one: the path is `/matters/` and the six digits of the matter,
-/// and ends there or goes on with `/`.
+/// Returns the matter that a path names, whether or not it has a route: the path is `/matters/` and the six digits of
+/// the matter, and ends there or goes on with `/`.
 pub fn named_matter(path: &[u8]) -> Option<MatterNo>
     ensures { result ≡ named_in path.now }
 {

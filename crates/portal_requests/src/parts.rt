@@ -15,7 +15,7 @@ fn up_to_slash(bytes: &[u8]) -> &[u8]
     bytes
 }
 
-// The bytes behind the first slash.
+// The bytes after the first slash.
 fn behind_slash(bytes: &[u8]) -> &[u8]
     ensures { result.now ≡ behind_slash bytes.now }
 {
@@ -27,7 +27,7 @@ fn behind_slash(bytes: &[u8]) -> &[u8]
     &[]
 }
 
-// The bytes behind the first n, or none.
+// The bytes after the first `n`; empty if there are none.
 fn behind(bytes: &[u8], n: usize) -> &[u8]
     ensures { result.now ≡ drop n bytes.now }
 {
@@ -37,14 +37,14 @@ fn behind(bytes: &[u8], n: usize) -> &[u8]
     bytes.split_at(n).1
 }
 
-/// The part of a path that stands for an entry, behind `/matters/`, the matter and `/entries/`.
+/// Returns the part of a path that names an entry, after `/matters/`, the matter and `/entries/`.
 pub(crate) fn entry_part(path: &[u8]) -> &[u8]
     ensures { result.now ≡ entry_part path.now }
 {
     up_to_slash(behind_slash(behind_slash(behind(path, 9))))
 }
 
-/// The part of a path that stands for a day, behind `/firm/reconciliation/`.
+/// Returns the part of a path that names a day, after `/firm/reconciliation/`.
 pub(crate) fn day_part(path: &[u8]) -> &[u8]
     ensures { result.now ≡ day_part path.now }
 {

@@ -32,7 +32,7 @@ pub(crate) enum EntryPlace {
     Award,
 }
 
-/// What a route asks of the firm, to be told in a text.
+/// The report on the firm that a route asks for.
 #[derive(Clone, Copy, PartialEq, Eq, Debug)]
 pub(crate) enum ReportPlace {
     Exceptions,
@@ -42,7 +42,7 @@ pub(crate) enum ReportPlace {
     Retention,
 }
 
-/// What a route does with a statement of the bank.
+/// What a route does with a bank statement.
 #[derive(Clone, Copy, PartialEq, Eq, Debug)]
 pub(crate) enum StatementPlace {
     Import,
@@ -59,13 +59,13 @@ pub(crate) enum Place {
     Entry(EntryPlace),
     /// To a report on the firm.
     Report(ReportPlace),
-    /// To what is done with a statement of the bank.
+    /// To what is done with a bank statement.
     Statement(StatementPlace),
-    /// To a line that is dismissed from the exceptions.
+    /// To the dismissal of a line from the exceptions.
     Dismissal,
 }
 
-/// The method of a place, the only one.
+/// Returns the only method of a place.
 pub(crate) fn method(place: Place) -> &'static [u8]
     ensures { result.now ≡ method_of place }
 {

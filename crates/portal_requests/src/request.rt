@@ -20,7 +20,7 @@ use trust_base::{Day, Field, OwnedBytes, Refusal};
 use trust_desk::Request;
 use trust_matter::Caller;
 
-// What is asked of the matter of a path.
+// Returns what is asked of the matter in a path.
 fn read_matter_at(
     alloc: Global,
     place: MatterPlace,
@@ -39,7 +39,7 @@ fn read_matter_at(
     }
 }
 
-// What is asked of the entry of a path.
+// Returns what is asked of the entry in a path.
 fn read_entry_at(
     alloc: Global,
     place: EntryPlace,
@@ -59,7 +59,7 @@ fn read_entry_at(
     }
 }
 
-// The report that a path asks for.
+// Returns the report that a path asks for.
 fn read_report_at(place: ReportPlace, caller: Caller, path: &[u8]) -> Result<Request, Refusal>
     ensures { Answers (reported place caller path.now) result }
 {
@@ -75,7 +75,7 @@ fn read_report_at(place: ReportPlace, caller: Caller, path: &[u8]) -> Result<Req
     }
 }
 
-// What is asked of the bank's statement that a body is.
+// Returns what is asked of the bank statement in a body.
 fn read_statement_at(
     alloc: Global,
     place: StatementPlace,
@@ -110,8 +110,9 @@ fn read_at(
     }
 }
 
-/// The request of a message, or the first of these refusals: `NoRoute`, `BadMethod`, `NoCaller`, and `BadField` of the
-/// matter, the entry, the day, the body or the first field that is not of its form; or want of memory.
+/// Returns the request of a message, or the first of these refusals: `NoRoute`, `BadMethod`, `NoCaller`, and
+/// `BadField` of the matter, the entry, the day, the body or the first invalid field. Returns `Memory` if memory runs
+/// out.
 #[tactic(auto, unfolding(crate::specs::Requests::request))]
 pub fn request_of(alloc: Global, routes: &Routes, message: &Message) -> Result<Request, Refusal>
     ensures { Answers (request message.now) result }

@@ -11,7 +11,7 @@ use matchit::{InsertError, Router};
 use std::alloc::Global;
 use std::marker::Model;
 
-/// The routes of the portal, each a path with the place to which it leads.
+/// The routes of the portal: paths, and the place to which each leads.
 #[derive(Drop)]
 pub struct Routes {
     router: Router<Place>,
@@ -38,7 +38,7 @@ fn insert_route(router: &mut Router<Place>, text: &str, place: Place) -> Result<
     router.insert(text, place)
 }
 
-// A router of a table's routes.
+// Builds a router of a table's routes.
 fn router_of(alloc: Global, table: &[(&'static str, Place)]) -> Result<Router<Place>, InsertError>
     ensures rows { IfOk result (λ r. r ≡ route_rows (rows_of table.now) []) }
     ensures memory { AreTaken (rows_of table.now) [] → IfErr result (λ e. e ≡ InsertError.OutOfMemory) }
@@ -51,7 +51,7 @@ fn router_of(alloc: Global, table: &[(&'static str, Place)]) -> Result<Router<Pl
 }
 
 impl Routes {
-    /// The routes. The error is want of memory: each path is good, and no two of them conflict.
+    /// Builds the router. Fails only if memory runs out: each path is valid, and no two of them conflict.
     #[tactic(auto, unfolding(crate::specs::Table::the_routes, crate::specs::Table::TABLE))]
     pub fn new(alloc: Global) -> Result<Routes, InsertError>
         ensures memory { IfErr result (λ e. e ≡ InsertError.OutOfMemory) }
@@ -150,7 +150,7 @@ impl Routes {
         }
     }
 
-    /// Where the route of a path leads. A path that is not UTF-8 has none.
+    /// Returns where the route of a path leads. A path that is not UTF-8 has no route.
     pub(crate) fn place(&self, path: &[u8]) -> Option<Place>
         ensures { result ≡ place_of path.now }
     {

@@ -9,11 +9,6 @@ pub both_ok : {T E P Q R : Type 0} (r : Result T E) → OnOk r P → OnOk r Q �
 both_ok (Ok x) p q f = f p q
 both_ok (Err e) p q f = tt
 
--- what an Ok tells may be wanted for what it leaves
-pub bind_ok : {T E P : Type 0} (Q : Type 0) (r : Result T E) → OnOk r P → (P → OnOk r Q) → OnOk r Q
-bind_ok Q (Ok x) h f = f h
-bind_ok Q (Err e) h f = tt
-
 pub when_err : {T E P Q : Type 0} (r : Result T E) → OnErr r P → (P → Q) → OnErr r Q
 when_err (Ok x) h f = tt
 when_err (Err e) h f = f h

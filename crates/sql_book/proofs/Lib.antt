@@ -3,9 +3,7 @@ pub mod Openings
 pub mod OneSchema
 pub mod Moves
 pub mod Stops
-pub mod AfterRead
 pub mod Answered
 pub mod Books
-pub mod EntryChange
 pub mod Made
 pub mod Scripts

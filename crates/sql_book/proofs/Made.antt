@@ -15,12 +15,12 @@ use Rattle.sql_rows.specs.Scripts.{IsTyped, IsScriptMeant}
 use Rattle.sql_rows.specs.Standing.{StandsSound, firm_in}
 use Rattle.sql_rows.specs.Steps.{step_of, steps_of, AreMade}
 use Rattle.sql_book.proofs.Answered.{when_ok, both_ok, when_err}
-use Rattle.sql_book.specs.Writes.{FitsServed, StandsAfter, IsFirmWrite, IsScriptOf}
+use Rattle.sql_book.specs.Writes.{FitsServed, StandsAfter, IsFirmWrite}
 use Rattle.sql_book.proofs.Scripts.{made_of_steps, keyed}
 
 -- what was written of a change that fits stands for the firm after it
 stands_after : (l : Layout) (change : FirmChange) (script : List Statement) (db next : Database)
-    → IsScriptMeant change → IsTyped change → map step_of script ≡ steps_of change (lists_in l db.trees)
+    → IsScriptMeant change → IsTyped change → map step_of script ≡ steps_of change
     → StandsSound l db → FitsFirm (firm_in l db.trees) change → script ≢ [] → Written l script db next
     → StandsAfter l change db next
 stands_after l change script db next meant typed is stands fits some written =
@@ -74,12 +74,11 @@ told_err P (Err e) (Ok y) t p = absurd t
 
 module _ (change : FirmChange) (script : List Statement) (some : script ≢ []) (meant : IsScriptMeant change)
     (typed : IsTyped change) (result : Result Unit Error) (old new : State) (w : Wrote script result old new)
-    (is : IsScriptOf change script old) where
+    (is : map step_of script ≡ steps_of change) where
   left : (l : Layout) → HasCleanDisk new → StandsSound l old.now → FitsServed l change old → IsTrue old.is_open
       → (db : Database) → Written l script old.now db → StandsAfter l change old.now db
   left l clean stands fits served db written =
-      stands_after l change script old.now db meant typed (is l (w.was_clean clean) stands fits) stands (fits served)
-      some written
+      stands_after l change script old.now db meant typed is stands (fits served) some written
 
   made : (l : Layout) → HasCleanDisk new → StandsSound l old.now → FitsServed l change old
       → OnOk result (StandsAfter l change old.now new.now)

@@ -11,9 +11,13 @@ use Rattle.sql_rows.specs.Steps.{step_of, IsMade, AreMade}
 
 made_of_step : (s : Statement) (a b : Lists) → IsStep s a b → IsMade (step_of s) a b
 made_of_step (statement.Head h) a b is = is
+made_of_step (statement.Totals t) a b is = is
+made_of_step (statement.Closed c) a b is = is
+made_of_step (statement.Purged c) a b is = is
 made_of_step (statement.Seat s) a b is = is
 made_of_step (statement.SeatGone s) a b is = is
 made_of_step (statement.Entry e) a b is = is
+made_of_step (statement.Left e) a b is = is
 made_of_step (statement.Movement m) a b is = is
 made_of_step (statement.FirmLine f) a b is = is
 made_of_step (statement.Exception e) a b is = is

@@ -12,7 +12,7 @@ use Rattle.sql_making.specs.Then.{IsOldBook, IsMoved, Stood}
 use Rattle.sql_book.specs.Then.{firm_then, StoodSound}
 use Rattle.sql_book.specs.Books.{HeldBook, at, firm_of, IsServing, IsStanding, IsLasting, MayLeave}
 
--- it serves, it stands for the firm without rows, and a crash leaves that firm, and what lasts
+-- the book serves and stands for the firm without rows; a crash leaves that firm, and whatever it leaves lasts
 pub record IsMade {S : Type 0} (g : Ghosts S) (b : HeldBook S) : Type 0 where
   pub serves : IsServing g b
   pub book : IsBook b.layout (at g b).now
@@ -21,8 +21,8 @@ pub record IsMade {S : Type 0} (g : Ghosts S) (b : HeldBook S) : Type 0 where
   pub empty : firm_of g b ≡ empty_firm
   pub settled : LeavesAlone empty_firm (MayLeave g b)
 
--- the tables of a book of this version are those of the connection, which lie in its layout; they stand for the rows of
--- a sound firm where they did, which is not looked at, and then what a crash leaves lasts
+-- the connection has a book of this version, in its layout, and it is unchanged; its tables stand for the rows of a
+-- sound firm if they did before, which is not checked, and then whatever a crash leaves lasts
 pub record IsKeptBook {S : Type 0} (g : Ghosts S) (conn : Held S) (b : HeldBook S) : Type 0 where
   pub book : IsBook b.layout (state g conn).now
   pub kept : IsKept (state g conn) (at g b)
@@ -30,8 +30,8 @@ pub record IsKeptBook {S : Type 0} (g : Ghosts S) (conn : Held S) (b : HeldBook 
   pub stands : StandsSound b.layout (state g conn).now → IsStanding g b
   pub lasts : StandsSound b.layout (state g conn).now → IsLasting g b
 
--- the rows of a book of version 1 were moved into tables of this version; these stand for the firm for which those
--- stood, which is not looked at either, and where it was sound what a crash leaves lasts
+-- the rows of a version 1 book were moved into tables of this version, which stand for the same firm; if that firm
+-- was sound, which is not checked, whatever a crash leaves lasts
 pub record IsMovedBook {S : Type 0} (g : Ghosts S) (conn : Held S) (b : HeldBook S) : Type 0 where
   pub layout : b.layout ≡ Moved
   pub book : IsOldBook (state g conn).now
@@ -40,7 +40,7 @@ pub record IsMovedBook {S : Type 0} (g : Ghosts S) (conn : Held S) (b : HeldBook
   pub stands : StoodSound (state g conn).now → IsStanding g b
   pub lasts : StoodSound (state g conn).now → IsLasting g b
 
--- it serves, it is a book of this version, which was there or was made of one of version 1, and a crash leaves its firm
+-- the book serves and is of this version, found as such or moved from version 1, and a crash leaves its firm
 pub record IsTaken {S : Type 0} (g : Ghosts S) (conn : Held S) (b : HeldBook S) : Type 0 where
   pub serves : IsServing g b
   pub book : IsBook b.layout (at g b).now

@@ -1,4 +1,4 @@
--- What a stop leaves of a book, and the book that the next run takes from it.
+-- What a stop leaves of a book, and the book that the next run takes from that.
 use Rattle.std.specs.Prelude.{◌≡◌, ◌⊎◌}
 use Rattle.sqlite_trees.specs.Tree.{Trees}
 use Rattle.sqlite_trees.specs.declared.store.Store.{Ghosts}
@@ -23,28 +23,28 @@ pub record IsOpenedOver {S : Type 0} (g : Ghosts S) (trees : Trees) (conn : Held
   pub found : (state g conn).committed.trees ≡ trees
 
 module _ {S T : Type 0} (g : Ghosts S) (h : Ghosts T) where
-  -- a connection holds a book, which stands for the rows of a sound firm, and a crash might have left these of another
-  -- book
+  -- a connection holds a book that stands for the rows of a sound firm, and a crash of the earlier book might have
+  -- left these rows
   pub record HoldsLeft (before : HeldBook S) (conn : Held T) : Type 0 where
     pub book : IsBook before.layout (state h conn).now
     pub stands : StandsSound before.layout (state h conn).now
     pub firm : MayLeave g before (firm_in before.layout (state h conn).now.trees)
 
-  -- the book of the next run: it stands for the rows of a sound firm, which a crash might have left of the one before,
-  -- a crash now leaves these alone, and what it leaves lasts
+  -- the book of the next run: it stands for the rows of a sound firm that a crash of the earlier book might have
+  -- left; a crash now leaves only these rows, and whatever it leaves lasts
   pub record IsNext (before : HeldBook S) (next : HeldBook T) : Type 0 where
     pub stands : IsStanding h next
     pub firm : MayLeave g before (firm_of h next)
     pub settled : LeavesAlone (firm_of h next) (MayLeave h next)
     pub lasts : IsLasting h next
 
-  -- whatever a stop leaves of a book that lasts holds a book, which may be taken
+  -- whatever a stop leaves of a book that lasts is a book that can be taken
   abbrev pub StopsLeaveBooks : Type 0
   StopsLeaveBooks =
       (before : HeldBook S) (trees : Trees) (conn : Held T) → IsLasting g before → (at g before).may_leave trees
       → IsOpenedOver h trees conn → HoldsLeft before conn
 
-  -- and the book that is taken is that of the next run
+  -- the book that is then taken is that of the next run
   abbrev pub StopsAreTaken : Type 0
   StopsAreTaken =
       (before : HeldBook S) (conn : Held T) (next : HeldBook T) → HoldsLeft before conn → IsTaken h conn next
@@ -56,49 +56,50 @@ pub record HoldsNewBook {T : Type 0} (h : Ghosts T) (conn : Held T) : Type 0 whe
   pub stands : StandsSound Made (state h conn).now
   pub empty : firm_in Made (state h conn).now.trees ≡ empty_firm
 
--- what a stop leaves of a book that is being made, where it is not what was there before, is a book that may be taken
+-- whatever a stop leaves of a book being made is what was there before, or a book that can be taken
 abbrev pub StopsInMakingLeaveBooks : {T : Type 0} → Ghosts T → Type 0
 StopsInMakingLeaveBooks {T} h =
     (trees : Trees) (conn : Held T) → AreNewBook trees → IsOpenedOver h trees conn → HoldsNewBook h conn
 
--- a database holds a book of version 1, lists what it holds, and its tables stand for the rows of a sound firm
+-- a database holds a version 1 book, lists what it holds, and its tables stand for the rows of a sound firm
 pub record IsOldStanding (db : Database) : Type 0 where
   pub book : IsOldBook db
   pub listed : IsDatabase db
   pub stood : StoodSound db
 
--- what a stop leaves of it while it is being taken, which is what `adopt` says of a crash: it as it was, or moved
+-- what a stop leaves of it while it is being taken, as `adopt` says of a crash: unchanged, or moved
 abbrev pub IsLeftInMoving : Database → Trees → Type 0
 IsLeftInMoving db trees = (trees ≡ db.trees) ⊎ (IsOldBook db × AreMoved db trees)
 
 module _ {T : Type 0} (h : Ghosts T) (firm : Firm) where
-  -- a connection holds a book of version 1 that stands for the rows of a sound firm, which is this one
+  -- a connection holds a version 1 book that stands for the rows of this firm, which is sound
   pub record HoldsOldFirm (conn : Held T) : Type 0 where
     pub book : IsOldBook (state h conn).now
     pub stood : StoodSound (state h conn).now
     pub same : firm_then (state h conn).now.trees ≡ firm
 
-  -- or one of this version, in some layout
+  -- the same, but a book of this version in some layout
   pub record HoldsFirm (conn : Held T) : Type 0 where
     pub layout : Layout
     pub book : IsBook layout (state h conn).now
     pub stands : StandsSound layout (state h conn).now
     pub same : firm_in layout (state h conn).now.trees ≡ firm
 
-  -- a book stands for the rows of this firm, which is sound, a crash now leaves these alone, and what it leaves lasts
+  -- a book stands for the rows of this firm, which is sound; a crash now leaves only these, and whatever it leaves
+  -- lasts
   pub record IsOfFirm (book : HeldBook T) : Type 0 where
     pub stands : IsStanding h book
     pub same : firm_of h book ≡ firm
     pub settled : LeavesAlone firm (MayLeave h book)
     pub lasts : IsLasting h book
 
-  -- the book that is taken from a connection that holds one of either version stands for the same firm
+  -- the book taken from a connection that holds one of either version stands for the same firm
   abbrev pub BooksAreTaken : Type 0
   BooksAreTaken =
       (conn : Held T) (next : HeldBook T) → HoldsOldFirm conn ⊎ HoldsFirm conn → IsTaken h conn next → IsOfFirm next
 
--- whatever a stop leaves of a book of version 1 while it is being taken is that book, or one of this version that
--- stands for the same firm, which may be taken
+-- whatever a stop leaves of a version 1 book while it is being taken is that book, or one of this version for the
+-- same firm, and it can be taken
 abbrev pub StopsInMovingLeaveBooks : {T : Type 0} → Ghosts T → Type 0
 StopsInMovingLeaveBooks {T} h =
     (db : Database) (trees : Trees) (conn : Held T) → IsOldStanding db → IsLeftInMoving db trees

@@ -1,22 +1,23 @@
-// What a change makes of a matter's rows: its head as it is afterwards comes first, and then what the edit writes.
+// Writes a change of a matter: first its change to the head, then what the edit writes. Reads nothing.
 
-ghost use Rattle.std.specs.Prelude.{◌≡◌, ◌≢◌, false, pos, None, [], ◌∷◌, map};
+ghost use Rattle.std.specs.Prelude.{◌≡◌, ◌≢◌, ◌≤◌, ◌∷◌, ◌++◌, false, pos, None, map, IfOk};
 ghost use Rattle.std.specs.Option.{option_copied};
 ghost use Rattle.sqlite.specs.Held.{state};
+ghost use Rattle.matter_rows.specs.declared.limits.TheConstants.{MAX_TOTAL};
 ghost use Rattle.matter_parts.specs.declared.edit.Edit.TheVariants as edit;
 ghost use Rattle.firm_rows.specs.FirmChange.{OfMatter};
-ghost use Rattle.sql_rows.specs.Steps.{step_of, SeatsGone, EntriesGone, MovementsGone};
+ghost use Rattle.sql_rows.specs.Steps.{step_of, entry_steps, movement_steps, matter_steps};
 ghost use Rattle.sql_book.specs.Writes.{IsFirmWrite};
 
-use crate::before::opened_head;
-use crate::entries::write_entry;
-use crate::script::write_with_line;
-use crate::typed::{day_is_typed, matter_is_typed, opening_is_typed};
-use matter_parts::{Change, Edit, Opening};
-use matter_rows::{Holder, Seat};
+use crate::script::write_script;
+use crate::typed::{edit_is_typed, matter_is_typed};
+use firm_rows::{Movement, Owner};
+use matter_parts::{Change, Edit, Left, Numbered};
 use sql_rows::laws::scripts_are_meant;
-use sql_rows::{head_columns, seat_columns};
-use sql_tables::{SeatName, Statement};
+use sql_rows::{
+    entry_columns, exception_columns, head_columns, movement_columns, seat_columns, totals_columns,
+};
+use sql_tables::{LeftColumns, MatterDay, SeatName, Statement};
 use sqlite::{Alter, Connection};
 use std::alloc::Global;
 use trust_base::{Day, Line, MatterNo, PersonId, StoreFault};
@@ -39,164 +40,113 @@ fn seat_name(matter: MatterNo, person: &PersonId) -> SeatName<'_>
     }
 }
 
-// The script of a purge: of the matter's rows the head stays alone.
-fn purge_script<'a>(head: Statement<'a>, matter: MatterNo) -> [Statement<'a>; 4]
-    ensures { map step_of result ≡ step_of head.entry ∷ SeatsGone (pos matter) ∷ EntriesGone (pos matter)
-        ∷ MovementsGone (pos matter) ∷ [] }
+// A day to set in the head of a matter.
+fn day_columns(matter: MatterNo, day: Day) -> MatterDay
+    ensures matter { result.matter ≡ pos matter }
+    ensures day { result.day ≡ pos day }
 {
-    [
-        head,
-        Statement::SeatsGone(matter_column(matter)),
-        Statement::EntriesGone(matter_column(matter)),
-        Statement::MovementsGone(matter_column(matter)),
-    ]
+    MatterDay {
+        matter: matter_column(matter),
+        day: day.get() as i64,
+    }
 }
 
-// Writes that a matter is opened, with its head and its first seat.
-fn write_open<S: Alter>(
-    conn: &mut Connection<S>,
+// The matter and number of an entry, and what is left of it.
+fn left_columns(matter: MatterNo, named: Left) -> LeftColumns
+    requires { named.left ≤ MAX_TOTAL }
+    ensures matter { result.matter ≡ pos matter }
+    ensures no { result.no ≡ pos named.number }
+    ensures left { result.left_now ≡ pos named.left }
+{
+    LeftColumns {
+        matter: matter_column(matter),
+        no: named.number.get() as i64,
+        left_now: named.left as i64,
+    }
+}
+
+// The script for an entry that is added or replaces the one with its number: the totals, the entry, and, if there are
+// any, what is left of the entry that it names, and its movement.
+fn entry_script<'a>(
     alloc: Global,
     matter: MatterNo,
-    line: Option<&Line>,
     change: &Change,
-    opening: &Opening,
-) -> Result<(), StoreFault>
-    requires outside { conn.old.in_transaction ≡ false }
-    requires is { change.now.edit ≡ edit.Open opening.now }
-    ensures mode { conn.new.in_transaction ≡ false }
-    ensures written { IsFirmWrite (OfMatter matter (option_copied line.entry) change.now) result
-        (state S.Store conn.old) (state S.Store conn.new) }
+    totals: Statement<'a>,
+    written: &'a Numbered,
+) -> Result<Vec<Statement<'a>>, StoreFault>
+    ensures { IfOk result (λ script. map step_of script.items ≡ step_of totals.entry
+        ∷ (entry_steps matter written.now change.now.moves ++ movement_steps matter change.now.movement)) }
 {
-    scripts_are_meant();
-    matter_is_typed(matter);
-    opening_is_typed(opening);
-    let head = Statement::Head(head_columns(matter, &opening.head, change.moves().figures));
-    let seat = Statement::Seat(seat_columns(matter, &opening.seat));
-    write_with_line(conn, alloc, &[head, seat], line)
+    let moves = change.moves();
+    let entry = entry_columns(matter, written.number, moves.left, &written.entry);
+    let mut script = Vec::from_slice(alloc, &[totals, Statement::Entry(entry)])?;
+    if let Some(other) = moves.other {
+        script.push(Statement::Left(left_columns(matter, other)))?;
+    }
+    if let Some(moved) = change.movement() {
+        let owner = Owner::Matter {
+            matter,
+            entry: moved.entry,
+        };
+        script.push(Statement::Movement(movement_columns(Movement {
+            owner,
+            day: moved.day,
+            amount: moved.amount,
+        })))?;
+    }
+    Ok(script)
 }
 
-// Writes that a person takes a seat.
-fn write_seat<S: Alter>(
-    conn: &mut Connection<S>,
+// The script of a change by its edit. Of a purged matter's rows only the head stays.
+fn edit_script<'a>(
     alloc: Global,
     matter: MatterNo,
-    line: Option<&Line>,
-    change: &Change,
-    seat: &Seat,
-) -> Result<(), StoreFault>
-    requires outside { conn.old.in_transaction ≡ false }
-    requires is { change.now.edit ≡ edit.Seat seat.now }
-    ensures mode { conn.new.in_transaction ≡ false }
-    ensures written { IsFirmWrite (OfMatter matter (option_copied line.entry) change.now) result
-        (state S.Store conn.old) (state S.Store conn.new) }
+    change: &'a Change,
+) -> Result<Vec<Statement<'a>>, StoreFault>
+    ensures { IfOk result (λ script. map step_of script.items ≡ matter_steps matter change.now change.now.edit) }
 {
-    scripts_are_meant();
-    matter_is_typed(matter);
-    let mut head = opened_head(conn, alloc, matter)?;
-    head.last = change.last();
-    let put = Statement::Head(head_columns(matter, &head, change.moves().figures));
-    let seat = Statement::Seat(seat_columns(matter, seat));
-    write_with_line(conn, alloc, &[put, seat], line)
+    let figures = change.moves().figures;
+    let totals = Statement::Totals(totals_columns(matter, change.last(), figures));
+    match change.edit() {
+        Edit::Nothing => Ok(Vec::from_slice(alloc, &[])?),
+        Edit::Open(opening) => {
+            let head = Statement::Head(head_columns(matter, &opening.head, figures));
+            let seat = Statement::Seat(seat_columns(matter, &opening.seat));
+            Ok(Vec::from_slice(alloc, &[head, seat])?)
+        }
+        Edit::Seat(seat) => {
+            let added = Statement::Seat(seat_columns(matter, seat));
+            Ok(Vec::from_slice(alloc, &[totals, added])?)
+        }
+        Edit::Unseat(person) => {
+            let gone = Statement::SeatGone(seat_name(matter, person));
+            Ok(Vec::from_slice(alloc, &[totals, gone])?)
+        }
+        Edit::Close(day) => {
+            let closed = Statement::Closed(day_columns(matter, *day));
+            Ok(Vec::from_slice(alloc, &[closed, totals])?)
+        }
+        Edit::Clear(day) => {
+            let script = [
+                Statement::Purged(day_columns(matter, *day)),
+                totals,
+                Statement::SeatsGone(matter_column(matter)),
+                Statement::EntriesGone(matter_column(matter)),
+                Statement::MovementsGone(matter_column(matter)),
+            ];
+            Ok(Vec::from_slice(alloc, &script)?)
+        }
+        Edit::Append(written) => entry_script(alloc, matter, change, totals, written),
+        Edit::Exchange(written) => entry_script(alloc, matter, change, totals, written),
+    }
 }
 
-// Writes that a person gives up a seat.
-fn write_unseat<S: Alter>(
-    conn: &mut Connection<S>,
-    alloc: Global,
-    matter: MatterNo,
-    line: Option<&Line>,
-    change: &Change,
-    person: &PersonId,
-) -> Result<(), StoreFault>
-    requires outside { conn.old.in_transaction ≡ false }
-    requires is { change.now.edit ≡ edit.Unseat person.now }
-    ensures mode { conn.new.in_transaction ≡ false }
-    ensures written { IsFirmWrite (OfMatter matter (option_copied line.entry) change.now) result
-        (state S.Store conn.old) (state S.Store conn.new) }
-{
-    scripts_are_meant();
-    matter_is_typed(matter);
-    let mut head = opened_head(conn, alloc, matter)?;
-    head.last = change.last();
-    let put = Statement::Head(head_columns(matter, &head, change.moves().figures));
-    let gone = Statement::SeatGone(seat_name(matter, person));
-    write_with_line(conn, alloc, &[put, gone], line)
-}
-
-// Writes that a matter is closed on a day.
-fn write_close<S: Alter>(
-    conn: &mut Connection<S>,
-    alloc: Global,
-    matter: MatterNo,
-    line: Option<&Line>,
-    change: &Change,
-    day: Day,
-) -> Result<(), StoreFault>
-    requires outside { conn.old.in_transaction ≡ false }
-    requires is { change.now.edit ≡ edit.Close day }
-    ensures mode { conn.new.in_transaction ≡ false }
-    ensures written { IsFirmWrite (OfMatter matter (option_copied line.entry) change.now) result
-        (state S.Store conn.old) (state S.Store conn.new) }
-{
-    scripts_are_meant();
-    matter_is_typed(matter);
-    day_is_typed(day);
-    let mut head = opened_head(conn, alloc, matter)?;
-    head.closed = Some(day);
-    head.last = change.last();
-    let put = Statement::Head(head_columns(matter, &head, change.moves().figures));
-    write_with_line(conn, alloc, &[put], line)
-}
-
-// Writes that a matter is purged on a day: its seats, its entries and what they moved go.
-fn write_clear<S: Alter>(
-    conn: &mut Connection<S>,
-    alloc: Global,
-    matter: MatterNo,
-    line: Option<&Line>,
-    change: &Change,
-    day: Day,
-) -> Result<(), StoreFault>
-    requires outside { conn.old.in_transaction ≡ false }
-    requires is { change.now.edit ≡ edit.Clear day }
-    ensures mode { conn.new.in_transaction ≡ false }
-    ensures written { IsFirmWrite (OfMatter matter (option_copied line.entry) change.now) result
-        (state S.Store conn.old) (state S.Store conn.new) }
-{
-    scripts_are_meant();
-    matter_is_typed(matter);
-    day_is_typed(day);
-    let mut head = opened_head(conn, alloc, matter)?;
-    head.holder = Holder::Purged(day);
-    head.last = change.last();
-    let put = Statement::Head(head_columns(matter, &head, change.moves().figures));
-    write_with_line(conn, alloc, &purge_script(put, matter), line)
-}
-
-// Writes what a change that is nothing leaves: that its line is no exception from then on.
-fn write_nothing<S: Alter>(
-    conn: &mut Connection<S>,
-    alloc: Global,
-    matter: MatterNo,
-    line: Option<&Line>,
-    change: &Change,
-) -> Result<(), StoreFault>
-    requires outside { conn.old.in_transaction ≡ false }
-    requires is { change.now.edit ≡ edit.Nothing }
-    requires some { line ≢ None }
-    ensures mode { conn.new.in_transaction ≡ false }
-    ensures written { IsFirmWrite (OfMatter matter (option_copied line.entry) change.now) result
-        (state S.Store conn.old) (state S.Store conn.new) }
-{
-    scripts_are_meant();
-    matter_is_typed(matter);
-    write_with_line(conn, alloc, &[], line)
-}
-
-/// Writes a change of a matter, and that the line of the bank that made it, if one did, is no exception from then on. A
-/// change that is nothing writes the latter alone, and so must have a line. After an error, Memory where memory was
-/// refused and Store for any other, also where a matter that was never opened would need its head, a connection that
-/// serves has changed nothing.
+/// Writes a change of a matter. If a bank line made the change, the line is removed from the exceptions. An empty
+/// change writes only that, so it must have a line.
+///
+/// If the change does not fit the matter's rows as they are, for example because the matter was never opened, nothing
+/// is promised of the tables. Returns `Memory` if memory runs out, and `Store` for any other fault; a connection that
+/// is still open after an error has changed nothing.
 pub fn write_change<S: Alter>(
     conn: &mut Connection<S>,
     alloc: Global,
@@ -210,14 +160,12 @@ pub fn write_change<S: Alter>(
     ensures written { IsFirmWrite (OfMatter matter (option_copied line.entry) change.now) result
         (state S.Store conn.old) (state S.Store conn.new) }
 {
-    match change.edit() {
-        Edit::Nothing => write_nothing(conn, alloc, matter, line, change),
-        Edit::Open(opening) => write_open(conn, alloc, matter, line, change, opening),
-        Edit::Seat(seat) => write_seat(conn, alloc, matter, line, change, seat),
-        Edit::Unseat(person) => write_unseat(conn, alloc, matter, line, change, person),
-        Edit::Close(day) => write_close(conn, alloc, matter, line, change, *day),
-        Edit::Clear(day) => write_clear(conn, alloc, matter, line, change, *day),
-        Edit::Append(written) => write_entry(conn, alloc, matter, line, change, written),
-        Edit::Exchange(written) => write_entry(conn, alloc, matter, line, change, written),
+    scripts_are_meant();
+    matter_is_typed(matter);
+    edit_is_typed(change.edit());
+    let mut script = edit_script(alloc, matter, change)?;
+    if let Some(line) = line {
+        script.push(Statement::ExceptionGone(exception_columns(line)))?;
     }
+    write_script(conn, &script)
 }

@@ -1,18 +1,15 @@
-//! The book on disk: a firm's rows in the tables of a connection. Each change of them is written as one script of
-//! statements in one transaction, so that all of it is there or nothing, also over a crash. Each write asks that no
-//! transaction is open.
+//! The book on disk: a firm's rows in the tables of a connection. Each change is written as one script of SQL
+//! statements in one transaction, all or nothing, even after a crash. No transaction may be open before a write.
 //!
-//! What is said of a write holds where the store is clean as it ends, and where the tables stood for a firm that its
-//! change fits. It answers Memory where memory was refused, here or in the store, and Store for any other fault. A
-//! connection that still serves after an error has changed nothing; one that was shut by it may have written all of the
-//! change.
+//! The promises of a write hold if the store is clean when it ends (what was read is what had been written), and if
+//! the tables stood for a firm that its change fits. A write returns `Memory` if memory runs out, here or in the
+//! store, and `Store` for any other fault. A connection that is still open after an error has changed nothing; one
+//! that the error closed may have written all of the change.
 #![tactic(auto)]
 
-mod before;
 mod book;
 mod changes;
 mod counting;
-mod entries;
 pub mod laws;
 mod lines;
 mod opening;

@@ -1,4 +1,4 @@
-// What becomes of a line of the bank that concerns the firm's own tables alone.
+// Writes the bank lines that change only the firm's own tables.
 
 ghost use Rattle.std.specs.Prelude.{◌≡◌, false};
 ghost use Rattle.sqlite.specs.Held.{state};
@@ -17,7 +17,7 @@ use sql_tables::{FirmLineColumns, MovementColumns, Statement};
 use sqlite::{Alter, Connection};
 use trust_base::{Line, StoreFault};
 
-// The columns of a line as the firm's ledger keeps it.
+// The columns of a line in the firm's own ledger.
 fn kept_columns(line: &Line) -> FirmLineColumns<'_>
     ensures { firm_line_given result ≡ firm_line_columns (as_firm_line line.now) }
 {
@@ -29,7 +29,7 @@ fn kept_columns(line: &Line) -> FirmLineColumns<'_>
     }
 }
 
-// The columns of what a line of the firm's own moves.
+// The columns of the movement of a line of the firm's own.
 fn moved_columns(line: &Line) -> MovementColumns
     ensures { movement_given result ≡ movement_columns (own_movement (as_firm_line line.now)) }
 {
@@ -40,8 +40,9 @@ fn moved_columns(line: &Line) -> MovementColumns
     })
 }
 
-/// Writes a line that matches nothing: it joins the exceptions, where an equal one is not among them. After an error,
-/// Memory where memory was refused and Store for any other, a connection that serves has changed nothing.
+/// Writes a line that matches nothing: adds it to the exceptions, unless an equal one is already there. Returns
+/// `Memory` if memory runs out, and `Store` for any other fault; a connection that is still open after an error has
+/// changed nothing.
 pub fn note_exception<S: Alter>(conn: &mut Connection<S>, line: &Line) -> Result<(), StoreFault>
     requires { conn.old.in_transaction ≡ false }
     ensures mode { conn.new.in_transaction ≡ false }
@@ -52,8 +53,8 @@ pub fn note_exception<S: Alter>(conn: &mut Connection<S>, line: &Line) -> Result
     write_script(conn, &script)
 }
 
-/// Writes a line that comes again: it is no exception from then on. After an error, Memory where memory was refused and
-/// Store for any other, a connection that serves has changed nothing.
+/// Writes a repeated line: removes it from the exceptions. Returns `Memory` if memory runs out, and `Store` for any
+/// other fault; a connection that is still open after an error has changed nothing.
 pub fn remove_exception<S: Alter>(conn: &mut Connection<S>, line: &Line) -> Result<(), StoreFault>
     requires { conn.old.in_transaction ≡ false }
     ensures mode { conn.new.in_transaction ≡ false }
@@ -64,9 +65,10 @@ pub fn remove_exception<S: Alter>(conn: &mut Connection<S>, line: &Line) -> Resu
     write_script(conn, &script)
 }
 
-/// Writes a line of the firm's own that is applied: it joins the firm's ledger with what it moved, and is no exception
-/// from then on. Where the firm may not have what its lines then add up to, nothing is said of the tables. After an
-/// error, Memory where memory was refused and Store for any other, a connection that serves has changed nothing.
+/// Writes an applied line of the firm's own: adds it to the firm's ledger with its movement, and removes it from the
+/// exceptions. If the firm may not have what its lines then add up to, nothing is promised of the tables. Returns
+/// `Memory` if memory runs out, and `Store` for any other fault; a connection that is still open after an error has
+/// changed nothing.
 pub fn add_firm_line<S: Alter>(conn: &mut Connection<S>, line: &Line) -> Result<(), StoreFault>
     requires { conn.old.in_transaction ≡ false }
     ensures mode { conn.new.in_transaction ≡ false }
@@ -81,9 +83,9 @@ pub fn add_firm_line<S: Alter>(conn: &mut Connection<S>, line: &Line) -> Result<
     write_script(conn, &script)
 }
 
-/// Writes a balance that is applied: it is kept, and its line is no exception from then on. Where one of its kind and
-/// day is kept already, nothing is said of the tables. After an error, Memory where memory was refused and Store for
-/// any other, a connection that serves has changed nothing.
+/// Writes an applied balance: stores it, and removes its line from the exceptions. If one of its kind and day is
+/// already stored, nothing is promised of the tables. Returns `Memory` if memory runs out, and `Store` for any other
+/// fault; a connection that is still open after an error has changed nothing.
 pub fn add_balance<S: Alter>(
     conn: &mut Connection<S>,
     kind: BalanceKind,

@@ -1,4 +1,4 @@
-// Making a book in a database, taking one from it, and giving the connection back.
+// Makes a book in a database, takes one from it, and gives the connection back.
 
 ghost use Rattle.std.specs.Prelude.{◌≡◌, ◌≢◌, false, IfOk, IfErr, IsTrue};
 ghost use Rattle.sqlite.specs.Held.{state};
@@ -18,9 +18,9 @@ use sqlite::{Alter, Connection};
 use std::alloc::Global;
 
 impl<S: Alter + Drop> SqlBook<S> {
-    /// Makes a book without rows in an empty database, all of it or nothing, also over a crash. A database that is not
-    /// empty, and no other, is NotABook, and its connection is handed back as it was. After another fault a connection
-    /// that is open sees what it saw. Asks that no transaction is open.
+    /// Makes a book without rows in an empty database, all or nothing, even after a crash. No transaction may be
+    /// open. Returns `NotABook` exactly if the database is not empty, with the connection unchanged. After another
+    /// fault, a connection that is open sees what it saw before.
     pub fn make(
         alloc: Global,
         conn: Connection<S>,
@@ -53,10 +53,11 @@ impl<S: Alter + Drop> SqlBook<S> {
         }
     }
 
-    /// Takes the book that a database holds: one of this version as it is, and one of version 1 once its rows are moved
-    /// into the tables of this version, in one transaction, all of them or none, also over a crash. NotABook means that
-    /// it holds neither. No row of the firm is looked at: rows that stand for nothing are Store at the call that reads
-    /// them. The connection of a fault, where it is open, sees what it saw. Asks that no transaction is open.
+    /// Takes the book that a database holds. One of version 1 is first moved into the tables of this version, in one
+    /// transaction, all or nothing, even after a crash. No transaction may be open.
+    ///
+    /// Returns `NotABook` if the database holds neither. No row of the firm is checked: a call that later reads an
+    /// invalid row returns `Store`. On a fault, the returned connection, if it is open, sees what it saw before.
     pub fn adopt(
         alloc: Global,
         conn: Connection<S>,
@@ -86,7 +87,7 @@ impl<S: Alter + Drop> SqlBook<S> {
         }
     }
 
-    /// Gives the connection back as it is. It takes no memory.
+    /// Gives the connection back as it is. Does not allocate.
     pub fn release(self) -> Connection<S>
         ensures same { result ≡ self.conn }
         ensures mode { result.in_transaction ≡ false }

@@ -1,7 +1,7 @@
 -- What a statement of the batch that copies, empties or sets makes of one table. The schema is that of this version
 -- then.
-use Rattle.std.proofs.Common.{◌≡◌, ◌≢◌, ℕ, ℤ, ◌<ℤ◌, true, false, not, cond, ◌==◌, List, [], ◌∷◌, ◌++◌, map, filter, length, slice_get, Option, Some, Ok, refl, sym, ap, ap₂, subst, subst₂, ◌∙◌, append-nil}
-use Rattle.std.specs.List.{AllByRecursion, flat_map, filter_map}
+use Rattle.std.proofs.Common.{◌≡◌, ◌≢◌, ℕ, ℤ, ◌<ℤ◌, true, false, not, List, [], ◌∷◌, ◌++◌, map, filter, slice_get, Option, Some, Ok, refl, sym, ap, ap₂, subst, subst₂, ◌∙◌, append-nil}
+use Rattle.std.specs.List.{AllByRecursion}
 use Rattle.std.specs.List.Sorted.{IsPermutation}
 use Rattle.std.proofs.lemmas.List.{append_assoc}
 use Rattle.std.proofs.lemmas.List.Sorted.{IsPermutation-map}
@@ -11,14 +11,11 @@ use Rattle.sqlite_trees.specs.Tree.{Trees, rowid, put_row}
 use Rattle.sqlite_sql.specs.Query.{Query, IsAnswer, Output, output}
 use Rattle.sqlite_sql.specs.Program.{overlay}
 use Rattle.sqlite_schema.specs.declared.schema.Table.{Table}
-use Rattle.sqlite_schema.specs.declared.schema.Reference.{Reference}
 use Rattle.sqlite_schema.specs.declared.schema.Keys.TheVariants.{Enforced}
 use Rattle.sqlite_schema.specs.declared.program.Program.{Program}
 use Rattle.sqlite_schema.specs.declared.command.Source.TheVariants as source
 use Rattle.sqlite_schema.specs.declared.command.Command.TheVariants.{Insert, Delete}
-use Rattle.sqlite_schema.specs.Rules.{parent_key}
 use Rattle.sqlite_rules.specs.declared.error.Rowids.TheVariants.{Chosen}
-use Rattle.sqlite_rules.specs.Action.{works, work_by, deed_of, pairs}
 use Rattle.sqlite_rules.specs.Calls.{ids_of}
 use Rattle.sqlite_rules.specs.Cast.{cast_row}
 use Rattle.sqlite_rules.specs.Edit.{edit_of, taken_by, with_rowid, numbered, without_all, put_all}
@@ -36,16 +33,9 @@ use Rattle.sql_tables.specs.Picking.{picked}
 use Rattle.sql_tables.proofs.Calls.{no_lets}
 use Rattle.sql_tables.proofs.Casts.{goes_last}
 use Rattle.sql_tables.proofs.Kept.{row_put, rows_gone}
+use Rattle.sql_tables.proofs.Tables.{idle}
 use Rattle.sql_tables.proofs.Writes.{went, same_value, inserts, deletes, removed}
 use Rattle.sql_making.proofs.Creates.{runs_in_batch}
-
--- no foreign key acts, whatever rows go and come
-pub idle : (tree : ℕ) (olds news : List Row) → works (book_schema Moved) Enforced 0 tree olds news ≡ []
-idle tree olds news =
-    elim (length news == 0) as (λ b. flat_map (λ (child : Table). filter_map (λ (ref : Reference). work_by 0 tree (pairs olds news) child ref (deed_of Enforced b (cond b ref.on_delete ref.on_update)) (parent_key (book_schema Moved).tables ref)) child.references) (book_schema Moved).tables ≡ []) [
-      | true ↦ refl
-      | false ↦ refl
-    ]
 
 -- the schema stays, and so do the rows of every other table
 pub record IsElsewhere (tree : ℕ) (old new : Database) : Type 0 where
@@ -115,7 +105,7 @@ module _ (at : ℕ) (table : Table) (place : slice_get (book_schema Moved).table
       let last = went mid.2 in
       let put : Edited (book_schema Moved) Enforced db (edit_of db table [] Chosen 0 given.0) (Ok mid.0) = subst (λ r. Edited (book_schema Moved) Enforced db (edit_of db table [] r 0 given.0) (Ok mid.0)) (chosen (count_of counter.0)) mid.1 in
       let edit = edit_of db table [] Chosen 0 given.0 in
-      let applied = one_step (book_schema Moved) Enforced db mid.0 edit (idle table.tree (taken_by db edit) edit.news) put in
+      let applied = one_step (book_schema Moved) Enforced db mid.0 edit (idle Moved table.tree (taken_by db edit) edit.news) put in
       let kept : last.0 ≡ mid.0 = uncounts (record { limit = old.step_limit; keys = Enforced; schema = book_schema Moved; table = table; params = [] }) mid.0 last.0 counter.0 _ uncounted last.1 in
       let trees : did.0.trees ≡ mid.0 = ap (λ (x : Written). x.trees) (same_value last.2) ∙ kept in
       let now : new.now ≡ record { schema = book_schema Moved; trees = mid.0 } = did.2 ∙ ap (λ (t : Trees). record { schema = book_schema Moved; trees = t }) trees in
@@ -158,7 +148,7 @@ module _ (at : ℕ) (table : Table) (place : slice_get (book_schema Moved).table
       let q : Program = record { lets = []; body = picked table.tree [] } in
       let w = runs_in_batch part old new (book_schema Moved) has (Delete at q) is plain count h in
       let did = deletes old new (book_schema Moved) has at table place [] _ count q w in
-      let gone = removed old.step_limit (book_schema Moved) table [] no_terms no_formats old.now.trees q did.0 (λ olds. idle table.tree olds []) did.1 in
+      let gone = removed old.step_limit (book_schema Moved) table [] no_terms no_formats old.now.trees q did.0 (λ olds. idle Moved table.tree olds []) did.1 in
       record {
         elsewhere_kept = elsewhere table.tree old.now new.now did.0.trees did.2 gone.2.tables;
         rows = gone.0;

@@ -27,7 +27,8 @@ use Rattle.sql_making.specs.Books.{versions_in}
 use Rattle.sql_making.specs.Text.{version_set_part}
 use Rattle.sql_making.specs.Then.{numbered_versions}
 use Rattle.sql_making.proofs.Means.{version_set_query, version_set_is, version_set_plain}
-use Rattle.sql_making.proofs.Changes.{idle, IsElsewhere, elsewhere}
+use Rattle.sql_tables.proofs.Tables.{idle}
+use Rattle.sql_making.proofs.Changes.{IsElsewhere, elsewhere}
 
 -- what the UPDATE shows of a row: its number, and the row in its place
 shown : Row → Row
@@ -68,7 +69,7 @@ sets_version old new count has h =
     let db = old.now.trees in
     let w = runs_in_batch version_set_part old new (book_schema Moved) has _ version_set_is version_set_plain count h in
     let did = updates old new (book_schema Moved) has 0 (book_table Moved) refl [] _ count q w in
-    let set = updated old.step_limit (book_schema Moved) (book_table Moved) [] refl refl db q did.0 (λ rows answers olds. idle 0 olds (edit_of db (book_table Moved) (ids_of rows) Given 1 rows).news) did.1 in (
+    let set = updated old.step_limit (book_schema Moved) (book_table Moved) [] refl refl db q did.0 (λ rows answers olds. idle Moved 0 olds (edit_of db (book_table Moved) (ids_of rows) Given 1 rows).news) did.1 in (
       elsewhere 0 old.now new.now did.0.trees did.2 set.2.tables,
       λ id v told.
           let r = one_row (db 0) (Int id) v told in

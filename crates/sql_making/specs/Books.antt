@@ -1,4 +1,4 @@
--- A database that a book has just been made in, and one that a book may be taken from.
+-- A database in which a book has just been made, and one from which a book may be taken.
 use Rattle.std.specs.Prelude.{◌≡◌, ◌⊎◌, ℕ, pos, false, List, [], ◌∷◌, drop, codes, IsSome}
 use Rattle.std.specs.List.{AllByRecursion}
 use Rattle.sqlite_disk.specs.Disk.{MoreFaults}
@@ -19,26 +19,26 @@ no_schema = record { tables = []; indexes = []; views = [] }
 abbrev pub IsBlank : Database → Type 0
 IsBlank db = AllByRecursion (λ t. db.trees t.tree ≡ []) db.schema.tables
 
--- the text that reads the version
+-- the SQL text that reads the version
 abbrev pub version_text : List ℕ
 version_text = codes "SELECT version FROM book ORDER BY rowid"
 
--- the tables of a book in a layout, with one row in the first, which says this version
+-- the tables of a book in a layout, whose first table has one row, with this version
 pub record IsBook (l : Layout) (db : Database) : Type 0 where
   pub schema : db.schema ≡ book_schema l
   pub version : versions_in l db.trees ≡ Int version_now ∷ []
 
--- the tables of a book without rows, which the database lists
+-- the newly made tables of a book, with the version row and no other; the database lists what it holds
 pub record IsNewBook (db : Database) : Type 0 where
   pub schema : db.schema ≡ book_schema Made
   pub version : db.trees (book_tree Made) ≡ (Int (pos 1) ∷ Int version_now ∷ []) ∷ []
   pub others : AllByRecursion (λ t. db.trees t.tree ≡ []) (drop 1 (book_schema Made).tables)
   pub listed : IsDatabase db
 
--- such trees, of a database with these tables: what a crash may leave is told as trees
+-- the same for the trees alone, since what a crash may leave is given as trees
 abbrev pub AreNewBook : Trees → Type 0
 AreNewBook trees = IsNewBook (record { schema = book_schema Made; trees = trees })
 
--- the store counted a fault or was shut before, or the connection has a limit on steps
+-- the store reported a fault or was closed before, or the connection has a step limit
 abbrev pub HasFailed : State → State → Type 0
 HasFailed old new = MoreFaults old.faults new.faults ⊎ ((old.is_open ≡ false) ⊎ IsSome old.step_limit)

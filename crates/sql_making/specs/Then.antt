@@ -13,13 +13,13 @@ use Rattle.sql_tables.specs.Lists.{Lists, lists_in}
 use Rattle.sql_making.specs.Books.{IsBook}
 use Rattle.sql_schema.specs.Old.{old_schema, version_then}
 
--- a head without the column that was added
+-- a row of a version 1 head, which lacks the `purged` column
 abbrev pub old_head_row : Head → Row
 old_head_row h =
     Int h.no ∷ Null ∷ Text h.client ∷ Int h.opened ∷ Int h.closed ∷ Int h.last ∷ Int h.entries ∷ Int h.held ∷
     Int h.available ∷ Int h.disputed ∷ Int h.fees ∷ Int h.claims ∷ Int h.pending ∷ []
 
--- such a matter was not purged
+-- the head that such a row stands for, of a matter that was not purged
 abbrev pub old_head_in : Row → Head
 old_head_in r = record {
   no = id_in (column r 0);
@@ -40,7 +40,7 @@ old_head_in r = record {
 abbrev pub OldHeadsHold : List Row → Type 0
 OldHeadsHold = Holds old_head_row old_head_in (λ (x : Head). x.no)
 
--- the schema is that of version 1, and each table holds rows of its columns' kinds, in the order of their rowids
+-- the schema is that of version 1, and each table holds rows with the kinds of its columns, in rowid order
 pub record Stood (db : Database) : Type 0 where
   pub schema : db.schema ≡ old_schema
   pub heads : OldHeadsHold (db.trees old_matter_table.tree)
@@ -63,21 +63,21 @@ lists_then db = record {
   balances = balances_in Moved db;
 }
 
--- the text that reads the version and the number of its row
+-- the SQL text that reads the version and the number of its row
 abbrev pub old_version_text : List ℕ
 old_version_text = codes "SELECT rowid, version FROM book ORDER BY rowid"
 
--- what it shows of each row
+-- the row number and version that it shows of each row
 abbrev pub numbered_versions : Trees → List Row
 numbered_versions db = map (λ (r : Row). column r 0 ∷ column r 1 ∷ []) (db (book_tree Moved))
 
--- the tables of version 1, with one row in the first, which has a number and says version 1
+-- the tables of version 1, whose first table has one numbered row, with version 1
 pub record IsOldBook (db : Database) : Type 0 where
   pub schema : db.schema ≡ old_schema
   pub id : ℤ
   pub version : numbered_versions db.trees ≡ (Int id ∷ Int version_then ∷ []) ∷ []
 
--- the tables that version 2 keeps have their rows, and so has the database's own table of counts
+-- the tables that version 2 keeps are unchanged, and so is the database's own table of counts
 pub record KeepsTables (db next : Trees) : Type 0 where
   pub movements : next (journal_tree Moved) ≡ db (journal_tree Moved)
   pub firm_lines : next (firm_line_tree Moved) ≡ db (firm_line_tree Moved)
@@ -85,7 +85,7 @@ pub record KeepsTables (db next : Trees) : Type 0 where
   pub balances : next (balance_tree Moved) ≡ db (balance_tree Moved)
   pub counts : next (sequence_tree Moved) ≡ db (sequence_tree Moved)
 
--- where the old tables stood for records, the new ones stand for the same, row by row, and the old three are empty
+-- if the old tables stood for records, the new ones stand for the same, row by row, and the old three are empty
 pub record SameRows (db next : Database) : Type 0 where
   pub stands : Stands Moved next
   pub lists : lists_in Moved next.trees ≡ lists_then db.trees
@@ -95,13 +95,13 @@ pub record SameRows (db next : Database) : Type 0 where
   pub no_old_seats : next.trees old_seat_table.tree ≡ []
   pub no_old_entries : next.trees old_entry_table.tree ≡ []
 
--- a book of this version, made of one of version 1, in a database that lists what it holds
+-- a book of this version, made from one of version 1, in a database that lists what it holds
 pub record IsMoved (db next : Database) : Type 0 where
   pub book : IsBook Moved next
   pub listed : IsDatabase next
   pub keeps : KeepsTables db.trees next.trees
   pub same : Stood db → SameRows db next
 
--- such trees, of a database with these tables: what a crash may leave is told as trees
+-- the same for the trees alone, since what a crash may leave is given as trees
 abbrev pub AreMoved : Database → Trees → Type 0
 AreMoved db trees = IsMoved db (record { schema = book_schema Moved; trees = trees })

@@ -1,4 +1,4 @@
-//! The text that moves the rows of version 1. Written by tools/moving-tables.
+//! The SQL script that moves the rows of version 1. Written by tools/moving-tables.
 
 ghost use Rattle.std.specs.Prelude.{◌≡◌, OnOk, IsTrue};
 ghost use Rattle.sqlite.specs.Held.{state};
@@ -7,7 +7,7 @@ ghost use Rattle.sql_making.specs.Then.{IsOldBook, IsMoved};
 
 use sqlite::{Alter, Error, Transaction};
 
-// Makes the three tables that are new, copies the rows of the three that are old, empties those and sets the version.
+// Creates the three new tables, copies the rows of the old three into them, empties those and sets the version.
 pub(crate) fn copy<S: Alter>(tx: &mut Transaction<'_, S>) -> Result<(), Error>
     ensures same_reference { tx.new.conn.ghost_name ≡ tx.old.conn.ghost_name }
     ensures moved { HasCleanDisk (state S.Store tx.new.conn.now) → IsOldBook (state S.Store tx.old.conn.now).now

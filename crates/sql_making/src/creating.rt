@@ -1,4 +1,4 @@
-//! The text that makes the tables, and the version. Written by tools/book-tables.
+//! The SQL that creates the tables, and their version. Written by tools/book-tables.
 
 ghost use Rattle.std.specs.Prelude.{◌≡◌, ◌↔◌, Some, OnOk, IsTrue};
 ghost use Rattle.sqlite.specs.Held.{state};
@@ -8,14 +8,14 @@ ghost use Rattle.sql_schema.specs.Schema.{version_now};
 
 use sqlite::{Alter, Error, Transaction};
 
-// Whether that is the version of these tables.
+// Whether this is the current version of the tables.
 pub(crate) fn is_now(version: Option<i64>) -> bool
     ensures { IsTrue result ↔ (version ≡ Some version_now) }
 {
     version == Some(2)
 }
 
-// Makes the tables and the row of the version. Their order fixes the layout.
+// Creates the tables and the version row. The order of creation fixes the layout.
 pub(crate) fn create<S: Alter>(tx: &mut Transaction<'_, S>) -> Result<(), Error>
     ensures same_reference { tx.new.conn.ghost_name ≡ tx.old.conn.ghost_name }
     ensures made { HasCleanDisk (state S.Store tx.new.conn.now) → (state S.Store tx.old.conn.now).now.schema ≡ no_schema

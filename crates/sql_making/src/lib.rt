@@ -1,5 +1,5 @@
-//! Making a book's tables in an empty database, and taking a database that has them; one of version 1 is moved into the
-//! tables of this version.
+//! Making a book's tables in an empty database, and taking a database that already has them. A book of version 1 is
+//! moved into the tables of this version.
 #![tactic(auto)]
 
 mod copying;

@@ -21,7 +21,7 @@ fn is_no_schema(schema: &Schema) -> bool
     schema.tables.is_empty() && schema.indexes.is_empty() && schema.views.is_empty()
 }
 
-// The tables of a book, all or none.
+// Creates a book's tables in one transaction, all or none.
 fn build<S: Alter>(conn: &mut Connection<S>) -> Result<(), Error>
     requires { conn.old.in_transaction ≡ false }
     ensures mode { conn.new.in_transaction ≡ false }
@@ -35,17 +35,19 @@ fn build<S: Alter>(conn: &mut Connection<S>) -> Result<(), Error>
     ensures crash { (state S.Store conn.old).now.schema ≡ no_schema
         → Survives (state S.Store conn.old) (state S.Store conn.new) AreNewBook }
 {
-    // Outside a transaction what is seen is what was committed, so going back to the commit changes nothing.
+    // Outside a transaction, what is seen is what was committed, so going back to the commit changes nothing.
     let _settled = conn.is_autocommit();
     let mut tx = conn.transaction();
     create(&mut tx)?;
     tx.commit()
 }
 
-/// Writes the tables of this version into an empty database, in one transaction: all or none, also over a crash. Beside
-/// another table, an index or a view they would lie elsewhere, so a database that is not empty, and no other, is
-/// NotABook: it stays as it is. Asks that no transaction is open. After another fault a connection that stays open sees
-/// what it saw.
+/// Creates the tables of this version in an empty database, in one transaction: all or none, even after a crash. No
+/// transaction may be open.
+///
+/// Returns `NotABook` exactly if the database is not empty, and leaves it unchanged: beside another table, index or
+/// view the new tables would lie elsewhere. After another fault, a connection that stays open sees what it saw
+/// before.
 pub fn make<S: Alter>(conn: &mut Connection<S>) -> Result<(), OpenFault>
     requires { conn.old.in_transaction ≡ false }
     ensures mode { conn.new.in_transaction ≡ false }

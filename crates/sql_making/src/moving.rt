@@ -26,7 +26,7 @@ fn fault(error: Error) -> OpenFault
     }
 }
 
-// The rows of version 1 in the tables of this version, all or none.
+// Moves the rows of version 1 into the tables of this version, all or none.
 fn carry<S: Alter>(conn: &mut Connection<S>) -> Result<(), Error>
     requires { conn.old.in_transaction ≡ false }
     ensures mode { conn.new.in_transaction ≡ false }
@@ -39,16 +39,16 @@ fn carry<S: Alter>(conn: &mut Connection<S>) -> Result<(), Error>
     ensures crash { Survives (state S.Store conn.old) (state S.Store conn.new)
         (λ trees. IsOldBook (state S.Store conn.old).now → AreMoved (state S.Store conn.old).now trees) }
 {
-    // Outside a transaction what is seen is what was committed, so going back to the commit changes nothing.
+    // Outside a transaction, what is seen is what was committed, so going back to the commit changes nothing.
     let _settled = conn.is_autocommit();
     let mut tx = conn.transaction();
     copy(&mut tx)?;
     tx.commit()
 }
 
-/// Moves the rows of a book of version 1 into the tables of this version, in one transaction: all or none, also over a
-/// crash. NotABook means that the database is no book of version 1: it stays as it is. After another fault a connection
-/// that stays open sees what it saw. Asks that no transaction is open.
+/// Moves the rows of a version 1 book into the tables of this version, in one transaction: all or none, even after a
+/// crash. Returns `NotABook`, and leaves the database unchanged, if it is not a version 1 book. After another fault,
+/// a connection that stays open sees what it saw before. No transaction may be open.
 pub fn move_up<S: Alter>(conn: &mut Connection<S>) -> Result<(), OpenFault>
     requires { conn.old.in_transaction ≡ false }
     ensures mode { conn.new.in_transaction ≡ false }
@@ -79,11 +79,12 @@ pub fn move_up<S: Alter>(conn: &mut Connection<S>) -> Result<(), OpenFault>
     }
 }
 
-/// The layout of the book that the database holds: one of this version is taken as it is, and one of version 1 is moved
-/// first, in one transaction. NotABook means that there is neither; then, and after another fault of a connection that
-/// stays open, the database is as it was. Where there is no book of version 1, Store means that the store failed
-/// or the connection has a limit on steps. A crash leaves what was there or the book with its rows moved. Asks that no
-/// transaction is open.
+/// Returns the layout of the book that the database holds. A book of this version is taken as it is; one of version 1
+/// is first moved, in one transaction. No transaction may be open.
+///
+/// Returns `NotABook` if the database holds neither. After that, or after another fault on a connection that stays
+/// open, the database is unchanged. Without a version 1 book, `Store` means that the store failed or the connection
+/// has a step limit. A crash leaves what was there, or the book with its rows moved.
 pub fn adopt<S: Alter>(conn: &mut Connection<S>) -> Result<Layout, OpenFault>
     requires { conn.old.in_transaction ≡ false }
     ensures mode { conn.new.in_transaction ≡ false }

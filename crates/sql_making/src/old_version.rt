@@ -1,4 +1,4 @@
-//! Whether a database is a book of version 1.
+//! Checks whether a database is a book of version 1.
 
 ghost use Rattle.std.specs.Prelude.{◌≡◌, ◌↔◌, ◌⊎◌, ℤ, false, [], ◌∷◌, Some, IfOk, IfErr, OnOk, IsTrue};
 ghost use Rattle.std.specs.List.Sorted.{IsPermutation};
@@ -14,7 +14,7 @@ ghost use Rattle.sql_tables.specs.Script.{IsSettled};
 use sqlite::{Alter, Connection, Error, ErrorCode, Row};
 use sqlite_value::value::ValueRef;
 
-// The number of the row, where the rows are just one of a number and of version 1.
+// Returns the number of the row if it is the only one, has a number and holds version 1.
 fn old_number(rows: &[Row]) -> Option<i64>
     ensures { (id : ℤ) → (result ≡ Some id) ↔ (rows.now ≡ (Int id ∷ Int version_then ∷ []) ∷ []) }
 {
@@ -30,7 +30,7 @@ fn old_number(rows: &[Row]) -> Option<i64>
     }
 }
 
-// The rows of the table that says the version, with their numbers.
+// Returns the rows of the version table, with their numbers.
 fn old_version_rows<S: Alter>(conn: &mut Connection<S>) -> Result<Vec<Row>, Error>
     requires { conn.old.in_transaction ≡ false }
     ensures mode { conn.new.in_transaction ≡ false }
@@ -48,12 +48,13 @@ fn old_version_rows<S: Alter>(conn: &mut Connection<S>) -> Result<Vec<Row>, Erro
         → IsKept (state S.Store conn.old) (state S.Store conn.new) }
     ensures crash { Survives (state S.Store conn.old) (state S.Store conn.new) (λ _. ⊥) }
 {
-    // Outside a transaction what is seen is what was committed, so going back to the commit changes nothing.
+    // Outside a transaction, what is seen is what was committed, so going back to the commit changes nothing.
     let _settled = conn.is_autocommit();
     conn.query_all("SELECT rowid, version FROM book ORDER BY rowid", &[])
 }
 
-// The number of the row that says version 1, where it is the only one. Some clauses want the schema of version 1.
+// Returns the number of the row that holds version 1, if it is the only one. Some clauses require the version 1
+// schema.
 pub(crate) fn old_row<S: Alter>(conn: &mut Connection<S>) -> Result<Option<i64>, Error>
     requires { conn.old.in_transaction ≡ false }
     ensures mode { conn.new.in_transaction ≡ false }

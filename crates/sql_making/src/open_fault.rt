@@ -9,9 +9,9 @@ use sqlite::{Error, ErrorCode};
 pub enum OpenFault {
     /// The database failed.
     Store,
-    /// Memory was refused.
+    /// Out of memory.
     Memory,
-    /// The database holds something else, or nothing.
+    /// The database is empty or holds something else.
     NotABook,
 }
 

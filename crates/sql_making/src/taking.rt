@@ -17,7 +17,7 @@ use sql_schema::{Layout, layout_of};
 use sqlite::{Alter, Connection, Error, ErrorCode, Row};
 use sqlite_value::value::ValueRef;
 
-// The number, where the rows are just one of just one number.
+// Returns the number if the rows are a single row with a single number.
 fn one_number(rows: &[Row]) -> Option<i64>
     ensures { (v : ℤ) → (result ≡ Some v) ↔ (rows.now ≡ (Int v ∷ []) ∷ []) }
 {
@@ -33,7 +33,7 @@ fn one_number(rows: &[Row]) -> Option<i64>
     }
 }
 
-// The rows of the table that says the version.
+// Returns the rows of the version table.
 fn version_rows<S: Alter>(conn: &mut Connection<S>) -> Result<Vec<Row>, Error>
     requires { conn.old.in_transaction ≡ false }
     ensures mode { conn.new.in_transaction ≡ false }
@@ -56,13 +56,13 @@ fn version_rows<S: Alter>(conn: &mut Connection<S>) -> Result<Vec<Row>, Error>
     ensures crash { (l : Layout) → (state S.Store conn.old).now.schema ≡ book_schema l
         → Survives (state S.Store conn.old) (state S.Store conn.new) (λ _. ⊥) }
 {
-    // Outside a transaction what is seen is what was committed, so going back to the commit changes nothing.
+    // Outside a transaction, what is seen is what was committed, so going back to the commit changes nothing.
     let _settled = conn.is_autocommit();
     conn.query_all("SELECT version FROM book ORDER BY rowid", &[])
 }
 
-/// The version that the tables say, where they say just one. Its clauses want the schema of a book. It fails for want
-/// of memory, or since the store failed or the connection has a limit on steps. Asks that no transaction is open.
+/// Returns the version, if the version table holds exactly one. Its clauses require a book's schema. Fails if memory
+/// runs out, the store fails or the connection has a step limit. No transaction may be open.
 pub fn version_of<S: Alter>(conn: &mut Connection<S>) -> Result<Option<i64>, Error>
     requires { conn.old.in_transaction ≡ false }
     ensures mode { conn.new.in_transaction ≡ false }
@@ -89,7 +89,7 @@ pub fn version_of<S: Alter>(conn: &mut Connection<S>) -> Result<Option<i64>, Err
     Ok(one_number(rows.as_slice()))
 }
 
-// Whether the tables say this version; they are those of a layout.
+// Whether the version table, in a book's schema, holds this version.
 fn is_of_now<S: Alter>(conn: &mut Connection<S>) -> Result<bool, Error>
     requires { conn.old.in_transaction ≡ false }
     ensures mode { conn.new.in_transaction ≡ false }
@@ -115,9 +115,9 @@ fn is_of_now<S: Alter>(conn: &mut Connection<S>) -> Result<bool, Error>
     Ok(is_now(version))
 }
 
-/// The layout of the book that the database holds: its schema is a book's to the last column, and its tables say this
-/// version and no other. NotABook means that there is no such book, Store that the store failed or the connection has a
-/// limit on steps. Nothing is written, and no row of a matter is read. Asks that no transaction is open.
+/// Returns the layout of the book that the database holds, if its schema is exactly a book's and its version table
+/// holds this version and no other. Otherwise returns `NotABook`. Returns `Store` if the store failed or the
+/// connection has a step limit. Writes nothing and reads no row of a matter. No transaction may be open.
 pub fn adopt<S: Alter>(conn: &mut Connection<S>) -> Result<Layout, OpenFault>
     requires { conn.old.in_transaction ≡ false }
     ensures mode { conn.new.in_transaction ≡ false }
@@ -135,7 +135,7 @@ pub fn adopt<S: Alter>(conn: &mut Connection<S>) -> Result<Layout, OpenFault>
         → IsKept (state S.Store conn.old) (state S.Store conn.new) }
     ensures crash { Survives (state S.Store conn.old) (state S.Store conn.new) (λ _. ⊥) }
 {
-    // The query has a meaning under such a schema alone.
+    // The query has a meaning only under such a schema.
     let Some(layout) = layout_of(conn.schema()) else {
         return Err(OpenFault::NotABook);
     };

@@ -1,15 +1,16 @@
 -- An entry that is read back from its columns, and the one of a number.
-use Rattle.std.proofs.Common.{◌≡◌, ℕ, ℤ, pos, List, find, Some, option_map, Result, Ok, Err, IfOk, refl, sym, ap, ◌∙◌}
+use Rattle.std.proofs.Common.{◌≡◌, ℕ, ℤ, pos, List, ◌∷◌, find, Some, option_map, Result, Ok, Err, IfOk, sym, ap, ◌∙◌}
 use Rattle.std.specs.List.{AllByRecursion}
 use Rattle.sqlite_keyed.proofs.KeyedLemmas.{same_int}
 use Rattle.sqlite_keyed.proofs.ListLemmas.{all_of}
 use Rattle.sqlite_keyed.proofs.RuleLemmas.{second_of_both}
+use Rattle.sqlite_value.specs.declared.value.Value.TheVariants.{Int}
 use Rattle.sqlite_value.specs.Order.{Row}
 use Rattle.trust_base.specs.declared.refusal.StoreFault.{StoreFault}
 use Rattle.matter_parts.specs.declared.kept.Kept.{Kept}
 use Rattle.matter_parts.specs.Parts.{kept_at}
 use Rattle.sql_tables.specs.Lists.{Lists}
-use Rattle.sql_tables.specs.Rows.{Entry, entry_shown, numbered_shown, is_entry_at}
+use Rattle.sql_tables.specs.Rows.{Entry, entry_in, entry_shown, is_entry_at}
 use Rattle.sql_rows.specs.Entries.{entry_columns}
 use Rattle.sql_rows.specs.Meaning.{AreSound, kept_from}
 use Rattle.sql_rows.proofs.Back.{entries_back}
@@ -22,27 +23,13 @@ use Rattle.sql_reads.proofs.Parts.{parts_whole}
 entry_back : (m : ℕ) (k : Kept) (columns : Entry) → entry_columns m k.number k.left k.entry ≡ columns → k ≡ kept_from columns
 entry_back m k columns is = sym (entries_back m k.number k.left k.entry) ∙ ap kept_from is
 
-module _ (m : ℕ) (of : ℤ) (columns : Entry) (row : Row) where
-  read_back : (r : Result Kept StoreFault) (P : Entry → Type 0) (was : Entry → Entry) → ((x : Entry) → P x → columns ≡ was x) → ((x : Entry) → P x → kept_from (was x) ≡ kept_from x)
-      → IfOk r (λ k. entry_columns m k.number k.left k.entry ≡ columns) → IfOk r (λ k. (x : Entry) → P x → k ≡ kept_from x)
-  read_back (Ok k) P was given same is = λ x p. entry_back m k columns is ∙ ap kept_from (given x p) ∙ same x p
-  read_back (Err e) P was given same is = tt
-
-  -- the entry of the columns of a row that shows its number is that for which the row stands
-  pub numbered_reads : (r : Result Kept StoreFault) → ((x : Entry) → row ≡ numbered_shown x → columns ≡ record x { id = pos 0; matter = of })
-      → IfOk r (λ k. entry_columns m k.number k.left k.entry ≡ columns) → IfOk r (λ k. (x : Entry) → row ≡ numbered_shown x → k ≡ kept_from x)
-  numbered_reads r given is = read_back r (λ x. row ≡ numbered_shown x) (λ x. record x { id = pos 0; matter = of }) given (λ x p. refl) is
-
-  both_reads : (n : ℤ) (number : ℕ) → n ≡ pos number → (r : Result Kept StoreFault) → ((x : Entry) → row ≡ entry_shown x → columns ≡ record x { id = pos 0; matter = of; no = n })
-      → IfOk r (λ k. entry_columns m k.number k.left k.entry ≡ columns) → IfOk r (λ k. (x : Entry) → row ≡ entry_shown x → x.no ≡ pos number → k ≡ kept_from x)
-  both_reads n number at (Ok k) given is = λ x shows own.
-      entry_back m k columns is ∙ ap kept_from (given x shows) ∙ ap (λ (z : ℤ). kept_from (record x { no = z })) (at ∙ sym own)
-  both_reads n number at (Err e) given is = tt
-
-  -- that of the columns of a row of a number is that for which a row of this number stands
-  pub entry_reads : (n : ℤ) (number : ℕ) → n ≡ pos number → (r : Result Kept StoreFault) → ((x : Entry) → row ≡ entry_shown x → columns ≡ record x { id = pos 0; matter = of; no = n })
-      → IfOk r (λ k. entry_columns m k.number k.left k.entry ≡ columns) → IfOk r (λ k. (x : Entry) → row ≡ entry_shown x → x.no ≡ pos number → k ≡ kept_from x)
-  entry_reads n number at r given is = both_reads n number at r given is
+-- the entry of the columns of a row of a number is that for which a row of this number stands
+pub entry_reads : (m : ℕ) (of : ℤ) (columns : Entry) (row : Row) (n : ℤ) (number : ℕ) → n ≡ pos number → (r : Result Kept StoreFault) → columns ≡ entry_in (Int (pos 0) ∷ Int of ∷ Int n ∷ row)
+    → IfOk r (λ k. entry_columns m k.number k.left k.entry ≡ columns) → IfOk r (λ k. (x : Entry) → row ≡ entry_shown x → x.no ≡ pos number → k ≡ kept_from x)
+entry_reads m of columns row n number at (Ok k) given is = λ x shows own.
+    entry_back m k columns is ∙ ap kept_from given ∙ ap (λ r. kept_from (entry_in (Int (pos 0) ∷ Int of ∷ Int n ∷ r))) shows
+    ∙ ap (λ (z : ℤ). kept_from (record x { no = z })) (at ∙ sym own)
+entry_reads m of columns row n number at (Err e) given is = tt
 
 -- an entry that was found has the number
 pub found_number : (m n : ℤ) (es : List Entry) (x : Entry) → find (is_entry_at m n) es ≡ Some x → x.no ≡ n

@@ -1,12 +1,13 @@
 -- A head that is read back from its columns.
-use Rattle.std.proofs.Common.{◌≡◌, zero, suc, ℕ, ◌==◌, false, ℤ, nat_abs, cond, List, Option, Some, None, IfSome, refl, ap, subst, ◌∙◌, arith}
+use Rattle.std.proofs.Common.{◌≡◌, zero, suc, ℕ, ◌==◌, false, ℤ, nat_abs, cond, List, ◌∷◌, Option, Some, None, IfSome, refl, ap, subst, ◌∙◌, arith}
 use Rattle.std.proofs.lemmas.Bool.Decides.{nat_tests}
+use Rattle.sqlite_value.specs.declared.value.Value.TheVariants.{Int, Null}
 use Rattle.sqlite_value.specs.Order.{Row}
 use Rattle.trust_base.specs.Limits.{IsDay}
 use Rattle.matter_rows.specs.declared.head.Head as kept
 use Rattle.matter_rows.specs.declared.head.Holder.{Holder}
 use Rattle.matter_rows.specs.declared.head.Holder.TheVariants.{Client, Purged}
-use Rattle.sql_tables.specs.Rows.{Head, head_shown}
+use Rattle.sql_tables.specs.Rows.{Head, head_in, head_shown}
 use Rattle.sql_rows.specs.Heads.{HasHead, HasTotals, IsHead, IsHolder, client_column, purged_column, closed_column}
 use Rattle.matter_parts.specs.declared.figures.Figures.{Figures}
 use Rattle.sql_rows.specs.Meaning.{day_or_none, figures_from, head_from}
@@ -49,9 +50,10 @@ totals_back f x has =
     λ i. record { entries = entries i; pending = pending i; held = held i; available = available i; disputed = disputed i; fees = fees i; claims = claims i }
 
 -- the head of the columns of a row is that for which the row stands, and so are its totals
-pub totals_read : (n : ℤ) (columns : Head) (row : Row) (h : kept.Head) (f : Figures) → ((x : Head) → row ≡ head_shown x → columns ≡ record x { no = n })
+pub totals_read : (n : ℤ) (columns : Head) (row : Row) (h : kept.Head) (f : Figures) → columns ≡ head_in (Int n ∷ Null ∷ row)
     → HasHead h columns → IsHead h → HasTotals f columns → (x : Head) → row ≡ head_shown x → record { head = h; figures = f } ≡ with_totals_from x
 totals_read n columns row h f given has is totals x shows =
-    let head : h ≡ head_from x = head_back h columns is has ∙ ap head_from (given x shows) in
-    let figures : f ≡ figures_from x = totals_back f columns totals ∙ ap figures_from (given x shows) in
+    let own : columns ≡ record x { no = n } = given ∙ ap (λ r. head_in (Int n ∷ Null ∷ r)) shows in
+    let head : h ≡ head_from x = head_back h columns is has ∙ ap head_from own in
+    let figures : f ≡ figures_from x = totals_back f columns totals ∙ ap figures_from own in
     λ i. record { head = head i; figures = figures i }

@@ -6,7 +6,6 @@ pub mod Gathered
 pub mod HeadsRead
 pub mod NamedEntries
 pub mod Parts
-pub mod Values
 pub mod AllMatters
 pub mod Answer
 pub mod Fed

@@ -16,7 +16,7 @@ use Rattle.trust_store.specs.Named.{IsPartFor}
 use Rattle.trust_store.proofs.PartsFor.{part-for, unopened-for}
 use Rattle.sql_tables.specs.Lists.{Lists}
 use Rattle.sql_rows.specs.Meaning.{AreSound, firm_from}
-use Rattle.sql_reads.specs.declared.head.HeadWithTotals.{HeadWithTotals}
+use Rattle.sql_reads.specs.declared.matter.HeadWithTotals.{HeadWithTotals}
 use Rattle.sql_reads.specs.Parts.{KeepsAlso, KeepsOnly, is_named_by, part_at, with_totals_at}
 use Rattle.sql_reads.proofs.Parts.{head_found, none_rows, parts_whole}
 

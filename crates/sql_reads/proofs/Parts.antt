@@ -19,7 +19,7 @@ use Rattle.sql_rows.specs.Meaning.{AreSound, HasHeadAt, IsWrittenHead, firm_from
 use Rattle.sql_rows.proofs.HeadOrder.{IsNumbered, rows_found, rows_in-made}
 use Rattle.sql_rows.proofs.RowOrder.{all-find}
 use Rattle.sql_rows.specs.Steps.{head_at}
-use Rattle.sql_reads.specs.declared.head.HeadWithTotals.{HeadWithTotals}
+use Rattle.sql_reads.specs.declared.matter.HeadWithTotals.{HeadWithTotals}
 use Rattle.sql_reads.specs.Parts.{PartsAreWhole, figures_found, part_at, part_of, totals_of, with_totals_at, with_totals_from}
 
 unopened_whole : IsWhole (record { head = None; seats = []; figures = no_figures; kept = [] }) unopened
@@ -108,7 +108,7 @@ alone None = refl
 alone (Some h) = refl
 
 -- without the totals it is the head alone
-pub head_alone : (m : ℕ) (a : Lists) (o : Option HeadWithTotals) → o ≡ with_totals_at m a → option_map (λ (x : HeadWithTotals). x.head) o ≡ head_at m a
+head_alone : (m : ℕ) (a : Lists) (o : Option HeadWithTotals) → o ≡ with_totals_at m a → option_map (λ (x : HeadWithTotals). x.head) o ≡ head_at m a
 head_alone m a o found = ap (option_map (λ (x : HeadWithTotals). x.head)) found ∙ alone (find (table.is_head (pos m)) a.heads)
 
 totals_found : (f : Option table.Head) → totals_of (option_map with_totals_from f) ≡ figures_found f

@@ -1,5 +1,5 @@
 -- What a row shows is what it stands for.
-use Rattle.std.proofs.Common.{◌≡◌, ℕ, ℤ, pos, nat_abs, Bool, List, [], ◌∷◌, map, filter, find, take, slice_get, Option, Some, None, option_map, inl, inr, refl, sym, ap, ◌∙◌}
+use Rattle.std.proofs.Common.{◌≡◌, ℕ, ℤ, pos, nat_abs, Bool, List, [], ◌∷◌, map, filter, find, take, slice_get, Option, Some, None, option_map, inl, inr, refl, sym, ap, ◌∙◌, rules, SFits, to_z, of_z, w64}
 use Rattle.std.proofs.lemmas.Bool.{cases_Bool}
 use Rattle.sqlite_value.specs.declared.value.Value.{Value}
 use Rattle.sqlite_value.specs.declared.value.Value.TheVariants.{Int, Null, Text}
@@ -12,7 +12,7 @@ use Rattle.sql_tables.specs.Rows as table
 use Rattle.sql_rows.specs.Meaning.{head_from, kept_from, seat_from}
 use Rattle.sql_rows.specs.Meaning.{movement_from, firm_line_from, exception_from, balance_from}
 use Rattle.sql_reads.proofs.HeadsRead.{head_back}
-use Rattle.sql_reads.specs.declared.heads.NumberedHead.{NumberedHead}
+use Rattle.sql_reads.specs.declared.matters.NumberedHead.{NumberedHead}
 use Rattle.sql_reads.specs.Shown.{kept_at, next_at, numbered_from, seat_at}
 use Rattle.sql_reads.specs.Shown.{movement_at, firm_line_at, exception_at, balance_at}
 
@@ -22,8 +22,8 @@ use Rattle.sql_reads.specs.Shown.{movement_at, firm_line_at, exception_at, balan
 abbrev pub number_of : Value → ℤ
 number_of v = (table.head_in (v ∷ [])).no
 
-pub number_read : (r : Row) (at : ℕ) (z : ℤ) → column r at ≡ Int z → z ≡ number_of (column r at)
-number_read r at z is = sym (ap number_of is)
+pub number_held : (r : Row) (at : ℕ) (z : ℤ) → column r at ≡ Int z → SFits w64 z → to_z w64 (of_z w64 z) ≡ number_of (column r at)
+number_held r at z is fits = let same : to_z w64 (of_z w64 z) ≡ z = search rules in same ∙ sym (ap number_of is)
 
 pub text_read : (r : Row) (at : ℕ) (t : List ℕ) → column r at ≡ Text t → t ≡ bytes (column r at)
 text_read r at t is = sym (ap bytes is)
@@ -31,12 +31,12 @@ text_read r at t is = sym (ap bytes is)
 -- The head behind a number.
 
 pub numbered_back : (r : Row) (m : ℕ) (h : Head) (columns : table.Head) → column r 12 ≡ Int (pos m)
-    → columns ≡ table.head_in (column r 12 ∷ Null ∷ r) → IsHead h → HasHead h columns
+    → columns ≡ table.head_in (Int (pos m) ∷ Null ∷ r) → IsHead h → HasHead h columns
     → record { matter = m; head = h } ≡ next_at r
 numbered_back r m h columns at given is has =
     let number : m ≡ nat_abs (number_of (column r 12)) = sym (ap (λ v. nat_abs (number_of v)) at) in
     let own : h ≡ head_from (table.head_in (column r 12 ∷ Null ∷ r)) =
-    head_back h columns is has ∙ ap head_from given in
+    head_back h columns is has ∙ ap head_from given ∙ ap (λ v. head_from (table.head_in (v ∷ Null ∷ r))) (sym at) in
     λ i. record { matter = number i; head = own i }
 
 module _ (p : table.Head → Bool) where

@@ -9,7 +9,7 @@ use Rattle.trust_store.specs.Calls.{AreHanded}
 use Rattle.sql_tables.specs.Lists.{Lists, lists_in}
 use Rattle.sql_tables.specs.Rows.{heads_in, is_past}
 use Rattle.sql_rows.specs.Standing.{StandsSound, firm_in}
-use Rattle.sql_reads.specs.declared.heads.NumberedHead.{NumberedHead}
+use Rattle.sql_reads.specs.declared.matters.NumberedHead.{NumberedHead}
 use Rattle.sql_reads.specs.Shown.{numbered_from, rows_at}
 use Rattle.sql_reads.proofs.Shown.{none_left, some_left}
 use Rattle.sql_reads.proofs.Walk.{IsReached, at_end, reached, refused, stopped, stopped_within}

@@ -1,11 +1,11 @@
--- A sink that was handed rows.
+-- Sinks to which rows were passed.
 use Rattle.std.specs.Prelude.{◌≡◌, ◌⊎◌, ℕ, List, length, fold, Result, OnOk, OnErr, IfOk}
 use Rattle.sqlite_value.specs.Order.{Row}
 use Rattle.sqlite.specs.State.{State, Shown, Begins}
 use Rattle.firm_rows.specs.Countable.{AreCountable}
 use Rattle.trust_store.specs.Books.{FoldsFront}
 
--- the sink took all rows of the answer, in order; at an error it took the rows with which an answer begins, or none
+-- on Ok the sink took all rows of the answer, in order; on an error it took the first rows of an answer, or none
 pub record IsFed {K E : Type 0} (step : K → Row → K) (Fits : Row → Type 0) (sql : List ℕ) (params : Row)
     (shows leaves : State) (result : Result ℕ E) (old new : K) : Type 0 where
   pub all : IfOk result
@@ -14,7 +14,7 @@ pub record IsFed {K E : Type 0} (step : K → Row → K) (Fits : Row → Type 0)
   pub some : OnErr result
       ((new ≡ old) ⊎ ((rows : List Row) × Begins sql params shows rows × (new ≡ fold step old rows)))
 
--- a sink was handed all of the rows, whose count was answered, or at an error some front of them
+-- on Ok the sink was passed all rows, and their count was returned; on an error it was passed a prefix of them
 pub record AreCounted {S A E : Type 0} (step : S → A → S) (rows : List A) (result : Result ℕ E) (old new : S)
     : Type 0 where
   pub all : OnOk result (new ≡ fold step old rows)

@@ -10,31 +10,31 @@ use Rattle.sql_tables.specs.Lists.{Lists}
 use Rattle.sql_tables.specs.Rows as table
 use Rattle.sql_rows.specs.Meaning.{AreSound, figures_from, firm_from, head_from, kept_from, seat_from}
 use Rattle.sql_rows.specs.Steps.{head_at}
-use Rattle.sql_reads.specs.declared.head.HeadWithTotals.{HeadWithTotals}
+use Rattle.sql_reads.specs.declared.matter.HeadWithTotals.{HeadWithTotals}
 
--- the totals of the head that was found; without one there are none
+-- the totals of the head that was found; zero totals without one
 abbrev pub figures_found : Option table.Head → Figures
 figures_found None = no_figures
 figures_found (Some h) = figures_from h
 
--- the totals that are kept with the head of a matter
+-- the totals that are stored with the head of a matter
 abbrev pub figures_at : ℕ → Lists → Figures
 figures_at m a = figures_found (find (table.is_head (pos m)) a.heads)
 
--- a head with the totals that are kept with it
+-- a head with its stored totals
 abbrev pub with_totals_from : table.Head → HeadWithTotals
 with_totals_from h = record { head = head_from h; figures = figures_from h }
 
--- that of a matter, if it was opened
+-- the head of a matter with its stored totals, if it was opened
 abbrev pub with_totals_at : ℕ → Lists → Option HeadWithTotals
 with_totals_at m a = option_map with_totals_from (find (table.is_head (pos m)) a.heads)
 
--- the totals that were read with the head; without one there are none
+-- the totals that were read with the head; zero totals without one
 abbrev pub totals_of : Option HeadWithTotals → Figures
 totals_of None = no_figures
 totals_of (Some h) = h.figures
 
--- a matter of what was read
+-- the matter that was read
 abbrev pub part_of : Option HeadWithTotals → List Seat → List Kept → Part
 part_of opened seats kept = record {
   head = option_map (λ (h : HeadWithTotals). h.head) opened;
@@ -52,7 +52,7 @@ part_at m a = record {
   kept = map kept_from (table.entries_of (pos m) a.entries);
 }
 
--- with its number
+-- the same, with the number of the matter
 abbrev pub numbered_at : Lists → ℕ → KeptMatter
 numbered_at a m = record { number = m; matter = part_at m a }
 
@@ -60,19 +60,19 @@ numbered_at a m = record { number = m; matter = part_at m a }
 abbrev pub without_matters : Firm → Firm
 without_matters firm = record firm { rows = [] }
 
--- where the rows stand for those of a sound firm, these are all rows of the matter
+-- if the rows stand for those of a sound firm, these are all rows of the matter
 abbrev pub PartsAreWhole : Type 0
 PartsAreWhole = (m : ℕ) (a : Lists) → AreSound a → IsWhole (part_at m a) (of m (firm_from a))
 
--- the number is that of the named entry, or of the one that it draws on
+-- the number is that of the named entry, or of the entry that it draws on
 abbrev pub is_named_by : Part → Option ℕ → ℕ → Bool
 is_named_by m named n = is_it named n || n == target_by m named
 
--- of all entries of a matter, only those of these numbers are kept
+-- exactly the entries with these numbers are kept, of all entries of a matter
 abbrev pub KeepsOnly : (ℕ → Bool) → List Kept → List Kept → Type 0
 KeepsOnly has all kept = (n : ℕ) → kept_in kept n ≡ cond (has n) (kept_in all n) None
 
--- where only those of some numbers were kept, those of these are kept too, and no others
+-- if only entries with some numbers were kept before, now those with these numbers are kept too, and no others
 abbrev pub KeepsAlso : (ℕ → Bool) → List Kept → List Kept → List Kept → Type 0
 KeepsAlso more all old new =
     (has : ℕ → Bool) → KeepsOnly has all old → KeepsOnly (λ n. has n || more n) all new

@@ -1,4 +1,4 @@
--- What a row that a query shows stands for.
+-- What the row of a query stands for.
 use Rattle.std.specs.Prelude.{◌≡◌, ℕ, pos, nat_abs, List, ◌∷◌, ◌++◌, map}
 use Rattle.sqlite_value.specs.declared.value.Value.TheVariants.{Int, Null}
 use Rattle.sqlite_value.specs.Order.{Row, column}
@@ -14,13 +14,13 @@ use Rattle.sql_tables.specs.Lists.{Lists}
 use Rattle.sql_tables.specs.Rows as table
 use Rattle.sql_rows.specs.Meaning.{head_from, kept_from, seat_from}
 use Rattle.sql_rows.specs.Meaning.{movement_from, firm_line_from, exception_from, balance_from}
-use Rattle.sql_reads.specs.declared.heads.NumberedHead.{NumberedHead}
+use Rattle.sql_reads.specs.declared.matters.NumberedHead.{NumberedHead}
 
 -- the seat that a row of a matter shows
 abbrev pub seat_at : ℕ → Row → Seat
 seat_at m r = seat_from (table.seat_in (Int (pos 0) ∷ Int (pos m) ∷ r))
 
--- the entry that a row of a matter shows behind its number
+-- the entry that a row of a matter shows after its number
 abbrev pub kept_at : ℕ → Row → Kept
 kept_at m r = kept_from (table.entry_in (Int (pos 0) ∷ Int (pos m) ∷ r))
 
@@ -28,11 +28,11 @@ kept_at m r = kept_from (table.entry_in (Int (pos 0) ∷ Int (pos m) ∷ r))
 abbrev pub numbered_from : table.Head → NumberedHead
 numbered_from h = record { matter = nat_abs h.no; head = head_from h }
 
--- the head that a row shows in front of its number
+-- the head that a row shows before its number
 abbrev pub next_at : Row → NumberedHead
 next_at r = numbered_from (table.head_in (column r 12 ∷ Null ∷ r))
 
--- these are the numbers of the heads, in their order
+-- the numbers are those of the heads, in order
 abbrev pub AreNumbersOf : List table.Head → List ℕ → Type 0
 AreNumbersOf heads numbers = map pos numbers ≡ map (λ (h : table.Head). h.no) heads
 

@@ -1,4 +1,4 @@
-// A balance that the bank told of.
+// A single balance that the bank reported.
 
 ghost use Rattle.std.specs.Prelude.{◌≡◌, ◌≢◌, ℤ, false, IfOk, IfErr};
 ghost use Rattle.sqlite_value.specs.declared.value.Value.TheVariants.{Int};
@@ -19,7 +19,7 @@ use sql_tables::reads::balance_rows;
 use sqlite::{Alter, Connection, Row};
 use trust_base::{BankAmount, Day, StoreFault};
 
-// The amount that a row shows. One that no line of the bank has is Store.
+// Reads the amount of a row. Returns `Store` for an amount that no bank line can have.
 fn amount_in(row: &Row) -> Result<i64, StoreFault>
     ensures ok { IfOk result (λ n. (column row.now 0 ≡ Int n) × IsBankAmount n) }
     ensures none { IfErr result (λ e. (n : ℤ) → IsBankAmount n → column row.now 0 ≢ Int n) }
@@ -31,8 +31,8 @@ fn amount_in(row: &Row) -> Result<i64, StoreFault>
     }
 }
 
-/// The balance of a kind and day, in cents, or None where none is kept. An amount that no line of the bank has is
-/// Store.
+/// Returns the balance of a kind and day in cents, or `None` if none is stored. Returns `Store` for an amount that no
+/// bank line can have.
 pub fn balance_at<S: Alter>(
     conn: &mut Connection<S>,
     kind: BalanceKind,

@@ -1,33 +1,22 @@
-// The columns of a row, as its query shows them.
+// Reads the columns of a query's row. Returns `Store` if a value does not have its column's type.
 
-ghost use Rattle.std.specs.Prelude.{◌≡◌, ◌≢◌, pos, IfOk, IfErr};
+ghost use Rattle.std.specs.Prelude.{◌≡◌, ◌≢◌, ◌∷◌, pos, IfOk, IfErr};
+ghost use Rattle.sqlite_value.specs.declared.value.Value.TheVariants.{Int, Null};
 ghost use Rattle.sql_tables.specs.Rows as table;
-ghost use Rattle.sql_tables.specs.Given.{head_given, seat_given, entry_given, firm_line_given};
+ghost use Rattle.sql_tables.specs.Given.{head_given, seat_given, entry_given, movement_given, firm_line_given};
+ghost use Rattle.sql_tables.specs.Given.{exception_given, balance_given};
 
 use crate::value::{number_at, text_at};
-use sql_tables::{EntryColumns, FirmLineColumns, HeadColumns, SeatColumns};
+use sql_tables::{
+    BalanceColumns, EntryColumns, ExceptionColumns, FirmLineColumns, HeadColumns, MovementColumns,
+    SeatColumns,
+};
 use sqlite::Row;
 use trust_base::StoreFault;
 
-/// The columns of a line of the firm, its texts those of the row. Values of other types are Store.
-pub(crate) fn firm_line_in(row: &Row) -> Result<FirmLineColumns<'_>, StoreFault>
-    ensures ok { IfOk result (λ c. (l : table.FirmLine) → row.now ≡ table.firm_line_values l
-        → firm_line_given c ≡ record l { seq = pos 0 }) }
-    ensures store { IfErr result (λ e. e ≡ StoreFault.Store) }
-    ensures none { IfErr result (λ e. (l : table.FirmLine) → row.now ≢ table.firm_line_values l) }
-{
-    Ok(FirmLineColumns {
-        day: number_at(row, 0)?,
-        bank_ref: text_at(row, 1)?,
-        amount: number_at(row, 2)?,
-        text: text_at(row, 3)?,
-    })
-}
-
-/// The columns of a seat of a matter, its text that of the row. Values of other types are Store.
+/// Reads the columns of a seat of a matter, borrowing its text from the row.
 pub(crate) fn seat_in(matter: i64, row: &Row) -> Result<SeatColumns<'_>, StoreFault>
-    ensures ok { IfOk result (λ c. (s : table.Seat) → row.now ≡ table.seat_shown s
-        → seat_given c ≡ record s { id = pos 0; matter = matter }) }
+    ensures ok { IfOk result (λ c. seat_given c ≡ table.seat_in (Int (pos 0) ∷ Int matter ∷ row.now)) }
     ensures store { IfErr result (λ e. e ≡ StoreFault.Store) }
     ensures none { IfErr result (λ e. (s : table.Seat) → row.now ≢ table.seat_shown s) }
 {
@@ -38,10 +27,9 @@ pub(crate) fn seat_in(matter: i64, row: &Row) -> Result<SeatColumns<'_>, StoreFa
     })
 }
 
-/// The columns of the head of a number, its text that of the row. Values of other types are Store.
+/// Reads the columns of the head of this number, borrowing its text from the row.
 pub(crate) fn head_in(no: i64, row: &Row) -> Result<HeadColumns<'_>, StoreFault>
-    ensures ok { IfOk result (λ c. (h : table.Head) → row.now ≡ table.head_shown h
-        → head_given c ≡ record h { no = no }) }
+    ensures ok { IfOk result (λ c. head_given c ≡ table.head_in (Int no ∷ Null ∷ row.now)) }
     ensures store { IfErr result (λ e. e ≡ StoreFault.Store) }
     ensures none { IfErr result (λ e. (h : table.Head) → row.now ≢ table.head_shown h) }
 {
@@ -62,10 +50,9 @@ pub(crate) fn head_in(no: i64, row: &Row) -> Result<HeadColumns<'_>, StoreFault>
     })
 }
 
-/// The columns of the entry of a number of a matter, its texts those of the row. Values of other types are Store.
+/// Reads the columns of the entry of this matter and number, borrowing its texts from the row.
 pub(crate) fn entry_in(matter: i64, no: i64, row: &Row) -> Result<EntryColumns<'_>, StoreFault>
-    ensures ok { IfOk result (λ c. (e : table.Entry) → row.now ≡ table.entry_shown e
-        → entry_given c ≡ record e { id = pos 0; matter = matter; no = no }) }
+    ensures ok { IfOk result (λ c. entry_given c ≡ table.entry_in (Int (pos 0) ∷ Int matter ∷ Int no ∷ row.now)) }
     ensures store { IfErr result (λ e. e ≡ StoreFault.Store) }
     ensures none { IfErr result (λ e. (e : table.Entry) → row.now ≢ table.entry_shown e) }
 {
@@ -90,10 +77,9 @@ pub(crate) fn entry_in(matter: i64, no: i64, row: &Row) -> Result<EntryColumns<'
     })
 }
 
-/// The columns of an entry of a matter behind its number, its texts those of the row. Values of other types are Store.
+/// Reads the columns of an entry of a matter, whose number comes first, borrowing its texts from the row.
 pub(crate) fn numbered_in(matter: i64, row: &Row) -> Result<EntryColumns<'_>, StoreFault>
-    ensures ok { IfOk result (λ c. (e : table.Entry) → row.now ≡ table.numbered_shown e
-        → entry_given c ≡ record e { id = pos 0; matter = matter }) }
+    ensures ok { IfOk result (λ c. entry_given c ≡ table.entry_in (Int (pos 0) ∷ Int matter ∷ row.now)) }
     ensures store { IfErr result (λ e. e ≡ StoreFault.Store) }
     ensures none { IfErr result (λ e. (e : table.Entry) → row.now ≢ table.numbered_shown e) }
 {
@@ -115,5 +101,55 @@ pub(crate) fn numbered_in(matter: i64, row: &Row) -> Result<EntryColumns<'_>, St
         bank_ref: text_at(row, 13)?,
         part: number_at(row, 14)?,
         left_now: number_at(row, 15)?,
+    })
+}
+
+/// Reads the columns of a movement.
+pub(crate) fn movement_in(row: &Row) -> Result<MovementColumns, StoreFault>
+    ensures { IfOk result (λ c. movement_given c ≡ table.movement_in (Int (pos 0) ∷ Null ∷ row.now)) }
+{
+    Ok(MovementColumns {
+        matter: number_at(row, 0)?,
+        entry: number_at(row, 1)?,
+        day: number_at(row, 2)?,
+        amount: number_at(row, 3)?,
+    })
+}
+
+/// Reads the columns of a line of the firm's own, borrowing its texts from the row.
+pub(crate) fn firm_line_in(row: &Row) -> Result<FirmLineColumns<'_>, StoreFault>
+    ensures ok { IfOk result (λ c. firm_line_given c ≡ table.firm_line_in (Int (pos 0) ∷ Null ∷ row.now)) }
+    ensures store { IfErr result (λ e. e ≡ StoreFault.Store) }
+    ensures none { IfErr result (λ e. (l : table.FirmLine) → row.now ≢ table.firm_line_values l) }
+{
+    Ok(FirmLineColumns {
+        day: number_at(row, 0)?,
+        bank_ref: text_at(row, 1)?,
+        amount: number_at(row, 2)?,
+        text: text_at(row, 3)?,
+    })
+}
+
+/// Reads the columns of an exception, borrowing its texts from the row.
+pub(crate) fn exception_in(row: &Row) -> Result<ExceptionColumns<'_>, StoreFault>
+    ensures { IfOk result (λ c. exception_given c ≡ table.exception_in (Int (pos 0) ∷ row.now)) }
+{
+    Ok(ExceptionColumns {
+        day: number_at(row, 0)?,
+        reference: text_at(row, 1)?,
+        bank_ref: text_at(row, 2)?,
+        amount: number_at(row, 3)?,
+        text: text_at(row, 4)?,
+    })
+}
+
+/// Reads the columns of a balance.
+pub(crate) fn balance_in(row: &Row) -> Result<BalanceColumns, StoreFault>
+    ensures { IfOk result (λ c. balance_given c ≡ table.balance_in (Int (pos 0) ∷ row.now)) }
+{
+    Ok(BalanceColumns {
+        kind: number_at(row, 0)?,
+        day: number_at(row, 1)?,
+        amount: number_at(row, 2)?,
     })
 }

@@ -6,7 +6,7 @@ ghost use Rattle.sqlite.specs.declared.error.ErrorCode.TheVariants.{OutOfMemory}
 use sqlite::{Error, ErrorCode, Row};
 use trust_base::StoreFault;
 
-/// The fault that an error of the connection is: Memory where it had none, and Store for any other.
+/// Converts an error of the connection: `Memory` if it ran out of memory, otherwise `Store`.
 pub fn fault_of(error: Error) -> StoreFault
     ensures { result ≡ StoreFault.Memory ↔ error ≡ Error.SqliteFailure OutOfMemory }
 {
@@ -16,7 +16,7 @@ pub fn fault_of(error: Error) -> StoreFault
     }
 }
 
-/// The rows of a query that answered, or the fault that its error is.
+/// Returns the rows of a query, or the fault for its error.
 pub fn answered(answer: Result<Vec<Row>, Error>) -> Result<Vec<Row>, StoreFault>
     ensures ok { IfOk result (λ rows. answer ≡ Ok rows) }
     ensures err { IfErr result (λ fault. IfErr answer

@@ -1,4 +1,4 @@
-// All rows of a firm at once, whether they are sound or not.
+// All rows of a firm at once, sound or not.
 
 ghost use Rattle.std.specs.Prelude.{◌≡◌, false, IfOk};
 ghost use Rattle.sqlite.specs.Held.{state};
@@ -12,19 +12,16 @@ ghost use Rattle.sql_rows.specs.Meaning.{matters_from};
 ghost use Rattle.sql_rows.specs.Standing.{firm_in};
 ghost use Rattle.sql_reads.specs.Parts.{without_matters};
 
-use crate::balances::each_balance;
-use crate::exceptions::each_exception;
-use crate::firm_lines::each_firm_line;
-use crate::heads::head_numbers;
+use crate::lists::{each_balance, each_exception, each_firm_line, each_movement};
 use crate::matter::whole_matter;
-use crate::movements::each_movement;
+use crate::matters::head_numbers;
 use crate::row_lists::RowLists;
 use sqlite::{Alter, Connection};
 use std::alloc::Global;
 use trust_base::StoreFault;
 use trust_store::{AllRows, KeptMatter};
 
-// Each matter that has a head, by number. One that is not the whole of sound rows is Store.
+// Reads each matter that has a head, by number. Returns `Store` if one is not whole or not sound.
 fn all_matters<S: Alter>(
     conn: &mut Connection<S>,
     alloc: Global,
@@ -47,7 +44,7 @@ fn all_matters<S: Alter>(
     Ok(matters)
 }
 
-// The rows that are of no matter.
+// Reads the rows that belong to no matter.
 fn all_others<S: Alter>(conn: &mut Connection<S>, alloc: Global) -> Result<RowLists, StoreFault>
     requires { conn.old.in_transaction ≡ false }
     ensures mode { conn.new.in_transaction ≡ false }
@@ -63,10 +60,10 @@ fn all_others<S: Alter>(conn: &mut Connection<S>, alloc: Global) -> Result<RowLi
     Ok(lists)
 }
 
-/// All rows of the firm: each matter that has a head with all its entries, by number, the movements and the lines of
-/// the firm's own in the order of acceptance, and the exceptions and the balances in theirs. They need not be those of
-/// a sound firm; but a matter that is not the whole of sound rows is Store, and so is a row that stands for nothing.
-/// All of them are held at once.
+/// Reads all rows of the firm at once: each matter that has a head with all its entries, by number; the movements and
+/// the lines of the firm's own, in order of acceptance; the exceptions and the balances, in their own order. The firm
+/// need not be sound, but each matter must be: returns `Store` for a matter that is not whole and sound, and for a
+/// row that stands for nothing.
 pub fn all_rows<S: Alter>(conn: &mut Connection<S>, alloc: Global) -> Result<AllRows, StoreFault>
     requires { conn.old.in_transaction ≡ false }
     ensures mode { conn.new.in_transaction ≡ false }

@@ -3,11 +3,13 @@
 ghost use Rattle.std.specs.Prelude.{◌≡◌, false, List, [], ◌∷◌, ◌++◌, map, IfOk, OnOk};
 ghost use Rattle.sqlite.specs.Held.{state};
 ghost use Rattle.sqlite.specs.State.{HasCleanDisk};
+ghost use Rattle.firm_rows.specs.Countable.{IsFirmLineInRange};
 ghost use Rattle.sql_schema.specs.declared.layout.Layout.{Layout};
 ghost use Rattle.sql_tables.specs.Reading.{LeavesAll};
 ghost use Rattle.sql_tables.specs.Rows.{FirmLine as LineRow, firm_line_values};
 ghost use Rattle.sql_rows.specs.Meaning.{firm_line_from};
 ghost use Rattle.sql_rows.specs.Standing.{StandsSound, firm_in};
+ghost use Rattle.sql_reads.specs.Shown.{firm_line_at};
 
 use crate::columns::firm_line_in;
 use crate::fault::answered;
@@ -18,15 +20,19 @@ use sqlite::{Alter, Connection, Row};
 use std::alloc::Global;
 use trust_base::StoreFault;
 
-// The line of a row.
-fn line_of(alloc: Global, row: &Row) -> Result<FirmLine, StoreFault>
-    ensures { IfOk result (λ l. (x : LineRow) → row.now ≡ firm_line_values x → l ≡ firm_line_from x) }
+/// Reads a line of the firm from a row.
+pub(crate) fn line_of(alloc: Global, row: &Row) -> Result<FirmLine, StoreFault>
+    ensures is { IfOk result (λ v. v ≡ firm_line_at row.now) }
+    ensures fits { IfOk result IsFirmLineInRange }
 {
     let columns = firm_line_in(row)?;
-    firm_line_of(alloc, columns)
+    let line = firm_line_of(alloc, columns)?;
+    // An amount of this type is in range.
+    let _amount = line.amount.get();
+    Ok(line)
 }
 
-// Adds a line; Store where the lines would then add up to a balance that the firm may not have.
+// Adds a line. Returns `Store` if the lines would add up to a balance that the firm may not have.
 fn add_within(ledger: &mut FirmLedger, line: FirmLine) -> Result<(), StoreFault>
     ensures { OnOk result (ledger.new ≡ ledger.old ++ line ∷ []) }
 {
@@ -38,7 +44,7 @@ fn add_within(ledger: &mut FirmLedger, line: FirmLine) -> Result<(), StoreFault>
     Ok(())
 }
 
-// The ledger of rows.
+// Reads the ledger from its rows.
 fn ledger_of(alloc: Global, rows: &[Row]) -> Result<FirmLedger, StoreFault>
     ensures { IfOk result (λ ledger. (xs : List LineRow) → rows.now ≡ map firm_line_values xs
         → ledger ≡ map firm_line_from xs) }
@@ -51,8 +57,8 @@ fn ledger_of(alloc: Global, rows: &[Row]) -> Result<FirmLedger, StoreFault>
     Ok(ledger)
 }
 
-/// The firm's own ledger: its lines in the order of acceptance. Rows that add up to a balance that the firm may not
-/// have are Store.
+/// Returns the firm's own ledger, its lines in order of acceptance. Returns `Store` if they add up to a balance that
+/// the firm may not have.
 pub fn firm_ledger<S: Alter>(
     conn: &mut Connection<S>,
     alloc: Global,

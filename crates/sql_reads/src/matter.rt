@@ -1,6 +1,6 @@
-// A matter with all its entries, or with those that are named.
+// The head and the seats of a matter, and the matter with all its entries, or with the named ones.
 
-ghost use Rattle.std.specs.Prelude.{◌≡◌, false, IfErr, IfOk};
+ghost use Rattle.std.specs.Prelude.{◌≡◌, false, List, map, IfErr, IfOk};
 ghost use Rattle.sqlite.specs.Held.{state};
 ghost use Rattle.sqlite.specs.State.{HasCleanDisk};
 ghost use Rattle.matter_parts.specs.Parts.{IsWhole, no_figures};
@@ -10,21 +10,99 @@ ghost use Rattle.trust_store.specs.Named.{IsPartFor};
 ghost use Rattle.sql_schema.specs.declared.layout.Layout.{Layout};
 ghost use Rattle.sql_tables.specs.Lists.{lists_in};
 ghost use Rattle.sql_tables.specs.Reading.{LeavesAll};
+ghost use Rattle.sql_tables.specs.Rows.{Head as HeadRow, Seat as SeatRow, head_shown, seat_shown};
 ghost use Rattle.sql_tables.specs.Standing.{Stands};
+ghost use Rattle.sql_rows.specs.Meaning.{seat_from};
 ghost use Rattle.sql_rows.specs.Standing.{StandsSound, firm_in};
-ghost use Rattle.sql_reads.specs.Parts.{part_at, part_of};
+ghost use Rattle.sql_reads.specs.Parts.{part_at, part_of, with_totals_at, with_totals_from};
+ghost use Rattle.sql_reads.specs.Shown.{seat_at};
 
-use crate::entry::entries_of;
-use crate::head::{HeadWithTotals, head_with_totals};
-use crate::named::named_entries;
-use crate::seat::seats_of;
+use crate::columns::{head_in, seat_in};
+use crate::entries::{entries_of, named_entries};
+use crate::fault::answered;
 use matter_parts::{Figures, Kept, Matter, is_sound_whole};
-use matter_rows::Seat;
-use sqlite::{Alter, Connection};
+use matter_rows::{Head, Seat};
+use sql_rows::{head_of, seat_of, totals_of};
+use sql_tables::reads::{head_rows, seat_rows};
+use sqlite::{Alter, Connection, Row};
 use std::alloc::Global;
 use trust_base::{EntryNo, MatterNo, StoreFault};
 
-// The totals of a matter without an entry.
+/// The head of a matter, and its stored totals.
+#[derive(Drop)]
+pub struct HeadWithTotals {
+    pub head: Head,
+    pub figures: Figures,
+}
+
+// Reads the head and the totals from a row.
+fn opened_in(alloc: Global, matter: MatterNo, row: &Row) -> Result<HeadWithTotals, StoreFault>
+    ensures { IfOk result (λ h. (x : HeadRow) → row.now ≡ head_shown x → h ≡ with_totals_from x) }
+{
+    let columns = head_in(matter.get() as i64, row)?;
+    let figures = totals_of(columns)?;
+    let head = head_of(alloc, columns)?;
+    Ok(HeadWithTotals { head, figures })
+}
+
+/// Returns the head of a matter with its totals, or `None` if it was never opened.
+pub fn head_with_totals<S: Alter>(
+    conn: &mut Connection<S>,
+    alloc: Global,
+    matter: MatterNo,
+) -> Result<Option<HeadWithTotals>, StoreFault>
+    requires { conn.old.in_transaction ≡ false }
+    ensures mode { conn.new.in_transaction ≡ false }
+    ensures found { (l : Layout) → HasCleanDisk (state S.Store conn.new) → Stands l (state S.Store conn.old).now
+        → IfOk result (λ head. head ≡ with_totals_at matter (lists_in l (state S.Store conn.old).now.trees)) }
+    ensures left { LeavesAll result (state S.Store conn.old) (state S.Store conn.new) }
+{
+    let rows = answered(head_rows(conn, matter.get() as i64))?;
+    match rows.first() {
+        None => Ok(None),
+        Some(row) => Ok(Some(opened_in(alloc, matter, row)?)),
+    }
+}
+
+/// Reads a seat of a matter from a row.
+pub(crate) fn read_seat(alloc: Global, matter: MatterNo, row: &Row) -> Result<Seat, StoreFault>
+    ensures { IfOk result (λ s. s ≡ seat_at matter row.now) }
+{
+    let columns = seat_in(matter.get() as i64, row)?;
+    seat_of(alloc, matter, columns)
+}
+
+// Reads the seats of a matter from their rows.
+fn all_taken(alloc: Global, matter: MatterNo, rows: &[Row]) -> Result<Vec<Seat>, StoreFault>
+    ensures { IfOk result (λ seats. (xs : List SeatRow) → rows.now ≡ map seat_shown xs
+        → seats.items ≡ map seat_from xs) }
+{
+    let mut seats = Vec::new(alloc);
+    'each: for row in rows {
+        let seat = read_seat(alloc, matter, row)?;
+        seats.push(seat)?;
+    }
+    Ok(seats)
+}
+
+/// Returns the seats of a matter, by person in byte order.
+pub fn seats_of<S: Alter>(
+    conn: &mut Connection<S>,
+    alloc: Global,
+    matter: MatterNo,
+) -> Result<Vec<Seat>, StoreFault>
+    requires { conn.old.in_transaction ≡ false }
+    ensures mode { conn.new.in_transaction ≡ false }
+    ensures found { (l : Layout) → HasCleanDisk (state S.Store conn.new) → Stands l (state S.Store conn.old).now
+        → IfOk result (λ seats. seats.items
+        ≡ (part_at matter (lists_in l (state S.Store conn.old).now.trees)).seats) }
+    ensures left { LeavesAll result (state S.Store conn.old) (state S.Store conn.new) }
+{
+    let rows = answered(seat_rows(conn, matter.get() as i64))?;
+    all_taken(alloc, matter, &rows)
+}
+
+// The totals of a matter without entries.
 fn no_figures() -> Figures
     ensures { result ≡ no_figures }
 {
@@ -39,7 +117,7 @@ fn no_figures() -> Figures
     }
 }
 
-// The matter of what was read: without a head its totals are zero.
+// Builds the matter from what was read; without a head its totals are zero.
 fn matter_of(
     opened: Option<HeadWithTotals>,
     seats: Vec<Seat>,
@@ -53,7 +131,7 @@ fn matter_of(
     }
 }
 
-// The matter, where it is the whole of sound rows, and else Store.
+// Returns the matter if it is whole and sound, otherwise `Store`.
 fn if_sound(alloc: Global, matter: Matter) -> Result<Matter, StoreFault>
     ensures is { IfOk result (λ part. part ≡ matter) }
     ensures sound { IfOk result IsSoundWhole }
@@ -65,9 +143,9 @@ fn if_sound(alloc: Global, matter: Matter) -> Result<Matter, StoreFault>
     Ok(matter)
 }
 
-/// A matter with its totals and all its entries in order; where it was never opened, without any row. Whatever the
-/// tables hold, it is the whole of sound rows: rows that are not, totals that are not theirs, and an entry with another
-/// number or with more or less left of it than they leave are Store.
+/// Returns a matter with its totals and all its entries in order; without any row if it was never opened. Whatever
+/// the tables hold, the result is whole and sound. Returns `Store` for rows that are not, for totals that are not
+/// those of the rows, and for an entry whose number or amount left is not what the rows make it.
 pub fn whole_matter<S: Alter>(
     conn: &mut Connection<S>,
     alloc: Global,
@@ -75,10 +153,10 @@ pub fn whole_matter<S: Alter>(
 ) -> Result<Matter, StoreFault>
     requires { conn.old.in_transaction ≡ false }
     ensures mode { conn.new.in_transaction ≡ false }
-    // The matter is what the tables hold of it,
+    // The matter is what the tables hold of it.
     ensures read { (l : Layout) → HasCleanDisk (state S.Store conn.new) → Stands l (state S.Store conn.old).now
         → IfOk result (λ part. part ≡ part_at matter (lists_in l (state S.Store conn.old).now.trees)) }
-    // and it is sound, so that where that is not, nothing is told of it.
+    // It is sound: if the rows are not, none of them is returned.
     ensures audited { IfOk result IsSoundWhole }
     ensures found { (l : Layout) → HasCleanDisk (state S.Store conn.new) → StandsSound l (state S.Store conn.old).now
         → IfOk result (λ part. IsWhole part (of matter (firm_in l (state S.Store conn.old).now.trees))) }
@@ -91,9 +169,9 @@ pub fn whole_matter<S: Alter>(
     if_sound(alloc, found)
 }
 
-/// A matter with its head, seats and totals, the entries that are named, those that these draw on, and no others; where
-/// it was never opened, without any row. It reads at most four entries, these and no others. Totals that no matter can
-/// have are Store, and so is as much left of an entry that is read.
+/// Returns a matter with its head, seats and totals, the named entries and those that they draw on; without any row
+/// if it was never opened. Reads no other entries, so at most four. Returns `Store` if the totals, or what is left of
+/// an entry that it reads, are values that no matter can have.
 pub fn matter_for<S: Alter>(
     conn: &mut Connection<S>,
     alloc: Global,

@@ -1,29 +1,205 @@
-// All matters, one after the other, and in each its rows.
+// All matters, one after the other, each with its rows; and the numbers of them all.
 
-ghost use Rattle.std.specs.Prelude.{◌≡◌, ◌+◌, false, IfOk};
+ghost use Rattle.std.specs.Prelude.{◌≡◌, ◌+◌, false, pos, List, find, map, option_map, IfOk};
+ghost use Rattle.sqlite_value.specs.declared.value.Value.TheVariants.{Int};
+ghost use Rattle.sqlite_value.specs.Order.{column};
 ghost use Rattle.sqlite.specs.Held.{state};
 ghost use Rattle.sqlite.specs.State.{HasCleanDisk};
 ghost use Rattle.firm_rows.specs.Countable.{IsRowInRange};
-ghost use Rattle.sql_schema.specs.declared.layout.Layout.{Layout};
 ghost use Rattle.trust_store.specs.Calls.{AreHanded};
+ghost use Rattle.sql_schema.specs.declared.layout.Layout.{Layout};
 ghost use Rattle.sql_tables.specs.Lists.{lists_in};
 ghost use Rattle.sql_tables.specs.Reading.{LeavesAll};
+ghost use Rattle.sql_tables.specs.Rows.{Head as HeadRow, heads_in, is_past, no_shown};
 ghost use Rattle.sql_tables.specs.Standing.{Stands};
 ghost use Rattle.sql_rows.specs.Standing.{StandsSound, firm_in};
 ghost use Rattle.sql_reads.specs.Fed.{AreCounted};
-ghost use Rattle.sql_reads.specs.Shown.{rows_at};
+ghost use Rattle.sql_reads.specs.Shown.{AreNumbersOf, entry_rows, next_at, numbered_from, rows_at, seat_rows};
 
-use crate::entries::hand_entries;
+use crate::columns::head_in;
+use crate::entries::numbered_kept_in;
 use crate::fault::answered;
-use crate::heads::{NumberedHead, next_head};
-use crate::seats::hand_seats;
+use crate::matter::read_seat;
+use crate::stream::{RowTaking, hand_rows};
+use crate::value::number_at;
 use firm_rows::RowSink;
-use sql_tables::reads::head_rows;
-use sqlite::{Alter, Connection};
+use matter_rows::Head;
+use sql_rows::head_of;
+use sql_tables::reads::{head_number_rows, head_rows, next_head_rows};
+use sqlite::{Alter, Connection, Row};
+use sqlite_value::value::ValueRef;
 use std::alloc::Global;
-use trust_base::StoreFault;
+use trust_base::{MatterNo, StoreFault};
 
-// How many rows a matter has: its head, its seats and its entries. 2^64 or more are Store.
+// A head with the number of its matter.
+#[derive(Drop)]
+struct NumberedHead {
+    matter: MatterNo,
+    head: Head,
+}
+
+// Reads the number of a head from a column. Returns `Store` if no matter can have it.
+fn matter_at(row: &Row, at: usize) -> Result<MatterNo, StoreFault>
+    ensures { IfOk result (λ m. column row.now at ≡ Int (pos m)) }
+{
+    let number = number_at(row, at)?;
+    if number < 0 || number > 99_999_999 {
+        return Err(StoreFault::Store);
+    }
+    MatterNo::from_number(number as u32).ok_or(StoreFault::Store)
+}
+
+// Reads a head from a row that shows it before its number.
+fn numbered_in(alloc: Global, row: &Row) -> Result<NumberedHead, StoreFault>
+    ensures { IfOk result (λ n. n ≡ next_at row.now) }
+{
+    let matter = matter_at(row, 12)?;
+    let columns = head_in(matter.get() as i64, row)?;
+    let head = head_of(alloc, columns)?;
+    Ok(NumberedHead { matter, head })
+}
+
+// Returns the first head with a number greater than `after`, or `None` if there is none.
+fn next_head<S: Alter>(
+    conn: &mut Connection<S>,
+    alloc: Global,
+    after: i64,
+) -> Result<Option<NumberedHead>, StoreFault>
+    requires { conn.old.in_transaction ≡ false }
+    ensures mode { conn.new.in_transaction ≡ false }
+    ensures found { (l : Layout) → HasCleanDisk (state S.Store conn.new) → Stands l (state S.Store conn.old).now
+        → IfOk result (λ next. next
+        ≡ option_map numbered_from (find (is_past after) (heads_in l (state S.Store conn.old).now.trees))) }
+    ensures left { LeavesAll result (state S.Store conn.old) (state S.Store conn.new) }
+{
+    let rows = answered(next_head_rows(conn, after))?;
+    match rows.first() {
+        None => Ok(None),
+        Some(row) => Ok(Some(numbered_in(alloc, row)?)),
+    }
+}
+
+// Reads the numbers of rows that have one each.
+fn numbers_in(alloc: Global, rows: &[Row]) -> Result<Vec<MatterNo>, StoreFault>
+    ensures { IfOk result (λ numbers. (hs : List HeadRow) → rows.now ≡ map no_shown hs → AreNumbersOf hs numbers.items) }
+{
+    let mut numbers = Vec::new(alloc);
+    'each: for row in rows {
+        let number = matter_at(row, 0)?;
+        numbers.push(number)?;
+    }
+    Ok(numbers)
+}
+
+/// Returns the numbers of all heads, in order.
+pub(crate) fn head_numbers<S: Alter>(
+    conn: &mut Connection<S>,
+    alloc: Global,
+) -> Result<Vec<MatterNo>, StoreFault>
+    requires { conn.old.in_transaction ≡ false }
+    ensures mode { conn.new.in_transaction ≡ false }
+    ensures found { (l : Layout) → HasCleanDisk (state S.Store conn.new) → Stands l (state S.Store conn.old).now
+        → IfOk result (λ numbers. AreNumbersOf (heads_in l (state S.Store conn.old).now.trees) numbers.items) }
+    ensures left { LeavesAll result (state S.Store conn.old) (state S.Store conn.new) }
+{
+    let rows = answered(head_number_rows(conn))?;
+    numbers_in(alloc, &rows)
+}
+
+// Takes the rows of a matter's seats.
+#[derive(Drop)]
+struct SeatTaking {
+    alloc: Global,
+    matter: MatterNo,
+}
+
+impl<K: RowSink> RowTaking<K> for SeatTaking {
+    ghost use Rattle.firm_rows.specs.Firm.{SeatRow};
+    ghost use Rattle.sql_reads.specs.Shown.{seat_at};
+
+    ghost taken = { λ t sink row. K.stepped sink (t.matter, SeatRow (seat_at t.matter row)) };
+
+    ghost fits = { λ _ _. Unit {0} };
+
+    fn take(&self, row: &Row, sink: &mut K) -> Result<(), StoreFault> {
+        let seat = read_seat(self.alloc, self.matter, row)?;
+        sink.seat(self.matter, &seat)?;
+        Ok(())
+    }
+}
+
+// Passes the seats of a matter to the sink, by person in byte order, and returns how many there are.
+fn hand_seats<S: Alter, K: RowSink>(
+    conn: &mut Connection<S>,
+    alloc: Global,
+    matter: MatterNo,
+    sink: &mut K,
+) -> Result<u64, StoreFault>
+    requires { conn.old.in_transaction ≡ false }
+    ensures mode { conn.new.in_transaction ≡ false }
+    ensures handed { (l : Layout) → HasCleanDisk (state S.Store conn.new) → Stands l (state S.Store conn.old).now
+        → AreCounted K.stepped (seat_rows (lists_in l (state S.Store conn.old).now.trees) matter)
+        result sink.old sink.new }
+    ensures left { LeavesAll result (state S.Store conn.old) (state S.Store conn.new) }
+{
+    hand_rows(
+        conn,
+        "SELECT person, role FROM seat_v2 WHERE matter = ?1 ORDER BY person, rowid",
+        &[ValueRef::Int(matter.get() as i64)],
+        &SeatTaking { alloc, matter },
+        sink,
+    )
+}
+
+// Takes the rows of a matter's entries.
+#[derive(Drop)]
+struct EntryTaking {
+    alloc: Global,
+    matter: MatterNo,
+}
+
+impl<K: RowSink> RowTaking<K> for EntryTaking {
+    ghost use Rattle.firm_rows.specs.Firm.{EntryRow};
+    ghost use Rattle.sql_reads.specs.Shown.{kept_at};
+
+    ghost taken = { λ t sink row.
+        K.stepped sink (t.matter, EntryRow (kept_at t.matter row).number (kept_at t.matter row).entry) };
+
+    ghost fits = { λ _ _. Unit {0} };
+
+    fn take(&self, row: &Row, sink: &mut K) -> Result<(), StoreFault> {
+        let kept = numbered_kept_in(self.alloc, self.matter, row)?;
+        sink.entry(self.matter, kept.number, &kept.entry)?;
+        Ok(())
+    }
+}
+
+// Passes the entries of a matter to the sink, by number, and returns how many there are.
+fn hand_entries<S: Alter, K: RowSink>(
+    conn: &mut Connection<S>,
+    alloc: Global,
+    matter: MatterNo,
+    sink: &mut K,
+) -> Result<u64, StoreFault>
+    requires { conn.old.in_transaction ≡ false }
+    ensures mode { conn.new.in_transaction ≡ false }
+    ensures handed { (l : Layout) → HasCleanDisk (state S.Store conn.new) → Stands l (state S.Store conn.old).now
+        → AreCounted K.stepped (entry_rows (lists_in l (state S.Store conn.old).now.trees) matter)
+        result sink.old sink.new }
+    ensures left { LeavesAll result (state S.Store conn.old) (state S.Store conn.new) }
+{
+    hand_rows(
+        conn,
+        "SELECT no, kind, day, amount, state, fund, of_no, text_a, text_b, text_c, day_done, \
+         day_undone, day_bank, bank_ref, part, left_now FROM entry_v2 WHERE matter = ?1 ORDER BY no, \
+         rowid",
+        &[ValueRef::Int(matter.get() as i64)],
+        &EntryTaking { alloc, matter },
+        sink,
+    )
+}
+
+// Returns how many rows a matter has: its head, its seats and its entries. Returns `Store` for 2^64 or more.
 fn row_count(seats: u64, entries: u64) -> Result<u64, StoreFault>
     ensures { IfOk result (λ n. n ≡ seats + entries + 1) }
 {
@@ -31,7 +207,7 @@ fn row_count(seats: u64, entries: u64) -> Result<u64, StoreFault>
     others.checked_add(1).ok_or(StoreFault::Store)
 }
 
-// Hands over a matter: its head, its seats by person and its entries by number, and answers how many rows these are.
+// Passes a matter to the sink: its head, its seats by person and its entries by number. Returns the number of rows.
 fn hand_matter<S: Alter, K: RowSink>(
     conn: &mut Connection<S>,
     alloc: Global,
@@ -51,7 +227,7 @@ fn hand_matter<S: Alter, K: RowSink>(
     row_count(seats, entries)
 }
 
-// Is there a head of the least number? No matter has that number, and the walk over the heads begins behind it.
+// Whether a head has the least number. No matter can have it, and the walk over the heads starts after it.
 fn has_least_head<S: Alter>(conn: &mut Connection<S>) -> Result<bool, StoreFault>
     requires { conn.old.in_transaction ≡ false }
     ensures mode { conn.new.in_transaction ≡ false }
@@ -61,10 +237,9 @@ fn has_least_head<S: Alter>(conn: &mut Connection<S>) -> Result<bool, StoreFault
     Ok(rows.first().is_some())
 }
 
-/// Hands over each row of each matter: the matters by number, in each the head, the seats by person and the entries by
-/// number. A row for which memory is refused ends the call with Memory, and one that stands for nothing, or past the
-/// 2^64 - 1st, with Store; the sink then keeps the rows before it. One row is held at a time, so that memory does not
-/// grow with their number.
+/// Passes each row of each matter to the sink: matters by number, and in each the head, the seats by person and the
+/// entries by number. Stops with `Memory` if memory runs out, and with `Store` at a row that is invalid or past the
+/// 2^64 - 1st; the sink keeps the rows before it. Holds one row at a time, so memory does not grow with their number.
 pub fn each_row<S: Alter, K: RowSink>(
     conn: &mut Connection<S>,
     alloc: Global,

@@ -1,18 +1,18 @@
-// Lists of the rows that are of no matter.
+// Lists of the rows that belong to no matter.
 
 ghost use Rattle.std.specs.Prelude.{◌≡◌, ◌++◌, ◌∷◌, []};
 ghost use Rattle.firm_rows.specs.Firm.{empty_firm};
 
-use firm_rows::{FirmLine, Movement, Owner, RowSink, StatementRow};
-use matter_rows::{Entry, Head, Seat};
+use firm_rows::{
+    BalanceSink, ExceptionSink, FirmLine, FirmLineSink, Movement, MovementSink, Owner, StatementRow,
+};
 use std::alloc::{AllocError, Global};
 use std::marker::Model;
-use trust_base::{EntryNo, Line, MatterNo};
+use trust_base::Line;
 
-/// Keeps the movements, the lines of the firm's own, the exceptions and the balances that it is handed, and no row of a
-/// matter.
+/// Keeps the movements, the lines of the firm's own, the exceptions and the balances that are passed to it.
 ///
-/// Contracts see it as the firm that has these alone.
+/// Contracts see it as the firm that has only these rows.
 #[derive(Drop)]
 pub(crate) struct RowLists {
     pub(crate) movements: Vec<Movement>,
@@ -32,7 +32,7 @@ impl Model for RowLists {
 }
 
 impl RowLists {
-    /// Lists without rows. They take no memory.
+    /// Creates empty lists. Does not allocate.
     pub(crate) fn new(alloc: Global) -> RowLists
         ensures { result ≡ empty_firm }
     {
@@ -45,49 +45,36 @@ impl RowLists {
     }
 }
 
-impl RowSink for RowLists {
-    ghost stepped = { λ lists row. lists };
-
+impl ExceptionSink for RowLists {
     ghost noted = { λ lists line. record lists { exceptions = lists.exceptions ++ line ∷ [] } };
-
-    ghost moved = { λ lists movement. record lists { movements = lists.movements ++ movement ∷ [] } };
-
-    ghost lined = { λ lists line. record lists { firm_lines = lists.firm_lines ++ line ∷ [] } };
-
-    ghost balanced = { λ lists row. record lists { balances = lists.balances ++ row ∷ [] } };
-
-    fn head(&mut self, _matter: MatterNo, _head: &Head) -> Result<(), AllocError> {
-        Ok(())
-    }
-
-    fn seat(&mut self, _matter: MatterNo, _seat: &Seat) -> Result<(), AllocError> {
-        Ok(())
-    }
-
-    fn entry(
-        &mut self,
-        _matter: MatterNo,
-        _number: EntryNo,
-        _entry: &Entry,
-    ) -> Result<(), AllocError> {
-        Ok(())
-    }
 
     fn exception(&mut self, line: &Line) -> Result<(), AllocError> {
         self.exceptions.push(line.copied()?)?;
         Ok(())
     }
+}
+
+impl MovementSink for RowLists {
+    ghost moved = { λ lists movement. record lists { movements = lists.movements ++ movement ∷ [] } };
 
     fn movement(&mut self, movement: &Movement) -> Result<(), AllocError> {
         let owner: Owner = movement.owner;
         self.movements.push(Movement { owner, ..*movement })?;
         Ok(())
     }
+}
+
+impl FirmLineSink for RowLists {
+    ghost lined = { λ lists line. record lists { firm_lines = lists.firm_lines ++ line ∷ [] } };
 
     fn firm_line(&mut self, line: &FirmLine) -> Result<(), AllocError> {
         self.firm_lines.push(line.copied()?)?;
         Ok(())
     }
+}
+
+impl BalanceSink for RowLists {
+    ghost balanced = { λ lists row. record lists { balances = lists.balances ++ row ∷ [] } };
 
     fn balance(&mut self, row: &StatementRow) -> Result<(), AllocError> {
         self.balances.push(*row)?;

@@ -1,4 +1,4 @@
-// Rows of a query, handed to a sink.
+// Passes the rows of a query to a sink.
 
 ghost use Rattle.std.specs.Prelude.{◌≡◌, false, OnOk, OnErr};
 ghost use Rattle.sqlite.specs.Held.{state};
@@ -12,14 +12,14 @@ use sqlite::{Alter, Connection, Row};
 use sqlite_value::value::ValueRef;
 use trust_base::StoreFault;
 
-/// How rows of a query are taken by a sink, one after the other.
+/// How a sink takes the rows of a query, one after the other.
 pub(crate) trait RowTaking<K> {
     ghost use Rattle.sqlite_value.specs.Order.{Row};
 
-    /// What a row makes of the sink.
+    /// The sink after it took a row.
     ghost taken: { Self → K → Row → K };
 
-    /// What holds of a row that was taken.
+    /// What is known of a row that was taken.
     ghost fits: { Self → Row → Type 0 };
 
     /// Takes a row. An error leaves the sink as it was.
@@ -29,8 +29,8 @@ pub(crate) trait RowTaking<K> {
         ensures err { OnErr result (sink.new ≡ sink.old) };
 }
 
-/// Hands the rows of a query to a sink, one after the other, while the connection lends them, and answers how many they
-/// are. A row that is refused ends it. Where the text is no SELECT, nothing is said of the rows.
+/// Passes the rows of a query to a sink, one after the other, while the connection lends them, and returns how many
+/// there are. Stops at a row that the sink refuses. If the text is not a SELECT, nothing is promised of the rows.
 pub(crate) fn hand_rows<S: Alter, K, T: RowTaking<K>>(
     conn: &mut Connection<S>,
     sql: &str,
@@ -45,7 +45,7 @@ pub(crate) fn hand_rows<S: Alter, K, T: RowTaking<K>>(
         (state S.Store conn.old) (state S.Store conn.new) result sink.old sink.new }
     ensures left { IsSelect sql.now → LeavesAll result (state S.Store conn.old) (state S.Store conn.new) }
 {
-    // Outside a transaction what is seen is what was committed, so going back to the commit changes nothing.
+    // Outside a transaction, what is seen is what was committed, so going back to the commit changes nothing.
     let _settled = conn.is_autocommit();
     let mut rows = match conn.query(sql, params) {
         Ok(rows) => rows,

@@ -8,7 +8,7 @@ use sqlite::Row;
 use sqlite_value::value::ValueRef;
 use trust_base::StoreFault;
 
-/// The number at a place of a row. Any other value is Store.
+/// Returns the number in a column of a row. Returns `Store` for any other value.
 pub fn number_at(row: &Row, at: usize) -> Result<i64, StoreFault>
     ensures ok { IfOk result (λ n. column row.now at ≡ Int n) }
     ensures store { IfErr result (λ e. e ≡ StoreFault.Store) }
@@ -20,7 +20,7 @@ pub fn number_at(row: &Row, at: usize) -> Result<i64, StoreFault>
     }
 }
 
-/// The bytes of the text at a place of a row. Any other value is Store.
+/// Returns the bytes of the text in a column of a row. Returns `Store` for any other value.
 pub fn text_at(row: &Row, at: usize) -> Result<&[u8], StoreFault>
     ensures ok { IfOk result (λ t. column row.now at ≡ Text t.now) }
     ensures store { IfErr result (λ e. e ≡ StoreFault.Store) }

@@ -1,165 +1,140 @@
--- The entries of a matter after one was put in, and then another with what is now left of it.
-use Rattle.std.proofs.Common.{◌≡◌, ◌≢◌, inl, inr, ℕ, ℤ, pos, nat_abs, true, false, cond, eqb, List, [], ◌∷◌, find, Option, Some, None, option_map, refl, sym, ap, subst, ◌∙◌, arith}
+-- The entries of a matter after what is left of one was written.
+use Rattle.std.proofs.Common.{◌≡◌, inl, inr, ℕ, ℤ, pos, nat_abs, ◌+◌, ◌<◌, Bool, false, cond, eqb, List, [], ◌∷◌, map, filter, Option, Some, None, refl, sym, ap, ◌∙◌, arith, int_eq}
 use Rattle.std.specs.List.{AllByRecursion}
-use Rattle.std.proofs.lemmas.Bool.{cases_Bool}
+use Rattle.std.proofs.lemmas.Bool.{cases_Bool, cond_both}
 use Rattle.std.proofs.lemmas.Bool.Decides.{nat_tests}
-use Rattle.sqlite_keyed.specs.Keyed.{IsKeyedBy}
-use Rattle.sqlite_keyed.proofs.KeyedLemmas.{same_int}
-use Rattle.sqlite_keyed.proofs.RuleLemmas.{first_of_both, second_of_both}
-use Rattle.matter_parts.specs.declared.kept.Kept.{Kept}
+use Rattle.sqlite_keyed.specs.Lists.{sort_by, update_where}
+use Rattle.sqlite_keyed.proofs.KeyedLemmas.{same_int, int_eq_apart}
+use Rattle.sqlite_keyed.proofs.ListLemmas.{all_map, all_weaker}
+use Rattle.sqlite_keyed.proofs.RuleLemmas.{first_of_both}
+use Rattle.sqlite_keyed.proofs.SortLemmas.{sort_by-map}
 use Rattle.matter_parts.specs.declared.change.Left.{Left}
-use Rattle.matter_parts.specs.Applied.{entry_put, left_written, other_written}
-use Rattle.matter_parts.specs.Parts.{AreNumbered, kept_in}
-use Rattle.matter_parts.proofs.AllKept.{numbered-other}
-use Rattle.matter_parts.proofs.Keepers.{kept-with}
-use Rattle.sql_tables.specs.Rows.{Head, Entry, is_entry_at, entries_of, put_entry}
+use Rattle.matter_parts.specs.Applied.{left_written, other_written}
+use Rattle.matter_parts.specs.Parts.{AreNumbered}
+use Rattle.sql_tables.specs.Rows.{Head, Entry, entry_cmp, is_entry_at, is_entry_of, entries_of, with_left, put_left}
 use Rattle.sql_rows.specs.Meaning.{HasHeadAt, IsWrittenEntry, kept_from}
-use Rattle.sql_rows.proofs.EntryFind.{kept_is_found}
-use Rattle.sql_rows.proofs.EntryOrder.{entry_key, have_numbers, kept_of, kept_put, keyed_put, others_put, written_number}
-use Rattle.sql_rows.proofs.EntryWritten.{AreEntered, entered_put, left_row, left_row_written, written_put}
-use Rattle.sql_rows.proofs.RowOrder.{all-find, found_passes}
+use Rattle.sql_rows.proofs.EntryOrder.{HasNumber, have_numbers, kept_of, number_is, numbers_of, same_test}
+use Rattle.sql_rows.proofs.EntryWritten.{AreEntered}
 
--- What is left, among what is kept.
+-- what is left of the one that is named, if one is
+abbrev pub left_put : ℕ → Option Left → List Entry → List Entry
+left_put m None es = es
+left_put m (Some o) es = put_left (pos m) (pos o.number) (pos o.left) es
 
--- it is written by the whole entry that is there, with what is left
-left_is_whole : (n left : ℕ) (ks : List Kept) (j : Kept) → j.number ≡ n → kept_in ks n ≡ Some j
-    → left_written ks n left ≡ entry_put ks (record j { left = left })
-left_is_whole n left [] j own e = absurd (let f = e in cc)
-left_is_whole n left (k ∷ ks) j own e = elim (cases_Bool (eqb k.number n)) [
-  | inl b ↦
-      let it : Some k ≡ Some j = rw b at e in
-      let one : k ≡ j = cc in
-      let test : eqb k.number j.number ≡ true = ap (eqb k.number) own ∙ b in
-      rw (b, test) (ap (λ (y : Kept). record y { left = left } ∷ ks) one)
-  | inr b ↦
-      let test : eqb k.number j.number ≡ false = ap (eqb k.number) own ∙ b in
-      rw (b, test) (ap (λ l. k ∷ l) (left_is_whole n left ks j own (rw b at e)))
-]
+abbrev has_no : ℤ → Entry → Bool
+has_no n e = int_eq e.no n
 
--- where no entry has the number, nothing is written
-left_is_same : (n left : ℕ) (ks : List Kept) → kept_in ks n ≡ None → left_written ks n left ≡ ks
-left_is_same n left [] e = refl
-left_is_same n left (k ∷ ks) e = elim (cases_Bool (eqb k.number n)) [
-  | inl b ↦ absurd (let it : Some k ≡ None = rw b at e in cc)
-  | inr b ↦ rw b (ap (λ l. k ∷ l) (left_is_same n left ks (rw b at e)))
-]
+-- The rows of a matter.
 
--- The rows, with what is left of one written.
+module _ (m n left : ℤ) where
+  abbrev is_it : Entry → Bool
+  is_it = is_entry_at m n
 
--- with what is left of the row, if there is one
-abbrev pub left_put_of : ℕ → Option Entry → List Entry → List Entry
-left_put_of left None es = es
-left_put_of left (Some e) es = put_entry (left_row left e) es
+  abbrev it : Entry → Entry
+  it = with_left left
 
--- the row of the entry that is named, if one is, is found among the first rows
-abbrev pub left_put : ℕ → Option Left → List Entry → List Entry → List Entry
-left_put m None from es = es
-left_put m (Some o) from es = left_put_of o.left (find (is_entry_at (pos m) (pos o.number)) from) es
+  -- those of another matter are as they were
+  others_rows : (k : ℤ) (es : List Entry) → (k ≡ m → ⊥)
+      → filter (is_entry_of k) (put_left m n left es) ≡ filter (is_entry_of k) es
+  others_rows k [] other = refl
+  others_rows k (e ∷ es) other = elim (cases_Bool (is_it e)) [
+    | inl here ↦
+        let of : e.matter ≡ m = same_int e.matter m (first_of_both _ _ here) in
+        let off : int_eq e.matter k ≡ false = int_eq_apart e.matter k (λ s. other (sym s ∙ of)) in
+        rw here (rw off (others_rows k es other))
+    | inr there ↦ rw there (ap (λ l. cond (int_eq e.matter k) (e ∷ l) l) (others_rows k es other))
+  ]
 
--- the number is not that of the entry that is named
-abbrev pub IsApartFrom : ℕ → Option Left → Type 0
-IsApartFrom n None = Unit {0}
-IsApartFrom n (Some o) = n ≢ o.number
+  -- its own are changed by their numbers
+  own_rows : (es : List Entry) → filter (is_entry_of m) (put_left m n left es)
+      ≡ update_where (has_no n) it (filter (is_entry_of m) es)
+  own_rows [] = refl
+  own_rows (e ∷ es) = elim (cases_Bool (int_eq e.matter m)) [
+    | inl a ↦ elim (cases_Bool (int_eq e.no n)) [
+      | inl b ↦ rw (a, b) (rw a (ap (λ l. it e ∷ l) (own_rows es)))
+      | inr b ↦ rw (a, b) (rw a (ap (λ l. e ∷ l) (own_rows es)))
+    ]
+    | inr a ↦ rw a (rw a (own_rows es))
+  ]
 
--- a row that is found has the matter and the number
-found_at : (m n : ℤ) (e : Entry) → is_entry_at m n e ≡ true → (e.matter ≡ m) × (e.no ≡ n)
-found_at m n e h = (same_int e.matter m (first_of_both _ _ h), same_int e.no n (second_of_both _ _ h))
+-- Their order.
 
--- what holds before, and after a put of what is found, holds after what is left was written
-module _ (Q : List Entry → Type 0) (m : ℕ) (from es : List Entry) (same : Q es) where
-  -- a put of the row that is found
-  abbrev MayPut : ℕ → ℕ → Type 0
-  MayPut n left = (e : Entry) → find (is_entry_at (pos m) (pos n)) from ≡ Some e → Q (put_entry (left_row left e) es)
+module _ (n left : ℤ) where
+  abbrev changed : Entry → Entry
+  changed e = cond (has_no n e) (with_left left e) e
 
-  put_found : (n left : ℕ) → MayPut n left → (f : Option Entry) → find (is_entry_at (pos m) (pos n)) from ≡ f
-      → Q (left_put_of left f es)
-  put_found n left put None at = same
-  put_found n left put (Some e) at = put e at
+  same_order : (a b : Entry) → entry_cmp (changed a) (changed b) ≡ entry_cmp a b
+  same_order a b =
+      cond_both (has_no n a) (with_left left a) a (λ x. entry_cmp x (changed b) ≡ entry_cmp a b)
+      (λ _. cond_both (has_no n b) (with_left left b) b (λ y. entry_cmp a y ≡ entry_cmp a b) (λ _. refl) (λ _. refl))
+      (λ _. cond_both (has_no n b) (with_left left b) b (λ y. entry_cmp a y ≡ entry_cmp a b) (λ _. refl) (λ _. refl))
 
-  by_found : (o : Option Left) → ((n left : ℕ) → MayPut n left) → Q (left_put m o from es)
-  by_found None put = same
-  by_found (Some o) put =
-      put_found o.number o.left (put o.number o.left) (find (is_entry_at (pos m) (pos o.number)) from) refl
+  sorted_rows : (xs : List Entry) → sort_by entry_cmp (update_where (has_no n) (with_left left) xs)
+      ≡ update_where (has_no n) (with_left left) (sort_by entry_cmp xs)
+  sorted_rows xs = sort_by-map entry_cmp changed xs ∙ (λ i. map changed (sort_by (λ a b. same_order a b i) xs))
 
-  -- what is found is of the matter
-  by_matter : (o : Option Left)
-      → ((left : ℕ) (e : Entry) → e.matter ≡ pos m → Q (put_entry (left_row left e) es)) → Q (left_put m o from es)
-  by_matter o put = by_found o (λ n left e at.
-      put left e (found_at (pos m) (pos n) e (found_passes (is_entry_at (pos m) (pos n)) from e at)).0)
+-- What is kept.
+
+module _ (n left : ℕ) where
+  -- no entry from a number above it on is the one
+  none_left : (i : ℕ) (ys : List Entry) → n < i → AllByRecursion HasNumber ys → AreNumbered i (map kept_from ys)
+      → map kept_from (update_where (has_no (pos n)) (with_left (pos left)) ys) ≡ map kept_from ys
+  none_left i [] low have numbered = refl
+  none_left i (y ∷ ys) low have numbered =
+      let is : nat_abs y.no ≡ i = numbered.0 in
+      let test = same_test y.no (pos n) i n (number_is y i have.0 is) refl in
+      let off : eqb (nat_abs y.no) n ≡ false = grind (arith, nat_tests) in
+      rw (test ∙ off) (ap (λ l. kept_from y ∷ l) (none_left (i + 1) ys (omega (arith, low)) have.1 numbered.1))
+
+  kept_left : (i : ℕ) (ys : List Entry) → AllByRecursion HasNumber ys → AreNumbered i (map kept_from ys)
+      → map kept_from (update_where (has_no (pos n)) (with_left (pos left)) ys) ≡ left_written (map kept_from ys) n left
+  kept_left i [] have numbered = refl
+  kept_left i (y ∷ ys) have numbered =
+      let is : nat_abs y.no ≡ i = numbered.0 in
+      let test = same_test y.no (pos n) i n (number_is y i have.0 is) refl in
+      elim (cases_Bool (eqb (nat_abs y.no) n)) [
+        | inl b ↦
+            let low : n < i + 1 = grind (arith, nat_tests) in
+            rw (test ∙ b, b) (ap (λ l. kept_from (with_left (pos left) y) ∷ l)
+            (none_left (i + 1) ys low have.1 numbered.1))
+        | inr b ↦ rw (test ∙ b, b) (ap (λ l. kept_from y ∷ l) (kept_left (i + 1) ys have.1 numbered.1))
+      ]
+
+-- what the matter keeps has what is left of the one that is named
+pub own_left : (m : ℕ) (o : Option Left) (es : List Entry) → AllByRecursion IsWrittenEntry es
+    → AreNumbered 1 (kept_of (pos m) es)
+    → kept_of (pos m) (left_put m o es) ≡ other_written (kept_of (pos m) es) o
+own_left m None es written numbered = refl
+own_left m (Some o) es written numbered =
+    let n = pos o.number in
+    let left = pos o.left in
+    ap (λ l. map kept_from (sort_by entry_cmp l)) (own_rows (pos m) n left es)
+    ∙ ap (map kept_from) (sorted_rows n left (filter (is_entry_of (pos m)) es))
+    ∙ kept_left o.number o.left 1 (entries_of (pos m) es) (numbers_of (pos m) es (have_numbers es written)) numbered
 
 -- the entries of another matter are as they were
-pub others_left : (k : ℤ) (m : ℕ) (o : Option Left) (from es : List Entry) → (k ≡ pos m → ⊥)
-    → IsKeyedBy entry_key es → entries_of k (left_put m o from es) ≡ entries_of k es
-others_left k m o from es other up =
-    by_matter (λ l. entries_of k l ≡ entries_of k es) m from es refl o
-    (λ left e of. others_put k (left_row left e) es (λ s. other (s ∙ of)) up)
+pub others_left : (k : ℤ) (m : ℕ) (o : Option Left) (es : List Entry) → (k ≡ pos m → ⊥)
+    → entries_of k (left_put m o es) ≡ entries_of k es
+others_left k m None es other = refl
+others_left k m (Some o) es other = ap (sort_by entry_cmp) (others_rows (pos m) (pos o.number) (pos o.left) k es other)
+
+-- what holds of each, whatever is left of it, holds of each afterwards
+each_left : (P : Entry → Type 0) (m : ℕ) (o : Option Left) (es : List Entry)
+    → ((left : ℕ) (e : Entry) → P e → P (with_left (pos left) e))
+    → AllByRecursion P es → AllByRecursion P (left_put m o es)
+each_left P m None es still all = all
+each_left P m (Some o) es still all =
+    all_map P _ es (all_weaker P _ (λ e h.
+    cond_both (is_entry_at (pos m) (pos o.number) e) (with_left (pos o.left) e) e P
+    (λ _. still o.left e h) (λ _. h)) es all)
 
 -- each row is what would be written
-pub written_left : (m : ℕ) (o : Option Left) (from es : List Entry) → AllByRecursion IsWrittenEntry from
-    → AllByRecursion IsWrittenEntry es → AllByRecursion IsWrittenEntry (left_put m o from es)
-written_left m o from es were are = by_found (AllByRecursion IsWrittenEntry) m from es are o (λ n left e at.
-    let own = (all-find IsWrittenEntry (is_entry_at (pos m) (pos n)) from e were at).0 in
-    written_put (left_row left e) es (left_row_written left e own) are)
+pub written_left : (m : ℕ) (o : Option Left) (es : List Entry) → AllByRecursion IsWrittenEntry es
+    → AllByRecursion IsWrittenEntry (left_put m o es)
+written_left m o es =
+    each_left IsWrittenEntry m o es (λ left e h. ap (λ (x : Entry). record x { left_now = pos left }) h)
 
 -- and of a matter with a head
-pub entered_left : (heads : List Head) (m : ℕ) (o : Option Left) (from es : List Entry) → HasHeadAt heads (pos m)
-    → AreEntered heads es → AreEntered heads (left_put m o from es)
-entered_left heads m o from es has all =
-    by_matter (AreEntered heads) m from es all o
-    (λ left e of. entered_put heads (left_row left e) es (subst (HasHeadAt heads) (sym of) has) all)
-
--- The entries of the matter after both.
-
-module _ (m : ℕ) (e : Entry) (es : List Entry) (of : e.matter ≡ pos m) (own : IsWrittenEntry e)
-    (up : IsKeyedBy entry_key es) (written : AllByRecursion IsWrittenEntry es)
-    (before : AreNumbered 1 (kept_of (pos m) es))
-    (after : AreNumbered 1 (entry_put (kept_of (pos m) es) (kept_from e))) where
-  abbrev ks : List Kept
-  ks = kept_of (pos m) es
-
-  abbrev once : List Kept
-  once = entry_put ks (kept_from e)
-
-  abbrev es1 : List Entry
-  es1 = put_entry e es
-
-  first : kept_of (pos m) es1 ≡ once
-  first = kept_put (pos m) e es of (written_number e own) up (have_numbers es written) before after
-
-  -- the entry of another number is kept as it was
-  kept_there : (n : ℕ) → nat_abs e.no ≢ n
-      → kept_in once n ≡ option_map kept_from (find (is_entry_at (pos m) (pos n)) es)
-  kept_there n apart =
-      let other : eqb (nat_abs e.no) n ≡ false = grind (arith, nat_tests) in
-      kept-with ks (kept_from e) n
-      ∙ ap (λ b. cond b (Some (kept_from e)) (kept_in ks n)) other
-      ∙ kept_is_found (pos m) n es (have_numbers es written) before
-
-  left_found : (o : Left) → nat_abs e.no ≢ o.number → (f : Option Entry)
-      → find (is_entry_at (pos m) (pos o.number)) es ≡ f
-      → kept_of (pos m) (left_put_of o.left f es1) ≡ left_written once o.number o.left
-  left_found o apart None at =
-      let none = kept_there o.number apart ∙ ap (option_map kept_from) at in
-      first ∙ sym (left_is_same o.number o.left once none)
-  left_found o apart (Some there) at =
-      let found = all-find IsWrittenEntry (is_entry_at (pos m) (pos o.number)) es there written at in
-      let place = found_at (pos m) (pos o.number) there found.1 in
-      let row = left_row o.left there in
-      let row_number = written_number row (left_row_written o.left there found.0) in
-      let kept = kept_there o.number apart ∙ ap (option_map kept_from) at in
-      let whole : left_written once o.number o.left ≡ entry_put once (kept_from row) =
-      left_is_whole o.number o.left once (kept_from there) (ap nat_abs place.1) kept in
-      let last : AreNumbered 1 (entry_put once (kept_from row)) =
-      subst (AreNumbered 1) whole (numbered-other 1 once (Some o) after) in
-      let es1_have = have_numbers es1 (written_put e es own written) in
-      let es1_numbered = subst (AreNumbered 1) (sym first) after in
-      let es1_last = subst (λ l. AreNumbered 1 (entry_put l (kept_from row))) (sym first) last in
-      kept_put (pos m) row es1 place.0 row_number (keyed_put e es up) es1_have es1_numbered es1_last
-      ∙ ap (λ l. entry_put l (kept_from row)) first ∙ sym whole
-
-  -- what the matter keeps has the entry in its place, and what is left of the one that is named
-  pub kept_both : (o : Option Left) → IsApartFrom (nat_abs e.no) o
-      → kept_of (pos m) (left_put m o es (put_entry e es))
-      ≡ other_written (entry_put (kept_of (pos m) es) (kept_from e)) o
-  kept_both None apart = first
-  kept_both (Some o) apart = left_found o apart (find (is_entry_at (pos m) (pos o.number)) es) refl
+pub entered_left : (heads : List Head) (m : ℕ) (o : Option Left) (es : List Entry) → AreEntered heads es
+    → AreEntered heads (left_put m o es)
+entered_left heads m o es = each_left (λ (e : Entry). HasHeadAt heads e.matter) m o es (λ left e h. h)

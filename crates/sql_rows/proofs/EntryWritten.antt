@@ -1,5 +1,5 @@
 -- Rows of entries stay what would be written, each of a matter with a head, where one is put in.
-use Rattle.std.proofs.Common.{ℕ, pos, not, List, sym, ap}
+use Rattle.std.proofs.Common.{ℕ, not, List, sym, ap}
 use Rattle.std.specs.List.{AllByRecursion}
 use Rattle.sqlite_keyed.specs.Lists.{delete_where}
 use Rattle.sqlite_keyed.proofs.KeyedLemmas.{all-insert_by}
@@ -25,14 +25,6 @@ all_put P e es own all =
 -- the columns of an entry are what would be written
 pub columns_written : (m n left : ℕ) (e : matter.Entry) → IsWrittenEntry (entry_columns m n left e)
 columns_written m n left e = ap (entry_columns m n left) (sym (entry_back e))
-
--- a row with what is now left
-abbrev pub left_row : ℕ → Entry → Entry
-left_row left e = record e { id = pos 0; left_now = pos left }
-
--- it is what would be written, where the row was
-pub left_row_written : (left : ℕ) (e : Entry) → IsWrittenEntry e → IsWrittenEntry (left_row left e)
-left_row_written left e h = ap (λ (x : Entry). record x { left_now = pos left }) h
 
 -- each row is what would be written, also after one was put in
 pub written_put : (e : Entry) (es : List Entry) → IsWrittenEntry e → AllByRecursion IsWrittenEntry es

@@ -30,11 +30,12 @@ made_by part h = record { number = nat_abs h.no; matter = part h }
 
 -- A head that is put in.
 
-none_gone : (n : ℤ) (hs : List Head) → AllByRecursion (λ (h : Head). n <ℤ h.no) hs → delete_where (is_head n) hs ≡ hs
+pub none_gone : (n : ℤ) (hs : List Head) → AllByRecursion (λ (h : Head). n <ℤ h.no) hs
+    → delete_where (is_head n) hs ≡ hs
 none_gone n [] up = refl
 none_gone n (h ∷ hs) up = rw (apart_above h.no n up.0) (ap (λ l. h ∷ l) (none_gone n hs up.1))
 
-goes_first : (new : Head) (hs : List Head) → AllByRecursion (λ (h : Head). new.no <ℤ h.no) hs
+pub goes_first : (new : Head) (hs : List Head) → AllByRecursion (λ (h : Head). new.no <ℤ h.no) hs
     → insert_by key hs new ≡ new ∷ hs
 goes_first new [] up = refl
 goes_first new (h ∷ hs) up = rw (Greater-from_lt h.no new.no up.0) refl

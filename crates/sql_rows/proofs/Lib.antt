@@ -12,6 +12,7 @@ pub mod EntryWritten
 pub mod Exceptions
 pub mod HeadFirst
 pub mod HeadOrder
+pub mod HeadSet
 pub mod Heads
 pub mod KeyedRows
 pub mod LineScripts

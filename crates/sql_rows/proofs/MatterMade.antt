@@ -16,9 +16,9 @@ use Rattle.sql_rows.proofs.WithoutEntry.{WritesNoEntry, without_entry_made}
 
 -- a change that is nothing makes nothing
 nothing_made : (m : ℕ) (c : MatterChange) (a b : Lists) → c.edit ≡ edit.Nothing → AreMeant a
-    → AreMade (matter_steps m c c.edit a) a b → IsMatterMade m c a b
+    → AreMade (matter_steps m c c.edit) a b → IsMatterMade m c a b
 nothing_made m c a b none meant made =
-    let same : b ≡ a = subst (λ e. AreMade (matter_steps m c e a) a b) none made in
+    let same : b ≡ a = subst (λ e. AreMade (matter_steps m c e) a b) none made in
     let stays : after_change m c (firm_from a) ≡ firm_from a = ap (λ e. after_edit m e c.last (firm_from a)) none in
     record {
       firm = ap firm_from same ∙ sym stays;
@@ -40,7 +40,7 @@ edit_kinds c (edit.Exchange x) is = inr (inr (x, inr is))
 
 -- so the steps of a change, whatever it is, make what it says
 pub matter_made : (m : ℕ) (c : MatterChange) (a b : Lists) → 1 ≤ m → AreKeyed a → AreMeant a → IsTypedEdit c.edit
-    → IsChange (of m (firm_from a)) c → AreMade (matter_steps m c c.edit a) a b → IsMatterMade m c a b
+    → IsChange (of m (firm_from a)) c → AreMade (matter_steps m c c.edit) a b → IsMatterMade m c a b
 matter_made m c a b one keyed meant typed may made = elim (edit_kinds c c.edit refl) [
   | inl none ↦ nothing_made m c a b none meant made
   | inr some ↦ elim some [

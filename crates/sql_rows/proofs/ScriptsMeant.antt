@@ -15,7 +15,7 @@ use Rattle.sql_rows.proofs.Steps.{made-append}
 -- what is written for the matter comes first, and then the line that made the change is no exception
 matter_script : StaysSound → (m : ℕ) (c : MatterChange) (line : Option Line) → IsScriptMeant (OfMatter m line c)
 matter_script stays m c line a b sound keyed typed fits made =
-    let parts = made-append (matter_steps m c c.edit a) (line_steps line) a b made in
+    let parts = made-append (matter_steps m c c.edit) (line_steps line) a b made in
     let mid = parts.0 in
     let done = matter_made m c a mid typed.0 sound.keyed sound.meant typed.1 fits parts.1 in
     let up : IsKeyedBy key mid.exceptions = subst (IsKeyedBy key) (sym done.exceptions) sound.keyed.exceptions in

@@ -42,10 +42,10 @@ write_seen : (c : MatterChange) (x : Numbered) (o : Option Head) → IsEntryChan
 write_seen c x o (inl is) = ap (λ e. head_after o e c.last) is
 write_seen c x o (inr is) = ap (λ e. head_after o e c.last) is
 
-write_steps : (m : ℕ) (c : MatterChange) (x : Numbered) (a : Lists) → IsEntryChange c x
-    → edit_steps m c c.edit a ≡ entry_steps m x c.moves a ++ movement_steps m c.movement
-write_steps m c x a (inl is) = ap (λ e. edit_steps m c e a) is
-write_steps m c x a (inr is) = ap (λ e. edit_steps m c e a) is
+write_steps : (m : ℕ) (c : MatterChange) (x : Numbered) → IsEntryChange c x
+    → edit_steps m c c.edit ≡ entry_steps m x c.moves ++ movement_steps m c.movement
+write_steps m c x (inl is) = ap (edit_steps m c) is
+write_steps m c x (inr is) = ap (edit_steps m c) is
 
 write_keeps : (m : ℕ) (c : MatterChange) (x : Numbered) (shown moves : List Movement) → IsEntryChange c x
     → shown ≡ moves → shown ≡ kept_movements m c.edit moves
@@ -87,7 +87,7 @@ both_put a mid b es ms first second = second ∙ ap (λ (l : Lists). record l { 
 
 -- so its steps make what it says
 pub with_entry_made : (m : ℕ) (c : MatterChange) (x : Numbered) (a b : Lists) → IsEntryChange c x → 1 ≤ m → AreKeyed a
-    → AreMeant a → IsChange (of m (firm_from a)) c → AreMade (matter_steps m c c.edit a) a b
+    → AreMeant a → IsChange (of m (firm_from a)) c → AreMade (matter_steps m c c.edit) a b
     → IsMatterMade m c a b
 with_entry_made m c x a b w one keyed meant may made =
     let rows = rows_in m (matters_from a) in
@@ -97,13 +97,13 @@ with_entry_made m c x a b w one keyed meant may made =
     let first = head_first m c a b keyed.heads meant here some (write_typed c x w) made in
     let new = head_columns m first.h c.moves.figures in
     let begun : Lists = record a { heads = table.put_head new a.heads } in
-    let parts = made-append (entry_steps m x c.moves a) (movement_steps m c.movement) begun b
-    (subst (λ l. AreMade l begun b) (write_steps m c x a w) first.rest) in
+    let parts = made-append (entry_steps m x c.moves) (movement_steps m c.movement) begun b
+    (subst (λ l. AreMade l begun b) (write_steps m c x w) first.rest) in
     let mid = parts.0 in
     let es = mid.entries in
     let fits = fits-change (part_at m a) rows c x old here w in
     let put =
-    entry_made m x c.moves a begun mid (refl {a = a.entries}) keyed.entries meant.written.entries fits parts.1 in
+    entry_made m x c.moves begun mid keyed.entries meant.written.entries fits parts.1 in
     let moved = movement_made m c.movement mid b one parts.2 in
     let ms = moved.0 in
     let from : AreMovements a.movements (joined_movement m c.movement) ms =

@@ -82,22 +82,22 @@ with_rest m e l = record l {
 }
 
 -- the steps behind the head make these
-rest_made : (m : ℕ) (c : MatterChange) (e : Edit) (a l b : Lists) → WritesNoEntry e → AreMade (edit_steps m c e a) l b
+rest_made : (m : ℕ) (c : MatterChange) (e : Edit) (l b : Lists) → WritesNoEntry e → AreMade (edit_steps m c e) l b
     → b ≡ with_rest m e l
-rest_made m c edit.Nothing a l b w made = absurd w
-rest_made m c (edit.Open o) a l b w made = made.2 ∙ made.1
-rest_made m c (edit.Seat s) a l b w made = made.2 ∙ made.1
-rest_made m c (edit.Unseat p) a l b w made = made.2 ∙ made.1
-rest_made m c (edit.Close day) a l b w made = made
-rest_made m c (edit.Clear day) a l b w made =
+rest_made m c edit.Nothing l b w made = absurd w
+rest_made m c (edit.Open o) l b w made = made.2 ∙ made.1
+rest_made m c (edit.Seat s) l b w made = made.2 ∙ made.1
+rest_made m c (edit.Unseat p) l b w made = made.2 ∙ made.1
+rest_made m c (edit.Close day) l b w made = made
+rest_made m c (edit.Clear day) l b w made =
     made.2.2.2 ∙ made.2.2.1
     ∙ ap (λ (k : Lists). record k { movements = delete_where (is_movement_of (pos m)) k.movements }) made.2.1
     ∙ ap (λ (k : Lists). record k {
       entries = delete_where (is_entry_of (pos m)) k.entries;
       movements = delete_where (is_movement_of (pos m)) k.movements;
     }) made.1
-rest_made m c (edit.Append x) a l b w made = absurd w
-rest_made m c (edit.Exchange x) a l b w made = absurd w
+rest_made m c (edit.Append x) l b w made = absurd w
+rest_made m c (edit.Exchange x) l b w made = absurd w
 
 -- What the rows stand for.
 
@@ -221,7 +221,7 @@ placed_by m (edit.Exchange x) a w written = absurd w
 
 -- so its steps make what it says
 pub without_entry_made : (m : ℕ) (c : MatterChange) (a b : Lists) → WritesNoEntry c.edit → 1 ≤ m → AreKeyed a
-    → AreMeant a → IsTypedEdit c.edit → IsChange (of m (firm_from a)) c → AreMade (matter_steps m c c.edit a) a b
+    → AreMeant a → IsTypedEdit c.edit → IsChange (of m (firm_from a)) c → AreMade (matter_steps m c c.edit) a b
     → IsMatterMade m c a b
 without_entry_made m c a b w one keyed meant typed may made =
     let e = c.edit in
@@ -232,7 +232,7 @@ without_entry_made m c a b w one keyed meant typed may made =
     let first = head_first m c a b keyed.heads meant here some typed made in
     let new = head_columns m first.h c.moves.figures in
     let end = with_matter a new (seats_by m e a.seats) (entries_by m e a.entries) (movements_by m e a.movements) in
-    let same : b ≡ end = rest_made m c e a (record a { heads = table.put_head new a.heads }) b w first.rest in
+    let same : b ≡ end = rest_made m c e (record a { heads = table.put_head new a.heads }) b w first.rest in
     let head : Some (head_from new) ≡ head_after rows.head e c.last =
     ap Some (head_back m first.h c.moves.figures first.days) ∙ sym first.is
     ∙ ap (λ o. head_after o e c.last) old.part.head in

@@ -1,4 +1,4 @@
--- The columns of what a row stands for. A rowid stands for nothing: it is left out, as 0.
+-- The columns of what a row stands for. A rowid has no meaning; here it is left out, as 0.
 use Rattle.std.specs.Prelude.{◌≡◌, ℕ, ℤ, pos, List, Result, Ok, Err}
 use Rattle.trust_values.specs.Limits.{IsDay, IsMatterNo, IsEntryNo, IsBankAmount}
 use Rattle.trust_base.specs.BankTexts.{IsBankText, IsLineText}
@@ -65,32 +65,32 @@ role_column Lawyer = pos 2
 abbrev pub seat_columns : ℕ → Seat → table.Seat
 seat_columns matter s = record { id = pos 0; matter = pos matter; person = s.person; role = role_column s.role }
 
--- an owner as the types hold it
+-- an owner whose numbers are in the range of their types
 abbrev pub IsOwner : Owner → Type 0
 IsOwner (owner.Matter m n) = IsMatterNo m × IsEntryNo n
 IsOwner owner.Firm = Unit {0}
 
--- a line of the firm as the types hold it
+-- a line of the firm whose values have the form of their types
 abbrev pub IsFirmLine : FirmLine → Type 0
 IsFirmLine l = IsDay l.date × IsBankText l.bank_ref × IsBankAmount l.amount × IsLineText l.text
 
--- a line of the bank as the types hold it
+-- a bank line whose values have the form of their types
 abbrev pub IsBankLine : Line → Type 0
 IsBankLine l = IsDay l.date × IsBankText l.reference × IsBankText l.bank_ref × IsBankAmount l.amount × IsLineText l.text
 
--- the columns are those of a seat of a matter: of a person, and of a role
+-- the columns are those of a seat of the matter: a valid person, and the code of a role
 pub record HasSeat (matter : ℕ) (row : table.Seat) : Type 0 where
   pub of_matter : row.matter ≡ pos matter
   pub person : IsPerson row.person
   pub role : (r : Role) × (role_column r ≡ row.role)
 
--- the numbers of a line, and its first text, are of their form
+-- the day, the amount and the first text of a line are valid
 pub record BeginsLine (day amount : ℤ) (text : List ℕ) : Type 0 where
   pub dated : (d : ℕ) × (IsDay d × (pos d ≡ day))
   pub amounts : IsBankAmount amount
   pub referred : IsBankText text
 
--- the columns of a value give it back, or memory is refused
+-- reading the columns of a value returns that value, or fails with Memory
 abbrev pub GivesBack : {T : Type 0} → T → Result T StoreFault → Type 0
 GivesBack x (Ok y) = y ≡ x
 GivesBack x (Err e) = e ≡ Memory

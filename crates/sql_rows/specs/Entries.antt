@@ -25,7 +25,7 @@ use Rattle.matter_rows.specs.declared.entry.Entry.TheVariants as entry
 use Rattle.matter_parts.specs.declared.kept.Kept.{Kept}
 use Rattle.sql_tables.specs.Rows as table
 
--- the columns that differ by kind and state
+-- the columns that depend on the kind and state
 pub record Parts : Type 0 where
   pub kind : ℕ
   pub day : ℕ
@@ -42,7 +42,7 @@ pub record Parts : Type 0 where
   pub bank_ref : List ℕ
   pub part : ℕ
 
--- an entry of a kind, with nothing in the columns of its state
+-- an entry of a kind, with the columns of its state empty
 abbrev pub plain_parts : ℕ → ℕ → ℕ → ℕ → ℕ → ℕ → List ℕ → List ℕ → List ℕ → Parts
 plain_parts kind day amount state fund of_no a b c = record {
   kind = kind;
@@ -61,7 +61,7 @@ plain_parts kind day amount state fund of_no a b c = record {
   part = 0;
 }
 
--- held 1, cleared 2, cancelled 3, returned 4: the return's bank day stands in `day_done`, its reference in `text_c`
+-- held 1, cleared 2, cancelled 3, returned 4: `day_done` has the bank's day of the return, `text_c` its reference
 abbrev pub deposit_parts : DepositState → ℕ → ℕ → List ℕ → List ℕ → Parts
 deposit_parts deposit.Held day amount a b = plain_parts 1 day amount 1 0 0 a b []
 deposit_parts (deposit.Cleared c) day amount a b =
@@ -75,7 +75,7 @@ deposit_parts (deposit.Returned r) day amount a b =
       day_undone = r.undone;
     }
 
--- what is available 0, a fee 1, a claim 2
+-- available money 0, a fee 1, a claim 2
 abbrev pub fund_kind : Fund → ℕ
 fund_kind fund.General = 0
 fund_kind (fund.Fee k) = 1
@@ -110,7 +110,7 @@ claim_parts (claim.Offered part) day amount fund of_no a b =
 claim_parts (claim.Settled s) day amount fund of_no a b =
     record (plain_parts 4 day amount 3 fund of_no a b []) { day_done = s.day; part = s.part }
 
--- on what is available, by its claimant, or on a fee
+-- on available money, by its claimant, or on a fee
 abbrev pub claim_on_parts : Against → ClaimState → ℕ → ℕ → List ℕ → Parts
 claim_on_parts (against.General claimant) s day amount reason = claim_parts s day amount 0 0 claimant reason
 claim_on_parts (against.Fee k) s day amount reason = claim_parts s day amount 1 k [] reason
@@ -123,7 +123,7 @@ parts_of (entry.Payment p) =
 parts_of (entry.Fee f) = plain_parts 3 f.book f.amount 0 0 0 f.description [] []
 parts_of (entry.Claim c) = claim_on_parts c.against c.state c.book c.amount c.reason
 
--- the columns of a matter, a number and what is left, with these parts
+-- the columns of an entry with this matter, number and amount left, and these parts
 abbrev pub as_columns : ℕ → ℕ → ℕ → Parts → table.Entry
 as_columns m n left p = record {
   id = pos 0;
@@ -150,30 +150,30 @@ as_columns m n left p = record {
 abbrev pub entry_columns : ℕ → ℕ → ℕ → Entry → table.Entry
 entry_columns m n left e = as_columns m n left (parts_of e)
 
--- An entry as the types hold it.
+-- Entries whose values have the form of their types.
 
--- what the bank told of it
+-- what the bank reported of it
 abbrev pub IsClearing : Clearing → Type 0
 IsClearing c = IsDay c.bank_day × IsBankText c.bank_ref
 
--- a deposit that the bank took back
+-- a deposit that the bank returned
 abbrev pub IsReturn : ReturnedDeposit → Type 0
 IsReturn r = IsClearing r.clearing × IsClearing r.returning × IsDay r.undone
 
--- the lines of the bank and the days of a deposit
+-- the bank lines and the days of a deposit
 abbrev pub IsDepositState : DepositState → Type 0
 IsDepositState deposit.Held = Unit {0}
 IsDepositState (deposit.Cleared c) = IsClearing c
 IsDepositState (deposit.Cancelled on) = IsDay on
 IsDepositState (deposit.Returned r) = IsReturn r
 
--- the number of the fee or claim that it names
+-- the number of the fee or claim that a fund names
 abbrev pub IsFund : Fund → Type 0
 IsFund fund.General = Unit {0}
 IsFund (fund.Fee k) = IsEntryNo k
 IsFund (fund.Claim k) = IsEntryNo k
 
--- the days of a payment and the line of the bank
+-- the days of a payment and its bank line
 abbrev pub IsPaymentState : PaymentState → Type 0
 IsPaymentState payment.Proposed = Unit {0}
 IsPaymentState payment.Declined = Unit {0}
@@ -181,7 +181,7 @@ IsPaymentState (payment.Issued on) = IsDay on
 IsPaymentState (payment.Cleared s) = IsDay s.issued × IsClearing s.clearing
 IsPaymentState (payment.Voided s) = IsDay s.issued × IsDay s.undone
 
--- the client's part and the day
+-- the client's part, and the day
 abbrev pub IsClaimState : ClaimState → Type 0
 IsClaimState claim.Open = Unit {0}
 IsClaimState (claim.Offered part) = IsAmountOrZero part
@@ -192,23 +192,23 @@ abbrev pub IsAgainst : Against → Type 0
 IsAgainst (against.General claimant) = IsLabel claimant
 IsAgainst (against.Fee k) = IsEntryNo k
 
--- a deposit, its day and its amount aside
+-- a deposit, except its day and amount
 abbrev pub IsDeposit : Deposit → Type 0
 IsDeposit d = IsLabel d.source × IsLabel d.description × IsDepositState d.state
 
--- a payment, its day and its amount aside
+-- a payment, except its day and amount
 abbrev pub IsPayment : Payment → Type 0
 IsPayment p = IsLabel p.payee × IsLabel p.purpose × IsLabel p.instrument × IsFund p.fund × IsPaymentState p.state
 
--- a fee, its day and its amount aside
+-- a fee, except its day and amount
 abbrev pub IsFee : Fee → Type 0
 IsFee f = IsLabel f.description
 
--- a claim, its day and its amount aside
+-- a claim, except its day and amount
 abbrev pub IsClaim : Claim → Type 0
 IsClaim c = IsLabel c.reason × IsAgainst c.against × IsClaimState c.state
 
--- an entry, its day and its amount aside
+-- an entry, except its day and amount
 abbrev pub HasForm : Entry → Type 0
 HasForm (entry.Deposit d) = IsDeposit d
 HasForm (entry.Payment p) = IsPayment p
@@ -223,20 +223,20 @@ pub record IsKept (k : Kept) : Type 0 where
   pub amounts : IsAmount (parts_of k.entry).amount
   pub form : HasForm k.entry
 
--- What a row has of an entry. It may have more in the columns that the kind and state leave empty.
+-- What a row says of an entry. Columns that the kind and state leave empty are not looked at.
 
--- a line of the bank, in these columns of its day and its reference
+-- a bank line, with these columns as its day and its reference
 abbrev pub HasClearing : Clearing → ℤ → List ℕ → Type 0
 HasClearing c day reference = (pos c.bank_day ≡ day) × (c.bank_ref ≡ reference)
 
--- both lines of the bank, and the day of the return
+-- both bank lines, and the day of the return
 abbrev pub HasReturn : ReturnedDeposit → table.Entry → Type 0
 HasReturn r t =
     HasClearing r.clearing t.day_bank t.bank_ref
     × HasClearing r.returning t.day_done t.text_c
     × (pos r.undone ≡ t.day_undone)
 
--- the state of a deposit, with what it has
+-- the state of a deposit, with its columns
 abbrev pub HasDepositState : DepositState → table.Entry → Type 0
 HasDepositState deposit.Held t = pos 1 ≡ t.state
 HasDepositState (deposit.Cleared c) t = (pos 2 ≡ t.state) × HasClearing c t.day_bank t.bank_ref
@@ -249,11 +249,11 @@ HasDeposit d day amount t =
     (d.book ≡ day) × (d.amount ≡ amount) × (d.source ≡ t.text_a) × (d.description ≡ t.text_b)
     × HasDepositState d.state t
 
--- a fund, in these columns of its kind and its number
+-- a fund, with these columns as its kind and its number
 abbrev pub HasFund : Fund → ℤ → ℤ → Type 0
 HasFund f kind of_no = (pos (fund_kind f) ≡ kind) × (pos (fund_of f) ≡ of_no)
 
--- the state of a payment, with what it has
+-- the state of a payment, with its columns
 abbrev pub HasPaymentState : PaymentState → table.Entry → Type 0
 HasPaymentState payment.Proposed t = pos 1 ≡ t.state
 HasPaymentState payment.Declined t = pos 2 ≡ t.state
@@ -273,12 +273,12 @@ HasPayment p day amount t =
 abbrev pub HasFee : Fee → ℕ → ℕ → table.Entry → Type 0
 HasFee f day amount t = (f.book ≡ day) × (f.amount ≡ amount) × (f.description ≡ t.text_a)
 
--- what a claim is on
+-- what a claim is made on
 abbrev pub HasAgainst : Against → table.Entry → Type 0
 HasAgainst (against.General claimant) t = (pos 0 ≡ t.fund) × (claimant ≡ t.text_a)
 HasAgainst (against.Fee k) t = (pos 1 ≡ t.fund) × (pos k ≡ t.of_no)
 
--- the state of a claim, with what it has
+-- the state of a claim, with its columns
 abbrev pub HasClaimState : ClaimState → table.Entry → Type 0
 HasClaimState claim.Open t = pos 1 ≡ t.state
 HasClaimState (claim.Offered part) t = (pos 2 ≡ t.state) × (pos part ≡ t.part)
@@ -296,7 +296,7 @@ HasEntry (entry.Payment p) day amount t = (pos 2 ≡ t.kind) × HasPayment p day
 HasEntry (entry.Fee f) day amount t = (pos 3 ≡ t.kind) × HasFee f day amount t
 HasEntry (entry.Claim c) day amount t = (pos 4 ≡ t.kind) × HasClaim c day amount t
 
--- the columns are of a matter, and the numbers that every entry has are in range
+-- the columns are of this matter, and the numbers that every entry has are in range
 pub record BeginsEntry (matter : ℕ) (row : table.Entry) : Type 0 where
   pub of_matter : row.matter ≡ pos matter
   pub number : (n : ℕ) × (IsEntryNo n × (pos n ≡ row.no))
@@ -304,14 +304,14 @@ pub record BeginsEntry (matter : ℕ) (row : table.Entry) : Type 0 where
   pub dated : (d : ℕ) × (IsDay d × (pos d ≡ row.day))
   pub amounts : (a : ℕ) × (IsAmount a × (pos a ≡ row.amount))
 
--- Two rows with the same columns.
+-- Comparing the columns of two rows.
 
--- the same matter, number, kind and state, with the same left of it
+-- the same matter, number, kind, state and amount left
 abbrev pub HasSamePlace : table.Entry → table.Entry → Type 0
 HasSamePlace a b =
     (a.matter ≡ b.matter) × (a.no ≡ b.no) × (a.kind ≡ b.kind) × (a.state ≡ b.state) × (a.left_now ≡ b.left_now)
 
--- the same amount, part, fund and number of that
+-- the same amount, part, fund and fund number
 abbrev pub HasSameMoney : table.Entry → table.Entry → Type 0
 HasSameMoney a b = (a.amount ≡ b.amount) × (a.part ≡ b.part) × (a.fund ≡ b.fund) × (a.of_no ≡ b.of_no)
 

@@ -6,6 +6,7 @@ use Rattle.matter_rows.specs.declared.head.Head.{Head}
 use Rattle.matter_rows.specs.declared.head.Holder.{Holder}
 use Rattle.matter_rows.specs.declared.head.Holder.TheVariants.{Client, Purged}
 use Rattle.matter_parts.specs.declared.figures.Figures.{Figures}
+use Rattle.sql_tables.specs.declared.columns.TotalsColumns.{TotalsColumns}
 use Rattle.sql_tables.specs.Rows as table
 
 -- a purged matter has no client
@@ -23,7 +24,7 @@ abbrev pub closed_column : Option ℕ → ℤ
 closed_column None = pos 0
 closed_column (Some day) = pos day
 
--- the columns of a head of a matter with its kept totals
+-- the columns of the head of a matter with its stored totals
 abbrev pub head_columns : ℕ → Head → Figures → table.Head
 head_columns m h f = record {
   no = pos m;
@@ -41,7 +42,21 @@ head_columns m h f = record {
   purged = purged_column h.holder;
 }
 
--- a row has these columns of a head, its totals aside
+-- the columns that each change of a matter sets: its last day and its totals
+abbrev pub totals_columns : ℕ → ℕ → Figures → TotalsColumns
+totals_columns m last f = record {
+  no = pos m;
+  last = pos last;
+  entries = pos f.entries;
+  held = pos f.held;
+  available = pos f.available;
+  disputed = pos f.disputed;
+  fees = pos f.fees;
+  claims = pos f.claims;
+  pending = pos f.pending;
+}
+
+-- a row has these columns of a head, except its totals
 abbrev pub HasHead : Head → table.Head → Type 0
 HasHead h t =
     (client_column h.holder ≡ t.client) × (pos h.opened ≡ t.opened) × (closed_column h.closed ≡ t.closed)
@@ -57,16 +72,16 @@ pub record HasTotals (f : Figures) (t : table.Head) : Type 0 where
   pub fees : pos f.fees ≡ t.fees
   pub claims : pos f.claims ≡ t.claims
 
--- a holder as the types hold it
+-- a holder whose values have the form of their types
 abbrev pub IsHolder : Holder → Type 0
 IsHolder (Client name) = IsLabel name
 IsHolder (Purged day) = IsDay day
 
--- a head as the types hold it
+-- a head whose values have the form of their types
 abbrev pub IsHead : Head → Type 0
 IsHead h = IsHolder h.holder × IsDay h.opened × IfSome h.closed IsDay × IsDay h.last
 
--- the columns are those of the head of a matter that was not purged, its totals aside
+-- the columns are those of the head of a matter that was not purged, except its totals
 pub record HasClientsHead (row : table.Head) : Type 0 where
   pub client : IsLabel row.client
   pub opened : (d : ℕ) × (IsDay d × (pos d ≡ row.opened))

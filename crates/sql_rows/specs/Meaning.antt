@@ -1,4 +1,4 @@
--- The firm for whose rows the tables stand.
+-- The firm whose rows the tables stand for.
 use Rattle.std.specs.Prelude.{◌≡◌, ℕ, ℤ, pos, nat_abs, true, ◌==◌, cond, List, map, Option, Some, None}
 use Rattle.std.specs.List.{AllByRecursion}
 use Rattle.sqlite_keyed.specs.Keyed.{IsKeyedBy, has_key}
@@ -43,16 +43,16 @@ use Rattle.sql_rows.specs.Columns.{balance_columns, movement_columns, firm_line_
 use Rattle.sql_rows.specs.Entries.{Parts, entry_columns}
 use Rattle.sql_rows.specs.Heads.{HasHead}
 
--- What a row stands for. A code that stands for nothing is read as another of its column; such a row is not what would
--- be written for that, so that tables with one stand for no firm.
+-- What a row stands for. An invalid code is read as some other code of its column. Such a row is not what would be
+-- written for that reading, so tables that have one stand for no firm.
 
 -- A head.
 
--- 0 stands for no day
+-- 0 means no day
 abbrev pub day_or_none : ℕ → Option ℕ
 day_or_none n = cond (n == 0) None (Some n)
 
--- a matter that was purged has the day of that, and any other its client
+-- a purged matter has the day of the purge, any other its client
 abbrev pub holder_from : table.Head → Holder
 holder_from h = cond (nat_abs h.purged == 0) (Client h.client) (Purged (nat_abs h.purged))
 
@@ -64,7 +64,7 @@ head_from h = record {
   last = nat_abs h.last;
 }
 
--- the totals that are kept with a head
+-- the totals that are stored with a head
 abbrev pub figures_from : table.Head → Figures
 figures_from h = record {
   entries = nat_abs h.entries;
@@ -104,11 +104,11 @@ parts_from e = record {
   part = nat_abs e.part;
 }
 
--- the line of the bank that cleared the entry
+-- the bank line that cleared the entry
 abbrev pub clearing_from : Parts → Clearing
 clearing_from p = record { bank_day = p.day_bank; bank_ref = p.bank_ref }
 
--- the line of the bank that took a deposit back
+-- the bank line that returned a deposit
 abbrev pub returning_from : Parts → Clearing
 returning_from p = record { bank_day = p.day_done; bank_ref = p.text_c }
 
@@ -168,11 +168,11 @@ entry_from p =
       state = deposit_state_from p;
     }))))
 
--- the entry with its number and what is left of it
+-- the entry with its number and the amount left of it
 abbrev pub kept_from : table.Entry → Kept
 kept_from e = record { number = nat_abs e.no; left = nat_abs e.left_now; entry = entry_from (parts_from e) }
 
--- The firm's own rows. Matter 0 is the firm.
+-- The firm's own rows. Matter 0 means the firm.
 
 abbrev pub owner_from : table.Movement → Owner
 owner_from m = cond (nat_abs m.matter == 0) owner.Firm (owner.Matter (nat_abs m.matter) (nat_abs m.entry))
@@ -215,14 +215,15 @@ matter_from a h = record { number = nat_abs h.no; matter = part_from a h }
 abbrev pub matters_from : Lists → List KeptMatter
 matters_from a = map (matter_from a) a.heads
 
--- matters by number; movements and the firm's lines in the order of acceptance; exceptions and balances in theirs
+-- matters by number, movements and the firm's lines in order of acceptance, exceptions and balances in their own
+-- order
 abbrev pub firm_from : Lists → Firm
 firm_from a =
     firm_of (matters_from a) (map movement_from a.movements) (map firm_line_from a.firm_lines)
     (map exception_from (sort_by table.exception_cmp a.exceptions))
     (map balance_from (sort_by table.balance_cmp a.balances))
 
--- Rows are what would be written for what they stand for, rowids aside.
+-- The rows are exactly what would be written for what they stand for, except the rowids.
 
 abbrev pub IsWrittenHead : table.Head → Type 0
 IsWrittenHead h = (h.no ≡ pos (nat_abs h.no)) × HasHead (head_from h) h
@@ -247,7 +248,7 @@ IsWrittenException e = record e { id = pos 0 } ≡ exception_columns (exception_
 abbrev pub IsWrittenBalance : table.Balance → Type 0
 IsWrittenBalance b = record b { id = pos 0 } ≡ balance_columns (balance_from b)
 
--- each row of each table
+-- this holds of each row of each table
 pub record AreWritten (a : Lists) : Type 0 where
   pub heads : AllByRecursion IsWrittenHead a.heads
   pub seats : AllByRecursion IsWrittenSeat a.seats
@@ -257,12 +258,12 @@ pub record AreWritten (a : Lists) : Type 0 where
   pub exceptions : AllByRecursion IsWrittenException a.exceptions
   pub balances : AllByRecursion IsWrittenBalance a.balances
 
--- the number is that of a head
+-- a head has this number
 abbrev pub HasHeadAt : List table.Head → ℤ → Type 0
 HasHeadAt heads number = has_key (λ (h : table.Head). h.no) heads number ≡ true
 
--- the rows stand for whole matters, each with its totals and what is left of its entries, and each seat and each entry
--- is of one of them
+-- the rows stand for whole matters, with correct totals and amounts left, and each seat and each entry belongs to one
+-- of them
 pub record AreMeant (a : Lists) : Type 0 where
   pub written : AreWritten a
   pub matters : AreKeptWhole (matters_from a)
@@ -279,7 +280,7 @@ pub record AreKeyed (a : Lists) : Type 0 where
   pub exceptions : IsKeyedBy (λ (e : table.Exception). e.id) a.exceptions
   pub balances : IsKeyedBy (λ (b : table.Balance). b.id) a.balances
 
--- the rows stand for those of a sound firm
+-- the rows stand for the rows of a sound firm
 pub record AreSound (a : Lists) : Type 0 where
   pub keyed : AreKeyed a
   pub meant : AreMeant a

@@ -1,4 +1,4 @@
--- What the scripts of changes mean: the tables that a script leaves stand for the firm after its change.
+-- What the scripts of changes mean: the tables after a script stand for the firm after its change.
 use Rattle.std.specs.Prelude.{◌≡◌, ◌≤◌, IfSome}
 use Rattle.trust_base.specs.declared.line.Line.{Line}
 use Rattle.matter_parts.specs.declared.edit.Edit.{Edit}
@@ -9,11 +9,11 @@ use Rattle.sql_tables.specs.Lists.{Lists}
 use Rattle.sql_rows.specs.Meaning.{AreKeyed, AreSound, firm_from}
 use Rattle.sql_rows.specs.Steps.{steps_of, AreMade}
 
--- What the types hold of a change's values, as far as the tables need it: a column has 0 where there is no day, and
--- matter 0 is the firm.
+-- What the types guarantee of a change's values, as much as the tables need: a column uses 0 for no day, and matter 0
+-- for the firm.
 
--- the days of an edit in whose columns 0 stands for none: that of a closing, also where a matter is opened, and that
--- of a purge
+-- the days of an edit whose columns use 0 for no day: the day of closing, also when a matter is opened, and that of a
+-- purge
 abbrev pub IsTypedEdit : Edit → Type 0
 IsTypedEdit edit.Nothing = Unit {0}
 IsTypedEdit (edit.Open o) = IfSome o.head.closed (λ day. 1 ≤ day)
@@ -31,24 +31,24 @@ IsTyped (Unmatched line) = Unit {0}
 IsTyped (OfFirm line) = Unit {0}
 IsTyped (OfBalance kind line) = Unit {0}
 
--- What the steps of a change leave.
+-- What the steps of a change leave in the tables.
 
--- the second tables stand for the firm of the first after the change, which is sound
+-- the second tables stand for the firm of the first after the change, and that firm is sound
 abbrev pub IsMeant : FirmChange → Lists → Lists → Type 0
 IsMeant change a b = (firm_from b ≡ after change (firm_from a)) × AreSound b
 
--- so do the tables that the steps of the change leave, wherever it fits
+-- if the change fits, this holds of the tables that its steps leave
 abbrev pub IsScriptMeant : FirmChange → Type 0
 IsScriptMeant change =
     (a b : Lists) → AreSound a → AreKeyed b → IsTyped change → FitsFirm (firm_from a) change
-    → AreMade (steps_of change a) a b
+    → AreMade (steps_of change) a b
     → IsMeant change a b
 
--- the script of each change is meant
+-- this holds for the script of each change
 abbrev pub ScriptsAreMeant : Type 0
 ScriptsAreMeant = (change : FirmChange) → IsScriptMeant change
 
--- those of the changes that concern the firm's own tables alone
+-- it holds for the scripts of the changes to the firm's own tables
 pub record LineScriptsAreMeant : Type 0 where
   pub repeated : (line : Line) → IsScriptMeant (Repeated line)
   pub unmatched : (line : Line) → IsScriptMeant (Unmatched line)

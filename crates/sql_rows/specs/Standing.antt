@@ -11,11 +11,11 @@ use Rattle.sql_tables.specs.Standing.{Stands}
 use Rattle.sql_rows.specs.Entries.{entry_columns}
 use Rattle.sql_rows.specs.Meaning.{AreSound, firm_from, kept_from}
 
--- the firm for whose rows the tables of a layout stand
+-- the firm whose rows the tables of a layout stand for
 abbrev pub firm_in : Layout → Trees → Firm
 firm_in l db = firm_from (lists_in l db)
 
--- the tables of a layout stand, and for the rows of a sound firm
+-- the tables of a layout stand, and stand for the rows of a sound firm
 pub record StandsSound (l : Layout) (db : Database) : Type 0 where
   pub tables : Stands l db
   pub rows : AreSound (lists_in l db.trees)
@@ -24,15 +24,15 @@ pub record StandsSound (l : Layout) (db : Database) : Type 0 where
 abbrev pub Leaves : Layout → State → Firm → Type 0
 Leaves l s firm = (db : Trees) × s.may_leave db × (firm ≡ firm_in l db)
 
--- these trees are those of a database that lists what it holds, and whose tables stand in this layout for the rows of a
--- sound firm: the schema is a book's and the version that of these tables
+-- these are the trees of a database that lists what it holds, with a book's schema and this version, whose tables
+-- stand in this layout for the rows of a sound firm
 pub record IsLeftStanding (l : Layout) (trees : Trees) : Type 0 where
   pub db : Database
   pub left : trees ≡ db.trees
   pub listed : IsDatabase db
   pub stands : StandsSound l db
 
--- whatever a crash leaves now stands so
+-- whatever a crash leaves now stands like that
 abbrev pub Lasts : Layout → State → Type 0
 Lasts l s = (trees : Trees) → s.may_leave trees → IsLeftStanding l trees
 
@@ -48,11 +48,11 @@ no_lists = record {
   balances = [];
 }
 
--- they stand for the firm without rows
+-- empty tables stand for the firm without rows
 abbrev pub EmptyTablesStand : Type 0
 EmptyTablesStand = AreSound no_lists × (firm_from no_lists ≡ empty_firm)
 
--- an entry that is read back from its columns is the one that was written, with its number and what is left of it
+-- an entry read back from its columns is the one that was written, with its number and the amount left of it
 abbrev pub EntriesReadBack : Type 0
 EntriesReadBack =
     (m n left : ℕ) (e : Entry)

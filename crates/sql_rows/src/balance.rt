@@ -1,4 +1,4 @@
-// The columns of a balance that the bank told of.
+// The columns of an opening or closing balance that the bank reported.
 
 ghost use Rattle.std.specs.Prelude.{◌≡◌, Ok, IfSome, IfNone, IfOk, IfErr};
 ghost use Rattle.trust_values.specs.Limits.{IsDay, IsBankAmount};
@@ -12,7 +12,7 @@ use firm_rows::{BalanceKind, StatementRow};
 use sql_tables::BalanceColumns;
 use trust_base::{BankAmount, StoreFault};
 
-/// The column of a kind of balance: 1 for opening and 2 for closing.
+/// Returns the code of a kind of balance: 1 for opening and 2 for closing.
 pub fn kind_column(kind: BalanceKind) -> i64
     ensures { result ≡ kind_column kind }
 {
@@ -33,7 +33,7 @@ fn kind_in(column: i64) -> Option<BalanceKind>
     }
 }
 
-/// The columns of a balance: its kind, 1 for opening and 2 for closing, its day and its amount in cents.
+/// Returns the columns of a balance: its kind (1 for opening, 2 for closing), its day and its amount in cents.
 pub fn balance_columns(balance: StatementRow) -> BalanceColumns
     ensures { balance_given result ≡ balance_columns balance }
 {
@@ -44,7 +44,7 @@ pub fn balance_columns(balance: StatementRow) -> BalanceColumns
     }
 }
 
-/// The balance of columns. Columns that stand for none are Store.
+/// Reads a balance from its columns. Returns `Store` for columns of no balance.
 pub fn balance_of(columns: BalanceColumns) -> Result<StatementRow, StoreFault>
     ensures ok { IfOk result (λ b. balance_columns b ≡ balance_given columns) }
     ensures back { (b : Balance) → IsDay b.day → IsBankAmount b.amount → balance_columns b ≡ balance_given columns

@@ -1,4 +1,4 @@
-// Single columns, and what they stand for.
+// Reads the values of single columns.
 
 ghost use Rattle.std.specs.Prelude.{◌≡◌, ◌≢◌, ◌≤◌, ◌↔◌, ℕ, pos, Ok, IfSome, IfNone, IfOk, IfErr};
 ghost use Rattle.trust_values.specs.Limits.{IsDay, IsMatterNo, IsEntryNo, IsAmount, IsAmountOrZero};
@@ -10,7 +10,7 @@ use trust_base::{
     BankText, Cents, CentsOrZero, Day, EntryNo, Label, LineText, MatterNo, PersonId, StoreFault,
 };
 
-/// The day of a column year * 10000 + month * 100 + day of the month, where the calendar has it.
+/// Reads a day, written year * 10000 + month * 100 + day of the month; `None` if the calendar does not have it.
 #[tactic(auto, unfolding(trust_values::specs::Limits::IsDay))]
 pub(crate) fn day_in(column: i64) -> Option<Day>
     ensures some { IfSome result (λ d. pos d ≡ column) }
@@ -23,7 +23,7 @@ pub(crate) fn day_in(column: i64) -> Option<Day>
     Day::from_number(column as u32)
 }
 
-/// The same day; any other column is Store.
+/// Like `day_in`, but returns `Store` instead of `None`.
 pub(crate) fn stored_day(column: i64) -> Result<Day, StoreFault>
     ensures ok { IfOk result (λ d. pos d ≡ column) }
     ensures back { (d : ℕ) → IsDay d → pos d ≡ column → result ≡ Ok d }
@@ -32,7 +32,7 @@ pub(crate) fn stored_day(column: i64) -> Result<Day, StoreFault>
     day_in(column).ok_or(StoreFault::Store)
 }
 
-/// The number of a matter in a column.
+/// Reads the number of a matter.
 pub(crate) fn matter_in(column: i64) -> Option<MatterNo>
     ensures some { IfSome result (λ m. pos m ≡ column) }
     ensures none { IfNone result ((m : ℕ) → IsMatterNo m → pos m ≢ column) }
@@ -43,7 +43,7 @@ pub(crate) fn matter_in(column: i64) -> Option<MatterNo>
     MatterNo::from_number(column as u32)
 }
 
-/// The number of an entry in a column.
+/// Reads the number of an entry.
 pub(crate) fn entry_in(column: i64) -> Option<EntryNo>
     ensures some { IfSome result (λ n. pos n ≡ column) }
     ensures none { IfNone result ((n : ℕ) → IsEntryNo n → pos n ≢ column) }
@@ -54,7 +54,7 @@ pub(crate) fn entry_in(column: i64) -> Option<EntryNo>
     EntryNo::from_number(column as u16)
 }
 
-/// The number in a column, not below zero and at most `most`. Any other is Store.
+/// Reads a number from 0 to `most`. Returns `Store` for any other.
 pub(crate) fn number_in(column: i64, most: u64) -> Result<u64, StoreFault>
     ensures ok { IfOk result (λ n. pos n ≡ column) }
     ensures most { IfOk result (λ n. n ≤ most) }
@@ -71,7 +71,7 @@ pub(crate) fn number_in(column: i64, most: u64) -> Result<u64, StoreFault>
     Ok(number)
 }
 
-/// The amount in a column, in cents.
+/// Reads an amount in cents.
 pub(crate) fn amount_in(column: i64) -> Option<Cents>
     ensures some { IfSome result (λ a. pos a ≡ column) }
     ensures none { IfNone result ((a : ℕ) → IsAmount a → pos a ≢ column) }
@@ -82,7 +82,7 @@ pub(crate) fn amount_in(column: i64) -> Option<Cents>
     Cents::from_number(column as u64)
 }
 
-/// The amount or nothing in a column, in cents.
+/// Reads an amount in cents that may be 0.
 pub(crate) fn part_in(column: i64) -> Option<CentsOrZero>
     ensures some { IfSome result (λ a. pos a ≡ column) }
     ensures none { IfNone result ((a : ℕ) → IsAmountOrZero a → pos a ≢ column) }
@@ -93,8 +93,7 @@ pub(crate) fn part_in(column: i64) -> Option<CentsOrZero>
     CentsOrZero::from_number(column as u64)
 }
 
-/// The short text of the bank in a column. Other bytes are Store; Memory comes only of a text of this form, where a
-/// growth was refused.
+/// Reads a short text of the bank. Returns `Store` for invalid bytes, and `Memory` if memory runs out for valid ones.
 pub(crate) fn bank_text_in(alloc: Global, column: &[u8]) -> Result<BankText, StoreFault>
     ensures ok { IfOk result (λ t. t ≡ column.now) }
     ensures err { IfErr result (λ e. e ≡ StoreFault.Memory ↔ IsBankText column.now) }
@@ -103,8 +102,7 @@ pub(crate) fn bank_text_in(alloc: Global, column: &[u8]) -> Result<BankText, Sto
     text.ok_or(StoreFault::Store)
 }
 
-/// The text of a line of the bank in a column. Other bytes are Store; Memory comes only of a text of this form, where
-/// a growth was refused.
+/// Reads the text of a bank line. Returns `Store` for invalid bytes, and `Memory` if memory runs out for valid ones.
 pub(crate) fn line_text_in(alloc: Global, column: &[u8]) -> Result<LineText, StoreFault>
     ensures ok { IfOk result (λ t. t ≡ column.now) }
     ensures err { IfErr result (λ e. e ≡ StoreFault.Memory ↔ IsLineText column.now) }
@@ -113,7 +111,7 @@ pub(crate) fn line_text_in(alloc: Global, column: &[u8]) -> Result<LineText, Sto
     text.ok_or(StoreFault::Store)
 }
 
-/// The person in a column. Other bytes are Store; Memory comes only of a text of this form, where a growth was refused.
+/// Reads a person. Returns `Store` for invalid bytes, and `Memory` if memory runs out for valid ones.
 pub(crate) fn person_in(alloc: Global, column: &[u8]) -> Result<PersonId, StoreFault>
     ensures ok { IfOk result (λ t. t ≡ column.now) }
     ensures err { IfErr result (λ e. e ≡ StoreFault.Memory ↔ IsPerson column.now) }
@@ -122,7 +120,7 @@ pub(crate) fn person_in(alloc: Global, column: &[u8]) -> Result<PersonId, StoreF
     text.ok_or(StoreFault::Store)
 }
 
-/// The label in a column. Other bytes are Store; Memory comes only of a text of this form, where a growth was refused.
+/// Reads a label. Returns `Store` for invalid bytes, and `Memory` if memory runs out for valid ones.
 pub(crate) fn label_in(alloc: Global, column: &[u8]) -> Result<Label, StoreFault>
     ensures ok { IfOk result (λ t. t ≡ column.now) }
     ensures form { IfOk result IsLabel }

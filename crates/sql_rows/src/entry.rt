@@ -12,8 +12,8 @@ use matter_rows::{
 use sql_tables::EntryColumns;
 use trust_base::{EntryNo, MatterNo};
 
-/// The columns of an entry of a matter, its number and what is left of it in cents. Days that it does not have are 0,
-/// texts empty, numbers 0.
+/// Returns the columns of an entry of a matter, with its number and the cents left of it. A missing day or number is
+/// 0, a missing text is empty.
 pub fn entry_columns<'a>(
     matter: MatterNo,
     no: EntryNo,

@@ -1,4 +1,4 @@
-// The columns of a line of the bank that matched nothing.
+// The columns of a bank line that matched nothing.
 
 ghost use Rattle.std.specs.Prelude.{◌≡◌, IfOk, IfErr};
 ghost use Rattle.trust_base.specs.declared.line.Line.{Line as BankLine};
@@ -10,8 +10,8 @@ use sql_tables::ExceptionColumns;
 use std::alloc::Global;
 use trust_base::{BankAmount, Line, StoreFault};
 
-/// The columns of a line that matched nothing: its date, its reference, the bank's own one, its amount in cents and its
-/// text.
+/// Returns the columns of a bank line that matched nothing: its date, its reference, the bank's own reference, its
+/// amount in cents and its text.
 pub fn exception_columns(line: &Line) -> ExceptionColumns<'_>
     ensures { exception_given result ≡ exception_columns line.now }
 {
@@ -24,8 +24,9 @@ pub fn exception_columns(line: &Line) -> ExceptionColumns<'_>
     }
 }
 
-/// The line of columns, with texts of its own. Columns that stand for none are Store, or Memory where a growth was
-/// refused before the one that is not of its form: only where day, amount and the reference are.
+/// Reads a bank line from its columns, copying the texts. Returns `Store` for columns of no line, or `Memory` if
+/// memory runs out before the invalid column is reached. `Memory` is possible only if day, amount and reference are
+/// valid.
 pub fn exception_of(alloc: Global, columns: ExceptionColumns<'_>) -> Result<Line, StoreFault>
     ensures ok { IfOk result (λ l. exception_columns l ≡ exception_given columns.entry) }
     ensures back { (l : BankLine) → IsBankLine l → exception_columns l ≡ exception_given columns.entry

@@ -11,7 +11,7 @@ use sql_tables::FirmLineColumns;
 use std::alloc::Global;
 use trust_base::{BankAmount, StoreFault};
 
-/// The columns of a line of the firm: its date, the bank's reference, its amount in cents and its text.
+/// Returns the columns of a line of the firm: its date, the bank's reference, its amount in cents and its text.
 pub fn firm_line_columns(line: &FirmLine) -> FirmLineColumns<'_>
     ensures { firm_line_given result ≡ firm_line_columns line.now }
 {
@@ -23,8 +23,9 @@ pub fn firm_line_columns(line: &FirmLine) -> FirmLineColumns<'_>
     }
 }
 
-/// The line of the firm of columns, with texts of its own. Columns that stand for none are Store, or Memory where a
-/// growth was refused before the one that is not of its form: only where day, amount and the bank's reference are.
+/// Reads a line of the firm from its columns, copying the texts. Returns `Store` for columns of no line, or `Memory`
+/// if memory runs out before the invalid column is reached. `Memory` is possible only if day, amount and the bank's
+/// reference are valid.
 pub fn firm_line_of(alloc: Global, columns: FirmLineColumns<'_>) -> Result<FirmLine, StoreFault>
     ensures ok { IfOk result (λ l. firm_line_columns l ≡ firm_line_given columns.entry) }
     ensures back { (l : Line) → IsFirmLine l → firm_line_columns l ≡ firm_line_given columns.entry

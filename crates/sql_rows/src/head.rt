@@ -1,4 +1,4 @@
-// The columns of a head.
+// The columns of a matter's head.
 
 ghost use Rattle.std.specs.Prelude.{◌≡◌, ℕ, pos, Option, Ok, IfOk, IfErr, IfSome};
 ghost use Rattle.sql_tables.specs.Given.{head_given};
@@ -7,7 +7,7 @@ ghost use Rattle.trust_base.specs.Names.{IsLabel};
 ghost use Rattle.matter_rows.specs.declared.head.Head.{Head as Kept};
 ghost use Rattle.matter_rows.specs.declared.head.Holder.{Holder as Held};
 ghost use Rattle.sql_rows.specs.Columns.{GivesBack};
-ghost use Rattle.sql_rows.specs.Heads.{client_column, purged_column, closed_column, head_columns};
+ghost use Rattle.sql_rows.specs.Heads.{client_column, purged_column, closed_column, head_columns, totals_columns};
 ghost use Rattle.sql_rows.specs.Heads.{HasHead, HasTotals, IsHolder, IsHead, HasClientsHead};
 ghost use Rattle.matter_parts.specs.declared.figures.Figures.{Figures as Totals};
 ghost use Rattle.matter_parts.specs.Parts.{AreSmall};
@@ -15,7 +15,7 @@ ghost use Rattle.matter_parts.specs.Parts.{AreSmall};
 use crate::column::{day_in, label_in, number_in};
 use matter_parts::Figures;
 use matter_rows::{Head, Holder, MAX_TOTAL};
-use sql_tables::HeadColumns;
+use sql_tables::{HeadColumns, TotalsColumns};
 use std::alloc::Global;
 use trust_base::{Day, MAX_ENTRY, MatterNo, StoreFault};
 
@@ -49,8 +49,8 @@ fn closed_column(closed: Option<Day>) -> i64
     }
 }
 
-/// The columns of the head of a matter: its number, its client or nothing after a purge, its days, 0 for those that it
-/// does not have, and its totals in cents.
+/// Returns the columns of the head of a matter: its number, its client (empty after a purge), its days (0 if missing)
+/// and its totals in cents.
 pub fn head_columns(matter: MatterNo, head: &Head, figures: Figures) -> HeadColumns<'_>
     requires { AreSmall figures }
     ensures { head_given result ≡ head_columns matter head.now figures }
@@ -72,7 +72,25 @@ pub fn head_columns(matter: MatterNo, head: &Head, figures: Figures) -> HeadColu
     }
 }
 
-// Whose the matter is.
+/// Returns the columns of a matter's head that each change of it sets: its last day, and its totals in cents.
+pub fn totals_columns(matter: MatterNo, last: Day, figures: Figures) -> TotalsColumns
+    requires { AreSmall figures }
+    ensures { result ≡ totals_columns matter last figures }
+{
+    TotalsColumns {
+        no: matter.get() as i64,
+        last: last.get() as i64,
+        entries: figures.entries as i64,
+        held: figures.held as i64,
+        available: figures.available as i64,
+        disputed: figures.disputed as i64,
+        fees: figures.fees as i64,
+        claims: figures.claims as i64,
+        pending: figures.pending as i64,
+    }
+}
+
+// Reads the client, or the day of the purge.
 #[tactic(auto, unfolding(trust_values::specs::Limits::IsDay))]
 fn holder_in(alloc: Global, client: &[u8], purged: i64) -> Result<Holder, StoreFault>
     ensures client { IfOk result (λ h. client_column h ≡ client.now) }
@@ -92,7 +110,7 @@ fn holder_in(alloc: Global, client: &[u8], purged: i64) -> Result<Holder, StoreF
     Ok(Holder::Purged(day))
 }
 
-// The day on which the matter was closed, if it was.
+// Reads the day of closing, if there is one.
 #[tactic(auto, unfolding(trust_values::specs::Limits::IsDay))]
 fn closed_in(column: i64) -> Result<Option<Day>, StoreFault>
     ensures ok { IfOk result (λ c. closed_column c ≡ column) }
@@ -107,8 +125,8 @@ fn closed_in(column: i64) -> Result<Option<Day>, StoreFault>
     Ok(Some(day))
 }
 
-/// The head of columns, with a text of its own; its totals are not read. Columns that stand for none are Store; Memory
-/// comes only of those of a head that was not purged, where a growth was refused.
+/// Reads a head from its columns, copying the client; its totals are not read. Returns `Store` for columns of no
+/// head. `Memory`, if memory runs out, is possible only for the valid columns of a head that was not purged.
 pub fn head_of(alloc: Global, columns: HeadColumns<'_>) -> Result<Head, StoreFault>
     ensures ok { IfOk result (λ h. HasHead h (head_given columns.entry)) }
     ensures form { IfOk result IsHead }
@@ -127,8 +145,8 @@ pub fn head_of(alloc: Global, columns: HeadColumns<'_>) -> Result<Head, StoreFau
     })
 }
 
-/// The totals of the columns of a head; the rest of it is not read. Columns that stand for none are Store, as where a
-/// matter has more entries than it may have, or a total more than all these can come to.
+/// Reads the totals from the columns of a head; the rest is not read. Returns `Store` for values that no matter can
+/// have, such as too many entries or a total above what that many can add up to.
 pub fn totals_of(columns: HeadColumns<'_>) -> Result<Figures, StoreFault>
     ensures ok { IfOk result (λ f. HasTotals f (head_given columns.entry)) }
     ensures small { IfOk result AreSmall }

@@ -1,4 +1,4 @@
-//! Laws over the definitions, each the contract of a function with nothing to do.
+//! Laws over the definitions. Each is the contract of a function that does nothing.
 
 ghost use Rattle.sql_rows.specs.Scripts.{LineScriptsAreMeant, ScriptsAreMeant};
 ghost use Rattle.sql_rows.specs.Standing.{EmptyTablesStand, EntriesReadBack};
@@ -10,21 +10,20 @@ pub fn empty_tables_stand()
     ensures { EmptyTablesStand }
 {}
 
-/// An entry that is read back from its columns is the one that was written, with its number and what is left of it.
+/// An entry read back from its columns is the one that was written, with its number and the amount left of it.
 pub fn entries_read_back()
     ensures { EntriesReadBack }
 {}
 
-/// What is written for a line of the bank that comes again or matches nothing, for a line of the firm's own, and for a
-/// balance leaves tables that stand for the firm after it, which is sound.
+/// The script for a bank line that is repeated or matches nothing, for a line of the firm's own, and for a balance
+/// leaves tables that stand for the firm after the change, which is sound.
 pub fn line_scripts_are_meant()
     ensures { LineScriptsAreMeant }
 {
     firm_stays_sound();
 }
 
-/// What is written for a change of the firm, of whatever kind, leaves tables that stand for the firm after it, which is
-/// sound.
+/// The script for any change of the firm leaves tables that stand for the firm after the change, which is sound.
 pub fn scripts_are_meant()
     ensures { ScriptsAreMeant }
 {

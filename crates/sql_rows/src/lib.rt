@@ -1,7 +1,7 @@
-//! The firm for whose rows a book's tables stand: definitions, and laws over them. The columns of a row and what they
-//! stand for: a balance, a movement, a line of the firm, an exception, a seat, an entry and a head with its totals are
-//! written as columns and read back from them. Columns that stand for nothing are never guessed at: they are Store, or
-//! Memory where a growth was refused before the one that is at fault.
+//! The firm whose rows a book's tables stand for: definitions, laws over them, and the columns of each kind of row.
+//! Balances, movements, lines of the firm, exceptions, seats, entries and heads with their totals are written as
+//! columns and read back from them. Invalid columns are never guessed at: reading them returns `Store`, or `Memory`
+//! if memory runs out before the invalid one is reached.
 #![tactic(auto)]
 
 mod balance;
@@ -19,7 +19,7 @@ pub use balance::{balance_columns, balance_of, kind_column};
 pub use entry::entry_columns;
 pub use exception::{exception_columns, exception_of};
 pub use firm_line::{firm_line_columns, firm_line_of};
-pub use head::{head_columns, head_of, totals_of};
+pub use head::{head_columns, head_of, totals_columns, totals_of};
 pub use movement::{movement_columns, movement_of};
 pub use seat::{seat_columns, seat_of};
 pub use stored_entry::entry_of;

@@ -30,8 +30,8 @@ fn entry_column(owner: Owner) -> i64
     }
 }
 
-/// The columns of a movement: its matter and its entry, both 0 where it is the firm's own, its day by the books and its
-/// amount in cents.
+/// Returns the columns of a movement: its matter and its entry (both 0 for the firm's own), its day by the books and
+/// its amount in cents.
 pub fn movement_columns(movement: Movement) -> MovementColumns
     ensures { movement_given result ≡ movement_columns movement }
 {
@@ -43,7 +43,7 @@ pub fn movement_columns(movement: Movement) -> MovementColumns
     }
 }
 
-// Whose the money was.
+// Reads whose the money was.
 fn owner_in(matter: i64, entry: i64) -> Result<Owner, StoreFault>
     ensures matter { IfOk result (λ o. matter_column o ≡ matter) }
     ensures entry { IfOk result (λ o. entry_column o ≡ entry) }
@@ -59,7 +59,7 @@ fn owner_in(matter: i64, entry: i64) -> Result<Owner, StoreFault>
     Ok(Owner::Matter { matter, entry })
 }
 
-/// The movement of columns. Columns that stand for none are Store.
+/// Reads a movement from its columns. Returns `Store` for columns of no movement.
 pub fn movement_of(columns: MovementColumns) -> Result<Movement, StoreFault>
     ensures ok { IfOk result (λ v. movement_columns v ≡ movement_given columns) }
     ensures back { (v : Moved) → IsOwner v.owner → IsDay v.day → movement_columns v ≡ movement_given columns

@@ -33,7 +33,7 @@ fn role_in(column: i64) -> Option<Role>
     }
 }
 
-/// The columns of a seat of a matter: the person, and the role, 1 for a client and 2 for a lawyer.
+/// Returns the columns of a seat of a matter: the person, and the role (1 for a client, 2 for a lawyer).
 pub fn seat_columns(matter: MatterNo, seat: &Seat) -> SeatColumns<'_>
     ensures { seat_given result ≡ seat_columns matter seat.now }
 {
@@ -44,8 +44,8 @@ pub fn seat_columns(matter: MatterNo, seat: &Seat) -> SeatColumns<'_>
     }
 }
 
-/// The seat of columns of a matter, with a text of its own. Columns that stand for none are Store; Memory comes only of
-/// those of a seat, where a growth was refused.
+/// Reads a seat of a matter from its columns, copying the person. Returns `Store` for columns of no seat, and
+/// `Memory` if memory runs out for those of one.
 pub fn seat_of(
     alloc: Global,
     matter: MatterNo,

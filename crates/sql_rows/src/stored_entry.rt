@@ -1,4 +1,4 @@
-// An entry read back from its columns.
+// Reads an entry back from its columns.
 
 ghost use Rattle.std.specs.Prelude.{◌≡◌, ◌≤◌, ◌↔◌, pos, IsTrue, Ok, IfOk, IfErr};
 ghost use Rattle.trust_values.specs.Limits.{IsDay};
@@ -38,7 +38,7 @@ use sql_tables::EntryColumns;
 use std::alloc::Global;
 use trust_base::{Cents, Day, EntryNo, MatterNo, StoreFault};
 
-// The line of the bank that cleared an entry.
+// Reads the bank line that cleared an entry.
 fn clearing_in(alloc: Global, columns: EntryColumns<'_>) -> Result<Clearing, StoreFault>
     ensures { (c : Told) → IsClearing c → HasClearing c columns.entry.day_bank columns.entry.bank_ref.now
         → GivesBack c result }
@@ -48,7 +48,7 @@ fn clearing_in(alloc: Global, columns: EntryColumns<'_>) -> Result<Clearing, Sto
     Ok(Clearing { bank_day, bank_ref })
 }
 
-// The line of the bank that took a deposit back. It stands in the columns of the day done and of the third text.
+// Reads the bank line that returned a deposit, from the columns `day_done` and `text_c`.
 fn returning_in(alloc: Global, columns: EntryColumns<'_>) -> Result<Clearing, StoreFault>
     ensures { (c : Told) → IsClearing c → HasClearing c columns.entry.day_done columns.entry.text_c.now
         → GivesBack c result }
@@ -58,7 +58,7 @@ fn returning_in(alloc: Global, columns: EntryColumns<'_>) -> Result<Clearing, St
     Ok(Clearing { bank_day, bank_ref })
 }
 
-// A deposit that the bank cleared and then took back.
+// Reads a deposit that the bank cleared and then returned.
 fn returned_in(alloc: Global, columns: EntryColumns<'_>) -> Result<ReturnedDeposit, StoreFault>
     ensures { (r : SentBack) → IsReturn r → HasReturn r (entry_given columns.entry) → GivesBack r result }
 {
@@ -109,7 +109,7 @@ fn deposit_in(
     })
 }
 
-// Where a payment takes its money.
+// Reads where a payment takes its money from.
 fn fund_in(fund: i64, of_no: i64) -> Result<Fund, StoreFault>
     ensures back { (f : Source) → IsFund f → HasFund f fund of_no → result ≡ Ok f }
     ensures store { IfErr result (λ e. e ≡ StoreFault.Store) }
@@ -122,7 +122,7 @@ fn fund_in(fund: i64, of_no: i64) -> Result<Fund, StoreFault>
     }
 }
 
-// A payment that the bank told of.
+// Reads a payment that the bank cleared.
 fn cleared_in(alloc: Global, columns: EntryColumns<'_>) -> Result<ClearedPayment, StoreFault>
     ensures { (p : PaidCleared) → IsDay p.issued → IsClearing p.clearing → pos p.issued ≡ columns.entry.day_done
         → HasClearing p.clearing columns.entry.day_bank columns.entry.bank_ref.now → GivesBack p result }
@@ -132,7 +132,7 @@ fn cleared_in(alloc: Global, columns: EntryColumns<'_>) -> Result<ClearedPayment
     Ok(ClearedPayment { issued, clearing })
 }
 
-// A payment that was taken back.
+// Reads a payment that was voided.
 fn voided_in(columns: EntryColumns<'_>) -> Result<VoidedPayment, StoreFault>
     ensures back { (p : PaidVoided) → IsDay p.issued → IsDay p.undone → pos p.issued ≡ columns.entry.day_done
         → pos p.undone ≡ columns.entry.day_undone → result ≡ Ok p }
@@ -181,7 +181,7 @@ fn payment_in(
     })
 }
 
-// What a claim is on: what is available, by the claimant named, or a fee.
+// Reads what a claim is made on: available money, by the named claimant, or a fee.
 fn against_in(alloc: Global, columns: EntryColumns<'_>) -> Result<Against, StoreFault>
     ensures { (a : On) → IsAgainst a → HasAgainst a (entry_given columns.entry) → GivesBack a result }
 {
@@ -232,7 +232,7 @@ fn claim_in(
     })
 }
 
-// The entry of a kind, by the columns that its kind and its state have. The other columns are not read.
+// Reads an entry of its kind, from the columns that its kind and state use. The other columns are not read.
 fn of_kind(
     alloc: Global,
     book: Day,
@@ -257,7 +257,7 @@ fn of_kind(
     }
 }
 
-// Are they of the same matter, number, kind and state, with the same left of it?
+// Whether both have the same matter, number, kind, state and amount left.
 fn have_same_place(a: EntryColumns<'_>, b: EntryColumns<'_>) -> bool
     ensures { IsTrue result ↔ HasSamePlace (entry_given a.entry) (entry_given b.entry) }
 {
@@ -268,14 +268,14 @@ fn have_same_place(a: EntryColumns<'_>, b: EntryColumns<'_>) -> bool
         && a.left_now == b.left_now
 }
 
-// Have they the same amount, part, fund and number of that?
+// Whether both have the same amount, part, fund and fund number.
 fn have_same_money(a: EntryColumns<'_>, b: EntryColumns<'_>) -> bool
     ensures { IsTrue result ↔ HasSameMoney (entry_given a.entry) (entry_given b.entry) }
 {
     a.amount == b.amount && a.part == b.part && a.fund == b.fund && a.of_no == b.of_no
 }
 
-// Have they the same days?
+// Whether both have the same days.
 fn have_same_days(a: EntryColumns<'_>, b: EntryColumns<'_>) -> bool
     ensures { IsTrue result ↔ HasSameDays (entry_given a.entry) (entry_given b.entry) }
 {
@@ -285,21 +285,21 @@ fn have_same_days(a: EntryColumns<'_>, b: EntryColumns<'_>) -> bool
         && a.day_bank == b.day_bank
 }
 
-// Have they the same texts?
+// Whether both have the same texts.
 fn have_same_texts(a: EntryColumns<'_>, b: EntryColumns<'_>) -> bool
     ensures { IsTrue result ↔ HasSameTexts (entry_given a.entry) (entry_given b.entry) }
 {
     a.text_a == b.text_a && a.text_b == b.text_b && a.text_c == b.text_c && a.bank_ref == b.bank_ref
 }
 
-// Are all columns the same?
+// Whether all columns are the same.
 fn are_same(a: EntryColumns<'_>, b: EntryColumns<'_>) -> bool
     ensures { IsTrue result ↔ (entry_given a.entry ≡ entry_given b.entry) }
 {
     have_same_place(a, b) && have_same_money(a, b) && have_same_days(a, b) && have_same_texts(a, b)
 }
 
-// Are they the columns of the entry?
+// Whether these are the columns of the entry.
 fn are_of(
     matter: MatterNo,
     number: EntryNo,
@@ -313,9 +313,9 @@ fn are_of(
     are_same(entry_columns(matter, number, left, entry), columns)
 }
 
-/// The entry of columns of a matter, with texts of its own, its number and what is left of it in cents. Columns that
-/// stand for none are Store, also where one holds something that the entry's kind and state leave empty; Memory comes
-/// only of those whose matter, number, day, amount and what is left are in range, where a growth was refused.
+/// Reads an entry of a matter from its columns, copying its texts, with its number and the cents left of it. Returns
+/// `Store` for columns of no entry, including a value in a column that the entry's kind and state leave empty.
+/// `Memory`, if memory runs out, is possible only if matter, number, day, amount and what is left are in range.
 pub fn entry_of(
     alloc: Global,
     matter: MatterNo,

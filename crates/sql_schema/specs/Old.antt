@@ -1,4 +1,4 @@
--- The tables of version 1 as a database knows them. Written by tools/book-tables.
+-- The tables of version 1 as a database schema describes them. Written by tools/book-tables.
 use Rattle.std.specs.Prelude.{ℤ, pos, true, [], ◌∷◌, List, codes}
 use Rattle.sqlite_value.specs.Keys.{plain}
 use Rattle.sqlite_schema.specs.declared.schema.Table.{Table}
@@ -7,7 +7,7 @@ use Rattle.sqlite_schema.specs.declared.schema.Schema.{Schema}
 use Rattle.sql_schema.specs.declared.layout.Layout.TheVariants.{Moved}
 use Rattle.sql_schema.specs.Schema.{book_table, old_matter_table, old_seat_table, old_entry_table, journal_table, sequence_table, firm_line_table, exception_table, balance_table}
 
--- the version of these tables, which the table `book` says
+-- the version number that the table `book` holds for these tables
 abbrev pub version_then : ℤ
 version_then = pos 1
 
@@ -51,6 +51,6 @@ abbrev pub old_tables : List Table
 old_tables = book_table Moved ∷ old_matter_table ∷ old_seat_table ∷ old_entry_table ∷ journal_table Moved ∷
     sequence_table Moved ∷ firm_line_table Moved ∷ exception_table Moved ∷ balance_table Moved ∷ []
 
--- they lie as in a database that they were moved out of, with the three tables that took their places left out
+-- laid out as in a database whose rows were moved, without the three tables that replaced the old ones
 abbrev pub old_schema : Schema
 old_schema = record { tables = old_tables; indexes = old_indexes; views = [] }

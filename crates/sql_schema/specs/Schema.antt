@@ -1,4 +1,4 @@
--- The tables of a book as a database knows them, and the layouts in which they lie. Written by tools/book-tables.
+-- A book's tables as a database schema describes them, for each layout. Written by tools/book-tables.
 use Rattle.std.specs.Prelude.{ℕ, ℤ, pos, true, false, [], ◌∷◌, List, Some, None, codes}
 use Rattle.sqlite_value.specs.declared.value.Value.TheVariants.{Null}
 use Rattle.sqlite_value.specs.declared.keys.Collation.TheVariants.{Binary}
@@ -14,7 +14,7 @@ use Rattle.sqlite_schema.specs.declared.schema.Schema.{Schema}
 use Rattle.sql_schema.specs.declared.layout.Layout.{Layout}
 use Rattle.sql_schema.specs.declared.layout.Layout.TheVariants.{Made, Moved}
 
--- the version of these tables, which the table `book` says
+-- the version number that the table `book` holds for these tables
 abbrev pub version_now : ℤ
 version_now = pos 2
 
@@ -28,11 +28,11 @@ column name kind = record {
   collation = Binary;
 }
 
--- a column of the database's own table of counts
+-- a column of sqlite_sequence, the database's own table of AUTOINCREMENT counts
 abbrev pub loose : List ℕ → Column
 loose name = record { name = name; kind = Any; is_strict = false; not_null = false; default = Null; collation = Binary }
 
--- the first column names a row of a table of matters
+-- a foreign key from the first column to the number of a matter
 abbrev pub reference_to : List ℕ → Reference
 reference_to parent = record {
   columns = 1 ∷ [];
@@ -43,81 +43,81 @@ reference_to parent = record {
   is_deferred = false;
 }
 
--- where the table of book stands among the tables
+-- the index of the book table in the list of tables
 abbrev pub book_place : Layout → ℕ
 book_place l = 0
 
--- and the tree of its rows
+-- the tree of its rows
 abbrev pub book_tree : Layout → ℕ
 book_tree l = 0
 
--- where the table of matter stands among the tables
+-- the index of the matter table in the list of tables
 abbrev pub matter_place : Layout → ℕ
 matter_place Made = 1
 matter_place Moved = 9
 
--- and the tree of its rows
+-- the tree of its rows
 abbrev pub matter_tree : Layout → ℕ
 matter_tree Made = 1
 matter_tree Moved = 13
 
--- where the table of seat stands among the tables
+-- the index of the seat table in the list of tables
 abbrev pub seat_place : Layout → ℕ
 seat_place Made = 2
 seat_place Moved = 10
 
--- and the tree of its rows
+-- the tree of its rows
 abbrev pub seat_tree : Layout → ℕ
 seat_tree Made = 2
 seat_tree Moved = 14
 
--- where the table of entry stands among the tables
+-- the index of the entry table in the list of tables
 abbrev pub entry_place : Layout → ℕ
 entry_place Made = 3
 entry_place Moved = 11
 
--- and the tree of its rows
+-- the tree of its rows
 abbrev pub entry_tree : Layout → ℕ
 entry_tree Made = 4
 entry_tree Moved = 16
 
--- where the table of journal stands among the tables
+-- the index of the journal table in the list of tables
 abbrev pub journal_place : Layout → ℕ
 journal_place l = 4
 
--- and the tree of its rows
+-- the tree of its rows
 abbrev pub journal_tree : Layout → ℕ
 journal_tree l = 6
 
--- where the table of firm_line stands among the tables
+-- the index of the firm_line table in the list of tables
 abbrev pub firm_line_place : Layout → ℕ
 firm_line_place l = 6
 
--- and the tree of its rows
+-- the tree of its rows
 abbrev pub firm_line_tree : Layout → ℕ
 firm_line_tree l = 8
 
--- where the table of exception stands among the tables
+-- the index of the exception table in the list of tables
 abbrev pub exception_place : Layout → ℕ
 exception_place l = 7
 
--- and the tree of its rows
+-- the tree of its rows
 abbrev pub exception_tree : Layout → ℕ
 exception_tree l = 9
 
--- where the table of balance stands among the tables
+-- the index of the balance table in the list of tables
 abbrev pub balance_place : Layout → ℕ
 balance_place l = 8
 
--- and the tree of its rows
+-- the tree of its rows
 abbrev pub balance_tree : Layout → ℕ
 balance_tree l = 11
 
--- where the table of sequence stands among the tables
+-- the index of the sequence table in the list of tables
 abbrev pub sequence_place : Layout → ℕ
 sequence_place l = 5
 
--- and the tree of its rows
+-- the tree of its rows
 abbrev pub sequence_tree : Layout → ℕ
 sequence_tree l = 7
 

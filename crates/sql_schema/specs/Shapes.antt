@@ -1,4 +1,4 @@
--- What a shape stands for.
+-- The parts of a schema that the shapes in the code describe.
 use Rattle.std.specs.Prelude.{ℕ, Bool, true, false, [], ◌∷◌, List, map, if◌then◌else◌}
 use Rattle.sqlite_value.specs.declared.value.Value.TheVariants.{Null}
 use Rattle.sqlite_value.specs.declared.keys.Collation.TheVariants.{Binary}
@@ -23,11 +23,11 @@ column_of s = record {
   collation = Binary;
 }
 
--- one where there is such a thing
+-- a list of the item if the condition holds, or an empty list
 abbrev pub one_if : {T : Type 0} → Bool → T → List T
 one_if b x = if b then x ∷ [] else []
 
--- the first column refers to a row of another table, by one column
+-- a foreign key from the first column to one column of another table
 abbrev pub reference_by : List ℕ → List ℕ → Reference
 reference_by parent key = record {
   columns = 1 ∷ [];
@@ -54,7 +54,7 @@ table_of s = record {
   is_counted = s.is_counted;
 }
 
--- the index that a primary key of several columns has
+-- the automatic index of a primary key of several columns
 abbrev pub index_of : IndexShape → Index
 index_of s = record {
   name = s.name.now;

@@ -1,4 +1,4 @@
-//! Whether a schema is a book's.
+//! Checks whether a schema is a book's.
 
 ghost use Rattle.std.specs.Prelude.{◌≡◌, ◌↔◌, Some, IsTrue};
 ghost use Rattle.sql_schema.specs.declared.layout.Layout.TheVariants.{Made, Moved};
@@ -30,8 +30,8 @@ fn is_moved(schema: &Schema) -> bool
         && schema.views.is_empty()
 }
 
-/// Whether the schema is a book's in this layout, to the last column: names, kinds, NOT NULL, keys, references,
-/// indexes, no view and nothing else, made in this order. Takes no memory.
+/// Whether the schema is exactly a book's in this layout, down to the last column: names, kinds, NOT NULL, keys,
+/// references and indexes, created in this order, with no view and nothing else. Does not allocate.
 pub fn is_book_schema(schema: &Schema, layout: Layout) -> bool
     ensures sound { IsTrue result → schema.now ≡ book_schema layout }
     ensures complete { schema.now ≡ book_schema layout → IsTrue result }
@@ -42,7 +42,7 @@ pub fn is_book_schema(schema: &Schema, layout: Layout) -> bool
     }
 }
 
-/// The layout in which the schema is a book's, or none where it is not one. Takes no memory.
+/// Returns the layout in which the schema is a book's, or `None` if it is not a book's. Does not allocate.
 pub fn layout_of(schema: &Schema) -> Option<Layout>
     ensures { (l : Layout) → (result ≡ Some l) ↔ (schema.now ≡ book_schema l) }
 {
@@ -55,8 +55,8 @@ pub fn layout_of(schema: &Schema) -> Option<Layout>
     }
 }
 
-/// Whether the schema is that of version 1, to the last column: three other tables stand for the matters, their seats
-/// and their entries. Takes no memory.
+/// Whether the schema is exactly that of version 1, which keeps matters, their seats and their entries in three other
+/// tables. Does not allocate.
 pub fn is_old_schema(schema: &Schema) -> bool
     ensures sound { IsTrue result → schema.now ≡ old_schema }
     ensures complete { schema.now ≡ old_schema → IsTrue result }

@@ -1,4 +1,4 @@
-//! What a table of a schema is compared with.
+//! Shapes: what the tables, columns and indexes of a schema are compared with.
 
 ghost use Rattle.std.specs.Prelude.{◌≡◌, [], ◌∷◌, IsTrue, map};
 ghost use Rattle.sqlite_value.specs.Keys.{plain};
@@ -11,8 +11,8 @@ use sqlite_schema::schema::{Action, Column, Index, Kind, Reference, Stamps, Tabl
 use sqlite_value::keys::{Collation, Order};
 use sqlite_value::value::{Bytes, Value};
 
-// A shape is a table's description with what is the same in each left out. The code has no literal of a `Table`, whose
-// names are owned, so a shape is what it can compare with and take no memory.
+// A shape describes a table without what is the same in every table. A `Table` owns its names, so the code cannot
+// have one as a literal; comparing with a shape does not allocate.
 
 /// What differs from column to column.
 #[derive(Clone, Copy)]
@@ -31,11 +31,11 @@ pub struct TableShape<'a> {
     pub columns: &'a [ColumnShape<'a>],
     pub key: Option<usize>,
     pub primary: &'a [usize],
-    /// The primary key has an automatic index.
+    /// Whether the primary key has an automatic index.
     pub is_indexed: bool,
-    /// The first column refers to the number of a row of another table.
+    /// Whether the first column refers to the number of a row of another table.
     pub has_parent: bool,
-    /// That table, where there is one.
+    /// The name of that table, if there is one.
     pub parent: &'a [u8],
     pub is_counted: bool,
 }

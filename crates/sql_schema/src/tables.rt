@@ -1,4 +1,4 @@
-//! What the tables of a book are compared with. Written by tools/book-tables.
+//! The expected shapes of a book's tables. Written by tools/book-tables.
 
 ghost use Rattle.std.specs.Prelude.{◌≡◌, IsTrue};
 ghost use Rattle.sql_schema.specs.Old.{old_tables, old_indexes};
@@ -29,7 +29,7 @@ macro_rules! text {
     };
 }
 
-// A column of the database's own table of counts.
+// A column of sqlite_sequence, the database's own table of AUTOINCREMENT counts.
 macro_rules! loose {
     ($name:expr) => {
         ColumnShape {

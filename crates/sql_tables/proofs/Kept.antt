@@ -1,24 +1,29 @@
 -- The rows that a write takes out and puts in, as a list of records in the order of their rowids.
-use Rattle.std.proofs.Common.{◌≡◌, inl, inr, ℤ, Bool, true, false, not, cond, ◌&&◌, ◌||◌, List, [], ◌∷◌, map, filter, fold, None, refl, sym, ap, subst, ◌∙◌, arith, int_eq, true≢false}
+use Rattle.std.proofs.Common.{◌≡◌, inl, inr, ℤ, ◌<ℤ◌, Bool, true, false, not, cond, ◌&&◌, ◌||◌, List, [], ◌∷◌, map, filter, fold, drop, None, refl, sym, ap, ap₂, subst, ◌∙◌, arith, int_eq, Less, true≢false}
+use Rattle.std.specs.Ordering.{ordering_reverse}
 use Rattle.std.specs.List.{AllByRecursion, list_any}
 use Rattle.std.proofs.lemmas.Int.{ints}
 use Rattle.std.proofs.lemmas.Bool.{cases_Bool}
 use Rattle.sqlite_value.specs.declared.value.Value.TheVariants.{Int}
-use Rattle.sqlite_value.specs.Order.{Row}
-use Rattle.sqlite_trees.specs.Tree.{rowid, put_row}
+use Rattle.sqlite_value.specs.Order.{Row, value_cmp}
+use Rattle.sqlite_value.proofs.OrderLemmas.{value_cmp_total, value_cmp-Int}
+use Rattle.sqlite_trees.specs.Tree.{rowid, put_row, IsAscending, IsTable}
+use Rattle.sqlite_trees.proofs.TreeLemmas.{IsTable-put_row}
 use Rattle.sqlite_schema.specs.declared.schema.Index.{Index}
 use Rattle.sqlite_schema.specs.declared.schema.Table.{Table}
 use Rattle.sqlite_rules.specs.Lists.{Has}
 use Rattle.sqlite_rules.specs.Calls.{ids_of}
 use Rattle.sqlite_rules.specs.Keys.{AreConflicts, conflicts}
-use Rattle.sqlite_rules.specs.Edit.{id_in, without_all}
+use Rattle.sqlite_rules.specs.declared.error.Rowids.TheVariants.{Given}
+use Rattle.sqlite_rules.specs.Edit.{id_in, without_all, put_all, numbered, are_fresh}
 use Rattle.sqlite_keyed.specs.Keyed.{IsKeyedBy, insert_by}
-use Rattle.sqlite_keyed.specs.Lists.{without_key, delete_where}
-use Rattle.sqlite_keyed.proofs.KeyedLemmas.{same_int}
-use Rattle.sqlite_rules.proofs.ListLemmas.{all_has, some_has, some_from, has_kept, has_filtered}
-use Rattle.sqlite_keyed.proofs.ListLemmas.{map-map}
+use Rattle.sqlite_keyed.specs.Lists.{without_key, update_where, delete_where}
+use Rattle.sqlite_keyed.proofs.KeyedLemmas.{same_int, Less-from_lt, IsKeyedBy-update_where, IsKeyedBy-delete_where}
+use Rattle.sqlite_rules.proofs.ListLemmas.{all_has, some_has, some_from, has_kept, has_filtered, has_contained, contains_had}
+use Rattle.sqlite_rules.proofs.TableLemmas.{put_all_has, put_all_keeps, put_all_adds}
+use Rattle.sqlite_keyed.proofs.ListLemmas.{map-map, map_same, ascending-map, ascending_weaker}
 use Rattle.std.specs.List.Sorted.{IsPermutation}
-use Rattle.std.proofs.lemmas.List.Sorted.{list_any-IsPermutation, IsPermutation-map}
+use Rattle.std.proofs.lemmas.List.Sorted.{list_any-IsPermutation, Contains-permutation, IsPermutation-map, IsPermutation-sym}
 use Rattle.sqlite_rules.proofs.ProbeLemmas.{mapped_has, has_mapped}
 use Rattle.sqlite_typed.proofs.RowLemmas.{puts-map, deletes-map}
 
@@ -44,6 +49,37 @@ has_all P (x ∷ xs) h = (h x (inl refl), has_all P xs (λ y k. h y (inr k)))
 apart_from : (b : Bool) → (b ≡ true → ⊥) → b ≡ false
 apart_from true h = absurd (h refl)
 apart_from false h = refl
+
+-- lists in a strict order that have the same elements are the same
+module _ {X : Type 0} (R : X → X → Type 0) (never : (a b : X) → R a b → R b a → ⊥) where
+  later : (x y : X) (ys : List X) → AllByRecursion (R y) ys → x ≡ y → Has ys x → ⊥
+  later x y ys low same h = let own = subst (R y) same (all_has (R y) ys x low h) in never y y own own
+
+  first_of : (x y : X) (xs ys : List X) → AllByRecursion (R x) xs → AllByRecursion (R y) ys → Has (y ∷ ys) x → Has (x ∷ xs) y → x ≡ y
+  first_of x y xs ys p q (inl same) k = same
+  first_of x y xs ys p q (inr h) (inl same) = sym same
+  first_of x y xs ys p q (inr h) (inr k) = absurd (never x y (all_has (R x) xs y p k) (all_has (R y) ys x q h))
+
+  one_order : (xs ys : List X) → IsAscending R xs → IsAscending R ys → ((z : X) → Has xs z → Has ys z) → ((z : X) → Has ys z → Has xs z) → xs ≡ ys
+  one_order [] [] p q to from = refl
+  one_order [] (y ∷ ys) p q to from = absurd (from y (inl refl))
+  one_order (x ∷ xs) [] p q to from = absurd (to x (inl refl))
+  one_order (x ∷ xs) (y ∷ ys) p q to from =
+      let same = first_of x y xs ys p.0 q.0 (to x (inl refl)) (from y (inl refl)) in
+      ap₂ ◌∷◌ same (one_order xs ys p.1 q.1
+      (λ z h. elim (to z (inr h)) [ inl e ↦ absurd (later z x xs p.0 (e ∙ sym same) h) | inr k ↦ k ])
+      (λ z h. elim (from z (inr h)) [ inl e ↦ absurd (later z y ys q.0 (e ∙ same) h) | inr k ↦ k ]))
+
+never : (a b : Row) → value_cmp (rowid a) (rowid b) ≡ Less → value_cmp (rowid b) (rowid a) ≡ Less → ⊥
+never a b p q = let back = sym p ∙ value_cmp_total.antisymm (rowid a) (rowid b) ∙ ap ordering_reverse q in cc
+
+all_put : (news rows : List Row) → IsTable rows → IsTable (put_all rows news)
+all_put [] rows up = up
+all_put (n ∷ news) rows up = all_put news (put_row n rows) (IsTable-put_row n rows up)
+
+unmet : (b : Bool) → not b ≡ true → b ≡ false
+unmet false h = refl
+unmet true h = absurd (let e = h in cc)
 
 module _ {X : Type 0} (key : X → ℤ) where
   -- the elements with the ids are taken out
@@ -99,14 +135,9 @@ module _ {X : Type 0} (key : X → ℤ) where
   pub row_put : (to_row : X → Row) (keyed : (x : X) → rowid (to_row x) ≡ Int (key x)) (new : X) (xs : List X) → put_row (to_row new) (map to_row xs) ≡ map to_row (insert_by key xs new)
   row_put to_row keyed new xs = puts-map key to_row keyed (new ∷ []) xs
 
-  -- what DELETE takes out: the rows that pass, whose rowids a query shows in some order
-  module _ (to_row : X → Row) (keyed : (x : X) → rowid (to_row x) ≡ Int (key x)) (p : X → Bool) (xs : List X) (up : IsKeyedBy key xs) (rows : List Row)
-      (are : IsPermutation (map (λ x. Int (key x) ∷ []) (filter p xs)) rows) where
-    same_ids : (x : X) → list_any (λ i. int_eq (key x) i) (ids_of rows) ≡ list_any (λ i. int_eq (key x) i) (map key (filter p xs))
-    same_ids x =
-        sym (list_any-IsPermutation (λ i. int_eq (key x) i) _ _ (IsPermutation-map (λ (r : Row). id_in (rowid r)) _ _ are))
-        ∙ ap (list_any (λ i. int_eq (key x) i)) (map-map (λ (r : Row). id_in (rowid r)) (λ x. Int (key x) ∷ []) (filter p xs))
-
+  -- the rows that pass are taken out, whose rowids come in some order
+  module _ (to_row : X → Row) (keyed : (x : X) → rowid (to_row x) ≡ Int (key x)) (p : X → Bool) (xs : List X) (up : IsKeyedBy key xs) (ids : List ℤ)
+      (are : IsPermutation (map key (filter p xs)) ids) where
     equals : (n : ℤ) → int_eq n n ≡ true
     equals n = grind (arith, ints)
 
@@ -121,10 +152,87 @@ module _ {X : Type 0} (key : X → ℤ) where
           true≢false (sym own.1 ∙ ap p (sym same) ∙ lacks)) ∙ sym lacks
     ]
 
-    pub rows_gone : without_all (map to_row xs) (ids_of rows) ≡ map to_row (delete_where p xs)
-    rows_gone =
-        deletes-map key to_row keyed (ids_of rows) xs
-        ∙ ap (map to_row) (removes_if (ids_of rows) xs ∙ same_on _ _ xs (has_all _ xs (λ x h. ap not (same_ids x ∙ passing x h))))
+    pub ids_gone : without_all (map to_row xs) ids ≡ map to_row (delete_where p xs)
+    ids_gone =
+        deletes-map key to_row keyed ids xs
+        ∙ ap (map to_row) (removes_if ids xs ∙ same_on _ _ xs (has_all _ xs (λ x h. ap not (sym (list_any-IsPermutation (λ i. int_eq (key x) i) _ _ are) ∙ passing x h))))
+
+  -- the rowids of rows that begin with those of the elements
+  pub ids_shown : (show : X → Row) → ((x : X) → id_in (rowid (show x)) ≡ key x) → (ys : List X) (rows : List Row) → IsPermutation (map show ys) rows → IsPermutation (map key ys) (ids_of rows)
+  ids_shown show own ys rows are =
+      subst (λ l. IsPermutation l (ids_of rows)) (map-map (λ (r : Row). id_in (rowid r)) show ys ∙ map_same _ key own ys) (IsPermutation-map (λ (r : Row). id_in (rowid r)) _ _ are)
+
+  -- what DELETE takes out: the rows that pass, whose rowids a query shows in some order
+  pub rows_gone : (to_row : X → Row) (keyed : (x : X) → rowid (to_row x) ≡ Int (key x)) (p : X → Bool) (xs : List X) (up : IsKeyedBy key xs) (rows : List Row)
+      → IsPermutation (map (λ x. Int (key x) ∷ []) (filter p xs)) rows → without_all (map to_row xs) (ids_of rows) ≡ map to_row (delete_where p xs)
+  rows_gone to_row keyed p xs up rows are = ids_gone to_row keyed p xs up (ids_of rows) (ids_shown (λ x. Int (key x) ∷ []) (λ x. refl) (filter p xs) rows are)
+
+  -- what UPDATE makes of the rows: it takes out those that pass, and puts in what a query shows behind their rowids
+  module _ (to_row : X → Row) (keyed : (x : X) → rowid (to_row x) ≡ Int (key x)) (p : X → Bool) (f : X → X) (keeps : (x : X) → key (f x) ≡ key x) (cast : Row → Row) (again : (x : X) → cast (to_row (f x)) ≡ to_row (f x))
+      (xs : List X) (up : IsKeyedBy key xs) (rows : List Row) (are : IsPermutation (map (λ x. Int (key x) ∷ to_row (f x)) (filter p xs)) rows) where
+    abbrev show : X → Row
+    show x = Int (key x) ∷ to_row (f x)
+
+    abbrev kept : List Row
+    kept = map to_row (delete_where p xs)
+
+    abbrev news : List Row
+    news = map (λ (s : Row). cast (drop 1 s)) rows
+
+    abbrev changed : X → X
+    changed x = cond (p x) (f x) x
+
+    is_table : (ys : List X) → IsKeyedBy key ys → IsTable (map to_row ys)
+    is_table ys rise =
+        ascending-map (λ a b. value_cmp (rowid a) (rowid b) ≡ Less) to_row ys
+        (ascending_weaker (λ a b. key a <ℤ key b) (λ a b. value_cmp (rowid (to_row a)) (rowid (to_row b)) ≡ Less)
+        (λ a b low. ap₂ value_cmp (keyed a) (keyed b) ∙ value_cmp-Int (key a) (key b) ∙ Less-from_lt (key a) (key b) low) ys rise)
+
+    -- each new row is of an element that passes, and the other way round
+    is_new : (r : Row) → Has news r → (x : X) × Has (filter p xs) x × (r ≡ to_row (f x))
+    is_new r h =
+        let s = has_mapped (λ (s : Row). cast (drop 1 s)) rows r h in
+        let there = has_contained _ s.0 (Contains-permutation rows (map show (filter p xs)) s.0 (IsPermutation-sym _ _ are) (contains_had rows s.0 s.1)) in
+        let x = has_mapped show (filter p xs) s.0 there in
+        (x.0, x.1, s.2 ∙ ap (λ (s : Row). cast (drop 1 s)) x.2 ∙ again x.0)
+
+    has_new : (x : X) → Has (filter p xs) x → Has news (to_row (f x))
+    has_new x h =
+        let there = has_contained rows (show x) (Contains-permutation (map show (filter p xs)) rows (show x) are (contains_had _ (show x) (mapped_has show (filter p xs) x h))) in
+        subst (Has news) (again x) (mapped_has (λ (s : Row). cast (drop 1 s)) rows (show x) there)
+
+    has_changed : (x : X) (r : Row) → Has xs x → r ≡ to_row (changed x) → Has (map to_row (update_where p f xs)) r
+    has_changed x r h is = subst (Has (map to_row (update_where p f xs))) (sym is) (mapped_has to_row (update_where p f xs) (changed x) (mapped_has changed xs x h))
+
+    given : (base : List Row) (ss : List Row) → numbered Given base ss ≡ ss
+    given base [] = refl
+    given base (s ∷ ss) = ap (λ l. s ∷ l) (given (put_row s base) ss)
+
+    gone : without_all (map to_row xs) (ids_of rows) ≡ kept
+    gone = ids_gone to_row keyed p xs up (ids_of rows) (ids_shown show (λ x. refl) (filter p xs) rows are)
+
+    put : are_fresh kept news ≡ true → put_all kept news ≡ map to_row (update_where p f xs)
+    put fresh =
+        one_order (λ (a b : Row). value_cmp (rowid a) (rowid b) ≡ Less) never _ _ (all_put news kept (is_table (delete_where p xs) (IsKeyedBy-delete_where key p xs up)))
+        (is_table (update_where p f xs) (IsKeyedBy-update_where key p f keeps xs up))
+        (λ r h. elim (put_all_has news kept r h) [
+          | inl new ↦ let x = is_new r new in let own = has_filtered p xs x.0 x.1 in has_changed x.0 r own.0 (x.2 ∙ ap to_row (rw own.1 refl))
+          | inr old ↦ let x = has_mapped to_row (delete_where p xs) r old in let own = has_filtered (λ x. not (p x)) xs x.0 x.1 in has_changed x.0 r own.0 (x.2 ∙ ap to_row (rw (unmet (p x.0) own.1) refl))
+        ])
+        (λ r h.
+        let y = has_mapped to_row (update_where p f xs) r h in
+        let x = has_mapped changed xs y.0 y.1 in
+        let is : r ≡ to_row (changed x.0) = y.2 ∙ ap to_row x.2 in
+        subst (Has (put_all kept news)) (sym is) (elim (cases_Bool (p x.0)) [
+          | inl met_it ↦ rw met_it (put_all_adds news kept (to_row (f x.0)) fresh (has_new x.0 (has_kept p xs x.0 x.1 met_it)))
+          | inr lacks ↦ rw lacks (put_all_keeps news kept (to_row x.0) fresh (mapped_has to_row (delete_where p xs) x.0 (has_kept (λ x. not (p x)) xs x.0 x.1 (ap not lacks))))
+        ]))
+
+    pub rows_changed : are_fresh (without_all (map to_row xs) (ids_of rows)) (numbered Given (without_all (map to_row xs) (ids_of rows)) news) ≡ true
+        → put_all (without_all (map to_row xs) (ids_of rows)) (numbered Given (without_all (map to_row xs) (ids_of rows)) news) ≡ map to_row (update_where p f xs)
+    rows_changed fresh =
+        let same = given (without_all (map to_row xs) (ids_of rows)) news in
+        ap₂ put_all gone same ∙ put (sym (ap₂ are_fresh gone same) ∙ fresh)
 
 -- A row that conflicts with none of the rows is found by no test, and one that is found conflicts.
 module _ {X : Type 0} (to_row : X → Row) (indexes : List Index) (table : Table) (new : Row) (p : X → Bool) (xs : List X) (tests : AllByRecursion (λ x. conflicts None indexes table new (to_row x) ≡ p x) xs) where

@@ -1,5 +1,5 @@
 -- What a statement of each kind makes of the list that its table holds.
-use Rattle.std.proofs.Common.{◌≡◌, ◌≢◌, ℕ, ℤ, pos, ◌<ℤ◌, ◌/◌, Bool, true, false, cond, List, [], ◌∷◌, ◌++◌, map, filter, length, slice_get, None, Ok, Some, sym, ap, ap₂, subst, subst₂, ◌∙◌, arith}
+use Rattle.std.proofs.Common.{◌≡◌, ◌≢◌, ℕ, ℤ, pos, ◌<ℤ◌, ◌/◌, Bool, true, false, cond, List, [], ◌∷◌, ◌++◌, map, filter, length, drop, slice_get, None, Ok, Some, sym, ap, ap₂, subst, subst₂, ◌∙◌, arith}
 use Rattle.std.specs.List.{AllByRecursion, list_all, list_any}
 use Rattle.std.specs.List.Sorted.{IsPermutation}
 use Rattle.std.proofs.lemmas.Int.{ints}
@@ -8,7 +8,7 @@ use Rattle.std.proofs.lemmas.List.Sorted.{IsPermutation-map}
 use Rattle.sqlite_value.specs.declared.value.Value.TheVariants.{Null, Int}
 use Rattle.sqlite_value.specs.Order.{Row}
 use Rattle.sqlite_trees.specs.Tree.{Trees, rowid, put_row}
-use Rattle.sqlite_sql.specs.Term.{Term, holds}
+use Rattle.sqlite_sql.specs.Term.{Term, col, eval_all, holds}
 use Rattle.sqlite_sql.specs.Query.{IsAnswer, Output, output}
 use Rattle.sqlite_sql.specs.Program.{overlay}
 use Rattle.sqlite_schema.specs.declared.schema.Table.{Table}
@@ -16,18 +16,18 @@ use Rattle.sqlite_schema.specs.declared.program.Program.{Program}
 use Rattle.sqlite_schema.specs.declared.schema.Keys.TheVariants.{Enforced}
 use Rattle.sqlite_schema.specs.declared.command.Conflict.TheVariants.{Ignore, Replace}
 use Rattle.sqlite_schema.specs.declared.command.Source.TheVariants.{Values}
-use Rattle.sqlite_schema.specs.declared.command.Command.TheVariants.{Insert, InsertOr, Delete}
-use Rattle.sqlite_rules.specs.declared.error.Rowids.TheVariants.{Chosen, Above}
+use Rattle.sqlite_schema.specs.declared.command.Command.TheVariants.{Insert, InsertOr, Update, Delete}
+use Rattle.sqlite_rules.specs.declared.error.Rowids.TheVariants.{Chosen, Above, Given}
 use Rattle.sqlite_rules.specs.Action.{works}
 use Rattle.sqlite_rules.specs.Calls.{ids_of}
 use Rattle.sqlite_rules.specs.Cast.{cast_row}
-use Rattle.sqlite_rules.specs.Edit.{at_least, next_rowid, with_rowid, without_all}
+use Rattle.sqlite_rules.specs.Edit.{at_least, are_fresh, edit_of, next_rowid, numbered, put_all, with_rowid, without_all}
 use Rattle.sqlite_rules.specs.Keys.{AreConflicts, conflicts}
 use Rattle.sqlite_rules.specs.Lists.{Has}
 use Rattle.sqlite_rules.specs.Steps.{is_present}
 use Rattle.sqlite_schema.specs.Rules.{passes_checks}
 use Rattle.sqlite_keyed.specs.Keyed.{IsKeyedBy, insert_by, next_key}
-use Rattle.sqlite_keyed.specs.Lists.{delete_where}
+use Rattle.sqlite_keyed.specs.Lists.{update_where, delete_where}
 use Rattle.sqlite_keyed.proofs.ListLemmas.{map-map, map_same}
 use Rattle.sqlite_typed.proofs.AnswerLemmas.{at_end, last_table, matches_are}
 use Rattle.sqlite.specs.Effect.{Database, IsDatabase, value_rows}
@@ -37,29 +37,29 @@ use Rattle.sqlite.specs.State.{State, Executes}
 use Rattle.sqlite.proofs.Callers.{command_of, IsPlain, runs_as}
 use Rattle.sql_schema.specs.declared.layout.Layout.{Layout}
 use Rattle.sql_schema.specs.Schema.{book_schema, sequence_table, sequence_tree}
-use Rattle.sql_tables.specs.Picking.{picked}
+use Rattle.sql_tables.specs.Picking.{changing, picked}
 use Rattle.sql_tables.specs.Standing.{Changed, Counted}
-use Rattle.sql_tables.proofs.Writes.{inserts, inserts_or, deletes, removed, replaced, inserted, ignored, Ignored}
+use Rattle.sql_tables.proofs.Writes.{inserts, inserts_or, updates, updated, deletes, removed, replaced, inserted, ignored, Ignored}
 use Rattle.sql_tables.proofs.CountedUp as up
 use Rattle.sql_tables.proofs.Calls.{no_lets}
-use Rattle.sql_tables.proofs.Kept.{conflicts_gone, none_found, some_found, row_put, rows_gone}
+use Rattle.sql_tables.proofs.Kept.{conflicts_gone, none_found, some_found, row_put, rows_changed, rows_gone}
 use Rattle.sql_tables.proofs.Casts.{weaker, next_is, below_next, goes_last, rise_last}
 
 still_low : (top a b : ℤ) → a <ℤ b → a <ℤ at_least (Above top) b
 still_low top a b h = grind (arith, ints, nat_tests)
 
--- which rows a DELETE shows
-picked_rows : {X : Type 0} (to_row : X → Row) (key : X → ℤ) (keyed : (x : X) → rowid (to_row x) ≡ Int (key x)) (tree : ℕ) (tests : List Term) (params : Row) (p : X → Bool)
-    (passes : (x : X) → list_all (holds (params ∷ to_row x ∷ [])) tests ≡ p x) (db : Trees) (xs : List X) → db tree ≡ map to_row xs → IsKeyedBy key xs → (rows : List Row)
-    → IsAnswer (picked tree tests) (overlay db []) params rows → IsPermutation (map (λ x. Int (key x) ∷ []) (filter p xs)) rows
-picked_rows {X} to_row key keyed tree tests params p passes db xs stored rise rows answer =
-    let q = picked tree tests in
+-- what an UPDATE or a DELETE shows of the rows that pass
+shown_rows : {X : Type 0} (to_row : X → Row) (key : X → ℤ) (keyed : (x : X) → rowid (to_row x) ≡ Int (key x)) (tree : ℕ) (tests cells : List Term) (params : Row) (p : X → Bool)
+    (passes : (x : X) → list_all (holds (params ∷ to_row x ∷ [])) tests ≡ p x) (show : X → Row) (shows : (x : X) → eval_all (col 1 0 ∷ cells) (params ∷ to_row x ∷ []) ≡ show x) (db : Trees) (xs : List X)
+    → db tree ≡ map to_row xs → IsKeyedBy key xs → (rows : List Row) → IsAnswer (changing tree tests cells) (overlay db []) params rows → IsPermutation (map show (filter p xs)) rows
+shown_rows {X} to_row key keyed tree tests cells params p passes show shows db xs stored rise rows answer =
+    let q = changing tree tests cells in
     let source = last_table (overlay db []) tree to_row key xs (no_lets db tree ∙ stored) rise (at_end (overlay db [])) in
     let found = matches_are q (overlay db []) params source p passes in
     let kept : answer.kept ≡ map (λ (x : X). output q (params ∷ to_row x ∷ [])) (filter p xs) =
     answer.distinct ∙ ap (map (output q)) (answer.grouped ∙ found) ∙ map-map (output q) _ _ in
     let shown = IsPermutation-map (λ (o : Output). o.1) _ _ answer.same in
-    subst₂ IsPermutation (ap (map (λ (o : Output). o.1)) kept ∙ map-map (λ (o : Output). o.1) _ _ ∙ map_same _ (λ x. Int (key x) ∷ []) (λ x. ap (λ v. v ∷ []) (keyed x)) _) (sym answer.shown) shown
+    subst₂ IsPermutation (ap (map (λ (o : Output). o.1)) kept ∙ map-map (λ (o : Output). o.1) _ _ ∙ map_same _ show shows _) (sym answer.shown) shown
 
 module _ {X : Type 0} (l : Layout) (at : ℕ) (table : Table) (place : slice_get (book_schema l).tables at ≡ Some table) (to_row : X → Row) (key : X → ℤ) (keyed : (x : X) → rowid (to_row x) ≡ Int (key x)) where
   abbrev IsIdle : List Row → Type 0
@@ -90,9 +90,26 @@ module _ {X : Type 0} (l : Layout) (at : ℕ) (table : Table) (place : slice_get
         let does = runs_as text params old new (book_schema l) before.schema (Delete at q) is plain count ran in
         let did = deletes old new (book_schema l) before.schema at table place params _ count q does in
         let gone = removed old.step_limit (book_schema l) table params no_clock no_formats old.now.trees q did.0 still did.1 in
-        let are = picked_rows to_row key keyed table.tree tests params p passes old.now.trees xs before.stored before.rise gone.0 (gone.1.answer Null) in
+        let are = shown_rows to_row key keyed table.tree tests [] params p passes (λ x. Int (key x) ∷ []) (λ x. ap (λ v. v ∷ []) (keyed x)) old.now.trees xs before.stored before.rise gone.0 (gone.1.answer Null) in
         changed (delete_where p xs) old new did.0.trees does.sound did.2
         (gone.2.rows ∙ ap (λ rows. without_all rows (ids_of gone.0)) before.stored ∙ rows_gone key to_row keyed p xs before.rise gone.0 are) gone.2.tables
+
+    -- the rows that pass are changed
+    pub set : (tests cells : List Term) → command_of (understood (book_schema l) text) ≡ Update at (record { lets = []; body = changing table.tree tests cells }) → ((news : List Row) → IsIdle news)
+        → (p : X → Bool) → ((x : X) → list_all (holds (params ∷ to_row x ∷ [])) tests ≡ p x) → (f : X → X) → ((x : X) → key (f x) ≡ key x)
+        → ((x : X) → eval_all (col 1 0 ∷ cells) (params ∷ to_row x ∷ []) ≡ Int (key x) ∷ to_row (f x)) → ((x : X) → cast_row table (to_row x) ≡ to_row x) → Changed l table.tree to_row (update_where p f xs) old.now new.now
+    set tests cells is idle p passes f keeps shows again =
+        let db = old.now.trees in
+        let q : Program = record { lets = []; body = changing table.tree tests cells } in
+        let does = runs_as text params old new (book_schema l) before.schema (Update at q) is plain count ran in
+        let did = updates old new (book_schema l) before.schema at table place params _ count q does in
+        let put = updated old.step_limit (book_schema l) table params no_clock no_formats db q did.0 (λ rows answers. idle (edit_of db table (ids_of rows) Given 1 rows).news) did.1 in
+        let are = shown_rows to_row key keyed table.tree tests cells params p passes (λ x. Int (key x) ∷ to_row (f x)) shows db xs before.stored before.rise put.0 (put.1.answer Null) in
+        let news = λ (base : List Row). numbered Given (without_all base (ids_of put.0)) (map (λ (s : Row). cast_row table (drop 1 s)) put.0) in
+        changed (update_where p f xs) old new did.0.trees does.sound did.2
+        (put.2.rows ∙ ap (λ rows. put_all (without_all rows (ids_of put.0)) (news rows)) before.stored
+        ∙ rows_changed key to_row keyed p f keeps (cast_row table) (λ x. again (f x)) xs before.rise put.0 are
+        (subst (λ rows. are_fresh (without_all rows (ids_of put.0)) (news rows) ≡ true) before.stored put.2.fresh)) put.2.tables
 
     module _ (terms : List Term) (width : ℕ) (source : Row) (sourced : value_rows (stamped table params) width (length terms / width) terms ≡ source ∷ []) where
       -- the row goes in, and those that conflict with it go

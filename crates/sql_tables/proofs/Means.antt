@@ -8,7 +8,7 @@ use Rattle.sql_schema.specs.declared.layout.Layout.TheVariants.{Made, Moved}
 use Rattle.sql_schema.specs.Schema.{book_schema}
 use Rattle.sql_tables.specs.Reading.{IsSelect}
 use Rattle.sql_tables.proofs.Calls.{IsQuery}
-use Rattle.sql_tables.specs.Texts.{head_read_text, head_read_command, head_read_query, head_read_names, next_head_text, next_head_command, next_head_query, next_head_names, head_scan_text, head_scan_command, head_scan_query, head_scan_names, seats_read_text, seats_read_command, seats_read_query, seats_read_names, entries_read_text, entries_read_command, entries_read_query, entries_read_names, entry_read_text, entry_read_command, entry_read_query, entry_read_names, balance_read_text, balance_read_command, balance_read_query, balance_read_names, journal_scan_text, journal_scan_command, journal_scan_query, journal_scan_names, firm_scan_text, firm_scan_command, firm_scan_query, firm_scan_names, exception_scan_text, exception_scan_command, exception_scan_query, exception_scan_names, balance_scan_text, balance_scan_command, balance_scan_query, balance_scan_names, head_write_text, head_write_command, entry_write_text, entry_write_command, seat_insert_text, seat_insert_command, seat_delete_text, seat_delete_command, journal_insert_text, journal_insert_command, firm_insert_text, firm_insert_command, exception_insert_text, exception_insert_command, exception_delete_text, exception_delete_command, balance_insert_text, balance_insert_command, purge_seats_text, purge_seats_command, purge_entries_text, purge_entries_command, purge_journal_text, purge_journal_command}
+use Rattle.sql_tables.specs.Texts.{head_read_text, head_read_command, head_read_query, head_read_names, next_head_text, next_head_command, next_head_query, next_head_names, head_scan_text, head_scan_command, head_scan_query, head_scan_names, seats_read_text, seats_read_command, seats_read_query, seats_read_names, entries_read_text, entries_read_command, entries_read_query, entries_read_names, entry_read_text, entry_read_command, entry_read_query, entry_read_names, balance_read_text, balance_read_command, balance_read_query, balance_read_names, journal_scan_text, journal_scan_command, journal_scan_query, journal_scan_names, firm_scan_text, firm_scan_command, firm_scan_query, firm_scan_names, exception_scan_text, exception_scan_command, exception_scan_query, exception_scan_names, balance_scan_text, balance_scan_command, balance_scan_query, balance_scan_names, head_write_text, head_write_command, totals_write_text, totals_write_command, closed_write_text, closed_write_command, purged_write_text, purged_write_command, entry_write_text, entry_write_command, left_write_text, left_write_command, seat_insert_text, seat_insert_command, seat_delete_text, seat_delete_command, journal_insert_text, journal_insert_command, firm_insert_text, firm_insert_command, exception_insert_text, exception_insert_command, exception_delete_text, exception_delete_command, balance_insert_text, balance_insert_command, purge_seats_text, purge_seats_command, purge_entries_text, purge_entries_command, purge_journal_text, purge_journal_command}
 
 pub head_read_is : (l : Layout) → command_of (understood (book_schema l) head_read_text) ≡ head_read_command l
 unfolding understood everything
@@ -262,6 +262,36 @@ unfolding understood everything
 head_write_plain Made = (refl, refl)
 head_write_plain Moved = (refl, refl)
 
+pub totals_write_is : (l : Layout) → command_of (understood (book_schema l) totals_write_text) ≡ totals_write_command l
+unfolding understood everything
+totals_write_is Made = refl
+totals_write_is Moved = refl
+
+pub totals_write_plain : (l : Layout) → IsPlain (understood (book_schema l) totals_write_text)
+unfolding understood everything
+totals_write_plain Made = (refl, refl)
+totals_write_plain Moved = (refl, refl)
+
+pub closed_write_is : (l : Layout) → command_of (understood (book_schema l) closed_write_text) ≡ closed_write_command l
+unfolding understood everything
+closed_write_is Made = refl
+closed_write_is Moved = refl
+
+pub closed_write_plain : (l : Layout) → IsPlain (understood (book_schema l) closed_write_text)
+unfolding understood everything
+closed_write_plain Made = (refl, refl)
+closed_write_plain Moved = (refl, refl)
+
+pub purged_write_is : (l : Layout) → command_of (understood (book_schema l) purged_write_text) ≡ purged_write_command l
+unfolding understood everything
+purged_write_is Made = refl
+purged_write_is Moved = refl
+
+pub purged_write_plain : (l : Layout) → IsPlain (understood (book_schema l) purged_write_text)
+unfolding understood everything
+purged_write_plain Made = (refl, refl)
+purged_write_plain Moved = (refl, refl)
+
 pub entry_write_is : (l : Layout) → command_of (understood (book_schema l) entry_write_text) ≡ entry_write_command l
 unfolding understood everything
 entry_write_is Made = refl
@@ -271,6 +301,16 @@ pub entry_write_plain : (l : Layout) → IsPlain (understood (book_schema l) ent
 unfolding understood everything
 entry_write_plain Made = (refl, refl)
 entry_write_plain Moved = (refl, refl)
+
+pub left_write_is : (l : Layout) → command_of (understood (book_schema l) left_write_text) ≡ left_write_command l
+unfolding understood everything
+left_write_is Made = refl
+left_write_is Moved = refl
+
+pub left_write_plain : (l : Layout) → IsPlain (understood (book_schema l) left_write_text)
+unfolding understood everything
+left_write_plain Made = (refl, refl)
+left_write_plain Moved = (refl, refl)
 
 pub seat_insert_is : (l : Layout) → command_of (understood (book_schema l) seat_insert_text) ≡ seat_insert_command l
 unfolding understood everything

@@ -6,22 +6,23 @@ use Rattle.sqlite_value.specs.Order.{Row}
 use Rattle.sqlite_trees.specs.declared.store.Store.{Ghosts}
 use Rattle.sqlite_keyed.specs.Keyed.{IsKeyedBy, next_key}
 use Rattle.sqlite_keyed.specs.Lists.{delete_where}
-use Rattle.sqlite_keyed.proofs.KeyedLemmas.{IsKeyedBy-insert_by, IsKeyedBy-delete_where}
+use Rattle.sqlite_keyed.proofs.KeyedLemmas.{IsKeyedBy-insert_by, IsKeyedBy-update_where, IsKeyedBy-delete_where}
 use Rattle.sqlite_keyed.proofs.ListLemmas.{map_back}
 use Rattle.sqlite.specs.Effect.{Database, IsDatabase}
 use Rattle.sqlite.specs.declared.error.Error.{Error}
 use Rattle.sqlite.specs.State.{State, Executes, ExecutesInside}
 use Rattle.sqlite.specs.Held.{Held, state}
 use Rattle.sql_schema.specs.declared.layout.Layout.{Layout}
+use Rattle.sql_schema.specs.Schema.{matter_tree}
 use Rattle.sql_tables.specs.declared.statements.Statement.{Statement}
 use Rattle.sql_tables.specs.declared.statements.Statement.TheVariants as statement
 use Rattle.sql_tables.specs.Given.{head_given, seat_given, entry_given, movement_given, firm_line_given, exception_given, balance_given}
-use Rattle.sql_tables.specs.Rows.{Head, head_row, head_in, heads_in, is_head, Seat, seat_row, seat_in, seats_in, is_seat, is_seat_of, Entry, entry_row, entry_in, entries_in, is_entry, is_entry_of, Movement, movement_row, movement_in, movements_in, is_movement_of, FirmLine, firm_line_row, firm_line_in, Exception, exception_row, exception_in, exceptions_in, is_exception, Balance, balance_row, balance_in, balances_in}
-use Rattle.sql_tables.specs.Standing.{Holds, Stands}
+use Rattle.sql_tables.specs.Rows.{Head, head_row, head_in, heads_in, is_head, with_totals, with_closing, with_purge, change_head, Seat, seat_row, seat_in, seats_in, is_seat, is_seat_of, Entry, entry_row, entry_in, entries_in, is_entry, is_entry_at, is_entry_of, with_left, Movement, movement_row, movement_in, movements_in, is_movement_of, FirmLine, firm_line_row, firm_line_in, Exception, exception_row, exception_in, exceptions_in, is_exception, Balance, balance_row, balance_in, balances_in}
+use Rattle.sql_tables.specs.Standing.{Holds, Stands, Changed}
 use Rattle.sql_tables.specs.Lists.{lists_in, IsStep}
 use Rattle.sql_tables.specs.Script.{Call, call_of, calls_of, RanInside, RanAll, Does, DoesAll, Written}
 use Rattle.sql_tables.proofs.Casts.{below_next, rise_last}
-use Rattle.sql_tables.proofs.Tables.{head_written, seat_added, seat_removed, entry_written, movement_added, firm_line_added, exception_noted, exception_removed, balance_added, seats_purged, entries_purged, movements_purged}
+use Rattle.sql_tables.proofs.Tables.{head_written, totals_written, closing_written, purge_written, left_written, seat_added, seat_removed, entry_written, movement_added, firm_line_added, exception_noted, exception_removed, balance_added, seats_purged, entries_purged, movements_purged}
 use Rattle.sql_tables.proofs.Others.{stands_but_heads, stands_but_seats, stands_but_entries, stands_but_movements, stands_but_firm_lines, stands_but_exceptions, stands_but_balances, lists_but_heads, lists_but_seats, lists_but_entries, lists_but_movements, lists_but_firm_lines, lists_but_exceptions, lists_but_balances}
 
 map_push : {A B : Type 0} (f : A → B) (xs : List A) (x : A) → map f (xs ++ x ∷ []) ≡ map f xs ++ f x ∷ []
@@ -42,9 +43,13 @@ ran_more g script i d old mid new count within ran h =
 
 does : (l : Layout) (s : Statement) (old new : State) (count : ℕ) → Stands l old.now → Executes (call_of s).text (call_of s).params old new (Ok count) → Does l s old.now new.now
 does l (statement.Head h) old new count stands ran = head_written l old new (head_given h) count stands ran
+does l (statement.Totals t) old new count stands ran = totals_written l old new t count stands ran
+does l (statement.Closed c) old new count stands ran = closing_written l old new c.matter c.day count stands ran
+does l (statement.Purged c) old new count stands ran = purge_written l old new c.matter c.day count stands ran
 does l (statement.Seat s) old new count stands ran = seat_added l old new (seat_given s) count stands ran
 does l (statement.SeatGone s) old new count stands ran = seat_removed l old new s.matter s.person.now count stands ran
 does l (statement.Entry e) old new count stands ran = entry_written l old new (entry_given e) count stands ran
+does l (statement.Left e) old new count stands ran = left_written l old new e.matter e.no e.left_now count stands ran
 does l (statement.Movement m) old new count stands ran = movement_added l old new (movement_given m) count stands ran
 does l (statement.FirmLine f) old new count stands ran = firm_line_added l old new (firm_line_given f) count stands ran
 does l (statement.Exception e) old new count stands ran = exception_noted l old new (exception_given e) count stands ran
@@ -78,11 +83,19 @@ module _ (l : Layout) (db next : Database) (stands : Stands l db) where
   gone_seats : (p : Seat → Bool) → IsKeyedBy (λ (x : Seat). x.id) (delete_where p (seats_in l db.trees))
   gone_seats p = IsKeyedBy-delete_where (λ (x : Seat). x.id) p (seats_in l db.trees) stands.seats.rise
 
+  set_head : (n : ℤ) (f : Head → Head) → ((x : Head) → (f x).no ≡ x.no) → Changed l (matter_tree l) head_row (change_head n f (heads_in l db.trees)) db next → Stands l next
+  set_head n f same w =
+      let key = λ (x : Head). x.no in
+      stands_but_heads l db next stands w.schema w.others (now_holds head_row head_in key (λ _. refl) _ _ w.rows (IsKeyedBy-update_where key (is_head n) f same (heads_in l db.trees) stands.heads.rise))
+
   still_stands : (s : Statement) → Does l s db next → Stands l next
   still_stands (statement.Head h) w =
       let key = λ (x : Head). x.no in
       stands_but_heads l db next stands w.schema w.others (now_holds head_row head_in key (λ _. refl) _ _ w.rows
       (IsKeyedBy-insert_by key (delete_where (is_head h.no) (heads_in l db.trees)) (head_given h) (IsKeyedBy-delete_where key (is_head h.no) (heads_in l db.trees) stands.heads.rise)))
+  still_stands (statement.Totals t) w = set_head t.no (with_totals t) (λ x. refl) w
+  still_stands (statement.Closed c) w = set_head c.matter (with_closing c.day) (λ x. refl) w
+  still_stands (statement.Purged c) w = set_head c.matter (with_purge c.day) (λ x. refl) w
   still_stands (statement.Seat s) w =
       stands_but_seats l db next stands w.schema w.others (now_holds seat_row seat_in (λ (x : Seat). x.id) (λ _. refl) _ _ w.rows
       (rise_next (λ (x : Seat). x.id) (λ k. record (seat_given s) { id = k }) (λ k. refl) (seats_in l db.trees) stands.seats.rise))
@@ -93,6 +106,10 @@ module _ (l : Layout) (db next : Database) (stands : Stands l db) where
       let xs = entries_in l db.trees in
       stands_but_entries l db next stands w.schema w.others (now_holds entry_row entry_in key (λ _. refl) _ _ w.rows
       (IsKeyedBy-insert_by key (delete_where (is_entry (entry_given e)) xs) (record (entry_given e) { id = next_key key xs }) (IsKeyedBy-delete_where key (is_entry (entry_given e)) xs stands.entries.rise)))
+  still_stands (statement.Left e) w =
+      let key = λ (x : Entry). x.id in
+      stands_but_entries l db next stands w.schema w.others (now_holds entry_row entry_in key (λ _. refl) _ _ w.rows
+      (IsKeyedBy-update_where key (is_entry_at e.matter e.no) (with_left e.left_now) (λ x. refl) (entries_in l db.trees) stands.entries.rise))
   still_stands (statement.Movement m) w =
       stands_but_movements l db next stands w.changed.schema w.changed.others (now_holds movement_row movement_in (λ (x : Movement). x.seq) (λ _. refl) _ _ w.changed.rows w.rise)
   still_stands (statement.FirmLine f) w =
@@ -124,9 +141,13 @@ module _ (l : Layout) (db next : Database) (stands : Stands l db) where
 -- what a statement wrote is listed
 listed_by : (l : Layout) (db next : Database) (s : Statement) → Does l s db next → IsDatabase next
 listed_by l db next (statement.Head h) w = w.listed
+listed_by l db next (statement.Totals t) w = w.listed
+listed_by l db next (statement.Closed c) w = w.listed
+listed_by l db next (statement.Purged c) w = w.listed
 listed_by l db next (statement.Seat s) w = w.listed
 listed_by l db next (statement.SeatGone s) w = w.listed
 listed_by l db next (statement.Entry e) w = w.listed
+listed_by l db next (statement.Left e) w = w.listed
 listed_by l db next (statement.Movement m) w = w.changed.listed
 listed_by l db next (statement.FirmLine f) w = w.changed.listed
 listed_by l db next (statement.Exception e) w = w.listed
@@ -148,9 +169,13 @@ module _ (l : Layout) (db next : Database) where
 
   step : (s : Statement) → Does l s db next → IsStep s (lists_in l db.trees) (lists_in l next.trees)
   step (statement.Head h) w = lists_but_heads l db next w.others _ (read head_row head_in (λ _. refl) _ _ w.rows)
+  step (statement.Totals t) w = lists_but_heads l db next w.others _ (read head_row head_in (λ _. refl) _ _ w.rows)
+  step (statement.Closed c) w = lists_but_heads l db next w.others _ (read head_row head_in (λ _. refl) _ _ w.rows)
+  step (statement.Purged c) w = lists_but_heads l db next w.others _ (read head_row head_in (λ _. refl) _ _ w.rows)
   step (statement.Seat s) w = lists_but_seats l db next w.others _ (read seat_row seat_in (λ _. refl) _ _ w.rows)
   step (statement.SeatGone s) w = lists_but_seats l db next w.others _ (read seat_row seat_in (λ _. refl) _ _ w.rows)
   step (statement.Entry e) w = lists_but_entries l db next w.others _ (read entry_row entry_in (λ _. refl) _ _ w.rows)
+  step (statement.Left e) w = lists_but_entries l db next w.others _ (read entry_row entry_in (λ _. refl) _ _ w.rows)
   step (statement.Movement m) w = (w.seq, lists_but_movements l db next w.changed.others _ (read movement_row movement_in (λ _. refl) _ _ w.changed.rows))
   step (statement.FirmLine f) w = (w.seq, lists_but_firm_lines l db next w.changed.others _ (read firm_line_row firm_line_in (λ _. refl) _ _ w.changed.rows))
   step (statement.Exception e) w = lists_but_exceptions l db next w.others _ (read exception_row exception_in (λ _. refl) _ _ w.rows)

@@ -1,13 +1,21 @@
 -- What each statement makes of the list that its table holds.
-use Rattle.std.proofs.Common.{◌≡◌, ℕ, ℤ, pos, ◌<ℤ◌, Bool, true, false, ◌&&◌, ◌||◌, List, [], ◌∷◌, slice_get, None, Some, Ok, inl, inr, refl, ap, ap₂, ◌∙◌, arith, int_eq}
+use Rattle.std.proofs.Common.{◌≡◌, ℕ, ℤ, pos, ◌<ℤ◌, Bool, true, false, cond, ◌==◌, ◌&&◌, ◌||◌, List, [], ◌∷◌, length, slice_get, None, Some, Ok, inl, inr, refl, ap, ap₂, ◌∙◌, arith, int_eq}
+use Rattle.std.specs.List.{flat_map, filter_map}
 use Rattle.std.proofs.lemmas.Int.{ints}
 use Rattle.sqlite_value.specs.declared.value.Value.TheVariants.{Null, Int, Text}
 use Rattle.sqlite_value.specs.Order.{Row}
 use Rattle.sqlite_value.specs.Keys.{first_key}
+use Rattle.sqlite_value.specs.declared.keys.Collation.TheVariants.{Binary}
+use Rattle.sqlite_sql.specs.declared.ops.BinaryOp.TheVariants.{Compare}
 use Rattle.sqlite_sql.specs.declared.ops.CompareOp.TheVariants.{Eq}
+use Rattle.sqlite_sql.specs.Term.{Term, col, op2, eval_all}
+use Rattle.sqlite_schema.specs.declared.command.Command.TheVariants.{Update}
 use Rattle.sqlite_schema.specs.Names.{same_name}
+use Rattle.sqlite_schema.specs.declared.schema.Table.{Table}
+use Rattle.sqlite_schema.specs.declared.schema.Reference.{Reference}
 use Rattle.sqlite_schema.specs.declared.schema.Keys.TheVariants.{Enforced}
-use Rattle.sqlite_rules.specs.Action.{works}
+use Rattle.sqlite_schema.specs.Rules.{parent_key}
+use Rattle.sqlite_rules.specs.Action.{Work, works, work_by, deed_of, pairs}
 use Rattle.sqlite_rules.specs.Cast.{cast_row}
 use Rattle.sqlite_rules.specs.Edit.{next_rowid, with_rowid}
 use Rattle.sqlite_rules.specs.declared.error.Rowids.TheVariants.{Chosen}
@@ -16,35 +24,37 @@ use Rattle.sqlite_rules.specs.Lists.{Has}
 use Rattle.sqlite_keyed.specs.Keyed.{next_key}
 use Rattle.sqlite_keyed.specs.Lists.{delete_where}
 use Rattle.sqlite_typed.proofs.TestLemmas.{at_ints, at_texts, then_term, last_term}
+use Rattle.sqlite.specs.Listing.{understood}
 use Rattle.sqlite.specs.Rows.{sequence}
 use Rattle.sqlite.specs.State.{State, Executes}
+use Rattle.sqlite.proofs.Callers.{command_of, IsPlain}
 use Rattle.sql_schema.specs.declared.layout.Layout.{Layout}
 use Rattle.sql_schema.specs.declared.layout.Layout.TheVariants.{Made, Moved}
+use Rattle.sql_tables.specs.declared.columns.TotalsColumns.{TotalsColumns}
+use Rattle.sql_tables.specs.Picking.{changing}
 use Rattle.sql_tables.specs.Standing.{Stands, Changed, Counted}
 use Rattle.sql_tables.proofs.Casts.{cast_int, cast_null, cast_kept, next_is, below_next, weaker, all_of}
-use Rattle.sql_tables.proofs.KindLemmas.{Before, deleted, replaces, adds, adds_or_not, counts}
+use Rattle.sql_tables.proofs.KindLemmas.{Before, set, deleted, replaces, adds, adds_or_not, counts}
 use Rattle.sql_schema.specs.Schema.{book_schema, matter_tree, matter_place, matter_table, seat_tree, seat_place, seat_table, entry_tree, entry_place, entry_table, journal_tree, journal_place, journal_table, firm_line_tree, firm_line_place, firm_line_table, exception_tree, exception_place, exception_table, balance_tree, balance_place, balance_table, sequence_table}
-use Rattle.sql_tables.specs.Rows.{same_text, Head, head_shown, head_values, head_row, heads_in, is_head, put_head, Seat, seat_values, seat_row, seats_in, is_seat_of, is_seat, add_seat, Entry, entry_values, entry_row, entries_in, is_entry_of, is_entry, put_entry, Movement, movement_values, movement_row, movements_in, is_movement_of, FirmLine, firm_line_values, firm_line_row, firm_lines_in, Exception, exception_values, exception_row, exceptions_in, is_exception, note_exception, Balance, balance_values, balance_row, balances_in, add_balance}
-use Rattle.sql_tables.specs.Texts.{head_write_text, head_write_terms, entry_write_text, entry_write_terms, seat_insert_text, seat_insert_terms, seat_delete_text, journal_insert_text, journal_insert_terms, firm_insert_text, firm_insert_terms, exception_insert_text, exception_insert_terms, exception_delete_text, balance_insert_text, balance_insert_terms, purge_seats_text, purge_entries_text, purge_journal_text}
-use Rattle.sql_tables.proofs.Means.{head_write_is, head_write_plain, entry_write_is, entry_write_plain, seat_insert_is, seat_insert_plain, seat_delete_is, seat_delete_plain, journal_insert_is, journal_insert_plain, firm_insert_is, firm_insert_plain, exception_insert_is, exception_insert_plain, exception_delete_is, exception_delete_plain, balance_insert_is, balance_insert_plain, purge_seats_is, purge_seats_plain, purge_entries_is, purge_entries_plain, purge_journal_is, purge_journal_plain}
+use Rattle.sql_tables.specs.Rows.{same_text, Head, head_shown, head_values, head_row, heads_in, is_head, put_head, totals_values, with_totals, with_closing, with_purge, change_head, Seat, seat_values, seat_row, seats_in, is_seat_of, is_seat, add_seat, Entry, entry_values, entry_row, entries_in, is_entry_of, is_entry_at, is_entry, put_entry, with_left, put_left, Movement, movement_values, movement_row, movements_in, is_movement_of, FirmLine, firm_line_values, firm_line_row, firm_lines_in, Exception, exception_values, exception_row, exceptions_in, is_exception, note_exception, Balance, balance_values, balance_row, balances_in, add_balance}
+use Rattle.sql_tables.specs.Texts.{head_write_text, head_write_terms, totals_write_text, closed_write_text, purged_write_text, left_write_text, entry_write_text, entry_write_terms, seat_insert_text, seat_insert_terms, seat_delete_text, journal_insert_text, journal_insert_terms, firm_insert_text, firm_insert_terms, exception_insert_text, exception_insert_terms, exception_delete_text, balance_insert_text, balance_insert_terms, purge_seats_text, purge_entries_text, purge_journal_text}
+use Rattle.sql_tables.proofs.Means.{head_write_is, head_write_plain, totals_write_is, totals_write_plain, closed_write_is, closed_write_plain, purged_write_is, purged_write_plain, left_write_is, left_write_plain, entry_write_is, entry_write_plain, seat_insert_is, seat_insert_plain, seat_delete_is, seat_delete_plain, journal_insert_is, journal_insert_plain, firm_insert_is, firm_insert_plain, exception_insert_is, exception_insert_plain, exception_delete_is, exception_delete_plain, balance_insert_is, balance_insert_plain, purge_seats_is, purge_seats_plain, purge_entries_is, purge_entries_plain, purge_journal_is, purge_journal_plain}
 
 -- ---- no key acts, since each reference is refused and not followed
 
-head_quiet : (l : Layout) (news : Row) (olds : List Row) → works (book_schema l) Enforced 0 (matter_tree l) olds (news ∷ []) ≡ []
-head_quiet Made news olds = refl
-head_quiet Moved news olds = refl
+abbrev works_if : (l : Layout) (tree : ℕ) (olds news : List Row) → Bool → List Work
+works_if l tree olds news b =
+    flat_map (λ (child : Table). filter_map (λ (ref : Reference). work_by 0 tree (pairs olds news) child ref (deed_of Enforced b (cond b ref.on_delete ref.on_update)) (parent_key (book_schema l).tables ref)) child.references) (book_schema l).tables
 
-head_still : (l : Layout) (olds : List Row) → works (book_schema l) Enforced 0 (matter_tree l) olds [] ≡ []
-head_still Made olds = refl
-head_still Moved olds = refl
+pub idle : (l : Layout) (tree : ℕ) (olds news : List Row) → works (book_schema l) Enforced 0 tree olds news ≡ []
+idle Made tree olds news = elim (length news == 0) as (λ b. works_if Made tree olds news b ≡ []) [ true ↦ refl | false ↦ refl ]
+idle Moved tree olds news = elim (length news == 0) as (λ b. works_if Moved tree olds news b ≡ []) [ true ↦ refl | false ↦ refl ]
 
 quiet : (l : Layout) (tree : ℕ) (olds : List Row) (new : Row) → works (book_schema l) Enforced 0 tree olds (new ∷ []) ≡ []
-quiet Made tree olds new = refl
-quiet Moved tree olds new = refl
+quiet l tree olds new = idle l tree olds (new ∷ [])
 
 still : (l : Layout) (tree : ℕ) (olds : List Row) → works (book_schema l) Enforced 0 tree olds [] ≡ []
-still Made tree olds = refl
-still Moved tree olds = refl
+still l tree olds = idle l tree olds []
 
 -- ---- where each table stands
 
@@ -110,8 +120,31 @@ head_written l old new n count s ran =
     let xs = heads_in l old.now.trees in
     let before : Before l (matter_place l) (matter_table l) (matter_at l) head_row (λ (x : Head). x.no) (λ x. refl) old xs = record { schema = s.schema; stored = s.heads.stored; rise = s.heads.rise } in
     replaces l (matter_place l) (matter_table l) (matter_at l) head_row (λ (x : Head). x.no) (λ x. refl) refl refl old new xs before head_write_text (head_values n) (head_write_plain l) count ran
-    head_write_terms 14 (head_row n) refl (head_write_is l) refl (head_still l) (λ r olds. head_quiet l r olds) n (ap (with_rowid Chosen (old.now.trees (matter_tree l))) (head_kept l n)) (head_kept l n)
+    head_write_terms 14 (head_row n) refl (head_write_is l) refl (still l (matter_tree l)) (λ r olds. quiet l (matter_tree l) olds r) n (ap (with_rowid Chosen (old.now.trees (matter_tree l))) (head_kept l n)) (head_kept l n)
     (is_head n.no) (all_of _ (λ x. head_meets l n x) xs)
+
+-- the head of a number is changed, if there is one
+module _ (l : Layout) (old new : State) (n : ℤ) (more : Row) (f : Head → Head) (same : (x : Head) → (f x).no ≡ x.no) (text : List ℕ) (plain : IsPlain (understood (book_schema l) text)) (count : ℕ) (s : Stands l old.now)
+    (ran : Executes text (Int n ∷ more) old new (Ok count)) where
+  head_set : (cells : List Term) → command_of (understood (book_schema l) text) ≡ Update (matter_place l) (record { lets = []; body = changing (matter_tree l) (op2 (Compare Eq Binary) (col 1 0) (col 0 0) ∷ []) cells })
+      → ((x : Head) → eval_all (col 1 0 ∷ cells) ((Int n ∷ more) ∷ head_row x ∷ []) ≡ Int x.no ∷ head_row (f x)) → Changed l (matter_tree l) head_row (change_head n f (heads_in l old.now.trees)) old.now new.now
+  head_set cells is shows =
+      let xs = heads_in l old.now.trees in
+      let before : Before l (matter_place l) (matter_table l) (matter_at l) head_row (λ (x : Head). x.no) (λ x. refl) old xs = record { schema = s.schema; stored = s.heads.stored; rise = s.heads.rise } in
+      set l (matter_place l) (matter_table l) (matter_at l) head_row (λ (x : Head). x.no) (λ x. refl) refl refl old new xs before text (Int n ∷ more) plain count ran
+      _ cells is (λ news olds. idle l (matter_tree l) olds news) (is_head n) (λ x. last_term (at_ints false Eq x.no n)) f same shows (head_kept l)
+
+pub totals_written : (l : Layout) (old new : State) (t : TotalsColumns) (count : ℕ) → Stands l old.now → Executes totals_write_text (totals_values t) old new (Ok count)
+    → Changed l (matter_tree l) head_row (change_head t.no (with_totals t) (heads_in l old.now.trees)) old.now new.now
+totals_written l old new t count s ran = head_set l old new t.no _ (with_totals t) (λ x. refl) totals_write_text (totals_write_plain l) count s ran _ (totals_write_is l) (λ x. refl)
+
+pub closing_written : (l : Layout) (old new : State) (matter day : ℤ) (count : ℕ) → Stands l old.now → Executes closed_write_text (Int matter ∷ Int day ∷ []) old new (Ok count)
+    → Changed l (matter_tree l) head_row (change_head matter (with_closing day) (heads_in l old.now.trees)) old.now new.now
+closing_written l old new matter day count s ran = head_set l old new matter _ (with_closing day) (λ x. refl) closed_write_text (closed_write_plain l) count s ran _ (closed_write_is l) (λ x. refl)
+
+pub purge_written : (l : Layout) (old new : State) (matter day : ℤ) (count : ℕ) → Stands l old.now → Executes purged_write_text (Int matter ∷ Int day ∷ []) old new (Ok count)
+    → Changed l (matter_tree l) head_row (change_head matter (with_purge day) (heads_in l old.now.trees)) old.now new.now
+purge_written l old new matter day count s ran = head_set l old new matter _ (with_purge day) (λ x. refl) purged_write_text (purged_write_plain l) count s ran _ (purged_write_is l) (λ x. refl)
 
 -- ---- entries
 
@@ -157,6 +190,15 @@ entry_written l old new e count s ran =
     replaces l (entry_place l) (entry_table l) (entry_at l) entry_row key (λ x. refl) refl refl old new xs before entry_write_text (entry_values e) (entry_write_plain l) count ran
     entry_write_terms 18 (Null ∷ entry_values e) refl (entry_write_is l) refl (still l (entry_tree l)) (λ r olds. quiet l (entry_tree l) olds r) n new_row (entry_again l n)
     (is_entry n) (weaker (λ x. x.id <ℤ n.id) (λ x. conflicts None (book_schema l).indexes (entry_table l) (entry_row n) (entry_row x) ≡ is_entry n x) (λ x low. entry_meets l n x low) xs (below_next key xs s.entries.rise))
+
+pub left_written : (l : Layout) (old new : State) (matter n left : ℤ) (count : ℕ) → Stands l old.now → Executes left_write_text (Int matter ∷ Int n ∷ Int left ∷ []) old new (Ok count)
+    → Changed l (entry_tree l) entry_row (put_left matter n left (entries_in l old.now.trees)) old.now new.now
+left_written l old new matter n left count s ran =
+    let xs = entries_in l old.now.trees in
+    let before : Before l (entry_place l) (entry_table l) (entry_at l) entry_row (λ (x : Entry). x.id) (λ x. refl) old xs = record { schema = s.schema; stored = s.entries.stored; rise = s.entries.rise } in
+    set l (entry_place l) (entry_table l) (entry_at l) entry_row (λ (x : Entry). x.id) (λ x. refl) refl refl old new xs before left_write_text (Int matter ∷ Int n ∷ Int left ∷ []) (left_write_plain l) count ran
+    _ _ (left_write_is l) (λ news olds. idle l (entry_tree l) olds news) (is_entry_at matter n) (λ x. then_term (at_ints false Eq x.matter matter) (last_term (at_ints false Eq x.no n)))
+    (with_left left) (λ x. refl) (λ x. refl) (entry_again l)
 
 pub entries_purged : (l : Layout) (old new : State) (matter : ℤ) (count : ℕ) → Stands l old.now → Executes purge_entries_text (Int matter ∷ []) old new (Ok count)
     → Changed l (entry_tree l) entry_row (delete_where (is_entry_of matter) (entries_in l old.now.trees)) old.now new.now

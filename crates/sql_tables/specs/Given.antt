@@ -1,4 +1,4 @@
--- The columns as the code has them. The table itself gives a row its rowid.
+-- The columns that the code passes, as records. The table itself assigns the rowid.
 use Rattle.std.specs.Prelude.{pos}
 use Rattle.sql_tables.specs.declared.columns.HeadColumns.{HeadColumns}
 use Rattle.sql_tables.specs.declared.columns.SeatColumns.{SeatColumns}

@@ -1,11 +1,11 @@
--- What the tables stand for, as lists of records, and what a statement makes of the lists.
+-- The lists of records that the tables stand for, and how each SQL statement changes the lists.
 use Rattle.std.specs.Prelude.{◌≡◌, ℤ, List, [], ◌∷◌, ◌++◌}
 use Rattle.sqlite_trees.specs.Tree.{Trees}
 use Rattle.sqlite_keyed.specs.Lists.{delete_where}
 use Rattle.sql_schema.specs.declared.layout.Layout.{Layout}
 use Rattle.sql_tables.specs.declared.statements.Statement.{Statement}
 use Rattle.sql_tables.specs.declared.statements.Statement.TheVariants as statement
-use Rattle.sql_tables.specs.Rows.{Head, heads_in, put_head, Seat, seats_in, add_seat, is_seat, is_seat_of, Entry, entries_in, put_entry, is_entry_of, Movement, movements_in, is_movement_of, FirmLine, firm_lines_in, Exception, exceptions_in, note_exception, is_exception, Balance, balances_in, add_balance}
+use Rattle.sql_tables.specs.Rows.{Head, heads_in, put_head, with_totals, with_closing, with_purge, change_head, Seat, seats_in, add_seat, is_seat, is_seat_of, Entry, entries_in, put_entry, put_left, is_entry_of, Movement, movements_in, is_movement_of, FirmLine, firm_lines_in, Exception, exceptions_in, note_exception, is_exception, Balance, balances_in, add_balance}
 use Rattle.sql_tables.specs.Given.{head_given, seat_given, entry_given, movement_given, firm_line_given, exception_given, balance_given}
 
 pub record Lists : Type 0 where
@@ -28,12 +28,16 @@ lists_in l db = record {
   balances = balances_in l db;
 }
 
--- what a statement makes of the lists; a table that counts up gives a row a number of its own
+-- how an SQL statement changes the lists; a table with AUTOINCREMENT gives a new row its own number
 abbrev pub IsStep : Statement → Lists → Lists → Type 0
 IsStep (statement.Head h) a b = b ≡ record a { heads = put_head (head_given h) a.heads }
+IsStep (statement.Totals t) a b = b ≡ record a { heads = change_head t.no (with_totals t) a.heads }
+IsStep (statement.Closed c) a b = b ≡ record a { heads = change_head c.matter (with_closing c.day) a.heads }
+IsStep (statement.Purged c) a b = b ≡ record a { heads = change_head c.matter (with_purge c.day) a.heads }
 IsStep (statement.Seat s) a b = b ≡ record a { seats = add_seat (seat_given s) a.seats }
 IsStep (statement.SeatGone s) a b = b ≡ record a { seats = delete_where (is_seat s.matter s.person.now) a.seats }
 IsStep (statement.Entry e) a b = b ≡ record a { entries = put_entry (entry_given e) a.entries }
+IsStep (statement.Left e) a b = b ≡ record a { entries = put_left e.matter e.no e.left_now a.entries }
 IsStep (statement.Movement m) a b = (seq : ℤ)
     × (b ≡ record a { movements = a.movements ++ record (movement_given m) { seq = seq } ∷ [] })
 IsStep (statement.FirmLine f) a b = (seq : ℤ)
@@ -46,7 +50,7 @@ IsStep (statement.SeatsGone m) a b = b ≡ record a { seats = delete_where (is_s
 IsStep (statement.EntriesGone m) a b = b ≡ record a { entries = delete_where (is_entry_of m) a.entries }
 IsStep (statement.MovementsGone m) a b = b ≡ record a { movements = delete_where (is_movement_of m) a.movements }
 
--- the statements, in turn
+-- the SQL statements, one after the other
 abbrev pub AreSteps : List Statement → Lists → Lists → Type 0
 AreSteps [] a b = b ≡ a
 AreSteps (s ∷ script) a b = (mid : Lists) × IsStep s a mid × AreSteps script mid b

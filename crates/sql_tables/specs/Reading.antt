@@ -1,4 +1,4 @@
--- What a query answers, and what a call leaves.
+-- What a query returns, and the state in which a call leaves the connection.
 use Rattle.std.specs.Prelude.{◌≡◌, ◌⊎◌, ℕ, Bool, true, false, List, Result, Ok, Err, IfOk, OnOk, IsTrue}
 use Rattle.sqlite_value.specs.Order.{Row}
 use Rattle.sqlite_trees.specs.Tree.{Trees}
@@ -12,18 +12,18 @@ use Rattle.sqlite.specs.State.{State, HasCleanDisk, Shown}
 use Rattle.sql_schema.specs.declared.layout.Layout.{Layout}
 use Rattle.sql_tables.specs.Standing.{Stands}
 
--- the connection was open, and it sees what it saw
+-- the connection was open, and sees and has committed the same as before
 pub record IsKept (old new : State) : Type 0 where
   pub was_open : IsTrue old.is_open
   pub now : new.now ≡ old.now
   pub committed : new.committed ≡ old.committed
 
--- what a crash may leave after a call it might have left before, or it is one of these
+-- a crash after the call may leave only what it might have left before, or one of these trees
 abbrev pub LeavesOnly : State → State → (Trees → Type 0) → Type 0
 LeavesOnly old new Commits = (db : Trees) → new.may_leave db → old.may_leave db ⊎ Commits db
 
--- a call that reads changes nothing, whatever the tables are, also for a crash; one that answers leaves the connection
--- open
+-- a call that reads changes nothing, whatever the tables are, not even what a crash may leave; if it returns Ok, the
+-- connection is open
 pub record LeavesAll {T E : Type 0} (result : Result T E) (old new : State) : Type 0 where
   pub same : HasCleanDisk new → IsTrue new.is_open → IsKept old new
   pub serves : HasCleanDisk new → OnOk result (IsTrue new.is_open)
@@ -42,14 +42,14 @@ selects (Err e) = false
 abbrev pub IsSelect : List ℕ → Type 0
 IsSelect sql = selects (first sql) ≡ true
 
--- a text was asked outside a transaction; a SELECT changes nothing
+-- a query ran outside a transaction; a SELECT changes nothing
 pub record IsAsked {T : Type 0} (result : Result T Error) (items : T → List Row)
     (sql : List ℕ) (params : Row) (old new : State) : Type 0 where
   pub ok : HasCleanDisk new → IfOk result (λ rows. Shown sql params old new (items rows))
   pub left : IsSelect sql → LeavesAll result old new
 
--- where the tables stand in a layout, the rows of that layout are answered; the call changes nothing, also where they
--- do not stand
+-- if the tables stand in a layout, the rows of that layout are returned; the call changes nothing, even if they do
+-- not stand
 pub record IsRead {T : Type 0} (result : Result T Error) (items : T → List Row)
     (rows : Layout → List Row) (old new : State) : Type 0 where
   pub found : (l : Layout) → HasCleanDisk new → Stands l old.now → IfOk result (λ r. items r ≡ rows l)

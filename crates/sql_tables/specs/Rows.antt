@@ -1,4 +1,4 @@
--- The rows of the tables as records, in the order of their rowids.
+-- The rows of the tables as records, in rowid order.
 use Rattle.std.specs.Prelude.{ℕ, ℤ, Bool, List, [], ◌∷◌, ◌++◌, map, filter, if◌then◌else◌, ◌&&◌, int_lt}
 use Rattle.std.specs.declared.cmp.Ordering.{Ordering}
 use Rattle.std.specs.Ordering.{on, then_cmp, int_cmp, int_eq, nat_cmp, is_eq}
@@ -8,19 +8,20 @@ use Rattle.sqlite_value.specs.declared.value.Value.TheVariants.{Null, Int, Text}
 use Rattle.sqlite_value.specs.Order.{Row, column, bytes}
 use Rattle.sqlite_trees.specs.Tree.{Trees}
 use Rattle.sqlite_rules.specs.Edit.{id_in}
-use Rattle.sqlite_keyed.specs.Lists.{sort_by, delete_where}
+use Rattle.sqlite_keyed.specs.Lists.{sort_by, update_where, delete_where}
 use Rattle.sqlite_keyed.specs.Keyed.{insert_by, next_key}
 use Rattle.sql_schema.specs.declared.layout.Layout.{Layout}
 use Rattle.sql_schema.specs.Schema.{matter_tree, seat_tree, entry_tree, journal_tree, firm_line_tree, exception_tree, balance_tree}
+use Rattle.sql_tables.specs.declared.columns.TotalsColumns.{TotalsColumns}
 
--- texts by their bytes
+-- compares texts byte by byte
 abbrev pub text_cmp : List ℕ → List ℕ → Ordering
 text_cmp = slice_cmp nat_cmp
 
 abbrev pub same_text : List ℕ → List ℕ → Bool
 same_text a b = is_eq (text_cmp a b)
 
--- ---- a matter's head with its kept totals. The column that is the rowid keeps NULL
+-- ---- a matter's head with its stored totals. The column that is the rowid is stored as NULL
 
 pub record Head : Type 0 where
   pub no : ℤ
@@ -37,17 +38,17 @@ pub record Head : Type 0 where
   pub pending : ℤ
   pub purged : ℤ
 
--- what its query shows
+-- the columns that its query shows
 abbrev pub head_shown : Head → Row
 head_shown h = Text h.client ∷ Int h.opened ∷ Int h.closed ∷ Int h.last ∷ Int h.entries ∷ Int h.held ∷ Int h.available ∷
     Int h.disputed ∷ Int h.fees ∷ Int h.claims ∷ Int h.pending ∷ Int h.purged ∷ []
 
--- what the query for the next head shows
+-- the columns that the query for the next head shows
 abbrev pub next_shown : Head → Row
 next_shown h = Text h.client ∷ Int h.opened ∷ Int h.closed ∷ Int h.last ∷ Int h.entries ∷ Int h.held ∷ Int h.available ∷
     Int h.disputed ∷ Int h.fees ∷ Int h.claims ∷ Int h.pending ∷ Int h.purged ∷ Int h.no ∷ []
 
--- what the query for the numbers of all heads shows
+-- the column that the query for the numbers of all heads shows
 abbrev pub no_shown : Head → Row
 no_shown h = Int h.no ∷ []
 
@@ -80,13 +81,42 @@ heads_in l db = map head_in (db (matter_tree l))
 abbrev pub is_head : ℤ → Head → Bool
 is_head n h = int_eq h.no n
 
--- the head is behind a number
+-- the number of the head is greater than `n`
 abbrev pub is_past : ℤ → Head → Bool
 is_past n h = int_lt n h.no
 
--- the heads with this one in place of the one that has its number
+-- the heads with this one replacing the one that has its number, if any
 abbrev pub put_head : Head → List Head → List Head
 put_head new heads = insert_by (λ (h : Head). h.no) (delete_where (is_head new.no) heads) new
+
+abbrev pub totals_values : TotalsColumns → Row
+totals_values t = Int t.no ∷ Int t.last ∷ Int t.entries ∷ Int t.held ∷ Int t.available ∷ Int t.disputed ∷ Int t.fees ∷
+    Int t.claims ∷ Int t.pending ∷ []
+
+-- a head with this last day and these totals
+abbrev pub with_totals : TotalsColumns → Head → Head
+with_totals t h = record h {
+  last = t.last;
+  entries = t.entries;
+  held = t.held;
+  available = t.available;
+  disputed = t.disputed;
+  fees = t.fees;
+  claims = t.claims;
+  pending = t.pending;
+}
+
+-- a head that is closed on this day
+abbrev pub with_closing : ℤ → Head → Head
+with_closing day h = record h { closed = day }
+
+-- a head that is purged on this day
+abbrev pub with_purge : ℤ → Head → Head
+with_purge day h = record h { client = []; purged = day }
+
+-- the heads with the one of this number changed, if it exists
+abbrev pub change_head : ℤ → (Head → Head) → List Head → List Head
+change_head n = update_where (is_head n)
 
 -- ---- a seat
 
@@ -113,7 +143,7 @@ seat_in r = record {
 abbrev pub seats_in : Layout → Trees → List Seat
 seats_in l db = map seat_in (db (seat_tree l))
 
--- by person in byte order
+-- by person in byte order, then by rowid
 abbrev pub seat_cmp : Seat → Seat → Ordering
 seat_cmp a b = then_cmp (on (λ (s : Seat). s.person) text_cmp) (on (λ (s : Seat). s.id) int_cmp) a b
 
@@ -127,11 +157,11 @@ seats_of matter seats = sort_by seat_cmp (filter (is_seat_of matter) seats)
 abbrev pub seat_shown : Seat → Row
 seat_shown s = Text s.person ∷ Int s.role ∷ []
 
--- the seat of a person in a matter
+-- whether this is the seat of a person in a matter
 abbrev pub is_seat : ℤ → List ℕ → Seat → Bool
 is_seat matter person s = int_eq s.matter matter && same_text s.person person
 
--- the seats with this one behind the others
+-- the seats with this one added after the others
 abbrev pub add_seat : Seat → List Seat → List Seat
 add_seat new seats = seats ++ record new { id = next_key (λ (s : Seat). s.id) seats } ∷ []
 
@@ -163,7 +193,7 @@ entry_shown e = Int e.kind ∷ Int e.day ∷ Int e.amount ∷ Int e.state ∷ In
     Text e.text_b ∷ Text e.text_c ∷ Int e.day_done ∷ Int e.day_undone ∷ Int e.day_bank ∷ Text e.bank_ref ∷ Int e.part ∷
     Int e.left_now ∷ []
 
--- those that the query for all of a matter shows
+-- the columns that the query for all entries of a matter shows
 abbrev pub numbered_shown : Entry → Row
 numbered_shown e = Int e.no ∷ entry_shown e
 
@@ -201,14 +231,14 @@ entries_in l db = map entry_in (db (entry_tree l))
 abbrev pub is_entry_of : ℤ → Entry → Bool
 is_entry_of matter e = int_eq e.matter matter
 
--- the entry of a number of a matter
+-- whether this is the entry of a matter with this number
 abbrev pub is_entry_at : ℤ → ℤ → Entry → Bool
 is_entry_at matter n e = int_eq e.matter matter && int_eq e.no n
 
 abbrev pub is_entry : Entry → Entry → Bool
 is_entry new = is_entry_at new.matter new.no
 
--- by number
+-- by number, then by rowid
 abbrev pub entry_cmp : Entry → Entry → Ordering
 entry_cmp a b = then_cmp (on (λ (e : Entry). e.no) int_cmp) (on (λ (e : Entry). e.id) int_cmp) a b
 
@@ -216,10 +246,17 @@ entry_cmp a b = then_cmp (on (λ (e : Entry). e.no) int_cmp) (on (λ (e : Entry)
 abbrev pub entries_of : ℤ → List Entry → List Entry
 entries_of matter entries = sort_by entry_cmp (filter (is_entry_of matter) entries)
 
--- the entries with this one in place of the one that has its number
+-- the entries with this one replacing the one that has its number, if any
 abbrev pub put_entry : Entry → List Entry → List Entry
 put_entry new entries = insert_by (λ (e : Entry). e.id) (delete_where (is_entry new) entries)
     (record new { id = next_key (λ (e : Entry). e.id) entries })
+
+abbrev pub with_left : ℤ → Entry → Entry
+with_left left e = record e { left_now = left }
+
+-- the entries with what is left of one entry changed, if it exists
+abbrev pub put_left : ℤ → ℤ → ℤ → List Entry → List Entry
+put_left matter n left = update_where (is_entry_at matter n) (with_left left)
 
 -- ---- a movement of the journal
 
@@ -278,7 +315,7 @@ firm_line_in r = record {
 abbrev pub firm_lines_in : Layout → Trees → List FirmLine
 firm_lines_in l db = map firm_line_in (db (firm_line_tree l))
 
--- ---- a line of the bank that matched nothing
+-- ---- a bank line that matched nothing
 
 pub record Exception : Type 0 where
   pub id : ℤ
@@ -307,12 +344,12 @@ exception_in r = record {
 abbrev pub exceptions_in : Layout → Trees → List Exception
 exceptions_in l db = map exception_in (db (exception_tree l))
 
--- the same line, rowids aside
+-- whether two exceptions are the same bank line, apart from their rowids
 abbrev pub is_exception : Exception → Exception → Bool
 is_exception new e = int_eq e.day new.day && (same_text e.reference new.reference
     && (same_text e.bank_ref new.bank_ref && (int_eq e.amount new.amount && same_text e.text new.text)))
 
--- by all columns
+-- by all columns in turn
 abbrev pub exception_cmp : Exception → Exception → Ordering
 exception_cmp a b = then_cmp (on (λ (e : Exception). e.day) int_cmp)
     (then_cmp (on (λ (e : Exception). e.reference) text_cmp)
@@ -321,12 +358,12 @@ exception_cmp a b = then_cmp (on (λ (e : Exception). e.day) int_cmp)
     (then_cmp (on (λ (e : Exception). e.text) text_cmp)
     (on (λ (e : Exception). e.id) int_cmp))))) a b
 
--- the exceptions with this one behind the others, where it is not among them
+-- the exceptions with this one added after the others, unless it is already among them
 abbrev pub note_exception : Exception → List Exception → List Exception
 note_exception new noted = if list_any (is_exception new) noted then noted
     else noted ++ record new { id = next_key (λ (e : Exception). e.id) noted } ∷ []
 
--- ---- a balance that a statement names
+-- ---- an opening or closing balance of a bank statement
 
 pub record Balance : Type 0 where
   pub id : ℤ
@@ -357,12 +394,12 @@ is_balance_at kind day b = int_eq b.kind kind && int_eq b.day day
 abbrev pub balance_shown : Balance → Row
 balance_shown b = Int b.amount ∷ []
 
--- by kind, and then by day
+-- by kind, then by day
 abbrev pub balance_cmp : Balance → Balance → Ordering
 balance_cmp a b = then_cmp (on (λ (b : Balance). b.kind) int_cmp)
     (then_cmp (on (λ (b : Balance). b.day) int_cmp)
     (on (λ (b : Balance). b.id) int_cmp)) a b
 
--- the balances with this one behind the others
+-- the balances with this one added after the others
 abbrev pub add_balance : Balance → List Balance → List Balance
 add_balance new balances = balances ++ record new { id = next_key (λ (b : Balance). b.id) balances } ∷ []

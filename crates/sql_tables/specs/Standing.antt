@@ -1,4 +1,4 @@
--- When the tables stand for records, and what a statement changes of them.
+-- When the tables stand for records, and what an SQL statement changes.
 use Rattle.std.specs.Prelude.{◌≡◌, ◌≢◌, ℕ, ℤ, List, [], ◌∷◌, ◌++◌, map}
 use Rattle.std.specs.List.{AllByRecursion}
 use Rattle.sqlite_value.specs.declared.value.Value.{Value}
@@ -11,7 +11,7 @@ use Rattle.sql_schema.specs.declared.layout.Layout.{Layout}
 use Rattle.sql_schema.specs.Schema.{book_schema, version_now, book_tree, matter_tree, seat_tree, entry_tree, journal_tree, sequence_tree, firm_line_tree, exception_tree, balance_tree}
 use Rattle.sql_tables.specs.Rows.{Head, head_row, head_in, Seat, seat_row, seat_in, Entry, entry_row, entry_in, Movement, movement_row, movement_in, FirmLine, firm_line_row, firm_line_in, Exception, exception_row, exception_in, Balance, balance_row, balance_in}
 
--- rows that records stand for, in the order of their rowids
+-- the rows are exactly those of some records, in rowid order
 pub record Holds {X : Type 0} (to_row : X → Row) (of_row : Row → X) (key : X → ℤ) (rows : List Row) : Type 0 where
   pub stored : rows ≡ map to_row (map of_row rows)
   pub rise : IsKeyedBy key (map of_row rows)
@@ -37,12 +37,12 @@ ExceptionsHold = Holds exception_row exception_in (λ (x : Exception). x.id)
 abbrev pub BalancesHold : List Row → Type 0
 BalancesHold = Holds balance_row balance_in (λ (x : Balance). x.id)
 
--- the version in each row of the table that says it
+-- the version in each row of the table `book`
 abbrev pub versions_in : Layout → Trees → List Value
 versions_in l db = map (λ (r : Row). column r 1) (db (book_tree l))
 
--- the schema is a book's in this layout, one row says the version of these tables, and each other table holds rows of
--- its columns' kinds, in the order of their rowids
+-- the schema is a book's in this layout, the table `book` has one row, with this version, and each other table holds
+-- rows with the kinds of its columns, in rowid order
 pub record Stands (l : Layout) (db : Database) : Type 0 where
   pub schema : db.schema ≡ book_schema l
   pub version : versions_in l db.trees ≡ Int version_now ∷ []
@@ -54,13 +54,13 @@ pub record Stands (l : Layout) (db : Database) : Type 0 where
   pub exceptions : ExceptionsHold (db.trees (exception_tree l))
   pub balances : BalancesHold (db.trees (balance_tree l))
 
--- every other table is as it was, the database's own counts aside
+-- every other table is unchanged, except the database's own table of counts
 abbrev pub KeepsOthers : Layout → ℕ → Database → Database → Type 0
 KeepsOthers l tree db next =
     AllByRecursion (λ t. t.tree ≢ tree → t.tree ≢ sequence_tree l → next.trees t.tree ≡ db.trees t.tree)
     (book_schema l).tables
 
--- one table holds these records now, nothing else changed, and the database lists what it holds
+-- one table now holds these records, nothing else changed, and the database lists what it holds
 pub record Changed {X : Type 0} (l : Layout) (tree : ℕ) (to_row : X → Row) (now : List X)
     (db next : Database) : Type 0 where
   pub schema : next.schema ≡ book_schema l
@@ -68,7 +68,7 @@ pub record Changed {X : Type 0} (l : Layout) (tree : ℕ) (to_row : X → Row) (
   pub others : KeepsOthers l tree db next
   pub listed : IsDatabase next
 
--- one table holds one record more, under a rowid above all others, and nothing else changed
+-- one table holds one more record, under a rowid above all others, and nothing else changed
 pub record Counted {X : Type 0} (l : Layout) (tree : ℕ) (to_row : X → Row) (key : X → ℤ) (was : List X)
     (new : ℤ → X) (db next : Database) : Type 0 where
   pub seq : ℤ

@@ -1,6 +1,6 @@
--- The texts of the statements, and what each means. Written by tools/book-tables.
+-- The SQL text of each statement, and its meaning. Written by tools/book-tables.
 use Rattle.std.specs.Prelude.{ℕ, false, [], ◌∷◌, List, None, codes, pos, negsuc}
-use Rattle.sqlite_value.specs.declared.value.Value.TheVariants.{Null, Int}
+use Rattle.sqlite_value.specs.declared.value.Value.TheVariants.{Null, Int, Text}
 use Rattle.sqlite_value.specs.declared.keys.Collation.TheVariants.{Binary}
 use Rattle.sqlite_sql.specs.declared.ops.BinaryOp.TheVariants.{Compare}
 use Rattle.sqlite_sql.specs.declared.ops.CompareOp.TheVariants.{Eq, Gt}
@@ -9,7 +9,7 @@ use Rattle.sqlite_sql.specs.Term.{Term, col, lit, op2}
 use Rattle.sqlite_schema.specs.declared.command.Conflict.TheVariants.{Ignore, Replace}
 use Rattle.sqlite_schema.specs.declared.command.Source.TheVariants.{Values}
 use Rattle.sqlite_schema.specs.declared.command.Command.{Command}
-use Rattle.sqlite_schema.specs.declared.command.Command.TheVariants.{Select, Insert, InsertOr, Delete}
+use Rattle.sqlite_schema.specs.declared.command.Command.TheVariants.{Select, Insert, InsertOr, Update, Delete}
 use Rattle.sql_schema.specs.declared.layout.Layout.{Layout}
 use Rattle.sql_schema.specs.Schema.{matter_tree, matter_place, seat_tree, seat_place, entry_tree, entry_place, journal_tree, journal_place, firm_line_tree, firm_line_place, exception_tree, exception_place, balance_tree, balance_place}
 
@@ -285,6 +285,66 @@ head_write_terms = col 0 0 ∷ lit Null ∷ col 0 1 ∷ col 0 2 ∷ col 0 3 ∷ 
 abbrev pub head_write_command : Layout → Command
 head_write_command l = InsertOr (matter_place l) Replace (Values head_write_terms 14) []
 
+abbrev pub totals_write_text : List ℕ
+totals_write_text = codes "UPDATE matter_v2 SET last = ?2, entries = ?3, held = ?4, available = ?5, disputed = ?6, fees = ?7, claims = ?8, pending = ?9 WHERE no = ?1"
+
+abbrev pub totals_write_query : Layout → Query
+totals_write_query l = record {
+  from = inner (matter_tree l) end;
+  filter = op2 (Compare Eq Binary) (col 1 0) (col 0 0) ∷ [];
+  group = None;
+  project = col 1 0 ∷ col 1 0 ∷ lit Null ∷ col 1 2 ∷ col 1 3 ∷ col 1 4 ∷ col 0 1 ∷ col 0 2 ∷ col 0 3 ∷ col 0 4 ∷
+      col 0 5 ∷ col 0 6 ∷ col 0 7 ∷ col 0 8 ∷ col 1 13 ∷ [];
+  distinct = false;
+  collations = [];
+  order = [];
+  limit = lit (Int (negsuc 0));
+  offset = lit (Int (pos 0));
+}
+
+abbrev pub totals_write_command : Layout → Command
+totals_write_command l = Update (matter_place l) (record { lets = []; body = totals_write_query l })
+
+abbrev pub closed_write_text : List ℕ
+closed_write_text = codes "UPDATE matter_v2 SET closed = ?2 WHERE no = ?1"
+
+abbrev pub closed_write_query : Layout → Query
+closed_write_query l = record {
+  from = inner (matter_tree l) end;
+  filter = op2 (Compare Eq Binary) (col 1 0) (col 0 0) ∷ [];
+  group = None;
+  project = col 1 0 ∷ col 1 0 ∷ lit Null ∷ col 1 2 ∷ col 1 3 ∷ col 0 1 ∷ col 1 5 ∷ col 1 6 ∷ col 1 7 ∷ col 1 8 ∷
+      col 1 9 ∷ col 1 10 ∷ col 1 11 ∷ col 1 12 ∷ col 1 13 ∷ [];
+  distinct = false;
+  collations = [];
+  order = [];
+  limit = lit (Int (negsuc 0));
+  offset = lit (Int (pos 0));
+}
+
+abbrev pub closed_write_command : Layout → Command
+closed_write_command l = Update (matter_place l) (record { lets = []; body = closed_write_query l })
+
+abbrev pub purged_write_text : List ℕ
+purged_write_text = codes "UPDATE matter_v2 SET client = '', purged = ?2 WHERE no = ?1"
+
+abbrev pub purged_write_query : Layout → Query
+purged_write_query l = record {
+  from = inner (matter_tree l) end;
+  filter = op2 (Compare Eq Binary) (col 1 0) (col 0 0) ∷ [];
+  group = None;
+  project = col 1 0 ∷ col 1 0 ∷ lit Null ∷ lit (Text []) ∷ col 1 3 ∷ col 1 4 ∷ col 1 5 ∷ col 1 6 ∷ col 1 7 ∷ col 1 8 ∷
+      col 1 9 ∷ col 1 10 ∷ col 1 11 ∷ col 1 12 ∷ col 0 1 ∷ [];
+  distinct = false;
+  collations = [];
+  order = [];
+  limit = lit (Int (negsuc 0));
+  offset = lit (Int (pos 0));
+}
+
+abbrev pub purged_write_command : Layout → Command
+purged_write_command l = Update (matter_place l) (record { lets = []; body = purged_write_query l })
+
 abbrev pub entry_write_text : List ℕ
 entry_write_text = codes "INSERT OR REPLACE INTO entry_v2 (matter, no, kind, day, amount, state, fund, of_no, text_a, text_b, text_c, day_done, day_undone, day_bank, bank_ref, part, left_now) VALUES (?1, ?2, ?3, ?4, ?5, ?6, ?7, ?8, ?9, ?10, ?11, ?12, ?13, ?14, ?15, ?16, ?17)"
 
@@ -294,6 +354,26 @@ entry_write_terms = lit Null ∷ col 0 0 ∷ col 0 1 ∷ col 0 2 ∷ col 0 3 ∷
 
 abbrev pub entry_write_command : Layout → Command
 entry_write_command l = InsertOr (entry_place l) Replace (Values entry_write_terms 18) []
+
+abbrev pub left_write_text : List ℕ
+left_write_text = codes "UPDATE entry_v2 SET left_now = ?3 WHERE matter = ?1 AND no = ?2"
+
+abbrev pub left_write_query : Layout → Query
+left_write_query l = record {
+  from = inner (entry_tree l) end;
+  filter = op2 (Compare Eq Binary) (col 1 1) (col 0 0) ∷ op2 (Compare Eq Binary) (col 1 2) (col 0 1) ∷ [];
+  group = None;
+  project = col 1 0 ∷ col 1 0 ∷ col 1 1 ∷ col 1 2 ∷ col 1 3 ∷ col 1 4 ∷ col 1 5 ∷ col 1 6 ∷ col 1 7 ∷ col 1 8 ∷
+      col 1 9 ∷ col 1 10 ∷ col 1 11 ∷ col 1 12 ∷ col 1 13 ∷ col 1 14 ∷ col 1 15 ∷ col 1 16 ∷ col 0 2 ∷ [];
+  distinct = false;
+  collations = [];
+  order = [];
+  limit = lit (Int (negsuc 0));
+  offset = lit (Int (pos 0));
+}
+
+abbrev pub left_write_command : Layout → Command
+left_write_command l = Update (entry_place l) (record { lets = []; body = left_write_query l })
 
 abbrev pub seat_insert_text : List ℕ
 seat_insert_text = codes "INSERT INTO seat_v2 (matter, person, role) VALUES (?1, ?2, ?3)"

@@ -1,6 +1,6 @@
-//! The columns of each table, as they are given. Texts are any bytes.
+//! The columns of each table, as the code passes them. Texts are any bytes.
 
-/// The columns of a head. The rowid is its number.
+/// The columns of a matter's head. Its number is the rowid.
 #[derive(Clone, Copy)]
 pub struct HeadColumns<'a> {
     pub no: i64,
@@ -16,6 +16,27 @@ pub struct HeadColumns<'a> {
     pub claims: i64,
     pub pending: i64,
     pub purged: i64,
+}
+
+/// The columns of a head that each change of its matter sets: the last day and the totals.
+#[derive(Clone, Copy)]
+pub struct TotalsColumns {
+    pub no: i64,
+    pub last: i64,
+    pub entries: i64,
+    pub held: i64,
+    pub available: i64,
+    pub disputed: i64,
+    pub fees: i64,
+    pub claims: i64,
+    pub pending: i64,
+}
+
+/// A matter, and a day to set in its head.
+#[derive(Clone, Copy)]
+pub struct MatterDay {
+    pub matter: i64,
+    pub day: i64,
 }
 
 /// The columns of a seat.
@@ -48,7 +69,15 @@ pub struct EntryColumns<'a> {
     pub left_now: i64,
 }
 
-/// The columns of a movement. The table counts their order up by itself.
+/// The matter and number of an entry, and what is left of it.
+#[derive(Clone, Copy)]
+pub struct LeftColumns {
+    pub matter: i64,
+    pub no: i64,
+    pub left_now: i64,
+}
+
+/// The columns of a movement. The table numbers its rows itself.
 #[derive(Clone, Copy)]
 pub struct MovementColumns {
     pub matter: i64,
@@ -57,7 +86,7 @@ pub struct MovementColumns {
     pub amount: i64,
 }
 
-/// The columns of a line of the firm's own ledger. The table counts their order up by itself.
+/// The columns of a line of the firm's own ledger. The table numbers its rows itself.
 #[derive(Clone, Copy)]
 pub struct FirmLineColumns<'a> {
     pub day: i64,
@@ -66,7 +95,7 @@ pub struct FirmLineColumns<'a> {
     pub text: &'a [u8],
 }
 
-/// The columns of a line of the bank that matched nothing.
+/// The columns of a bank line that matched nothing.
 #[derive(Clone, Copy)]
 pub struct ExceptionColumns<'a> {
     pub day: i64,
@@ -76,7 +105,7 @@ pub struct ExceptionColumns<'a> {
     pub text: &'a [u8],
 }
 
-/// The columns of a balance.
+/// The columns of an opening or closing balance.
 #[derive(Clone, Copy)]
 pub struct BalanceColumns {
     pub kind: i64,
@@ -84,7 +113,7 @@ pub struct BalanceColumns {
     pub amount: i64,
 }
 
-/// What names a seat.
+/// The matter and person that identify a seat.
 #[derive(Clone, Copy)]
 pub struct SeatName<'a> {
     pub matter: i64,

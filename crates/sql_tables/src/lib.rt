@@ -1,5 +1,5 @@
-//! The rows of a book's tables, as columns: what is written, all of it or nothing, and what is read. Nothing here knows
-//! what a column means.
+//! The rows of a book's tables, as columns: writes them, all or nothing, and reads them. Nothing here knows what a
+//! column means.
 #![tactic(auto)]
 
 pub mod columns;
@@ -7,7 +7,7 @@ pub mod reads;
 pub mod statements;
 
 pub use columns::{
-    BalanceColumns, EntryColumns, ExceptionColumns, FirmLineColumns, HeadColumns, MovementColumns,
-    SeatColumns, SeatName,
+    BalanceColumns, EntryColumns, ExceptionColumns, FirmLineColumns, HeadColumns, LeftColumns,
+    MatterDay, MovementColumns, SeatColumns, SeatName, TotalsColumns,
 };
 pub use statements::{Statement, write};

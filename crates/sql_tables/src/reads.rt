@@ -1,8 +1,8 @@
-//! Queries, each the rows of its table that it shows: a value for each column that it names, in that order. Each asks
-//! that no transaction is open, and holds all its rows in memory at once. Where the tables do not stand nothing is said
-//! of the rows. Whatever the tables are, a query changes nothing, also for a crash, and one that answers leaves the
-//! connection open. An error comes where memory is refused, the store fails or a limit on steps is reached; it leaves a
-//! connection that stays open as it was.
+//! Queries. Each returns the rows of its table that it selects, with one value for each column that it names, in that
+//! order, all in memory at once. No transaction may be open. If the tables do not stand, nothing is promised of the
+//! rows. A query never changes anything, not even what a crash may leave, and if it returns `Ok` the connection is
+//! open. It fails if memory runs out, the store fails or a step limit is reached; a connection that stays open is
+//! then as it was.
 
 ghost use Rattle.std.specs.Prelude.{◌≡◌, false, map, filter, take};
 ghost use Rattle.sqlite.specs.Held.{state};
@@ -19,7 +19,7 @@ ghost use Rattle.sql_tables.specs.Rows.{balance_shown, balance_values, balance_c
 use sqlite::{Alter, Connection, Error, Row};
 use sqlite_value::value::ValueRef;
 
-// Asks one text.
+// Runs one query.
 fn ask<S: Alter>(
     conn: &mut Connection<S>,
     sql: &str,
@@ -30,12 +30,12 @@ fn ask<S: Alter>(
     ensures asked { IsAsked result (λ rows. rows.items) sql.now (bound params.now)
         (state S.Store conn.old) (state S.Store conn.new) }
 {
-    // Outside a transaction what is seen is what was committed, so going back to the commit changes nothing.
+    // Outside a transaction, what is seen is what was committed, so going back to the commit changes nothing.
     let _settled = conn.is_autocommit();
     conn.query_all(sql, params)
 }
 
-/// The columns of the head of a number but the number, if there is one.
+/// Returns the columns of the head with this number, except the number itself; no row if no such head exists.
 pub fn head_rows<S: Alter>(conn: &mut Connection<S>, no: i64) -> Result<Vec<Row>, Error>
     requires { conn.old.in_transaction ≡ false }
     ensures mode { conn.new.in_transaction ≡ false }
@@ -51,7 +51,8 @@ pub fn head_rows<S: Alter>(conn: &mut Connection<S>, no: i64) -> Result<Vec<Row>
     )
 }
 
-/// The columns of the first head behind a number, the number last, if there is one.
+/// Returns the columns of the first head with a number greater than `after`, the number last; no row if there is
+/// none.
 pub fn next_head_rows<S: Alter>(conn: &mut Connection<S>, after: i64) -> Result<Vec<Row>, Error>
     requires { conn.old.in_transaction ≡ false }
     ensures mode { conn.new.in_transaction ≡ false }
@@ -67,7 +68,7 @@ pub fn next_head_rows<S: Alter>(conn: &mut Connection<S>, after: i64) -> Result<
     )
 }
 
-/// The numbers of all heads, in order.
+/// Returns the numbers of all heads, in order.
 pub fn head_number_rows<S: Alter>(conn: &mut Connection<S>) -> Result<Vec<Row>, Error>
     requires { conn.old.in_transaction ≡ false }
     ensures mode { conn.new.in_transaction ≡ false }
@@ -78,7 +79,7 @@ pub fn head_number_rows<S: Alter>(conn: &mut Connection<S>) -> Result<Vec<Row>, 
     ask(conn, "SELECT no FROM matter_v2 ORDER BY no", &[])
 }
 
-/// The persons and roles of a matter, by person.
+/// Returns the persons and roles of a matter, by person.
 pub fn seat_rows<S: Alter>(conn: &mut Connection<S>, matter: i64) -> Result<Vec<Row>, Error>
     requires { conn.old.in_transaction ≡ false }
     ensures mode { conn.new.in_transaction ≡ false }
@@ -93,7 +94,7 @@ pub fn seat_rows<S: Alter>(conn: &mut Connection<S>, matter: i64) -> Result<Vec<
     )
 }
 
-/// The columns of the entry of a number of a matter but these two, if there is one.
+/// Returns the columns of an entry, except its matter and number; no row if no such entry exists.
 pub fn entry_rows<S: Alter>(
     conn: &mut Connection<S>,
     matter: i64,
@@ -114,7 +115,7 @@ pub fn entry_rows<S: Alter>(
     )
 }
 
-/// The columns of the entries of a matter but the matter, by number.
+/// Returns the columns of all entries of a matter, except the matter, by number.
 pub fn numbered_rows<S: Alter>(conn: &mut Connection<S>, matter: i64) -> Result<Vec<Row>, Error>
     requires { conn.old.in_transaction ≡ false }
     ensures mode { conn.new.in_transaction ≡ false }
@@ -131,7 +132,7 @@ pub fn numbered_rows<S: Alter>(conn: &mut Connection<S>, matter: i64) -> Result<
     )
 }
 
-/// The amount of the balance of a kind and day, if there is one.
+/// Returns the amount of the balance of a kind and day; no row if none is stored.
 pub fn balance_rows<S: Alter>(
     conn: &mut Connection<S>,
     kind: i64,
@@ -150,7 +151,7 @@ pub fn balance_rows<S: Alter>(
     )
 }
 
-/// The columns of all movements, in order.
+/// Returns the columns of all movements, in order.
 pub fn movement_rows<S: Alter>(conn: &mut Connection<S>) -> Result<Vec<Row>, Error>
     requires { conn.old.in_transaction ≡ false }
     ensures mode { conn.new.in_transaction ≡ false }
@@ -165,7 +166,7 @@ pub fn movement_rows<S: Alter>(conn: &mut Connection<S>) -> Result<Vec<Row>, Err
     )
 }
 
-/// The columns of all lines of the firm, in order.
+/// Returns the columns of all lines of the firm's own ledger, in order.
 pub fn firm_line_rows<S: Alter>(conn: &mut Connection<S>) -> Result<Vec<Row>, Error>
     requires { conn.old.in_transaction ≡ false }
     ensures mode { conn.new.in_transaction ≡ false }
@@ -180,7 +181,7 @@ pub fn firm_line_rows<S: Alter>(conn: &mut Connection<S>) -> Result<Vec<Row>, Er
     )
 }
 
-/// The columns of all exceptions, by all columns.
+/// Returns the columns of all exceptions, ordered by all columns.
 pub fn exception_rows<S: Alter>(conn: &mut Connection<S>) -> Result<Vec<Row>, Error>
     requires { conn.old.in_transaction ≡ false }
     ensures mode { conn.new.in_transaction ≡ false }
@@ -196,7 +197,7 @@ pub fn exception_rows<S: Alter>(conn: &mut Connection<S>) -> Result<Vec<Row>, Er
     )
 }
 
-/// The columns of all balances, by kind and then by day.
+/// Returns the columns of all balances, by kind and then by day.
 pub fn all_balance_rows<S: Alter>(conn: &mut Connection<S>) -> Result<Vec<Row>, Error>
     requires { conn.old.in_transaction ≡ false }
     ensures mode { conn.new.in_transaction ≡ false }

@@ -1,4 +1,4 @@
-//! Statements that write, and a list of them in one transaction.
+//! SQL statements that write, alone and as a list in one transaction.
 
 ghost use Rattle.std.specs.Prelude.{◌≡◌, ◌≢◌, false, [], ◌∷◌, OnOk, OnErr, IsTrue};
 ghost use Rattle.sqlite_value.specs.declared.value.Value.TheVariants.{Int, Text};
@@ -9,7 +9,7 @@ ghost use Rattle.sql_schema.specs.declared.layout.Layout.{Layout};
 ghost use Rattle.sql_tables.specs.Given.{head_given, seat_given, entry_given, movement_given};
 ghost use Rattle.sql_tables.specs.Given.{firm_line_given, exception_given, balance_given};
 ghost use Rattle.sql_tables.specs.Reading.{LeavesOnly};
-ghost use Rattle.sql_tables.specs.Rows.{head_values, seat_values, entry_values, movement_values};
+ghost use Rattle.sql_tables.specs.Rows.{head_values, totals_values, seat_values, entry_values, movement_values};
 ghost use Rattle.sql_tables.specs.Rows.{firm_line_values, exception_values, balance_values};
 ghost use Rattle.sql_tables.specs.Script.{call_of, calls_of, Changes, RanInside, RanAll, IsSettled, Written};
 ghost use Rattle.sql_tables.specs.Performing.{IsPerformed, KeepsCommit};
@@ -18,34 +18,43 @@ ghost use Rattle.sql_tables.specs.Texts.{balance_insert_text, entry_write_text, 
 ghost use Rattle.sql_tables.specs.Texts.{exception_insert_text};
 ghost use Rattle.sql_tables.specs.Texts.{firm_insert_text, head_write_text, journal_insert_text, purge_entries_text};
 ghost use Rattle.sql_tables.specs.Texts.{purge_journal_text, purge_seats_text, seat_delete_text, seat_insert_text};
+ghost use Rattle.sql_tables.specs.Texts.{totals_write_text, closed_write_text, purged_write_text, left_write_text};
 
 use crate::columns::{
-    BalanceColumns, EntryColumns, ExceptionColumns, FirmLineColumns, HeadColumns, MovementColumns,
-    SeatColumns, SeatName,
+    BalanceColumns, EntryColumns, ExceptionColumns, FirmLineColumns, HeadColumns, LeftColumns,
+    MatterDay, MovementColumns, SeatColumns, SeatName, TotalsColumns,
 };
 use sqlite::{Alter, Connection, Error, Transaction};
 use sqlite_value::value::ValueRef;
 
-/// A statement that writes: what is in its table afterwards.
+/// An SQL statement that writes. Each variant says what its table holds afterwards.
 #[derive(Clone, Copy)]
 pub enum Statement<'a> {
-    /// A head, in place of the one that has its number.
+    /// This head, replacing the one that has its number, if any.
     Head(HeadColumns<'a>),
-    /// A seat, behind the others.
+    /// The head of that number with this last day and these totals, if it exists.
+    Totals(TotalsColumns),
+    /// The head of that matter, closed on this day, if it exists.
+    Closed(MatterDay),
+    /// The head of that matter, purged on this day and so without its client, if it exists.
+    Purged(MatterDay),
+    /// This seat, after the others.
     Seat(SeatColumns<'a>),
     /// No seat of this person in this matter.
     SeatGone(SeatName<'a>),
-    /// An entry, in place of the one that has its number in its matter.
+    /// This entry, replacing the one that has its number in its matter, if any.
     Entry(EntryColumns<'a>),
-    /// A movement, behind the others.
+    /// The entry of that number of that matter, with this left of it, if it exists.
+    Left(LeftColumns),
+    /// This movement, after the others.
     Movement(MovementColumns),
-    /// A line of the firm, behind the others.
+    /// This line of the firm's own ledger, after the others.
     FirmLine(FirmLineColumns<'a>),
-    /// An exception, behind the others, where it is not among them.
+    /// This exception, after the others, unless it is already among them.
     Exception(ExceptionColumns<'a>),
-    /// No exception that is this line.
+    /// No exception equal to this line.
     ExceptionGone(ExceptionColumns<'a>),
-    /// A balance, behind the others. One of its kind and day must not be there: that is an error.
+    /// This balance, after the others. It is an error if one of its kind and day is already stored.
     Balance(BalanceColumns),
     /// No seat of this matter.
     SeatsGone(i64),
@@ -81,6 +90,56 @@ fn put_head<S: Alter>(tx: &mut Transaction<'_, S>, h: HeadColumns<'_>) -> Result
             ValueRef::Int(h.pending),
             ValueRef::Int(h.purged),
         ],
+    )
+}
+
+fn put_totals<S: Alter>(tx: &mut Transaction<'_, S>, t: TotalsColumns) -> Result<usize, Error>
+    ensures same_reference { tx.new.conn.ghost_name ≡ tx.old.conn.ghost_name }
+    ensures ran { IsPerformed totals_write_text (totals_values t) result
+        (state S.Store tx.old.conn.now) (state S.Store tx.new.conn.now) }
+    ensures changes { Changes (Statement.Totals t) result
+        (state S.Store tx.old.conn.now) (state S.Store tx.new.conn.now) }
+{
+    tx.execute(
+        "UPDATE matter_v2 SET last = ?2, entries = ?3, held = ?4, available = ?5, disputed = ?6, \
+         fees = ?7, claims = ?8, pending = ?9 WHERE no = ?1",
+        &[
+            ValueRef::Int(t.no),
+            ValueRef::Int(t.last),
+            ValueRef::Int(t.entries),
+            ValueRef::Int(t.held),
+            ValueRef::Int(t.available),
+            ValueRef::Int(t.disputed),
+            ValueRef::Int(t.fees),
+            ValueRef::Int(t.claims),
+            ValueRef::Int(t.pending),
+        ],
+    )
+}
+
+fn put_closing<S: Alter>(tx: &mut Transaction<'_, S>, c: MatterDay) -> Result<usize, Error>
+    ensures same_reference { tx.new.conn.ghost_name ≡ tx.old.conn.ghost_name }
+    ensures ran { IsPerformed closed_write_text (Int c.matter ∷ Int c.day ∷ []) result
+        (state S.Store tx.old.conn.now) (state S.Store tx.new.conn.now) }
+    ensures changes { Changes (Statement.Closed c) result
+        (state S.Store tx.old.conn.now) (state S.Store tx.new.conn.now) }
+{
+    tx.execute(
+        "UPDATE matter_v2 SET closed = ?2 WHERE no = ?1",
+        &[ValueRef::Int(c.matter), ValueRef::Int(c.day)],
+    )
+}
+
+fn put_purge<S: Alter>(tx: &mut Transaction<'_, S>, c: MatterDay) -> Result<usize, Error>
+    ensures same_reference { tx.new.conn.ghost_name ≡ tx.old.conn.ghost_name }
+    ensures ran { IsPerformed purged_write_text (Int c.matter ∷ Int c.day ∷ []) result
+        (state S.Store tx.old.conn.now) (state S.Store tx.new.conn.now) }
+    ensures changes { Changes (Statement.Purged c) result
+        (state S.Store tx.old.conn.now) (state S.Store tx.new.conn.now) }
+{
+    tx.execute(
+        "UPDATE matter_v2 SET client = '', purged = ?2 WHERE no = ?1",
+        &[ValueRef::Int(c.matter), ValueRef::Int(c.day)],
     )
 }
 
@@ -142,6 +201,23 @@ fn put_entry<S: Alter>(tx: &mut Transaction<'_, S>, e: EntryColumns<'_>) -> Resu
             ValueRef::Int(e.day_bank),
             ValueRef::Text(e.bank_ref),
             ValueRef::Int(e.part),
+            ValueRef::Int(e.left_now),
+        ],
+    )
+}
+
+fn put_left<S: Alter>(tx: &mut Transaction<'_, S>, e: LeftColumns) -> Result<usize, Error>
+    ensures same_reference { tx.new.conn.ghost_name ≡ tx.old.conn.ghost_name }
+    ensures ran { IsPerformed left_write_text (Int e.matter ∷ Int e.no ∷ Int e.left_now ∷ []) result
+        (state S.Store tx.old.conn.now) (state S.Store tx.new.conn.now) }
+    ensures changes { Changes (Statement.Left e) result
+        (state S.Store tx.old.conn.now) (state S.Store tx.new.conn.now) }
+{
+    tx.execute(
+        "UPDATE entry_v2 SET left_now = ?3 WHERE matter = ?1 AND no = ?2",
+        &[
+            ValueRef::Int(e.matter),
+            ValueRef::Int(e.no),
             ValueRef::Int(e.left_now),
         ],
     )
@@ -288,7 +364,7 @@ fn remove_movements<S: Alter>(tx: &mut Transaction<'_, S>, matter: i64) -> Resul
     )
 }
 
-// Runs one statement.
+// Runs one SQL statement.
 fn perform<S: Alter>(tx: &mut Transaction<'_, S>, statement: Statement<'_>) -> Result<usize, Error>
     ensures same_reference { tx.new.conn.ghost_name ≡ tx.old.conn.ghost_name }
     ensures ran { IsPerformed (call_of statement.entry).text (call_of statement.entry).params result
@@ -296,9 +372,13 @@ fn perform<S: Alter>(tx: &mut Transaction<'_, S>, statement: Statement<'_>) -> R
 {
     match statement {
         Statement::Head(h) => put_head(tx, h),
+        Statement::Totals(t) => put_totals(tx, t),
+        Statement::Closed(c) => put_closing(tx, c),
+        Statement::Purged(c) => put_purge(tx, c),
         Statement::Seat(s) => add_seat(tx, s),
         Statement::SeatGone(s) => remove_seat(tx, s),
         Statement::Entry(e) => put_entry(tx, e),
+        Statement::Left(e) => put_left(tx, e),
         Statement::Movement(m) => add_movement(tx, m),
         Statement::FirmLine(f) => add_firm_line(tx, f),
         Statement::Exception(e) => note_exception(tx, e),
@@ -310,7 +390,7 @@ fn perform<S: Alter>(tx: &mut Transaction<'_, S>, statement: Statement<'_>) -> R
     }
 }
 
-// Runs statements in turn, up to one that fails.
+// Runs SQL statements in turn, stopping at the first that fails.
 fn perform_all<S: Alter>(tx: &mut Transaction<'_, S>, script: &[Statement<'_>]) -> Result<(), Error>
     ensures same_reference { tx.new.conn.ghost_name ≡ tx.old.conn.ghost_name }
     ensures ok { HasCleanDisk (state S.Store tx.new.conn.now)
@@ -331,7 +411,8 @@ fn perform_all<S: Alter>(tx: &mut Transaction<'_, S>, script: &[Statement<'_>]) 
     Ok(())
 }
 
-// Runs statements in turn in one transaction, all or none, also over a crash. The commit is the last call of the store.
+// Runs SQL statements in turn in one transaction: all or none, even after a crash. The commit is the last call of the
+// store.
 fn write_all<S: Alter>(conn: &mut Connection<S>, script: &[Statement<'_>]) -> Result<(), Error>
     requires { (state S.Store conn.old).in_transaction ≡ false }
     ensures outside { (state S.Store conn.new).in_transaction ≡ false }
@@ -356,10 +437,12 @@ fn write_all<S: Alter>(conn: &mut Connection<S>, script: &[Statement<'_>]) -> Re
     tx.commit()
 }
 
-/// Writes in one transaction, all or nothing, also over a crash: where the tables stand in a layout, on Ok each
-/// statement has made its change in turn, they stand, and a crash leaves nothing else. An Ok leaves the connection
-/// open. The commit is the last call of the store. An error of a connection that stays open changes nothing; one that
-/// shuts it may leave the rows before or those with the change. Asks that no transaction is open.
+/// Runs SQL statements in one transaction: all or nothing, even after a crash. No transaction may be open.
+///
+/// If the tables stand in a layout and `write` returns `Ok`, each SQL statement has made its change in turn, the
+/// tables stand, and a crash leaves nothing else. After `Ok` the connection is open. The commit is the last call of
+/// the store. After an error, a connection that is still open is unchanged; if the error closed it, a crash may leave
+/// the rows before the change or after it.
 pub fn write<S: Alter>(conn: &mut Connection<S>, script: &[Statement<'_>]) -> Result<(), Error>
     requires { (state S.Store conn.old).in_transaction ≡ false }
     ensures outside { (state S.Store conn.new).in_transaction ≡ false }
@@ -374,7 +457,7 @@ pub fn write<S: Alter>(conn: &mut Connection<S>, script: &[Statement<'_>]) -> Re
         × ((state S.Store conn.new).committed ≡ (state S.Store conn.old).committed)) }
     ensures was_clean { HasCleanDisk (state S.Store conn.new) → HasCleanDisk (state S.Store conn.old) }
 
-    // A connection that was shut leaves nothing new.
+    // A connection that was already closed leaves nothing new.
     ensures opened { HasCleanDisk (state S.Store conn.new) → script.now ≢ []
         → LeavesOnly (state S.Store conn.old) (state S.Store conn.new)
         (λ _. IsTrue (state S.Store conn.old).is_open) }

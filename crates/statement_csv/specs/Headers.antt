@@ -7,11 +7,11 @@ use Rattle.std.specs.Str.{bytes_eq}
 abbrev pub header : List (List ℕ)
 header = codes "date" ∷ codes "reference" ∷ codes "bank_ref" ∷ codes "amount" ∷ codes "text" ∷ []
 
--- whether there is a field, with this name
+-- whether the field exists and is this name
 abbrev pub is_name : Option (List ℕ) → List ℕ → Bool
 is_name None name = false
 is_name (Some field) name = bytes_eq field name
 
--- whether the fields of a record are those names, one by one
+-- whether the fields of a record are exactly these names, in order
 abbrev pub is_header : List (List ℕ) → Bool
 is_header fields = pointwise bytes_eq fields header

@@ -1,4 +1,4 @@
--- Whose line a reference makes it.
+-- Who a line belongs to, by its reference.
 use Rattle.std.specs.Prelude.{◌==◌, ◌&&◌, ℕ, List, ◌∷◌, ◌++◌, length, slice_index, slice_range, Option, Some, None, if◌then◌else◌, option_and_then, option_map, codes}
 use Rattle.std.specs.Str.{bytes_eq}
 use Rattle.trust_base.specs.Texts.{entry_of, entry_text, matter_of, matter_text}
@@ -10,18 +10,18 @@ use Rattle.statement_csv.specs.declared.owner.LineOwner.TheVariants as owner
 abbrev pub named : ℕ → ℕ → NamedEntry
 named matter entry = record { matter = matter; entry = entry }
 
--- the entry whose matter and number these texts are
+-- the entry whose matter and number are written as these texts
 abbrev pub entry_of_texts : List ℕ → List ℕ → Option NamedEntry
 entry_of_texts matter entry = option_and_then (λ m. option_map (named m) (entry_of entry)) (matter_of matter)
 
--- the entry that a reference names: `M`, the six digits of the matter, `-` and the four digits of the entry
+-- the entry named by a reference: `M`, the six digits of the matter, `-` and the four digits of the entry
 unfoldable pub entry_named : List ℕ → Option NamedEntry
 entry_named reference =
     if (length reference == 12) && (slice_index reference 0 == 77) && (slice_index reference 7 == 45)
     then entry_of_texts (slice_range reference 1 7) (slice_range reference 8 12)
     else None
 
--- the owner by the entry named
+-- the owner, from the entry named
 abbrev pub owner_by : Option NamedEntry → LineOwner
 owner_by (Some entry) = owner.Entry entry
 owner_by None = owner.Nobody
@@ -30,7 +30,7 @@ owner_by None = owner.Nobody
 abbrev pub reference_text : ℕ → ℕ → List ℕ
 reference_text matter entry = 77 ∷ (matter_text matter ++ 45 ∷ entry_text entry)
 
--- whose a line is, by its reference
+-- who a line belongs to, by its reference
 unfoldable pub owner_of : List ℕ → LineOwner
 owner_of reference =
     if bytes_eq reference (codes "OPEN") then owner.Opening

@@ -1,14 +1,14 @@
-// Why no item comes.
+// Faults in reading a statement.
 
-/// Why no item comes.
+/// Why no item was returned.
 #[derive(Clone, Copy, PartialEq, Eq, Debug)]
 pub enum ReadFault {
-    /// The first record is not the header of a statement, or there is none.
+    /// The first record is not the header of a statement, or there is no record.
     BadHeader,
     /// The statement has more than 4,194,304 bytes.
     Limit,
-    /// A read failed, an interrupted one too.
+    /// A read failed. An interrupted read counts as failed.
     Reader,
-    /// A growth was refused.
+    /// Out of memory.
     Memory,
 }

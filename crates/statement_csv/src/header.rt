@@ -6,7 +6,7 @@ ghost use Rattle.statement_csv.specs.Headers.{is_header as header_test, is_name}
 
 use csv::ByteRecord;
 
-// Whether the field at this place is this name.
+// Whether the field at this index is this name.
 fn is_field(row: &ByteRecord, place: usize, name: &[u8]) -> bool
     ensures { result ≡ is_name (field_at (fields_of row.now) place) name.now }
 {

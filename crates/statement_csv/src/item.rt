@@ -11,24 +11,24 @@ use std::alloc::{AllocError, Global};
 use trust_base::Line;
 use trust_matter::BankLine;
 
-/// An item of a statement: what one record after the header stands for.
+/// What one record after the header of a statement means.
 #[derive(Debug)]
 pub enum Item {
     /// The balance at the start of a day: the reference is `OPEN`.
     Opening(Line),
     /// The balance at the end of a day: the reference is `CLOSE`.
     Closing(Line),
-    /// A line whose reference names an entry of a matter, as `M000001-0001`.
+    /// A line whose reference names an entry of a matter, such as `M000001-0001`.
     OfMatter(BankLine),
     /// A line of the firm's own money: the reference is `FIRM`.
     OfFirm(Line),
     /// A line with another reference.
     Stray(Line),
-    /// A record that is no line, by its number; the first record after the header has number 1.
+    /// A record that is not a line, with its number; the first record after the header has number 1.
     Unreadable(u64),
 }
 
-// By hand: one call at each way out of a function that holds an item.
+// Written by hand, so that a function that holds an item makes one call at each exit.
 impl Drop for Item {
     fn drop(self) {
         match self {
@@ -43,7 +43,7 @@ impl Drop for Item {
 }
 
 impl Item {
-    /// The line that it is, and none of a record that is no line.
+    /// The line that it is. None for an unreadable record.
     pub fn into_line(self) -> Option<Line>
         ensures { result ≡ line_in self }
     {
@@ -56,7 +56,7 @@ impl Item {
     }
 }
 
-// The item of a line, which stands in the record with this number.
+// The item of a line in record `number`.
 fn item_by_owner(line: Line, number: u64) -> Item
     ensures { result ≡ item_of_line number line }
 {
@@ -74,7 +74,7 @@ fn item_by_owner(line: Line, number: u64) -> Item
     }
 }
 
-/// The item of the record with this number. Fails only for want of memory.
+/// The item of record `number`. The only error is out of memory.
 #[tactic(auto, unfolding(crate::specs::Items::item_of))]
 pub fn read_item(alloc: Global, row: &ByteRecord, number: u64) -> Result<Item, AllocError>
     ensures { IfOk result (λ item. item ≡ item_of number (fields_of row.now)) }

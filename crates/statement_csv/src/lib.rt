@@ -1,4 +1,4 @@
-//! The items of a bank's statement, read record by record.
+//! The items of a bank statement, read record by record.
 #![tactic(auto)]
 
 mod fault;

@@ -1,4 +1,4 @@
-// A reader that stops at the greatest length of a statement.
+// A reader that stops at the length limit of a statement.
 
 ghost use Rattle.std.specs.Prelude.{◌≡◌, ◌↔◌, IsTrue, IfOk, OnErr, option_to_list, List, ℕ, Option, None};
 ghost use Rattle.std.specs.Io.KnownBytes.{Consumes, IsAtEnd, Keeps};
@@ -9,9 +9,9 @@ use std::io::{Error, ErrorKind, Read};
 use std::marker::{Brand, Model, PhantomData};
 use trust_base::MAX_FILE_BYTES;
 
-/// The bytes of a whole statement, as its reader tells them before the first read; none where nobody tells.
+/// The bytes of a whole statement, as its reader's contract gives them before the first read. None if they are unknown.
 ///
-/// A proof picks them at a call that passes `Brand`; without a pick none are told.
+/// A proof chooses them at a call that passes `Brand`. Without a choice they are unknown.
 pub trait Whole {
     ghost bytes: { Option (List ℕ) };
 }
@@ -22,12 +22,12 @@ impl Whole for Brand {
     ghost bytes = { None };
 }
 
-// How the reading goes.
+// How the reading stands.
 #[derive(Clone, Copy, PartialEq, Eq, Debug)]
 enum Course {
     // More bytes may come.
     Open,
-    // The reader ended.
+    // The inner reader ended.
     Ended,
     // This byte came after the last one that a statement may have.
     Longer(u8),
@@ -35,10 +35,10 @@ enum Course {
     Failed,
 }
 
-/// A reader of the bytes of a statement, of at most 4,194,304 bytes. At one byte more, and where a read of the
-/// reader underneath fails, it answers an error, and an error from then on with no further read.
+/// Reads a statement of at most 4,194,304 bytes. If one more byte comes, or a read of the inner reader fails, it
+/// returns an error, and from then on it returns errors without reading.
 ///
-/// Contracts see the bytes that are left, where the reader tells them, and how the reading goes.
+/// Contracts see the remaining bytes, if they are known, and how the reading stands.
 #[derive(Drop)]
 pub(crate) struct Limited<R: Read, K: Whole> {
     inner: R,
@@ -57,7 +57,7 @@ impl<R: Read, K: Whole> Model for Limited<R, K> {
     ghost invariant = { λ a. IsReading K.bytes (R.remaining a.inner) a.given a.course };
 }
 
-// The next byte of a reader, where it has not ended.
+// The next byte of a reader. None at its end.
 fn next_byte<R: Read>(inner: &mut R) -> io::Result<Option<u8>>
     ensures byte { IfOk result
         (λ next. Consumes (R.remaining inner.old) (R.remaining inner.new) (option_to_list next)) }
@@ -76,7 +76,7 @@ impl<R: Read, K: Whole> Limited<R, K> {
     ghost use Rattle.statement_csv.specs.declared.fault.ReadFault.TheVariants.{Limit};
     ghost use Rattle.statement_csv.specs.declared.limited.Course.TheVariants.{Ended, Open};
 
-    /// A reader of a statement of which nothing was read.
+    /// A reader of a statement from its start.
     pub(crate) fn new(inner: R) -> Limited<R, K>
         requires { Keeps K.bytes (R.remaining inner) }
         ensures left { result.left ≡ R.remaining inner }
@@ -90,7 +90,7 @@ impl<R: Read, K: Whole> Limited<R, K> {
         }
     }
 
-    /// Whether the reader ended within the greatest length. Whatever the answer, no byte beyond that was given.
+    /// Whether the inner reader ended within the length limit. In either case no byte past the limit was returned.
     pub(crate) fn has_ended(&self) -> bool
         ensures value { IsTrue result ↔ (self.now.course ≡ Ended) }
         ensures within { IsTrue result → IsWithin K.bytes }
@@ -99,8 +99,7 @@ impl<R: Read, K: Whole> Limited<R, K> {
         matches!(self.course, Course::Ended)
     }
 
-    /// Why the reading cannot go on: a byte came beyond the greatest length, a read failed, or else a growth was
-    /// refused.
+    /// Why reading cannot go on: a byte came past the length limit, a read failed, or otherwise memory ran out.
     pub(crate) fn cause(&self) -> ReadFault
         ensures value { result ≡ cause_of self.now.course }
         ensures limit { (result ≡ Limit) → IsTooLong K.bytes }

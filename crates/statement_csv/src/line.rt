@@ -8,14 +8,14 @@ use csv::ByteRecord;
 use std::alloc::{AllocError, Global};
 use trust_base::{BankAmount, BankText, Day, Line, LineText};
 
-// The field at a place, or an empty one.
+// The field at this index; empty if there is none.
 fn field(row: &ByteRecord, place: usize) -> &[u8]
     ensures { result.now ≡ get_or (fields_of row.now) place [] }
 {
     row.get(place).unwrap_or(&[])
 }
 
-/// The line of the texts of its five fields, where each is a text of its kind. The error is want of memory.
+/// The line from the texts of its five fields. None if any of them is invalid. The only error is out of memory.
 #[tactic(auto, unfolding(crate::specs::Lines::line_of_texts))]
 pub fn line_of_texts(
     alloc: Global,
@@ -51,7 +51,7 @@ pub fn line_of_texts(
     }))
 }
 
-/// The line of a record, where it is one.
+/// The line of a record. None if the record is not a line.
 pub(crate) fn read_line(alloc: Global, row: &ByteRecord) -> Result<Option<Line>, AllocError>
     ensures { IfOk result (λ line. line ≡ line_of (fields_of row.now)) }
 {

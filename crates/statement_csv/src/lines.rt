@@ -17,7 +17,7 @@ use std::alloc::Global;
 use std::io::Read;
 use std::marker::{Brand, Model};
 
-// How far the reading came.
+// How far the reading has come.
 #[derive(Clone, Copy, PartialEq, Eq, Debug)]
 enum Stage {
     // The header comes next.
@@ -30,10 +30,10 @@ enum Stage {
     Stopped(ReadFault),
 }
 
-/// The items of a statement, read record by record through `csv`. One record is kept, never the file.
+/// The items of a statement, read record by record through `csv`. It holds one record at a time, never the file.
 ///
-/// Contracts see the fault that ended the reading, whether the end was reached, and the items that are still to come
-/// where the reader tells its bytes. `K` names the whole statement in a proof, so that `next` can speak of its length.
+/// Contracts see the fault that ended the reading, whether the end was reached, and the remaining items if the reader's
+/// bytes are known. In a proof, `K` names the whole statement, so that `next` can speak about its length.
 pub struct Lines<R: Read, K: Whole = Brand> {
     alloc: Global,
     records: Reader<Limited<R, K>>,
@@ -52,7 +52,7 @@ impl<R: Read, K: Whole> Model for Lines<R, K> {
     ghost invariant = { λ a. IsSound K.bytes a.stage a.number a.records };
 }
 
-// One call, so that a caller's proof sees no field where it lets a value go.
+// A single call, so that a caller's proof sees no fields when a value is dropped.
 impl<R: Read + Drop, K: Whole> Drop for Lines<R, K> {
     fn drop(self) {
         let Self {
@@ -65,7 +65,7 @@ impl<R: Read + Drop, K: Whole> Drop for Lines<R, K> {
     }
 }
 
-// Reads the next record, and tells whether there was one.
+// Reads the next record. Returns whether there was one.
 fn read_row<R: Read, K: Whole>(
     records: &mut Reader<Limited<R, K>>,
     row: &mut ByteRecord,
@@ -83,14 +83,14 @@ fn read_row<R: Read, K: Whole>(
     let Ok(found) = records.read_byte_record(row) else {
         return Err(records.get_ref().cause());
     };
-    // `csv` finds no record only where its reader ended, but its contract does not say so.
+    // `csv` finds no record only if its reader ended, but its contract does not say so.
     if !records.get_ref().has_ended() && !found {
         return Err(records.get_ref().cause());
     }
     Ok(found)
 }
 
-// Reads the first record, which has to be the header.
+// Reads the first record, which must be the header.
 fn pass_header<R: Read, K: Whole>(
     records: &mut Reader<Limited<R, K>>,
     row: &mut ByteRecord,
@@ -111,7 +111,7 @@ fn pass_header<R: Read, K: Whole>(
     }
 }
 
-// Reads the next item, which has this number, after the header where that comes first.
+// Reads the next item, which has this number. Reads the header first if it is still to come.
 fn read_next<R: Read, K: Whole>(
     alloc: Global,
     records: &mut Reader<Limited<R, K>>,
@@ -147,7 +147,7 @@ fn read_next<R: Read, K: Whole>(
 impl<R: Read> Lines<R> {
     ghost use Rattle.statement_csv.specs.Items.{items};
 
-    /// The items of a statement of which nothing was read. Takes no memory.
+    /// The items of a statement, from its start. Allocates nothing.
     pub fn new(alloc: Global, reader: R) -> Lines<R>
         ensures fault { result.fault ≡ None }
         ensures is_ended { result.is_ended ≡ false }
@@ -161,7 +161,7 @@ impl<R: Read, K: Whole> Lines<R, K> {
     ghost use Rattle.statement_csv.specs.Items.{items};
     ghost use Rattle.statement_csv.specs.Reading.{Gives, GivesWithin, LacksHeader};
 
-    /// The same, where a proof names the statement's bytes by `K`. Takes no memory.
+    /// The same, if a proof names the statement's bytes by `K`. Allocates nothing.
     pub fn of_whole(alloc: Global, reader: R) -> Lines<R, K>
         requires { Keeps K.bytes (R.remaining reader) }
         ensures fault { result.fault ≡ None }
@@ -180,12 +180,13 @@ impl<R: Read, K: Whole> Lines<R, K> {
         }
     }
 
-    /// The next item, or none at the end and from then on. Where no item comes for a fault, the same fault is answered
-    /// from then on: `BadHeader` where the first record is not `date,reference,bank_ref,amount,text` or there is none,
-    /// `Limit` where a byte comes beyond 4,194,304, `Reader` where a read failed, `Memory` where a growth was refused.
-    /// Each item stands within the first 4,194,304 bytes.
+    /// Returns the next item, or None at the end and from then on. After a fault it returns the same fault from then
+    /// on: `BadHeader` if the first record is not `date,reference,bank_ref,amount,text` or is missing, `Limit` if there
+    /// is a byte past 4,194,304, `Reader` if a read failed, `Memory` if memory ran out. Every item lies within the
+    /// first 4,194,304 bytes.
     ///
-    /// No clause says that `Reader` and `Memory` come only there: `csv` tells nothing of its reader after an error.
+    /// No clause says that `Reader` and `Memory` occur only then: the contract of `csv` says nothing about its reader
+    /// after an error.
     pub fn next(&mut self) -> Result<Option<Item>, ReadFault>
         ensures next { IfOk result (λ found. Gives self.old.left self.new.left found) }
         ensures front { IfOk result (λ found. IsSome found → GivesWithin K.bytes self.new.left) }
@@ -217,7 +218,7 @@ impl<R: Read, K: Whole> Lines<R, K> {
                     self.stage = Stage::Items;
                     Ok(Some(item))
                 }
-                // Never: a statement has fewer records than bytes.
+                // Cannot happen: a statement has fewer records than bytes.
                 None => {
                     self.stage = Stage::Stopped(ReadFault::Memory);
                     Err(ReadFault::Memory)

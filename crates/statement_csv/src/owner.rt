@@ -1,4 +1,4 @@
-// Whose line a reference makes it.
+// Who a line belongs to, by its reference.
 
 ghost use Rattle.std.specs.Prelude.{◌≡◌, ◌≢◌, ℕ, IfNone, IfSome};
 ghost use Rattle.trust_base.specs.Limits.{IsEntryNo, IsMatterNo};
@@ -13,7 +13,7 @@ pub(crate) struct NamedEntry {
     pub(crate) entry: EntryNo,
 }
 
-/// Whose a line is.
+/// Who a line belongs to.
 #[derive(Clone, Copy, PartialEq, Eq, Debug)]
 pub(crate) enum LineOwner {
     /// The balance at the start of a day.
@@ -24,11 +24,11 @@ pub(crate) enum LineOwner {
     Firm,
     /// An entry of a matter.
     Entry(NamedEntry),
-    /// Nobody that is known here.
+    /// Nobody known here.
     Nobody,
 }
 
-// The entry that a reference names: `M`, the six digits of the matter, `-`, the four digits of the entry.
+// The entry named by a reference: `M`, the six digits of the matter, `-`, the four digits of the entry.
 #[tactic(auto, unfolding(crate::specs::References::entry_named))]
 fn read_named(reference: &[u8]) -> Option<NamedEntry>
     ensures value { result ≡ entry_named reference.now }
@@ -43,7 +43,7 @@ fn read_named(reference: &[u8]) -> Option<NamedEntry>
     Some(NamedEntry { matter, entry })
 }
 
-/// Whose a line with this reference is.
+/// Who a line with this reference belongs to.
 #[tactic(auto, unfolding(crate::specs::References::owner_of))]
 pub(crate) fn read_owner(reference: &[u8]) -> LineOwner
     ensures { result ≡ owner_of reference.now }

@@ -4,11 +4,11 @@ use Rattle.std.specs.List.{flat_map}
 use Rattle.trust_base.specs.declared.line.Line.{Line}
 use Rattle.firm_rows.specs.declared.ledger.FirmLine.{FirmLine}
 use Rattle.firm_rows.specs.Firm.{Firm, Row}
-use Rattle.statement_match.specs.Rule.{Held}
-use Rattle.statement_match.specs.Known.{Known}
+use Rattle.statement_lines.specs.Held.{Held}
+use Rattle.statement_lines.specs.Known.{Known}
+use Rattle.statement_lines.specs.declared.book_entry.BookEntry.{BookEntry}
 use Rattle.statement_match.specs.Books.{none_held, with_exception, with_own_line, with_row}
 use Rattle.statement_match.specs.Entries.{know_exception, know_own_line, know_row, known_of, none_known, row_entries}
-use Rattle.statement_match.specs.declared.book_entry.BookEntry.{BookEntry}
 use Rattle.statement_match.proofs.Collected.{all_kept}
 
 abbrev known_with : Held → List BookEntry → Known

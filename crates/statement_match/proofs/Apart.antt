@@ -23,10 +23,10 @@ use Rattle.firm_rows.specs.FirmSound.{FirmSound}
 use Rattle.firm_rows.proofs.Joined.{own-put}
 use Rattle.statement_csv.specs.References.{entry_named, named, reference_text}
 use Rattle.statement_csv.proofs.NamedFacts.{named-found}
-use Rattle.statement_match.specs.Waiting.{Waiting}
+use Rattle.statement_lines.specs.Waiting.{Waiting}
+use Rattle.statement_lines.proofs.Members.{filter_has, flat_map_from}
 use Rattle.statement_match.specs.Books.{deposit_waiting, entry_waiting, held_of, payment_waiting, row_waiting}
 use Rattle.statement_match.specs.FirmLaws.{HasMatterNumbers, NoneIsNamedTwiceByFirms, WaitApart}
-use Rattle.statement_match.proofs.Members.{filter_has, flat_map_from}
 use Rattle.statement_match.proofs.Writing.{none_is_named_twice}
 
 -- The rows of a matter.

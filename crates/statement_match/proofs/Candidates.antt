@@ -8,16 +8,16 @@ use Rattle.std.proofs.lemmas.Bool.{and_parts, eq-eqb}
 use Rattle.std.proofs.lemmas.Bool.Decides.{Decides-int_eq}
 use Rattle.std.proofs.lemmas.Slice.Eq.{bytes_eq-Decides}
 use Rattle.trust_base.specs.declared.line.Line.{Line}
-use Rattle.statement_match.specs.DaySums.{is_held}
-use Rattle.statement_match.specs.Keys.{amount_key, day_key, entry_key, reference_key, text_key}
-use Rattle.statement_match.specs.Lookups.{elements}
-use Rattle.statement_match.specs.Marks.{is_shown}
-use Rattle.statement_match.specs.Relations.{has_amount_back, has_its_amount, is_cleared, is_of_no_amount, is_waiting, names, stands}
-use Rattle.statement_match.specs.Showing.{fits, is_other_business, is_out, shows}
-use Rattle.statement_match.specs.declared.book_entry.BookEntry.{BookEntry}
-use Rattle.statement_match.specs.declared.relation.Relation.{Relation}
-use Rattle.statement_match.specs.declared.relation.Relation.TheVariants as relation
-use Rattle.statement_match.proofs.Found.{Narrows, filtered, filtered_kept}
+use Rattle.statement_lines.specs.EntryStates.{is_cleared, is_held, is_waiting}
+use Rattle.statement_lines.specs.Keys.{amount_key, day_key, entry_key, reference_key, text_key}
+use Rattle.statement_lines.specs.Lookups.{elements}
+use Rattle.statement_lines.specs.Marks.{is_shown}
+use Rattle.statement_lines.specs.Relations.{has_amount_back, has_its_amount, is_of_no_amount, names, stands}
+use Rattle.statement_lines.specs.Showing.{fits, is_other_business, is_out, shows}
+use Rattle.statement_lines.specs.declared.book_entry.BookEntry.{BookEntry}
+use Rattle.statement_lines.specs.declared.relation.Relation.{Relation}
+use Rattle.statement_lines.specs.declared.relation.Relation.TheVariants as relation
+use Rattle.statement_lines.proofs.Found.{Narrows, filtered, filtered_kept}
 use denote.Ref.{Bor}
 
 -- Of its amount.

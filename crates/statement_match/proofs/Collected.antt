@@ -4,9 +4,9 @@ use Rattle.std.specs.List.{flat_map}
 use Rattle.trust_base.specs.declared.line.Line.{Line}
 use Rattle.firm_rows.specs.declared.ledger.FirmLine.{FirmLine}
 use Rattle.firm_rows.specs.Firm.{Firm, Row}
-use Rattle.statement_match.specs.declared.booking.Booking.{Booking}
-use Rattle.statement_match.specs.Waiting.{Waiting}
-use Rattle.statement_match.specs.Rule.{Held}
+use Rattle.statement_lines.specs.declared.booking.Booking.{Booking}
+use Rattle.statement_lines.specs.Waiting.{Waiting}
+use Rattle.statement_lines.specs.Held.{Held}
 use Rattle.statement_match.specs.Books.{held_of, none_held, own_booking, row_bookings, row_waiting, with_exception, with_own_line, with_row}
 
 -- these three lists

@@ -3,11 +3,13 @@ use Rattle.std.proofs.Common.{◌≡◌, ◌∙◌, sym, ap, ℕ, ◌==◌, Bool
 use Rattle.std.specs.List.{count_by, find}
 use Rattle.std.proofs.lemmas.Bool.{and_parts, and_from, cond-true, cond-false, eqb-true, eq-eqb, not_from_false}
 use Rattle.trust_base.specs.declared.line.Line.{Line}
-use Rattle.statement_match.specs.Waiting.{Waiting}
-use Rattle.statement_match.specs.Showing.{fits}
-use Rattle.statement_match.specs.Rule.{Held, becomes, exception_reference, fill, filled_with, is_beside_booked, is_claimed, is_doubled, is_fitted_once, is_in_book, is_open, is_open_fit, unless_exception}
-use Rattle.statement_match.specs.declared.outcome.Outcome.{Outcome}
-use Rattle.statement_match.specs.declared.outcome.Outcome.TheVariants as outcome
+use Rattle.statement_lines.specs.Waiting.{Waiting}
+use Rattle.statement_lines.specs.Showing.{fits}
+use Rattle.statement_lines.specs.Held.{Held}
+use Rattle.statement_lines.specs.OpenLines.{exception_reference, is_claimed, is_open, is_open_fit}
+use Rattle.statement_lines.specs.declared.outcome.Outcome.{Outcome}
+use Rattle.statement_lines.specs.declared.outcome.Outcome.TheVariants as outcome
+use Rattle.statement_match.specs.Rule.{becomes, fill, filled_with, is_beside_booked, is_doubled, is_fitted_once, is_in_book, unless_exception}
 use Rattle.statement_match.specs.Laws.{IsSure, FillsWhatIsSure, FillsWithWaiting, TwoEntriesAreLeft, TwoLinesAreLeft}
 use Rattle.statement_match.proofs.Picks.{found_is_there, found_passes, is_the_one}
 

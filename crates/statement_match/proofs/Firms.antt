@@ -10,13 +10,13 @@ use Rattle.matter_rows.specs.declared.payment.PaymentState.TheVariants as paymen
 use Rattle.matter_rows.specs.declared.entry.Entry.TheVariants as entry
 use Rattle.firm_rows.specs.Firm.{EntryRow, Firm, HeadRow, Row, SeatRow}
 use Rattle.statement_csv.specs.References.{reference_text}
-use Rattle.statement_match.specs.Waiting.{Waiting}
+use Rattle.statement_lines.specs.Waiting.{Waiting}
+use Rattle.statement_lines.proofs.Members.{filter_has, flat_map_from, flat_map_has}
 use Rattle.statement_match.specs.Books.{deposit_waiting, held_of, own_booking, payment_waiting, row_bookings, row_waiting, with_matters}
 use Rattle.statement_match.specs.Laws.{HasLess, IsPart, NoneOf, With, Without}
 use Rattle.statement_match.specs.FirmLaws.{FilledWaits, IsHeldRow, IsIssuedRow, OtherMattersOnlyTakeAway}
 use Rattle.statement_match.proofs.Filling.{fills_with_waiting}
 use Rattle.statement_match.proofs.Less.{more_only_takes_away}
-use Rattle.statement_match.proofs.Members.{filter_has, flat_map_from, flat_map_has}
 
 -- Parts of lists.
 

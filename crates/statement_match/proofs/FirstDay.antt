@@ -8,9 +8,10 @@ use Rattle.std.proofs.lemmas.Bool.{and_parts, eq-eqb, eqb-true}
 use Rattle.std.proofs.lemmas.Bool.Decides.{nat_tests}
 use Rattle.std.proofs.lemmas.List.Kept.{AllPairs-from_increasing}
 use Rattle.std.proofs.lemmas.Option.{same_Some}
-use Rattle.statement_match.specs.DaySums.{are_together, day_sums, day_with, first_day, held_days, is_held, is_held_on, least, lesser, same_day, together_on}
-use Rattle.statement_match.specs.declared.book_entry.BookEntry.{BookEntry}
-use Rattle.statement_match.proofs.Members.{filter_from, filter_has, find_has, later, map_from}
+use Rattle.statement_lines.specs.EntryStates.{is_held, is_held_on}
+use Rattle.statement_lines.specs.declared.book_entry.BookEntry.{BookEntry}
+use Rattle.statement_lines.proofs.Members.{filter_from, filter_has, find_has, later, map_from}
+use Rattle.statement_match.specs.DaySums.{are_together, day_sums, day_with, first_day, held_days, least, lesser, same_day, together_on}
 use Rattle.statement_match.proofs.Picks.{found_passes}
 use denote.Ref.{Bor}
 

@@ -4,9 +4,10 @@ use Rattle.std.specs.List.{Contains}
 use Rattle.std.proofs.lemmas.Bool.{cases_order}
 use Rattle.std.proofs.lemmas.List.Elements.{Contains-append_cases, Contains-append_right}
 use Rattle.trust_base.specs.declared.line.Line.{Line}
-use Rattle.statement_match.specs.Rule.{Held, becomes}
-use Rattle.statement_match.specs.declared.outcome.Outcome.{Outcome}
-use Rattle.statement_match.specs.declared.outcome.Outcome.TheVariants as outcome
+use Rattle.statement_lines.specs.Held.{Held}
+use Rattle.statement_lines.specs.declared.outcome.Outcome.{Outcome}
+use Rattle.statement_lines.specs.declared.outcome.Outcome.TheVariants as outcome
+use Rattle.statement_match.specs.Rule.{becomes}
 use Rattle.statement_match.specs.Laws.{AreNamedApart, with_reference, written, written_as, written_of}
 use Rattle.statement_match.proofs.Writing.{none_is_named_twice}
 

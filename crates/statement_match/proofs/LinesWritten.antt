@@ -9,13 +9,15 @@ use Rattle.statement_csv.specs.Items.{item_of, item_of_line, items_from, line_in
 use Rattle.statement_csv.specs.Lines.{line_of, line_of_texts, line_with}
 use Rattle.statement_csv.specs.declared.item.Item.TheVariants as item
 use Rattle.statement_csv.proofs.ItemFacts.{known_line, open_line, same_line}
+use Rattle.statement_lines.specs.Records.{Rows, line_at, lines_from, records_of, rows_of}
+use Rattle.statement_lines.specs.Held.{Held}
+use Rattle.statement_lines.specs.OpenLines.{exception_reference, is_named_like, is_open}
+use Rattle.statement_lines.specs.Written.{named_row, row_as, rows_by}
+use Rattle.statement_lines.specs.declared.outcome.Outcome.{Outcome}
+use Rattle.statement_lines.specs.declared.outcome.Outcome.TheVariants as outcome
 use Rattle.statement_match.specs.Laws.{with_reference, written_as, written_of}
-use Rattle.statement_match.specs.Records.{Rows, line_at, lines_from, records_of, rows_of}
-use Rattle.statement_match.specs.Rule.{Held, becomes, exception_reference, is_named_like, is_open}
+use Rattle.statement_match.specs.Rule.{becomes}
 use Rattle.statement_match.specs.StatementLaws.{HasLinesWritten, HasReferences, IsReference}
-use Rattle.statement_match.specs.Statements.{named_row, row_as, rows_by}
-use Rattle.statement_match.specs.declared.outcome.Outcome.{Outcome}
-use Rattle.statement_match.specs.declared.outcome.Outcome.TheVariants as outcome
 use Rattle.statement_match.proofs.Filling.{fills_with_waiting}
 use Rattle.statement_match.proofs.Picks.{found_is_there}
 use Rattle.statement_match.proofs.ReadBack.{reads_back}

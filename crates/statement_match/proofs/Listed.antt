@@ -4,8 +4,8 @@ use Rattle.std.specs.List.{filter}
 use Rattle.std.proofs.lemmas.List.{map-append, take-append-le, take_all}
 use Rattle.std.proofs.lemmas.List.Elements.{filter_more}
 use Rattle.trust_base.specs.declared.line.Line.{Line}
-use Rattle.statement_match.specs.Waiting.{Waiting}
-use Rattle.statement_match.specs.Rule.{is_open_fit}
+use Rattle.statement_lines.specs.Waiting.{Waiting}
+use Rattle.statement_lines.specs.OpenLines.{is_open_fit}
 use Rattle.statement_match.specs.ReasonTexts.{fit_numbers}
 
 pub fit_numbers-cons : (today : ℕ) (w : Waiting) (numbers : List ℕ) (place : ℕ) (line : Line) (lines : List Line)

@@ -3,14 +3,14 @@ use Rattle.std.proofs.Common.{◌≡◌, ◌∙◌, sym, ap, ℕ, ◌+◌, ◌<�
 use Rattle.std.specs.List.{filter}
 use Rattle.std.proofs.lemmas.List.{at_drop_more, drop_all, map-append}
 use Rattle.trust_base.specs.declared.line.Line.{Line}
+use Rattle.statement_lines.specs.Keys.{amount_key, waiting_key}
+use Rattle.statement_lines.specs.Lookups.{elements}
+use Rattle.statement_lines.specs.OpenLines.{is_open_fit}
+use Rattle.statement_lines.specs.Waiting.{Waiting}
+use Rattle.statement_lines.proofs.Alike.{open_fit_narrows}
+use Rattle.statement_lines.proofs.Found.{filter_among}
 use Rattle.statement_match.specs.Grounds.{numbered, numbered_key, plain_pairs}
-use Rattle.statement_match.specs.Keys.{amount_key, waiting_key}
-use Rattle.statement_match.specs.Lookups.{elements}
 use Rattle.statement_match.specs.ReasonTexts.{fit_numbers}
-use Rattle.statement_match.specs.Rule.{is_open_fit}
-use Rattle.statement_match.specs.Waiting.{Waiting}
-use Rattle.statement_match.proofs.Alike.{open_fit_narrows}
-use Rattle.statement_match.proofs.Found.{filter_among}
 use Rattle.statement_match.proofs.Listed.{fit_numbers-cons, fit_numbers-nil}
 use denote.Ref.{Bor}
 

@@ -15,12 +15,13 @@ use Rattle.byte_streams.proofs.CsvRecords.{rest-more, rest-none}
 use Rattle.trust_base.specs.declared.line.Line.{Line}
 use Rattle.statement_csv.specs.Headers.{header}
 use Rattle.statement_csv.specs.Items.{items_after_header, items_from}
-use Rattle.statement_match.specs.Records.{Rows, line_at, lines_from, rows_of}
+use Rattle.statement_lines.specs.Records.{Rows, line_at, lines_from, rows_of}
+use Rattle.statement_lines.specs.Written.{named_row, row_as, rows_by, text_of}
+use Rattle.statement_lines.specs.declared.outcome.Outcome.{Outcome}
+use Rattle.statement_lines.specs.declared.outcome.Outcome.TheVariants as outcome
 use Rattle.statement_match.specs.Rule.{becomes}
 use Rattle.statement_match.specs.StatementLaws.{IsImported, ReadsBack}
-use Rattle.statement_match.specs.Statements.{named_row, row_as, rows_by, statement_text, text_of, written_rows}
-use Rattle.statement_match.specs.declared.outcome.Outcome.{Outcome}
-use Rattle.statement_match.specs.declared.outcome.Outcome.TheVariants as outcome
+use Rattle.statement_match.specs.Statements.{statement_text, written_rows}
 
 -- The records of a text that was written.
 

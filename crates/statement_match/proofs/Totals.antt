@@ -5,8 +5,8 @@ use Rattle.std.specs.List.{filter}
 use Rattle.std.proofs.lemmas.List.Elements.{filter_more}
 use Rattle.firm_rows.specs.Sums.{sum_of}
 use Rattle.firm_rows.proofs.Sums.{sum-append}
-use Rattle.statement_match.specs.declared.booking.Booking.{Booking}
-use Rattle.statement_match.specs.Bookings.{amount_if, total_of}
+use Rattle.statement_lines.specs.declared.booking.Booking.{Booking}
+use Rattle.statement_lines.specs.Bookings.{amount_if, total_of}
 
 total_of-append : (xs : List Booking) (b : Booking) → total_of (xs ++ b ∷ []) ≡ total_of xs +ℤ b.amount
 total_of-append [] b = omega (arith, ints)

@@ -11,16 +11,18 @@ use Rattle.std.proofs.lemmas.List.{get_or_default}
 use Rattle.std.proofs.lemmas.List.Sums.{length-filter}
 use Rattle.std.proofs.lemmas.Slice.Eq.{bytes_eq-Decides}
 use Rattle.trust_base.specs.declared.line.Line.{Line}
-use Rattle.statement_match.specs.declared.booking.Booking.{Booking}
-use Rattle.statement_match.specs.Bookings.{booking_of, is_beside, is_same_booking}
-use Rattle.statement_match.specs.Waiting.{Waiting}
-use Rattle.statement_match.specs.Showing.{fits}
-use Rattle.statement_match.specs.Rule.{Held, becomes, claimed_reference, exception_reference, fill, filled_with, is_beside_booked, is_booked, is_booked_in_parts, is_claimed, is_doubled, is_fitted_once, is_in_book, is_open, is_open_fit, is_open_like, unless_exception}
-use Rattle.statement_match.specs.declared.outcome.Outcome.{Outcome}
-use Rattle.statement_match.specs.declared.outcome.Outcome.TheVariants as outcome
+use Rattle.statement_lines.specs.declared.booking.Booking.{Booking}
+use Rattle.statement_lines.specs.Bookings.{booking_of, is_beside, is_same_booking}
+use Rattle.statement_lines.specs.Waiting.{Waiting}
+use Rattle.statement_lines.specs.Showing.{fits}
+use Rattle.statement_lines.specs.Held.{Held}
+use Rattle.statement_lines.specs.OpenLines.{claimed_reference, exception_reference, is_claimed, is_open, is_open_fit, is_open_like}
+use Rattle.statement_lines.specs.declared.outcome.Outcome.{Outcome}
+use Rattle.statement_lines.specs.declared.outcome.Outcome.TheVariants as outcome
+use Rattle.statement_lines.proofs.Members.{later}
+use Rattle.statement_match.specs.Rule.{becomes, fill, filled_with, is_beside_booked, is_booked, is_booked_in_parts, is_doubled, is_fitted_once, is_in_book, unless_exception}
 use Rattle.statement_match.specs.Laws.{IsSure, with_reference, written_as}
 use Rattle.statement_match.proofs.Filling.{becomes-is, fill-is, filled_if_sure}
-use Rattle.statement_match.proofs.Members.{later}
 use Rattle.statement_match.proofs.Picks.{found_passes, length_filter-cons, one_passes, two_pass}
 
 -- What another line is filled with.

@@ -7,11 +7,13 @@ use Rattle.std.proofs.lemmas.Bool.{and_from, cases_order}
 use Rattle.std.proofs.lemmas.List.Folds.{list_any_at}
 use Rattle.std.proofs.lemmas.Slice.Eq.{bytes_eq-Decides}
 use Rattle.trust_base.specs.declared.line.Line.{Line}
-use Rattle.statement_match.specs.Waiting.{Waiting}
-use Rattle.statement_match.specs.Showing.{fits}
-use Rattle.statement_match.specs.Rule.{Held, becomes, claimed_reference, exception_reference, fill, filled_with, is_beside_booked, is_claimed, is_doubled, is_fitted_once, is_in_book, is_open, is_open_fit, unless_exception}
-use Rattle.statement_match.specs.declared.outcome.Outcome.{Outcome}
-use Rattle.statement_match.specs.declared.outcome.Outcome.TheVariants as outcome
+use Rattle.statement_lines.specs.Waiting.{Waiting}
+use Rattle.statement_lines.specs.Showing.{fits}
+use Rattle.statement_lines.specs.Held.{Held}
+use Rattle.statement_lines.specs.OpenLines.{claimed_reference, exception_reference, is_claimed, is_open, is_open_fit}
+use Rattle.statement_lines.specs.declared.outcome.Outcome.{Outcome}
+use Rattle.statement_lines.specs.declared.outcome.Outcome.TheVariants as outcome
+use Rattle.statement_match.specs.Rule.{becomes, fill, filled_with, is_beside_booked, is_doubled, is_fitted_once, is_in_book, unless_exception}
 use Rattle.statement_match.specs.Laws.{AreWritten, None_left, Kept, Named, LeftOut, AreNamedApart, IsSure, NoneIsNamedTwice, OnlyReferencesChange, with_reference, written_as, written_of}
 use Rattle.statement_match.proofs.Filling.{becomes-is, fill-is, second_gave, sure_of}
 use Rattle.statement_match.proofs.Picks.{found_is_there, found_passes, two_pass}

@@ -1,4 +1,4 @@
--- What a firm's rows have that the lines of a statement are compared with.
+-- What the lines of a statement are compared with in a firm's rows.
 use Rattle.std.specs.Prelude.{ℕ, ℤ, pos, ◌-ℤ◌, Bool, List, [], ◌∷◌, ◌++◌, map}
 use Rattle.std.specs.List.{filter, flat_map}
 use Rattle.trust_base.specs.declared.line.Line.{Line}
@@ -14,9 +14,9 @@ use Rattle.matter_rows.specs.declared.entry.Entry.TheVariants as entry
 use Rattle.firm_rows.specs.declared.ledger.FirmLine.{FirmLine}
 use Rattle.firm_rows.specs.Firm.{EntryRow, Firm, HeadRow, Row, SeatRow}
 use Rattle.statement_csv.specs.References.{reference_text}
-use Rattle.statement_match.specs.Rule.{Held}
-use Rattle.statement_match.specs.Waiting.{Waiting, waiting_deposit, waiting_payment}
-use Rattle.statement_match.specs.declared.booking.Booking.{Booking}
+use Rattle.statement_lines.specs.Held.{Held}
+use Rattle.statement_lines.specs.Waiting.{Waiting, waiting_deposit, waiting_payment}
+use Rattle.statement_lines.specs.declared.booking.Booking.{Booking}
 
 -- Entries that wait.
 
@@ -28,7 +28,7 @@ deposit_waiting m n d (deposit.Cleared c) = []
 deposit_waiting m n d (deposit.Cancelled day) = []
 deposit_waiting m n d (deposit.Returned r) = []
 
--- and a payment while it is issued
+-- a payment waits while it is issued
 abbrev pub payment_waiting : ℕ → ℕ → Payment → PaymentState → List Waiting
 payment_waiting m n p payment.Proposed = []
 payment_waiting m n p payment.Declined = []
@@ -43,18 +43,18 @@ entry_waiting m n (entry.Payment p) = payment_waiting m n p p.state
 entry_waiting m n (entry.Fee f) = []
 entry_waiting m n (entry.Claim c) = []
 
--- what waits among a row of a matter
+-- the entries that wait in a row of a matter
 abbrev pub row_waiting : ℕ × Row → List Waiting
 row_waiting (m, HeadRow head) = []
 row_waiting (m, SeatRow seat) = []
 row_waiting (m, EntryRow n e) = entry_waiting m n e
 
--- Lines of the bank that are booked.
+-- Bank lines that are booked.
 
 abbrev pub booked_by : Clearing → ℤ → Booking
 booked_by c amount = record { date = c.bank_day; bank_ref = c.bank_ref; amount = amount }
 
--- the line that cleared a deposit, and that which took it back
+-- the line that cleared a deposit, and the one that took it back
 abbrev pub deposit_bookings : ℕ → DepositState → List Booking
 deposit_bookings amount deposit.Held = []
 deposit_bookings amount (deposit.Cleared c) = booked_by c (pos amount) ∷ []
@@ -76,7 +76,7 @@ entry_bookings (entry.Payment p) = payment_bookings p.amount p.state
 entry_bookings (entry.Fee f) = []
 entry_bookings (entry.Claim c) = []
 
--- what is booked of a row of a matter
+-- the bank lines booked in a row of a matter
 abbrev pub row_bookings : ℕ × Row → List Booking
 row_bookings (m, HeadRow head) = []
 row_bookings (m, SeatRow seat) = []
@@ -95,11 +95,11 @@ held_of firm = record {
   exceptions = firm.exceptions;
 }
 
--- the firm with the rows of those matters alone that pass the test
+-- the firm with only the rows of the matters that pass the test
 abbrev pub with_matters : (ℕ → Bool) → Firm → Firm
 with_matters is_kept firm = record firm { rows = filter (λ p. is_kept p.0) firm.rows }
 
--- What is kept of rows that are handed over one at a time.
+-- What is collected from rows that are passed one at a time.
 
 abbrev pub none_held : Held
 none_held = record { waiting = []; bookings = []; exceptions = [] }

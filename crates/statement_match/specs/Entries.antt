@@ -1,4 +1,4 @@
--- The deposits and the payments of a firm's rows, in whatever state.
+-- The deposits and payments in a firm's rows, in any state.
 use Rattle.std.specs.Prelude.{ℕ, List, [], ◌∷◌, ◌++◌}
 use Rattle.std.specs.List.{flat_map}
 use Rattle.trust_base.specs.declared.line.Line.{Line}
@@ -13,15 +13,15 @@ use Rattle.matter_rows.specs.declared.entry.Entry.TheVariants as entry
 use Rattle.firm_rows.specs.declared.ledger.FirmLine.{FirmLine}
 use Rattle.firm_rows.specs.Firm.{EntryRow, Firm, HeadRow, Row, SeatRow}
 use Rattle.statement_csv.specs.References.{reference_text}
-use Rattle.statement_match.specs.Waiting.{Waiting, waiting_deposit, waiting_payment}
+use Rattle.statement_lines.specs.Waiting.{Waiting, waiting_deposit, waiting_payment}
+use Rattle.statement_lines.specs.Known.{Known}
+use Rattle.statement_lines.specs.declared.book_entry.BookEntry.{BookEntry}
+use Rattle.statement_lines.specs.declared.book_entry.EntryState.{EntryState}
+use Rattle.statement_lines.specs.declared.book_entry.EntryState.TheVariants as state
 use Rattle.statement_match.specs.Books.{held_of, none_held, with_exception, with_own_line, with_row}
-use Rattle.statement_match.specs.Known.{Known}
-use Rattle.statement_match.specs.declared.book_entry.BookEntry.{BookEntry}
-use Rattle.statement_match.specs.declared.book_entry.EntryState.{EntryState}
-use Rattle.statement_match.specs.declared.book_entry.EntryState.TheVariants as state
 
--- An entry, as lines are compared with it, with its state, the day of that, the bank's reference of the line that told
--- of it, and its source or payee.
+-- An entry as lines are compared with it, with its state, the day of the state, the bank's reference of the line that
+-- reported it, and its source or payee.
 
 abbrev pub book_entry : Waiting → EntryState → ℕ → List ℕ → List ℕ → BookEntry
 book_entry w s day bank_ref party = record { entry = w; state = s; day = day; bank_ref = bank_ref; party = party }
@@ -33,7 +33,7 @@ deposit_in w d (deposit.Cancelled day) = book_entry w state.Cancelled day [] d.s
 deposit_in w d (deposit.Returned r) =
     book_entry w state.Returned r.returning.bank_day r.returning.bank_ref d.source
 
--- the day since which a payment waits or has waited; one that was never issued, since it was booked
+-- the day since which a payment has waited; if it was never issued, the day on which it was booked
 abbrev pub since_of : Payment → PaymentState → ℕ
 since_of p payment.Proposed = p.book
 since_of p payment.Declined = p.book
@@ -41,7 +41,7 @@ since_of p (payment.Issued day) = day
 since_of p (payment.Cleared c) = c.issued
 since_of p (payment.Voided v) = v.issued
 
--- a declined payment has no other day than that on which it was booked
+-- the only day of a declined payment is the one on which it was booked
 abbrev pub payment_in : Waiting → Payment → PaymentState → BookEntry
 payment_in w p payment.Proposed = book_entry w state.Proposed p.book [] p.payee
 payment_in w p payment.Declined = book_entry w state.Declined p.book [] p.payee
@@ -63,7 +63,7 @@ told_entries m n (entry.Payment p) = told_payment m n p ∷ []
 told_entries m n (entry.Fee f) = []
 told_entries m n (entry.Claim c) = []
 
--- the deposit or payment of a row of a matter
+-- the deposit or payment in a row of a matter
 abbrev pub row_entries : ℕ × Row → List BookEntry
 row_entries (m, HeadRow head) = []
 row_entries (m, SeatRow seat) = []
@@ -74,7 +74,7 @@ row_entries (m, EntryRow n e) = told_entries m n e
 unfoldable pub known_of : Firm → Known
 known_of firm = record { held = held_of firm; entries = flat_map row_entries firm.rows }
 
--- What is known of rows that are handed over one at a time.
+-- What is known from rows that are passed one at a time.
 
 abbrev pub none_known : Known
 none_known = record { held = none_held; entries = [] }

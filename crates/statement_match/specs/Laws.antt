@@ -1,22 +1,23 @@
--- What holds of what becomes of the lines of a statement.
+-- Laws of the outcomes for the lines of a statement.
 use Rattle.std.specs.Prelude.{◌≡◌, ◌≢◌, ◌↔◌, ℕ, ◌<◌, ◌≤◌, true, false, List, [], ◌∷◌, ◌++◌, length}
 use Rattle.std.specs.Prelude.{slice_index_or, Some, None, find}
 use Rattle.std.specs.List.{Contains, count_by}
 use Rattle.trust_base.specs.declared.line.Line.{Line}
-use Rattle.statement_match.specs.Waiting.{Waiting}
-use Rattle.statement_match.specs.Showing.{fits}
-use Rattle.statement_match.specs.Rule.{Held, becomes, exception_reference, is_beside_booked, is_claimed, is_doubled}
-use Rattle.statement_match.specs.Rule.{is_in_book, is_open, is_open_fit}
-use Rattle.statement_match.specs.declared.outcome.Outcome.{Outcome}
-use Rattle.statement_match.specs.declared.outcome.Outcome.TheVariants as outcome
+use Rattle.statement_lines.specs.Waiting.{Waiting}
+use Rattle.statement_lines.specs.Showing.{fits}
+use Rattle.statement_lines.specs.Held.{Held}
+use Rattle.statement_lines.specs.OpenLines.{exception_reference, is_claimed, is_open, is_open_fit}
+use Rattle.statement_lines.specs.declared.outcome.Outcome.{Outcome}
+use Rattle.statement_lines.specs.declared.outcome.Outcome.TheVariants as outcome
+use Rattle.statement_match.specs.Rule.{becomes, is_beside_booked, is_doubled, is_in_book}
 
 -- What is written.
 
--- the line with a reference
+-- the line with this reference
 abbrev pub with_reference : List ℕ → Line → Line
 with_reference reference line = record line { reference = reference }
 
--- what is written of a line: nothing of one that is in the book already, doubled or left
+-- what is written of a line: nothing if it is in the book already, doubled or left
 abbrev pub written_as : Line → Outcome → List Line
 written_as line outcome.AsItIs = line ∷ []
 written_as line outcome.InBook = []
@@ -25,7 +26,7 @@ written_as line outcome.Doubled = []
 written_as line (outcome.Filled reference) = with_reference reference line ∷ []
 written_as line outcome.Left = []
 
--- what is written of the lines of a statement, in their order; the statement is `all`
+-- what is written of the lines of a statement, in order; the whole statement is `all`
 abbrev pub written_of : ℕ → Held → List Line → List Line → List Line
 written_of today held all [] = []
 written_of today held all (line ∷ lines) =
@@ -34,7 +35,7 @@ written_of today held all (line ∷ lines) =
 abbrev pub written : ℕ → Held → List Line → List Line
 written today held lines = written_of today held lines lines
 
--- these lines are those with a reference, each as it is, and some of those without one, each with a reference; in their
+-- the output has the lines with a reference, each unchanged, and some of those without one, each with a reference; in
 -- order
 pub data AreWritten : List Line → List Line → Type 0 where
   None_left : AreWritten [] []
@@ -45,14 +46,14 @@ pub data AreWritten : List Line → List Line → Type 0 where
   LeftOut : (line : Line) (lines out : List Line) → is_open line ≡ true → AreWritten lines out
       → AreWritten (line ∷ lines) out
 
--- nothing but references changes
+-- only references change
 abbrev pub OnlyReferencesChange : Type 0
 OnlyReferencesChange = (today : ℕ) (held : Held) (lines : List Line) → AreWritten lines (written today held lines)
 
 -- When a line is filled.
 
--- the line has no reference, it is in none of the cases before, no line of the book is beside it, it fits this entry
--- and no other, no other open line fits the entry, and no record has the entry's reference
+-- the line has no reference, none of the earlier cases applies, the book has no line beside it, it fits this entry and
+-- no other, no other open line fits the entry, and no record has the entry's reference
 pub record IsSure (today : ℕ) (held : Held) (lines : List Line) (line : Line) (w : Waiting) : Type 0 where
   pub nameless : is_open line ≡ true
   pub new : is_in_book held lines line ≡ false
@@ -64,21 +65,21 @@ pub record IsSure (today : ℕ) (held : Held) (lines : List Line) (line : Line) 
   pub fitted_once : count_by (is_open_fit today w) lines ≡ 1
   pub unclaimed : is_claimed held.exceptions lines w.reference ≡ false
 
--- a line is filled exactly with the entry of which it is sure
+-- a line is filled with an entry exactly if it is sure of the entry
 abbrev pub FillsWhatIsSure : Type 0
 FillsWhatIsSure =
     (today : ℕ) (held : Held) (lines : List Line) (line : Line) (reference : List ℕ)
     → (becomes today held lines line ≡ outcome.Filled reference)
     ↔ ((w : Waiting) × IsSure today held lines line w × (reference ≡ w.reference))
 
--- a line is filled with an entry that waits, and that it fits
+-- a line is filled with an entry that waits and that the line fits
 abbrev pub FillsWithWaiting : Type 0
 FillsWithWaiting =
     (today : ℕ) (held : Held) (lines : List Line) (line : Line) (reference : List ℕ)
     → becomes today held lines line ≡ outcome.Filled reference
     → (w : Waiting) × Contains held.waiting w × (fits today line w ≡ true) × (w.reference ≡ reference)
 
--- Two that look alike are never filled.
+-- Lookalikes are never filled.
 
 -- a line that two entries fit is not filled
 abbrev pub TwoEntriesAreLeft : Type 0
@@ -95,12 +96,12 @@ TwoLinesAreLeft =
 
 -- No entry is named twice.
 
--- no two entries have one reference
+-- no two entries have the same reference
 abbrev pub AreNamedApart : List Waiting → Type 0
 AreNamedApart waiting =
     (w v : Waiting) → Contains waiting w → Contains waiting v → w.reference ≡ v.reference → w ≡ v
 
--- the reference with which a line is filled is that of no other line that is written
+-- the reference that a line is filled with is not on any other line that is written
 abbrev pub NoneIsNamedTwice : Type 0
 NoneIsNamedTwice =
     (today : ℕ) (held : Held) (lines : List Line) (i k : ℕ) (d x : Line) (reference : List ℕ)
@@ -117,13 +118,13 @@ pub data IsPart {A : Type 0} : List A → List A → Type 0 where
   With : (x : A) (some all : List A) → IsPart some all → IsPart (x ∷ some) (x ∷ all)
   Without : (x : A) (some all : List A) → IsPart some all → IsPart some (x ∷ all)
 
--- some of the entries that wait and some of the lines that are booked, and all exceptions
+-- some of the waiting entries, some of the booked lines, and all exceptions
 pub record HasLess (less more : Held) : Type 0 where
   pub waiting : IsPart less.waiting more.waiting
   pub bookings : IsPart less.bookings more.bookings
   pub exceptions : less.exceptions ≡ more.exceptions
 
--- a line that is filled, and fits an entry of those that wait where less is held, is filled with the same there
+-- if a line is filled, and fits one of the waiting entries of `less`, it is filled with the same reference over `less`
 abbrev pub MoreOnlyTakesAway : Type 0
 MoreOnlyTakesAway =
     (today : ℕ) (less more : Held) (lines : List Line) (line : Line) (reference : List ℕ) (w : Waiting)

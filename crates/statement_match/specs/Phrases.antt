@@ -1,4 +1,4 @@
--- What is said of records that have to be looked at, in words that are the same of all.
+-- Fixed phrases for records that have to be looked at.
 use Rattle.std.specs.Prelude.{ℕ, List, codes}
 use Rattle.statement_match.specs.declared.phrase.Phrase.{Phrase}
 use Rattle.statement_match.specs.declared.phrase.Phrase.TheVariants as phrase

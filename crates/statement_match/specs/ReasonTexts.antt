@@ -1,33 +1,30 @@
--- What is told of why records of a statement have to be looked at.
+-- Texts that say why records of a statement have to be looked at.
 use Rattle.std.specs.Prelude.{ℕ, Bool, cond, ◌+◌, ◌-◌, nat_lt, List, [], ◌∷◌, ◌++◌, codes, length, map, take, flat_map}
 use Rattle.std.specs.Prelude.{slice_index, Option, Some, None, find, if◌then◌else◌}
 use Rattle.std.specs.List.{count_by}
 use Rattle.std.specs.Fmt.{decimal}
 use Rattle.trust_base.specs.Texts.{day_text, signed_text}
 use Rattle.trust_base.specs.declared.line.Line.{Line}
-use Rattle.statement_match.specs.Bookings.{booking_of, is_same_booking}
-use Rattle.statement_match.specs.Waiting.{Waiting}
-use Rattle.statement_match.specs.Rule.{is_named_like, is_open_fit, is_open_like}
-use Rattle.statement_match.specs.Records.{Records}
-use Rattle.statement_match.specs.Known.{Known}
-use Rattle.statement_match.specs.Relations.{count_related, fitted, is_related, related}
+use Rattle.statement_lines.specs.Bookings.{booking_of, is_same_booking}
+use Rattle.statement_lines.specs.Waiting.{Waiting}
+use Rattle.statement_lines.specs.OpenLines.{is_named_like, is_open_fit, is_open_like}
+use Rattle.statement_lines.specs.Records.{Records}
+use Rattle.statement_lines.specs.Known.{Known}
+use Rattle.statement_lines.specs.Relations.{count_related, fitted, is_related, related}
+use Rattle.statement_lines.specs.Words.{further}
+use Rattle.statement_lines.specs.declared.book_entry.BookEntry.{BookEntry}
+use Rattle.statement_lines.specs.declared.book_entry.EntryState.{EntryState}
+use Rattle.statement_lines.specs.declared.book_entry.EntryState.TheVariants as state
+use Rattle.statement_lines.specs.declared.relation.Relation.{Relation}
+use Rattle.statement_lines.specs.declared.relation.Relation.TheVariants as relation
 use Rattle.statement_match.specs.Phrases.{phrase_text}
-use Rattle.statement_match.specs.declared.book_entry.BookEntry.{BookEntry}
-use Rattle.statement_match.specs.declared.book_entry.EntryState.{EntryState}
-use Rattle.statement_match.specs.declared.book_entry.EntryState.TheVariants as state
 use Rattle.statement_match.specs.declared.phrase.Phrase.TheVariants as phrase
 use Rattle.statement_match.specs.declared.reason.Reason.{Reason}
 use Rattle.statement_match.specs.declared.reason.Reason.TheVariants as reason
-use Rattle.statement_match.specs.declared.relation.Relation.{Relation}
-use Rattle.statement_match.specs.declared.relation.Relation.TheVariants as relation
 
--- How many are told of more.
+-- How many are listed at most.
 abbrev pub most_told : ℕ
 most_told = 5
-
--- a field behind another
-abbrev pub further : List ℕ → List ℕ
-further field = 32 ∷ field
 
 -- An entry.
 
@@ -41,12 +38,12 @@ state_word state.Issued = codes "issued"
 state_word state.Voided = codes "voided"
 state_word state.Cleared = codes "cleared"
 
--- a field that may be empty, and then is not there
+-- a field that is omitted if it is empty
 abbrev pub further_if_any : List ℕ → List ℕ
 further_if_any [] = []
 further_if_any (b ∷ bs) = further (b ∷ bs)
 
--- its reference, its state, the day of that, the bank's reference if there is one, and the source or payee
+-- its reference, its state, the day of the state, the bank's reference if there is one, and the source or payee
 unfoldable pub entry_text : BookEntry → List ℕ
 entry_text e =
     e.entry.reference
@@ -55,7 +52,7 @@ entry_text e =
     ++ (further_if_any e.bank_ref
     ++ further e.party)))
 
--- the amount of the line that clears it, where the line has another
+-- the amount of the line that clears it, if the line has another amount
 abbrev pub amount_part : Relation → BookEntry → List ℕ
 amount_part relation.Fitted e = []
 amount_part relation.NotWaiting e = []
@@ -70,7 +67,7 @@ amount_part (relation.HeldOn day) e = []
 abbrev pub related_entry_text : Relation → BookEntry → List ℕ
 related_entry_text r e = entry_text e ++ amount_part r e
 
--- Several entries: five at most.
+-- Several entries: at most five.
 
 abbrev pub behind_semicolon : List ℕ → List ℕ
 behind_semicolon text = codes "; " ++ text
@@ -79,26 +76,26 @@ abbrev pub parted_by_semicolons : List (List ℕ) → List ℕ
 parted_by_semicolons [] = []
 parted_by_semicolons (text ∷ texts) = text ++ flat_map behind_semicolon texts
 
--- how many of so many are not told
+-- how many of this many are not listed
 abbrev pub more_text : ℕ → List ℕ
 more_text n = if nat_lt most_told n then codes "; and " ++ (decimal (n - most_told) ++ codes " more") else []
 
--- the text where the test holds
+-- the text if the test holds
 abbrev pub text_if : Bool → List ℕ → List (List ℕ)
 text_if b text = cond b (text ∷ []) []
 
--- the texts of the first entries that stand so to a line
+-- the texts of the first entries that are in this relation to a line
 abbrev pub related_texts : Relation → ℕ → Known → Line → List (List ℕ)
 related_texts r today known line = take most_told (map (related_entry_text r) (related r today known line))
 
--- the entries that stand so to a line
+-- the entries that are in this relation to a line
 unfoldable pub related_text : Relation → ℕ → Known → Line → List ℕ
 related_text r today known line =
     parted_by_semicolons (related_texts r today known line) ++ more_text (count_related r today known line)
 
--- Several records: five at most.
+-- Several records: at most five.
 
--- the numbers of those of the lines that are open and fit an entry; the first line has this place
+-- the numbers of the lines that are open and fit an entry; the first line has this place
 unfoldable pub fit_numbers : ℕ → Waiting → List ℕ → ℕ → List Line → List ℕ
 fit_numbers today w numbers place [] = []
 fit_numbers today w numbers place (line ∷ lines) =
@@ -113,24 +110,24 @@ abbrev pub parted_by_commas : List ℕ → List ℕ
 parted_by_commas [] = []
 parted_by_commas (n ∷ ns) = decimal n ++ flat_map behind_comma ns
 
--- how many numbers stand before the last `and`
+-- how many numbers come before the last `and`
 abbrev pub front_count : List ℕ → ℕ
 front_count ns = if nat_lt most_told (length ns) then most_told else length ns - 1
 
--- the last of the numbers, or how many are not told
+-- the last of the numbers, or how many are not listed
 abbrev pub last_text : List ℕ → List ℕ
 last_text ns =
     if nat_lt most_told (length ns)
     then decimal (length ns - most_told) ++ codes " more"
     else decimal (slice_index ns (length ns - 1))
 
--- two numbers or more
+-- two or more numbers
 unfoldable pub numbers_text : List ℕ → List ℕ
 numbers_text ns = parted_by_commas (take (front_count ns) ns) ++ (codes " and " ++ last_text ns)
 
 -- The reasons.
 
--- what is said of entries that stand so to a line
+-- what is said of entries in this relation to a line
 abbrev pub words_of : Relation → List ℕ
 words_of relation.Fitted = codes "it fits: "
 words_of relation.NotWaiting = codes "the entry that it shows is not waiting for the bank: "
@@ -142,11 +139,11 @@ words_of relation.Named = codes "its reference is that of an entry: "
 words_of relation.NamedOfAnotherAmount = codes "its reference is that of an entry of another amount: "
 words_of (relation.HeldOn day) = codes "deposits were booked on the day: "
 
--- how many lines of the book are like it, if some are
+-- how many lines of the book are like it, if any
 abbrev pub booked_part : ℕ → List ℕ
 booked_part n = if nat_lt 0 n then phrase_text phrase.BookHas ++ decimal n else []
 
--- the deposits that it may take back, if there are some
+-- the deposits that it may take back, if any
 abbrev pub return_part : ℕ → Known → Line → List ℕ
 return_part today known line =
     if is_related relation.MaybeReturned today known line
@@ -185,7 +182,7 @@ abbrev pub claimed_text : ℕ → Known → Line → List ℕ
 claimed_text today known line =
     phrase_text phrase.Shows ++ (fitted_part (fitted today known line) ++ phrase_text phrase.AnotherNames)
 
--- under how many references it is an exception
+-- how many references it is an exception under
 unfoldable pub exceptions_part : List Line → Line → List ℕ
 exceptions_part exceptions line =
     phrase_text phrase.ExceptionUnder ++ decimal (count_by (is_named_like line) exceptions)

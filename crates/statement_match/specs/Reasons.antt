@@ -5,24 +5,26 @@ use Rattle.std.specs.List.{count_by, list_any}
 use Rattle.std.specs.Str.{bytes_eq}
 use Rattle.trust_base.specs.declared.line.Line.{Line}
 use Rattle.statement_csv.specs.References.{entry_named}
-use Rattle.statement_match.specs.Showing.{is_other_business}
-use Rattle.statement_match.specs.Rule.{Held, is_beside_booked, is_claimed, is_named_like, is_open_fit}
+use Rattle.statement_lines.specs.Showing.{is_other_business}
+use Rattle.statement_lines.specs.Held.{Held}
+use Rattle.statement_lines.specs.OpenLines.{is_claimed, is_named_like, is_open_fit}
+use Rattle.statement_lines.specs.Known.{Known}
+use Rattle.statement_lines.specs.Relations.{count_related, fitted, is_related, stands}
+use Rattle.statement_lines.specs.declared.book_entry.BookEntry.{BookEntry}
+use Rattle.statement_lines.specs.declared.outcome.Outcome.{Outcome}
+use Rattle.statement_lines.specs.declared.outcome.Outcome.TheVariants as outcome
+use Rattle.statement_lines.specs.declared.relation.Relation.TheVariants as relation
+use Rattle.statement_match.specs.Rule.{is_beside_booked}
 use Rattle.statement_match.specs.DaySums.{first_day}
-use Rattle.statement_match.specs.Known.{Known}
-use Rattle.statement_match.specs.Relations.{count_related, fitted, is_related, stands}
-use Rattle.statement_match.specs.declared.book_entry.BookEntry.{BookEntry}
-use Rattle.statement_match.specs.declared.outcome.Outcome.{Outcome}
-use Rattle.statement_match.specs.declared.outcome.Outcome.TheVariants as outcome
 use Rattle.statement_match.specs.declared.reason.Reason.{Reason}
 use Rattle.statement_match.specs.declared.reason.Reason.TheVariants as reason
-use Rattle.statement_match.specs.declared.relation.Relation.TheVariants as relation
 
--- of these reasons, each with its condition, the first that holds, and else the other
+-- the first of these reasons whose condition holds, or `other` if none does
 abbrev pub first_of : List (Bool × Reason) → Reason → Reason
 first_of [] other = other
 first_of (c ∷ cs) other = if c.0 then c.1 else first_of cs other
 
--- and nothing where none holds
+-- the first of these reasons whose condition holds, if any
 abbrev pub first_if_any : List (Bool × Reason) → Option Reason
 first_if_any [] = None
 first_if_any (c ∷ cs) = if c.0 then Some c.1 else first_if_any cs
@@ -48,12 +50,12 @@ abbrev pub is_shared_fit : ℕ → List Line → Option BookEntry → Bool
 is_shared_fit today lines None = false
 is_shared_fit today lines (Some e) = nat_lt 1 (count_by (is_open_fit today e.entry) lines)
 
--- where no entry of the book has its amount: the first day whose deposits are together that
+-- if no entry of the book has its amount: the first day whose deposits add up to it
 abbrev pub day_reason : Option ℕ → Reason
 day_reason None = reason.NoneOfItsAmount
 day_reason (Some day) = reason.Together day
 
--- by its words, and by how the entries of the book stand to it
+-- the reason from its words, and from the relations of the book's entries to it
 unfoldable pub entry_reason : ℕ → Known → Line → Reason
 entry_reason today known line =
     first_of
@@ -78,7 +80,7 @@ left_reason today known lines line o =
 
 -- A line that is an exception under a reference, and is written with it.
 
--- it fits an entry of another reference
+-- it fits an entry with another reference
 abbrev pub fits_other : ℕ → Known → Line → List ℕ → Bool
 fits_other today known line reference =
     list_any (λ e. stands relation.Fitted today line e && not (bytes_eq reference e.entry.reference)) known.entries
@@ -90,9 +92,9 @@ retried_reason today known line reference =
     ∷ (fits_other today known line reference, reason.FitsAnother)
     ∷ [])
 
--- A line with a reference, which is written as it is.
+-- A line with a reference, which is written unchanged.
 
--- of a line whose reference names an entry, whatever other lines do: it can't be of that entry
+-- the reason for a line whose reference names an entry, whatever other lines do: it cannot belong to that entry
 unfoldable pub named_reason : ℕ → Known → Line → Option Reason
 named_reason today known line =
     if is_some (entry_named line.reference)
@@ -103,7 +105,7 @@ named_reason today known line =
     ∷ [])
     else None
 
--- Why a line has to be looked at of which this becomes.
+-- Why a line with this outcome has to be looked at.
 
 unfoldable pub reason_for : ℕ → Known → List Line → Line → Outcome → Option Reason
 reason_for today known lines line outcome.AsItIs = named_reason today known line

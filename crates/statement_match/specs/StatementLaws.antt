@@ -1,4 +1,4 @@
--- What holds of the statement that is written.
+-- Laws of the statement that is written.
 use Rattle.std.specs.Prelude.{◌≡◌, ℕ, List, ◌∷◌, Some}
 use Rattle.std.specs.List.{Contains}
 use Rattle.csv.specs.Reading.{default_config, records, strip_bom}
@@ -6,20 +6,20 @@ use Rattle.trust_base.specs.BankTexts.{bank_text_of}
 use Rattle.trust_base.specs.declared.line.Line.{Line}
 use Rattle.statement_csv.specs.Headers.{header}
 use Rattle.statement_csv.specs.Items.{items, items_from}
+use Rattle.statement_lines.specs.Records.{records_of, rows_of}
+use Rattle.statement_lines.specs.Held.{Held}
+use Rattle.statement_lines.specs.Waiting.{Waiting}
 use Rattle.statement_match.specs.Laws.{written}
-use Rattle.statement_match.specs.Records.{records_of, rows_of}
-use Rattle.statement_match.specs.Rule.{Held}
 use Rattle.statement_match.specs.Statements.{statement_text, written_rows}
-use Rattle.statement_match.specs.Waiting.{Waiting}
 
--- the records of the text that is written are the header and those that are written, field by field
+-- the written text is read back as the header and the records that were written, field by field
 abbrev pub ReadsBack : Type 0
 ReadsBack =
     (today : ℕ) (held : Held) (bytes : List ℕ)
     → records default_config (strip_bom (statement_text today held bytes))
     ≡ header ∷ written_rows today held (rows_of bytes)
 
--- so an import reads those
+-- so an import reads these
 abbrev pub IsImported : Type 0
 IsImported =
     (today : ℕ) (held : Held) (bytes : List ℕ)
@@ -29,12 +29,12 @@ IsImported =
 abbrev pub IsReference : List ℕ → Type 0
 IsReference reference = bank_text_of reference ≡ Some reference
 
--- the references of what a book has are such
+-- the references of what a book has are ones that a record can have
 pub record HasReferences (held : Held) : Type 0 where
   pub waiting : (w : Waiting) → Contains held.waiting w → IsReference w.reference
   pub exceptions : (x : Line) → Contains held.exceptions x → IsReference x.reference
 
--- the lines of the text that is written are what is written of the lines
+-- the lines of the written text are what is written of each line
 abbrev pub HasLinesWritten : Type 0
 HasLinesWritten =
     (today : ℕ) (held : Held) (bytes : List ℕ) → HasReferences held

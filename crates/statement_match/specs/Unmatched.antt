@@ -1,38 +1,25 @@
--- What is told of the records of a statement that a person has to look at.
-use Rattle.std.specs.Prelude.{ℕ, Bool, true, false, ◌+◌, ◌-◌, zero, suc, List, [], ◌∷◌, ◌++◌, codes, length, map}
-use Rattle.std.specs.Prelude.{flat_map, slice_index, Option, Some, None, if◌then◌else◌, encode_utf8_all}
+-- The report on the records of a statement that a person has to look at.
+use Rattle.std.specs.Prelude.{ℕ, Bool, true, false, ◌+◌, ◌-◌, zero, suc, List, [], ◌∷◌, ◌++◌, codes, length}
+use Rattle.std.specs.Prelude.{flat_map, slice_index, Option, Some, None}
 use Rattle.std.specs.List.{count_by}
-use Rattle.std.specs.Char.{is_control}
 use Rattle.std.specs.Fmt.{decimal}
-use Rattle.std.specs.Str.{chars}
 use Rattle.trust_base.specs.Texts.{day_text, signed_text}
 use Rattle.trust_base.specs.declared.line.Line.{Line}
+use Rattle.statement_lines.specs.Records.{Records}
+use Rattle.statement_lines.specs.Known.{Known}
+use Rattle.statement_lines.specs.Words.{further, words_part}
+use Rattle.statement_lines.specs.declared.outcome.Outcome.{Outcome}
+use Rattle.statement_lines.specs.declared.outcome.Outcome.TheVariants as outcome
 use Rattle.statement_match.specs.Rule.{becomes, outcomes}
-use Rattle.statement_match.specs.Records.{Records}
-use Rattle.statement_match.specs.Known.{Known}
 use Rattle.statement_match.specs.Reasons.{reason_for}
-use Rattle.statement_match.specs.ReasonTexts.{further, reason_text}
-use Rattle.statement_match.specs.declared.outcome.Outcome.{Outcome}
-use Rattle.statement_match.specs.declared.outcome.Outcome.TheVariants as outcome
+use Rattle.statement_match.specs.ReasonTexts.{reason_text}
 use Rattle.statement_match.specs.declared.reason.Reason.{Reason}
 
 pub record Unmatched : Type 0 where
-  -- a line for each record that has to be looked at, in their order, and the counts in the last
+  -- a line for each record that has to be looked at, in order, and the counts in the last line
   pub text : List ℕ
   -- how many records have to be looked at
   pub left : ℕ
-
--- The bank's words: nothing for none, and a space for a control character, U+0000 to U+001F and U+007F to U+009F.
-
-abbrev pub shown : ℕ → ℕ
-shown c = if is_control c then 32 else c
-
-abbrev pub shown_text : List ℕ → List ℕ
-shown_text text = encode_utf8_all (map shown (chars text))
-
-abbrev pub words_part : List ℕ → List ℕ
-words_part [] = []
-words_part (b ∷ bs) = further (shown_text (b ∷ bs))
 
 -- A line for a record.
 
@@ -62,13 +49,13 @@ told_of_line today known records number line =
     told_by today known records number line
     (reason_for today known records.lines line (becomes today known.held records.lines line))
 
--- so many unreadable records behind that of a number
+-- this many unreadable records, after the record with this number
 unfoldable pub told_unreadable : ℕ → ℕ → List (List ℕ)
 told_unreadable before zero = []
 told_unreadable before (suc k) = unreadable_line (before + 1) ∷ told_unreadable (before + 1) k
 
--- The records behind that of number `before`, in their order: these lines, the first of which has this place, and
--- between them those that are unreadable, whose numbers are of no line.
+-- The records after number `before`, in order: these lines, the first of which has this place, and between them the
+-- unreadable records, whose numbers belong to no line.
 unfoldable pub told_from : ℕ → Known → Records → ℕ → ℕ → List Line → List (List ℕ)
 told_from today known records before place [] = told_unreadable before (records.count - before)
 told_from today known records before place (line ∷ lines) =
@@ -81,7 +68,7 @@ told today known records = told_from today known records 0 0 records.lines
 
 -- The counts.
 
--- a record is written that has a reference, or is given one
+-- a record is written if it has a reference or is given one
 abbrev pub is_written : Outcome → Bool
 is_written outcome.AsItIs = true
 is_written outcome.InBook = false
@@ -90,7 +77,7 @@ is_written outcome.Doubled = false
 is_written (outcome.Filled reference) = true
 is_written outcome.Left = false
 
--- and one is left out that is in the book already
+-- a record is left out if it is in the book already
 abbrev pub is_left_out : Outcome → Bool
 is_left_out outcome.AsItIs = false
 is_left_out outcome.InBook = true
@@ -99,7 +86,7 @@ is_left_out outcome.Doubled = false
 is_left_out (outcome.Filled reference) = false
 is_left_out outcome.Left = false
 
--- unreadable records are written as they are
+-- unreadable records are written unchanged
 abbrev pub written_count : Records → List Outcome → ℕ
 written_count records os = (records.count - length records.lines) + count_by is_written os
 
@@ -108,7 +95,7 @@ counts_line written booked left =
     decimal written ++ (codes " records written, " ++ (decimal booked ++ (codes " in the book already, "
     ++ (decimal left ++ (codes " to be looked at" ++ 10 ∷ [])))))
 
--- The whole. A record has to be looked at for which there is a line.
+-- The whole report. A record has to be looked at if there is a line for it.
 
 abbrev pub same_text : List ℕ → List ℕ
 same_text text = text

@@ -1,21 +1,19 @@
-// What a book has that the lines of a statement are compared with, kept row by row.
+// Collects, row by row, what the lines of a statement are compared with.
 
 ghost use Rattle.std.specs.Prelude.{◌≡◌, ◌++◌, IfOk, OnOk, OnErr};
 ghost use Rattle.statement_csv.specs.References.{reference_text};
 ghost use Rattle.firm_rows.specs.Firm.{EntryRow};
-ghost use Rattle.statement_match.specs.Books.{booked_by, entry_bookings, entry_waiting, none_held};
-ghost use Rattle.statement_match.specs.Books.{own_booking, with_exception, with_own_line, with_row};
+ghost use Rattle.statement_match.specs.Books.{booked_by, entry_bookings, entry_waiting, none_held, own_booking};
+ghost use Rattle.statement_match.specs.Books.{with_exception, with_own_line, with_row};
 
-use crate::booking::Booking;
-use crate::held::Held;
-use crate::waiting::WaitingEntry;
 use firm_rows::FirmLine;
 use matter_rows::{Clearing, DepositState, Entry, PaymentState};
+use statement_lines::{Booking, Held, WaitingEntry};
 use std::alloc::{AllocError, Global};
 use std::marker::Model;
 use trust_base::{BankText, Day, EntryNo, Line, MatterNo};
 
-// The bytes of the reference that names an entry.
+// Writes the reference that names an entry, as bytes.
 fn reference_bytes(alloc: Global, matter: MatterNo, entry: EntryNo) -> Result<Vec<u8>, AllocError>
     ensures { IfOk result (λ bytes. bytes.items ≡ reference_text matter entry) }
 {
@@ -27,7 +25,7 @@ fn reference_bytes(alloc: Global, matter: MatterNo, entry: EntryNo) -> Result<Ve
     Ok(bytes)
 }
 
-/// The reference that names an entry.
+/// Returns the reference that names an entry.
 pub(crate) fn reference_of(
     alloc: Global,
     matter: MatterNo,
@@ -42,7 +40,7 @@ pub(crate) fn reference_of(
     }
 }
 
-// The entry, where it waits.
+// Returns the entry if it waits for the bank.
 fn waiting_of(
     alloc: Global,
     matter: MatterNo,
@@ -79,7 +77,7 @@ fn waiting_of(
     Ok(found)
 }
 
-// A line of the bank that the book tells of an entry.
+// The bank line that the book has for an entry.
 fn booked(clearing: &Clearing, amount: i64) -> Result<Booking, AllocError>
     ensures { IfOk result (λ booking. booking ≡ booked_by clearing.now amount) }
 {
@@ -91,7 +89,7 @@ fn booked(clearing: &Clearing, amount: i64) -> Result<Booking, AllocError>
     })
 }
 
-// The lines of the bank that are booked of an entry.
+// Returns the bank lines that are booked for an entry.
 fn bookings_of(alloc: Global, entry: &Entry) -> Result<Vec<Booking>, AllocError>
     ensures { IfOk result (λ found. found.items ≡ entry_bookings entry.now) }
 {
@@ -118,9 +116,9 @@ fn bookings_of(alloc: Global, entry: &Entry) -> Result<Vec<Booking>, AllocError>
     Ok(found)
 }
 
-/// Keeps of a firm's rows what the lines of a statement are compared with.
+/// Collects, from a firm's rows, what the lines of a statement are compared with.
 ///
-/// Contracts see it as what it has kept.
+/// Contracts see it as what it has collected.
 #[derive(Drop)]
 pub(crate) struct Collector {
     alloc: Global,
@@ -130,7 +128,7 @@ pub(crate) struct Collector {
 }
 
 impl Model for Collector {
-    ghost use Rattle.statement_match.specs.Rule.{Held};
+    ghost use Rattle.statement_lines.specs.Held.{Held};
 
     ghost Value = { Held };
 
@@ -153,7 +151,7 @@ impl Collector {
         }
     }
 
-    // Adds both, or neither for want of memory.
+    // Adds both lists, or neither if memory runs out.
     fn add(
         &mut self,
         mut waiting: Vec<WaitingEntry>,
@@ -187,7 +185,7 @@ impl Collector {
         self.add(waiting, bookings)
     }
 
-    /// Keeps an exception.
+    /// Adds an exception.
     pub(crate) fn add_exception(&mut self, line: &Line) -> Result<(), AllocError>
         ensures ok { OnOk result (self.new ≡ with_exception self.old line.now) }
         ensures err { OnErr result (self.new ≡ self.old) }
@@ -196,7 +194,7 @@ impl Collector {
         Ok(())
     }
 
-    /// Keeps a line of the firm's own.
+    /// Adds a line of the firm's own.
     pub(crate) fn add_own_line(&mut self, line: &FirmLine) -> Result<(), AllocError>
         ensures ok { OnOk result (self.new ≡ with_own_line self.old line.now) }
         ensures err { OnErr result (self.new ≡ self.old) }
@@ -210,7 +208,7 @@ impl Collector {
         Ok(())
     }
 
-    /// What was kept.
+    /// Returns what was collected.
     pub(crate) fn finish(self) -> Held
         ensures { result ≡ self }
     {

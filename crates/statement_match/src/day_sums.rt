@@ -1,20 +1,21 @@
-// What the deposits that wait are together, by the day on which they were booked.
+// Sums of the waiting deposits, by the day on which they were booked.
 
 ghost use Rattle.std.specs.Prelude.{◌≡◌, ◌↔◌, ℕ, IfOk, find, option_map};
 ghost use Rattle.std.specs.List.{Contains, filter};
 ghost use Rattle.std.specs.List.Sorted.{IsStrictlyIncreasing};
 ghost use Rattle.firm_rows.specs.Sums.{sum_of};
-ghost use Rattle.statement_match.specs.DaySums.{amount_if_held, amount_of, day_with, held_days, is_held};
-ghost use Rattle.statement_match.specs.Lookups.{elements};
+ghost use Rattle.statement_lines.specs.EntryStates.{is_held};
+ghost use Rattle.statement_lines.specs.Lookups.{elements};
+ghost use Rattle.statement_match.specs.DaySums.{amount_if_held, amount_of, day_with, held_days};
 
-use crate::book_entry::BookEntry;
+use statement_lines::BookEntry;
 use std::alloc::{AllocError, Global};
 use trust_base::Day;
 
-/// A day, and what the deposits that wait and were booked on it are together, in cents.
+/// A day, and the sum in cents of the waiting deposits that were booked on it.
 pub(crate) type DaySum = (u32, i128);
 
-// The days of the deposits that wait.
+// The days of the waiting deposits.
 fn days_held(alloc: Global, entries: &[BookEntry]) -> Result<Vec<u32>, AllocError>
     ensures { IfOk result (λ days. days.items ≡ held_days entries.now) }
 {
@@ -27,7 +28,7 @@ fn days_held(alloc: Global, entries: &[BookEntry]) -> Result<Vec<u32>, AllocErro
     Ok(days)
 }
 
-// Puts days in order, each once.
+// Sorts days and removes duplicates.
 fn put_in_order(days: &mut Vec<u32>)
     ensures rises { IsStrictlyIncreasing days.new.items }
     ensures keeps { (day : ℕ) → Contains days.old.items day → Contains days.new.items day }
@@ -37,7 +38,7 @@ fn put_in_order(days: &mut Vec<u32>)
     days.dedup();
 }
 
-/// The days on which deposits were booked that wait, in order, each once. Fails only for want of memory.
+/// Returns the days on which waiting deposits were booked, sorted, without duplicates. The only error is out of memory.
 pub(crate) fn days_in_order(alloc: Global, entries: &[BookEntry]) -> Result<Vec<u32>, AllocError>
     ensures rises { IfOk result (λ days. IsStrictlyIncreasing days.items) }
     ensures same { IfOk result (λ days.
@@ -48,7 +49,7 @@ pub(crate) fn days_in_order(alloc: Global, entries: &[BookEntry]) -> Result<Vec<
     Ok(days)
 }
 
-// What an entry adds to the sum of the deposits that wait, in cents.
+// What an entry adds to the sum of the waiting deposits, in cents.
 fn amount_held(entry: &BookEntry) -> i64
     ensures { result ≡ amount_if_held entry.now }
 {
@@ -59,7 +60,7 @@ fn amount_held(entry: &BookEntry) -> i64
     }
 }
 
-/// What the deposits that wait are together, of the entries found, in cents.
+/// The sum of the waiting deposits among the given entries, in cents.
 pub(crate) fn sum_held(found: &[(u64, &BookEntry)]) -> i128
     ensures { result ≡ sum_of amount_of (filter (λ e. is_held e.state) (elements found.now)) }
 {
@@ -70,7 +71,7 @@ pub(crate) fn sum_held(found: &[(u64, &BookEntry)]) -> i128
     sum
 }
 
-/// The first of the days of which that is an amount.
+/// Returns the first day whose sum is this amount.
 pub(crate) fn day_of_sum(sums: &[DaySum], amount: i64) -> Option<u32>
     ensures { result ≡ day_with amount sums.now }
 {
@@ -78,7 +79,7 @@ pub(crate) fn day_of_sum(sums: &[DaySum], amount: i64) -> Option<u32>
     sums.iter().find(|sum| sum.1 == amount).map(|sum| sum.0)
 }
 
-/// The day of the first deposit that waits, of the entries found.
+/// Returns the day of the first waiting deposit among the given entries.
 pub(crate) fn day_held(found: &[(u64, &BookEntry)]) -> Option<Day>
     ensures { result ≡ option_map (λ e. e.1.now.day) (find (λ e. is_held e.1.now.state) found.now) }
 {

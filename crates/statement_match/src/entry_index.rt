@@ -1,28 +1,24 @@
-// The deposits and payments of a book, looked up by what the reasons ask of them.
+// Looks up the deposits and payments of a book.
 
 ghost use Rattle.std.specs.Prelude.{◌≡◌, ◌==◌, ◌++◌, ℕ, ℤ, map, flat_map, IfOk, OnOk, option_to_list, slice_get};
 ghost use Rattle.std.specs.List.{Contains, filter};
 ghost use Rattle.std.specs.List.Sorted.{IsStrictlyIncreasing};
+ghost use Rattle.statement_lines.specs.Keys.{amount_key, day_key, entry_key, reference_key, text_key as key_of_text};
+ghost use Rattle.statement_lines.specs.Lookups.{IsLookup, elements};
+ghost use Rattle.statement_lines.specs.Marks.{is_shown, mark_of, marks_from};
+ghost use Rattle.statement_lines.specs.Places.{places_with};
 ghost use Rattle.statement_match.specs.DaySums.{day_sums, day_with, first_day, same_day as same_day_of, together_on};
-ghost use Rattle.statement_match.specs.Keys.{amount_key, day_key, entry_key, reference_key, text_key as key_of_text};
-ghost use Rattle.statement_match.specs.Lookups.{IsLookup, elements};
-ghost use Rattle.statement_match.specs.Marks.{is_shown, mark_of, marks_from};
-ghost use Rattle.statement_match.specs.Places.{places_with};
 
-use crate::book_entry::BookEntry;
 use crate::day_sums::{DaySum, day_held, days_in_order, sum_held};
-use crate::key::text_key;
-use crate::lookup::Lookup;
-use crate::mark::{Mark, line_marks_of};
-use crate::statement_line::StatementLine;
+use statement_lines::{BookEntry, Lookup, Mark, StatementLine, line_marks_of, text_key};
 use std::alloc::{AllocError, Global};
 use std::marker::Model;
 use trust_base::{Day, Line};
 
-/// The deposits and payments of a book, looked up by what the reasons ask of them: those that may pass are found at
-/// once, however many there are.
+/// The deposits and payments of a book, looked up by what the reasons need. Those that may match are found at once,
+/// however many there are.
 ///
-/// Contracts see it as their list.
+/// Contracts see it as the list of these entries.
 #[derive(Drop)]
 pub(crate) struct EntryIndex<'a, 'b> {
     entries: &'a [BookEntry],
@@ -34,8 +30,8 @@ pub(crate) struct EntryIndex<'a, 'b> {
 
 impl<'a, 'b> Model for EntryIndex<'a, 'b> {
     ghost use Rattle.std.specs.Prelude.{List};
-    ghost use Rattle.statement_match.specs.declared.book_entry.BookEntry.{BookEntry};
-    ghost use Rattle.statement_match.specs.Places.{AreEntriesFound};
+    ghost use Rattle.statement_lines.specs.declared.book_entry.BookEntry.{BookEntry};
+    ghost use Rattle.statement_lines.specs.Places.{AreEntriesFound};
 
     ghost Value = { List BookEntry };
 
@@ -45,7 +41,7 @@ impl<'a, 'b> Model for EntryIndex<'a, 'b> {
         i.days.sorted.items i.marks.sorted.items };
 }
 
-// By their amount.
+// Looks up entries by amount.
 fn by_amount<'a>(
     alloc: Global,
     entries: &'a [BookEntry],
@@ -55,7 +51,7 @@ fn by_amount<'a>(
     Lookup::of(alloc, entries, |entry| entry.entry.amount.unsigned_abs())
 }
 
-// By their reference.
+// Looks up entries by reference.
 fn by_reference<'a>(
     alloc: Global,
     entries: &'a [BookEntry],
@@ -69,21 +65,21 @@ fn by_reference<'a>(
     )
 }
 
-// By their day.
+// Looks up entries by day.
 fn by_day<'a>(alloc: Global, entries: &'a [BookEntry]) -> Result<Lookup<'a, BookEntry>, AllocError>
     ensures { IfOk result (λ found. IsLookup day_key entries.now found.sorted.items) }
 {
     Lookup::of(alloc, entries, |entry| u64::from(entry.day.get()))
 }
 
-// Places by the marks of the entries there.
+// Looks up places by the marks of the entries there.
 fn by_mark<'a>(alloc: Global, marks: &'a [Mark]) -> Result<Lookup<'a, Mark>, AllocError>
     ensures { IfOk result (λ found. IsLookup mark_of marks.now found.sorted.items) }
 {
     Lookup::of(alloc, marks, |mark| mark.0)
 }
 
-// Adds the places of the marks found.
+// Adds the places of the given marks.
 fn add_found(places: &mut Vec<usize>, found: &[(u64, &Mark)]) -> Result<(), AllocError>
     ensures { OnOk result (places.new.items ≡ places.old.items ++ map (λ m. m.1) (elements found.now)) }
 {
@@ -93,7 +89,7 @@ fn add_found(places: &mut Vec<usize>, found: &[(u64, &Mark)]) -> Result<(), Allo
     Ok(())
 }
 
-// Puts places in order, each once.
+// Sorts places and removes duplicates.
 fn put_in_order(places: &mut Vec<usize>)
     ensures rises { IsStrictlyIncreasing places.new.items }
     ensures keeps { (place : ℕ) → Contains places.old.items place → Contains places.new.items place }
@@ -117,7 +113,7 @@ fn add_at<'a>(
     Ok(())
 }
 
-// The entries at these places.
+// Returns the entries at these places.
 fn entries_at<'a>(
     alloc: Global,
     entries: &'a [BookEntry],
@@ -134,7 +130,7 @@ fn entries_at<'a>(
 }
 
 impl<'a, 'b> EntryIndex<'a, 'b> {
-    /// Of them and their marks. Fails only for want of memory.
+    /// Makes the index from the entries and their marks. The only error is out of memory.
     pub(crate) fn of(
         alloc: Global,
         entries: &'a [BookEntry],
@@ -156,35 +152,35 @@ impl<'a, 'b> EntryIndex<'a, 'b> {
         })
     }
 
-    /// Those of the amount of a line, or of its negative.
+    /// The entries whose amount is that of the line or its negative.
     pub(crate) fn of_amount(&self, line: &Line) -> &[(u64, &'a BookEntry)]
         ensures { elements result.now ≡ filter (λ e. entry_key e == amount_key line.now) self.now }
     {
         self.amounts.at(line.amount.get().unsigned_abs())
     }
 
-    /// Those of the day of this number, in whatever state.
+    /// The entries of the day with this number, in any state.
     pub(crate) fn of_day(&self, day: u32) -> &[(u64, &'a BookEntry)]
         ensures { elements result.now ≡ filter (λ e. day_key e == day) self.now }
     {
         self.days.at(u64::from(day))
     }
 
-    /// Those that may have a line's reference.
+    /// The entries that may have the line's reference.
     pub(crate) fn named_by(&self, line: &Line) -> &[(u64, &'a BookEntry)]
         ensures { elements result.now ≡ filter (λ e. reference_key e == key_of_text 0 line.now.reference) self.now }
     {
         self.references.at(text_key(0, line.reference.as_slice()))
     }
 
-    // What the deposits that wait and were booked on a day are together, in cents.
+    // The sum of the waiting deposits that were booked on a day, in cents.
     fn sum_on(&self, day: u32) -> i128
         ensures { result ≡ together_on self.now day }
     {
         sum_held(self.days.at(u64::from(day)))
     }
 
-    // Of each of these days, what its deposits are together.
+    // The sum of the deposits of each of these days.
     fn sums_on(&self, alloc: Global, days: &[u32]) -> Result<Vec<DaySum>, AllocError>
         ensures { IfOk result (λ sums. sums.items ≡ day_sums self.now days.now) }
     {
@@ -195,7 +191,7 @@ impl<'a, 'b> EntryIndex<'a, 'b> {
         Ok(sums)
     }
 
-    /// What the deposits that wait are together, by the days on which they were booked. Fails only for want of memory.
+    /// Returns the sums of the waiting deposits by the day on which they were booked. The only error is out of memory.
     pub(crate) fn sums_by_day(&self, alloc: Global) -> Result<Vec<DaySum>, AllocError>
         ensures { IfOk result (λ sums. (amount : ℤ) → day_with amount sums.items ≡ first_day amount self.now) }
     {
@@ -204,21 +200,21 @@ impl<'a, 'b> EntryIndex<'a, 'b> {
         Ok(sums)
     }
 
-    /// The day of the first deposit that waits and was booked on a day.
+    /// Returns `day` as a civil day, if a waiting deposit was booked on it.
     pub(crate) fn same_day(&self, day: u32) -> Option<Day>
         ensures { result ≡ same_day_of self.now day }
     {
         day_held(self.days.at(u64::from(day)))
     }
 
-    // Adds the places of those that have this mark.
+    // Adds the places of the entries with this mark.
     fn add_places(&self, places: &mut Vec<usize>, mark: u64) -> Result<(), AllocError>
         ensures { OnOk result (places.new.items ≡ places.old.items ++ places_with self.now mark) }
     {
         add_found(places, self.marks.at(mark))
     }
 
-    // The places of those that have one of these marks, one by one.
+    // Returns the places of the entries with one of these marks, mark by mark.
     fn places(&self, alloc: Global, marks: &[u64]) -> Result<Vec<usize>, AllocError>
         ensures { IfOk result (λ places. places.items ≡ flat_map (places_with self.now) marks.now) }
     {
@@ -229,7 +225,8 @@ impl<'a, 'b> EntryIndex<'a, 'b> {
         Ok(places)
     }
 
-    /// Those that a line may show: all that it shows, in their order. Fails only for want of memory.
+    /// The entries that a line may show. They include all that it shows, in their order. The only error is out of
+    /// memory.
     pub(crate) fn shown_by(
         &self,
         alloc: Global,

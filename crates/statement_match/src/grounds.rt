@@ -1,34 +1,29 @@
-// What the reasons for the lines of a statement go by.
+// What the reasons for the lines of a statement are based on.
 
 ghost use Rattle.std.specs.Prelude.{◌≡◌, ◌==◌, ℕ, IfOk};
 ghost use Rattle.std.specs.List.{filter};
+ghost use Rattle.statement_lines.specs.Keys.{amount_key, day_key, waiting_key};
+ghost use Rattle.statement_lines.specs.Lookups.{IsLookup, elements};
+ghost use Rattle.statement_lines.specs.Marks.{marks_from};
 ghost use Rattle.statement_match.specs.DaySums.{first_day as first_day_of};
 ghost use Rattle.statement_match.specs.Grounds.{AreCandidates, AreNumbered, numbered as with_numbers, numbered_key};
 ghost use Rattle.statement_match.specs.Grounds.{plain_pairs};
-ghost use Rattle.statement_match.specs.Keys.{amount_key, day_key, waiting_key};
-ghost use Rattle.statement_match.specs.Lookups.{IsLookup, elements};
-ghost use Rattle.statement_match.specs.Marks.{marks_from};
 
-use crate::book_entry::BookEntry;
 use crate::day_sums::{DaySum, day_of_sum};
 use crate::entry_index::EntryIndex;
-use crate::index::Index;
-use crate::known::Known;
-use crate::lookup::Lookup;
-use crate::mark::Mark;
-use crate::records::{Records, line_at, line_count, number_of};
-use crate::relation::Relation;
-use crate::statement_line::StatementLine;
-use crate::waiting::WaitingEntry;
+use statement_lines::{
+    BookEntry, Index, Known, Lookup, Mark, Records, Relation, StatementLine, WaitingEntry, line_at,
+    line_count, number_of,
+};
 use std::alloc::{AllocError, Global};
 use std::marker::Model;
 use trust_base::Day;
 
-/// A line with the number of its record.
+/// A line, with the number of its record.
 pub(crate) type Numbered<'a> = (u64, &'a StatementLine);
 
-/// What the reasons for the lines of a statement go by: what is known of a book and the records, looked up by what the
-/// reasons ask of them.
+/// What the reasons for the lines of a statement are based on: what is known of the book, and the records, looked up by
+/// what the reasons need.
 ///
 /// Contracts see it as these two.
 #[derive(Drop)]
@@ -54,7 +49,7 @@ impl<'a, 'b> Model for Grounds<'a, 'b> {
         g.amounts.sorted.items g.sums.items };
 }
 
-/// What the reasons for one line go by, found once for all of them.
+/// What the reasons for one line are based on, looked up once for all of them.
 ///
 /// Contracts see it as what is known of the book, the records and the line.
 #[derive(Drop)]
@@ -81,7 +76,7 @@ impl<'a, 'b, 'c> Model for LineGrounds<'a, 'b, 'c> {
     ghost invariant = { λ l. AreOfLine l.grounds.now l.line.now l.of_amount.now l.named.now l.shown.items };
 }
 
-/// The lines of the records, each with its number. Fails only for want of memory.
+/// Returns the lines of the records, each with its number. The only error is out of memory.
 pub(crate) fn numbered_lines<'a>(
     alloc: Global,
     records: &'a Records,
@@ -96,7 +91,7 @@ pub(crate) fn numbered_lines<'a>(
     Ok(found)
 }
 
-// By the amounts of the lines.
+// Looks up lines by amount.
 fn by_amount<'a, 'b>(
     alloc: Global,
     lines: &'b [Numbered<'a>],
@@ -111,8 +106,8 @@ fn by_amount<'a, 'b>(
 }
 
 impl<'a, 'b> Grounds<'a, 'b> {
-    /// Of what is known of a book and the records, with what the rule looks up, the lines with their numbers, and the
-    /// marks of the entries. Fails only for want of memory.
+    /// Makes the grounds from what is known of a book, the records, the index of the rule, the numbered lines, and the
+    /// marks of the entries. The only error is out of memory.
     pub(crate) fn of(
         alloc: Global,
         known: &'a Known,
@@ -140,14 +135,14 @@ impl<'a, 'b> Grounds<'a, 'b> {
         })
     }
 
-    /// What the rule looks up.
+    /// The index that the rule uses.
     pub(crate) fn index(&self) -> &'b Index<'a>
         ensures { result.now ≡ record { held = self.now.known.held; lines = self.now.records.lines } }
     {
         self.index
     }
 
-    // The first day whose deposits that wait are together an amount.
+    // Returns the first day whose waiting deposits add up to an amount.
     fn first_day(&self, amount: i64) -> Option<Day>
         ensures { result ≡ first_day_of amount self.now.known.entries }
     {
@@ -157,14 +152,14 @@ impl<'a, 'b> Grounds<'a, 'b> {
         }
     }
 
-    // The entries of the day of this number, in whatever state.
+    // The entries of the day with this number, in any state.
     fn of_day(&self, day: u32) -> &[(u64, &'a BookEntry)]
         ensures { elements result.now ≡ filter (λ e. day_key e == day) self.now.known.entries }
     {
         self.entries.of_day(day)
     }
 
-    // The lines of the amount of an entry, or of its negative, each with its number.
+    // The lines whose amount is the entry's or its negative, each with its number.
     fn lines_of_amount(&self, entry: &WaitingEntry) -> &[(u64, &'b Numbered<'a>)]
         ensures { plain_pairs (elements result.now)
             ≡ filter (λ pair. amount_key pair.1 == waiting_key entry.now)
@@ -173,7 +168,7 @@ impl<'a, 'b> Grounds<'a, 'b> {
         self.amounts.at(entry.amount.unsigned_abs())
     }
 
-    /// What the reasons for a line go by. Fails only for want of memory.
+    /// Returns what the reasons for a line are based on. The only error is out of memory.
     pub(crate) fn of_line<'c>(
         &'c self,
         alloc: Global,
@@ -201,21 +196,21 @@ impl<'a, 'b, 'c> LineGrounds<'a, 'b, 'c> {
         self.line
     }
 
-    /// What the rule looks up.
+    /// The index that the rule uses.
     pub(crate) fn index(&self) -> &'b Index<'a>
         ensures { result.now ≡ record { held = self.now.known.held; lines = self.now.records.lines } }
     {
         self.grounds.index()
     }
 
-    /// The first day whose deposits that wait are together the line's amount.
+    /// Returns the first day whose waiting deposits add up to the line's amount.
     pub(crate) fn first_day(&self) -> Option<Day>
         ensures { result ≡ first_day_of self.now.line.amount self.now.known.entries }
     {
         self.grounds.first_day(self.line.line().amount.get())
     }
 
-    /// The entries that may stand so to the line: all that do, in their order.
+    /// The entries that may be in this relation to the line. They include all that are, in their order.
     pub(crate) fn candidates(&self, relation: Relation) -> &[(u64, &'a BookEntry)]
         ensures { AreCandidates relation self.now.line self.now.known.entries result.now }
     {
@@ -230,7 +225,7 @@ impl<'a, 'b, 'c> LineGrounds<'a, 'b, 'c> {
         }
     }
 
-    /// The lines of the amount of an entry, or of its negative, each with its number.
+    /// The lines whose amount is the entry's or its negative, each with its number.
     pub(crate) fn lines_of_amount(&self, entry: &WaitingEntry) -> &[(u64, &'b Numbered<'a>)]
         ensures { plain_pairs (elements result.now)
             ≡ filter (λ pair. amount_key pair.1 == waiting_key entry.now)

@@ -1,4 +1,4 @@
-// What is known of a book, from its rows one at a time.
+// Collects what is known of a book, row by row.
 
 ghost use Rattle.std.specs.Prelude.{◌≡◌, IfOk, OnOk, OnErr};
 ghost use Rattle.firm_rows.specs.Firm.{EntryRow};
@@ -8,13 +8,11 @@ ghost use Rattle.statement_match.specs.Entries.{known_of, none_known, since_of a
 ghost use Rattle.statement_match.specs.Entries.{told_deposit as deposit_told, told_entries as entries_told};
 ghost use Rattle.statement_match.specs.Entries.{told_payment as payment_told};
 
-use crate::book_entry::{BookEntry, EntryState};
 use crate::collecting::{Collector, reference_of};
-use crate::known::Known;
-use crate::waiting::WaitingEntry;
 use byte_streams::OwnedBytes;
-use firm_rows::{FirmLine, Movement, RowSink, StatementRow};
+use firm_rows::{ExceptionSink, FirmLine, FirmLineSink, RowSink};
 use matter_rows::{Clearing, Deposit, DepositState, Entry, Head, Payment, PaymentState, Seat};
+use statement_lines::{BookEntry, EntryState, Known, WaitingEntry};
 use std::alloc::{AllocError, Global};
 use std::marker::Model;
 use trust_base::{Day, EntryNo, Label, Line, MatterNo, StoreFault};
@@ -38,7 +36,7 @@ fn book_entry(
     }
 }
 
-// The bank's reference of a line.
+// Returns the bank's reference of a line.
 fn bank_ref_of(clearing: &Clearing) -> Result<OwnedBytes, AllocError>
     ensures { IfOk result (λ bytes. bytes ≡ clearing.now.bank_ref) }
 {
@@ -77,7 +75,7 @@ fn told_deposit(
     }
 }
 
-// The day since which a payment waits or has waited.
+// The day since which a payment has waited. If it was never issued, the day on which it was booked.
 fn since_of(p: &Payment) -> Day
     ensures { result ≡ since_day p.now p.now.state }
 {
@@ -117,7 +115,7 @@ fn told_payment(
     }
 }
 
-// The entry, where it is a deposit or a payment.
+// Returns the entry if it is a deposit or a payment.
 fn told_entries(
     alloc: Global,
     matter: MatterNo,
@@ -135,7 +133,7 @@ fn told_entries(
     Ok(found)
 }
 
-/// Keeps of a firm's rows what the lines of a statement are compared with, and all deposits and payments.
+/// Collects, from a firm's rows, what the lines of a statement are compared with, and all deposits and payments.
 ///
 /// Contracts see it as what is known.
 #[derive(Drop)]
@@ -146,7 +144,7 @@ struct KnownCollector {
 }
 
 impl Model for KnownCollector {
-    ghost use Rattle.statement_match.specs.Known.{Known};
+    ghost use Rattle.statement_lines.specs.Known.{Known};
 
     ghost Value = { Known };
 
@@ -183,7 +181,7 @@ impl KnownCollector {
         Ok(())
     }
 
-    // What is known.
+    // Returns what is known.
     fn finish(self) -> Known
         ensures { result ≡ self }
     {
@@ -196,14 +194,6 @@ impl KnownCollector {
 
 impl RowSink for KnownCollector {
     ghost stepped = { know_row };
-
-    ghost noted = { know_exception };
-
-    ghost moved = { λ s movement. s };
-
-    ghost lined = { know_own_line };
-
-    ghost balanced = { λ s row. s };
 
     fn head(&mut self, _matter: MatterNo, _head: &Head) -> Result<(), AllocError> {
         Ok(())
@@ -221,28 +211,28 @@ impl RowSink for KnownCollector {
     ) -> Result<(), AllocError> {
         self.add_entry(matter, number, entry)
     }
+}
+
+impl ExceptionSink for KnownCollector {
+    ghost noted = { know_exception };
 
     fn exception(&mut self, line: &Line) -> Result<(), AllocError> {
         self.collector.add_exception(line)
     }
+}
 
-    fn movement(&mut self, _movement: &Movement) -> Result<(), AllocError> {
-        Ok(())
-    }
+impl FirmLineSink for KnownCollector {
+    ghost lined = { know_own_line };
 
     fn firm_line(&mut self, line: &FirmLine) -> Result<(), AllocError> {
         self.collector.add_own_line(line)
     }
-
-    fn balance(&mut self, _row: &StatementRow) -> Result<(), AllocError> {
-        Ok(())
-    }
 }
 
-/// What is known of a book that the lines of a statement are compared with, and that is told of those that are left.
-/// The book stays as it is.
+/// Reads what is known of a book: what the lines of a statement are compared with, and what is reported about lines
+/// that are left. The book is unchanged.
 ///
-/// Store is answered where the book's store was at fault, and Memory where a growth was refused.
+/// Returns `Store` if the book's store failed, and `Memory` if memory ran out.
 pub(crate) fn known_in<B: Book>(alloc: Global, book: &mut B) -> Result<Known, StoreFault>
     ensures known { B.clean book.new → B.stands book.old
         → IfOk result (λ known. known ≡ known_of (B.firm book.old)) }

@@ -1,4 +1,4 @@
-//! Laws over the definitions, each the contract of a function with nothing to do.
+//! Laws over the definitions. Each is the contract of a function that does nothing.
 
 ghost use Rattle.statement_match.specs.FirmLaws.{FilledWaits, NoneIsNamedTwiceByFirms, OtherMattersOnlyTakeAway};
 ghost use Rattle.statement_match.specs.FirmLaws.{WaitApart};
@@ -6,68 +6,68 @@ ghost use Rattle.statement_match.specs.Laws.{FillsWhatIsSure, FillsWithWaiting, 
 ghost use Rattle.statement_match.specs.Laws.{OnlyReferencesChange, TwoEntriesAreLeft, TwoLinesAreLeft};
 ghost use Rattle.statement_match.specs.StatementLaws.{HasLinesWritten, IsImported, ReadsBack};
 
-/// A line is filled exactly with the entry of which it is sure: it has no reference, it is neither in the book already
-/// nor an exception under a reference nor doubled, no line of the book is beside it, it fits that entry and no other,
-/// no other open line fits the entry, and no record has the entry's reference.
+/// A line is filled with an entry exactly if it is sure: the line has no reference, is not in the book already, is not
+/// an exception under a reference and is not doubled; the book has no line beside it; it fits that entry and no other;
+/// no other open line fits the entry; and no record has the entry's reference.
 pub fn what_is_sure_is_filled()
     ensures { FillsWhatIsSure }
 {}
 
-/// A line is filled with an entry that waits for the bank, and that it fits.
+/// A line is only filled with an entry that waits for the bank and that the line fits.
 pub fn filled_entries_wait()
     ensures { FillsWithWaiting }
 {}
 
-/// Two that look alike are never filled: neither a line that two entries fit, nor one that fits an entry which another
-/// open line fits.
+/// Lookalikes are never filled: neither a line that two entries fit, nor one that fits an entry which another open line
+/// fits.
 pub fn two_alike_are_left()
     ensures entries { TwoEntriesAreLeft }
     ensures lines { TwoLinesAreLeft }
 {}
 
-/// What is written are the lines with a reference, each as it is, and some of those without one, each with a reference
-/// and else as it is; in their order.
+/// The output has the lines with a reference, each unchanged, and some of those without one, each with a reference and
+/// otherwise unchanged. They keep their order.
 pub fn only_references_change()
     ensures { OnlyReferencesChange }
 {}
 
-/// Where no two entries have one reference, that with which a line is filled is that of no other line that is written.
-/// It is so of a sound firm, whose matters' numbers are ones that a matter may have: no two of its entries that wait
-/// have one reference.
+/// If no two entries share a reference, the reference that a line is filled with is not on any other line of the
+/// output. Entries share none in a sound firm whose matters have valid numbers: no two of its waiting entries have the
+/// same reference.
 pub fn none_is_named_twice()
     ensures held { NoneIsNamedTwice }
     ensures apart { WaitApart }
     ensures over_firms { NoneIsNamedTwiceByFirms }
 {}
 
-/// A line that is filled, and fits an entry of some of those that wait, is filled with the same where these alone wait,
-/// where some of the lines that are booked alone are booked, and the exceptions are the same: what others have can only
-/// take a filling away.
+/// Suppose a line is filled, and fits an entry among a part of the waiting entries. Then it is filled with the same
+/// reference if only that part waits, only a part of the booked lines is booked, and the exceptions are the same. So
+/// what others have can only take a filling away.
 pub fn more_only_takes_away()
     ensures { MoreOnlyTakesAway }
 {}
 
-/// The reference with which a line is filled over a firm is that of a deposit that is held or of a payment that is
-/// issued: never `FIRM` or a balance, and never a return.
+/// The reference that a line is filled with over a firm is that of a held deposit or an issued payment. It is never
+/// `FIRM` or a balance, and never a return.
 pub fn filled_waits()
     ensures { FilledWaits }
 {}
 
-/// Other matters' rows can only take a filling away: a line that is filled over a firm, and fits an entry of a matter,
-/// is filled with the same over that firm with the rows of some matters alone, if that is one of them.
+/// Other matters' rows can only take a filling away. If a line is filled over a firm, and fits an entry of a matter, it
+/// is filled with the same reference over that firm with the rows of some matters only, if that matter is one of them.
 pub fn other_matters_only_take_away()
     ensures { OtherMattersOnlyTakeAway }
 {}
 
-/// The statement that is written reads as the header and the records that are written, field by field: an import reads
-/// the items of these.
+/// The statement that is written is read back as the header and the records that were written, field by field. An
+/// import reads the items of these.
 pub fn what_is_written_is_read()
     ensures records { ReadsBack }
     ensures items { IsImported }
 {}
 
-/// The lines of the statement that is written are what is written of the lines, each in its place, where every
-/// reference of a book is one that a record can have.
+/// The lines of the written statement are what is written of each line, in order, if every reference of the book is one
+/// that a record can have.
 pub fn lines_are_written()
     ensures { HasLinesWritten }
 {}

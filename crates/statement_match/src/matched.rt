@@ -1,33 +1,31 @@
-// A statement whose references may be empty, matched against a book.
+// Matches a statement whose references may be empty against a book.
 
 ghost use Rattle.std.specs.Prelude.{◌≡◌, IfOk};
 ghost use Rattle.trust_store.specs.Calls.{IsRead};
+ghost use Rattle.statement_lines.specs.Records.{records_of};
 ghost use Rattle.statement_match.specs.Matched.{matched, matched_by as matched_by_known};
-ghost use Rattle.statement_match.specs.Records.{records_of};
 
-use crate::index::Index;
 use crate::knowing::known_in;
-use crate::known::Known;
-use crate::records::{Records, records_in};
 use crate::rule::outcomes_by;
 use crate::statement::statement_of;
 use crate::unmatched::unmatched_of;
+use statement_lines::{Index, Known, Records, records_in};
 use std::alloc::{AllocError, Global};
 use std::marker::Model;
 use trust_base::{Day, StoreFault};
 use trust_store::Book;
 
-/// What a statement becomes, whose references may be empty.
+/// The result of matching a statement whose references may be empty.
 ///
-/// Contracts see it as its two texts, and whether something is to be looked at.
+/// Contracts see it as its two texts, and whether a person has to look at something.
 #[derive(Drop)]
 pub struct Matched {
-    /// The statement that an import takes, in CSV: records with a reference as they are, and those without one that are
-    /// sure with the reference of their entry.
+    /// The statement for the import, in CSV: records with a reference unchanged, and records without one that are sure,
+    /// with the reference of their entry.
     pub statement: Vec<u8>,
-    /// What is told of the records: a line for each that a person has to look at, and the counts in the last.
+    /// The report on the records: a line for each that a person has to look at, and the counts in the last line.
     pub unmatched: Vec<u8>,
-    /// Has one of them to be looked at?
+    /// Whether a person has to look at a record.
     pub is_left: bool,
 }
 
@@ -39,7 +37,7 @@ impl Model for Matched {
     ghost view = { λ m. record { statement = m.statement.items; unmatched = m.unmatched.items; is_left = m.is_left } };
 }
 
-// Matches a statement, whose records these are, against what is known of a book.
+// Matches a statement with these records against what is known of a book.
 fn matched_by(
     alloc: Global,
     today: Day,
@@ -61,10 +59,10 @@ fn matched_by(
     })
 }
 
-/// Matches a statement against a book on a business day. The book stays as it is. The first record of the statement is
-/// taken for its header, whatever it says.
+/// Matches a statement against a book on a business day. The book is unchanged. The first record of the statement is
+/// taken as its header, whatever it says.
 ///
-/// Store is answered where the book's store was at fault, and Memory where a growth was refused.
+/// Returns `Store` if the book's store failed, and `Memory` if memory ran out.
 #[tactic(auto, unfolding(crate::specs::Matched::matched))]
 pub fn match_statement<B: Book>(
     alloc: Global,

@@ -1,11 +1,11 @@
-// What is said of records that have to be looked at, in words that are the same of all.
+// Fixed phrases for records that have to be looked at.
 
 ghost use Rattle.std.specs.Prelude.{◌≡◌, ◌++◌, OnOk};
 ghost use Rattle.statement_match.specs.Phrases.{phrase_text};
 
 use std::alloc::AllocError;
 
-/// Words that are the same of all records, named by what they begin with.
+/// Phrases that are the same for all records, named after how they begin.
 #[derive(Clone, Copy, PartialEq, Eq, Debug)]
 pub(crate) enum Phrase {
     DatedAfter,
@@ -54,7 +54,7 @@ fn words(phrase: Phrase) -> &'static str
     }
 }
 
-/// Appends such words.
+/// Appends a phrase.
 pub(crate) fn push_phrase(out: &mut Vec<u8>, phrase: Phrase) -> Result<(), AllocError>
     ensures { OnOk result (out.new.items ≡ out.old.items ++ phrase_text phrase) }
 {

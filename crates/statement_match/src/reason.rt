@@ -4,24 +4,19 @@ ghost use Rattle.std.specs.Prelude.{◌≡◌, ◌&&◌, find, is_some, nat_lt, 
 ghost use Rattle.std.specs.List.{count_by, list_any};
 ghost use Rattle.std.specs.Str.{bytes_eq};
 ghost use Rattle.statement_csv.specs.References.{entry_named};
-ghost use Rattle.statement_match.specs.Rule.{is_named_like, is_open_fit};
-ghost use Rattle.statement_match.specs.Relations.{count_related as count_of_related, fitted as fitted_entry};
-ghost use Rattle.statement_match.specs.Relations.{is_related as is_related_so, stands};
+ghost use Rattle.statement_lines.specs.OpenLines.{is_named_like, is_open_fit};
+ghost use Rattle.statement_lines.specs.Relations.{count_related as count_of_related, fitted as fitted_entry};
+ghost use Rattle.statement_lines.specs.Relations.{is_related as is_related_so, stands};
+ghost use Rattle.statement_lines.specs.declared.relation.Relation.TheVariants.{Fitted};
 ghost use Rattle.statement_match.specs.Reasons.{entry_reason as entry_reason_told, fits_other as fits_other_entry};
 ghost use Rattle.statement_match.specs.Reasons.{is_claimed_fit as is_claimed_fit_of, is_doubled_outcome};
 ghost use Rattle.statement_match.specs.Reasons.{is_shared_fit as is_shared_fit_of, left_reason as left_reason_told};
 ghost use Rattle.statement_match.specs.Reasons.{named_reason as named_reason_told, reason_for as reason_told};
 ghost use Rattle.statement_match.specs.Reasons.{retried_reason as retried_reason_told};
-ghost use Rattle.statement_match.specs.declared.relation.Relation.TheVariants.{Fitted};
 
-use crate::book_entry::BookEntry;
 use crate::grounds::LineGrounds;
-use crate::index::Index;
-use crate::outcome::Outcome;
-use crate::relation::Relation;
 use crate::rule::is_beside_booked;
-use crate::statement_line::StatementLine;
-use crate::waiting::WaitingEntry;
+use statement_lines::{BookEntry, Index, Outcome, Relation, StatementLine, WaitingEntry};
 use trust_base::{BankText, Day, EntryNo, MatterNo};
 
 /// Why a record has to be looked at.
@@ -37,25 +32,25 @@ pub(crate) enum Reason {
     FitsSeveral,
     /// It fits an entry that another record names.
     Claimed,
-    /// It fits an entry that other open lines fit.
+    /// It fits an entry that other open lines fit too.
     Shared,
-    /// Its words tell of a charge, a return or a correction.
+    /// Its words speak of a charge, a return or a correction.
     OtherBusiness,
-    /// Entries of the book stand so to it.
+    /// Entries of the book are in this relation to it.
     Related(Relation),
-    /// The book has nothing of its amount.
+    /// The book has no entry of its amount.
     NoneOfItsAmount,
-    /// And the deposits that wait and were booked on this day are together its amount.
+    /// The book has no entry of its amount, but the waiting deposits that were booked on this day add up to it.
     Together(Day),
     /// It is an exception under several references.
     SeveralExceptions,
     /// It is an exception under the reference of one entry, and fits another.
     FitsAnother,
-    /// Its reference is that of no deposit or payment.
+    /// No deposit or payment has its reference.
     NamesNone,
 }
 
-// Does one of the entries found stand so to a line?
+// Whether one of the given entries is in this relation to a line.
 fn is_related_among(
     found: &[(u64, &BookEntry)],
     relation: Relation,
@@ -69,7 +64,7 @@ fn is_related_among(
         .any(|entry| relation.holds(today, line, entry.1))
 }
 
-/// Do entries of the book stand so to the line?
+/// Whether entries of the book are in this relation to the line.
 pub(crate) fn is_related(relation: Relation, today: Day, grounds: &LineGrounds) -> bool
     ensures { result ≡ is_related_so relation today grounds.now.known grounds.now.line }
 {
@@ -81,7 +76,7 @@ pub(crate) fn is_related(relation: Relation, today: Day, grounds: &LineGrounds) 
     )
 }
 
-// How many of the entries found stand so to a line.
+// How many of the given entries are in this relation to a line.
 fn count_related_among(
     found: &[(u64, &BookEntry)],
     relation: Relation,
@@ -96,7 +91,7 @@ fn count_related_among(
         .count()
 }
 
-/// How many entries of the book stand so to the line.
+/// How many entries of the book are in this relation to the line.
 pub(crate) fn count_related(relation: Relation, today: Day, grounds: &LineGrounds) -> usize
     ensures { result ≡ count_of_related relation today grounds.now.known grounds.now.line }
 {
@@ -108,7 +103,7 @@ pub(crate) fn count_related(relation: Relation, today: Day, grounds: &LineGround
     )
 }
 
-// The first of the entries found that a line fits.
+// Returns the first of the given entries that a line fits.
 fn fitted_among<'a>(
     found: &[(u64, &'a BookEntry)],
     today: Day,
@@ -123,14 +118,14 @@ fn fitted_among<'a>(
         .map(|entry| entry.1)
 }
 
-/// The first entry that the line fits.
+/// Returns the first entry that the line fits.
 pub(crate) fn fitted<'a>(today: Day, grounds: &LineGrounds<'a, '_, '_>) -> Option<&'a BookEntry>
     ensures { option_copied result ≡ fitted_entry today grounds.now.known grounds.now.line }
 {
     fitted_among(grounds.candidates(Relation::Fitted), today, grounds.line())
 }
 
-// Do several open ones of the lines found fit an entry?
+// Whether several of the given lines are open and fit an entry.
 fn is_shared_among(today: Day, found: &[(u64, &StatementLine)], entry: &WaitingEntry) -> bool
     ensures { result ≡ nat_lt 1 (count_by (λ e. is_open_fit today entry.now e.1.now) found.now) }
 {
@@ -141,14 +136,14 @@ fn is_shared_among(today: Day, found: &[(u64, &StatementLine)], entry: &WaitingE
         .count()
 }
 
-// Do several open lines fit an entry?
+// Whether several open lines fit an entry.
 fn is_shared(today: Day, index: &Index, entry: &WaitingEntry) -> bool
     ensures { result ≡ nat_lt 1 (count_by (is_open_fit today entry.now) index.now.lines) }
 {
     is_shared_among(today, index.lines_of_amount(entry), entry)
 }
 
-// Does the line fit an entry whose reference a record has by itself?
+// Whether the line fits an entry whose reference a record claims.
 fn is_claimed_fit(today: Day, grounds: &LineGrounds) -> bool
     ensures { result ≡ is_claimed_fit_of grounds.now.known.held grounds.now.records.lines
         (fitted_entry today grounds.now.known grounds.now.line) }
@@ -159,7 +154,7 @@ fn is_claimed_fit(today: Day, grounds: &LineGrounds) -> bool
     }
 }
 
-// Does the line fit an entry that other open lines fit?
+// Whether the line fits an entry that other open lines fit too.
 fn is_shared_fit(today: Day, grounds: &LineGrounds) -> bool
     ensures { result ≡ is_shared_fit_of today grounds.now.records.lines
         (fitted_entry today grounds.now.known grounds.now.line) }
@@ -183,7 +178,7 @@ fn is_doubled(outcome: &Outcome) -> bool
     }
 }
 
-// Why a line is left that fits no entry, by its words and the entries of the book.
+// Why a line that fits no entry is left, according to its words and the entries of the book.
 #[tactic(auto, unfolding(crate::specs::Reasons::entry_reason))]
 fn entry_reason(today: Day, grounds: &LineGrounds) -> Reason
     ensures { result ≡ entry_reason_told today grounds.now.known grounds.now.line }
@@ -239,7 +234,7 @@ fn left_reason(today: Day, grounds: &LineGrounds, outcome: &Outcome) -> Reason
     entry_reason(today, grounds)
 }
 
-/// How many exceptions are the line but for its reference, and have one.
+/// How many exceptions are the line with a reference.
 pub(crate) fn exception_count(grounds: &LineGrounds) -> usize
     ensures { result ≡ count_by (is_named_like grounds.now.line) grounds.now.known.held.exceptions }
 {
@@ -249,7 +244,7 @@ pub(crate) fn exception_count(grounds: &LineGrounds) -> usize
         .count_named_like(grounds.line())
 }
 
-// Does a line fit one of the entries found, of another reference?
+// Whether a line fits one of the given entries with another reference.
 fn fits_other_among(
     found: &[(u64, &BookEntry)],
     today: Day,
@@ -265,7 +260,7 @@ fn fits_other_among(
     })
 }
 
-// Does the line fit an entry of another reference?
+// Whether the line fits an entry with another reference.
 fn fits_other(today: Day, grounds: &LineGrounds, reference: &BankText) -> bool
     ensures { result ≡ fits_other_entry today grounds.now.known grounds.now.line reference.now }
 {
@@ -273,7 +268,7 @@ fn fits_other(today: Day, grounds: &LineGrounds, reference: &BankText) -> bool
     fits_other_among(found, today, grounds.line(), reference)
 }
 
-// Why the line has to be looked at that is an exception under a reference.
+// Why a line that is an exception under a reference has to be looked at.
 #[tactic(auto, unfolding(crate::specs::Reasons::retried_reason))]
 fn retried_reason(today: Day, grounds: &LineGrounds, reference: &BankText) -> Option<Reason>
     ensures { result ≡ retried_reason_told today grounds.now.known grounds.now.line reference.now }
@@ -287,7 +282,7 @@ fn retried_reason(today: Day, grounds: &LineGrounds, reference: &BankText) -> Op
     None
 }
 
-// Is a reference of the form of an entry's?
+// Whether a reference has the form of an entry's.
 #[tactic(auto, unfolding(statement_csv::specs::References::entry_named))]
 fn names_entry(reference: &[u8]) -> bool
     ensures { result ≡ is_some (entry_named reference.now) }
@@ -301,7 +296,7 @@ fn names_entry(reference: &[u8]) -> bool
     EntryNo::read(&reference[8..12]).is_some()
 }
 
-// Why a line has to be looked at that has a reference.
+// Why a line with a reference has to be looked at.
 #[tactic(auto, unfolding(crate::specs::Reasons::named_reason))]
 fn named_reason(today: Day, grounds: &LineGrounds) -> Option<Reason>
     ensures { result ≡ named_reason_told today grounds.now.known grounds.now.line }
@@ -322,7 +317,7 @@ fn named_reason(today: Day, grounds: &LineGrounds) -> Option<Reason>
     None
 }
 
-/// Why the line has to be looked at of which this becomes, if it has to.
+/// Why a line with this outcome has to be looked at; `None` if it does not.
 #[tactic(auto, unfolding(crate::specs::Reasons::reason_for))]
 pub(crate) fn reason_for(today: Day, grounds: &LineGrounds, outcome: &Outcome) -> Option<Reason>
     ensures { result ≡ reason_told today grounds.now.known grounds.now.records.lines grounds.now.line outcome.now }

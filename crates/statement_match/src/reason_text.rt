@@ -1,38 +1,34 @@
-// What is told of why records of a statement have to be looked at.
+// Texts that say why records of a statement have to be looked at.
 
 ghost use Rattle.std.specs.Prelude.{◌≡◌, ◌++◌, ◌≤◌, find, length, map, take, flat_map, IfOk, OnOk};
 ghost use Rattle.std.specs.Fmt.{decimal};
 ghost use Rattle.std.specs.List.{count_by, filter};
 ghost use Rattle.trust_base.specs.Texts.{day_text, signed_text};
-ghost use Rattle.statement_match.specs.Bookings.{booking_of, is_same_booking};
-ghost use Rattle.statement_match.specs.Lookups.{elements};
-ghost use Rattle.statement_match.specs.Rule.{is_named_like, is_open_fit, is_open_like};
-ghost use Rattle.statement_match.specs.Relations.{fitted as fitted_entry, stands};
+ghost use Rattle.statement_lines.specs.Bookings.{booking_of, is_same_booking};
+ghost use Rattle.statement_lines.specs.Lookups.{elements};
+ghost use Rattle.statement_lines.specs.OpenLines.{is_named_like, is_open_fit, is_open_like};
+ghost use Rattle.statement_lines.specs.Relations.{fitted as fitted_entry, stands};
+ghost use Rattle.statement_lines.specs.Words.{further};
 ghost use Rattle.statement_match.specs.ReasonTexts.{amount_part, behind_comma, behind_semicolon, booked_part};
 ghost use Rattle.statement_match.specs.ReasonTexts.{claimed_text, doubled_text, entry_text, exception_part};
 ghost use Rattle.statement_match.specs.ReasonTexts.{exceptions_part, fit_numbers as numbers_of_fits, fits_another_text};
-ghost use Rattle.statement_match.specs.ReasonTexts.{fitted_part, front_count, further, further_if_any, last_text};
-ghost use Rattle.statement_match.specs.ReasonTexts.{more_text, numbers_text, parted_by_commas, parted_by_semicolons};
-ghost use Rattle.statement_match.specs.ReasonTexts.{reason_text, related_entry_text, related_text};
-ghost use Rattle.statement_match.specs.ReasonTexts.{related_texts as texts_related, return_part};
-ghost use Rattle.statement_match.specs.ReasonTexts.{several_exceptions_text, several_text, shared_part, state_word};
-ghost use Rattle.statement_match.specs.ReasonTexts.{text_if, together_text, words_of};
+ghost use Rattle.statement_match.specs.ReasonTexts.{fitted_part, front_count, further_if_any, last_text, more_text};
+ghost use Rattle.statement_match.specs.ReasonTexts.{numbers_text, parted_by_commas, parted_by_semicolons, reason_text};
+ghost use Rattle.statement_match.specs.ReasonTexts.{related_entry_text, related_text, related_texts as texts_related};
+ghost use Rattle.statement_match.specs.ReasonTexts.{return_part, several_exceptions_text, several_text, shared_part};
+ghost use Rattle.statement_match.specs.ReasonTexts.{state_word, text_if, together_text, words_of};
 
-use crate::book_entry::{BookEntry, EntryState};
 use crate::grounds::{LineGrounds, Numbered};
 use crate::phrase::{Phrase, push_phrase};
 use crate::reason::{Reason, count_related, exception_count, fitted, is_related};
-use crate::records::number_at;
-use crate::relation::Relation;
 use crate::rule::{booked_like, count_open_like};
-use crate::statement_line::StatementLine;
-use crate::waiting::WaitingEntry;
 use byte_streams::OwnedBytes;
 use itoa::Buffer;
+use statement_lines::{BookEntry, EntryState, Relation, StatementLine, WaitingEntry, number_at};
 use std::alloc::{AllocError, Global};
 use trust_base::{Day, write_amount};
 
-// How many entries or records are told of more.
+// How many entries or records are listed at most.
 const MOST_TOLD: usize = 5;
 
 // Appends words.
@@ -50,7 +46,7 @@ pub(crate) fn push_number(out: &mut Vec<u8>, number: u64) -> Result<(), AllocErr
     out.extend_from_slice(buffer.format(number).as_bytes())
 }
 
-/// Appends a field behind another.
+/// Appends a field after another.
 pub(crate) fn push_further(out: &mut Vec<u8>, field: &[u8]) -> Result<(), AllocError>
     ensures { OnOk result (out.new.items ≡ out.old.items ++ further field.now) }
 {
@@ -58,7 +54,7 @@ pub(crate) fn push_further(out: &mut Vec<u8>, field: &[u8]) -> Result<(), AllocE
     out.extend_from_slice(field)
 }
 
-/// Appends an amount behind another field.
+/// Appends an amount after another field.
 pub(crate) fn push_amount(out: &mut Vec<u8>, amount: i64) -> Result<(), AllocError>
     ensures { OnOk result (out.new.items ≡ out.old.items ++ further (signed_text amount)) }
 {
@@ -108,7 +104,7 @@ fn push_entry(out: &mut Vec<u8>, entry: &BookEntry) -> Result<(), AllocError>
     push_further(out, entry.party.as_slice())
 }
 
-// Appends the entry's amount where the line has another.
+// Appends the entry's amount if the line has another.
 fn push_amount_of(
     out: &mut Vec<u8>,
     relation: Relation,
@@ -143,7 +139,7 @@ fn related_entry(
     Ok(OwnedBytes::new(text))
 }
 
-// Adds the text of an entry that stands so to a line, where fewer than are told are there.
+// Adds the text of an entry in this relation to a line, unless the list is full.
 #[tactic(auto, using(crate::proofs::Listed::told_steps))]
 fn add_related(
     texts: &mut Vec<OwnedBytes>,
@@ -167,7 +163,7 @@ fn add_related(
     Ok(())
 }
 
-// The texts of the first of the entries found that stand so to a line.
+// Returns the texts of the first of the given entries that are in this relation to a line.
 fn related_texts(
     alloc: Global,
     relation: Relation,
@@ -222,7 +218,7 @@ fn push_more(out: &mut Vec<u8>, count: usize) -> Result<(), AllocError>
     push_words(out, " more")
 }
 
-// The texts of the first entries that stand so to the line.
+// Returns the texts of the first entries that are in this relation to the line.
 fn texts_of_related(
     alloc: Global,
     relation: Relation,
@@ -236,7 +232,7 @@ fn texts_of_related(
     Ok(texts)
 }
 
-// Appends the entries that stand so to the line.
+// Appends the entries that are in this relation to the line.
 #[tactic(auto, unfolding(crate::specs::ReasonTexts::related_text))]
 fn push_related(
     out: &mut Vec<u8>,
@@ -252,7 +248,7 @@ fn push_related(
     push_more(out, count_related(relation, today, grounds))
 }
 
-// The numbers of those of the lines found that are open and fit an entry.
+// Returns the numbers of the given lines that are open and fit an entry.
 fn fit_numbers_among(
     alloc: Global,
     today: Day,
@@ -271,7 +267,7 @@ fn fit_numbers_among(
     Ok(numbers)
 }
 
-// The numbers of the open lines that fit an entry.
+// Returns the numbers of the open lines that fit an entry.
 fn fit_numbers(
     alloc: Global,
     today: Day,
@@ -312,7 +308,7 @@ fn push_parted(out: &mut Vec<u8>, numbers: &[u64]) -> Result<(), AllocError>
     push_all_behind_commas(out, others)
 }
 
-// How many numbers stand before the last `and`.
+// How many numbers come before the last `and`.
 fn front_len(numbers: &[u64]) -> usize
     ensures value { result ≡ front_count numbers.now }
     ensures bound { result ≤ length numbers.now }
@@ -324,7 +320,7 @@ fn front_len(numbers: &[u64]) -> usize
     }
 }
 
-// Appends the last of the numbers, or how many are not told.
+// Appends the last of the numbers, or how many are not listed.
 fn push_last(out: &mut Vec<u8>, numbers: &[u64]) -> Result<(), AllocError>
     ensures { OnOk result (out.new.items ≡ out.old.items ++ last_text numbers.now) }
 {
@@ -377,7 +373,7 @@ fn count_doubled(grounds: &LineGrounds) -> usize
     count_open_like(grounds.index(), grounds.line())
 }
 
-// How many lines of the book have them.
+// How many lines of the book have the date, bank reference and amount of the line.
 fn count_booked(grounds: &LineGrounds) -> usize
     ensures { result ≡ count_by (is_same_booking (booking_of grounds.now.line)) grounds.now.known.held.bookings }
 {
@@ -435,7 +431,7 @@ fn push_shared(out: &mut Vec<u8>, today: Day, grounds: &LineGrounds) -> Result<(
     }
 }
 
-// Appends the deposits that the line may take back, if there are some.
+// Appends the deposits that the line may take back, if there are any.
 fn push_return(out: &mut Vec<u8>, today: Day, grounds: &LineGrounds) -> Result<(), AllocError>
     ensures { OnOk result (out.new.items ≡ out.old.items ++ return_part today grounds.now.known grounds.now.line) }
 {
@@ -457,7 +453,7 @@ fn push_exception(out: &mut Vec<u8>, grounds: &LineGrounds) -> Result<(), AllocE
     }
 }
 
-// Appends under how many references the line is an exception.
+// Appends how many references the line is an exception under.
 #[tactic(auto, unfolding(crate::specs::ReasonTexts::exceptions_part))]
 fn push_exception_count(out: &mut Vec<u8>, grounds: &LineGrounds) -> Result<(), AllocError>
     ensures { OnOk result (out.new.items
@@ -503,7 +499,7 @@ fn push_together(
     push_related(out, Relation::HeldOn(day.get()), today, grounds)
 }
 
-/// Appends what is told of why the line has to be looked at.
+/// Appends the text that says why the line has to be looked at.
 #[tactic(auto, unfolding(crate::specs::ReasonTexts::reason_text))]
 pub(crate) fn push_reason(
     out: &mut Vec<u8>,

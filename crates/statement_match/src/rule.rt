@@ -1,24 +1,21 @@
-// What becomes of the lines of a statement.
+// Decides the outcome for the lines of a statement.
 
 ghost use Rattle.std.specs.Prelude.{◌≡◌, ◌==◌, IfOk, find, nat_le, nat_lt, option_copied, option_map};
 ghost use Rattle.std.specs.List.{count_by, filter, list_any};
-ghost use Rattle.statement_match.specs.Bookings.{amount_if, booking_of, is_beside, is_same_booking, total_of};
-ghost use Rattle.statement_match.specs.Lookups.{elements};
-ghost use Rattle.statement_match.specs.Showing.{fits};
-ghost use Rattle.statement_match.specs.Rule.{becomes, exception_reference, fill, is_booked as is_booked_line};
+ghost use Rattle.statement_lines.specs.Bookings.{amount_if, booking_of, is_beside, is_same_booking, total_of};
+ghost use Rattle.statement_lines.specs.Lookups.{elements};
+ghost use Rattle.statement_lines.specs.Showing.{fits};
+ghost use Rattle.statement_lines.specs.OpenLines.{exception_reference, is_open_fit, is_open_like};
+ghost use Rattle.statement_match.specs.Rule.{becomes, fill, is_booked as is_booked_line};
 ghost use Rattle.statement_match.specs.Rule.{is_booked_in_parts as is_split_line, is_doubled as is_doubled_line};
 ghost use Rattle.statement_match.specs.Rule.{is_fitted_once as is_entry_fitted_once, is_in_book as is_booked_already};
-ghost use Rattle.statement_match.specs.Rule.{is_open_fit, is_open_like, outcomes};
+ghost use Rattle.statement_match.specs.Rule.{outcomes};
 
-use crate::booking::Booking;
-use crate::index::Index;
-use crate::outcome::Outcome;
-use crate::statement_line::StatementLine;
-use crate::waiting::WaitingEntry;
+use statement_lines::{Booking, Index, Outcome, StatementLine, WaitingEntry};
 use std::alloc::{AllocError, Global};
 use trust_base::{BankText, Day, Line};
 
-// Have at most so many open ones of the lines found the date, bank reference and amount of a line?
+// Whether at most `most` of the given lines are open and have the date, bank reference and amount of a line.
 fn are_at_most_among(found: &[(u64, &StatementLine)], line: &StatementLine, most: usize) -> bool
     ensures { result ≡ nat_le (count_by (λ e. is_open_like line.now e.1.now) found.now) most }
 {
@@ -29,14 +26,14 @@ fn are_at_most_among(found: &[(u64, &StatementLine)], line: &StatementLine, most
         .is_none()
 }
 
-// Have at most so many open lines the date, bank reference and amount of a line?
+// Whether at most `most` open lines have the date, bank reference and amount of a line.
 fn are_at_most(index: &Index, line: &StatementLine, most: usize) -> bool
     ensures { result ≡ nat_le (count_by (is_open_like line.now) index.now.lines) most }
 {
     are_at_most_among(index.lines_of(line.line()), line, most)
 }
 
-// How many open ones of the lines found have the date, bank reference and amount of a line.
+// How many of the given lines are open and have the date, bank reference and amount of a line.
 fn count_open_like_among(found: &[(u64, &StatementLine)], line: &StatementLine) -> usize
     ensures { result ≡ count_by (λ e. is_open_like line.now e.1.now) found.now }
 {
@@ -53,7 +50,7 @@ pub(crate) fn count_open_like(index: &Index, line: &StatementLine) -> usize
     count_open_like_among(index.lines_of(line.line()), line)
 }
 
-// Have several open ones of the lines found them?
+// Whether several of the given lines are open and have the date, bank reference and amount of a line.
 fn are_several_among(found: &[(u64, &StatementLine)], line: &StatementLine) -> bool
     ensures { result ≡ nat_lt 1 (count_by (λ e. is_open_like line.now e.1.now) found.now) }
 {
@@ -64,28 +61,28 @@ fn are_several_among(found: &[(u64, &StatementLine)], line: &StatementLine) -> b
         .count()
 }
 
-// Have several open lines them?
+// Whether several open lines have the date, bank reference and amount of a line.
 fn are_several(index: &Index, line: &StatementLine) -> bool
     ensures { result ≡ nat_lt 1 (count_by (is_open_like line.now) index.now.lines) }
 {
     are_several_among(index.lines_of(line.line()), line)
 }
 
-// How many of the lines of the book found have them.
+// How many of the given lines of the book have the date, bank reference and amount of a line.
 fn booked_like_among(found: &[(u64, &Booking)], line: &Line) -> usize
     ensures { result ≡ count_by (λ e. is_same_booking (booking_of line.now) e.1.now) found.now }
 {
     found.iter().filter(|entry| entry.1.is_same(line)).count()
 }
 
-/// How many lines of the book have them.
+/// How many lines of the book have the date, bank reference and amount of a line.
 pub(crate) fn booked_like(index: &Index, line: &Line) -> usize
     ensures { result ≡ count_by (is_same_booking (booking_of line.now)) index.now.held.bookings }
 {
     booked_like_among(index.bookings_of(line), line)
 }
 
-// Has one alone of the lines found the date and the bank reference of a line?
+// Whether exactly one of the given lines has the date and bank reference of a line.
 fn is_single_among(found: &[(u64, &StatementLine)], line: &StatementLine) -> bool
     ensures { result ≡ (count_by (λ e. is_beside (booking_of line.now) (booking_of e.1.now)) found.now == 1) }
 {
@@ -97,42 +94,42 @@ fn is_single_among(found: &[(u64, &StatementLine)], line: &StatementLine) -> boo
         == 1
 }
 
-// Has one line of the statement alone the date and the bank reference of a line?
+// Whether exactly one line of the statement has the date and bank reference of a line.
 fn is_single(index: &Index, line: &StatementLine) -> bool
     ensures { result ≡ (count_by (λ x. is_beside (booking_of line.now) (booking_of x)) index.now.lines == 1) }
 {
     is_single_among(index.lines_of(line.line()), line)
 }
 
-// Have some of the lines of the book found the date and the bank reference of a line?
+// Whether one of the given lines of the book has the date and bank reference of a line.
 fn is_beside_among(found: &[(u64, &Booking)], line: &Line) -> bool
     ensures { result ≡ list_any (λ e. is_beside (booking_of line.now) e.1.now) found.now }
 {
     found.iter().any(|entry| entry.1.is_beside(line))
 }
 
-/// Have lines of the book the date and the bank reference of a line?
+/// Whether a line of the book has the date and bank reference of a line.
 pub(crate) fn is_beside_booked(index: &Index, line: &Line) -> bool
     ensures { result ≡ list_any (is_beside (booking_of line.now)) index.now.held.bookings }
 {
     is_beside_among(index.bookings_of(line), line)
 }
 
-// Has one of the lines of the book found the date, bank reference and amount of a line?
+// Whether one of the given lines of the book has the date, bank reference and amount of a line.
 fn is_same_among(found: &[(u64, &Booking)], line: &Line) -> bool
     ensures { result ≡ list_any (λ e. is_same_booking (booking_of line.now) e.1.now) found.now }
 {
     found.iter().any(|entry| entry.1.is_same(line))
 }
 
-// Has a line of the book the date, bank reference and amount of a line?
+// Whether a line of the book has the date, bank reference and amount of a line.
 fn has_booked_like(index: &Index, line: &Line) -> bool
     ensures { result ≡ list_any (is_same_booking (booking_of line.now)) index.now.held.bookings }
 {
     is_same_among(index.bookings_of(line), line)
 }
 
-// What a line of the book adds to the sum of those that have them, in cents.
+// The amount of a line of the book in cents, if it has the date and bank reference of a line; otherwise 0.
 fn amount_beside(booking: &Booking, line: &Line) -> i64
     ensures { result ≡ amount_if (is_beside (booking_of line.now)) booking.now }
 {
@@ -143,7 +140,7 @@ fn amount_beside(booking: &Booking, line: &Line) -> i64
     }
 }
 
-// What those of some lines of the book that have them add up to, in cents.
+// The sum in cents of the given lines of the book that have the date and bank reference of a line.
 fn sum_beside(bookings: &[(u64, &Booking)], line: &Line) -> i128
     ensures { result ≡ total_of (filter (is_beside (booking_of line.now)) (elements bookings.now)) }
 {
@@ -154,21 +151,23 @@ fn sum_beside(bookings: &[(u64, &Booking)], line: &Line) -> i128
     total
 }
 
-// What the lines of the book that have them add up to, in cents.
+// The sum in cents of the lines of the book that have the date and bank reference of a line.
 fn total_beside(index: &Index, line: &Line) -> i128
     ensures { result ≡ total_of (filter (is_beside (booking_of line.now)) index.now.held.bookings) }
 {
     sum_beside(index.bookings_of(line), line)
 }
 
-// Has the book as many lines of the date, bank reference and amount of a line as the statement has open ones?
+// Whether the book has at least as many lines with the date, bank reference and amount of a line as the statement has
+// open ones.
 fn is_booked(index: &Index, line: &StatementLine) -> bool
     ensures { result ≡ is_booked_line index.now.held index.now.lines line.now }
 {
     are_at_most(index, line, booked_like(index, line.line()))
 }
 
-// Is it alone with its date and bank reference, and do the book's lines of these make its amount?
+// Whether the line is the only one with its date and bank reference, and the book's lines with these add up to its
+// amount.
 fn is_booked_in_parts(index: &Index, line: &StatementLine) -> bool
     ensures { result ≡ is_split_line index.now.held index.now.lines line.now }
 {
@@ -178,7 +177,7 @@ fn is_booked_in_parts(index: &Index, line: &StatementLine) -> bool
         && total_beside(index, whole) == whole.amount.get() as i128
 }
 
-// Is a line in the book already?
+// Whether a line is in the book already.
 #[tactic(auto, unfolding(crate::specs::Rule::is_in_book))]
 fn is_in_book(index: &Index, line: &StatementLine) -> bool
     ensures { result ≡ is_booked_already index.now.held index.now.lines line.now }
@@ -186,8 +185,8 @@ fn is_in_book(index: &Index, line: &StatementLine) -> bool
     is_booked(index, line) || is_booked_in_parts(index, line)
 }
 
-// The reference under which an open line is an exception.
-#[tactic(auto, unfolding(crate::specs::Rule::exception_reference))]
+// Returns the reference under which an open line is an exception.
+#[tactic(auto, unfolding(statement_lines::specs::OpenLines::exception_reference))]
 fn exception_reference_of(
     index: &Index,
     line: &StatementLine,
@@ -200,7 +199,7 @@ fn exception_reference_of(
     }
 }
 
-// Has another open line, or a line of the book, its date, bank reference and amount?
+// Whether another open line, or a line of the book, has its date, bank reference and amount.
 #[tactic(auto, unfolding(crate::specs::Rule::is_doubled))]
 fn is_doubled(index: &Index, line: &StatementLine) -> bool
     ensures { result ≡ is_doubled_line index.now.held index.now.lines line.now }
@@ -208,7 +207,7 @@ fn is_doubled(index: &Index, line: &StatementLine) -> bool
     are_several(index, line) || has_booked_like(index, line.line())
 }
 
-// Does a line fit one alone of the entries found?
+// Whether a line fits exactly one of the given entries.
 fn fits_one_among(today: Day, found: &[(u64, &WaitingEntry)], line: &StatementLine) -> bool
     ensures { result ≡ (count_by (λ e. fits today line.now e.1.now) found.now == 1) }
 {
@@ -220,14 +219,14 @@ fn fits_one_among(today: Day, found: &[(u64, &WaitingEntry)], line: &StatementLi
         == 1
 }
 
-// Does a line fit one entry alone?
+// Whether a line fits exactly one entry.
 fn fits_one(today: Day, index: &Index, line: &StatementLine) -> bool
     ensures { result ≡ (count_by (fits today line.now) index.now.held.waiting == 1) }
 {
     fits_one_among(today, index.waiting_of(line.line()), line)
 }
 
-// The first of the entries found that a line fits.
+// Returns the first of the given entries that a line fits.
 fn first_fit_among<'a>(
     today: Day,
     found: &[(u64, &'a WaitingEntry)],
@@ -241,14 +240,14 @@ fn first_fit_among<'a>(
         .map(|entry| entry.1)
 }
 
-// The first entry that a line fits.
+// Returns the first entry that a line fits.
 fn first_fit<'a>(today: Day, index: &Index<'a>, line: &StatementLine) -> Option<&'a WaitingEntry>
     ensures { option_copied result ≡ find (fits today line.now) index.now.held.waiting }
 {
     first_fit_among(today, index.waiting_of(line.line()), line)
 }
 
-// Does one open line alone of those found fit the entry?
+// Whether exactly one of the given lines is open and fits the entry.
 fn is_fitted_once_among(today: Day, found: &[(u64, &StatementLine)], entry: &WaitingEntry) -> bool
     ensures { result ≡ (count_by (λ e. is_open_fit today entry.now e.1.now) found.now == 1) }
 {
@@ -260,7 +259,7 @@ fn is_fitted_once_among(today: Day, found: &[(u64, &StatementLine)], entry: &Wai
         == 1
 }
 
-// Does one open line alone fit the entry?
+// Whether exactly one open line fits the entry.
 fn is_fitted_once(today: Day, index: &Index, entry: &WaitingEntry) -> bool
     ensures { result ≡ is_entry_fitted_once today index.now.lines entry.now }
 {
@@ -282,7 +281,7 @@ fn fill_of(today: Day, index: &Index, line: &StatementLine) -> Result<Outcome, A
     }
 }
 
-/// What becomes of a line. Fails only for want of memory.
+/// Returns the outcome for a line. The only error is out of memory.
 #[tactic(auto, unfolding(crate::specs::Rule::becomes))]
 pub(crate) fn outcome_of(
     today: Day,
@@ -306,7 +305,7 @@ pub(crate) fn outcome_of(
     fill_of(today, index, line)
 }
 
-/// What becomes of each line of a statement on a business day, by what is looked up. Fails only for want of memory.
+/// Returns the outcome for each line of a statement on a business day. The only error is out of memory.
 pub(crate) fn outcomes_by(
     alloc: Global,
     today: Day,

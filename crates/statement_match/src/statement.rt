@@ -1,192 +1,16 @@
-// The statement that an import takes.
+// Writes the statement for the import.
 
-ghost use Rattle.std.specs.Prelude.{◌≡◌, ◌++◌, ◌∷◌, [], ℕ, List, IfOk, OnOk, Option, None, Some, get_or, if◌then◌else◌};
-ghost use Rattle.std.specs.Prelude.{map, option_copied, slice_get};
-ghost use Rattle.csv.specs.Records.{fields_of};
-ghost use Rattle.trust_base.specs.declared.line.Line.{Line};
-ghost use Rattle.statement_csv.specs.Headers.{header};
-ghost use Rattle.statement_match.specs.Records.{lines_from, numbers_from, records_of, rows_of};
-ghost use Rattle.statement_match.specs.RowsLeft.{Adds, Holds, outcome_if};
-ghost use Rattle.statement_match.specs.Rule.{Held, outcomes as outcomes_told};
-ghost use Rattle.statement_match.specs.declared.outcome.Outcome.{Outcome};
-ghost use Rattle.statement_match.specs.Statements.{named_row, row_as, rows_by, statement_text};
+ghost use Rattle.std.specs.Prelude.{◌≡◌, ℕ, IfOk};
+ghost use Rattle.statement_lines.specs.Held.{Held};
+ghost use Rattle.statement_lines.specs.Records.{records_of};
+ghost use Rattle.statement_match.specs.Rule.{outcomes as outcomes_told};
+ghost use Rattle.statement_match.specs.Statements.{statement_text};
 
-use crate::outcome::Outcome;
-use crate::records::Records;
-use crate::rows::rows_behind_header;
-use csv::{ByteRecord, Writer, WriterBuilder};
+use statement_lines::{Outcome, Records, write_statement};
 use std::alloc::{AllocError, Global};
-use std::io::Write;
-use trust_base::BankText;
 
-// The field at a place, or an empty one.
-fn field(row: &ByteRecord, place: usize) -> &[u8]
-    ensures { result.now ≡ get_or (fields_of row.now) place [] }
-{
-    row.get(place).unwrap_or(&[])
-}
-
-// Writes a record of these fields.
-fn write_fields<W: Write + Drop>(writer: &mut Writer<W>, fields: &[&[u8]]) -> Result<(), AllocError>
-    ensures { OnOk result (Adds W.contents writer.old writer.new (map (λ field. field.now) fields.now ∷ [])) }
-{
-    // A vector has no other fault than want of memory.
-    let Ok(()) = writer.write_fields(fields) else {
-        return Err(AllocError);
-    };
-    Ok(())
-}
-
-// Writes a record as it is.
-fn write_same<W: Write + Drop>(writer: &mut Writer<W>, row: &ByteRecord) -> Result<(), AllocError>
-    ensures { OnOk result (Adds W.contents writer.old writer.new (fields_of row.now ∷ [])) }
-{
-    let Ok(()) = writer.write_byte_record(row) else {
-        return Err(AllocError);
-    };
-    Ok(())
-}
-
-// Writes the record of a line with a reference.
-fn write_named<W: Write + Drop>(
-    writer: &mut Writer<W>,
-    row: &ByteRecord,
-    reference: &BankText,
-) -> Result<(), AllocError>
-    ensures { OnOk result (Adds W.contents writer.old writer.new (named_row reference.now (fields_of row.now) ∷ [])) }
-{
-    let fields = [
-        field(row, 0),
-        reference.as_slice(),
-        field(row, 2),
-        field(row, 3),
-        field(row, 4),
-    ];
-    write_fields(writer, &fields)
-}
-
-// Writes what is written of the record of a line, by what becomes of that.
-fn write_line<W: Write + Drop>(
-    writer: &mut Writer<W>,
-    row: &ByteRecord,
-    outcome: &Outcome,
-) -> Result<(), AllocError>
-    ensures { OnOk result (Adds W.contents writer.old writer.new (row_as (fields_of row.now) (Some outcome.now))) }
-{
-    match outcome {
-        Outcome::AsItIs => write_same(writer, row),
-        Outcome::Retried(reference) | Outcome::Filled(reference) => {
-            write_named(writer, row, reference)
-        }
-        Outcome::InBook | Outcome::Doubled | Outcome::Left => Ok(()),
-    }
-}
-
-// The same of any record, which may be no line.
-fn write_row<W: Write + Drop>(
-    writer: &mut Writer<W>,
-    row: &ByteRecord,
-    outcome: Option<&Outcome>,
-) -> Result<(), AllocError>
-    ensures { OnOk result
-        (Adds W.contents writer.old writer.new (row_as (fields_of row.now) (option_copied outcome.entry))) }
-{
-    match outcome {
-        Some(outcome) => write_line(writer, row, outcome),
-        None => write_same(writer, row),
-    }
-}
-
-// What becomes of the line of the record with this number, if it is one: the next line has its number and its outcome
-// at this place.
-fn outcome_at<'a>(
-    numbers: &[u64],
-    outcomes: &'a [Outcome],
-    place: usize,
-    number: u64,
-) -> Option<&'a Outcome>
-    ensures { option_copied result ≡ outcome_if (slice_get numbers.now place) number (slice_get outcomes.now place) }
-{
-    match numbers.get(place) {
-        Some(line) if *line == number => outcomes.get(place),
-        _ => None,
-    }
-}
-
-// Writes what is written of a statement's records behind the header, by the numbers of its lines and what becomes of
-// each.
-fn write_rows<W: Write + Drop>(
-    alloc: Global,
-    writer: &mut Writer<W>,
-    statement: &[u8],
-    numbers: &[u64],
-    outcomes: &[Outcome],
-) -> Result<(), AllocError>
-    ensures { (outcome_of : Line → Outcome) → numbers.now ≡ numbers_from 1 (rows_of statement.now)
-        → outcomes.now ≡ map outcome_of (lines_from 1 (rows_of statement.now))
-        → OnOk result (Adds W.contents writer.old writer.new (rows_by outcome_of 1 (rows_of statement.now))) }
-{
-    let Some(rows) = rows_behind_header(alloc, statement)? else {
-        return Ok(());
-    };
-    let mut number = 0u64;
-    let mut place = 0;
-    for row in rows.into_byte_records() {
-        let Ok(row) = row else {
-            return Err(AllocError);
-        };
-        // Never none: a statement has fewer records than bytes.
-        let Some(next) = number.checked_add(1) else {
-            return Err(AllocError);
-        };
-        number = next;
-        let outcome = outcome_at(numbers, outcomes, place, number);
-        write_row(writer, &row, outcome)?;
-        if outcome.is_some() {
-            place += 1;
-        }
-    }
-    Ok(())
-}
-
-// Writes the header of a statement.
-fn write_header<W: Write + Drop>(writer: &mut Writer<W>) -> Result<(), AllocError>
-    ensures { OnOk result (Adds W.contents writer.old writer.new (header ∷ [])) }
-{
-    let names = [
-        b"date".as_slice(),
-        b"reference".as_slice(),
-        b"bank_ref".as_slice(),
-        b"amount".as_slice(),
-        b"text".as_slice(),
-    ];
-    write_fields(writer, &names)
-}
-
-// A writer of records of any length into memory.
-fn new_writer(alloc: Global) -> Writer<Vec<u8>>
-    ensures { Holds (λ bytes. Some bytes.items) result [] }
-{
-    WriterBuilder::new()
-        .flexible(true)
-        .from_writer(Vec::new(alloc))
-}
-
-// The text that a writer holds.
-fn text_in(writer: Writer<Vec<u8>>) -> Result<Vec<u8>, AllocError>
-    ensures { (text : List ℕ) → Holds (λ bytes. Some bytes.items) writer text
-        → IfOk result (λ found. found.items ≡ text) }
-{
-    let Ok(text) = writer.into_inner() else {
-        return Err(AllocError);
-    };
-    Ok(text)
-}
-
-/// The statement that an import takes, of one whose references may be empty and whose records these are, by what
-/// becomes of each line: the header, and the records in their order. A record with a reference, and one that is no
-/// line, is written as it is; one without a reference where it is filled, or is an exception under a reference, with
-/// that. A line feed ends each. Fails only for want of memory.
+/// Returns the statement for the import. `records` are those of a statement whose references may be empty, and each
+/// line has an outcome. The only error is out of memory.
 pub(crate) fn statement_of(
     alloc: Global,
     statement: &[u8],
@@ -197,8 +21,5 @@ pub(crate) fn statement_of(
     ensures { (today : ℕ) (held : Held) → outcomes.now ≡ outcomes_told today held records.now.lines
         → IfOk result (λ text. text.items ≡ statement_text today held statement.now) }
 {
-    let mut writer = new_writer(alloc);
-    write_header(&mut writer)?;
-    write_rows(alloc, &mut writer, statement, &records.numbers, outcomes)?;
-    text_in(writer)
+    write_statement(alloc, statement, records, outcomes)
 }

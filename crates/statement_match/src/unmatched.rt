@@ -1,38 +1,36 @@
-// What is told of the records of a statement that a person has to look at.
+// Reports the records of a statement that a person has to look at.
 
 ghost use Rattle.std.specs.Prelude.{◌≡◌, ◌++◌, ◌-◌, ◌≤◌, length, flat_map, IfOk, OnOk};
 ghost use Rattle.std.specs.List.{count_by};
+ghost use Rattle.statement_lines.specs.Words.{shown_text, words_part};
 ghost use Rattle.statement_match.specs.Rule.{outcomes as outcomes_told};
 ghost use Rattle.statement_match.specs.Reasons.{reason_for as reason_told};
 ghost use Rattle.statement_match.specs.Unmatched.{counts_line, is_left_out as is_left_out_outcome};
 ghost use Rattle.statement_match.specs.Unmatched.{is_written as is_written_outcome, line_head};
-ghost use Rattle.statement_match.specs.Unmatched.{record_line as line_of_record, record_text, same_text, shown_text};
-ghost use Rattle.statement_match.specs.Unmatched.{told, told_by, told_unreadable, unmatched};
-ghost use Rattle.statement_match.specs.Unmatched.{unreadable_line as line_of_unreadable, words_part, written_count};
+ghost use Rattle.statement_match.specs.Unmatched.{record_line as line_of_record, record_text, same_text, told, told_by};
+ghost use Rattle.statement_match.specs.Unmatched.{told_unreadable, unmatched, unreadable_line as line_of_unreadable};
+ghost use Rattle.statement_match.specs.Unmatched.{written_count};
 
 use crate::grounds::{Grounds, numbered_lines};
-use crate::index::Index;
-use crate::known::Known;
-use crate::mark::marks_of;
-use crate::outcome::Outcome;
 use crate::reason::reason_for;
 use crate::reason_text::{push_amount, push_number, push_reason, push_words};
-use crate::records::{Records, line_at, line_count, number_of};
-use crate::statement_line::StatementLine;
-use crate::words::push_line_words;
 use byte_streams::OwnedBytes;
+use statement_lines::{
+    Index, Known, Outcome, Records, StatementLine, line_at, line_count, marks_of, number_of,
+    push_line_words,
+};
 use std::alloc::{AllocError, Global};
 use std::marker::Model;
 use trust_base::{Day, Line};
 
-/// What is told of the records of a statement that a person has to look at.
+/// The report on the records of a statement that a person has to look at.
 ///
 /// Contracts see it as the text and the count.
 #[derive(Drop)]
 pub(crate) struct Unmatched {
-    /// A line for each of these records, in their order, and the counts in the last.
+    /// A line for each of these records, in their order, and the counts in the last line.
     pub(crate) text: Vec<u8>,
-    /// How many of them there are.
+    /// How many of these records there are.
     pub(crate) left: u64,
 }
 
@@ -51,7 +49,7 @@ fn push_record(out: &mut Vec<u8>, number: u64) -> Result<(), AllocError>
     push_number(out, number)
 }
 
-// The line for an unreadable record.
+// Returns the line for an unreadable record.
 #[tactic(auto, unfolding(crate::specs::Unmatched::unreadable_line))]
 fn unreadable_line(alloc: Global, number: u64) -> Result<OwnedBytes, AllocError>
     ensures { IfOk result (λ text. text ≡ line_of_unreadable number) }
@@ -75,7 +73,7 @@ fn push_line_head(out: &mut Vec<u8>, number: u64, line: &Line) -> Result<(), All
     push_line_words(out, &line.text)
 }
 
-// The line for a record, by the text of the reason.
+// Returns the line for a record, with the text of the reason.
 #[tactic(auto, unfolding(crate::specs::Unmatched::record_line))]
 fn record_line(
     alloc: Global,
@@ -93,7 +91,7 @@ fn record_line(
     Ok(OwnedBytes::new(text))
 }
 
-// Adds the lines for the unreadable records between two, the last one included.
+// Adds the lines for the unreadable records after `before`, up to and including `last`.
 #[tactic(auto, using(crate::proofs::Telling::unreadable_more, crate::proofs::Telling::unreadable_done))]
 fn add_unreadable(lines: &mut Vec<OwnedBytes>, before: u64, last: u64) -> Result<(), AllocError>
     ensures { OnOk result (lines.new.items ≡ lines.old.items ++ told_unreadable before (last - before)) }
@@ -129,7 +127,7 @@ fn add_line(
     Ok(())
 }
 
-// Adds the lines for the unreadable records before a record, and then its own.
+// Adds the lines for the unreadable records before a record, then its own.
 fn add_record(
     lines: &mut Vec<OwnedBytes>,
     today: Day,
@@ -147,7 +145,7 @@ fn add_record(
     add_line(lines, today, grounds, number, line, outcome)
 }
 
-// The lines for all records that have to be looked at, by what becomes of each line.
+// Returns the lines for all records that have to be looked at, according to the outcome of each line.
 #[tactic(auto, using(crate::proofs::Telling::told_done))]
 fn lines_told(
     alloc: Global,
@@ -238,7 +236,7 @@ fn push_counts(out: &mut Vec<u8>, written: u64, booked: u64, left: u64) -> Resul
     Ok(())
 }
 
-// The lines, one behind the other.
+// Joins the lines.
 fn joined(alloc: Global, lines: &[OwnedBytes]) -> Result<Vec<u8>, AllocError>
     ensures { IfOk result (λ text. text.items ≡ flat_map same_text lines.now) }
 {
@@ -249,8 +247,8 @@ fn joined(alloc: Global, lines: &[OwnedBytes]) -> Result<Vec<u8>, AllocError>
     Ok(text)
 }
 
-/// What is told on a business day of the records of a statement that a person has to look at, by what a book has and
-/// what becomes of each line: a line for each of them, with its reason, and the counts. Fails only for want of memory.
+/// Reports on a business day the records of a statement that a person has to look at: a line for each of them, with its
+/// reason, and the counts. The only error is out of memory.
 #[tactic(auto, unfolding(crate::specs::Unmatched::unmatched))]
 pub(crate) fn unmatched_of<'a>(
     alloc: Global,

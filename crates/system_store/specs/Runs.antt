@@ -20,7 +20,7 @@ use Rattle.sql_book.specs.Opening.{IsMade, IsTaken}
 use Rattle.sql_book.specs.Stops.{IsNext, IsOldStanding, IsLeftInMoving, IsOfFirm}
 use Rattle.sql_book.specs.Then.{firm_then}
 
--- the contents of two files of which nothing is known: those at which the kit's `Unknown` stands
+-- the contents of two files of which nothing is known: those that the kit's `Unknown` stands for
 abbrev pub unknown_files : Image
 unknown_files = record { log = []; db = [] }
 
@@ -28,26 +28,26 @@ unknown_files = record { log = []; db = [] }
 abbrev pub BookOf : {D : Type 0} → disk.Ghosts D → Type 0
 BookOf {D} g = HeldBook (FileStore D g)
 
--- the book was taken from files with these contents, or made there where they held no table
+-- the book was taken from files with these contents, or made there if they held no table
 pub record IsFoundIn {D : Type 0} {g : disk.Ghosts D} (image : Image) (b : BookOf g) : Type 0 where
   pub conn : Held (FileStore D g)
   pub opened : IsOpened conn
   pub found : FindsIn image (file_state conn)
   pub book : IsTaken over_files conn b ⊎ (((file_state conn).now.schema ≡ no_schema) × IsMade over_files b)
 
--- the book was given back to its files: what it saw was committed, in a database that lists what it holds, and is in
--- the database file, as that reads now and after a crash, with its log and alone
+-- The book was given back to its files. What it saw was committed, in a database that lists what it holds. It is in
+-- the database file, with its log and alone, both as the file reads now and after a crash.
 pub record IsPutBack {D : Type 0} {g : disk.Ghosts D} (b : BookOf g) : Type 0 where
   pub files : Files D
   pub copied : AreClean g files.log files.db → IsCopied b.conn files
   pub settled : IsTrue (at over_files b).is_open → (at over_files b).now ≡ (at over_files b).committed
   pub listed : IsTrue (at over_files b).is_open → IsDatabase (at over_files b).now
 
--- as two files read now, or after a crash
+-- the contents of two files as they read now, or after a crash
 abbrev pub IsLeftIn : {D : Type 0} → disk.Ghosts D → Files D → Image → Type 0
 IsLeftIn g files image = (image ≡ image_of g files) ⊎ outcomes g files.log files.db image
 
--- the book of a run stands, lasts, and has the rows of the one before
+-- the book of a run stands, lasts, and has the rows of the earlier one
 pub record HasSameRows {D E : Type 0} {g : disk.Ghosts D} {h : disk.Ghosts E} (before : BookOf g) (next : BookOf h)
     : Type 0 where
   pub rows : firm_of over_files next ≡ firm_of over_files before
@@ -56,22 +56,22 @@ pub record HasSameRows {D E : Type 0} {g : disk.Ghosts D} {h : disk.Ghosts E} (b
   pub lasts : IsLasting over_files next
 
 module _ {D E : Type 0} (g : disk.Ghosts D) (h : disk.Ghosts E) where
-  -- a book that stood and was put back is found again by the next run over its files, with the rows that it had
+  -- a book that stood and was given back is found by the next run over its files, with the same rows
   abbrev pub PutBooksAreFound : Type 0
   PutBooksAreFound =
       (before : BookOf g) (put : IsPutBack before) (image : Image) (next : BookOf h)
       → AreClean g put.files.log put.files.db → IsLeftIn g put.files image → IsStanding over_files before
       → IsFoundIn image next → ∥ HasSameRows before next ∥₁
 
-  -- a book that lasts is found again by the next run over what a stop left of its files
+  -- a book that lasts is found by the next run over what a stop left of its files
   abbrev pub StoppedBooksAreFound : Type 0
   StoppedBooksAreFound =
       (before : BookOf g) (image : Image) (next : BookOf h) → IsTrue (view before.conn.store).is_numbered
       → (state before.conn.store).may_leave image → IsLasting over_files before
       → IsFoundIn image next → ∥ IsNext over_files over_files before next ∥₁
 
-  -- a database of version 1 that was being taken is found again by the next run over what a stop left of its files, and
-  -- the book of that run stands for the same firm
+  -- if a run stops while it takes a version 1 database, the next run over what is left of its files finds a book that
+  -- stands for the same firm
   abbrev pub StoppedMovesAreFound : Type 0
   StoppedMovesAreFound =
       (db : Database) (before : Held (FileStore D g)) (image : Image) (next : BookOf h)

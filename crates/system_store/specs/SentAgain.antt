@@ -1,4 +1,4 @@
--- What was accepted before a stop and is sent again after it.
+-- Asks and bank lines that were accepted before a stop and are sent again after it.
 use Rattle.std.specs.Prelude.{◌≡◌, ◌∷◌, ℕ, List, IsSome, None, IsTrue}
 use Rattle.sqlite_disk.specs.declared.Disk as disk
 use Rattle.sqlite_wal.specs.Recovery.{Image}
@@ -20,8 +20,8 @@ use Rattle.sql_book.specs.Books.{firm_of, IsLasting, MayLeave}
 use Rattle.system_store.specs.Runs.{BookOf, IsFoundIn}
 
 module _ {D E : Type 0} (g : disk.Ghosts D) (h : disk.Ghosts E) where
-  -- a run was broken off, and the next one found a book in what that left of its files; what was run before had been
-  -- acknowledged, so that a crash left its rows and no others
+  -- a run was broken off, and the next one found a book in what was left of its files; everything run before had been
+  -- acknowledged, so a crash left exactly its rows
   pub record IsRunAfterStop (before : BookOf g) (next : BookOf h) : Type 0 where
     pub image : Image
     pub numbered : IsTrue (view before.conn.store).is_numbered
@@ -30,8 +30,8 @@ module _ {D E : Type 0} (g : disk.Ghosts D) (h : disk.Ghosts E) where
     pub acknowledged : LeavesAlone (firm_of over_files before) (MayLeave over_files before)
     pub found : IsFoundIn image next
 
-  -- an ask that makes an entry and was accepted before a stop changes nothing when it is sent again after it, whatever
-  -- was run between the two, and is a repeat as long as its matter is not purged
+  -- an ask that makes an entry and was accepted before a stop changes nothing if it is sent again after it, whatever
+  -- ran in between, and is a repeat as long as its matter is not purged
   abbrev pub AsksAreSpentAfterStops : Type 0
   AsksAreSpentAfterStops =
       (m : ℕ) (a again : Asked) (firm new : Firm) (before : BookOf g) (next : BookOf h) (past later : List DayRun)
@@ -40,7 +40,7 @@ module _ {D E : Type 0} (g : disk.Ghosts D) (h : disk.Ghosts E) where
       → RunsOn (firm_of over_files next) later new → again.ask ≡ a.ask
       → ∥ IsAskSpent m again new ∥₁
 
-  -- and so does a line of the bank that names an entry and was applied
+  -- the same holds for a bank line that names an entry and was applied
   abbrev pub LinesAreOverAfterStops : Type 0
   LinesAreOverAfterStops =
       (l again : BankLine) (day again_on : ℕ) (firm new : Firm) (rest front : List Item) (before : BookOf g)

@@ -1,4 +1,4 @@
-//! The books of the system's files: each in a database that any tool of SQLite opens.
+//! The books in the system's files, each in a database that any SQLite tool opens.
 #![tactic(auto)]
 
 pub mod laws;

@@ -1,4 +1,4 @@
-// Taking a book from a connection, or making one there, and giving it back.
+// Takes a book from a connection or makes one there, and gives it back.
 
 ghost use Rattle.std.specs.Prelude.{◌≡◌, ◌↔◌, ◌⊎◌, false, IfErr, IfOk, IsTrue, OnOk};
 ghost use Rattle.sqlite.specs.Effect.{IsDatabase};
@@ -17,7 +17,7 @@ use sqlite_disk::Disk;
 use std::alloc::Global;
 use trust_base::StoreFault;
 
-// A database that holds something else is a fault of the store, as one that failed.
+// A database that holds something else is a fault of the store, just like one that failed.
 fn fault_of_book(fault: OpenFault) -> StoreFault
     ensures { result ≡ StoreFault.Memory ↔ fault ≡ OpenFault.Memory }
 {
@@ -27,7 +27,7 @@ fn fault_of_book(fault: OpenFault) -> StoreFault
     }
 }
 
-// A book in a database that holds nothing.
+// Makes a book in an empty database.
 fn made_over<S: Alter + Drop>(alloc: Global, conn: Connection<S>) -> Result<SqlBook<S>, StoreFault>
     requires { conn.in_transaction ≡ false }
     ensures made { IfOk result (λ book. IsSure S.Store book → IsMade S.Store book) }
@@ -41,7 +41,7 @@ fn made_over<S: Alter + Drop>(alloc: Global, conn: Connection<S>) -> Result<SqlB
     }
 }
 
-/// The book that a database holds, or a new one without rows, where it holds no table. Asks that no transaction is
+/// Returns the book that a database holds, or makes one without rows if it holds no table. No transaction may be
 /// open.
 pub(crate) fn book_over<S: Alter + Drop>(
     alloc: Global,
@@ -60,14 +60,14 @@ pub(crate) fn book_over<S: Alter + Drop>(
     }
 }
 
-/// Copies the log of a connection into its database file, and gives the files back. Asks that no transaction is open.
+/// Copies the log of a connection into its database file and gives the files back. No transaction may be open.
 pub(crate) fn copied<D: Disk + Drop>(conn: Connection<FileStore<D>>) -> Result<Files<D>, Error>
     requires { conn.in_transaction ≡ false }
     ensures copied { IfOk result (λ files. AreClean D.Disk files.log files.db → IsCopied conn files) }
     ensures settled { IsTrue (file_state conn).is_open → (file_state conn).now ≡ (file_state conn).committed }
     ensures listed { IsTrue (file_state conn).is_open → IsDatabase (file_state conn).now }
 {
-    // Outside a transaction what is seen is what was committed, and the schema is that which the trees list.
+    // Outside a transaction, what is seen is what was committed, and the schema is the one that the trees list.
     let _settled = conn.is_autocommit();
     let _listed = conn.schema();
     match conn.close_files() {

@@ -1,4 +1,4 @@
-// The books at the paths of the system.
+// The books at paths of the system.
 
 ghost use Rattle.std.specs.Prelude.{◌≡◌, false, true, IfOk, OnOk};
 ghost use Rattle.sqlite.specs.Files.{IsBlankAs, IsOpened, file_state, over_files};
@@ -17,19 +17,19 @@ use std::alloc::Global;
 use trust_base::StoreFault;
 use trust_store::{NoBook, Stores};
 
-/// A database file of the system, with its log, which lies at the same path with `-wal` behind it. `T` stands for what
-/// the two hold as they are opened.
+/// A database file of the system with its log, which lies at the same path plus `-wal`. `T` stands for what the two
+/// hold when they are opened.
 pub type FileWith<T> = FileStore<FileFrom<T>>;
 
-/// A database file of the system, of which nothing is known.
+/// A database file of the system whose contents are not known.
 pub type SystemFile = FileWith<Unknown>;
 
-/// The books of the system: each in the database file at its path, by `book_at` and `put`, which promise for whatever
-/// the files hold what `Stores` asks for; of these nothing is known here.
+/// The books of the system, each in the database file at its path. Its calls are `book_at` and `put`, which promise
+/// what `Stores` requires, whatever the files hold; here the contents are not known.
 ///
-/// A file that is missing or empty gets a book without rows; one that holds a book gives that book. While a book is in
-/// use its file is locked: another run over it has a fault of the store. A book that was put back is in its file alone.
-/// One that was not, as where the run was broken off, is in the file and the log together, and the next run over it
+/// A missing or empty file gets a book without rows; a file that holds a book gives that book. While a book is in use
+/// its file is locked, and another run over it gets a fault of the store. A book that was put back is in its file
+/// alone. One that was not, because the run was broken off, is in the file and the log together, and the next run
 /// finds it there (`laws`).
 #[derive(Clone, Copy)]
 pub struct SystemStores<'a> {
@@ -37,8 +37,9 @@ pub struct SystemStores<'a> {
     pub rt: &'a HostRuntime,
 }
 
-// A connection to the database file at a path, which is made where it is missing. A file that is made has sums on its
-// pages, so that one whose bytes were changed between two runs is refused; one without them is taken as it is.
+// Opens a connection to the database file at a path, and creates a missing file. A new file has checksums on its
+// pages, so that it is refused if its bytes were changed between two runs; a file without checksums is taken as it
+// is.
 fn connection_at<T: Start>(
     rt: &HostRuntime,
     path: &str,
@@ -57,9 +58,9 @@ fn connection_at<T: Start>(
     }
 }
 
-/// The book at a path, whose files hold what `start` stands for: the one that they hold, or a new one without rows,
-/// where they hold no table. Store means that what is there is no book of this version, or could not be opened, read or
-/// written, and Memory that a growth was refused.
+/// Opens the book at a path whose files hold what `start` stands for: the book that they hold, or a new one without
+/// rows if they hold no table. Returns `Store` if they hold anything but a book of this version, or could not be
+/// opened, read or written, and `Memory` if memory runs out.
 pub fn book_at<T: Start>(
     alloc: Global,
     rt: &HostRuntime,
@@ -73,8 +74,8 @@ pub fn book_at<T: Start>(
     book_over(alloc, conn)
 }
 
-/// Gives a book back to its files: on Ok it is in the database file alone. Store means that it could not be written
-/// there, and Memory that a growth was refused.
+/// Gives a book back to its files: on `Ok` it is in the database file alone. Returns `Store` if it could not be written
+/// there, and `Memory` if memory runs out.
 pub fn put<T: Start>(book: SqlBook<FileWith<T>>) -> Result<(), StoreFault>
     ensures { OnOk result (IsPutBack book) }
 {
@@ -84,7 +85,7 @@ pub fn put<T: Start>(book: SqlBook<FileWith<T>>) -> Result<(), StoreFault>
     }
 }
 
-// Why a database file could not be opened.
+// Returns why a database file could not be opened.
 fn why_unopened(error: Error) -> NoBook {
     match error {
         Error::SqliteFailure(ErrorCode::DatabaseBusy) => NoBook::InUse,
@@ -97,7 +98,7 @@ fn why_unopened(error: Error) -> NoBook {
     }
 }
 
-// Why no book can be taken from a database that was opened. One without tables is a book that could not be made.
+// Returns why no book can be taken from an opened database. One without tables is a book that could not be made.
 fn why_untaken(fault: OpenFault, conn: &Connection<SystemFile>) -> NoBook {
     match fault {
         OpenFault::NotABook if conn.schema().tables.is_empty() => NoBook::Failed,

@@ -1,11 +1,11 @@
--- The order of lines of a bank's statement.
+-- The order of bank statement lines.
 use Rattle.std.specs.Prelude.{Bool}
 use Rattle.std.specs.declared.cmp.Ordering.{Ordering}
 use Rattle.std.specs.Ordering.{int_cmp, is_eq, is_lt, nat_cmp, ordering_then}
 use Rattle.std.specs.Cmp.Lexicographic.{slice_cmp}
 use Rattle.trust_base.specs.declared.line.Line.{Line}
 
--- by day, reference, the bank's reference, amount as a number, and text, texts in the order of bytes
+-- by day, reference, bank's reference, amount as a number, then text; texts compare byte by byte
 abbrev pub line_cmp : Line → Line → Ordering
 line_cmp a b =
     ordering_then (nat_cmp a.date b.date)

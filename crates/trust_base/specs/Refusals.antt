@@ -11,8 +11,7 @@ use Rattle.trust_base.specs.declared.refusal.Rule.TheVariants as rules
 use Rattle.trust_base.specs.declared.refusal.Refusal.{Refusal}
 use Rattle.trust_base.specs.declared.refusal.Refusal.TheVariants.{BadMessage, LengthRequired, TooLarge, NoRoute, BadMethod, NoCaller, BadField, NoMatter, Purged, NotAllowed, AlreadyOpen, Closed, DateBackwards, WrongNumber, NoEntry, WrongKind, WrongState, PayeeIsCash, WrongPayee, BadSplit, Short, SeatTaken, NoSeat, LastLawyer, NotEmpty, TooEarly, NoStatement, PeriodPurged, Store, Memory}
 
--- from 4 to 28 refusals are tried in the order of their numbers; 1 to 3 as the message is read; 29 and 30 may come at
--- any point
+-- 4 to 28 are tried in the order of their numbers, 1 to 3 while the message is read; 29 and 30 may come at any point
 abbrev pub number_of : Refusal → ℕ
 number_of BadMessage = 1
 number_of LengthRequired = 2
@@ -143,31 +142,31 @@ rule_name rules.Sign = codes "sign"
 rule_name rules.Office = codes "office"
 rule_name rules.Firm = codes "firm"
 
--- the refusal for a fault of the store
+-- the refusal that reports a store fault
 abbrev pub refused_by : StoreFault → Refusal
 refused_by faults.Store = Store
 refused_by faults.Memory = Memory
 
--- only a call of the store, a stored row that stands for nothing, or a growth can bring these
+-- caused only by a failed store call, an invalid stored row, or running out of memory
 abbrev pub is_fault : Refusal → Bool
 is_fault Store = true
 is_fault Memory = true
 is_fault _ = false
 
--- a text between quotes, without escapes, as the texts of refusals need none
+-- a text in quotes; refusals need no escapes
 abbrev pub quoted : List ℕ → List ℕ
 quoted text = 34 ∷ (text ++ 34 ∷ [])
 
--- a key and its value
+-- a key and its value, as JSON
 abbrev pub member : List ℕ → List ℕ → List ℕ
 member key value = quoted key ++ 58 ∷ value
 
--- the number of the next entry, or null where there is none
+-- the number of the next entry, or null if no number is left
 abbrev pub next_text : Option ℕ → List ℕ
 next_text (Some n) = quoted (entry_text n)
 next_text None = codes "null"
 
--- what is carried under a key that comes before the name's, with its comma; keys ascend by their bytes
+-- a value whose key sorts before `name`, with its comma; keys ascend by their bytes
 abbrev pub leading_member : Refusal → List ℕ
 leading_member (BadField field) = member (codes "field") (quoted (field_name field)) ++ 44 ∷ []
 leading_member (DateBackwards last) = member (codes "last") (quoted (day_text last)) ++ 44 ∷ []
@@ -175,12 +174,12 @@ leading_member (Short left) = member (codes "left") (quoted (amount_text left)) 
 leading_member (TooEarly day) = member (codes "day") (quoted (day_text day)) ++ 44 ∷ []
 leading_member _ = []
 
--- what is carried under a key between the name's and the number's, with its comma
+-- a value whose key sorts between `name` and `number`, with its comma
 abbrev pub middle_member : Refusal → List ℕ
 middle_member (WrongNumber next) = 44 ∷ member (codes "next") (next_text next)
 middle_member _ = []
 
--- what is carried under a key that comes after the number's, with its comma
+-- a value whose key sorts after `number`, with its comma
 abbrev pub trailing_member : Refusal → List ℕ
 trailing_member (NotAllowed rule) = 44 ∷ member (codes "rule") (quoted (rule_name rule))
 trailing_member _ = []

@@ -1,4 +1,4 @@
-// Lines of a bank's statement.
+// Lines of a bank statement.
 
 ghost use Rattle.std.specs.Prelude.{◌≡◌, ◌↔◌, IsTrue, IfOk};
 ghost use Rattle.trust_base.specs.LineOrder.{line_cmp};
@@ -7,23 +7,23 @@ use crate::{BankAmount, BankText, Day, LineText};
 use std::alloc::AllocError;
 use std::cmp::Ordering;
 
-/// A line of a bank's statement.
+/// A line of a bank statement.
 #[derive(Drop, Debug)]
 pub struct Line {
     /// The day on which the bank booked it.
     pub date: Day,
-    /// What the line is of: a matter and its entry, the firm, a balance (`OPEN`, `CLOSE`), or another text.
+    /// What the line is about: a matter and its entry, the firm, a balance (`OPEN`, `CLOSE`), or some other text.
     pub reference: BankText,
     /// The bank's own reference.
     pub bank_ref: BankText,
-    /// The amount, below zero for money that went out, or for a balance that balance, in cents.
+    /// The amount in cents, negative if the money went out. On a balance line it is the balance.
     pub amount: BankAmount,
-    /// The bank's words.
+    /// The bank's text for the line.
     pub text: LineText,
 }
 
 impl Line {
-    /// The same line again, or an error for want of memory.
+    /// A copy of the line. The only error is out of memory.
     pub fn copied(&self) -> Result<Line, AllocError>
         ensures { IfOk result (λ same. same ≡ self.now) }
     {
@@ -50,8 +50,8 @@ impl Line {
             && self.text.is_same(&other.text)
     }
 
-    /// The order of lines: by day, reference, the bank's reference, amount as a number, and text; texts in the order
-    /// of their bytes. Lines that are equal in it are the same in all five fields.
+    /// Orders lines by day, reference, bank's reference, amount as a number, then text. Texts compare byte by byte.
+    /// Lines compare as equal only if all five fields are the same.
     pub fn compare(&self, other: &Line) -> Ordering
         ensures { result ≡ line_cmp self.now other.now }
     {

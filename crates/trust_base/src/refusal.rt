@@ -1,4 +1,4 @@
-// Why something is not done.
+// Why something was refused.
 
 ghost use Rattle.std.specs.Prelude.{◌≡◌, ◌≤◌};
 ghost use Rattle.trust_base.specs.Refusals.{is_fault, number_of, status_of};
@@ -6,7 +6,7 @@ ghost use Rattle.trust_base.specs.Refusals.{is_fault, number_of, status_of};
 use crate::{CivilDay, Day, EntryNo};
 use std::alloc::{AllocError, AllocFailed};
 
-/// A field of a request, by which a refusal names what is not of its form.
+/// A field of a request. A refusal names the one that is invalid.
 #[derive(Clone, Copy, Debug, PartialEq, Eq)]
 pub enum Field {
     /// The number of the matter.
@@ -15,7 +15,7 @@ pub enum Field {
     Entry,
     /// The day.
     Day,
-    /// The body as a whole.
+    /// The whole body.
     Body,
     /// The client's label.
     Client,
@@ -27,13 +27,13 @@ pub enum Field {
     Role,
     /// The amount.
     Amount,
-    /// Who a deposit comes from.
+    /// Who a deposit is from.
     Source,
     /// What a deposit or a fee is for.
     Description,
-    /// The kind of fund that a payment comes from.
+    /// The kind of fund that a payment is from.
     From,
-    /// The entry of the fund of a payment, or of the fee that is claimed.
+    /// The entry that is a payment's fund, or the fee that is claimed.
     Of,
     /// Who is paid.
     Payee,
@@ -49,7 +49,7 @@ pub enum Field {
     Reason,
     /// The client's part of a claim.
     ToClient,
-    /// The record of a sheet as a whole.
+    /// A whole record of a sheet.
     Record,
     /// The first record of a statement.
     Header,
@@ -68,49 +68,49 @@ pub enum Rule {
     Propose,
     /// Approving, declining and voiding payments, earning a fee, offering.
     Sign,
-    /// Opening a matter, seats, deposits and their cancelling, awards, closing, purging.
+    /// Opening and purging a matter, seats, making and cancelling deposits, awards, closing.
     Office,
-    /// Statements and all reports of the firm.
+    /// Bank statements and all reports of the firm.
     Firm,
 }
 
-/// Why something is not done. From 4 to 28 they are tried in the order of their numbers; 1 to 3 as the message is read;
-/// 29 and 30 may come at any point.
+/// Why something was refused. 4 to 28 are tried in the order of their numbers, 1 to 3 while the message is read. 29 and
+/// 30 may come at any point.
 #[derive(Clone, Copy, Debug, PartialEq, Eq)]
 pub enum Refusal {
-    /// 1: a message that is not of its form.
+    /// 1: the message is malformed.
     BadMessage,
     /// 2: a message with a `Transfer-Encoding` field.
     LengthRequired,
-    /// 3: a body, sheet or file above its limit.
+    /// 3: a body, sheet or file exceeds its limit.
     TooLarge,
     /// 4: no route has this path.
     NoRoute,
-    /// 5: the path has a route of another method.
+    /// 5: the path has a route, but for another method.
     BadMethod,
-    /// 6: not exactly one caller is named, or not by a name of its form.
+    /// 6: there is not exactly one caller, or the caller's name is invalid.
     NoCaller,
-    /// 7: a field is not of its form.
+    /// 7: a field is invalid.
     BadField(Field),
-    /// 8: there is no such matter, or the person has no seat there.
+    /// 8: the matter does not exist, or the person has no seat there.
     NoMatter,
     /// 9: the matter was purged.
     Purged,
-    /// 10: the policy says no, by this rule.
+    /// 10: the policy forbids it, by this rule.
     NotAllowed(Rule),
-    /// 11: the matter was opened before.
+    /// 11: the matter was already opened.
     AlreadyOpen,
     /// 12: the matter is closed.
     Closed,
-    /// 13: the day is before the matter's last one, which is carried.
+    /// 13: the day is before the matter's last day, which is attached.
     DateBackwards(Day),
-    /// 14: the entry's number is not the next one, which is carried; none after 9999.
+    /// 14: the entry's number is not the next one, which is attached; None after 9999.
     WrongNumber(Option<EntryNo>),
-    /// 15: there is no such entry.
+    /// 15: the entry does not exist.
     NoEntry,
-    /// 16: the entry named is of another kind, or a claim on a fee where one on the general fund is wanted.
+    /// 16: the named entry is of another kind, or is a claim on a fee where one on the general fund is needed.
     WrongKind,
-    /// 17: the entry is not in the state that it takes.
+    /// 17: the entry is not in the state that the request needs.
     WrongState,
     /// 18: the payee or claimant is cash.
     PayeeIsCash,
@@ -118,34 +118,34 @@ pub enum Refusal {
     WrongPayee,
     /// 20: the client's part does not fit the claim or the offer.
     BadSplit,
-    /// 21: the amount exceeds what is left of its fund, which is carried in cents.
+    /// 21: the amount exceeds what is left of its fund, which is attached in cents.
     Short(u64),
-    /// 22: the person has a seat.
+    /// 22: the person already has a seat.
     SeatTaken,
-    /// 23: the person has none.
+    /// 23: the person has no seat.
     NoSeat,
-    /// 24: the only lawyer's seat would go.
+    /// 24: the matter would lose its only lawyer.
     LastLawyer,
-    /// 25: money or a pending payment stands in the matter.
+    /// 25: the matter still has money or a pending payment.
     NotEmpty,
-    /// 26: the matter may not be purged before the day that is carried.
+    /// 26: the matter may not be purged before the attached day.
     TooEarly(CivilDay),
-    /// 27: no closing balance of the day is kept.
+    /// 27: no closing balance is on file for the day.
     NoStatement,
-    /// 28: a matter of that period was purged.
+    /// 28: a matter of that period was already purged.
     PeriodPurged,
-    /// 29: the store refused a statement or a transaction, or a stored row stands for nothing.
+    /// 29: the store refused an SQL statement or a transaction, or a stored row is invalid.
     Store,
-    /// 30: a growth was refused.
+    /// 30: out of memory.
     Memory,
 }
 
 /// Why a call of the store failed.
 #[derive(Clone, Copy, Debug, PartialEq, Eq)]
 pub enum StoreFault {
-    /// A statement or a transaction was refused, or a stored row stands for nothing.
+    /// The store refused an SQL statement or a transaction, or a stored row is invalid.
     Store,
-    /// A growth was refused.
+    /// Out of memory.
     Memory,
 }
 
@@ -217,7 +217,7 @@ impl Refusal {
 }
 
 impl Refusal {
-    /// Whether it tells of a fault: only a call of the store or a growth can bring it.
+    /// Whether it reports a fault. Only a failed store call or running out of memory causes one.
     pub fn is_fault(&self) -> bool
         ensures { result ≡ is_fault self.now }
     {

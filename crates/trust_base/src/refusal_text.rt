@@ -1,10 +1,10 @@
-// The texts of refusals.
+// How refusals are written.
 
 ghost use Rattle.std.specs.Prelude.{◌≡◌, ◌≤◌, ◌<◌, ◌+◌, ℕ, ◌∷◌, ◌++◌, [], length, take, OnOk, OnErr};
 ghost use Rattle.std.specs.Io.KnownBytes.{Appends};
 ghost use Rattle.arrayvec.specs.ArrayVec.{array_vec_len};
-ghost use Rattle.trust_values.specs.Texts.{amount_text, day_text};
-ghost use Rattle.trust_base.specs.Refusals.{field_name, leading_member, middle_member, name_member, name_of, next_text, number_member, refusal_text, rule_name, trailing_member};
+ghost use Rattle.trust_values.specs.Texts.{amount_text};
+ghost use Rattle.trust_base.specs.Refusals.{field_name, leading_member, member, middle_member, name_of, next_text, number_member, quoted, refusal_text, rule_name, trailing_member};
 
 use crate::{EntryNo, Field, Refusal, Rule, WriteFault, send};
 use arrayvec::ArrayVec;
@@ -31,7 +31,7 @@ fn push_amount(text: &mut RefusalText, cents: u64)
 }
 
 impl Field {
-    /// The name.
+    /// The field's name in JSON.
     pub fn name(self) -> &'static str
         ensures value { result.now ≡ field_name self }
         ensures bound { length result.now ≤ 11 }
@@ -64,7 +64,7 @@ impl Field {
 }
 
 impl Rule {
-    /// The name.
+    /// The rule's name in JSON.
     pub fn name(self) -> &'static str
         ensures value { result.now ≡ rule_name self }
         ensures bound { length result.now ≤ 7 }
@@ -81,15 +81,17 @@ impl Rule {
     }
 }
 
-// Appends the day of a member and the member's end.
-fn push_day_end(text: &mut RefusalText, number: u32)
-    requires room { array_vec_len text.old ≤ 100 }
-    requires short { number < 100_000_000 }
-    ensures items { text.new.items ≡ text.old.items ++ day_text number ++ 34 ∷ 44 ∷ [] }
-    ensures len { array_vec_len text.new ≡ array_vec_len text.old + 12 }
+// Appends a key and a string value.
+fn push_member(text: &mut RefusalText, key: &[u8], value: &[u8])
+    requires { array_vec_len text.old + length key.now + length value.now ≤ 123 }
+    ensures items { text.new.items ≡ text.old.items ++ member key.now (quoted value.now) }
+    ensures len { array_vec_len text.new ≡ array_vec_len text.old + length key.now + length value.now + 5 }
 {
-    push_piece(text, &day_bytes(number));
-    push_piece(text, b"\",");
+    push_piece(text, b"\"");
+    push_piece(text, key);
+    push_piece(text, b"\":\"");
+    push_piece(text, value);
+    push_piece(text, b"\"");
 }
 
 // Appends the next entry's number, or null.
@@ -109,7 +111,7 @@ fn push_next(text: &mut RefusalText, next: Option<EntryNo>)
 }
 
 impl Refusal {
-    /// The name.
+    /// The refusal's name in JSON.
     pub fn name(&self) -> &'static str
         ensures value { result.now ≡ name_of self.now }
         ensures bound { length result.now ≤ 14 }
@@ -148,36 +150,27 @@ impl Refusal {
         }
     }
 
-    // Appends what is carried under a key before the name's.
+    // Appends the value whose key sorts before `name`.
     fn push_leading(&self, text: &mut RefusalText)
         requires { array_vec_len text.old ≤ 1 }
         ensures items { text.new.items ≡ text.old.items ++ leading_member self.now }
         ensures len { array_vec_len text.new ≤ array_vec_len text.old + 34 }
     {
         match self {
-            Refusal::BadField(field) => {
-                push_piece(text, b"\"field\":\"");
-                push_piece(text, field.name().as_bytes());
-                push_piece(text, b"\",");
-            }
-            Refusal::DateBackwards(last) => {
-                push_piece(text, b"\"last\":\"");
-                push_day_end(text, last.get());
-            }
+            Refusal::BadField(field) => push_member(text, b"field", field.name().as_bytes()),
+            Refusal::DateBackwards(last) => push_member(text, b"last", &day_bytes(last.get())),
             Refusal::Short(left) => {
                 push_piece(text, b"\"left\":\"");
                 push_amount(text, *left);
-                push_piece(text, b"\",");
+                push_piece(text, b"\"");
             }
-            Refusal::TooEarly(day) => {
-                push_piece(text, b"\"day\":\"");
-                push_day_end(text, day.get());
-            }
-            _ => (),
+            Refusal::TooEarly(day) => push_member(text, b"day", &day_bytes(day.get())),
+            _ => return,
         }
+        push_piece(text, b",");
     }
 
-    // Appends what is carried under a key between the name's and the number's.
+    // Appends the value whose key sorts between `name` and `number`.
     fn push_middle(&self, text: &mut RefusalText)
         requires { array_vec_len text.old ≤ 58 }
         ensures items { text.new.items ≡ text.old.items ++ middle_member self.now }
@@ -189,31 +182,19 @@ impl Refusal {
         }
     }
 
-    // Appends what is carried under a key behind the number's.
+    // Appends the value whose key sorts after `number`.
     fn push_trailing(&self, text: &mut RefusalText)
         requires { array_vec_len text.old ≤ 103 }
         ensures items { text.new.items ≡ text.old.items ++ trailing_member self.now }
         ensures len { array_vec_len text.new ≤ array_vec_len text.old + 17 }
     {
         if let Refusal::NotAllowed(rule) = self {
-            push_piece(text, b",\"rule\":\"");
-            push_piece(text, rule.name().as_bytes());
-            push_piece(text, b"\"");
+            push_piece(text, b",");
+            push_member(text, b"rule", rule.name().as_bytes());
         }
     }
 
-    // Appends the name under its key.
-    fn push_name(&self, text: &mut RefusalText)
-        requires { array_vec_len text.old ≤ 35 }
-        ensures items { text.new.items ≡ text.old.items ++ name_member self.now }
-        ensures len { array_vec_len text.new ≤ array_vec_len text.old + 23 }
-    {
-        push_piece(text, b"\"name\":\"");
-        push_piece(text, self.name().as_bytes());
-        push_piece(text, b"\"");
-    }
-
-    // Appends the number under its key.
+    // Appends the number with its key.
     fn push_number_member(&self, text: &mut RefusalText)
         requires { array_vec_len text.old ≤ 72 }
         ensures items { text.new.items ≡ text.old.items ++ number_member self.now }
@@ -223,7 +204,7 @@ impl Refusal {
         push_number(text, self.number() as u64);
     }
 
-    /// The refusal as a compact JSON object (RFC 8259), its keys in ascending byte order.
+    /// The refusal as a compact JSON object (RFC 8259), with keys in ascending byte order.
     #[tactic(auto, unfolding(crate::specs::Refusals::refusal_text))]
     pub fn json(&self) -> RefusalText
         ensures { result.items ≡ refusal_text self.now }
@@ -231,7 +212,7 @@ impl Refusal {
         let mut text = RefusalText::new();
         push_piece(&mut text, b"{");
         self.push_leading(&mut text);
-        self.push_name(&mut text);
+        push_member(&mut text, b"name", self.name().as_bytes());
         self.push_middle(&mut text);
         self.push_number_member(&mut text);
         self.push_trailing(&mut text);
@@ -239,7 +220,7 @@ impl Refusal {
         text
     }
 
-    /// Writes the refusal's JSON text. At a fault a front of it was written. Takes no memory.
+    /// Writes the refusal as JSON. On a fault, only the first bytes of it were written. Allocates nothing.
     pub fn write_json<W: Write>(&self, writer: &mut W) -> Result<(), WriteFault>
         ensures ok { OnOk result (Appends (W.contents writer.old) (W.contents writer.new) (refusal_text self.now)) }
         ensures err { OnErr result ((n : ℕ) × (n < length (refusal_text self.now))

@@ -27,7 +27,7 @@ use Rattle.firm_rows.specs.Firm.{EntryRow, Firm, HeadRow, Row, SeatRow, entries_
 use Rattle.statement_csv.specs.Items.{item_of_line}
 use Rattle.statement_csv.specs.declared.item.Item.{Item}
 use Rattle.statement_csv.specs.declared.item.Item.TheVariants as item
-use Rattle.statement_match.specs.declared.booking.Booking.{Booking}
+use Rattle.statement_lines.specs.declared.booking.Booking.{Booking}
 use Rattle.statement_match.specs.Bookings.{booking_of, is_same_booking}
 use Rattle.statement_match.specs.Waiting.{Waiting}
 use Rattle.statement_match.specs.Books.{booked_by, deposit_bookings, entry_bookings, held_of, payment_bookings, row_bookings}

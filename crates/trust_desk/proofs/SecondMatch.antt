@@ -32,7 +32,7 @@ use Rattle.statement_match.specs.Books.{deposit_bookings, deposit_waiting, entry
 use Rattle.statement_match.specs.FirmLaws.{HasMatterNumbers}
 use Rattle.statement_match.specs.Laws.{with_reference, written}
 use Rattle.statement_match.specs.Rule.{becomes, is_beside_booked}
-use Rattle.statement_match.specs.declared.outcome.Outcome.TheVariants as outcome
+use Rattle.statement_lines.specs.declared.outcome.Outcome.TheVariants as outcome
 use Rattle.statement_match.proofs.Apart.{entry_once, wait_apart}
 use Rattle.statement_match.proofs.Filling.{filled_if_sure, sure_of}
 use Rattle.statement_match.proofs.Firms.{filled_waits}

@@ -1,9 +1,10 @@
--- What each call of the desk leaves of its book, whatever it answers.
+-- What each call of the desk leaves of its book, whatever it returns.
 use Rattle.std.specs.Prelude.{◌≡◌, ℕ}
 
--- what its store is sure of now it was sure of before, and where it serves now it served before; where it stood for
--- a sound firm it still does; what a crash leaves still lasts, and its faults are those that the answer tells of, both
--- where it is sure, also if a fault has shut it before the call or in it, and where it stood if it served
+-- if the store is sure now it was sure before, and if it is clean now it was clean before; a book that stood for a
+-- sound firm still does; if the store is sure, and stood for a sound firm if it was clean, then what a crash leaves
+-- still lasts, and its faults are those that the reply reports, even if a fault shut the store before or during the
+-- call
 pub record KeepsBook {B : Type 0} (clean sure stands lasts : B → Type 0) (refusals : B → ℕ) (counted : ℕ → ℕ)
     (old new : B) : Type 0 where
   pub was_clean : clean new → clean old

@@ -1,4 +1,4 @@
--- How often the store failed, by the replies.
+-- How often the store failed, according to the replies.
 use Rattle.std.specs.Prelude.{ℕ, Bool, true, false, List, [], ◌∷◌, Result, Ok, Err, if◌then◌else◌}
 use Rattle.trust_base.specs.declared.refusal.Refusal.{Refusal}
 use Rattle.trust_base.specs.declared.refusal.Refusal.TheVariants.{Store}
@@ -20,7 +20,7 @@ counted_body (Json text) n = n
 counted_body (Text text) n = n
 counted_body (Refused r) n = counted_refusal r n
 
--- the book's count of calls that answered Store, after a reply: one more where the reply is Store
+-- the book's count of calls that returned `Store`, after a reply: one more if the reply is `Store`
 abbrev pub counted_reply : Reply → ℕ → ℕ
 counted_reply reply n = counted_body reply.body n
 
@@ -28,7 +28,7 @@ abbrev pub counted_replies : List Reply → ℕ → ℕ
 counted_replies [] n = n
 counted_replies (reply ∷ replies) n = counted_replies replies (counted_reply reply n)
 
--- the same after a result that is no reply yet
+-- the same after a result that is not a reply yet
 abbrev pub counted_end : {T : Type 0} → Result T Refusal → ℕ → ℕ
 counted_end (Ok x) n = n
 counted_end (Err r) n = counted_refusal r n

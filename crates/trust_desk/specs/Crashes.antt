@@ -18,55 +18,55 @@ use Rattle.trust_desk.specs.Imports.{Told}
 use Rattle.trust_desk.specs.Dismissing.{after_dismissing}
 use Rattle.trust_desk.specs.FirmStep.{after_ask, firm_step}
 
--- what a crash may leave of a call, by the rows before and after it
+-- what a crash may leave after a call, given the rows before and after it
 pub record MayLeave {B : Type 0} (clean : B → Type 0) (leaves : B → Firm → Type 0) (done : Type 0)
     (Makes : Firm → Type 0) (before after : Firm) (old new : B) : Type 0 where
-  -- a crash may leave what it might have left before the call, or rows that the call makes on its way
+  -- a crash may leave what it might have left before the call, or rows that the call makes on the way
   pub crash : (found : Firm) → leaves new found → leaves old found ⊎ Makes found
-  -- where the call was done, and a crash left the rows before and no others, it leaves the rows after and no others
+  -- if the call was done, and a crash could have left only the rows before, it can now leave only the rows after
   pub settled : done → LeavesAlone before (leaves old) → LeavesAlone after (leaves new)
-  -- where the call was done, a store that served still serves
+  -- if the call was done, a store that was clean is still clean
   pub serves : clean old → done → clean new
 
--- the same of a call that makes one change, whole or not at all
+-- the same for a call that makes one change, completely or not at all
 abbrev pub MayLeaveChange : {B : Type 0} → (B → Type 0) → (B → Firm → Type 0) → Type 0 → Firm → Firm → B → B → Type 0
 MayLeaveChange clean leaves done before after old new =
     MayLeave clean leaves done (λ found. found ≡ after) before after old new
 
 -- An import.
 
--- the first of the statement's items, some or all; there are none where its header is another
+-- the first items of the statement, some or all; none if it has another header
 abbrev pub AreFront : Told → List Item → Type 0
 AreFront None front = ⊤
 AreFront (Some None) front = front ≡ []
 AreFront (Some (Some items)) front = (rest : List Item) × (front ++ rest ≡ items)
 
--- the rows after some front of the statement's items
+-- the rows after some first items of the statement
 pub record IsAfterFirst (day : ℕ) (firm : Firm) (told : Told) (found : Firm) : Type 0 where
   pub front : List Item
   pub first : AreFront told front
   pub leaves : found ≡ after_items day firm front
 
--- the rows after the next item of what is left of the statement
+-- the rows after the next remaining item of the statement
 pub record IsAfterNext (day : ℕ) (firm : Firm) (left : Told) (found : Firm) : Type 0 where
   pub item : Item
   pub more : Told
   pub gives : Gives left more (Some item)
   pub leaves : found ≡ after_item day firm item
 
--- the store or want of memory ended it
+-- the store or lack of memory ended it
 abbrev pub is_stopped : ImportStop → Bool
 is_stopped stop.Done = false
 is_stopped (stop.Refused r) = is_fault r
 is_stopped stop.Limit = false
 is_stopped stop.ReadFault = false
 
--- an import goes on, or ended otherwise
+-- an import goes on, or ended for another reason
 abbrev pub IsNotStopped : Option ImportStop → Type 0
 IsNotStopped None = ⊤
 IsNotStopped (Some end) = is_stopped end ≡ false
 
--- the store or want of memory stopped what has no reply yet
+-- the store or lack of memory stopped something that has no reply yet
 abbrev pub is_fault_end : {T : Type 0} → Result T Refusal → Bool
 is_fault_end (Ok x) = false
 is_fault_end (Err r) = is_fault r
@@ -90,29 +90,29 @@ KindIsMade day firm (Dismisses caller line) found = found ≡ after_dismissing c
 KindIsMade day firm (OnlyTold text) found = found ≡ firm
 KindIsMade day firm (NotRead named r) found = found ≡ firm
 
--- the rows with the change of what is heard; of an import, those after some front of its items
+-- the rows with the change of what is heard; for an import, the rows after some first items
 abbrev pub IsMade : ℕ → Firm → Heard → Firm → Type 0
 IsMade day firm h found = KindIsMade day firm (kind_of h) found
 
 -- A run.
 
--- rows that one of the requests makes, all those before it being done and none behind it begun
+-- rows that one of the requests makes, with all those before it done and none after it begun
 abbrev pub IsMadeInRun : ℕ → Firm → List Heard → Firm → Type 0
 IsMadeInRun day firm [] found = ⊥
 IsMadeInRun day firm (h ∷ hs) found = IsMade day firm h found ⊎ IsMadeInRun day (firm_step day firm h).firm hs found
 
--- no reply is Store or Memory
+-- no reply is `Store` or `Memory`
 abbrev pub AreNoFaults : List Reply → Type 0
 AreNoFaults [] = ⊤
 AreNoFaults (reply ∷ replies) = (is_fault_reply reply ≡ false) × AreNoFaults replies
 
--- none but the last is
+-- no reply except the last is `Store` or `Memory`
 abbrev pub AreNoFaultsButLast : List Reply → Type 0
 AreNoFaultsButLast [] = ⊤
 AreNoFaultsButLast (reply ∷ []) = ⊤
 AreNoFaultsButLast (reply ∷ next ∷ replies) = (is_fault_reply reply ≡ false) × AreNoFaultsButLast (next ∷ replies)
 
--- the replies before the first that is
+-- the replies before the first `Store` or `Memory`
 abbrev pub before_fault : List Reply → List Reply
 before_fault [] = []
 before_fault (reply ∷ replies) = if is_fault_reply reply then [] else reply ∷ before_fault replies

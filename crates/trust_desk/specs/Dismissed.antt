@@ -10,21 +10,21 @@ use Rattle.trust_desk.specs.Dismissing.{dismiss_refusal}
 use Rattle.trust_desk.specs.FirmStep.{firm_step}
 use Rattle.trust_desk.specs.Heard.{Asks}
 
--- nothing but the exceptions changes
+-- only the exceptions change
 pub record KeepsAllElse (firm new : Firm) : Type 0 where
   pub rows : new.rows ≡ firm.rows
   pub movements : new.movements ≡ firm.movements
   pub firm_lines : new.firm_lines ≡ firm.firm_lines
   pub balances : new.balances ≡ firm.balances
 
--- whoever dismisses a line, dismissed or refused: the rows of all matters, what was moved, the firm's own lines and
--- the balances stay as they are
+-- dismissing a line, accepted or refused, leaves the rows of all matters, the movements, the firm's own lines and the
+-- balances unchanged
 abbrev pub DismissingMovesNothing : Type 0
 DismissingMovesNothing =
     (day : ℕ) (firm : Firm) (caller : Caller) (line : Line)
     → KeepsAllElse firm (firm_step day firm (Asks (Dismiss caller line))).firm
 
--- a line that was dismissed is no exception, and is refused when it comes again
+-- a dismissed line is not an exception any more, and is refused when it comes again
 abbrev pub DismissedOnce : Type 0
 DismissedOnce =
     (day : ℕ) (firm : Firm) (line : Line) → dismiss_refusal Cashier line firm ≡ None

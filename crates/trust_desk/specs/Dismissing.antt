@@ -1,4 +1,4 @@
--- A line that is dismissed from the exceptions.
+-- Dismissing a line from the exceptions.
 use Rattle.std.specs.Prelude.{◌≡◌, ◌⊎◌, Bool, true, not, List, [], ◌∷◌, Option, Some, None, Result, Ok, Err, codes}
 use Rattle.std.specs.List.{list_any}
 use Rattle.trust_base.specs.LineOrder.{is_same_line}
@@ -26,11 +26,11 @@ dismiss_conditions caller line firm =
     ∷ (not (is_exception line firm.exceptions), refusals.NoEntry)
     ∷ []
 
--- the least number whose condition holds
+-- the refusal with the least number whose condition holds
 abbrev pub dismiss_refusal : Caller → Line → Firm → Option Refusal
 dismiss_refusal caller line firm = first (dismiss_conditions caller line firm)
 
--- the line is no exception from then on, and nothing else changes; where it is refused nothing changes
+-- the line is not an exception any more, and nothing else changes; if it is refused, nothing changes
 abbrev pub dismissed_unless : Option Refusal → Line → Firm → Firm
 dismissed_unless None line firm = after_match line firm
 dismissed_unless (Some r) line firm = firm
@@ -38,14 +38,14 @@ dismissed_unless (Some r) line firm = firm
 abbrev pub after_dismissing : Caller → Line → Firm → Firm
 after_dismissing caller line firm = dismissed_unless (dismiss_refusal caller line firm) line firm
 
--- the reply to one that is refused, or that was dismissed
+-- the reply to a dismissal that was refused or done
 abbrev pub dismiss_reply : Option Refusal → Reply
 dismiss_reply None = record { status = 200; body = Json (codes "{\"dismissed\":1}") }
 dismiss_reply (Some r) = refused r
 
--- The course of it.
+-- How a dismissal ends.
 
--- it was dismissed; or it was refused, or the store or memory stopped it, and nothing changed
+-- the line was dismissed; or it was refused, or the store or memory stopped it, and nothing changed
 abbrev pub EndsDismiss : Caller → Line → Firm → Firm → Result Reply Refusal → Type 0
 EndsDismiss caller line firm new (Ok reply) =
     (dismiss_refusal caller line firm ≡ None) × (reply ≡ dismiss_reply None) × (new ≡ after_match line firm)

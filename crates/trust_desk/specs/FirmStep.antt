@@ -1,4 +1,4 @@
--- One step of the firm, and a run of it.
+-- One step of the firm, and a run of steps.
 use Rattle.std.specs.Prelude.{ℕ, ◌≡◌, ◌⊎◌, true, false, List, [], ◌∷◌, Option, Some, None, MatchBool}
 use Rattle.trust_base.specs.Refusals.{status_of}
 use Rattle.trust_base.specs.declared.refusal.Refusal.{Refusal}
@@ -22,7 +22,7 @@ after_asked None m a firm =
     after_edit m (edit_on (of m firm) a) (last_after (of m firm).head (edit_on (of m firm) a) a.day) firm
 after_asked (Some r) m a firm = firm
 
--- the firm after an ask of a matter: with its edit where it is accepted, and else as it was
+-- the firm after an ask of a matter: with its edit if it is accepted, otherwise unchanged
 abbrev pub after_ask : ℕ → Asked → Firm → Firm
 after_ask m a firm = after_asked (refusal (of m firm) a) m a firm
 
@@ -61,7 +61,8 @@ KindStopped day firm (Dismisses caller line) new = new ≡ firm
 KindStopped day firm (OnlyTold text) new = new ≡ firm
 KindStopped day firm (NotRead named r) new = new ≡ firm
 
--- what is left by a request that the store or memory stopped: all as it was, but after the first items of an import
+-- what a request that the store or memory stopped leaves: everything unchanged, except after the first items of an
+-- import
 abbrev pub Stopped : ℕ → Firm → Heard → Firm → Type 0
 Stopped day firm h new = KindStopped day firm (kind_of h) new
 
@@ -70,18 +71,18 @@ pub record IsStopped (day : ℕ) (firm : Firm) (h : Heard) (reply : Reply) (new 
   pub says : IsFaultReply reply
   pub leaves : Stopped day firm h new
 
--- the reply and the firm are those of the firm's step, or the store or memory stopped it
+-- the reply and the firm are those of the firm's step, or the store or memory stopped the request
 abbrev pub Steps : ℕ → Firm → Heard → Reply → Firm → Type 0
 Steps day firm h reply new =
     MatchBool (is_fault_reply reply)
     (IsStopped day firm h reply new)
     ((reply ≡ (firm_step day firm h).reply) × (new ≡ (firm_step day firm h).firm))
 
--- where the reply's body is a refusal, its status is the refusal's
+-- if the reply's body is a refusal, its status is the refusal's
 abbrev pub HasItsStatus : Reply → Type 0
 HasItsStatus reply = (r : Refusal) → reply.body ≡ Refused r → reply.status ≡ status_of r
 
--- so it is in each reply of a step, of a fault too
+-- this is so for each reply of a step, even after a fault
 abbrev pub RefusalsHaveTheirStatus : Type 0
 RefusalsHaveTheirStatus =
     (day : ℕ) (firm new : Firm) (h : Heard) (reply : Reply) → Steps day firm h reply new → HasItsStatus reply
@@ -93,7 +94,7 @@ Runs day firm [] (reply ∷ replies) new = ⊥
 Runs day firm (h ∷ hs) [] new = ⊥
 Runs day firm (h ∷ hs) (reply ∷ replies) new = (mid : Firm) × Steps day firm h reply mid × Runs day mid hs replies new
 
--- the same, and the firm is sound after each step
+-- the same, with the firm sound after each step
 abbrev pub RunsSoundly : ℕ → Firm → List Heard → List Reply → Firm → Type 0
 RunsSoundly day firm [] [] new = new ≡ firm
 RunsSoundly day firm [] (reply ∷ replies) new = ⊥
@@ -106,7 +107,7 @@ SoundRunsAreRuns =
     (day : ℕ) (firm new : Firm) (hs : List Heard) (replies : List Reply) → RunsSoundly day firm hs replies new
     → Runs day firm hs replies new
 
--- no reply to what concerns the matter is for want of the store or of memory
+-- no reply to what concerns the matter is due to a fault of the store or lack of memory
 abbrev pub IsUnstopped : ℕ → List Heard → List Reply → Type 0
 IsUnstopped m [] replies = Unit {0}
 IsUnstopped m (h ∷ hs) [] = Unit {0}

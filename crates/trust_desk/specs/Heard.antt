@@ -1,4 +1,4 @@
--- What the desk hears, of which kind it is, and what of it comes to a matter.
+-- What the desk hears, its kind, and what of it concerns a matter.
 use Rattle.std.specs.Prelude.{ℕ, Bool, false, ◌==◌, List, [], ◌∷◌, ◌++◌, map, Option, Some, None, if◌then◌else◌, Result}
 use Rattle.std.specs.List.{list_any}
 use Rattle.trust_base.specs.declared.line.Line.{Line}
@@ -20,12 +20,12 @@ use Rattle.trust_desk.specs.ImportStep.{import_refusal, imported}
 use Rattle.trust_desk.specs.ReportStep.{report_for}
 use Rattle.trust_desk.specs.MatchStep.{match_text}
 
--- a request; or a message that was refused before it became one, and that names a matter or none
+-- a request, or a message that was refused before it became one; such a message may name a matter
 pub data Heard : Type 0 where
   Asks : (request : Request) → Heard
   Unread : (named : Option ℕ) (refusal : Refusal) → Heard
 
--- requests that were all read
+-- requests that were all read successfully
 abbrev pub heard : List Request → List Heard
 heard requests = map Asks requests
 
@@ -35,15 +35,15 @@ asked_on day caller ask = record { caller = caller; ask = ask; day = day }
 
 -- Its kind.
 
--- all that the machine asks of what is heard: here alone one request is told from another
+-- all that the machine needs to know of what is heard; only here are requests told apart
 pub data Kind : Type 0 where
-  -- an ask of a caller of a matter
+  -- a caller's ask about a matter
   OfMatter : (m : ℕ) (caller : Caller) (ask : Ask) → Kind
-  -- the items that a statement brings, and what it is refused for
+  -- the items of a statement, and why it is refused, if it is
   OfItems : (refused : Option Refusal) (items : List Item) → Kind
   -- a caller dismisses a line from the exceptions
   Dismisses : (caller : Caller) (line : Line) → Kind
-  -- nothing changes: a text is told by the day and the firm's rows, or why it is refused
+  -- nothing changes: the reply is a text made from the day and the firm's rows, or why it is refused
   OnlyTold : (text : ℕ → Firm → Result (List ℕ) Refusal) → Kind
   -- a message that was refused before it became a request
   NotRead : (named : Option ℕ) (refusal : Refusal) → Kind
@@ -62,7 +62,7 @@ kind_of (Asks (Retention caller)) = OnlyTold (report_for caller report.Retention
 kind_of (Asks (OwnLedger caller)) = OnlyTold (report_for caller report.OwnLedger)
 kind_of (Unread named refusal) = NotRead named refusal
 
--- What names a matter, and is replied to.
+-- What names a matter, and gets a reply.
 
 abbrev pub is_the : ℕ → Option ℕ → Bool
 is_the m None = false
@@ -75,7 +75,7 @@ kind_names m (Dismisses caller line) = false
 kind_names m (OnlyTold text) = false
 kind_names m (NotRead named refusal) = is_the m named
 
--- what is heard names the matter; an import names none, nor does what is only told
+-- what is heard names the matter; an import names none, nor does a request for a text
 abbrev pub names : ℕ → Heard → Bool
 names m h = kind_names m (kind_of h)
 
@@ -85,19 +85,19 @@ told m [] replies = []
 told m (h ∷ hs) [] = []
 told m (h ∷ hs) (reply ∷ replies) = if names m h then reply ∷ told m hs replies else told m hs replies
 
--- What comes to a matter.
+-- What concerns a matter.
 
--- an ask of a caller on a day, a message that was refused, or a line of the bank on a day
+-- a caller's ask on a day, a message that was refused, or a bank line on a day
 pub data Own : Type 0 where
   OwnAsk : (asked : Asked) → Own
   OwnRefusal : (refusal : Refusal) → Own
   OwnLine : (line : BankLine) (day : ℕ) → Own
 
--- one that comes, or none
+-- a list with it, or an empty list
 abbrev pub own_if : Bool → Own → List Own
 own_if b own = if b then own ∷ [] else []
 
--- what comes to a matter of an item
+-- what concerns a matter in an item
 abbrev pub own_of_item : ℕ → ℕ → Item → List Own
 own_of_item m day (item.Opening line) = []
 own_of_item m day (item.Closing line) = []
@@ -117,11 +117,11 @@ kind_own m day (Dismisses caller line) = []
 kind_own m day (OnlyTold text) = []
 kind_own m day (NotRead named refusal) = own_if (is_the m named) (OwnRefusal refusal)
 
--- what comes to a matter of what is heard on a day: what names it, and of an import the lines that name it
+-- what concerns a matter in what is heard on a day: what names it, and of an import the lines that name it
 abbrev pub own_of : ℕ → ℕ → Heard → List Own
 own_of m day h = kind_own m day (kind_of h)
 
--- what comes to a matter of all that is heard on a day, in order
+-- what concerns a matter in all that is heard on a day, in order
 abbrev pub project : ℕ → ℕ → List Heard → List Own
 project m day [] = []
 project m day (h ∷ hs) = own_of m day h ++ project m day hs

@@ -1,4 +1,4 @@
--- What an import of a statement is refused for, and what it brings and is told.
+-- Why an import of a statement is refused, what its items are, and its reply.
 use Rattle.std.specs.Prelude.{◌≡◌, ◌⊎◌, ℕ, Bool, true, not, nat_lt, List, [], ◌∷◌, ◌++◌, length, Option, Some, None, is_none, unwrap_or, Result, Ok, Err}
 use Rattle.trust_base.specs.declared.refusal.Field.TheVariants as field
 use Rattle.trust_base.specs.declared.refusal.Rule.TheVariants as rule
@@ -19,7 +19,7 @@ use Rattle.matter_bodies.specs.Bodies.{import_body}
 use Rattle.trust_desk.specs.ItemStep.{after_items, counts_after, none_counted}
 use Rattle.trust_desk.specs.Replies.{refused}
 
--- the caller may not ask what concerns the firm, where no matter's seats count
+-- the caller may not ask for what concerns the firm, where no matter's seats count
 abbrev pub is_not_of_firm : Caller → Bool
 is_not_of_firm caller = not (allows [] caller rule.Firm)
 
@@ -31,11 +31,11 @@ import_conditions caller bytes =
     ∷ (is_not_of_firm caller, refusals.NotAllowed rule.Firm)
     ∷ []
 
--- the least number whose condition holds
+-- the refusal with the least number whose condition holds
 abbrev pub import_refusal : Caller → List ℕ → Option Refusal
 import_refusal caller bytes = first (import_conditions caller bytes)
 
--- the items of a statement, and none where its header is another
+-- the items of a statement; none if it has another header
 abbrev pub items_in : List ℕ → List Item
 items_in bytes = unwrap_or (items bytes) []
 
@@ -43,32 +43,32 @@ abbrev pub items_unless : Option Refusal → List ℕ → List Item
 items_unless None bytes = items_in bytes
 items_unless (Some r) bytes = []
 
--- the items that an import brings: all of its statement, and none where it is refused
+-- the items that an import applies: all of its statement, or none if it is refused
 abbrev pub imported : Caller → List ℕ → List Item
 imported caller bytes = items_unless (import_refusal caller bytes) bytes
 
 abbrev pub counts_text : ImportReply → List ℕ
 counts_text c = import_body c.applied c.exceptions c.repeated c.statement c.unreadable
 
--- the reply to an import that is refused, or whose items were counted
+-- the reply to an import that was refused, or whose items were counted
 abbrev pub import_reply : Option Refusal → ImportReply → Reply
 import_reply None counts = record { status = 200; body = Json (counts_text counts) }
 import_reply (Some r) counts = refused r
 
--- The course of an import.
+-- How an import ends.
 
--- what is answered of the conditions: nothing where none holds, the refusal, or want of memory
+-- the result of checking the conditions: accepted if none holds, otherwise the refusal; or out of memory
 abbrev pub IsChecked : {T : Type 0} → Option Refusal → Result T Refusal → Type 0
 IsChecked refused (Ok x) = refused ≡ None
 IsChecked refused (Err r) = (r ≡ refusals.Memory) ⊎ (refused ≡ Some r)
 
--- the firm after some front of the items, and these are left
+-- the firm after some first items, with these still left
 pub record IsAfterFront (day : ℕ) (firm : Firm) (all rest : List Item) (new : Firm) : Type 0 where
   pub front : List Item
   pub parts : front ++ rest ≡ all
   pub leaves : new ≡ after_items day firm front
 
--- the counts of all items; or the store or memory stopped them after some front
+-- the counts of all items; or the store or memory stopped the import after some first items
 abbrev pub EndsItems : ℕ → Firm → List Item → Firm → Result ImportReply Refusal → Type 0
 EndsItems day firm all new (Ok counts) =
     (counts ≡ counts_after day firm all none_counted) × (new ≡ after_items day firm all)

@@ -20,43 +20,43 @@ use Rattle.trust_desk.specs.ItemStep.{after_item, after_items, counted_of, count
 use Rattle.trust_desk.specs.Heard.{own_of_item, own_of_items}
 use Rattle.trust_desk.specs.Solo.{solo_rows}
 
--- What a statement has: nothing is known where its reader does not tell its bytes; else it has no items where its
--- header is another, or these.
+-- The items of a statement. Nothing is known if its reader does not say what its bytes are; otherwise it has no items
+-- if it has another header, or these.
 abbrev pub Told : Type 0
 Told = Option (Option (List Item))
 
 -- How it ends.
 
--- the end that a fault of the reading makes
+-- how an import ends after a read fault
 abbrev pub stop_of : ReadFault → ImportStop
 stop_of fault.BadHeader = stop.Refused (refusal.BadField field.Header)
 stop_of fault.Limit = stop.Limit
 stop_of fault.Reader = stop.ReadFault
 stop_of fault.Memory = stop.Refused refusal.Memory
 
--- an import is refused for its header, by the store or for want of memory, and for nothing else
+-- an import is only refused for its header, by the store or for lack of memory
 abbrev pub IsStop : ImportStop → Type 0
 IsStop stop.Done = ⊤
 IsStop (stop.Refused r) = (r ≡ refusal.BadField field.Header) ⊎ (is_fault r ≡ true)
 IsStop stop.Limit = ⊤
 IsStop stop.ReadFault = ⊤
 
--- the book's count of calls that answered Store, after an import that ends so: one more where it ends by Store
+-- the book's count of calls that returned `Store`, after an import that ends this way: one more if it ends with `Store`
 abbrev pub counted_stop : ImportStop → ℕ → ℕ
 counted_stop stop.Done n = n
 counted_stop (stop.Refused r) n = counted_refusal r n
 counted_stop stop.Limit n = n
 counted_stop stop.ReadFault n = n
 
--- the same where it may go on
+-- the same if the import may go on
 abbrev pub counted_if : Option ImportStop → ℕ → ℕ
 counted_if None n = n
 counted_if (Some end) n = counted_stop end n
 
 -- What it has done.
 
--- these are the first of the statement's items, and all where the import is done; with another header it is not done,
--- and there are none
+-- these are the first items of the statement, and all of them if the import is done; with another header it is not
+-- done, and there are none
 abbrev pub AreFirst : Told → List Item → ImportStop → Type 0
 AreFirst None front end = ⊤
 AreFirst (Some None) front end = (front ≡ []) × (end ≢ stop.Done)
@@ -67,8 +67,8 @@ abbrev pub AlwaysSound : ℕ → Firm → List Item → Type 0
 AlwaysSound day firm [] = FirmSound firm
 AlwaysSound day firm (it ∷ items) = FirmSound firm × AlwaysSound day (after_item day firm it) items
 
--- the first items of the statement were applied, one after the other, and counted; the firm is sound after each; and
--- each matter's rows are those that its own machine leaves of the lines among them that name it
+-- the first items of the statement were applied in order and counted; the firm is sound after each; and each matter's
+-- rows are those that its own machine makes with the lines among them that name it
 pub record Imports (day : ℕ) (firm : Firm) (told : Told) (result : ImportEnd) (new : Firm) : Type 0 where
   pub front : List Item
   pub first : AreFirst told front result.end
@@ -77,11 +77,11 @@ pub record Imports (day : ℕ) (firm : Firm) (told : Told) (result : ImportEnd) 
   pub own : (m : ℕ) → of m new ≡ solo_rows (of m firm) (own_of_items m day front)
   pub sound : AlwaysSound day firm front
 
--- each matter's rows are those that its own machine leaves of an item, if that names it
+-- each matter's rows are those that its own machine makes with the item, if the item names it
 abbrev pub LeavesOwnItem : ℕ → Firm → Item → Firm → Type 0
 LeavesOwnItem day firm it new = (m : ℕ) → of m new ≡ solo_rows (of m firm) (own_of_item m day it)
 
--- What it has not.
+-- What it has not done.
 
 -- no item of the statement is known to name the matter
 abbrev pub IsUnnamed : ℕ → Told → Type 0
@@ -89,11 +89,11 @@ IsUnnamed m None = ⊥
 IsUnnamed m (Some None) = ⊤
 IsUnnamed m (Some (Some items)) = list_any (names_item m) items ≡ false
 
--- the rows of each matter that no item names stay as they are
+-- the rows of each matter that no item names are unchanged
 abbrev pub KeepsAllUnnamed : Told → Firm → Firm → Type 0
 KeepsAllUnnamed told firm new = (m : ℕ) → IsUnnamed m told → of m new ≡ of m firm
 
--- While it goes on.
+-- During the import.
 
 -- each count is below a number
 pub record AreBelow (n : ℕ) (counts : ImportReply) : Type 0 where
@@ -102,27 +102,27 @@ pub record AreBelow (n : ℕ) (counts : ImportReply) : Type 0 where
   pub exceptions : counts.exceptions < n
   pub unreadable : counts.unreadable < n
 
--- the item was applied, and counted as what became of it; what is said of the firm holds where the store is clean
+-- the item was applied and counted accordingly; the claims about the firm hold if the store is clean
 pub record CountsOne (day : ℕ) (clean : Type 0) (firm new : Firm) (it : Item)
     (before after : ImportReply) : Type 0 where
   pub kind : Counted
   pub counts : after ≡ count_item it kind before
   pub step : clean → (kind ≡ counted_of day firm it) × (new ≡ after_item day firm it)
 
--- one item more was read, applied and counted
+-- one more item was read, applied and counted
 pub record TakesOne (day : ℕ) (clean : Type 0) (firm new : Firm) (left more : Told)
     (before after : ImportReply) : Type 0 where
   pub item : Item
   pub gives : Gives left more (Some item)
   pub counted : CountsOne day clean firm new item before after
 
--- these were read of the statement, and the others are left
+-- these items of the statement were read, and the others are left
 abbrev pub AreRead : Told → List Item → Told → Type 0
 AreRead None front left = ⊤
 AreRead (Some None) front left = (front ≡ []) × (left ≡ Some None)
 AreRead (Some (Some items)) front left = (rest : List Item) × (front ++ rest ≡ items) × (left ≡ Some (Some rest))
 
--- these were read and applied, and counted
+-- these items were read, applied and counted
 pub record IsAmid (day : ℕ) (clean : Type 0) (firm new : Firm) (told left : Told) (counts : ImportReply) : Type 0 where
   pub front : List Item
   pub read : AreRead told front left

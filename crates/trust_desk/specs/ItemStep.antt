@@ -22,26 +22,26 @@ use Rattle.trust_desk.specs.declared.importing.Counted.TheVariants as counted
 
 -- One item.
 
--- the firm after a line that names an entry, by what becomes of it
+-- the firm after a line that names an entry, according to its verdict
 abbrev pub after_told : BankLine → LineEffect → Firm → Firm
 after_told l (told.Applied e) firm = after_match l.line (after_edit l.matter e.edit e.last firm)
 after_told l told.Repeat firm = after_match l.line firm
 after_told l (told.Unmatched r) firm = after_stray l.line firm
 
--- what becomes of a line of the firm's own on a day, by the firm's ledger
+-- the verdict on a line of the firm's own on a day, according to the firm's ledger
 abbrev pub firm_line_on : Firm → Line → ℕ → Verdict
 firm_line_on firm line day = firm_verdict firm.firm_lines line day
 
--- and of a balance, by the one that is kept of its kind and day
+-- the verdict on a balance on a day, according to the one on file for its kind and day
 abbrev pub balance_on : Firm → BalanceKind → Line → ℕ → Verdict
 balance_on firm kind line day = balance_verdict (kept_balance kind line.date firm.balances) line day
 
 abbrev pub after_balance : BalanceKind → Line → ℕ → Firm → Firm
 after_balance kind line day firm = after (by_balance kind line (balance_on firm kind line day)) firm
 
--- the firm after an item on a business day: a line that names an entry is decided on by the rows of its matter, one
--- of the firm's own by the firm's ledger, and a balance by the one kept of its kind and day; a stray line matches
--- nothing; a record that is no line changes nothing
+-- the firm after an item on a business day: a line that names an entry is decided by the rows of its matter, one of the
+-- firm's own by the firm's ledger, and a balance by the one on file for its kind and day; a stray line matches nothing;
+-- a record that is not a line changes nothing
 abbrev pub after_item : ℕ → Firm → Item → Firm
 after_item day firm (item.Opening line) = after_balance kind.Opening line day firm
 after_item day firm (item.Closing line) = after_balance kind.Closing line day firm
@@ -60,7 +60,7 @@ counted_by own.Applied = counted.Applied
 counted_by own.Repeat = counted.Repeated
 counted_by own.Unmatched = counted.Exception
 
--- what becomes of an item
+-- how an item is counted
 abbrev pub counted_of : ℕ → Firm → Item → Counted
 counted_of day firm (item.Opening line) = counted_by (balance_on firm kind.Opening line day)
 counted_of day firm (item.Closing line) = counted_by (balance_on firm kind.Closing line day)
@@ -69,13 +69,13 @@ counted_of day firm (item.OfFirm line) = counted_by (firm_line_on firm line day)
 counted_of day firm (item.Stray line) = counted.Exception
 counted_of day firm (item.Unreadable number) = counted.Unreadable
 
--- what is told of an item whose line was decided on
+-- how an item is counted whose line has this verdict
 abbrev pub counted_verdict : LineVerdict → Counted
 counted_verdict (verdict.Applied c) = counted.Applied
 counted_verdict verdict.Repeat = counted.Repeated
 counted_verdict (verdict.Unmatched r) = counted.Exception
 
--- What an item has to do with a matter.
+-- How an item relates to a matter.
 
 -- the item is a line that names an entry of the matter
 abbrev pub names_item : ℕ → Item → Bool
@@ -86,15 +86,15 @@ names_item m (item.OfFirm line) = false
 names_item m (item.Stray line) = false
 names_item m (item.Unreadable number) = false
 
--- the rows of each matter that the item does not name stay as they are
+-- the rows of each matter that the item does not name are unchanged
 abbrev pub KeepsUnnamed : Firm → Item → Firm → Type 0
 KeepsUnnamed firm it new = (m : ℕ) → names_item m it ≡ false → of m new ≡ of m firm
 
--- the rows of all matters stay as they are
+-- the rows of all matters are unchanged
 abbrev pub KeepsAll : Firm → Firm → Type 0
 KeepsAll firm new = (m : ℕ) → of m new ≡ of m firm
 
--- Items, one after the other.
+-- Items in sequence.
 
 abbrev pub after_items : ℕ → Firm → List Item → Firm
 after_items day firm [] = firm
@@ -103,14 +103,14 @@ after_items day firm (it ∷ items) = after_items day (after_item day firm it) i
 abbrev pub none_counted : ImportReply
 none_counted = record { applied = 0; exceptions = 0; repeated = 0; statement = None; unreadable = 0 }
 
--- one more of its kind
+-- one more of this kind
 abbrev pub count_one : Counted → ImportReply → ImportReply
 count_one counted.Applied c = record c { applied = c.applied + 1 }
 count_one counted.Repeated c = record c { repeated = c.repeated + 1 }
 count_one counted.Exception c = record c { exceptions = c.exceptions + 1 }
 count_one counted.Unreadable c = record c { unreadable = c.unreadable + 1 }
 
--- the day of the last closing balance that was applied or repeated: this one's, or as before
+-- the day of the last closing balance that was applied or repeated: this one's, or the one before
 abbrev pub closing_day : Counted → ℕ → Option ℕ → Option ℕ
 closing_day counted.Applied day before = Some day
 closing_day counted.Repeated day before = Some day
@@ -125,11 +125,11 @@ statement_day (item.OfFirm line) kind before = before
 statement_day (item.Stray line) kind before = before
 statement_day (item.Unreadable number) kind before = before
 
--- one more item, as what became of it
+-- one more item, counted this way
 abbrev pub count_item : Item → Counted → ImportReply → ImportReply
 count_item it kind c = record (count_one kind c) { statement = statement_day it kind c.statement }
 
--- the counts after items, from some counts on
+-- the counts after these items, starting from `c`
 abbrev pub counts_after : ℕ → Firm → List Item → ImportReply → ImportReply
 counts_after day firm [] c = c
 counts_after day firm (it ∷ items) c =
@@ -138,7 +138,7 @@ counts_after day firm (it ∷ items) c =
 abbrev pub count_sum : ImportReply → ℕ
 count_sum c = c.applied + c.exceptions + c.repeated + c.unreadable
 
--- each item is counted, once
+-- each item is counted exactly once
 abbrev pub EveryItemIsCounted : Type 0
 EveryItemIsCounted =
     (day : ℕ) (firm : Firm) (items : List Item) → count_sum (counts_after day firm items none_counted) ≡ length items

@@ -1,4 +1,4 @@
--- What a statement whose references may be empty is answered, over the firm on a business day.
+-- The reply to a statement whose references may be empty, over the firm on a business day.
 use Rattle.std.specs.Prelude.{◌≡◌, ◌⊎◌, ℕ, true, List, None, Some, Result, Ok, Err}
 use Rattle.trust_base.specs.declared.refusal.Refusal.{Refusal}
 use Rattle.trust_base.specs.Refusals.{is_fault}
@@ -14,12 +14,12 @@ abbrev pub text_in : MatchText → MatchedTexts → List ℕ
 text_in Statement texts = texts.statement
 text_in Unmatched texts = texts.unmatched
 
--- a text of what the statement becomes; it is refused as an import of it is
+-- one of the two texts for the statement; it is refused for the same reasons as an import of it
 abbrev pub match_text : MatchText → Caller → List ℕ → ℕ → Firm → Result (List ℕ) Refusal
 match_text text caller bytes today firm =
     text_unless (import_refusal caller bytes) (text_in text (matched today firm bytes))
 
--- both texts; or the refusal, or the store or memory stopped it
+-- both texts; or it was refused, or the store or memory stopped it
 abbrev pub IsMatched : ℕ → Firm → Caller → List ℕ → Result MatchedTexts Refusal → Type 0
 IsMatched today firm caller bytes (Ok texts) =
     (import_refusal caller bytes ≡ None) × (texts ≡ matched today firm bytes)

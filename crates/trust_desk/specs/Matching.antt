@@ -1,4 +1,4 @@
--- What an import does of the lines that a match writes of a bank's own file.
+-- What an import does with the lines that a match writes for a bank's own file.
 use Rattle.std.specs.Prelude.{◌≡◌, ◌≢◌, ℕ, ◌+◌, ◌<◌, true, List, [], ◌∷◌, ◌++◌, length, None}
 use Rattle.std.specs.List.{Contains}
 use Rattle.trust_base.specs.declared.line.Line.{Line}
@@ -10,17 +10,17 @@ use Rattle.statement_match.specs.Books.{held_of}
 use Rattle.statement_match.specs.FirmLaws.{HasMatterNumbers}
 use Rattle.statement_match.specs.Laws.{with_reference, written}
 use Rattle.statement_match.specs.Rule.{becomes, exception_reference, is_open}
-use Rattle.statement_match.specs.declared.outcome.Outcome.TheVariants as outcome
+use Rattle.statement_lines.specs.declared.outcome.Outcome.TheVariants as outcome
 use Rattle.trust_desk.specs.declared.importing.Counted.TheVariants as counted
 use Rattle.trust_desk.specs.ItemStep.{after_items, counted_of}
 
--- the items of lines, the first of which stands in the record with this number
+-- the items of lines; the first is in the record with this number
 abbrev pub items_of : ℕ → List Line → List Item
 items_of number [] = []
 items_of number (line ∷ lines) = item_of_line number line ∷ items_of (number + 1) lines
 
--- Each line that is filled is applied when what is written is imported on the same day, into the sound firm over which
--- it was filled: whatever was written before it, and became of that. The line has a reference of the bank.
+-- Each filled line is applied if the output is imported on the same day into the sound firm over which it was filled,
+-- whatever was written before it and whatever became of that. The line has a bank reference.
 abbrev pub FilledLinesAreApplied : Type 0
 FilledLinesAreApplied =
     (today : ℕ) (firm : Firm) (lines front rest : List Line) (line : Line) (reference : List ℕ)
@@ -31,7 +31,7 @@ FilledLinesAreApplied =
     (item_of_line (length front + 1) (with_reference reference line))
     ≡ counted.Applied
 
--- A line that is filled is in the book already when the same lines are matched again behind that import, on any day.
+-- A filled line is in the book already if the same lines are matched again after that import, on any day.
 abbrev pub FilledLinesAreInBook : Type 0
 FilledLinesAreInBook =
     (today later : ℕ) (firm : Firm) (lines : List Line) (line : Line) (reference : List ℕ)
@@ -40,14 +40,14 @@ FilledLinesAreInBook =
     → becomes later (held_of (after_items today firm (items_of 1 (written today (held_of firm) lines)))) lines line
     ≡ outcome.InBook
 
--- no line has a reference, or is an exception under one, and each has a reference of the bank
+-- no line has a reference, or is an exception under one, and each has a bank reference
 pub record AreNameless (firm : Firm) (lines : List Line) : Type 0 where
   pub opened : (line : Line) → Contains lines line → is_open line ≡ true
   pub unnamed : (line : Line) → Contains lines line → exception_reference (held_of firm).exceptions line ≡ None
   pub from_bank : (line : Line) → Contains lines line → 0 < length line.bank_ref
 
--- None of such lines is filled when they are matched again behind that import, on the same day: those that were filled
--- are in the book, and what the others fit waits as it did.
+-- None of these lines is filled if they are matched again after that import, on the same day: those that were filled
+-- are in the book, and what the others fit still waits.
 abbrev pub SecondMatchFillsNothing : Type 0
 SecondMatchFillsNothing =
     (today : ℕ) (firm : Firm) (lines : List Line) (line : Line) (reference : List ℕ)

@@ -17,7 +17,7 @@ KindHasAmounts (Dismisses caller line) = Unit {0}
 KindHasAmounts (OnlyTold text) = Unit {0}
 KindHasAmounts (NotRead named refusal) = Unit {0}
 
--- the amounts in what is heard are amounts; a line of the bank may have any
+-- the amounts in what is heard are valid; a bank line may have any
 abbrev pub HasAmounts : Heard → Type 0
 HasAmounts h = KindHasAmounts (kind_of h)
 
@@ -30,7 +30,7 @@ pub record IsCovered (firm : Firm) : Type 0 where
   pub sound : FirmSound firm
   pub ledgers : (m : ℕ) → pos 0 ≤ℤ ledger (of m firm).entries
 
--- so it is before and after each item
+-- this is so before and after each item
 abbrev pub AlwaysCoveredBy : ℕ → Firm → List Item → Type 0
 AlwaysCoveredBy day firm [] = IsCovered firm
 AlwaysCoveredBy day firm (it ∷ items) = IsCovered firm × AlwaysCoveredBy day (after_item day firm it) items
@@ -42,16 +42,16 @@ KindIsCovered day firm (Dismisses caller line) = IsCovered firm
 KindIsCovered day firm (OnlyTold text) = IsCovered firm
 KindIsCovered day firm (NotRead named refusal) = IsCovered firm
 
--- and in what is heard
+-- this is so during what is heard
 abbrev pub IsCoveredIn : ℕ → Firm → Heard → Type 0
 IsCoveredIn day firm h = KindIsCovered day firm (kind_of h)
 
--- before and after each step, and after each item of an import
+-- this is so before and after each step, and after each item of an import
 abbrev pub AlwaysCovered : ℕ → Firm → List Heard → Type 0
 AlwaysCovered day firm [] = IsCovered firm
 AlwaysCovered day firm (h ∷ hs) = IsCoveredIn day firm h × AlwaysCovered day (firm_step day firm h).firm hs
 
--- the same of a run of the desk, whatever stopped its steps: before, in and after each
+-- the same for a run of the desk, whatever stopped its steps: before, during and after each
 abbrev pub CoveredRun : ℕ → Firm → List Heard → List Reply → Firm → Type 0
 CoveredRun day firm [] [] new = (new ≡ firm) × IsCovered firm
 CoveredRun day firm [] (reply ∷ replies) new = ⊥
@@ -59,13 +59,13 @@ CoveredRun day firm (h ∷ hs) [] new = ⊥
 CoveredRun day firm (h ∷ hs) (reply ∷ replies) new =
     (mid : Firm) × Steps day firm h reply mid × IsCoveredIn day firm h × CoveredRun day mid hs replies new
 
--- a run of the desk: what is asked may have any amounts
+-- a run of the desk, whatever amounts are asked for
 abbrev pub RunsNeverBelowZero : Type 0
 RunsNeverBelowZero =
     (day : ℕ) (firm new : Firm) (hs : List Heard) (replies : List Reply) → FirmSound firm
     → RunsSoundly day firm hs replies new → CoveredRun day firm hs replies new
 
--- the firm's own steps, that nothing stopped
+-- the firm's own steps, none of which was stopped
 abbrev pub NeverBelowZero : Type 0
 NeverBelowZero =
     (day : ℕ) (firm : Firm) (hs : List Heard) → FirmSound firm → AllHaveAmounts hs → AlwaysCovered day firm hs

@@ -1,4 +1,4 @@
--- What is made of an ask before anything is written.
+-- What is made for an ask before anything is written.
 use Rattle.std.specs.Prelude.{ℕ, ◌≡◌, ◌⊎◌, Bool, true, false, List, Some, None, Result, Ok, Err}
 use Rattle.trust_base.specs.declared.refusal.Refusal.{Refusal}
 use Rattle.trust_base.specs.Refusals.{is_fault}
@@ -22,39 +22,39 @@ abbrev pub is_nothing : Edit → Bool
 is_nothing edit.Nothing = true
 is_nothing _ = false
 
--- the status of an accepted ask, by what it edits
+-- the status of an accepted ask, according to its edit
 abbrev pub success_by : Ask → Edit → ℕ
 success_by a e = success_of a (is_nothing e)
 
--- the bytes are this text of all sound rows of which the matter is a part, where it holds entry n
+-- the bytes are this text, for all sound rows that the matter is a part of, if entry n is loaded or does not exist
 abbrev pub IsTextOf : Part → ℕ → (Rows → List ℕ) → List ℕ → Type 0
 IsTextOf m n text bytes = (rows : Rows) → Sound rows → IsPart m rows → is_held_or_none m n ≡ true → bytes ≡ text rows
 
--- for a ledger card the part keeps all entries
+-- for a ledger card the part has all entries loaded
 abbrev pub IsWholeForCard : Ask → Part → Rows → Type 0
 IsWholeForCard ask part rows = is_accounting ask ≡ true → IsWhole part rows
 
--- the bytes are what is told after the ask, of all sound rows of matter m of which the part is one, where it holds the
--- entry that is named, and for a ledger card keeps all
+-- the bytes are the body after the ask, for all sound rows of matter m that the part belongs to, if the named entry is
+-- loaded or does not exist, and for a ledger card all are loaded
 abbrev pub IsBodyOf : ℕ → Ask → Part → List ℕ → Type 0
 IsBodyOf m ask part bytes =
     (rows : Rows) → Sound rows → IsPart part rows → is_held_or_none part (number_named ask) ≡ true
     → IsWholeForCard ask part rows
     → bytes ≡ body_of m rows ask
 
--- what is read of a matter for an ask: a part of its rows that holds what the ask names, and for a ledger card keeps
--- all entries
+-- what is loaded of a matter for an ask: a part of its rows in which the entries that the ask names are loaded or do
+-- not exist, and for a ledger card all are loaded
 pub record IsReadFor (rows : Rows) (ask : Ask) (part : Part) : Type 0 where
   pub is_part : IsPart part rows
   pub held : holds_for part ask ≡ true
   pub whole : IsWholeForCard ask part rows
 
--- the change that the rows decide on, and the reply that they give
+-- the change that the rows decide, and the reply that they give
 pub record IsPlanned (m : ℕ) (rows : Rows) (a : Asked) (p : Planned) : Type 0 where
   pub decided : IsDecided rows a p.change
   pub reply : p.reply ≡ reply_of m rows a
 
--- what is planned: the change and the reply, or the refusal
+-- the plan: the change and the reply, or the refusal
 abbrev pub Plans : ℕ → Rows → Asked → Result Planned Refusal → Type 0
 Plans m rows a (Ok p) = IsPlanned m rows a p
 Plans m rows a (Err r) = MayRefuse (refusal rows a) r
@@ -70,7 +70,7 @@ pub record IsRefused (firm : Firm) (m : ℕ) (a : Asked) (r : Refusal) (new : Fi
   pub why : (is_fault r ≡ true) ⊎ (refusal (of m firm) a ≡ Some r)
   pub leaves : new ≡ firm
 
--- what becomes of an ask
+-- how an ask ends
 abbrev pub Ends : Firm → ℕ → Asked → Firm → Result Reply Refusal → Type 0
 Ends firm m a new (Ok reply) = IsAccepted firm m a reply new
 Ends firm m a new (Err r) = IsRefused firm m a r new

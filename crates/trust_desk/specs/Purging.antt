@@ -1,4 +1,4 @@
--- Purging a matter at the desk takes nothing from what a day is reported as.
+-- Purging a matter at the desk changes nothing in what is reported of a day.
 use Rattle.std.specs.Prelude.{◌≡◌, ℕ, false}
 use Rattle.trust_matter.specs.declared.ask.Caller.{Caller}
 use Rattle.trust_matter.specs.declared.ask.Ask.TheVariants as ask
@@ -10,7 +10,7 @@ use Rattle.trust_desk.specs.declared.requests.Request.TheVariants.{Matter}
 use Rattle.trust_desk.specs.Heard.{Asks}
 use Rattle.trust_desk.specs.FirmStep.{firm_step}
 
--- the firm after a caller asked, on the day, that the matter be purged: whether it was or the ask was refused
+-- the firm after a caller asked, on the day, to purge the matter, whether it was purged or the ask was refused
 abbrev pub after_purge : ℕ → ℕ → Caller → Firm → Firm
 after_purge day m caller firm = (firm_step day firm (Asks (Matter m caller ask.Purge))).firm
 
@@ -19,7 +19,7 @@ pub record IsReportedAsBefore (p : ℕ) (before after : Firm) : Type 0 where
   pub figures : figures_on p after ≡ figures_on p before
   pub lists : AreListsLeft p before after
 
--- so it is of each day whose records are whole afterwards, no purged matter having been closed after it
+-- this is so for each day whose records are complete afterwards, that is, no purged matter was closed after it
 abbrev pub PurgingChangesNoFigure : Type 0
 PurgingChangesNoFigure =
     (day p m : ℕ) (caller : Caller) (firm : Firm) → FirmSound firm

@@ -1,4 +1,4 @@
--- Replies, by a matter's rows.
+-- Replies, computed from a matter's rows.
 use Rattle.std.specs.Prelude.{ℕ, Bool, false, List, [], Option, Some, None, if◌then◌else◌, Result, Ok, Err}
 use Rattle.trust_base.specs.declared.refusal.Refusal.{Refusal}
 use Rattle.trust_base.specs.Refusals.{status_of, is_fault}
@@ -16,11 +16,11 @@ use Rattle.trust_desk.specs.declared.requests.Body.TheVariants.{Json, Refused, T
 use Rattle.matter_bodies.specs.Bodies.{matter_body, purge_body, receipt_body, entry_body}
 use Rattle.trust_reports.specs.TextsOfLedgers.{ledger_card_of}
 
--- the reply to what is refused
+-- the reply to a refused request
 abbrev pub refused : Refusal → Reply
 refused r = record { status = status_of r; body = Refused r }
 
--- the reply that was made, or that to the refusal
+-- the reply that was made, or the one to the refusal
 abbrev pub reply_for : Result Reply Refusal → Reply
 reply_for (Ok reply) = reply
 reply_for (Err r) = refused r
@@ -37,7 +37,7 @@ is_fault_body (Json text) = false
 is_fault_body (Text text) = false
 is_fault_body (Refused r) = is_fault r
 
--- only a call of the store, or a growth, can bring this reply
+-- only a failing store or lack of memory can cause this reply
 abbrev pub is_fault_reply : Reply → Bool
 is_fault_reply reply = is_fault_body reply.body
 
@@ -48,13 +48,13 @@ abbrev pub made_text : ℕ → ℕ → Option Entry → List ℕ
 made_text m n None = []
 made_text m n (Some e) = receipt_body m n e
 
--- the entry as it is, in JSON, with what is left of it
+-- the entry as it is now, in JSON, with what is left of it
 abbrev pub shown_text : ℕ → ℕ → List Entry → Option Entry → List ℕ
 shown_text m n es None = []
 shown_text m n es (Some e) = entry_body m n e (left_of es n e)
 
--- what is told of the rows of matter m after an ask: of the matter, of the entry as it was made, of the entry as it
--- is, or the ledger card
+-- the body from the rows of matter m after an ask: the matter, the entry as it was made, the entry as it is now, or the
+-- ledger card
 abbrev pub body_of : ℕ → Rows → Ask → List ℕ
 body_of m rows (ask.OpenMatter a) = matter_body m rows
 body_of m rows (ask.AddSeat s) = matter_body m rows
@@ -76,11 +76,11 @@ body_of m rows ask.Show = matter_body m rows
 body_of m rows (ask.ShowEntry n) = shown_text m n rows.entries (entry_at rows.entries n)
 body_of m rows ask.Accounting = ledger_card_of m rows
 
--- the ledger card is told as lines of text, and all else in JSON
+-- the ledger card is lines of text, and everything else is JSON
 abbrev pub said : Ask → List ℕ → Body
 said a text = if is_accounting a then Text text else Json text
 
--- 201 where something is made, which a repeat does not
+-- 201 if something is made, which a repeat does not do
 abbrev pub success_of : Ask → Bool → ℕ
 success_of (ask.OpenMatter a) again = 201
 success_of (ask.Deposit a) again = if again then 200 else 201

@@ -1,4 +1,4 @@
--- What a request for a report of the firm is refused for, and the text that it is told.
+-- Why a request for a report of the firm is refused, and the text of the report.
 use Rattle.std.specs.Prelude.{ℕ, Bool, false, List, [], ◌∷◌, Option, Some, None, Result, Ok, Err}
 use Rattle.trust_base.specs.declared.refusal.Rule.TheVariants as rule
 use Rattle.trust_base.specs.declared.refusal.Refusal.{Refusal}
@@ -17,12 +17,12 @@ use Rattle.trust_desk.specs.declared.requests.Reply.{Reply}
 use Rattle.trust_desk.specs.ImportStep.{is_not_of_firm}
 use Rattle.trust_desk.specs.Replies.{refused, text_reply}
 
--- a reconciliation of a day of which the bank told no closing balance
+-- a reconciliation of a day for which the bank reported no closing balance
 abbrev pub lacks_statement : Report → Firm → Bool
 lacks_statement (Reconciliation day) firm = has_no_statement day firm
 lacks_statement _ firm = false
 
--- a reconciliation of a day before the close of a matter that has been purged since
+-- a reconciliation of a day before the closing of a matter that has been purged since
 abbrev pub lacks_records : Report → Firm → Bool
 lacks_records (Reconciliation day) firm = is_period_purged day firm
 lacks_records _ firm = false
@@ -48,20 +48,20 @@ abbrev pub text_unless : Option Refusal → List ℕ → Result (List ℕ) Refus
 text_unless None text = Ok text
 text_unless (Some r) text = Err r
 
--- what a caller is told of a report on a business day: its text, or the least number whose condition holds
+-- the result of a report on a business day: its text, or the refusal with the least number whose condition holds
 abbrev pub report_for : Caller → Report → ℕ → Firm → Result (List ℕ) Refusal
 report_for caller report today firm =
     text_unless (first (report_conditions caller report firm)) (report_text report today firm)
 
--- The course of a report.
+-- How a report ends.
 
--- what is told of what there is of a report
+-- the result for a report that was made or is not available
 abbrev pub found_text : Reconciled → Result (List ℕ) Refusal
 found_text found.NoStatement = Err refusals.NoStatement
 found_text found.PeriodPurged = Err refusals.PeriodPurged
 found_text (found.Text text) = Ok text.items
 
--- the reply to what there is of a report, or to what stopped it
+-- the reply to a report that was made or is not available, or to the fault that stopped it
 abbrev pub found_reply : Result Reconciled StoreFault → Reply
 found_reply (Ok found) = text_reply (found_text found)
 found_reply (Err fault) = refused (refused_by fault)

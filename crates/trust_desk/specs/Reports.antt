@@ -1,4 +1,4 @@
--- The reports of a firm, each the text of a list that its rows give.
+-- The reports of a firm. Each is the text of a list made from its rows.
 use Rattle.std.specs.Prelude.{◌≡◌, ℕ, Bool, true, false, List, [], Option, Some, None, is_none}
 use Rattle.firm_rows.specs.Firm.{Firm}
 use Rattle.firm_rows.specs.FirmLines.{balance_of}
@@ -15,7 +15,7 @@ use Rattle.trust_desk.specs.declared.reconciliation.Reconciled.TheVariants as an
 
 -- On a business day.
 
--- the ledgers of the open matters, the firm's own balance, and what they add up to
+-- the ledgers of the open matters, the firm's own balance, and their sum
 unfoldable pub trial_report : ℕ → Firm → List ℕ
 trial_report today firm = trial_text today (trial_lines firm) (balance_of firm.firm_lines) (trial_total firm)
 
@@ -27,17 +27,17 @@ journal_report today firm = journal_text today (journal_list firm)
 unfoldable pub retention_report : ℕ → Firm → List ℕ
 retention_report today firm = retention_text today (retention_list today firm)
 
--- the bank's lines that match nothing
+-- the bank lines that match nothing
 unfoldable pub exceptions_report : ℕ → Firm → List ℕ
 exceptions_report today firm = exceptions_text today firm.exceptions
 
--- the lines of the firm's own in the order of acceptance, and what they add up to
+-- the lines of the firm's own in the order of acceptance, and their sum
 unfoldable pub own_card_report : ℕ → Firm → List ℕ
 own_card_report today firm = own_card_text today firm.firm_lines
 
 -- As of a day.
 
--- the bank told of no closing balance of the day
+-- the bank reported no closing balance of the day
 unfoldable pub has_no_statement : ℕ → Firm → Bool
 has_no_statement day firm = is_none (closing_on day firm.balances)
 
@@ -45,12 +45,12 @@ abbrev pub text_of : ℕ → Option ReconciliationTold → List ℕ
 text_of day None = []
 text_of day (Some r) = reconciliation_text day r
 
--- the figures and the lists; nothing where there is no closing balance of the day
+-- the figures and the lists; empty if there is no closing balance of the day
 unfoldable pub reconciliation_report : ℕ → Firm → List ℕ
 reconciliation_report day firm = text_of day (reconciliation_on day firm)
 
--- without a closing balance of the day there is no reconciliation, and else none where the records of the day are no
--- longer whole
+-- there is no reconciliation without a closing balance of the day, nor, if there is one, when the records of the day
+-- are incomplete
 abbrev pub IsReconciled : ℕ → Firm → Reconciled → Type 0
 IsReconciled day firm answer.NoStatement = has_no_statement day firm ≡ true
 IsReconciled day firm answer.PeriodPurged = (has_no_statement day firm ≡ false) × (is_period_purged day firm ≡ true)

@@ -1,4 +1,4 @@
-//! Whether the rows of a book are those of a sound firm.
+//! Whether a book's rows are those of a sound firm.
 
 ghost use Rattle.std.specs.Prelude.{◌≡◌, IfErr, IfOk, None};
 ghost use Rattle.firm_rows.specs.FirmSound.{FirmSound};
@@ -12,33 +12,33 @@ use std::alloc::Global;
 use trust_base::StoreFault;
 use trust_store::{AllRows, Book, KeptMatter};
 
-/// How many rows a book has of each kind.
+/// How many rows of each kind a book has.
 #[derive(Clone, Copy, Debug, PartialEq, Eq)]
 pub struct RowCounts {
-    /// Matters.
+    /// The number of matters.
     pub matters: u64,
-    /// Entries of all matters.
+    /// The number of entries of all matters.
     pub entries: u64,
-    /// Movements of the journal.
+    /// The number of movements in the journal.
     pub movements: u64,
-    /// Lines of the firm's own ledger.
+    /// The number of lines in the firm's own ledger.
     pub firm_lines: u64,
-    /// Exceptions.
+    /// The number of exceptions.
     pub exceptions: u64,
-    /// Opening and closing balances.
+    /// The number of opening and closing balances.
     pub balances: u64,
 }
 
-/// What a check of a book found.
+/// The result of checking a book.
 #[derive(Clone, Copy, Debug, PartialEq, Eq)]
 pub struct Checked {
-    /// What is not sound of its rows; None where they are those of a sound firm.
+    /// What is not sound in its rows. `None` if they are those of a sound firm.
     pub flaw: Option<Flaw>,
-    /// How many rows it has.
+    /// How many rows the book has.
     pub counts: RowCounts,
 }
 
-// How many entries matters have.
+// How many entries these matters have.
 fn entries_of(matters: &[KeptMatter]) -> u64 {
     let mut count = 0u64;
     for kept in matters {
@@ -61,7 +61,7 @@ fn counts_of(rows: &AllRows) -> RowCounts
     }
 }
 
-// What there is to be told of rows.
+// Returns what is wrong with rows, and how many there are.
 fn checked_of(alloc: Global, rows: &AllRows) -> Result<Checked, StoreFault>
     ensures sound { IfOk result (λ c. c.flaw ≡ None → FirmSound (firm_of_all rows.now)) }
     ensures counts { IfOk result (λ c. AreCountsOf (firm_of_all rows.now) c.counts) }
@@ -89,12 +89,12 @@ fn check<B: Book>(alloc: Global, book: &mut B) -> Result<Checked, StoreFault>
 }
 
 impl<B: Book> Desk<B> {
-    /// Reads all rows of the book, and tells how many there are and what is not sound of them. Whatever its store
-    /// keeps, as long as that can be read as rows: where no flaw is told, they are those of a sound firm. The book
-    /// stays as it is.
+    /// Reads all rows of the book, and returns how many there are and what is not sound in them. The store may hold
+    /// anything that can be read as rows. If no flaw is returned, the rows are those of a sound firm. The book is
+    /// unchanged.
     ///
-    /// Store is answered where the book's store was at fault, and where a row stands for nothing or a matter is not the
-    /// whole of sound rows: `find_unread` tells which. Memory is answered where a growth was refused.
+    /// Returns `Store` if the book's store failed, if a row is invalid, or if a matter is not the whole of sound rows;
+    /// `find_unread` then returns which. Returns `Memory` if memory ran out.
     pub fn check(&mut self, alloc: Global) -> Result<Checked, StoreFault>
         ensures sound { B.clean self.new → B.readable self.old
             → IfOk result (λ c. c.flaw ≡ None → FirmSound (B.firm self.old)) }

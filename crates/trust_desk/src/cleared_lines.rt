@@ -1,19 +1,19 @@
-//! What the rows of a book show beside a report: a line of the bank that cleared two entries, and work behind the day.
+//! What a book's rows show in addition to a report: a bank line that cleared two entries, and work after the day.
 
 ghost use Rattle.trust_store.specs.Calls.{IsRead};
 
 use crate::desk::Desk;
 use crate::watching::{ClearedLine, RowWatch};
-use firm_rows::{FirmLine, Movement, Owner, RowSink, StatementRow};
+use firm_rows::{FirmLine, FirmLineSink, Owner, RowSink};
 use std::alloc::{AllocError, Global};
 use std::cmp::Ordering;
 use std::marker::Model;
-use trust_base::{Day, EntryNo, Line, MatterNo, StoreFault};
+use trust_base::{Day, EntryNo, MatterNo, StoreFault};
 use trust_matter::{Clearing, Deposit, DepositState, Entry, Head, PaymentState, Seat};
 use trust_store::Book;
 
-/// Keeps the lines of the bank that cleared entries, and the firm's own, dated from one day to another, both by their
-/// numbers; and the last day of any matter.
+/// Collects the bank lines that cleared entries, and the firm's own, dated between two days given by their numbers, and
+/// the last day of any matter.
 ///
 /// Contracts see nothing of it.
 #[derive(Drop)]
@@ -31,7 +31,7 @@ impl Model for ClearedLines {
 }
 
 impl ClearedLines {
-    // Keeps what a line cleared, if it is dated in these days.
+    // Adds what a line cleared, if its date is between the two days.
     fn keep(&mut self, owner: &Owner, line: &Clearing, amount: i64) -> Result<(), AllocError> {
         let day = line.bank_day;
         if day.get() < self.from || self.to < day.get() {
@@ -47,7 +47,7 @@ impl ClearedLines {
         Ok(())
     }
 
-    // Keeps what cleared a deposit, and what took it back.
+    // Adds the lines that cleared a deposit and took it back.
     fn keep_deposit(&mut self, owner: &Owner, deposit: &Deposit) -> Result<(), AllocError> {
         let amount = deposit.amount.get() as i64;
         match &deposit.state {
@@ -60,7 +60,7 @@ impl ClearedLines {
         }
     }
 
-    // Takes note of a day on which a matter was changed.
+    // Notes a day on which a matter was changed.
     fn see(&mut self, day: Day) {
         match self.last {
             Some(last) if day.get() <= last.get() => {}
@@ -71,14 +71,6 @@ impl ClearedLines {
 
 impl RowSink for ClearedLines {
     ghost stepped = { λ lines row. lines };
-
-    ghost noted = { λ lines line. lines };
-
-    ghost moved = { λ lines movement. lines };
-
-    ghost lined = { λ lines line. lines };
-
-    ghost balanced = { λ lines row. lines };
 
     fn head(&mut self, _matter: MatterNo, head: &Head) -> Result<(), AllocError> {
         self.see(head.last);
@@ -110,14 +102,10 @@ impl RowSink for ClearedLines {
             Entry::Fee(_) | Entry::Claim(_) => Ok(()),
         }
     }
+}
 
-    fn exception(&mut self, _line: &Line) -> Result<(), AllocError> {
-        Ok(())
-    }
-
-    fn movement(&mut self, _movement: &Movement) -> Result<(), AllocError> {
-        Ok(())
-    }
+impl FirmLineSink for ClearedLines {
+    ghost lined = { λ lines line. lines };
 
     fn firm_line(&mut self, line: &FirmLine) -> Result<(), AllocError> {
         let bank_ref = line.bank_ref.copied()?;
@@ -127,20 +115,16 @@ impl RowSink for ClearedLines {
         };
         self.keep(&Owner::Firm, &own, line.amount.get())
     }
-
-    fn balance(&mut self, _row: &StatementRow) -> Result<(), AllocError> {
-        Ok(())
-    }
 }
 
-/// By date, amount and bank reference.
+/// Compares by date, amount and bank reference.
 pub(crate) fn order_of(one: &ClearedLine, other: &ClearedLine) -> Ordering {
     let by_date = one.date.get().cmp(&other.date.get());
     let by_amount = by_date.then(one.amount.cmp(&other.amount));
     by_amount.then(one.bank_ref.as_slice().cmp(other.bank_ref.as_slice()))
 }
 
-// Tells of each of these lines, in order, that is the same as the one before it.
+// Reports each of these sorted lines that is equal to the one before it.
 fn tell_of_same<V: RowWatch>(lines: &[ClearedLine], watch: &V) {
     for pair in lines.windows(2) {
         if order_of(&pair[0], &pair[1]) == Ordering::Equal {
@@ -149,7 +133,7 @@ fn tell_of_same<V: RowWatch>(lines: &[ClearedLine], watch: &V) {
     }
 }
 
-// The number of the first day of the month before a day's.
+// The number of the first day of the month before the day's month.
 fn month_before(day: Day) -> u32 {
     let number = day.get();
     let first = number - number % 100 + 1;
@@ -160,7 +144,7 @@ fn month_before(day: Day) -> u32 {
     }
 }
 
-/// The rows of a book, with the lines dated from one day to another, both by their numbers.
+/// Reads the rows of a book, collecting the lines dated between two days given by their numbers.
 pub(crate) fn rows_of<B: Book>(
     alloc: Global,
     book: &mut B,
@@ -180,7 +164,7 @@ pub(crate) fn rows_of<B: Book>(
     Ok(found)
 }
 
-// Tells of rows.
+// Reports what the rows show.
 fn tell_of_rows<V: RowWatch>(rows: ClearedLines, watch: &V) -> Result<(), AllocError> {
     let mut lines = rows.lines;
     lines.sort_by(|one, other| order_of(one, other))?;
@@ -191,7 +175,7 @@ fn tell_of_rows<V: RowWatch>(rows: ClearedLines, watch: &V) -> Result<(), AllocE
     Ok(())
 }
 
-// Tells of the rows of a book.
+// Reports what the rows of a book show.
 fn tell_of_book<B: Book, V: RowWatch>(
     alloc: Global,
     book: &mut B,
@@ -208,12 +192,12 @@ fn tell_of_book<B: Book, V: RowWatch>(
 }
 
 impl<B: Book> Desk<B> {
-    /// Tells what the rows of a book show beside a report of a day: each line of the bank that cleared an entry, or is
-    /// the firm's own, where one of the same date, bank reference and amount did so too, dated by that day in its month
-    /// or in the month before; and the last day on which a matter was changed. The book stays as it is. `watch` is
-    /// told, of which no clause speaks.
+    /// Reports to `watch` what the rows of a book show that a reader of a day's report should know. These are the bank
+    /// lines that cleared an entry, or are the firm's own, and have the same date, bank reference and amount as another
+    /// such line. They are dated by that day, in its month or the month before. It also reports the last day on which a
+    /// matter was changed. The book is unchanged. The contract does not say what `watch` is told.
     ///
-    /// Store is answered where the book's store was at fault, and Memory where a growth was refused.
+    /// Returns `Store` if the book's store failed, and `Memory` if memory ran out.
     pub fn tell_rows<V: RowWatch>(
         &mut self,
         alloc: Global,

@@ -1,4 +1,4 @@
-//! The desk: requests in, replies out, over any book.
+//! The desk: takes requests and returns replies, over any book.
 
 ghost use Rattle.std.specs.Prelude.{◌≡◌, ℕ, List, IfOk, length, take, ◌<◌, ◌∷◌, [], false, is_none};
 ghost use Rattle.statement_csv.specs.Items.{items};
@@ -33,7 +33,7 @@ use trust_store::Book;
 
 /// Answers requests over a book. Contracts see it as the book.
 ///
-/// The trial balance of a book that is empty:
+/// The trial balance of an empty book:
 ///
 ///     let mut desk = Desk::new(PlainBook::new(alloc));
 ///     let reply = desk.answer(alloc, &Request::Trial(Caller::Cashier), today);
@@ -49,14 +49,14 @@ impl<B: Book> Model for Desk<B> {
 }
 
 impl<B: Book> Desk<B> {
-    /// A desk over a book.
+    /// Makes a desk over a book.
     pub fn new(book: B) -> Desk<B>
         ensures { result ≡ book }
     {
         Desk { book }
     }
 
-    /// The book.
+    /// Returns the book.
     pub fn into_book(self) -> B
         ensures { result ≡ self }
     {
@@ -64,8 +64,8 @@ impl<B: Book> Desk<B> {
         book
     }
 
-    /// Answers one request on a business day. With an answer of Store or Memory nothing has changed, but that of an
-    /// import the first items may have been applied.
+    /// Answers one request on a business day. If the reply is `Store` or `Memory`, nothing has changed, except that the
+    /// first items of an import may have been applied.
     pub fn answer(&mut self, alloc: Global, request: &Request, day: Day) -> Reply
         ensures step { B.clean self.new → B.stands self.old
             → Steps day (B.firm self.old) (Asks request.now) result (B.firm self.new) }
@@ -74,12 +74,12 @@ impl<B: Book> Desk<B> {
         ensures own { B.clean self.new → B.stands self.old → is_fault_reply result ≡ false
             → (m : ℕ) → IsOwn m day (B.firm self.old) (Asks request.now ∷ []) (result ∷ []) (B.firm self.new) }
 
-        // It is Store only where a call of the book was.
+        // The reply is `Store` only if a call of the book returned `Store`.
         ensures kept { KeepsBook B.clean B.sure B.stands B.lasts B.refusals (counted_reply result) self.old self.new }
 
-        // A crash may leave what it might have left before, or the rows with the request's change; of an import the
-        // rows after some front of its items, where the store served as it began, as that of a book does that has met
-        // no fault. After each answer but Store and Memory a settled book is settled.
+        // A crash may leave what it might have left before, or the rows with the request's change. For an import it may
+        // be the rows after some first items, provided the store was clean when the import began; the store of a book
+        // that has met no fault is clean. After any reply except `Store` and `Memory`, a settled book is still settled.
         ensures crash { B.sure self.new → B.stands self.old → (IsImport request.now → B.clean self.old)
             → MayLeave B.clean B.leaves (is_fault_reply result ≡ false)
             (IsMade day (B.firm self.old) (Asks request.now)) (B.firm self.old)
@@ -116,7 +116,8 @@ impl<B: Book> Desk<B> {
         }
     }
 
-    // Tells a report of the firm, or why it is refused: nothing changes. The request is named for the contract alone.
+    // Answers with a report of the firm, or says why it is refused. Nothing changes. The request is a parameter only
+    // for the contract.
     fn answer_told(
         &mut self,
         alloc: Global,
@@ -144,7 +145,7 @@ impl<B: Book> Desk<B> {
         found_reply(find_report(alloc, &mut self.book, report, day))
     }
 
-    // Dismisses a line from the exceptions. The day is named for the contract alone.
+    // Dismisses a line from the exceptions. The day is a parameter only for the contract.
     fn answer_dismiss(&mut self, alloc: Global, caller: &Caller, line: &Line, _day: Day) -> Reply
         ensures step { B.clean self.new → B.stands self.old
             → Steps _day (B.firm self.old) (Asks (Request.Dismiss caller.now line.now)) result (B.firm self.new) }
@@ -206,7 +207,7 @@ impl<B: Book> Desk<B> {
         })
     }
 
-    // Applies the items of a statement whose header is good.
+    // Applies the items of a statement with a valid header.
     fn import_bytes(
         &mut self,
         alloc: Global,
@@ -226,7 +227,7 @@ impl<B: Book> Desk<B> {
         match end {
             ImportStop::Done => Ok(reply),
             ImportStop::Refused(refusal) => Err(refusal),
-            // Bytes that are held and are not too long end early for want of memory alone.
+            // Bytes in memory that are not too long can only end early if memory runs out.
             ImportStop::Limit | ImportStop::ReadFault => Err(Refusal::Memory),
         }
     }
@@ -274,11 +275,11 @@ impl<B: Book> Desk<B> {
         Ok(planned.reply)
     }
 
-    /// Answers requests in order on a business day, until memory for a further reply is refused. The requests
-    /// behind the last reply were then not begun.
+    /// Answers requests in order on a business day, until there is no memory for another reply. The requests after the
+    /// last reply were then not begun.
     pub fn run(&mut self, alloc: Global, requests: &[Request], day: Day) -> RunEnd
 
-        // The replies are those to the first requests, and the firm is sound after each.
+        // The replies are those to the first requests, and the firm is sound after each of them.
         ensures run { B.clean self.new → B.stands self.old
             → RunsSoundly day (B.firm self.old)
             (heard (take (length result.replies.items) requests.now)) result.replies.items (B.firm self.new) }
@@ -289,19 +290,20 @@ impl<B: Book> Desk<B> {
             → IsOwn m day (B.firm self.old)
             (heard (take (length result.replies.items) requests.now)) result.replies.items (B.firm self.new) }
 
-        // They are Store only where calls of the book were.
+        // Replies are `Store` only if calls of the book returned `Store`.
         ensures kept { KeepsBook B.clean B.sure B.stands B.lasts B.refusals (counted_replies result.replies.items)
             self.old self.new }
 
-        // Where the store served as the run began, and no reply but the last is Store or Memory, a crash may leave what
-        // it might have left before, or the rows after some front of the requests, with a part of the next; and where
-        // no reply is, a settled book is settled.
+        // If the store was clean when the run began, and no reply except the last is `Store` or `Memory`, a crash may
+        // leave what it might have left before, or the rows after some first requests, with a part of the next one. If
+        // no reply at all is either, a settled book is still settled.
         ensures crash { B.sure self.new → B.clean self.old → B.stands self.old
             → AreNoFaultsButLast result.replies.items → MayLeave B.clean B.leaves (AreNoFaults result.replies.items)
             (IsMadeInRun day (B.firm self.old) (heard (take (length result.replies.items) requests.now)))
             (B.firm self.old) (B.firm self.new) self.old self.new }
 
-        // The replies before the first that is are those of a run, also where a fault has shut the store since.
+        // The replies before the first `Store` or `Memory` are those of a run, even if a fault has shut the store
+        // since.
         ensures shut { B.sure self.new → B.clean self.old → B.stands self.old → (mid : Firm)
             × RunsSoundly day (B.firm self.old)
             (heard (take (length (before_fault result.replies.items)) requests.now))

@@ -1,4 +1,4 @@
-//! A line that is dismissed from the exceptions.
+//! Dismisses a line from the exceptions.
 
 ghost use Rattle.std.specs.Prelude.{◌≡◌, ◌||◌, IfOk, false};
 ghost use Rattle.trust_base.specs.LineOrder.{is_same_line};
@@ -11,66 +11,29 @@ ghost use Rattle.trust_desk.specs.Replies.{is_fault_reply};
 
 use crate::callers::is_not_of_firm;
 use crate::requests::{Body, Reply};
-use firm_rows::{FirmLine, Movement, RowSink, StatementRow};
+use firm_rows::ExceptionSink;
 use std::alloc::{AllocError, Global};
-use trust_base::{EntryNo, Line, MatterNo, OwnedBytes, Refusal, Rule, StoreFault};
-use trust_matter::{Caller, Entry, Head, Seat};
+use trust_base::{Line, OwnedBytes, Refusal, Rule, StoreFault};
+use trust_matter::Caller;
 use trust_store::Book;
 
-// Looks for a line among those that it is handed.
+// Searches for a line among those that it receives.
 #[derive(Drop)]
 struct LineSearch<'a> {
     line: &'a Line,
     is_found: bool,
 }
 
-impl RowSink for LineSearch<'_> {
-    ghost stepped = { λ s row. s };
-
+impl ExceptionSink for LineSearch<'_> {
     ghost noted = { λ s line. record s { is_found = s.is_found || is_same_line line s.line.now } };
-
-    ghost moved = { λ s movement. s };
-
-    ghost lined = { λ s line. s };
-
-    ghost balanced = { λ s row. s };
-
-    fn head(&mut self, _matter: MatterNo, _head: &Head) -> Result<(), AllocError> {
-        Ok(())
-    }
-
-    fn seat(&mut self, _matter: MatterNo, _seat: &Seat) -> Result<(), AllocError> {
-        Ok(())
-    }
-
-    fn entry(
-        &mut self,
-        _matter: MatterNo,
-        _number: EntryNo,
-        _entry: &Entry,
-    ) -> Result<(), AllocError> {
-        Ok(())
-    }
 
     fn exception(&mut self, line: &Line) -> Result<(), AllocError> {
         self.is_found = self.is_found || line.compare(self.line).is_eq();
         Ok(())
     }
-
-    fn movement(&mut self, _movement: &Movement) -> Result<(), AllocError> {
-        Ok(())
-    }
-
-    fn firm_line(&mut self, _line: &FirmLine) -> Result<(), AllocError> {
-        Ok(())
-    }
-
-    fn balance(&mut self, _row: &StatementRow) -> Result<(), AllocError> {
-        Ok(())
-    }
 }
 
-// Is a line one of a book's exceptions?
+// Whether a line is one of a book's exceptions.
 fn is_exception<B: Book>(book: &mut B, line: &Line) -> Result<bool, StoreFault>
     ensures found { B.clean book.new → B.stands book.old
         → IfOk result (λ is. is ≡ is_exception line.now (B.firm book.old).exceptions) }
@@ -84,10 +47,10 @@ fn is_exception<B: Book>(book: &mut B, line: &Line) -> Result<bool, StoreFault>
     Ok(search.is_found)
 }
 
-/// Dismisses a line from the exceptions of a book: it is none from then on, and nothing else changes.
+/// Dismisses a line from the exceptions of a book: it is not an exception any more. Nothing else changes.
 ///
-/// Refused are a caller who is not the cashier (`NotAllowed`) and a line that is no exception (`NoEntry`); Store and
-/// Memory come where the book or a growth was refused. With an error nothing has changed.
+/// Refuses a caller who is not the cashier (`NotAllowed`), and a line that is not an exception (`NoEntry`). Returns
+/// `Store` or `Memory` if the book failed or memory ran out. On an error nothing has changed.
 pub(crate) fn dismiss<B: Book>(
     alloc: Global,
     book: &mut B,

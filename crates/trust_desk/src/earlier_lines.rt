@@ -1,4 +1,4 @@
-// The lines of the bank that a book has.
+// The bank lines that a book has.
 
 ghost use Rattle.trust_store.specs.Calls.{IsRead};
 
@@ -10,15 +10,15 @@ use std::cmp::Ordering;
 use trust_base::{Line, StoreFault};
 use trust_store::Book;
 
-/// The lines of the bank that a book has: those that cleared an entry or took it back, and the firm's own. A line that
-/// is imported is looked up among them by its date, bank reference and amount.
+/// The bank lines that a book has: those that cleared an entry or took it back, and the firm's own. An imported line is
+/// looked up among them by date, bank reference and amount.
 #[derive(Drop)]
 pub struct EarlierLines {
-    // By date, amount and bank reference.
+    // Sorted by date, amount and bank reference.
     lines: Vec<ClearedLine>,
 }
 
-// The order of one of them beside a line of a statement.
+// Compares one of them with a line of a statement.
 fn order_beside(one: &ClearedLine, line: &Line) -> Ordering {
     let by_date = one.date.get().cmp(&line.date.get());
     let by_amount = by_date.then(one.amount.cmp(&line.amount.get()));
@@ -26,7 +26,7 @@ fn order_beside(one: &ClearedLine, line: &Line) -> Ordering {
 }
 
 impl EarlierLines {
-    /// One of the same date, bank reference and amount as a line, where there is one.
+    /// Returns a line with the same date, bank reference and amount, if there is one.
     pub fn same_as(&self, line: &Line) -> Option<&ClearedLine> {
         match self.lines.binary_search_by(|one| order_beside(one, line)) {
             Ok(place) => self.lines.get(place),
@@ -35,14 +35,14 @@ impl EarlierLines {
     }
 }
 
-// The same lines, by which others are looked up.
+// Sorts the lines for lookup.
 fn sorted(lines: Vec<ClearedLine>) -> Result<EarlierLines, AllocError> {
     let mut lines = lines;
     lines.sort_by(|one, other| order_of(one, other))?;
     Ok(EarlierLines { lines })
 }
 
-// Of a book.
+// Reads the bank lines of a book.
 fn lines_of_book<B: Book>(alloc: Global, book: &mut B) -> Result<EarlierLines, StoreFault>
     ensures { IsRead B.firm B.clean B.sure B.stands B.lasts B.leaves B.refusals result book.old book.new }
 {
@@ -54,10 +54,10 @@ fn lines_of_book<B: Book>(alloc: Global, book: &mut B) -> Result<EarlierLines, S
 }
 
 impl<B: Book> Desk<B> {
-    /// The lines of the bank that the book has, whatever their days, for what is told of lines that are imported later.
-    /// The book stays as it is.
+    /// Returns the bank lines that the book has, of any day, for reports on lines that are imported later. The book is
+    /// unchanged.
     ///
-    /// Store is answered where the book's store was at fault, and Memory where a growth was refused.
+    /// Returns `Store` if the book's store failed, and `Memory` if memory ran out.
     pub fn earlier_lines(&mut self, alloc: Global) -> Result<EarlierLines, StoreFault>
         ensures read { IsRead B.firm B.clean B.sure B.stands B.lasts B.leaves B.refusals result self.old self.new }
     {

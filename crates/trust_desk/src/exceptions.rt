@@ -9,9 +9,9 @@ use std::alloc::Global;
 use trust_base::{Day, StoreFault};
 use trust_store::Book;
 
-/// The exceptions on a business day: the bank's lines of which the books have nothing, in their order.
+/// Writes the exceptions on a business day: the bank lines that match nothing in the books, sorted.
 ///
-/// Store is answered where the book's store was at fault, and Memory where a growth was refused.
+/// Returns `Store` if the book's store failed, and `Memory` if memory ran out.
 pub fn exceptions_report<B: Book>(
     alloc: Global,
     book: &mut B,

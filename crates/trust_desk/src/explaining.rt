@@ -1,4 +1,4 @@
-//! Why the exceptions of a book are exceptions: what an import would make of each.
+//! Explains why the exceptions of a book are exceptions: what an import would do with each.
 
 ghost use Rattle.std.specs.Prelude.{◌++◌, ◌∷◌, []};
 ghost use Rattle.trust_store.specs.Calls.{IsRead};
@@ -10,20 +10,17 @@ use crate::importing::{
 };
 use crate::watching::{At, ItemWatch, NotApplied};
 use csv::ByteRecord;
-use firm_rows::{
-    BalanceKind, FirmLedger, FirmLine, Movement, RowSink, StatementRow, decide_balance,
-    decide_firm_line,
-};
+use firm_rows::{BalanceKind, ExceptionSink, FirmLedger, decide_balance, decide_firm_line};
 use statement_csv::{Item, read_item};
 use std::alloc::{AllocError, Global};
 use std::marker::Model;
-use trust_base::{Day, EntryNo, Line, MatterNo, StoreFault, write_amount};
-use trust_matter::{BankLine, Entry, Head, Seat};
+use trust_base::{Day, Line, StoreFault, write_amount};
+use trust_matter::BankLine;
 use trust_store::Book;
 
-// Keeps the exceptions that it is handed.
+// Collects the exceptions that it receives.
 //
-// Contracts see it as their list.
+// Contracts see it as the list of them.
 #[derive(Drop)]
 struct ExceptionList {
     lines: Vec<Line>,
@@ -38,53 +35,16 @@ impl Model for ExceptionList {
     ghost view = { λ list. list.lines.items };
 }
 
-impl RowSink for ExceptionList {
-    ghost stepped = { λ lines row. lines };
-
+impl ExceptionSink for ExceptionList {
     ghost noted = { λ lines line. lines ++ line ∷ [] };
-
-    ghost moved = { λ lines movement. lines };
-
-    ghost lined = { λ lines line. lines };
-
-    ghost balanced = { λ lines row. lines };
-
-    fn head(&mut self, _matter: MatterNo, _head: &Head) -> Result<(), AllocError> {
-        Ok(())
-    }
-
-    fn seat(&mut self, _matter: MatterNo, _seat: &Seat) -> Result<(), AllocError> {
-        Ok(())
-    }
-
-    fn entry(
-        &mut self,
-        _matter: MatterNo,
-        _number: EntryNo,
-        _entry: &Entry,
-    ) -> Result<(), AllocError> {
-        Ok(())
-    }
 
     fn exception(&mut self, line: &Line) -> Result<(), AllocError> {
         self.lines.push(line.copied()?)?;
         Ok(())
     }
-
-    fn movement(&mut self, _movement: &Movement) -> Result<(), AllocError> {
-        Ok(())
-    }
-
-    fn firm_line(&mut self, _line: &FirmLine) -> Result<(), AllocError> {
-        Ok(())
-    }
-
-    fn balance(&mut self, _row: &StatementRow) -> Result<(), AllocError> {
-        Ok(())
-    }
 }
 
-// The exceptions of a book.
+// Returns the exceptions of a book.
 fn exceptions_in<B: Book>(alloc: Global, book: &mut B) -> Result<Vec<Line>, StoreFault>
     ensures { IsRead B.firm B.clean B.sure B.stands B.lasts B.leaves B.refusals result book.old book.new }
 {
@@ -95,7 +55,7 @@ fn exceptions_in<B: Book>(alloc: Global, book: &mut B) -> Result<Vec<Line>, Stor
     Ok(list.lines)
 }
 
-// Tells of an exception that an import would take.
+// Reports an exception that an import would accept.
 fn tell_of_taken<V: ItemWatch>(at: &At<'_, V>, line: &Line, counted: Counted) {
     match counted {
         Counted::Applied => at.tell(&NotApplied::WouldApply { line }),
@@ -104,7 +64,7 @@ fn tell_of_taken<V: ItemWatch>(at: &At<'_, V>, line: &Line, counted: Counted) {
     }
 }
 
-// Tells of an exception that names an entry.
+// Explains an exception that names an entry.
 fn explain_bank_line<B: Book, V: ItemWatch>(
     alloc: Global,
     book: &mut B,
@@ -115,7 +75,7 @@ fn explain_bank_line<B: Book, V: ItemWatch>(
     ensures { IsRead B.firm B.clean B.sure B.stands B.lasts B.leaves B.refusals result book.old book.new }
 {
     let matter = book.matter_for(alloc, line.matter, Some(line.entry), None)?;
-    // The entry is held, so that memory alone can be wanting.
+    // The entry is loaded, so only memory can run out.
     let Ok(verdict) = line_verdict(&matter, line, day) else {
         return Err(StoreFault::Memory);
     };
@@ -124,14 +84,14 @@ fn explain_bank_line<B: Book, V: ItemWatch>(
     Ok(())
 }
 
-// Tells of an exception of the firm's own.
+// Explains an exception of the firm's own.
 fn explain_firm_line<V: ItemWatch>(line: &Line, ledger: &FirmLedger, day: Day, at: &At<'_, V>) {
     let verdict = decide_firm_line(ledger, line, day);
     tell_of_firm_line(at, line, ledger, verdict);
     tell_of_taken(at, line, counted_by(verdict));
 }
 
-// Tells of a balance that is an exception.
+// Explains a balance that is an exception.
 fn explain_balance<B: Book, V: ItemWatch>(
     book: &mut B,
     kind: BalanceKind,
@@ -148,7 +108,7 @@ fn explain_balance<B: Book, V: ItemWatch>(
     Ok(())
 }
 
-// Tells of an exception by its item.
+// Explains an exception, according to its item.
 fn explain_item<B: Book, V: ItemWatch>(
     alloc: Global,
     book: &mut B,
@@ -172,12 +132,12 @@ fn explain_item<B: Book, V: ItemWatch>(
             at.tell(&NotApplied::Stray { line });
             Ok(())
         }
-        // What can't be read is never kept as an exception.
+        // An unreadable record is never stored as an exception.
         Item::Unreadable(_) => Ok(()),
     }
 }
 
-// The item that a line is, read from its fields again.
+// Reads a line's fields again, as the item of a statement.
 fn item_again(alloc: Global, line: &Line, number: u64) -> Result<Item, AllocError> {
     let mut date = Vec::new(alloc);
     line.date.write_to(&mut date)?;
@@ -194,7 +154,7 @@ fn item_again(alloc: Global, line: &Line, number: u64) -> Result<Item, AllocErro
     read_item(alloc, &row, number)
 }
 
-// Tells of an exception. Of one for which memory ran out before the book was asked nothing is told.
+// Explains an exception. If memory runs out before the book is asked, nothing is reported of it.
 fn explain_line<B: Book, V: ItemWatch>(
     alloc: Global,
     book: &mut B,
@@ -212,7 +172,7 @@ fn explain_line<B: Book, V: ItemWatch>(
     }
 }
 
-// Tells of exceptions in their order, by the ledger of the firm's own lines.
+// Explains exceptions in order, given the ledger of the firm's own lines.
 fn explain_each<B: Book, V: ItemWatch>(
     alloc: Global,
     book: &mut B,
@@ -232,7 +192,7 @@ fn explain_each<B: Book, V: ItemWatch>(
     Ok(())
 }
 
-// Tells of each exception of a book what an import on a business day would make of it.
+// Reports what an import on a business day would do with each exception of a book.
 fn explain<B: Book, V: ItemWatch>(
     alloc: Global,
     book: &mut B,
@@ -247,11 +207,12 @@ fn explain<B: Book, V: ItemWatch>(
 }
 
 impl<B: Book> Desk<B> {
-    /// Tells of each exception, in the order of their list, what an import on a business day would make of it: why it
-    /// would not apply it, or that it would. The book stays as it is. `watch` is told, of which no clause speaks.
+    /// Reports to `watch`, for each exception in the order of their list, what an import on a business day would do
+    /// with it: why it would not apply it, or that it would. The book is unchanged. The contract does not say what
+    /// `watch` is told.
     ///
-    /// Store is answered where the book's store was at fault, and Memory where a growth was refused: of the exceptions
-    /// behind that nothing was told then.
+    /// Returns `Store` if the book's store failed, and `Memory` if memory ran out. The exceptions after that are then
+    /// not reported.
     pub fn tell_exceptions<V: ItemWatch>(
         &mut self,
         alloc: Global,

@@ -1,4 +1,4 @@
-//! Statements of the bank, item by item.
+//! Imports statements of the bank, item by item.
 
 ghost use Rattle.std.specs.Prelude.{◌≡◌, ◌-◌, ◌^◌, IfNone, IfOk, IfSome, IsOk, None, OnErr, OnOk, Some, false, option_map};
 ghost use Rattle.std.specs.Io.KnownBytes.{Keeps};
@@ -33,25 +33,25 @@ use trust_base::{Day, Field, Line, Refusal, StoreFault};
 use trust_matter::{BankLine, LineVerdict, Matter, decide_line, holds_for_line};
 use trust_store::Book;
 
-/// What became of an item of a statement.
+/// How an item of a statement is counted.
 #[derive(Clone, Copy, Debug, PartialEq, Eq)]
 pub enum Counted {
-    /// A line that cleared its entry or joined the firm's ledger, or a balance that is kept from now on.
+    /// A line that cleared its entry or was added to the firm's ledger, or a balance that is now on file.
     Applied,
-    /// A line that came again.
+    /// A repeat: a line that came again.
     Repeated,
-    /// A line that matches nothing, and is an exception from now on.
+    /// A line that matches nothing and is now an exception.
     Exception,
-    /// A record that is no line.
+    /// A record that is not a valid line.
     Unreadable,
 }
 
 /// How an import of a statement ended.
 #[derive(Debug, Drop)]
 pub enum ImportStop {
-    /// Each item was applied.
+    /// Every item was handled.
     Done,
-    /// The header was another (`BadField`), or the store or memory was refused (`Store`, `Memory`).
+    /// The header was another one (`BadField`), the store failed (`Store`), or memory ran out (`Memory`).
     Refused(Refusal),
     /// The statement has more than 4,194,304 bytes.
     Limit,
@@ -59,14 +59,14 @@ pub enum ImportStop {
     ReadFault,
 }
 
-/// What became of the first items of a statement, and how the import ended. The items behind them were not begun.
+/// The counts of the first items of a statement, and how the import ended. The items after them were not begun.
 #[derive(Debug, Drop)]
 pub struct ImportEnd {
     pub reply: ImportReply,
     pub end: ImportStop,
 }
 
-// The end that a fault of the reading makes.
+// How the import ends after a read fault.
 fn stop_of(fault: ReadFault) -> ImportStop
     ensures { result ≡ stop_of fault }
 {
@@ -91,14 +91,14 @@ fn none_counted() -> ImportReply
     }
 }
 
-// How many items are counted.
+// How many items were counted.
 fn taken(reply: &ImportReply) -> u64 {
     let done = reply.applied.saturating_add(reply.repeated);
     done.saturating_add(reply.exceptions)
         .saturating_add(reply.unreadable)
 }
 
-// Counts one item more.
+// Counts one more item.
 fn count_one(reply: &mut ImportReply, counted: Counted)
     requires { AreBelow (2 ^ 64 - 1) reply.old }
     ensures { reply.new ≡ count_one counted reply.old }
@@ -111,7 +111,7 @@ fn count_one(reply: &mut ImportReply, counted: Counted)
     }
 }
 
-/// Decides on a line by what was read of its matter for its entry. That is held; where it is not, it is answered Store.
+/// Decides on a line with what was loaded of its matter. Returns `Store` if the entry exists but is not loaded.
 pub(crate) fn line_verdict(
     matter: &Matter,
     line: &BankLine,
@@ -129,7 +129,7 @@ pub(crate) fn line_verdict(
     }
 }
 
-// Counts an item as what became of it; the day of a closing balance that was applied or came again is noted.
+// Counts an item. Notes the day of a closing balance that was applied or repeated.
 fn count_item(reply: &mut ImportReply, item: &Item, counted: Counted)
     requires { AreBelow (2 ^ 64 - 1) reply.old }
     ensures { reply.new ≡ count_item item.now counted reply.old }
@@ -148,7 +148,7 @@ fn count_item(reply: &mut ImportReply, item: &Item, counted: Counted)
     }
 }
 
-/// What a line of the firm, or a balance, with this verdict is counted as.
+/// How a line of the firm's own, or a balance, with this verdict is counted.
 pub(crate) fn counted_by(verdict: Verdict) -> Counted
     ensures { result ≡ counted_by verdict }
 {
@@ -159,7 +159,7 @@ pub(crate) fn counted_by(verdict: Verdict) -> Counted
     }
 }
 
-/// What a line with this verdict is counted as.
+/// How a line with this verdict is counted.
 pub(crate) fn counted_verdict(verdict: &LineVerdict) -> Counted
     ensures { result ≡ counted_verdict verdict.now }
 {
@@ -170,7 +170,7 @@ pub(crate) fn counted_verdict(verdict: &LineVerdict) -> Counted
     }
 }
 
-// Tells of a line that was applied. A balance is none.
+// Reports a line that was applied. A balance is not reported.
 fn tell_of_applied<V: ItemWatch>(at: &At<'_, V>, item: &Item, counted: Counted) {
     if counted != Counted::Applied {
         return;
@@ -182,7 +182,7 @@ fn tell_of_applied<V: ItemWatch>(at: &At<'_, V>, item: &Item, counted: Counted) 
     }
 }
 
-/// Tells of a line that names an entry, where it is an exception.
+/// Reports a line that names an entry, if it is an exception.
 pub(crate) fn tell_of_line<V: ItemWatch>(
     at: &At<'_, V>,
     line: &BankLine,
@@ -198,7 +198,7 @@ pub(crate) fn tell_of_line<V: ItemWatch>(
     }
 }
 
-/// Tells of a line of the firm's own, where it is an exception.
+/// Reports a line of the firm's own, if it is an exception.
 pub(crate) fn tell_of_firm_line<V: ItemWatch>(
     at: &At<'_, V>,
     line: &Line,
@@ -210,7 +210,7 @@ pub(crate) fn tell_of_firm_line<V: ItemWatch>(
     }
 }
 
-/// Tells of a balance, where it is an exception.
+/// Reports a balance, if it is an exception.
 pub(crate) fn tell_of_balance<V: ItemWatch>(
     at: &At<'_, V>,
     kind: BalanceKind,
@@ -224,10 +224,10 @@ pub(crate) fn tell_of_balance<V: ItemWatch>(
 }
 
 impl<B: Book> Desk<B> {
-    /// Applies one item of a statement on a business day: a line that names an entry clears it, one of the firm's own
-    /// joins its ledger, and a balance is kept, or it comes again, or is an exception from then on, as a stray line
-    /// always is; a record that is no line changes nothing. With an error nothing has changed. Of an exception, and of
-    /// a record that is no line, the watcher is told behind that.
+    /// Applies one item of a statement on a business day. A line that names an entry clears it, one of the firm's own
+    /// is added to its ledger, and a balance is put on file; or else the item is a repeat or becomes an exception. A
+    /// stray line always becomes an exception. A record that is not a line changes nothing. On an error nothing has
+    /// changed. Exceptions and records that are not lines are reported to the watcher afterwards.
     pub fn apply_line<V: ItemWatch>(
         &mut self,
         alloc: Global,
@@ -239,17 +239,17 @@ impl<B: Book> Desk<B> {
             → IfOk result (λ c. (c ≡ counted_of day (B.firm self.old) item.now)
             × (B.firm self.new ≡ after_item day (B.firm self.old) item.now)) }
         ensures err { B.clean self.new → B.stands self.old → OnErr result (B.firm self.new ≡ B.firm self.old) }
-        // Each matter hears of it the line that names it, and else nothing.
+        // Each matter is affected only by a line that names it.
         ensures own { B.clean self.new → B.stands self.old
             → IfOk result (λ _. LeavesOwnItem day (B.firm self.old) item.now (B.firm self.new)) }
         ensures others { B.clean self.new → B.stands self.old
             → KeepsUnnamed (B.firm self.old) item.now (B.firm self.new) }
 
-        // It is Store only where a call of the book was.
+        // The result is `Store` only if a call of the book returned `Store`.
         ensures kept { KeepsBook B.clean B.sure B.stands B.lasts B.refusals (counted result) self.old self.new }
 
-        // A crash may leave what it might have left before, or the rows with the item's change; and where it answers
-        // Ok, of a settled book these alone.
+        // A crash may leave what it might have left before, or the rows with the item's change. If the result is `Ok`
+        // and the book was settled, it can leave only the latter.
         ensures crash { B.sure self.new → B.stands self.old → MayLeaveChange B.clean B.leaves (IsOk result)
             (B.firm self.old) (after_item day (B.firm self.old) item.now) self.old self.new }
     {
@@ -266,7 +266,7 @@ impl<B: Book> Desk<B> {
         }
     }
 
-    // A line that names an entry.
+    // Applies a line that names an entry.
     fn apply_bank_line<V: ItemWatch>(
         &mut self,
         alloc: Global,
@@ -293,7 +293,7 @@ impl<B: Book> Desk<B> {
         Ok(counted_verdict(&verdict))
     }
 
-    // A line of the firm's own.
+    // Applies a line of the firm's own.
     fn apply_firm_line<V: ItemWatch>(
         &mut self,
         alloc: Global,
@@ -318,7 +318,7 @@ impl<B: Book> Desk<B> {
         Ok(counted_by(verdict))
     }
 
-    // An opening or a closing balance.
+    // Applies an opening or a closing balance.
     fn apply_balance<V: ItemWatch>(
         &mut self,
         alloc: Global,
@@ -343,7 +343,7 @@ impl<B: Book> Desk<B> {
         Ok(counted_by(verdict))
     }
 
-    // A line that names nothing.
+    // Records a line that names nothing as an exception.
     fn apply_stray<V: ItemWatch>(
         &mut self,
         alloc: Global,
@@ -363,11 +363,12 @@ impl<B: Book> Desk<B> {
     }
 
     /// Applies the items of a statement on a business day, each before the next is read, until the statement ends or a
-    /// fault comes. The items so far stay applied then, and no other is begun. `watch` is told of each line that was
-    /// applied, of each item that is an exception or no line, and of the end, of which no clause speaks.
+    /// fault occurs. The items so far then stay applied, and no other is begun. `watch` is told of each line that was
+    /// applied, of each item that is an exception or not a line, and of the end; the contract does not say what it is
+    /// told.
     ///
-    /// No clause says that `ReadFault` and `Memory` come only where a read failed and a growth was refused: `csv` tells
-    /// nothing of its reader after an error.
+    /// The contract does not say that `ReadFault` and `Memory` occur only if a read failed or memory ran out, because
+    /// `csv` promises nothing about its reader after an error.
     pub fn import<R: Read + Drop, V: ItemWatch>(
         &mut self,
         alloc: Global,
@@ -376,8 +377,8 @@ impl<B: Book> Desk<B> {
         watch: &V,
     ) -> ImportEnd
 
-        // One front of the items is applied and counted; the firm is sound after each; and each matter hears of them
-        // the lines that name it alone.
+        // Some first items are applied and counted. The firm is sound after each, and each matter is affected only by
+        // those that name it.
         ensures front { B.clean self.new → B.stands self.old
             → Imports day (B.firm self.old) (option_map items (R.remaining reader)) result (B.firm self.new) }
         ensures stops { IsStop result.end }
@@ -388,18 +389,18 @@ impl<B: Book> Desk<B> {
         ensures others { B.clean self.new → B.stands self.old
             → KeepsAllUnnamed (option_map items (R.remaining reader)) (B.firm self.old) (B.firm self.new) }
 
-        // It ends by Store only where a call of the book did.
+        // The import ends with `Store` only if a call of the book returned `Store`.
         ensures kept { KeepsBook B.clean B.sure B.stands B.lasts B.refusals (counted_stop result.end)
             self.old self.new }
 
-        // Where the store served as the import began, a crash may leave what it might have left before, or the rows
-        // after some front of the items; and a settled book is settled, where neither the store nor memory ended it.
+        // If the store was clean when the import began, a crash may leave what it might have left before, or the rows
+        // after some first items. A settled book is still settled, unless the store or memory ended the import.
         ensures crash { B.sure self.new → B.clean self.old → B.stands self.old → MayLeave B.clean B.leaves
             (is_stopped result.end ≡ false)
             (IsAfterFirst day (B.firm self.old) (option_map items (R.remaining reader)))
             (B.firm self.old) (B.firm self.new) self.old self.new }
 
-        // What it counts are the first of the items, also where a fault has shut the store since.
+        // The counted items are the first of the statement, even if a fault has shut the store since.
         ensures shut { B.sure self.new → B.clean self.old → B.stands self.old → (mid : Firm)
             × Imports day (B.firm self.old) (option_map items (R.remaining reader)) result mid }
     {
@@ -408,7 +409,7 @@ impl<B: Book> Desk<B> {
         ended
     }
 
-    // The same, where a proof names the statement's bytes by `K`.
+    // The same, with a type `K` by which a proof names the statement's bytes.
     fn import_whole<R: Read + Drop, V: ItemWatch, K: Whole>(
         &mut self,
         alloc: Global,
@@ -435,7 +436,7 @@ impl<B: Book> Desk<B> {
     {
         let mut lines = Lines::<R, K>::of_whole(alloc, reader);
         let mut reply = none_counted();
-        // No statement has so many items; the bound gives the counts room.
+        // No statement has this many items. The bound keeps the counts from overflowing.
         for turn in 0..u64::MAX {
             let number = turn.saturating_add(1);
             let at = At { number, watch };
@@ -449,7 +450,7 @@ impl<B: Book> Desk<B> {
         }
     }
 
-    // Applies and counts the next item of a statement, or tells how the import ends.
+    // Applies and counts the next item of a statement, or returns how the import ends.
     fn import_next<R: Read, V: ItemWatch, K: Whole>(
         &mut self,
         alloc: Global,
@@ -485,7 +486,7 @@ impl<B: Book> Desk<B> {
         }
     }
 
-    // Applies an item and counts it. With an error nothing has changed.
+    // Applies an item and counts it. On an error nothing has changed.
     fn import_item<V: ItemWatch>(
         &mut self,
         alloc: Global,

@@ -10,7 +10,7 @@ use trust_base::{Day, StoreFault};
 use trust_reports::{JournalLine, JournalSink, journal_text};
 use trust_store::Book;
 
-// The text of a journal.
+// Writes the text of a journal.
 fn text_of(alloc: Global, today: Day, lines: &[JournalLine]) -> Result<Vec<u8>, AllocError>
     ensures { IfOk result (λ text. text.items ≡ journal_text today lines.now) }
 {
@@ -19,9 +19,9 @@ fn text_of(alloc: Global, today: Day, lines: &[JournalLine]) -> Result<Vec<u8>, 
     Ok(text)
 }
 
-/// The journal on a business day: each movement in the order of acceptance, with the sum so far.
+/// Writes the journal on a business day: each movement in the order of acceptance, with the sum so far.
 ///
-/// Store is answered where the book's store was at fault, and Memory where a growth was refused.
+/// Returns `Store` if the book's store failed, and `Memory` if memory ran out.
 pub fn journal_report<B: Book>(
     alloc: Global,
     book: &mut B,

@@ -1,4 +1,4 @@
-//! The desk of the firm: who asks what of which matter, and what is answered; the reports of a firm, from the rows of
+//! The desk of the firm: it answers what callers ask about matters, and writes the reports of a firm from the rows of
 //! any book, one row at a time.
 #![tactic(auto)]
 
@@ -16,12 +16,14 @@ mod importing;
 mod journal;
 pub mod laws;
 mod matching;
+mod matters_seen;
 mod own_card;
 mod planning;
 mod reconciliation;
 mod reporting;
 mod requests;
 mod retention;
+mod rows_seen;
 mod trial;
 mod unread;
 mod watching;

@@ -1,4 +1,4 @@
-//! Statements whose references may be empty, matched against the book.
+//! Matches statements whose references may be empty against the book.
 
 ghost use Rattle.std.specs.Prelude.{◌≡◌, ℕ, ◌∷◌, [], false};
 ghost use Rattle.trust_desk.specs.Calls.{KeepsBook};
@@ -19,7 +19,7 @@ use trust_base::{Day, OwnedBytes, Refusal};
 use trust_matter::Caller;
 use trust_store::Book;
 
-// One of the two texts.
+// Returns one of the two texts.
 fn text_in(matched: Matched, text: MatchText) -> Vec<u8>
     ensures { result.items ≡ text_in text matched }
 {
@@ -35,11 +35,11 @@ fn text_in(matched: Matched, text: MatchText) -> Vec<u8>
 }
 
 impl<B: Book> Desk<B> {
-    /// Matches a statement whose references may be empty against the book on a business day. The book stays as it is.
+    /// Matches a statement whose references may be empty against the book on a business day. The book is unchanged.
     ///
-    /// It is refused as an import of the same bytes by the same caller: for more than 4,194,304 bytes (`TooLarge`), for
-    /// another header (`BadField`), or because the caller is not the cashier (`NotAllowed`). Store is answered where
-    /// the book's store was at fault, and Memory where a growth was refused.
+    /// Refused exactly as an import of the same bytes by the same caller: for more than 4,194,304 bytes (`TooLarge`),
+    /// for another header (`BadField`), or because the caller is not the cashier (`NotAllowed`). Returns `Store` if the
+    /// book's store failed, and `Memory` if memory ran out.
     pub fn match_statement(
         &mut self,
         alloc: Global,
@@ -51,7 +51,7 @@ impl<B: Book> Desk<B> {
             → IsMatched day (B.firm self.old) caller.now statement.now result }
         ensures same { B.clean self.new → B.stands self.old → B.firm self.new ≡ B.firm self.old }
 
-        // It is Store only where a call of the book was.
+        // The result is `Store` only if a call of the book returned `Store`.
         ensures kept { KeepsBook B.clean B.sure B.stands B.lasts B.refusals (counted_end result) self.old self.new }
 
         // A crash may leave what it might have left before, or the rows as they are.
@@ -63,8 +63,8 @@ impl<B: Book> Desk<B> {
         Ok(matched)
     }
 
-    /// Answers with a text of a statement that is matched, or why it is refused: nothing changes. The request is named
-    /// for the contract alone.
+    /// Answers with one text of a matched statement, or says why it is refused. Nothing changes. The request is a
+    /// parameter only for the contract.
     pub(crate) fn answer_match(
         &mut self,
         alloc: Global,

@@ -11,7 +11,7 @@ use trust_base::{Day, StoreFault};
 use trust_reports::own_card_text;
 use trust_store::Book;
 
-// The text of a card.
+// Writes the text of a card.
 fn text_of(alloc: Global, today: Day, ledger: &FirmLedger) -> Result<Vec<u8>, AllocError>
     ensures { IfOk result (λ text. text.items ≡ own_card_text today ledger.now) }
 {
@@ -20,10 +20,10 @@ fn text_of(alloc: Global, today: Day, ledger: &FirmLedger) -> Result<Vec<u8>, Al
     Ok(text)
 }
 
-/// The ledger card of the firm's own money on a business day: its lines in the order of acceptance, and what they add
-/// up to.
+/// Writes the ledger card of the firm's own money on a business day: its lines in the order of acceptance, and their
+/// sum.
 ///
-/// Store is answered where the book's store was at fault, and Memory where a growth was refused.
+/// Returns `Store` if the book's store failed, and `Memory` if memory ran out.
 pub fn own_card_report<B: Book>(
     alloc: Global,
     book: &mut B,

@@ -1,4 +1,4 @@
-//! An ask is decided, and its answer made whole, before anything is written.
+//! Decides an ask, and makes its complete reply, before anything is written.
 
 ghost use Rattle.std.specs.Prelude.{◌≡◌, IfOk, false, true};
 ghost use Rattle.firm_rows.specs.Firm.{of};
@@ -20,15 +20,14 @@ use trust_matter::{Ask, Caller, Change, Edit, Matter, decide, holds_for};
 use trust_reports::ledger_card;
 use trust_store::Book;
 
-/// What an ask changes, and the answer to it, made before anything is written.
+/// The change that an ask makes and the reply to it, made before anything is written.
 #[derive(Drop)]
 pub(crate) struct Planned {
     pub change: Change,
     pub reply: Reply,
 }
 
-/// Reads of a matter what an ask is answered by: for its ledger card the matter whole, and for any other ask the
-/// entries that are named.
+/// Loads what an ask needs of a matter: for a ledger card the whole matter, and for any other ask the named entries.
 pub(crate) fn read_for<B: Book>(
     alloc: Global,
     book: &mut B,
@@ -46,7 +45,7 @@ pub(crate) fn read_for<B: Book>(
     }
 }
 
-// The body of the entry as it was made, and nothing where there is none.
+// Writes the body of the entry as it was made; empty if it does not exist.
 fn made_body(
     alloc: Global,
     no: MatterNo,
@@ -62,7 +61,7 @@ fn made_body(
     }
 }
 
-// The body of the entry as it is, and nothing where there is none.
+// Writes the body of the entry as it is now; empty if it does not exist.
 fn shown_body(
     alloc: Global,
     no: MatterNo,
@@ -79,7 +78,7 @@ fn shown_body(
     }
 }
 
-// The ledger card of a matter that keeps all its entries.
+// Writes the ledger card of a matter that has all its entries loaded.
 fn card_body(alloc: Global, no: MatterNo, matter: &Matter) -> Result<Vec<u8>, AllocError>
     ensures { IfOk result (λ bytes. (rows : Rows) → Sound rows → IsWhole matter.now rows
         → bytes.items ≡ ledger_card_of no rows) }
@@ -89,7 +88,7 @@ fn card_body(alloc: Global, no: MatterNo, matter: &Matter) -> Result<Vec<u8>, Al
     Ok(card)
 }
 
-// What is told of a matter after an ask.
+// Writes the text of a matter for the reply after an ask.
 fn body_after(
     alloc: Global,
     no: MatterNo,
@@ -118,7 +117,7 @@ fn body_after(
     }
 }
 
-// What is told, as lines of text where it is a ledger card, and else as JSON.
+// The text as a body: lines of text for a ledger card, otherwise JSON.
 fn said(ask: &Ask, text: Vec<u8>) -> Body
     ensures text { result ≡ said ask.now text.items }
     ensures plain { is_fault_body result ≡ false }
@@ -130,14 +129,14 @@ fn said(ask: &Ask, text: Vec<u8>) -> Body
     }
 }
 
-// Whether nothing is edited.
+// Whether the edit changes nothing.
 fn is_nothing(edit: &Edit) -> bool
     ensures { result ≡ is_nothing edit.now }
 {
     matches!(edit, Edit::Nothing)
 }
 
-// The status of an accepted ask: 201 where something is made.
+// The status of an accepted ask: 201 if it makes something.
 fn success_of(ask: &Ask, edit: &Edit) -> u16
     ensures { result ≡ success_by ask.now edit.now }
 {
@@ -149,8 +148,8 @@ fn success_of(ask: &Ask, edit: &Edit) -> u16
     }
 }
 
-/// Decides on an ask of a caller on a business day, and makes the answer to it. What is kept of the matter
-/// holds the entries that the ask names; where it does not, it is answered Store.
+/// Decides on an ask of a caller on a business day, and makes its reply. The entries that the ask names must be loaded
+/// or not exist; otherwise the result is `Store`.
 pub(crate) fn plan(
     alloc: Global,
     no: MatterNo,
@@ -159,8 +158,8 @@ pub(crate) fn plan(
     ask: &Ask,
     day: Day,
 ) -> Result<Planned, Refusal>
-    // It is the step of all sound rows of which the matter is a part that holds what is named, and for a ledger card
-    // keeps all entries.
+    // It is the step of all sound rows that the matter is a part of, if the named entries are loaded or do not exist,
+    // and for a ledger card all entries are loaded.
     ensures step { (rows : Rows) → Sound rows → IsPart matter rows → holds_for matter ask.now ≡ true
         → IsWholeForCard ask.now matter rows → Plans no rows (asked_on day caller.now ask.now) result }
     ensures plain { IfOk result (λ planned. is_fault_reply planned.reply ≡ false) }

@@ -13,18 +13,18 @@ use trust_base::{Day, StoreFault};
 use trust_reports::{Reconciliation, ReconciliationSink, reconciliation_text};
 use trust_store::Book;
 
-/// What is answered where the reconciliation as of a day is asked for.
+/// The answer to a request for the reconciliation as of a day.
 #[derive(Drop)]
 pub enum Reconciled {
-    /// No closing balance of the day is kept.
+    /// No closing balance of the day is on file.
     NoStatement,
-    /// A matter that was closed after the day has been purged, so that the records of the day are no longer whole.
+    /// A matter that was closed after the day has been purged, so the records of the day are no longer complete.
     PeriodPurged,
-    /// The text.
+    /// The text of the reconciliation.
     Text(Vec<u8>),
 }
 
-// The text of a reconciliation.
+// Writes the text of a reconciliation.
 fn text_of(alloc: Global, day: Day, reconciliation: &Reconciliation) -> Result<Vec<u8>, AllocError>
     ensures { IfOk result (λ text. text.items ≡ reconciliation_text day (told reconciliation.now)) }
 {
@@ -33,7 +33,7 @@ fn text_of(alloc: Global, day: Day, reconciliation: &Reconciliation) -> Result<V
     Ok(text)
 }
 
-// What is answered by what was kept of a firm's rows.
+// Makes the answer from what was collected from a firm's rows.
 fn answer_of(alloc: Global, day: Day, sink: ReconciliationSink) -> Result<Reconciled, AllocError>
     ensures { AreClosings sink.balances.closings
         → IfOk result (IsAnswer day (kept_told sink) sink.period.purged) }
@@ -48,7 +48,7 @@ fn answer_of(alloc: Global, day: Day, sink: ReconciliationSink) -> Result<Reconc
     Ok(Reconciled::Text(text_of(alloc, day, &reconciliation)?))
 }
 
-// Hands all rows of a firm to a sink.
+// Passes all rows of a firm to a sink.
 fn rows_kept<B: Book>(
     alloc: Global,
     book: &mut B,
@@ -66,10 +66,10 @@ fn rows_kept<B: Book>(
     Ok(sink)
 }
 
-/// The three-way reconciliation as of a day, which may be any. There is none where no closing balance of the day is
-/// kept, and otherwise none any more where a matter that was closed after the day has been purged.
+/// Writes the three-way reconciliation as of any day. Returns `NoStatement` if no closing balance of the day is on
+/// file, and otherwise `PeriodPurged` if a matter that was closed after the day has been purged.
 ///
-/// Store is answered where the book's store was at fault, and Memory where a growth was refused.
+/// Returns `Store` if the book's store failed, and `Memory` if memory ran out.
 pub fn reconciliation_report<B: Book>(
     alloc: Global,
     book: &mut B,

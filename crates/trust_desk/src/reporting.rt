@@ -1,4 +1,4 @@
-//! What there is of a report, by the rows of any book.
+//! Makes the reports from the rows of any book.
 
 ghost use Rattle.std.specs.Prelude.{◌≡◌, IfOk};
 ghost use Rattle.trust_store.specs.Calls.{IsRead};
@@ -16,9 +16,9 @@ use trust_base::{Day, OwnedBytes, Refusal, StoreFault};
 use trust_matter::Caller;
 use trust_store::Book;
 
-/// The text of a report on a business day, or why there is none, which is so of a reconciliation alone.
+/// Returns the text of a report on a business day, or why there is none; only a reconciliation can have none.
 ///
-/// Store is answered where the book's store was at fault, and Memory where a growth was refused.
+/// Returns `Store` if the book's store failed, and `Memory` if memory ran out.
 pub(crate) fn find_report<B: Book>(
     alloc: Global,
     book: &mut B,
@@ -39,7 +39,7 @@ pub(crate) fn find_report<B: Book>(
     }
 }
 
-/// The reply to what there is of a report, or to the fault that stopped it.
+/// The reply to a report that was made or is not available, or to the fault that stopped it.
 pub(crate) fn found_reply(found: Result<Reconciled, StoreFault>) -> Reply
     ensures { result ≡ found_reply found }
 {

@@ -1,11 +1,11 @@
-//! What is asked of the desk, and what it answers.
+//! The requests that the desk takes, and its replies.
 
 ghost use Rattle.std.specs.Prelude.{◌≡◌};
 
 use trust_base::{Day, Line, MatterNo, OwnedBytes, Refusal};
 use trust_matter::{Ask, Caller};
 
-/// What is asked of the desk.
+/// A request to the desk.
 pub enum Request {
     /// A caller asks something of one matter.
     Matter {
@@ -13,35 +13,35 @@ pub enum Request {
         caller: Caller,
         ask: Ask,
     },
-    /// A caller hands in a statement of the bank, bytes of whatever form.
+    /// A caller sends in a statement of the bank, as bytes of any form.
     Import {
         caller: Caller,
         statement: OwnedBytes,
     },
-    /// A caller takes a line back that stands unmatched, since the bank has no such line.
+    /// A caller dismisses an unmatched line, because the bank has no such line.
     Dismiss {
         caller: Caller,
         line: Line,
     },
-    /// A caller hands in a statement whose references may be empty, and asks for the one that an import takes.
+    /// A caller sends in a statement whose references may be empty, and asks for the one for the import.
     Match {
         caller: Caller,
         statement: OwnedBytes,
     },
-    /// A caller hands in such a statement, and asks what of it a person has to look at.
+    /// A caller sends in such a statement, and asks what in it a person has to look at.
     Unmatched {
         caller: Caller,
         statement: OwnedBytes,
     },
-    /// A caller asks for the bank's lines that stand unmatched.
+    /// A caller asks for the unmatched bank lines.
     Exceptions(Caller),
     /// A caller asks for the trial balance: the ledger of each open matter, the firm's own, and their sum.
     Trial(Caller),
-    /// A caller asks for the journal: all movements in the order of their acceptance.
+    /// A caller asks for the journal: all movements in the order of acceptance.
     Journal(Caller),
     /// A caller asks for the three-way reconciliation as of a day.
     Reconcile(Caller, Day),
-    /// A caller asks until when the records of each closed matter are kept.
+    /// A caller asks how long the records of each closed matter are kept.
     Retention(Caller),
     /// A caller asks for the ledger card of the firm's own money.
     OwnLedger(Caller),
@@ -84,7 +84,7 @@ impl Drop for Request {
 /// A report on the whole firm.
 #[derive(Clone, Copy)]
 pub(crate) enum Report {
-    /// The bank's lines that stand unmatched.
+    /// The unmatched bank lines.
     Exceptions,
     /// The trial balance.
     Trial,
@@ -98,27 +98,27 @@ pub(crate) enum Report {
     OwnLedger,
 }
 
-/// One of the two texts that a statement becomes, whose references may be empty.
+/// One of the two texts that matching a statement returns.
 #[derive(Clone, Copy)]
 pub(crate) enum MatchText {
-    /// The statement that an import takes.
+    /// The statement for the import.
     Statement,
     /// What a person has to look at, and the counts.
     Unmatched,
 }
 
-/// What an answer says.
+/// The body of a reply.
 #[derive(Debug, Drop)]
 pub enum Body {
-    /// An accepted request: the compact text of a JSON object.
+    /// For an accepted request: the compact text of a JSON object.
     Json(OwnedBytes),
-    /// An accepted request for a report: lines of plain text, in UTF-8.
+    /// For an accepted request for a report: lines of plain text, in UTF-8.
     Text(OwnedBytes),
-    /// A request that was refused.
+    /// For a refused request: the refusal.
     Refused(Refusal),
 }
 
-/// The answer to a request: its HTTP status (RFC 9110, section 15) and what it says.
+/// The reply to a request: its HTTP status (RFC 9110, section 15) and its body.
 #[derive(Debug, Drop)]
 pub struct Reply {
     pub status: u16,
@@ -128,7 +128,7 @@ pub struct Reply {
 impl Reply {
     ghost use Rattle.trust_desk.specs.Replies.{refused};
 
-    /// The answer to a request that is refused.
+    /// The reply to a refused request.
     pub fn refused(refusal: Refusal) -> Reply
         ensures { result ≡ refused refusal }
     {
@@ -144,7 +144,7 @@ impl Reply {
 pub enum End {
     /// Each request was answered.
     Done,
-    /// Memory for a further reply was refused: the requests behind the last reply were not begun.
+    /// Memory for another reply ran out. The requests after the last reply were not begun.
     Memory,
 }
 

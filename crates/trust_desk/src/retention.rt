@@ -10,7 +10,7 @@ use trust_base::{Day, StoreFault};
 use trust_reports::{RetentionLine, RetentionSink, retention_text};
 use trust_store::Book;
 
-// The text of a retention list.
+// Writes the text of a retention list.
 fn text_of(alloc: Global, today: Day, lines: &[RetentionLine]) -> Result<Vec<u8>, AllocError>
     ensures { IfOk result (λ text. text.items ≡ retention_text today lines.now) }
 {
@@ -19,10 +19,10 @@ fn text_of(alloc: Global, today: Day, lines: &[RetentionLine]) -> Result<Vec<u8>
     Ok(text)
 }
 
-/// The retention list on a business day: each closed matter that was not purged, until when its records are kept, and
-/// whether they may be purged.
+/// Writes the retention list on a business day: each closed matter that was not purged, until when its records are
+/// kept, and whether they may be purged.
 ///
-/// Store is answered where the book's store was at fault, and Memory where a growth was refused.
+/// Returns `Store` if the book's store failed, and `Memory` if memory ran out.
 pub fn retention_report<B: Book>(
     alloc: Global,
     book: &mut B,

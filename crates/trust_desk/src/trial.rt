@@ -10,7 +10,7 @@ use trust_base::{Day, StoreFault};
 use trust_reports::{TrialBalance, TrialSink, trial_text};
 use trust_store::Book;
 
-// The text of a trial balance.
+// Writes the text of a trial balance.
 fn text_of(alloc: Global, today: Day, balance: &TrialBalance) -> Result<Vec<u8>, AllocError>
     ensures { let b = balance.now in
         IfOk result (λ text. text.items ≡ trial_text today b.lines.items b.own b.total) }
@@ -20,10 +20,10 @@ fn text_of(alloc: Global, today: Day, balance: &TrialBalance) -> Result<Vec<u8>,
     Ok(text)
 }
 
-/// The trial balance on a business day: the ledger of each open matter, the firm's own balance and the sum of all, in
-/// cents.
+/// Writes the trial balance on a business day: the ledger of each open matter, the firm's own balance and the sum of
+/// all, in cents.
 ///
-/// Store is answered where the book's store was at fault, and Memory where a growth was refused.
+/// Returns `Store` if the book's store failed, and `Memory` if memory ran out.
 pub fn trial_report<B: Book>(alloc: Global, book: &mut B, today: Day) -> Result<Vec<u8>, StoreFault>
     ensures told { B.clean book.new → B.stands book.old
         → IfOk result (λ text. text.items ≡ trial_report today (B.firm book.old)) }

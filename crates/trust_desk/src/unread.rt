@@ -1,27 +1,27 @@
-//! Which row of a book can't be read.
+//! Finds out which row of a book can't be read.
 
 ghost use Rattle.std.specs.Prelude.{OnOk};
 ghost use Rattle.trust_desk.specs.Checking.{AreReads};
 ghost use Rattle.trust_store.specs.Calls.{IsRead};
 
 use crate::desk::Desk;
-use firm_rows::{BalanceKind, FirmLine, Movement, RowSink, StatementRow};
-use std::alloc::{AllocError, Global};
-use std::marker::Model;
-use trust_base::{Day, EntryNo, Line, MatterNo, StoreFault};
-use trust_matter::{Entry, Head, Seat};
+use crate::matters_seen::MattersSeen;
+use crate::rows_seen::RowsSeen;
+use firm_rows::BalanceKind;
+use std::alloc::Global;
+use trust_base::{Day, EntryNo, MatterNo, StoreFault};
 use trust_store::Book;
 
-/// What of a book can't be read, though its store serves.
+/// The part of a book that can't be read, though its store works.
 #[derive(Clone, Copy, Debug, PartialEq, Eq)]
 pub enum Unread {
-    /// This matter is not the whole of sound rows, each of which can be read.
+    /// This matter is not the whole of sound rows, though each of its rows can be read.
     Matter(MatterNo),
-    /// The head behind that of this matter, or the first.
+    /// The head after this matter's, or the first head.
     Head(Option<MatterNo>),
     /// A seat of this matter.
     Seat(MatterNo),
-    /// The entry of a matter behind this one, or its first.
+    /// The entry of a matter after this one, or its first entry.
     Entry {
         matter: MatterNo,
         after: Option<EntryNo>,
@@ -38,96 +38,7 @@ pub enum Unread {
     Elsewhere,
 }
 
-// Which rows were handed over: the numbers of the matters, the last row of a matter, by its entry's number if it was an
-// entry, and how many others there were.
-//
-// Contracts see nothing of it.
-#[derive(Drop)]
-struct RowsSeen {
-    matters: Vec<MatterNo>,
-    last: Option<(MatterNo, Option<EntryNo>)>,
-    others: u64,
-}
-
-impl Model for RowsSeen {
-    ghost Value = { Unit };
-
-    ghost view = { λ rows. tt };
-}
-
-impl RowsSeen {
-    fn new(alloc: Global) -> RowsSeen {
-        RowsSeen {
-            matters: Vec::new(alloc),
-            last: None,
-            others: 0,
-        }
-    }
-
-    // One more row that is of no matter.
-    fn count(&mut self) {
-        self.others = self.others.saturating_add(1);
-    }
-
-    // The number of the row behind those.
-    fn next(&self) -> u64 {
-        self.others.saturating_add(1)
-    }
-}
-
-impl RowSink for RowsSeen {
-    ghost stepped = { λ rows row. rows };
-
-    ghost noted = { λ rows line. rows };
-
-    ghost moved = { λ rows movement. rows };
-
-    ghost lined = { λ rows line. rows };
-
-    ghost balanced = { λ rows row. rows };
-
-    fn head(&mut self, matter: MatterNo, _head: &Head) -> Result<(), AllocError> {
-        self.matters.push(matter)?;
-        self.last = Some((matter, None));
-        Ok(())
-    }
-
-    fn seat(&mut self, _matter: MatterNo, _seat: &Seat) -> Result<(), AllocError> {
-        Ok(())
-    }
-
-    fn entry(
-        &mut self,
-        matter: MatterNo,
-        number: EntryNo,
-        _entry: &Entry,
-    ) -> Result<(), AllocError> {
-        self.last = Some((matter, Some(number)));
-        Ok(())
-    }
-
-    fn exception(&mut self, _line: &Line) -> Result<(), AllocError> {
-        self.count();
-        Ok(())
-    }
-
-    fn movement(&mut self, _movement: &Movement) -> Result<(), AllocError> {
-        self.count();
-        Ok(())
-    }
-
-    fn firm_line(&mut self, _line: &FirmLine) -> Result<(), AllocError> {
-        self.count();
-        Ok(())
-    }
-
-    fn balance(&mut self, _row: &StatementRow) -> Result<(), AllocError> {
-        self.count();
-        Ok(())
-    }
-}
-
-// Whether a read was answered; want of memory is passed on.
+// Whether a read succeeded. Out of memory is passed on as an error.
 fn is_answered<T: Drop>(read: Result<T, StoreFault>) -> Result<bool, StoreFault> {
     match read {
         Ok(_) => Ok(true),
@@ -152,7 +63,7 @@ fn has_front<B: Book>(alloc: Global, book: &mut B, matter: MatterNo) -> Result<b
     is_answered(read)
 }
 
-// The row behind the last one of a matter that could be read, which was its head, a seat or this entry.
+// Returns the row after the last readable row of a matter, which was its head, a seat or this entry.
 fn row_behind<B: Book>(
     alloc: Global,
     book: &mut B,
@@ -170,11 +81,11 @@ fn row_behind<B: Book>(
     Ok(Unread::Seat(matter))
 }
 
-// The row of a matter that can't be read, if there is one.
+// Returns the row of a matter that can't be read, if there is one.
 fn unread_row<B: Book>(
     alloc: Global,
     book: &mut B,
-    seen: &mut RowsSeen,
+    seen: &mut MattersSeen,
 ) -> Result<Option<Unread>, StoreFault>
     ensures { AreReads B.firm B.clean B.sure B.stands B.lasts B.leaves book.old book.new }
 {
@@ -188,7 +99,7 @@ fn unread_row<B: Book>(
     }
 }
 
-// The first of these matters that is not the whole of sound rows, if there is one.
+// Returns the first of these matters that is not the whole of sound rows, if there is one.
 fn unread_matter<B: Book>(
     alloc: Global,
     book: &mut B,
@@ -204,11 +115,11 @@ fn unread_matter<B: Book>(
     Ok(None)
 }
 
-// The movement that can't be read, if there is one.
-fn unread_movement<B: Book>(alloc: Global, book: &mut B) -> Result<Option<Unread>, StoreFault>
+// Returns the movement that can't be read, if there is one.
+fn unread_movement<B: Book>(book: &mut B) -> Result<Option<Unread>, StoreFault>
     ensures { AreReads B.firm B.clean B.sure B.stands B.lasts B.leaves book.old book.new }
 {
-    let mut seen = RowsSeen::new(alloc);
+    let mut seen = RowsSeen::new();
     let read = book.each_movement(&mut seen);
     if is_answered(read)? {
         return Ok(None);
@@ -216,11 +127,11 @@ fn unread_movement<B: Book>(alloc: Global, book: &mut B) -> Result<Option<Unread
     Ok(Some(Unread::Movement(seen.next())))
 }
 
-// The line of the firm's own that can't be read, if there is one.
-fn unread_firm_line<B: Book>(alloc: Global, book: &mut B) -> Result<Option<Unread>, StoreFault>
+// Returns the line of the firm's own that can't be read, if there is one.
+fn unread_firm_line<B: Book>(book: &mut B) -> Result<Option<Unread>, StoreFault>
     ensures { AreReads B.firm B.clean B.sure B.stands B.lasts B.leaves book.old book.new }
 {
-    let mut seen = RowsSeen::new(alloc);
+    let mut seen = RowsSeen::new();
     let read = book.each_firm_line(&mut seen);
     if is_answered(read)? {
         return Ok(None);
@@ -228,11 +139,11 @@ fn unread_firm_line<B: Book>(alloc: Global, book: &mut B) -> Result<Option<Unrea
     Ok(Some(Unread::FirmLine(seen.next())))
 }
 
-// The exception that can't be read, if there is one.
-fn unread_exception<B: Book>(alloc: Global, book: &mut B) -> Result<Option<Unread>, StoreFault>
+// Returns the exception that can't be read, if there is one.
+fn unread_exception<B: Book>(book: &mut B) -> Result<Option<Unread>, StoreFault>
     ensures { AreReads B.firm B.clean B.sure B.stands B.lasts B.leaves book.old book.new }
 {
-    let mut seen = RowsSeen::new(alloc);
+    let mut seen = RowsSeen::new();
     let read = book.each_exception(&mut seen);
     if is_answered(read)? {
         return Ok(None);
@@ -240,11 +151,11 @@ fn unread_exception<B: Book>(alloc: Global, book: &mut B) -> Result<Option<Unrea
     Ok(Some(Unread::Exception(seen.next())))
 }
 
-// The balance that can't be read, if there is one.
-fn unread_balance<B: Book>(alloc: Global, book: &mut B) -> Result<Option<Unread>, StoreFault>
+// Returns the balance that can't be read, if there is one.
+fn unread_balance<B: Book>(book: &mut B) -> Result<Option<Unread>, StoreFault>
     ensures { AreReads B.firm B.clean B.sure B.stands B.lasts B.leaves book.old book.new }
 {
-    let mut seen = RowsSeen::new(alloc);
+    let mut seen = RowsSeen::new();
     let read = book.each_balance(&mut seen);
     if is_answered(read)? {
         return Ok(None);
@@ -252,48 +163,48 @@ fn unread_balance<B: Book>(alloc: Global, book: &mut B) -> Result<Option<Unread>
     Ok(Some(Unread::Balance(seen.next())))
 }
 
-// What of the matters can't be read, if anything.
+// Returns which part of the matters can't be read, if any.
 fn unread_of_matters<B: Book>(alloc: Global, book: &mut B) -> Result<Option<Unread>, StoreFault>
     ensures { AreReads B.firm B.clean B.sure B.stands B.lasts B.leaves book.old book.new }
 {
-    let mut seen = RowsSeen::new(alloc);
+    let mut seen = MattersSeen::new(alloc);
     if let Some(unread) = unread_row(alloc, book, &mut seen)? {
         return Ok(Some(unread));
     }
     unread_matter(alloc, book, &seen.matters)
 }
 
-// What of the journal and of the firm's own can't be read, if anything.
-fn unread_of_firm<B: Book>(alloc: Global, book: &mut B) -> Result<Option<Unread>, StoreFault>
+// Returns which part of the journal and of the firm's own lines can't be read, if any.
+fn unread_of_firm<B: Book>(book: &mut B) -> Result<Option<Unread>, StoreFault>
     ensures { AreReads B.firm B.clean B.sure B.stands B.lasts B.leaves book.old book.new }
 {
-    if let Some(unread) = unread_movement(alloc, book)? {
+    if let Some(unread) = unread_movement(book)? {
         return Ok(Some(unread));
     }
-    unread_firm_line(alloc, book)
+    unread_firm_line(book)
 }
 
-// What of the exceptions and the balances can't be read, if anything.
-fn unread_of_bank<B: Book>(alloc: Global, book: &mut B) -> Result<Option<Unread>, StoreFault>
+// Returns which exception or balance can't be read, if any.
+fn unread_of_bank<B: Book>(book: &mut B) -> Result<Option<Unread>, StoreFault>
     ensures { AreReads B.firm B.clean B.sure B.stands B.lasts B.leaves book.old book.new }
 {
-    if let Some(unread) = unread_exception(alloc, book)? {
+    if let Some(unread) = unread_exception(book)? {
         return Ok(Some(unread));
     }
-    unread_balance(alloc, book)
+    unread_balance(book)
 }
 
-// What can't be read of a book.
+// Returns which part of a book can't be read.
 fn unread_in<B: Book>(alloc: Global, book: &mut B) -> Result<Unread, StoreFault>
     ensures { AreReads B.firm B.clean B.sure B.stands B.lasts B.leaves book.old book.new }
 {
     if let Some(unread) = unread_of_matters(alloc, book)? {
         return Ok(unread);
     }
-    if let Some(unread) = unread_of_firm(alloc, book)? {
+    if let Some(unread) = unread_of_firm(book)? {
         return Ok(unread);
     }
-    let of_bank = unread_of_bank(alloc, book)?;
+    let of_bank = unread_of_bank(book)?;
     Ok(of_bank.unwrap_or(Unread::Elsewhere))
 }
 
@@ -302,8 +213,8 @@ fn is_balance(unread: &Unread) -> bool {
     matches!(unread, Unread::Balance(_))
 }
 
-// Asks a book for the balance of a day, or for the firm's own lines where a balance can't be read, to see that its
-// store serves.
+// Reads once more, to see that the store works: the balance of a day, or the firm's own lines if a balance can't be
+// read.
 fn ask_again<B: Book>(
     alloc: Global,
     book: &mut B,
@@ -320,7 +231,7 @@ fn ask_again<B: Book>(
     Ok(())
 }
 
-// What can't be read of a book, where its store still serves.
+// Returns which part of a book can't be read, if its store still works.
 fn find_unread<B: Book>(alloc: Global, book: &mut B, day: Day) -> Result<Unread, StoreFault>
     ensures reads { AreReads B.firm B.clean B.sure B.stands B.lasts B.leaves book.old book.new }
     ensures serves { B.sure book.new → OnOk result (B.clean book.new) }
@@ -331,11 +242,10 @@ fn find_unread<B: Book>(alloc: Global, book: &mut B, day: Day) -> Result<Unread,
 }
 
 impl<B: Book> Desk<B> {
-    /// What can't be read of the book on a business day, once `check` was answered Store: the first row that a read by
-    /// itself does not hand over, or matter that it does not tell. The book stays as it is.
+    /// Returns which part of the book can't be read on a business day, after `check` returned `Store`: the first row
+    /// that a separate read does not pass on, or the first matter that it does not return. The book is unchanged.
     ///
-    /// Store is answered where the book's store does not serve, as one more read shows, and Memory where a growth was
-    /// refused.
+    /// Returns `Store` if the book's store does not work, which one more read shows, and `Memory` if memory ran out.
     pub fn find_unread(&mut self, alloc: Global, day: Day) -> Result<Unread, StoreFault>
         ensures reads { AreReads B.firm B.clean B.sure B.stands B.lasts B.leaves self.old self.new }
         ensures serves { B.sure self.new → OnOk result (B.clean self.new) }

@@ -1,4 +1,4 @@
-// Who is told of the items of a statement, of the exceptions, and of rows beside a report.
+// Watchers, which are told of the items of a statement, of the exceptions, and of rows to go with a report.
 
 use crate::importing::ImportStop;
 use firm_rows::{BalanceKind, FirmLedger, Owner};
@@ -6,10 +6,10 @@ use trust_base::{BankText, Day, Line};
 use trust_matter::{BankLine, Matter, Reason};
 
 /// An item of a statement that was not applied, or an exception as an import would find it, with what was read of the
-/// book before it was decided on.
+/// book before the decision.
 #[derive(Clone, Copy)]
 pub enum NotApplied<'a> {
-    /// A line that names an entry: its matter, as far as that was read, and the first reason against it.
+    /// A line that names an entry, with what was loaded of its matter, and the first reason against it.
     OfMatter {
         line: &'a BankLine,
         matter: &'a Matter,
@@ -20,7 +20,7 @@ pub enum NotApplied<'a> {
         line: &'a Line,
         ledger: &'a FirmLedger,
     },
-    /// A balance: the one that is kept of its kind and day, in cents, where there is one.
+    /// A balance, with the amount on file for its kind and day, in cents, if there is one.
     OfBalance {
         kind: BalanceKind,
         line: &'a Line,
@@ -30,33 +30,33 @@ pub enum NotApplied<'a> {
     Stray {
         line: &'a Line,
     },
-    /// A record that is no line.
+    /// A record that is not a valid line.
     Unreadable,
     /// An exception that an import would apply.
     WouldApply {
         line: &'a Line,
     },
-    /// An exception that an import would take for a line that came again.
+    /// An exception that an import would count as a repeat.
     WouldRepeat {
         line: &'a Line,
     },
 }
 
-/// Who is told of the items of a statement, or of the exceptions. Nothing hangs on whether one can be told.
+/// Is told of the items of a statement, or of the exceptions. Nothing depends on whether it succeeds.
 pub trait ItemWatch {
-    /// Tells of a line once it was applied: it cleared its entry or took it back, or it joined the firm's own. The
-    /// number is that of its item, of which the first record behind the header has 1.
+    /// Called after a line was applied: it cleared its entry or took it back, or was added to the firm's own. The
+    /// number is that of its item; the first record after the header has number 1.
     fn applied(&self, number: u64, line: &Line);
 
-    /// Tells of an item once it was not applied: its number, of which the first record behind the header has 1; or of
-    /// an exception: its number in their list.
+    /// Called after an item was not applied, with its number; the first record after the header has number 1. Also
+    /// called for an exception, with its number in their list.
     fn not_applied(&self, number: u64, told: &NotApplied<'_>);
 
-    /// Tells how the import ended, once so many items were taken.
+    /// Called when the import has ended, with how many items were handled and how it ended.
     fn ended(&self, taken: u64, end: &ImportStop);
 }
 
-/// A line of the bank that is in the book: what it cleared or took back, or that it is the firm's own.
+/// A bank line that is in the book: one that cleared something or took it back, or one of the firm's own.
 #[derive(Drop, Debug)]
 pub struct ClearedLine {
     pub owner: Owner,
@@ -64,20 +64,20 @@ pub struct ClearedLine {
     pub date: Day,
     /// The bank's own reference.
     pub bank_ref: BankText,
-    /// The amount in cents, below zero for money that went out.
+    /// The amount in cents, negative for money that went out.
     pub amount: i64,
 }
 
-/// Who is told what the rows of a book show beside a report. Nothing hangs on whether one can be told.
+/// Is told what the rows of a book show in addition to a report. Nothing depends on whether it succeeds.
 pub trait RowWatch {
-    /// Tells of two lines of the bank of the same date, bank reference and amount.
+    /// Called for two bank lines with the same date, bank reference and amount.
     fn cleared_twice(&self, first: &ClearedLine, second: &ClearedLine);
 
-    /// Tells of the last day on which a matter was changed.
+    /// Called with the last day on which a matter was changed.
     fn worked_on(&self, last: Day);
 }
 
-/// Nobody is told.
+/// Ignores all remarks.
 #[derive(Clone, Copy, Debug)]
 pub struct NoWatch;
 
@@ -89,7 +89,7 @@ impl ItemWatch for NoWatch {
     fn ended(&self, _taken: u64, _end: &ImportStop) {}
 }
 
-/// The number of an item or of an exception, and who is told of it.
+/// A watcher, with the number of the item or exception to report.
 #[derive(Drop)]
 pub struct At<'a, V> {
     pub number: u64,
@@ -97,7 +97,7 @@ pub struct At<'a, V> {
 }
 
 impl<V: ItemWatch> At<'_, V> {
-    // Tells of it.
+    // Reports it to the watcher.
     pub(crate) fn tell(&self, told: &NotApplied<'_>) {
         self.watch.not_applied(self.number, told);
     }

@@ -1,4 +1,4 @@
--- Worked cases: asks of one matter, the rows that they leave, and how they are answered.
+-- Worked cases: asks of one matter, their answers, and the rows after them.
 use Rattle.std.specs.Prelude.{◌≡◌, ◌≤◌, ℕ, true, false, List, [], ◌∷◌, length, Some, None, codes, pos}
 use Rattle.trust_base.specs.declared.refusal.Refusal.{Refusal}
 use Rattle.trust_base.specs.declared.refusal.Refusal.TheVariants as refusals
@@ -22,18 +22,18 @@ use Rattle.trust_base.specs.TheConstants.{MAX_ENTRY}
 
 -- How an ask is answered.
 
--- it is accepted and leaves these rows
+-- the ask is accepted and leaves these rows
 pub record Accepts (rows : Rows) (a : Asked) (later : Rows) : Type 0 where
   pub accepted : refusal rows a ≡ None
   pub leaves : rows_after rows a ≡ later
 
--- it is accepted as a repeat, and changes nothing
+-- the ask is accepted as a repeat and changes nothing
 pub record Repeats (rows : Rows) (a : Asked) : Type 0 where
   pub repeat : is_repeat (facts_of rows a.ask) a ≡ true
   pub accepted : refusal rows a ≡ None
   pub leaves : rows_after rows a ≡ rows
 
--- it is refused, and changes nothing
+-- the ask is refused and changes nothing
 pub record Refuses (rows : Rows) (a : Asked) (r : Refusal) : Type 0 where
   pub refused : refusal rows a ≡ Some r
   pub leaves : rows_after rows a ≡ rows
@@ -81,7 +81,7 @@ seat_for person = ask.AddSeat (record { person = person; role = role.Client })
 abbrev pub no_seat_for : List ℕ → Ask
 no_seat_for person = ask.DropSeat person
 
--- a deposit by the client under a number, of cents
+-- the client's deposit of so many cents, as entry `number`
 abbrev pub retainer : ℕ → ℕ → Ask
 retainer number cents =
     ask.Deposit (record { number = number; amount = cents; source = codes "Ada Chen"; description = codes "retainer" })
@@ -101,15 +101,15 @@ seat_of_ada = record { person = ada; role = role.Client }
 abbrev pub opened_for_ada : Rows
 opened_for_ada = record { head = Some (head_seen_on monday); seats = seat_of_lee ∷ []; entries = [] }
 
--- with a seat for ada, from Tuesday
+-- on Tuesday, with a seat for ada
 abbrev pub seated_for_ada : Rows
 seated_for_ada = record { head = Some (head_seen_on tuesday); seats = seat_of_ada ∷ seat_of_lee ∷ []; entries = [] }
 
--- the same without it
+-- on Tuesday, without it
 abbrev pub left_by_ada : Rows
 left_by_ada = record { head = Some (head_seen_on tuesday); seats = seat_of_lee ∷ []; entries = [] }
 
--- the retainer of 500.00 in a state
+-- the retainer of 500.00 in some state
 abbrev pub retainer_in : DepositState → Entry
 retainer_in state = entry.Deposit (record {
   book = monday;
@@ -124,7 +124,7 @@ abbrev pub retained : Rows
 retained =
     record { head = Some (head_seen_on monday); seats = seat_of_lee ∷ []; entries = retainer_in deposit.Held ∷ [] }
 
--- with the retainer cancelled on Tuesday
+-- on Tuesday, with the retainer cancelled
 abbrev pub cancelled_for_ada : Rows
 cancelled_for_ada = record {
   head = Some (head_seen_on tuesday);
@@ -134,7 +134,7 @@ cancelled_for_ada = record {
 
 -- The last number.
 
--- a deposit is asked of an open matter of 9,999 entries, on no day before the last
+-- a deposit is asked of an open matter with 9,999 entries, on or after its last day
 pub record IsAskedOfFull (rows : Rows) (h : Head) (number cents day : ℕ) : Type 0 where
   pub head : rows.head ≡ Some h
   pub unclosed : h.closed ≡ None

@@ -1,4 +1,4 @@
--- Worked cases of fees and claims: the rows that they leave.
+-- Worked cases of fees and claims: the rows after them.
 use Rattle.std.specs.Prelude.{ℕ, List, [], ◌∷◌, Some, codes}
 use Rattle.matter_rows.specs.declared.claim.Against.{Against}
 use Rattle.matter_rows.specs.declared.claim.Against.TheVariants as against
@@ -16,7 +16,7 @@ use Rattle.trust_matter.specs.declared.ask.Ask.{Ask}
 use Rattle.trust_matter.specs.declared.ask.Ask.TheVariants as ask
 use Rattle.trust_matter.specs.Cases.{monday, tuesday, head_seen_on, seat_of_ada, seat_of_lee, retainer_in}
 
--- What is asked, of cents.
+-- What is asked, in cents.
 
 abbrev pub fee_asked : ℕ → ℕ → Ask
 fee_asked number cents = ask.EarnFee (record { number = number; amount = cents; description = codes "hearing" })
@@ -61,7 +61,7 @@ in_cash = against.General (codes "cash")
 
 -- The rows.
 
--- the matter of ada and lee, whose retainer of 500.00 is cleared, with more entries from a day
+-- the matter of ada and lee, with the retainer of 500.00 cleared, last changed on `day`, and with more entries
 abbrev pub cleared_and : ℕ → List Entry → Rows
 cleared_and day more = record {
   head = Some (head_seen_on day);
@@ -79,7 +79,7 @@ hearing_fee = entry.Fee (record { book = tuesday; amount = 20000; description = 
 abbrev pub fee_earned : Rows
 fee_earned = cleared_and tuesday (hearing_fee ∷ [])
 
--- a claim of 50.00 on the fee, in a state
+-- a claim of 50.00 on the fee, in some state
 abbrev pub fee_claim : ClaimState → Entry
 fee_claim state = entry.Claim (record {
   book = tuesday;
@@ -92,7 +92,7 @@ fee_claim state = entry.Claim (record {
 abbrev pub fee_disputed : ClaimState → Rows
 fee_disputed state = cleared_and tuesday (hearing_fee ∷ fee_claim state ∷ [])
 
--- a claim of 120.00 on what is available, in a state
+-- a claim of 120.00 on what is available, in some state
 abbrev pub roof_claim : ClaimState → Entry
 roof_claim state = entry.Claim (record {
   book = tuesday;
@@ -108,7 +108,7 @@ roof_claimed state = cleared_and tuesday (roof_claim state ∷ [])
 abbrev pub settled_with : ℕ → ClaimState
 settled_with cents = claim.Settled (record { day = tuesday; part = cents })
 
--- a payment in a state
+-- a payment in some state
 abbrev pub paid_from : Fund → ℕ → List ℕ → PaymentState → Entry
 paid_from from cents payee state = entry.Payment (record {
   book = tuesday;
@@ -120,12 +120,12 @@ paid_from from cents payee state = entry.Payment (record {
   state = state;
 })
 
--- 160.00 of the fee to the firm
+-- a payment of 160.00 from the fee to the firm
 abbrev pub firm_paid : ClaimState → PaymentState → Rows
 firm_paid dispute state =
     cleared_and tuesday (hearing_fee ∷ fee_claim dispute ∷ paid_from (fund.Fee 2) 16000 the_firm state ∷ [])
 
--- 100.00 of the settled claim to the one who claimed
+-- a payment of 100.00 from the settled claim to the claimant
 abbrev pub roof_paid : PaymentState → Rows
 roof_paid state =
     cleared_and tuesday (roof_claim (settled_with 2000) ∷ paid_from (fund.Claim 2) 10000 roof_builders state ∷ [])

@@ -1,4 +1,4 @@
--- Worked cases: lines of the bank for one matter, the rows that they leave, and what becomes of them.
+-- Worked cases: bank lines for one matter, their verdicts, and the rows after them.
 use Rattle.std.specs.Prelude.{◌≡◌, ℕ, List, [], ◌∷◌, Some, None, codes, ℤ, pos, ◌-ℤ◌}
 use Rattle.matter_rows.specs.declared.head.Holder.TheVariants as holder
 use Rattle.matter_rows.specs.declared.payment.Fund.TheVariants as fund
@@ -15,24 +15,24 @@ use Rattle.trust_matter.specs.LineStep.{IsApplied, line_on, rows_after_line}
 use Rattle.trust_matter.specs.Cases.{seat_of_lee}
 use Rattle.trust_matter.specs.Examples.{received, paid}
 
--- What becomes of a line.
+-- The verdict on a line.
 
--- it is applied and leaves these rows
+-- the line is applied and leaves these rows
 pub record Clears (rows : Rows) (l : BankLine) (today : ℕ) (later : Rows) : Type 0 where
   pub applied : IsApplied (line_on rows l today)
   pub leaves : rows_after_line rows l today ≡ later
 
--- it is a repeat, and changes nothing
+-- the line is a repeat and changes nothing
 pub record ComesAgain (rows : Rows) (l : BankLine) (today : ℕ) : Type 0 where
   pub repeat : line_on rows l today ≡ told.Repeat
   pub leaves : rows_after_line rows l today ≡ rows
 
--- it matches no entry, and changes nothing
+-- the line matches no entry and changes nothing
 pub record Misses (rows : Rows) (l : BankLine) (today : ℕ) (r : Reason) : Type 0 where
   pub unmatched : line_on rows l today ≡ told.Unmatched r
   pub leaves : rows_after_line rows l today ≡ rows
 
--- The days, of January 2024.
+-- Days in January 2024.
 
 abbrev pub ninth : ℕ
 ninth = 20240109
@@ -54,7 +54,7 @@ fourteenth = 20240114
 
 -- The lines.
 
--- a line for an entry, of cents on a day, in some words
+-- a line for entry `number`: of so many cents, dated `day`, with this text
 abbrev pub in_words : List ℕ → ℕ → ℕ → List ℕ → ℤ → BankLine
 in_words text number day bank_ref cents = record {
   matter = 1;
@@ -65,7 +65,7 @@ in_words text number day bank_ref cents = record {
 abbrev pub line_for : ℕ → ℕ → List ℕ → ℤ → BankLine
 line_for number day bank_ref cents = in_words [] number day bank_ref cents
 
--- an amount that goes out
+-- an amount that goes out, as a negative number
 abbrev pub out : ℕ → ℤ
 out cents = pos 0 -ℤ pos cents
 
@@ -80,7 +80,7 @@ b2 = codes "B2"
 abbrev pub cleared_on : ℕ → List ℕ → Clearing
 cleared_on day bank_ref = record { bank_day = day; bank_ref = bank_ref }
 
--- a matter with these entries, of which a day was the last
+-- a matter with these entries, last changed on `last`
 abbrev pub with_entries : ℕ → List Entry → Rows
 with_entries last entries = record {
   head = Some (record { holder = holder.Client (codes "Ada Chen"); opened = tenth; closed = None; last = last });
@@ -88,11 +88,11 @@ with_entries last entries = record {
   entries = entries;
 }
 
--- a deposit of 500.00 in a state
+-- a deposit of 500.00 in some state
 abbrev pub deposit_in : ℕ → DepositState → Rows
 deposit_in last state = with_entries last (received tenth 50000 state ∷ [])
 
--- the same, taken back by the bank on the thirteenth, as was booked on a day
+-- the same, taken back by the bank on the thirteenth; the return was booked on `day`
 abbrev pub returned_in : ℕ → ℕ → Rows
 returned_in last day = deposit_in last (deposit.Returned (record {
   clearing = cleared_on twelfth b1;
@@ -100,7 +100,7 @@ returned_in last day = deposit_in last (deposit.Returned (record {
   undone = day;
 }))
 
--- a deposit of 500.00 that is cleared, and a payment of 100.00 in a state
+-- a cleared deposit of 500.00, and a payment of 100.00 in some state
 abbrev pub payment_in : ℕ → PaymentState → Rows
 payment_in last state =
     with_entries last

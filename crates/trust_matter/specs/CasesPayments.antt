@@ -1,4 +1,4 @@
--- Worked cases of payments: the asks, and the rows that they leave.
+-- Worked cases of payments: the asks, and the rows after them.
 use Rattle.std.specs.Prelude.{ℕ, List, [], ◌∷◌, ◌++◌, Some, None, codes}
 use Rattle.matter_rows.specs.declared.head.Holder.TheVariants as holder
 use Rattle.matter_rows.specs.declared.payment.Fund.{Fund}
@@ -42,7 +42,7 @@ cash = codes " Cash "
 abbrev pub cash_company : List ℕ
 cash_company = codes "Cash Ltd"
 
--- a payment by check under a number, of cents, from a fund to a payee
+-- a payment by check, as entry `number`, of so many cents, from a fund to a payee
 abbrev pub check_for : ℕ → ℕ → Fund → List ℕ → Ask
 check_for number cents fund payee = ask.Propose (record {
   number = number;
@@ -55,7 +55,7 @@ check_for number cents fund payee = ask.Propose (record {
 
 -- The rows.
 
--- the same payment, made on Friday, in a state
+-- the same payment, booked on Friday, in some state
 abbrev pub check_in : ℕ → Fund → List ℕ → PaymentState → Entry
 check_in cents fund payee state = entry.Payment (record {
   book = friday;
@@ -67,7 +67,7 @@ check_in cents fund payee state = entry.Payment (record {
   state = state;
 })
 
--- a matter that was opened on Wednesday, as of a last day
+-- a matter opened on Wednesday, last changed on `last`
 abbrev pub with_entries : ℕ → List Entry → Rows
 with_entries last es = record {
   head = Some (record { holder = holder.Client (codes "Ada Chen"); opened = wednesday; closed = None; last = last });
@@ -75,7 +75,7 @@ with_entries last es = record {
   entries = es;
 }
 
--- a deposit of 500.00 that the bank has not told of, and one that it told of on Friday
+-- a held deposit of 500.00, and one that the bank cleared on Friday
 abbrev pub held_deposit : List Entry
 held_deposit = received wednesday 50000 deposit.Held ∷ []
 
@@ -91,7 +91,7 @@ uncovered_with_check = with_entries friday (held_deposit ++ check_in 10000 fund.
 abbrev pub covered : Rows
 covered = with_entries friday cleared_deposit
 
--- with a check for 100.00 to a payee, and to the clerk
+-- with a check for 100.00 to some payee, and to the clerk
 abbrev pub covered_with_check_to : List ℕ → ℕ → PaymentState → Rows
 covered_with_check_to payee last state =
     with_entries last (cleared_deposit ++ check_in 10000 fund.General payee state ∷ [])
@@ -99,7 +99,7 @@ covered_with_check_to payee last state =
 abbrev pub covered_with_check : ℕ → PaymentState → Rows
 covered_with_check last state = covered_with_check_to clerk last state
 
--- a fee of 200.00, of which 50.00 is claimed, and a claim of 100.00 of the clinic in a state
+-- a fee of 200.00 with 50.00 of it claimed, and the clinic's claim of 100.00 in some state
 abbrev pub set_apart : ClaimState → List Entry
 set_apart state =
     cleared_deposit ++ earned friday 20000 ∷ claimed friday 5000 (against.Fee 2) claim.Open
@@ -108,13 +108,13 @@ set_apart state =
 abbrev pub unsettled : Rows
 unsettled = with_entries friday (set_apart claim.Open)
 
--- 40.00 of the clinic's claim went to the client
+-- with 40.00 of the clinic's claim gone to the client
 abbrev pub settled : List Entry
 settled = set_apart (claim.Settled (record { day = friday; part = 4000 }))
 
 abbrev pub settled_rows : Rows
 settled_rows = with_entries friday settled
 
--- with a check for cents from a fund to a payee
+-- with a check for so many cents from a fund to a payee
 abbrev pub settled_with_check : ℕ → Fund → List ℕ → PaymentState → Rows
 settled_with_check cents fund payee state = with_entries friday (settled ++ check_in cents fund payee state ∷ [])

@@ -1,4 +1,4 @@
--- Worked cases: a matter that was closed on 29 February, and what stays of it when it is purged.
+-- Worked cases: a matter closed on 29 February, and what is left when it is purged.
 use Rattle.std.specs.Prelude.{ℕ, List, [], ◌∷◌, Some, codes}
 use Rattle.matter_rows.specs.declared.head.Holder.TheVariants as holder
 use Rattle.matter_rows.specs.declared.deposit.DepositState.TheVariants as deposit
@@ -13,7 +13,7 @@ use Rattle.trust_matter.specs.Examples.{received, paid}
 abbrev pub leap_day : ℕ
 leap_day = 20240229
 
--- the last day for which the records of a matter are kept that was closed on it
+-- the last day on which the records of a matter closed on 29 February are kept
 abbrev pub last_kept : ℕ
 last_kept = 20290228
 
@@ -23,7 +23,7 @@ day_after_it = 20290301
 abbrev pub later_on : ℕ
 later_on = 20290302
 
--- what came in went out
+-- all that came in went out again
 abbrev pub all_gone : List Entry
 all_gone =
     received tenth 50000 (deposit.Cleared (cleared_on twelfth b1))
@@ -39,7 +39,7 @@ closed_on_leap_day = record {
   entries = all_gone;
 }
 
--- the stub: when the matter was opened, closed and purged
+-- the stub: the days of opening, closing and purging
 abbrev pub purged_in_march : Rows
 purged_in_march = record {
   head = Some

@@ -1,4 +1,4 @@
--- When an ask is refused: one test for each refusal, told by its name.
+-- When an ask is refused: one named test for each refusal.
 use Rattle.std.specs.Prelude.{ℕ, Bool, true, false, not, ◌&&◌, ◌||◌, ◌==◌, nat_lt, List, Option, Some, None, is_some, is_none, ℤ, pos, negsuc}
 use Rattle.std.specs.Str.{bytes_eq}
 use Rattle.trust_base.specs.Names.{is_cash_label, is_firm_label}
@@ -38,12 +38,12 @@ abbrev pub is_purging : Ask → Bool
 is_purging ask.Purge = true
 is_purging _ = false
 
--- the one ask that is answered by the matter whole
+-- the only ask that is answered with the whole matter
 abbrev pub is_accounting : Ask → Bool
 is_accounting ask.Accounting = true
 is_accounting _ = false
 
--- the ask comes under a rule by which a matter changes
+-- the ask comes under a rule that changes the matter
 abbrev pub is_changing : Ask → Bool
 is_changing a = changes_matter (rule_of a)
 
@@ -57,8 +57,8 @@ number_made _ = None
 
 -- Who may ask, and when.
 
--- to the caller there is no such matter: a person without a seat, or the cashier where it was never opened
--- and is not to be
+-- the matter does not exist for the caller: a person without a seat, or the cashier if it was never opened and this ask
+-- does not open it
 abbrev pub is_unknown_to : Caller → Option Head → List Seat → Ask → Bool
 is_unknown_to caller.Cashier head seats ask = is_none head && not (is_opening ask)
 is_unknown_to (caller.Person p) head seats ask = is_none (role_in seats p)
@@ -70,19 +70,19 @@ has_no_seat f a = is_unknown_to a.caller f.head f.seats a.ask
 abbrev pub was_purged : Facts → Asked → Bool
 was_purged f a = is_purged f.head
 
--- the policy does not let the caller ask under the rule of the ask
+-- the policy forbids this caller to ask under the ask's rule
 abbrev pub is_not_allowed : Facts → Asked → Bool
 is_not_allowed f a = not (allows f.seats a.caller (rule_of a.ask))
 
--- the matter is to be opened, and was
+-- the matter is to be opened, but already was
 abbrev pub is_opened_already : Facts → Asked → Bool
 is_opened_already f a = is_opening a.ask && is_some f.head
 
--- a change of a matter that was closed, other than purging it
+-- a change of a closed matter, other than opening or purging it
 abbrev pub is_closed : Facts → Asked → Bool
 is_closed f a = is_changing a.ask && not (is_opening a.ask) && not (is_purging a.ask) && is_some (closed_on f.head)
 
--- a change on a day before the last one
+-- a change on a day before the matter's last day
 abbrev pub goes_backwards : Facts → Asked → Bool
 goes_backwards f a = is_changing a.ask && nat_lt a.day (last_of f.head)
 
@@ -90,11 +90,11 @@ abbrev pub misses : Option ℕ → Option ℕ → Bool
 misses next None = false
 misses next (Some n) = not (is_number next n)
 
--- the entry to be made has a number that does not come next
+-- the entry to be made does not have the next number
 abbrev pub is_not_next : Facts → Asked → Bool
 is_not_next f a = misses (next_number f.count) (number_made a.ask)
 
--- a fund that is an entry
+-- the fund is an entry: a fee or a claim
 abbrev pub is_an_entry : Fund → Bool
 is_an_entry fund.General = false
 is_an_entry (fund.Fee k) = true
@@ -104,7 +104,7 @@ abbrev pub is_on_fee : Against → Bool
 is_on_fee (against.General claimant) = false
 is_on_fee (against.Fee k) = true
 
--- the entry that the ask is about, or the fee or claim that it names, is missing
+-- the entry that the ask is about, or the fee or claim that it names, does not exist
 abbrev pub is_missing_for : Ask → Option Entry → Option Entry → Bool
 is_missing_for (ask.CancelDeposit n) e other = is_none e
 is_missing_for (ask.Propose a) e other = is_an_entry a.fund && is_none other
@@ -118,7 +118,7 @@ is_missing_for (ask.Award a) e other = is_none e
 is_missing_for (ask.ShowEntry n) e other = is_none e
 is_missing_for _ e other = false
 
--- the entry is not there
+-- the entry does not exist
 abbrev pub is_not_there : Facts → Asked → Bool
 is_not_there f a = is_missing_for a.ask f.entry f.other
 
@@ -151,13 +151,13 @@ abbrev pub is_no_general_claim : Option Entry → Bool
 is_no_general_claim None = false
 is_no_general_claim (Some e) = not (is_general_claim e)
 
--- the entry that a fund names is of another kind: a fee, or a claim on the general fund
+-- the entry that a fund names is of the wrong kind: it should be a fee, or a claim on the general fund
 abbrev pub is_no_fund : Fund → Option Entry → Bool
 is_no_fund fund.General other = false
 is_no_fund (fund.Fee k) other = is_no_fee other
 is_no_fund (fund.Claim k) other = is_no_general_claim other
 
--- the entry is of another kind than the ask is about, or the one named than it may be
+-- the entry is not of the kind that the ask is about, or the one that it names is of the wrong kind
 abbrev pub is_of_another_kind_for : Ask → Option Entry → Option Entry → Bool
 is_of_another_kind_for (ask.CancelDeposit n) e other = is_no_deposit e
 is_of_another_kind_for (ask.Propose a) e other = is_no_fund a.fund other
@@ -213,7 +213,7 @@ is_claim_unsettled (Some (entry.Payment p)) = false
 is_claim_unsettled (Some (entry.Fee f)) = false
 is_claim_unsettled (Some (entry.Claim c)) = not (has_settled c.state)
 
--- a claim of which no part is offered to the client
+-- a claim without an offer to the client
 abbrev pub is_claim_without_offer : Option Entry → Bool
 is_claim_without_offer None = false
 is_claim_without_offer (Some (entry.Deposit d)) = false
@@ -221,13 +221,13 @@ is_claim_without_offer (Some (entry.Payment p)) = false
 is_claim_without_offer (Some (entry.Fee f)) = false
 is_claim_without_offer (Some (entry.Claim c)) = not (is_offered_state c.state)
 
--- a payment is drawn on a claim once it is settled
+-- the fund is a claim that is not settled yet
 abbrev pub is_no_fund_yet : Fund → Option Entry → Bool
 is_no_fund_yet fund.General other = false
 is_no_fund_yet (fund.Fee k) other = false
 is_no_fund_yet (fund.Claim k) other = is_claim_unsettled other
 
--- the entry is not in the state that the ask needs, or the one named is not
+-- the entry, or the one that the ask names, is not in the state that the ask needs
 abbrev pub is_in_another_state_for : Ask → Option Entry → Option Entry → Bool
 is_in_another_state_for (ask.CancelDeposit n) e other = is_deposit_not_held e
 is_in_another_state_for (ask.Propose a) e other = is_no_fund_yet a.fund other
@@ -239,7 +239,7 @@ is_in_another_state_for (ask.Accept a) e other = is_claim_without_offer e
 is_in_another_state_for (ask.Award a) e other = is_claim_settled e
 is_in_another_state_for _ e other = false
 
--- a matter is purged once it was closed
+-- the matter is to be purged, but was not closed
 abbrev pub is_not_yet_closed_for : Ask → Option Head → Bool
 is_not_yet_closed_for ask.Purge head = is_none (closed_on head)
 is_not_yet_closed_for _ head = false
@@ -266,7 +266,7 @@ abbrev pub is_claimants : Against → List ℕ → Bool
 is_claimants (against.General claimant) payee = bytes_eq claimant payee
 is_claimants (against.Fee k) payee = false
 
--- the payee is the one who claimed
+-- the payee is the claimant
 abbrev pub is_claimant_of : Option Entry → List ℕ → Bool
 is_claimant_of None payee = false
 is_claimant_of (Some (entry.Deposit d)) payee = false
@@ -274,7 +274,7 @@ is_claimant_of (Some (entry.Payment p)) payee = false
 is_claimant_of (Some (entry.Fee f)) payee = false
 is_claimant_of (Some (entry.Claim c)) payee = is_claimants c.against payee
 
--- the firm is paid from a fee, a claimant from the claim, and others from what is available
+-- the payee is wrong: a fee pays only the firm, a claim only its claimant, and the general fund anyone but the firm
 abbrev pub is_wrong_payee_of : Fund → Option Entry → List ℕ → Bool
 is_wrong_payee_of fund.General other payee = is_firm_label payee
 is_wrong_payee_of (fund.Fee k) other payee = not (is_firm_label payee)
@@ -284,7 +284,7 @@ abbrev pub is_wrong_payee_for : Ask → Option Entry → Bool
 is_wrong_payee_for (ask.Propose a) other = is_wrong_payee_of a.fund other a.payee
 is_wrong_payee_for _ other = false
 
--- the payee is not one whom the fund pays
+-- the fund may not pay this payee
 abbrev pub is_to_wrong_payee : Facts → Asked → Bool
 is_to_wrong_payee f a = is_wrong_payee_for a.ask f.other
 
@@ -354,7 +354,7 @@ is_short_for _ e available left = false
 abbrev pub is_short : Facts → Asked → Bool
 is_short f a = is_short_for a.ask f.entry f.available f.left
 
--- the person who is to take a seat has one
+-- the person to be given a seat already has one
 abbrev pub has_a_seat_for : Ask → List Seat → Bool
 has_a_seat_for (ask.AddSeat s) seats = is_some (role_in seats s.person)
 has_a_seat_for _ seats = false
@@ -362,7 +362,7 @@ has_a_seat_for _ seats = false
 abbrev pub has_a_seat_already : Facts → Asked → Bool
 has_a_seat_already f a = has_a_seat_for a.ask f.seats
 
--- the person who is to give up the seat has none
+-- the person whose seat is to go has none
 abbrev pub has_none_for : Ask → List Seat → Bool
 has_none_for (ask.DropSeat p) seats = is_none (role_in seats p)
 has_none_for _ seats = false
@@ -374,7 +374,7 @@ abbrev pub is_lawyers : Option Role → Bool
 is_lawyers None = false
 is_lawyers (Some r) = is_lawyer r
 
--- the seat is a lawyer's, and no other is
+-- the seat to go is the only lawyer's
 abbrev pub is_last_lawyers : Ask → List Seat → Bool
 is_last_lawyers (ask.DropSeat p) seats = is_lawyers (role_in seats p) && not (has_other_lawyer seats p)
 is_last_lawyers _ seats = false
@@ -392,42 +392,42 @@ abbrev pub is_zero : ℤ → Bool
 is_zero (pos n) = n == 0
 is_zero (negsuc n) = false
 
--- a matter to be closed has money in its ledger, or a payment proposed or issued
+-- the matter to be closed has money in its ledger, or a payment proposed or issued
 abbrev pub is_not_empty : Facts → Asked → Bool
 is_not_empty f a = is_closing a.ask && not (is_zero f.ledger && is_zero f.pending)
 
--- When it may be purged.
+-- When a matter may be purged.
 
--- the first day on which a matter may be purged that was closed on a day, 0 for one that was not closed
+-- the first day on which a matter closed on `close` may be purged; 0 if it was not closed
 abbrev pub purge_day : Option ℕ → ℕ
 purge_day None = 0
 purge_day (Some close) = first_purge_day close
 
--- a matter is to be purged while its records must be kept
+-- the matter is to be purged, but its records must still be kept
 abbrev pub is_too_early : Facts → Asked → Bool
 is_too_early f a = is_purging a.ask && nat_lt a.day (purge_day (closed_on f.head))
 
--- Whether the ask comes again.
+-- Whether the ask is a repeat.
 
--- the deposit has the asked fields
+-- the entry is a deposit with the fields asked for
 abbrev pub is_as_asked : Option Entry → DepositAsk → Bool
 is_as_asked (Some (entry.Deposit d)) a =
     d.amount == a.amount && bytes_eq d.source a.source && bytes_eq d.description a.description
 is_as_asked _ a = false
 
--- the payment has the asked fields
+-- the entry is a payment with the fields asked for
 abbrev pub is_payment_asked : Option Entry → PaymentAsk → Bool
 is_payment_asked (Some (entry.Payment p)) a =
     p.amount == a.amount && is_same_fund p.fund a.fund && bytes_eq p.payee a.payee && bytes_eq p.purpose a.purpose
     && bytes_eq p.instrument a.instrument
 is_payment_asked _ a = false
 
--- the fee has the asked fields
+-- the entry is a fee with the fields asked for
 abbrev pub is_fee_asked : Option Entry → FeeAsk → Bool
 is_fee_asked (Some (entry.Fee f)) a = f.amount == a.amount && bytes_eq f.description a.description
 is_fee_asked _ a = false
 
--- the claim has the asked fields
+-- the entry is a claim with the fields asked for
 abbrev pub is_claim_asked : Option Entry → ClaimAsk → Bool
 is_claim_asked (Some (entry.Claim c)) a =
     c.amount == a.amount && is_same_against c.against a.against && bytes_eq c.reason a.reason
@@ -440,6 +440,6 @@ comes_again (ask.EarnFee a) e = is_fee_asked e a
 comes_again (ask.RaiseClaim a) e = is_claim_asked e a
 comes_again _ e = false
 
--- the entry of the number was made by the same ask before
+-- the same ask already made the entry with this number
 abbrev pub is_repeat : Facts → Asked → Bool
 is_repeat f a = comes_again a.ask f.entry

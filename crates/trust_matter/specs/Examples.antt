@@ -1,4 +1,4 @@
--- Sound rows by example: entries of each kind in each state, and a closed matter.
+-- Examples of sound rows: entries of each kind in each state, and a closed matter.
 use Rattle.std.specs.Prelude.{◌≡◌, ℕ, List, [], ◌∷◌, Some, None, codes, pos}
 use Rattle.matter_rows.specs.declared.head.Holder.TheVariants as holder
 use Rattle.matter_rows.specs.declared.seat.Role.TheVariants as role
@@ -19,7 +19,7 @@ use Rattle.matter_rows.specs.declared.entry.Entry.TheVariants as entry
 use Rattle.matter_rows.specs.Balances.{held, available, disputed, fees, claims, total}
 use Rattle.matter_rows.specs.Rows.{Rows}
 
--- A deposit, a payment, a fee and a claim, of cents, made on a day.
+-- A deposit, a payment, a fee and a claim, of so many cents, made on a day.
 
 abbrev pub received : ℕ → ℕ → DepositState → Entry
 received day cents state = entry.Deposit (record {
@@ -83,7 +83,7 @@ in_every_state = record {
   entries = every_state;
 }
 
--- what was cleared is paid out, and nothing waits
+-- everything cleared is paid out, and no payment is pending
 abbrev pub all_paid_out : List Entry
 all_paid_out =
     received 20260105 10000 (deposit.Cleared (told_on 20260106))
@@ -106,7 +106,7 @@ closed_at_rest = record {
   entries = all_paid_out;
 }
 
--- the same before it is closed
+-- the same, before it is closed
 abbrev pub at_rest : Rows
 at_rest = record {
   head = Some
@@ -115,7 +115,7 @@ at_rest = record {
   entries = all_paid_out;
 }
 
--- a matter with nothing but a payment that waits
+-- a matter whose only entry is a pending payment
 abbrev pub waiting : Rows
 waiting = record {
   head = Some

@@ -1,4 +1,4 @@
--- What is known of a matter and an ask: all that the answer depends on.
+-- What is known about a matter and an ask: everything that the answer depends on.
 use Rattle.std.specs.Prelude.{ℕ, List, length, ℤ, Option}
 use Rattle.matter_rows.specs.declared.head.Head.{Head}
 use Rattle.matter_rows.specs.declared.seat.Seat.{Seat}
@@ -10,15 +10,15 @@ use Rattle.trust_matter.specs.declared.ask.Caller.{Caller}
 use Rattle.trust_matter.specs.declared.ask.Ask.{Ask}
 use Rattle.trust_matter.specs.declared.ask.Ask.TheVariants as ask
 
--- who asks what, on which business day
+-- who asks for what, on which business day
 pub record Asked : Type 0 where
   pub caller : Caller
   pub ask : Ask
   pub day : ℕ
 
--- the head and the seats; how many entries there are, what is available, the ledger and the number of
--- payments proposed or issued; the entry whose number the ask has; the fee or claim that the ask, or else
--- this entry, names, with what is left of it
+-- the head and the seats; how many entries there are, what is available, the ledger, how many payments are proposed or
+-- issued; the entry that the ask names; the fee or claim named by the ask, or otherwise by that entry, and what is left
+-- of it
 pub record Facts : Type 0 where
   pub head : Option Head
   pub seats : List Seat
@@ -30,7 +30,7 @@ pub record Facts : Type 0 where
   pub other : Option Entry
   pub left : ℤ
 
--- the entry's number in an ask, 0 for none
+-- the number of the entry that an ask names, or 0
 abbrev pub number_named : Ask → ℕ
 number_named (ask.OpenMatter a) = 0
 number_named (ask.AddSeat s) = 0
@@ -52,19 +52,19 @@ number_named ask.Show = 0
 number_named ask.Accounting = 0
 number_named (ask.ShowEntry n) = n
 
--- the number of the fee or claim that the ask itself names, 0 for none
+-- the number of the fee or claim that the ask itself names, or 0
 abbrev pub fund_named : Ask → ℕ
 fund_named (ask.Propose a) = fund_no a.fund
 fund_named (ask.RaiseClaim a) = against_no a.against
 fund_named _ = 0
 
--- the number of the fee or claim that the ask names, or else that its entry names, 0 for none
+-- the number of the fee or claim named by the ask, or otherwise by its entry, or 0
 abbrev pub other_of : Ask → Option Entry → ℕ
 other_of (ask.Propose a) e = fund_no a.fund
 other_of (ask.RaiseClaim a) e = against_no a.against
 other_of _ e = target_in e
 
--- the facts by the rows, with all sums added up anew
+-- the facts from the rows, with all sums added up from the entries
 abbrev pub facts_of : Rows → Ask → Facts
 facts_of rows ask =
     let entry = entry_at rows.entries (number_named ask) in

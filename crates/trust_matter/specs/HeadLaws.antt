@@ -1,4 +1,4 @@
--- Laws on what an accepted ask leaves of the head and the seats.
+-- Laws about the head and the seats after an accepted ask.
 use Rattle.std.specs.Prelude.{◌≡◌, ℕ, true, false, List, [], ◌∷◌, ◌++◌, Some, None}
 use Rattle.matter_rows.specs.declared.seat.Role.TheVariants as role
 use Rattle.matter_rows.specs.declared.head.Holder.TheVariants as holder
@@ -15,14 +15,14 @@ use Rattle.trust_matter.specs.Conditions.{is_changing, is_repeat}
 use Rattle.trust_matter.specs.Facts.{Asked, facts_of}
 use Rattle.trust_matter.specs.Step.{refusal, rows_after}
 
--- where sound rows accept the ask on a day, this holds of the day, the rows, and the rows after it
+-- if sound rows accept the ask on a day, P holds for the day, the rows before and the rows after
 abbrev pub OnceAccepted : Ask → (ℕ → Rows → Rows → Type 0) → Type 0
 OnceAccepted q P =
     (rows : Rows) (who : Caller) (day : ℕ) →
     let a : Asked = record { caller = who; ask = q; day = day } in
     Sound rows → refusal rows a ≡ None → P day rows (rows_after rows a)
 
--- the matter was opened for the client on the day, is not closed, and its one seat is the lawyer's
+-- the matter was opened for the client on the day, is not closed, and its only seat is the lawyer's
 pub record IsOpened (o : OpenAsk) (day : ℕ) (after : Rows) : Type 0 where
   pub head : after.head ≡ Some (record { holder = holder.Client o.client; opened = day; closed = None; last = day })
   pub seats : after.seats ≡ record { person = o.lawyer; role = role.Lawyer } ∷ []
@@ -31,7 +31,7 @@ pub record IsOpened (o : OpenAsk) (day : ℕ) (after : Rows) : Type 0 where
 abbrev pub OpeningOpens : Type 0
 OpeningOpens = (o : OpenAsk) → OnceAccepted (ask.OpenMatter o) (λ day rows after. IsOpened o day after)
 
--- the head says that it was closed on the day, and nothing else has changed
+-- the head says that the matter was closed on the day, and nothing else changed
 pub record IsClosed (day : ℕ) (rows after : Rows) : Type 0 where
   pub was : Head
   pub head : rows.head ≡ Some was
@@ -42,14 +42,14 @@ pub record IsClosed (day : ℕ) (rows after : Rows) : Type 0 where
 abbrev pub ClosingCloses : Type 0
 ClosingCloses = OnceAccepted ask.CloseMatter IsClosed
 
--- the seats are those that were, with one more among them
+-- the seats are as before, with one more among them
 pub record HasOneMore (seats : List Seat) (new : Seat) (after : List Seat) : Type 0 where
   pub before : List Seat
   pub behind : List Seat
   pub were : seats ≡ before ++ behind
   pub are : after ≡ before ++ new ∷ behind
 
--- the seat was added, and nothing else has changed
+-- the seat was added, and nothing else changed
 pub record IsSeated (new : Seat) (day : ℕ) (rows after : Rows) : Type 0 where
   pub head : after.head ≡ seen_on rows.head day
   pub seats : HasOneMore rows.seats new after.seats
@@ -58,7 +58,7 @@ pub record IsSeated (new : Seat) (day : ℕ) (rows after : Rows) : Type 0 where
 abbrev pub SeatIsAdded : Type 0
 SeatIsAdded = (new : Seat) → OnceAccepted (ask.AddSeat new) (IsSeated new)
 
--- the person's seat was given up, and nothing else has changed
+-- the person's seat was removed, and nothing else changed
 pub record IsUnseated (person : List ℕ) (day : ℕ) (rows after : Rows) : Type 0 where
   pub head : after.head ≡ seen_on rows.head day
   pub seat : Seat
@@ -69,16 +69,16 @@ pub record IsUnseated (person : List ℕ) (day : ℕ) (rows after : Rows) : Type
 abbrev pub SeatIsDropped : Type 0
 SeatIsDropped = (person : List ℕ) → OnceAccepted (ask.DropSeat person) (IsUnseated person)
 
--- of a purged matter the stub is left, and nothing else
+-- only the stub of a purged matter is left
 abbrev pub PurgingPurges : Type 0
 PurgingPurges = OnceAccepted ask.Purge (λ day rows after. after ≡ stub_rows day rows)
 
--- an accepted change, which is no repeat, leaves its day as the last
+-- after an accepted change that is no repeat, its day is the matter's last day
 abbrev pub DayIsLast : Type 0
 DayIsLast =
     (rows : Rows) (a : Asked) → Sound rows → refusal rows a ≡ None → is_changing a.ask ≡ true
     → is_repeat (facts_of rows a.ask) a ≡ false → last_of (rows_after rows a).head ≡ a.day
 
--- an ask under a rule by which nothing changes leaves the rows as they are
+-- an ask under a rule that changes nothing leaves the rows as they are
 abbrev pub ReadsChangeNothing : Type 0
 ReadsChangeNothing = (rows : Rows) (a : Asked) → is_changing a.ask ≡ false → rows_after rows a ≡ rows

@@ -1,4 +1,4 @@
--- What is known of a matter with an ask or a line, by its totals and the entries that are kept.
+-- What is known about a matter and an ask or a line, from the totals and the loaded entries.
 use Rattle.std.specs.Prelude.{◌≡◌, ℕ, Bool, ◌&&◌, ◌||◌, ◌==◌, [], ◌∷◌, pos, ◌-ℤ◌, if◌then◌else◌, ◌+◌, ◌≤◌, ◌+ℤ◌, ◌≤ℤ◌}
 use Rattle.matter_rows.specs.Shares.{target_in}
 use Rattle.matter_parts.specs.Parts.{Part, kept_at, entry_in, is_held, is_held_or_none, left_kept, total_kept}
@@ -7,7 +7,7 @@ use Rattle.trust_matter.specs.declared.ask.Ask.{Ask}
 use Rattle.trust_matter.specs.Facts.{Facts, number_named, other_of}
 use Rattle.trust_matter.specs.LineStep.{LineFacts}
 
--- what is known of a line and its entry, by the totals and the kept entries
+-- what is known about a line and its entry, from the totals and the loaded entries
 abbrev pub kept_line_facts : Part → BankLine → ℕ → LineFacts
 kept_line_facts m l today = record {
   head = m.head;
@@ -18,11 +18,11 @@ kept_line_facts m l today = record {
   today = today;
 }
 
--- the entry that a line names, and the fee or claim that this draws on, are held
+-- the entry that a line names, and the fee or claim that it draws on, are loaded or do not exist
 abbrev pub holds_for_line : Part → ℕ → Bool
 holds_for_line m n = is_held m n && is_held_or_none m (target_in (entry_in (kept_at m n)))
 
--- what is known of an ask and its matter, by the totals and the kept entries
+-- what is known about an ask and its matter, from the totals and the loaded entries
 abbrev pub kept_facts : Part → Ask → Facts
 kept_facts m ask =
     let entry = entry_in (kept_at m (number_named ask)) in
@@ -39,7 +39,7 @@ kept_facts m ask =
       left = left_kept (kept_at m other);
     }
 
--- the entries that an ask names, and that these name, are held
+-- the entries that an ask names, and those that these name, are loaded or do not exist
 abbrev pub holds_for : Part → Ask → Bool
 holds_for m ask =
     is_held_or_none m (number_named ask) && is_held_or_none m (other_of ask (entry_in (kept_at m (number_named ask))))

@@ -1,4 +1,4 @@
--- What a line of the bank does to a matter's rows.
+-- What a bank line does to a matter's rows.
 use Rattle.std.specs.Prelude.{◌≡◌, ℕ, Bool, true, false, not, ◌&&◌, ◌||◌, ◌==◌, nat_lt, max, List, [], ◌∷◌, ℤ, ◌-ℤ◌, Option, Some, None, is_none, if◌then◌else◌, Result, Ok, Err}
 use Rattle.trust_base.specs.declared.line.Line.{Line}
 use Rattle.trust_base.specs.declared.refusal.StoreFault.{StoreFault}
@@ -21,9 +21,9 @@ use Rattle.trust_matter.specs.declared.line_verdict.DatedEdit.{DatedEdit}
 use Rattle.trust_matter.specs.declared.line_verdict.LineVerdict.{LineVerdict}
 use Rattle.trust_matter.specs.declared.line_verdict.LineVerdict.TheVariants as verdict
 
--- What is known of a line and of the entry that it names.
+-- What is known about a line and the entry that it names.
 
--- the head; the entry that the line names, under its number; what is available; the line, and the business day
+-- the head; the number that the line names, and the entry with it; what is available; the line, and the business day
 pub record LineFacts : Type 0 where
   pub head : Option Head
   pub number : ℕ
@@ -32,7 +32,7 @@ pub record LineFacts : Type 0 where
   pub line : Line
   pub today : ℕ
 
--- the facts by the rows, with the sum added up anew
+-- the facts from the rows, with the sum added up from the entries
 abbrev pub line_facts : Rows → BankLine → ℕ → LineFacts
 line_facts rows l today = record {
   head = rows.head;
@@ -43,7 +43,7 @@ line_facts rows l today = record {
   today = today;
 }
 
--- Why it matches no entry.
+-- Why a line matches no entry.
 
 -- no line clears a fee or a claim
 abbrev pub has_no_line : Option Entry → Bool
@@ -53,7 +53,7 @@ has_no_line (Some (entry.Payment p)) = false
 has_no_line (Some (entry.Fee f)) = true
 has_no_line (Some (entry.Claim c)) = true
 
--- the deposit is not held, nor cleared where the line takes it back, or the payment is not issued
+-- a deposit that is neither held nor, if the line takes it back, cleared; or a payment that is not issued
 abbrev pub awaits_no_line : Option Entry → Line → Bool
 awaits_no_line None line = false
 awaits_no_line (Some (entry.Deposit d)) line =
@@ -70,12 +70,12 @@ abbrev pub amount_in : Option Entry → ℕ
 amount_in None = 0
 amount_in (Some e) = entry_amount e
 
--- a return is booked on no day before the last, and out of what is available
+-- a return that the available money does not cover, or whose business day is before the matter's last day
 abbrev pub is_uncovered : LineFacts → Bool
 is_uncovered f =
     is_return f.entry f.line && (nat_lt f.today (last_of f.head) || exceeds (amount_in f.entry) f.available)
 
--- each reason with its condition, in the order in which one is told before another
+-- each reason with its condition, in the order in which they are tried
 abbrev pub reasons : LineFacts → List (Bool × Reason)
 reasons f =
     (nat_lt f.today f.line.date, reason.Future)
@@ -87,12 +87,12 @@ reasons f =
     ∷ (is_uncovered f, reason.Uncovered)
     ∷ []
 
--- of the reasons that hold the one that is told before the others
+-- the first reason that holds
 abbrev pub first_reason : List (Bool × Reason) → Option Reason
 first_reason [] = None
 first_reason (c ∷ cs) = if c.0 then Some c.1 else first_reason cs
 
--- the entry after the line
+-- the edit by which a line changes the entry
 abbrev pub told_by : ℕ → Option Entry → Line → ℕ → Edit
 told_by n (Some (entry.Deposit d)) line today =
     edit.Exchange (record { number = n; entry = entry.Deposit (record d { state = deposit_by line today d.state }) })
@@ -100,11 +100,11 @@ told_by n (Some (entry.Payment p)) line today =
     edit.Exchange (record { number = n; entry = entry.Payment (record p { state = cleared_payment line p.state }) })
 told_by n _ line today = edit.Nothing
 
--- the last day after a line: that of the booking of a return, else never before the line's date
+-- the last day after a line: for a return the business day, otherwise at least the line's date
 abbrev pub last_by : LineFacts → ℕ
 last_by f = if is_return f.entry f.line then f.today else max (last_of f.head) f.line.date
 
--- what an applied line changes, and the last day of the matter after it
+-- what an applied line changes, and the matter's last day after it
 abbrev pub dated_by : LineFacts → DatedEdit
 dated_by f = record { edit = told_by f.number f.entry f.line f.today; last = last_by f }
 
@@ -112,13 +112,13 @@ abbrev pub matched : Option Reason → DatedEdit → LineEffect
 matched None e = told.Applied e
 matched (Some r) e = told.Unmatched r
 
--- what becomes of a line: a repeat is told before all reasons
+-- the verdict on a line; being a repeat comes before all reasons
 abbrev pub line_effect : LineFacts → LineEffect
 line_effect f = if is_line_again f.entry f.line then told.Repeat else matched (first_reason (reasons f)) (dated_by f)
 
 -- The step.
 
--- what becomes of a line on a business day, by the rows of its matter
+-- the verdict on a line on a business day, from its matter's rows
 abbrev pub line_on : Rows → BankLine → ℕ → LineEffect
 line_on rows l today = line_effect (line_facts rows l today)
 
@@ -131,7 +131,7 @@ after_line_effect (told.Unmatched r) rows = rows
 abbrev pub rows_after_line : Rows → BankLine → ℕ → Rows
 rows_after_line rows l today = after_line_effect (line_on rows l today) rows
 
--- a line that is applied: the change is that of the rows
+-- the line is applied, and the change is that of the rows
 pub record IsLineDecided (rows : Rows) (l : BankLine) (today : ℕ) (c : MatterChange) : Type 0 where
   pub applied : line_on rows l today ≡ told.Applied (record { edit = c.edit; last = c.last })
   pub change : IsChange rows c
@@ -141,7 +141,7 @@ IsApplied (told.Applied e) = Unit {0}
 IsApplied told.Repeat = ⊥
 IsApplied (told.Unmatched r) = ⊥
 
--- what is answered of a line: its verdict, or want of memory where it is applied, and never a fault of the store
+-- the possible answers: the line's verdict, or out of memory if the line is to be applied; never a store fault
 abbrev pub LineDecides : Rows → BankLine → ℕ → Result LineVerdict StoreFault → Type 0
 LineDecides rows l today (Ok (verdict.Applied c)) = IsLineDecided rows l today c
 LineDecides rows l today (Ok verdict.Repeat) = line_on rows l today ≡ told.Repeat

@@ -1,4 +1,4 @@
--- Who may ask what: a set of standings and rules, and the rule of each ask.
+-- Who may ask what: a set of pairs of standing and rule, and the rule of each ask.
 use Rattle.std.specs.Prelude.{Bool, true, false, ◌&&◌, List, [], ◌∷◌, Option, Some, None}
 use Rattle.std.specs.List.{list_any}
 use Rattle.std.specs.Option.{option_map}
@@ -48,7 +48,7 @@ rule_of ask.Show = rule.Read
 rule_of ask.Accounting = rule.Read
 rule_of (ask.ShowEntry n) = rule.Read
 
--- under each rule but those of reading and of the firm as a whole, a matter changes
+-- a matter changes under every rule except reading and reports of the firm
 abbrev pub changes_matter : Rule → Bool
 changes_matter rule.Read = false
 changes_matter rule.Dispute = true
@@ -58,7 +58,7 @@ changes_matter rule.Sign = true
 changes_matter rule.Office = true
 changes_matter rule.Firm = false
 
--- the policy: each standing with each rule under which it may ask
+-- the policy: each standing paired with each rule under which it may ask
 abbrev pub policy : List (Standing × Rule)
 policy =
     (Client, rule.Read)
@@ -90,7 +90,7 @@ same_rule rule.Office rule.Office = true
 same_rule rule.Firm rule.Firm = true
 same_rule _ _ = false
 
--- the policy has this standing with this rule
+-- the policy has this pair
 abbrev pub has : Standing → Rule → Bool
 has s r = list_any (λ p. same_standing p.0 s && same_rule p.1 r) policy
 
@@ -98,7 +98,7 @@ abbrev pub standing_in : Role → Standing
 standing_in role.Client = Client
 standing_in role.Lawyer = Lawyer
 
--- what the caller is to the matter; a person without a seat is nothing to it
+-- what the caller is to the matter; None for a person without a seat
 abbrev pub standing_of : List Seat → Caller → Option Standing
 standing_of seats caller.Cashier = Some Cashier
 standing_of seats (caller.Person p) = option_map standing_in (role_in seats p)

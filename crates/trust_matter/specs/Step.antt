@@ -1,8 +1,9 @@
--- What an ask is answered and what it changes: a table of refusals, of which the least number is given.
-use Rattle.std.specs.Prelude.{◌≡◌, ℕ, Bool, List, [], ◌∷◌, ◌++◌, Option, Some, None, if◌then◌else◌, Result, Ok, Err, ℤ, pos, negsuc}
+-- How an ask is answered and what it changes: a table of refusals, from which the least number is taken.
+use Rattle.std.specs.Prelude.{◌≡◌, ℕ, Bool, List, [], ◌∷◌, ◌++◌, Option, Some, None, is_some, nat_lt, if◌then◌else◌, Result, Ok, Err, ℤ, pos, negsuc}
 use Rattle.trust_base.specs.declared.refusal.Refusal.{Refusal}
 use Rattle.trust_base.specs.declared.refusal.Refusal.TheVariants as refusals
 use Rattle.trust_base.specs.Limits.{IsAmount}
+use Rattle.matter_rows.specs.declared.head.Head.{Head}
 use Rattle.matter_rows.specs.declared.head.Holder.TheVariants as holder
 use Rattle.matter_rows.specs.declared.seat.Role.TheVariants as role
 use Rattle.matter_rows.specs.declared.deposit.DepositState.TheVariants as deposit
@@ -26,17 +27,17 @@ use Rattle.trust_matter.specs.declared.ask.Ask.{Ask}
 use Rattle.trust_matter.specs.declared.ask.Ask.TheVariants as ask
 use Rattle.trust_matter.specs.Policy.{rule_of}
 use Rattle.trust_matter.specs.Facts.{Facts, Asked, facts_of}
-use Rattle.trust_matter.specs.Conditions.{has_no_seat, was_purged, is_not_allowed, is_opened_already, is_closed, goes_backwards, is_not_next, is_not_there, is_of_another_kind, is_in_another_state, is_to_cash, is_to_wrong_payee, is_bad_split, is_short, left_for, has_a_seat_already, has_none_to_drop, would_lose_its_last_lawyer, is_not_empty, is_too_early, purge_day, is_repeat}
+use Rattle.trust_matter.specs.Conditions.{has_no_seat, was_purged, is_not_allowed, is_opened_already, is_closed, goes_backwards, misses, is_not_next, is_not_there, is_of_another_kind, is_in_another_state, is_to_cash, is_to_wrong_payee, is_bad_split, is_short, left_for, has_a_seat_already, has_none_to_drop, would_lose_its_last_lawyer, is_not_empty, is_too_early, purge_day, is_repeat}
 
 -- The refusals.
 
--- an integer as a natural number, 0 below zero
+-- an integer as a natural number; 0 if negative
 abbrev pub natural : ℤ → ℕ
 natural (pos n) = n
 natural (negsuc n) = 0
 
--- that there is no such matter to the caller, that it was purged, and that the policy does not let him ask: each
--- refusal with its condition, in the order of their numbers. A repeat may be refused for these alone
+-- the matter does not exist for the caller, was purged, or the policy forbids the ask: each refusal with its condition,
+-- by number. A repeat can be refused for these alone
 abbrev pub early_conditions : Facts → Asked → List (Bool × Refusal)
 early_conditions f a =
     (has_no_seat f a, refusals.NoMatter)
@@ -44,7 +45,15 @@ early_conditions f a =
     ∷ (is_not_allowed f a, refusals.NotAllowed (rule_of a.ask))
     ∷ []
 
--- that the matter, its days, its entries, the payee, the amount or the seats do not let the ask be done
+-- refusals of a change: the matter is closed, the day goes back, or the entry made does not have the next number
+abbrev pub change_conditions : Option Head → Option ℕ → Option ℕ → ℕ → List (Bool × Refusal)
+change_conditions head next made day =
+    (is_some (closed_on head), refusals.Closed)
+    ∷ (nat_lt day (last_of head), refusals.DateBackwards (last_of head))
+    ∷ (misses next made, refusals.WrongNumber next)
+    ∷ []
+
+-- the matter, its days, its entries, the payee, the amount or the seats do not allow the ask
 abbrev pub later_conditions : Facts → Asked → List (Bool × Refusal)
 later_conditions f a =
     (is_opened_already f a, refusals.AlreadyOpen)
@@ -65,37 +74,37 @@ later_conditions f a =
     ∷ (is_too_early f a, refusals.TooEarly (purge_day (closed_on f.head)))
     ∷ []
 
--- each refusal with its condition, in the order of their numbers
+-- each refusal with its condition, by number
 abbrev pub conditions : Facts → Asked → List (Bool × Refusal)
 conditions f a = early_conditions f a ++ later_conditions f a
 
--- what an ask may be refused for: a repeat changes nothing, and is refused only by who asks and for a purged matter
+-- the refusals that are tried: a repeat changes nothing, so it is refused only because of the caller or a purged matter
 abbrev pub tried : Facts → Asked → List (Bool × Refusal)
 tried f a = if is_repeat f a then early_conditions f a else conditions f a
 
--- the refusal of the least number whose condition holds
+-- the first refusal whose condition holds, which is the one with the least number
 abbrev pub first : List (Bool × Refusal) → Option Refusal
 first [] = None
 first (c ∷ cs) = if c.0 then Some c.1 else first cs
 
--- the refusal of an ask: of all that are due the one with the least number
+-- the refusal of an ask: the one with the least number whose condition holds
 abbrev pub refusal_of : Facts → Asked → Option Refusal
 refusal_of f a = first (tried f a)
 
--- the refusal of an ask by a caller who may ask it of a matter that was not purged: of a repeat none
+-- the refusal, if the caller may ask and the matter was not purged; None for a repeat
 abbrev pub late_refusal : Facts → Asked → Option Refusal
 late_refusal f a = if is_repeat f a then None else first (later_conditions f a)
 
 -- What changes.
 
--- an opened matter: its head, for the client and of the day, and the lawyer's seat
+-- an opened matter: its head, with client and day, and the lawyer's seat
 abbrev pub opening : OpenAsk → ℕ → Opening
 opening a day = record {
   head = record { holder = holder.Client a.client; opened = day; closed = None; last = day };
   seat = record { person = a.lawyer; role = role.Lawyer };
 }
 
--- a booked deposit is held
+-- a newly booked deposit, which is held
 abbrev pub deposit_of : DepositAsk → ℕ → Entry
 deposit_of a day = entry.Deposit (record {
   book = day;
@@ -105,13 +114,13 @@ deposit_of a day = entry.Deposit (record {
   state = deposit.Held;
 })
 
--- a deposit, cancelled on a day
+-- a deposit cancelled on a day
 abbrev pub cancelled : ℕ → Option Entry → ℕ → Edit
 cancelled n (Some (entry.Deposit d)) day =
     edit.Exchange (record { number = n; entry = entry.Deposit (record d { state = deposit.Cancelled day }) })
 cancelled n _ day = edit.Nothing
 
--- a booked payment is proposed
+-- a newly booked payment, which is proposed
 abbrev pub payment_of : PaymentAsk → ℕ → Entry
 payment_of a day = entry.Payment (record {
   book = day;
@@ -126,7 +135,7 @@ payment_of a day = entry.Payment (record {
 abbrev pub fee_of : FeeAsk → ℕ → Entry
 fee_of a day = entry.Fee (record { book = day; amount = a.amount; description = a.description })
 
--- a raised claim is open
+-- a newly raised claim, which is open
 abbrev pub claim_of : ClaimAsk → ℕ → Entry
 claim_of a day = entry.Claim (record {
   book = day;
@@ -136,28 +145,28 @@ claim_of a day = entry.Claim (record {
   state = claim.Open;
 })
 
--- a payment in another state
+-- a payment changed to another state
 abbrev pub with_payment : ℕ → Option Entry → (PaymentState → PaymentState) → Edit
 with_payment n (Some (entry.Payment p)) next =
     edit.Exchange (record { number = n; entry = entry.Payment (record p { state = next p.state }) })
 with_payment n _ next = edit.Nothing
 
--- an issued payment, taken back on a day
+-- an issued payment, voided on a day
 abbrev pub voided : ℕ → PaymentState → PaymentState
 voided day (payment.Issued issued) = payment.Voided (record { issued = issued; undone = day })
 voided day s = s
 
--- a claim in another state
+-- a claim changed to another state
 abbrev pub with_claim : ℕ → Option Entry → ClaimState → Edit
 with_claim n (Some (entry.Claim c)) next =
     edit.Exchange (record { number = n; entry = entry.Claim (record c { state = next }) })
 with_claim n _ next = edit.Nothing
 
--- a claim that is settled on a day, with the client's part
+-- a claim settled on a day, with the client's part
 abbrev pub settled : ℕ → ℕ → ClaimState
 settled day part = claim.Settled (record { day = day; part = part })
 
--- what an ask changes that is neither refused nor a repeat
+-- what an ask changes if it is neither refused nor a repeat
 abbrev pub edit_of : Ask → Option Entry → ℕ → Edit
 edit_of (ask.OpenMatter a) e day = edit.Open (opening a day)
 edit_of (ask.AddSeat s) e day = edit.Seat s
@@ -201,7 +210,7 @@ after (Some r) e day rows = rows
 abbrev pub rows_after : Rows → Asked → Rows
 rows_after rows a = after (refusal rows a) (edit_on rows a) a.day rows
 
--- an amount in an ask is one
+-- the amount in an ask, if any, is in range
 abbrev pub HasAmount : Ask → Type 0
 HasAmount (ask.Deposit a) = IsAmount a.amount
 HasAmount (ask.Propose a) = IsAmount a.amount
@@ -216,26 +225,26 @@ pub record IsDecided (rows : Rows) (a : Asked) (c : MatterChange) : Type 0 where
   pub last : c.last ≡ last_after rows.head (edit_on rows a) a.day
   pub change : IsChange rows c
 
--- a refusal that may be answered: that of the ask, want of memory where it has none, and never a fault of the store
+-- the possible refusals: the ask's own, or out of memory if it has none; never a store fault
 abbrev pub MayRefuse : Option Refusal → Refusal → Type 0
 MayRefuse refused refusals.Memory = refused ≡ None
 MayRefuse refused refusals.Store = ⊥
 MayRefuse refused r = refused ≡ Some r
 
--- what is answered: the change, the refusal, or want of memory where the ask is accepted
+-- the possible answers: the change or the ask's refusal, or out of memory if the ask is to be accepted
 abbrev pub Decides : Rows → Asked → Result MatterChange Refusal → Type 0
 Decides rows a (Ok c) = IsDecided rows a c
 Decides rows a (Err r) = MayRefuse (refusal rows a) r
 
--- the refusal if there is one, else the edit or want of memory
+-- the refusal if there is one, otherwise the edit or out of memory
 abbrev pub Answers : Option Refusal → Edit → Result Edit Refusal → Type 0
 Answers refused made (Ok e) = (refused ≡ None) × (e ≡ made)
 Answers refused made (Err r) = MayRefuse refused r
 
--- what is answered of an ask by the facts: its refusal, else what it changes or want of memory
+-- the answer to an ask from the facts: its refusal, otherwise what it changes or out of memory
 abbrev pub AnswersBy : Facts → Asked → Result Edit Refusal → Type 0
 AnswersBy f a result = Answers (refusal_of f a) (decided f a) result
 
--- the same where the caller may ask it, and the matter was not purged
+-- the same, if the caller may ask and the matter was not purged
 abbrev pub AnswersLateBy : Facts → Asked → Result Edit Refusal → Type 0
 AnswersLateBy f a result = Answers (late_refusal f a) (decided f a) result

@@ -1,4 +1,4 @@
-//! Who asks what of a matter.
+//! Asks of a matter: who asks, and for what.
 
 ghost use Rattle.std.specs.Prelude.{◌≡◌};
 ghost use Rattle.matter_rows.specs.Shares.{number_or_none};
@@ -22,7 +22,7 @@ pub enum Caller {
     Person(PersonId),
 }
 
-/// A matter is to be opened for a client, with a first lawyer.
+/// Asks to open a matter for a client, with a first lawyer.
 #[derive(Drop)]
 pub struct OpenAsk {
     pub client: Label,
@@ -30,75 +30,50 @@ pub struct OpenAsk {
 }
 
 /// What is asked of a matter.
+#[derive(Drop)]
 pub enum Ask {
-    /// The matter is opened for a client, with its first lawyer.
+    /// Opens the matter for a client, with its first lawyer.
     OpenMatter(OpenAsk),
-    /// A person takes a seat.
+    /// Gives a person a seat.
     AddSeat(Seat),
-    /// A person gives up the seat; the last lawyer keeps it.
+    /// Removes a person's seat, unless it is the last lawyer's.
     DropSeat(PersonId),
-    /// Money received is booked, and held until the bank tells of it.
+    /// Books money received. It is held until the bank clears it.
     Deposit(DepositAsk),
-    /// A held deposit is cancelled.
+    /// Cancels a held deposit.
     CancelDeposit(EntryNo),
-    /// A payment is proposed. Whether its fund covers it is tried when it is approved.
+    /// Proposes a payment. Whether its fund covers it is checked when it is approved.
     Propose(PaymentAsk),
-    /// A proposed payment is issued, where its own fund covers it.
+    /// Issues a proposed payment, if its own fund covers it.
     Approve(EntryNo),
-    /// A proposed payment is turned down, for good.
+    /// Turns down a proposed payment, for good.
     Decline(EntryNo),
-    /// An issued payment is taken back, and its fund has the money again.
+    /// Takes back an issued payment. Its fund has the money again.
     VoidPayment(EntryNo),
-    /// A fee is set apart from what is available.
+    /// Sets a fee apart from what is available.
     EarnFee(FeeAsk),
-    /// Disputed money is kept apart, of a fee or of what is available.
+    /// Keeps disputed money apart, from a fee or from what is available.
     RaiseClaim(ClaimAsk),
-    /// The client is offered a part of an open claim, in the place of an earlier offer.
+    /// Offers the client a part of an open claim. Replaces any earlier offer.
     Offer(SplitAsk),
-    /// The client accepts exactly the part offered, and the claim is settled.
+    /// Accepts exactly the offered part, which settles the claim.
     Accept(SplitAsk),
-    /// An open claim is settled by the part given, whatever was offered.
+    /// Settles an open claim with the given part, whatever was offered.
     Award(SplitAsk),
-    /// The matter is closed, where nothing is left in it and no payment waits.
+    /// Closes the matter, if nothing is left in it and no payment is pending.
     CloseMatter,
-    /// A closed matter is purged, once the time is over for which its records are kept: only a stub stays.
+    /// Purges a closed matter once its records need no longer be kept. Only a stub stays.
     Purge,
-    /// The matter is read.
+    /// Reads the matter.
     Show,
-    /// An entry is read.
+    /// Reads an entry.
     ShowEntry(EntryNo),
-    /// The ledger card of the matter is read, the full accounting of it (ABA Model Rule 1.15(d)).
+    /// Reads the ledger card, the matter's full accounting (ABA Model Rule 1.15(d)).
     Accounting,
 }
 
-impl Drop for Ask {
-    fn drop(self) {
-        match self {
-            Ask::OpenMatter(_it) => (),
-            Ask::AddSeat(_it) => (),
-            Ask::DropSeat(_it) => (),
-            Ask::CloseMatter => (),
-            Ask::Purge => (),
-            Ask::Deposit(_it) => (),
-            Ask::CancelDeposit(_it) => (),
-            Ask::Propose(_it) => (),
-            Ask::Approve(_it) => (),
-            Ask::Decline(_it) => (),
-            Ask::VoidPayment(_it) => (),
-            Ask::EarnFee(_it) => (),
-            Ask::RaiseClaim(_it) => (),
-            Ask::Offer(_it) => (),
-            Ask::Accept(_it) => (),
-            Ask::Award(_it) => (),
-            Ask::Show => (),
-            Ask::ShowEntry(_it) => (),
-            Ask::Accounting => (),
-        }
-    }
-}
-
 impl Ask {
-    /// The rule that it comes under.
+    /// The rule of the policy that it comes under.
     pub(crate) fn rule(&self) -> Rule
         ensures { result ≡ rule_of self.now }
     {
@@ -123,14 +98,14 @@ impl Ask {
         }
     }
 
-    /// Whether it is the one ask that is answered by the matter whole.
+    /// Whether it is `Accounting`, the only ask answered with the whole matter.
     pub fn is_accounting(&self) -> bool
         ensures { result ≡ is_accounting self.now }
     {
         matches!(self, Ask::Accounting)
     }
 
-    /// The number of the entry that it names, if it names one.
+    /// The number of the entry that it names, if any.
     pub fn number(&self) -> Option<EntryNo>
         ensures { number_or_none result ≡ number_named self.now }
     {
@@ -155,7 +130,7 @@ impl Ask {
         }
     }
 
-    /// The number of the fee or claim that it names itself, if it names one.
+    /// The number of the fee or claim that it names itself, if any.
     pub fn fund_number(&self) -> Option<EntryNo>
         ensures { number_or_none result ≡ fund_named self.now }
     {
@@ -166,7 +141,7 @@ impl Ask {
         }
     }
 
-    // The amount that it names is one.
+    // The amount in the ask, if any, is in range.
     pub(crate) fn amount_is_one(&self)
         ensures { HasAmount self.now }
     {

@@ -1,8 +1,8 @@
-// Lines of a bank's statement that name a matter.
+// Bank lines that name a matter.
 
 use trust_base::{EntryNo, Line, MatterNo};
 
-/// A line of a bank's statement whose reference names an entry of a matter.
+/// A bank line whose reference names an entry of a matter.
 #[derive(Drop, Debug)]
 pub struct BankLine {
     /// The matter.

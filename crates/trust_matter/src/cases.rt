@@ -1,4 +1,4 @@
-//! Worked cases over the definitions: each clause is one ask of a matter, and its answer.
+//! Worked cases over the definitions. Each clause is one ask of a matter, and its answer.
 
 ghost use Rattle.std.specs.Prelude.{Some, pos, codes};
 ghost use Rattle.matter_rows.specs.declared.deposit.DepositState.TheVariants as deposit;
@@ -29,7 +29,7 @@ pub fn openings()
     ensures unopened_is_not_shown { Refuses unopened (by_cashier Ask.Show monday) Refusal.NoMatter }
 {}
 
-/// To a person without a seat a matter that is there is like one that is not.
+/// To a person without a seat, an open matter looks like one that does not exist.
 pub fn strangers()
     ensures opened { Refuses opened_for_ada (by_person bob Ask.Show monday) Refusal.NoMatter }
     ensures unopened { Refuses unopened (by_person bob Ask.Show monday) Refusal.NoMatter }
@@ -53,7 +53,7 @@ pub fn deposits()
         (Refusal.DateBackwards monday) }
 {}
 
-/// Behind 9,999 entries there is no next number.
+/// After 9,999 entries there is no next number.
 pub fn last_number()
     ensures { FullIsTold }
 {}
@@ -67,7 +67,7 @@ pub fn cancellings()
     ensures booked_again { Repeats cancelled_for_ada (by_cashier (retainer 1 50000) tuesday) }
 {}
 
-/// A person has one seat at most, seats stand by person, and a lawyer is left.
+/// A person has at most one seat, seats are sorted by person, and one lawyer always stays.
 pub fn seats()
     ensures taken { Refuses opened_for_ada (by_cashier (seat_for lee) monday) Refusal.SeatTaken }
     ensures none_to_drop { Refuses opened_for_ada (by_cashier (no_seat_for bob) monday) Refusal.NoSeat }
@@ -81,7 +81,7 @@ pub fn seats()
         (Refusal.NotAllowed Rule.Office) }
 {}
 
-/// Of a closed matter nothing changes, on whatever day.
+/// Nothing changes in a closed matter, on any day.
 pub fn closed_matters()
     ensures deposit { Refuses closed_at_rest (by_cashier (retainer 6 50000) 20260202) Refusal.Closed }
     ensures deposit_on_an_earlier_day { Refuses closed_at_rest (by_cashier (retainer 6 50000) monday) Refusal.Closed }
@@ -94,7 +94,7 @@ pub fn closed_matters()
     ensures shown { Accepts closed_at_rest (by_cashier Ask.Show 20260202) closed_at_rest }
 {}
 
-/// A matter is closed once, by the cashier, where its ledger is empty and no payment is proposed or issued.
+/// A matter is closed once, by the cashier, if its ledger is empty and no payment is proposed or issued.
 pub fn closings()
     ensures closed { Accepts at_rest (by_cashier Ask.CloseMatter 20260112) closed_at_rest }
     ensures again { Refuses closed_at_rest (by_cashier Ask.CloseMatter 20260202) Refusal.Closed }
@@ -105,8 +105,8 @@ pub fn closings()
     ensures payment_proposed { Refuses waiting (by_cashier Ask.CloseMatter 20260202) Refusal.NotEmpty }
 {}
 
-/// A closed matter is purged by the cashier, from the day on after the last for which its records are kept. Then there
-/// is no such matter to a person, and to the cashier it was purged; a line of the bank does not bring it back.
+/// A closed matter is purged by the cashier, from the day after the last on which its records are kept. From then on it
+/// does not exist for a person, and is reported to the cashier as purged. A bank line does not bring it back.
 pub fn purgings()
     ensures too_early { Refuses closed_on_leap_day (by_cashier Ask.Purge last_kept) (Refusal.TooEarly day_after_it) }
     ensures purged { Accepts closed_on_leap_day (by_cashier Ask.Purge day_after_it) purged_in_march }
@@ -122,7 +122,7 @@ pub fn purgings()
     ensures line_again { Misses purged_in_march (line_for 1 twelfth b1 (pos 50000)) later_on Reason.NoMatter }
 {}
 
-/// What is asked of an entry is refused by its kind, and then by its state.
+/// An ask about an entry is refused by its kind first, then by its state.
 pub fn kinds_and_states()
     ensures cleared { Refuses in_every_state (by_cashier (Ask.CancelDeposit 1) 20260202) Refusal.WrongState }
     ensures cancelled { Refuses in_every_state (by_cashier (Ask.CancelDeposit 3) 20260202) Refusal.WrongState }
@@ -137,7 +137,7 @@ pub fn kinds_and_states()
         (Refusal.WrongNumber (Some 15)) }
 {}
 
-/// A fee is set apart from what is available, and is no more than that.
+/// A fee is set apart from what is available, and cannot exceed that.
 pub fn fees()
     ensures earned { Accepts cleared_for_ada (by_person lee (fee_asked 2 20000) tuesday) fee_earned }
     ensures balances { Balance fee_earned.entries 0 30000 0 20000 0 50000 }
@@ -149,7 +149,7 @@ pub fn fees()
         (Refusal.WrongNumber (Some 2)) }
 {}
 
-/// A client disputes a fee: the claim is taken from it until the firm and the client agree on a part.
+/// A client disputes a fee: the claim is taken out of the fee until the firm and the client agree on a part.
 pub fn disputed_fees()
     ensures claimed { Accepts fee_earned (by_person ada (claim_asked 3 5000 (Against.Fee 2)) tuesday)
         (fee_disputed ClaimState.Open) }
@@ -224,7 +224,7 @@ pub fn general_claims()
         (roof_claimed (settled_with 2000)) }
 {}
 
-/// The firm is paid from a fee, and of what is disputed nothing until the claim is settled.
+/// The firm is paid from a fee, but not from the disputed part until the claim is settled.
 pub fn paid_fees()
     ensures proposed { Accepts (fee_disputed ClaimState.Open)
         (by_person lee (payment_asked 4 16000 (Fund.Fee 2) the_firm) tuesday)
@@ -242,7 +242,7 @@ pub fn paid_fees()
     ensures voided_balances { Balance (firm_paid (settled_with 2000) voided_at_once).entries 0 32000 0 18000 0 50000 }
 {}
 
-/// A claimant is paid from the claim once it is settled, and no one else is.
+/// Only the claimant is paid from a claim, and only once it is settled.
 pub fn paid_claims()
     ensures not_settled { Refuses (roof_claimed ClaimState.Open)
         (by_cashier (payment_asked 3 10000 (Fund.Claim 2) roof_builders) tuesday) Refusal.WrongState }
@@ -259,7 +259,7 @@ pub fn paid_claims()
         (by_cashier (claim_asked 4 40001 roofers) tuesday) (Refusal.Short 40000) }
 {}
 
-/// A payment is proposed against nothing, and approved against what the bank told of.
+/// A payment is proposed without cover, and approved only against cleared deposits.
 pub fn payments()
     ensures proposed { Accepts uncovered
         (by_person lee (check_for 2 10000 Fund.General clerk) friday) uncovered_with_check }
@@ -299,7 +299,7 @@ pub fn payments()
     ensures missing_is_not_approved { Refuses covered (by_person lee (Ask.Approve 2) friday) Refusal.NoEntry }
 {}
 
-/// The firm is paid from a fee, a claimant from the settled claim, others from what is available, and nobody in cash.
+/// A fee pays the firm, a settled claim its claimant, and the general fund others. Nobody is paid in cash.
 pub fn payees()
     ensures firm_from_general { Refuses covered
         (by_person lee (check_for 2 10000 Fund.General firm) friday) Refusal.WrongPayee }
@@ -338,7 +338,7 @@ pub fn payees()
         0 24000 5000 15000 0 44000 }
 {}
 
-/// Sound rows are there that have an entry of each kind in each state, and closed ones.
+/// Sound rows exist with an entry of each kind in each state, and so do closed ones.
 pub fn sound_rows()
     ensures every_state { Sound in_every_state }
     ensures balances { Balance every_state 5000 45500 10000 14000 24000 93500 }
@@ -348,7 +348,7 @@ pub fn sound_rows()
     ensures opened { Sound opened_for_ada }
 {}
 
-/// A line of a held deposit's amount clears it, and so the last day is never before the line's date.
+/// A line with a held deposit's amount clears it. The last day is then not before the line's date.
 pub fn lines_of_deposits()
     ensures cleared { Clears (deposit_in tenth deposit.Held) (line_for 1 twelfth b1 (pos 50000)) twelfth
         (deposit_in twelfth (deposit.Cleared (cleared_on twelfth b1))) }
@@ -369,7 +369,7 @@ pub fn lines_of_deposits()
     ensures not_opened_and_dated_tomorrow { Misses unopened (line_for 1 twelfth b1 (pos 50000)) eleventh Reason.Future }
 {}
 
-/// A line of the negative of an issued payment's amount clears it.
+/// A line with the negative of an issued payment's amount clears it.
 pub fn lines_of_payments()
     ensures cleared { Clears (payment_in eleventh (payment.Issued eleventh)) (line_for 2 twelfth b2 (out 10000)) twelfth
         (payment_in twelfth (payment.Cleared (record { issued = eleventh; clearing = cleared_on twelfth b2 }))) }
@@ -391,8 +391,8 @@ pub fn lines_of_payments()
     ensures claim { Misses in_every_state (line_for 5 20260116 b1 (out 10000)) 20260202 Reason.WrongKind }
 {}
 
-/// A line of the negative of a cleared deposit's amount takes it back on the business day, where what is available
-/// covers it and that day is not before the last.
+/// A line with the negative of a cleared deposit's amount takes it back on the business day, if what is available
+/// covers it and that day is not before the last day.
 pub fn lines_of_returns()
     ensures returned { Clears (deposit_in twelfth (deposit.Cleared (cleared_on twelfth b1)))
         (line_for 1 thirteenth b2 (out 50000)) fourteenth (returned_in fourteenth fourteenth) }
@@ -414,8 +414,8 @@ pub fn lines_of_returns()
     ensures of_closed_matter { Misses closed_at_rest (line_for 1 20260106 b1 (out 10000)) 20260202 Reason.Uncovered }
 {}
 
-/// A line that cleared an entry is a repeat on any business day and in any words; what differs from it in its
-/// date, the bank's reference or its amount is not.
+/// A line that cleared an entry is a repeat on any business day and with any text. A line with another date, bank
+/// reference or amount is not.
 pub fn lines_again()
     ensures deposit { ComesAgain (deposit_in twelfth (deposit.Cleared (cleared_on twelfth b1)))
         (line_for 1 twelfth b1 (pos 50000)) twelfth }

@@ -1,4 +1,4 @@
-//! Claims, as they are asked for.
+//! Asks about claims.
 
 ghost use Rattle.std.specs.Prelude.{◌≡◌, IfOk, MatchResult, None, Some, pos};
 ghost use Rattle.std.specs.Option.{option_copied};
@@ -11,12 +11,13 @@ ghost use Rattle.trust_matter.specs.ClaimTables.{against_conditions, split_condi
 ghost use Rattle.trust_matter.specs.Step.{AnswersLateBy, claim_of, first, settled, with_claim};
 
 use crate::ask::Ask;
-use matter_parts::{Edit, Kept, Matter, Numbered};
+use crate::changing::{check_change, entry_under};
+use matter_parts::{Edit, Matter, Numbered};
 use matter_rows::{Against, Claim, ClaimState, Entry, Settlement};
 use std::alloc::AllocError;
 use trust_base::{Cents, CentsOrZero, Day, EntryNo, Label, Refusal};
 
-/// A claim is to be raised under a number, on a fee or on what is available (ABA Model Rule 1.15(e)).
+/// Asks to raise a claim under a number, on a fee or on what is available (ABA Model Rule 1.15(e)).
 #[derive(Drop)]
 pub struct ClaimAsk {
     pub number: EntryNo,
@@ -26,7 +27,7 @@ pub struct ClaimAsk {
 }
 
 impl ClaimAsk {
-    // The open claim that it makes on a day.
+    // The open claim that the ask makes on a day.
     fn open_on(&self, day: Day) -> Result<Claim, AllocError>
         ensures { IfOk result (λ c. Entry.Claim c ≡ claim_of self.now day) }
     {
@@ -42,7 +43,7 @@ impl ClaimAsk {
     }
 }
 
-/// A part of a claim is to go to the client: it is offered, accepted or awarded.
+/// Asks that a part of a claim go to the client, as an offer, an acceptance or an award.
 #[derive(Clone, Copy)]
 pub struct SplitAsk {
     pub number: EntryNo,
@@ -50,7 +51,7 @@ pub struct SplitAsk {
 }
 
 impl SplitAsk {
-    // A claim that is settled on a day, with this part to the client.
+    // The state of a claim settled on a day, with this part to the client.
     fn settled_on(&self, day: Day) -> ClaimState
         ensures { result ≡ settled day self.now.to_client }
     {
@@ -61,24 +62,21 @@ impl SplitAsk {
     }
 }
 
-// Whether the entry of the number is the claim asked for.
-fn is_claim_asked(kept: Option<&Kept>, asked: &ClaimAsk) -> bool
-    ensures { result ≡ is_claim_asked (entry_in (option_copied kept.entry)) asked.now }
+// Whether the entry found is the claim asked for.
+fn is_claim_asked(found: Option<&Entry>, asked: &ClaimAsk) -> bool
+    ensures { result ≡ is_claim_asked (option_copied found.entry) asked.now }
 {
-    match kept {
-        None => false,
-        Some(kept) => match &kept.entry {
-            Entry::Claim(c) => {
-                c.amount.get() == asked.amount.get()
-                    && c.against.is_same(&asked.against)
-                    && c.reason.is_same(&asked.reason)
-            }
-            _ => false,
-        },
+    match found {
+        Some(Entry::Claim(c)) => {
+            c.amount.get() == asked.amount.get()
+                && c.against.is_same(&asked.against)
+                && c.reason.is_same(&asked.reason)
+        }
+        _ => false,
     }
 }
 
-// What is left of the fee, or is available to a claimant who is named and not cash.
+// What is left of the fee, or, for a named claimant other than cash, what is available.
 fn left_against(matter: &Matter, against: &Against) -> Result<u64, Refusal>
     ensures { MatchResult result
         (λ left.
@@ -96,9 +94,7 @@ fn left_against(matter: &Matter, against: &Against) -> Result<u64, Refusal>
             Ok(matter.figures().available)
         }
         Against::Fee(number) => {
-            let Some(kept) = matter.find(*number) else {
-                return Err(Refusal::NoEntry);
-            };
+            let kept = matter.find(*number).ok_or(Refusal::NoEntry)?;
             let Entry::Fee(_) = &kept.entry else {
                 return Err(Refusal::WrongKind);
             };
@@ -107,45 +103,33 @@ fn left_against(matter: &Matter, against: &Against) -> Result<u64, Refusal>
     }
 }
 
-// A claim is set apart from its fee, or from what is available.
+// Decides to set a claim apart from its fee, or from what is available.
 pub(crate) fn decide_claim(matter: &Matter, asked: &ClaimAsk, day: Day) -> Result<Edit, Refusal>
     ensures { (c : AnyCaller) → AnswersLateBy (kept_facts matter.now (Ask.RaiseClaim asked.now))
         (record { caller = c; ask = Ask.RaiseClaim asked.now; day = day }) result }
 {
-    if is_claim_asked(matter.find(asked.number), asked) {
+    if is_claim_asked(entry_under(matter, Some(asked.number)), asked) {
         return Ok(Edit::Nothing);
     }
-    if matter.is_closed() {
-        return Err(Refusal::Closed);
-    }
-    if let Some(last) = matter.last_behind(day) {
-        return Err(Refusal::DateBackwards(last));
-    }
-    if !matter.is_next(asked.number) {
-        return Err(Refusal::WrongNumber(matter.next_number()));
-    }
+    check_change(matter, Some(asked.number), day)?;
     let left = left_against(matter, &asked.against)?;
     if left < asked.amount.get() {
         return Err(Refusal::Short(left));
     }
-    let claim = asked.open_on(day)?;
-    Ok(Edit::Append(Numbered {
-        number: asked.number,
-        entry: Entry::Claim(claim),
-    }))
+    let number = asked.number;
+    let entry = Entry::Claim(asked.open_on(day)?);
+    Ok(Edit::Append(Numbered { number, entry }))
 }
 
-// The claim that is to be split, which is open and covers the part asked for.
+// The claim to be split, if it is unsettled and covers the part asked for.
 fn open_claim<'m>(matter: &'m Matter, asked: &SplitAsk) -> Result<&'m Claim, Refusal>
     ensures { MatchResult result
         (λ claim. (first (split_conditions (entry_in (kept_at matter.now asked.now.number)) asked.now.to_client) ≡ None)
         × (entry_in (kept_at matter.now asked.now.number) ≡ Some (Entry.Claim claim.now)))
         (λ r. first (split_conditions (entry_in (kept_at matter.now asked.now.number)) asked.now.to_client) ≡ Some r) }
 {
-    let Some(kept) = matter.find(asked.number) else {
-        return Err(Refusal::NoEntry);
-    };
-    let Entry::Claim(claim) = &kept.entry else {
+    let entry = entry_under(matter, Some(asked.number)).ok_or(Refusal::NoEntry)?;
+    let Entry::Claim(claim) = entry else {
         return Err(Refusal::WrongKind);
     };
     if let ClaimState::Settled(_) = &claim.state {
@@ -157,48 +141,33 @@ fn open_claim<'m>(matter: &'m Matter, asked: &SplitAsk) -> Result<&'m Claim, Ref
     Ok(claim)
 }
 
-// The claim of the number in another state.
+// The edit that puts the claim in another state.
 fn claim_restated(number: EntryNo, claim: &Claim, state: ClaimState) -> Result<Edit, AllocError>
     ensures { IfOk result (λ e. e ≡ with_claim number (Some (Entry.Claim claim.now)) state) }
 {
-    let restated = claim.restated(state)?;
-    Ok(Edit::Exchange(Numbered {
-        number,
-        entry: Entry::Claim(restated),
-    }))
+    let entry = Entry::Claim(claim.restated(state)?);
+    Ok(Edit::Exchange(Numbered { number, entry }))
 }
 
-// A part of an open claim is offered to the client, in the place of any offer before.
+// Decides to offer the client a part of an open claim. Replaces any earlier offer.
 pub(crate) fn decide_offer(matter: &Matter, asked: &SplitAsk, day: Day) -> Result<Edit, Refusal>
     ensures { (c : AnyCaller) → AnswersLateBy (kept_facts matter.now (Ask.Offer asked.now))
         (record { caller = c; ask = Ask.Offer asked.now; day = day }) result }
 {
-    if matter.is_closed() {
-        return Err(Refusal::Closed);
-    }
-    if let Some(last) = matter.last_behind(day) {
-        return Err(Refusal::DateBackwards(last));
-    }
+    check_change(matter, None, day)?;
     let claim = open_claim(matter, asked)?;
     let edit = claim_restated(asked.number, claim, ClaimState::Offered(asked.to_client))?;
     Ok(edit)
 }
 
-// The part that was offered is accepted, and the claim is settled.
+// Decides to accept the offered part, which settles the claim.
 pub(crate) fn decide_accept(matter: &Matter, asked: &SplitAsk, day: Day) -> Result<Edit, Refusal>
     ensures { (c : AnyCaller) → AnswersLateBy (kept_facts matter.now (Ask.Accept asked.now))
         (record { caller = c; ask = Ask.Accept asked.now; day = day }) result }
 {
-    if matter.is_closed() {
-        return Err(Refusal::Closed);
-    }
-    if let Some(last) = matter.last_behind(day) {
-        return Err(Refusal::DateBackwards(last));
-    }
-    let Some(kept) = matter.find(asked.number) else {
-        return Err(Refusal::NoEntry);
-    };
-    let Entry::Claim(claim) = &kept.entry else {
+    check_change(matter, None, day)?;
+    let entry = entry_under(matter, Some(asked.number)).ok_or(Refusal::NoEntry)?;
+    let Entry::Claim(claim) = entry else {
         return Err(Refusal::WrongKind);
     };
     let ClaimState::Offered(offered) = &claim.state else {
@@ -211,17 +180,12 @@ pub(crate) fn decide_accept(matter: &Matter, asked: &SplitAsk, day: Day) -> Resu
     Ok(edit)
 }
 
-// An open claim is settled with a part to the client, offered or not.
+// Decides to settle an open claim with a part to the client, offered or not.
 pub(crate) fn decide_award(matter: &Matter, asked: &SplitAsk, day: Day) -> Result<Edit, Refusal>
     ensures { (c : AnyCaller) → AnswersLateBy (kept_facts matter.now (Ask.Award asked.now))
         (record { caller = c; ask = Ask.Award asked.now; day = day }) result }
 {
-    if matter.is_closed() {
-        return Err(Refusal::Closed);
-    }
-    if let Some(last) = matter.last_behind(day) {
-        return Err(Refusal::DateBackwards(last));
-    }
+    check_change(matter, None, day)?;
     let claim = open_claim(matter, asked)?;
     let edit = claim_restated(asked.number, claim, asked.settled_on(day))?;
     Ok(edit)

@@ -1,4 +1,4 @@
-//! What an ask does to a matter: the refusal, or the change of its rows.
+//! Decides an ask of a matter: returns the refusal, or the change of its rows.
 
 ghost use Rattle.std.specs.Prelude.{◌≡◌, true};
 ghost use Rattle.std.specs.Option.{option_copied};
@@ -22,14 +22,14 @@ use crate::seat::{decide_add_seat, decide_drop_seat};
 use matter_parts::{Change, Edit, Kept, Matter, change_of};
 use trust_base::{Day, EntryNo, Refusal};
 
-// The entry that the ask names, if it is kept.
+// The entry that the ask names, if it is loaded.
 fn named_by<'m>(matter: &'m Matter, ask: &Ask) -> Option<&'m Kept>
     ensures { option_copied result ≡ kept_at matter.now (number_named ask.now) }
 {
     matter.kept_under(ask.number())
 }
 
-// The number of the fee or claim that the ask names, or else that its entry names, if there is one.
+// The number of the fee or claim named by the ask, or otherwise by its entry, if any.
 fn other_named(matter: &Matter, ask: &Ask) -> Option<EntryNo>
     ensures { number_or_none result ≡ other_of ask.now (entry_in (kept_at matter.now (number_named ask.now))) }
 {
@@ -43,8 +43,8 @@ fn other_named(matter: &Matter, ask: &Ask) -> Option<EntryNo>
     }
 }
 
-/// Can the ask be decided on: are the entry that it names, and the fee or claim that it or that entry
-/// names, held? It takes no memory.
+/// Whether enough is loaded to decide the ask: the entry that it names, and the fee or claim that it or that entry
+/// names, are loaded or do not exist. Allocates nothing.
 pub fn holds_for(matter: &Matter, ask: &Ask) -> bool
     ensures { result ≡ holds_for matter.now ask.now }
 {
@@ -62,7 +62,7 @@ fn decide_show_entry(matter: &Matter, number: EntryNo, day: Day) -> Result<Edit,
     Ok(Edit::Nothing)
 }
 
-// What an ask changes, by what is kept.
+// What an ask changes, from what is loaded.
 fn decide_edit(matter: &Matter, caller: &Caller, ask: &Ask, day: Day) -> Result<Edit, Refusal>
     ensures { AnswersBy (kept_facts matter.now ask.now)
         (record { caller = caller.now; ask = ask.now; day = day }) result }
@@ -99,13 +99,13 @@ fn decide_edit(matter: &Matter, caller: &Caller, ask: &Ask, day: Day) -> Result<
     }
 }
 
-/// Decides on an ask of a caller on a business day: the change that it makes, or the refusal of the least
-/// number whose condition holds. A repeat is a change that changes nothing. Memory is wanting only where
-/// the ask is accepted, and a refusal takes none. Store is never answered for a part of sound rows.
+/// Decides an ask of a caller on a business day. Returns the change that it makes, or the refusal with the least number
+/// whose condition holds. A repeat is a change that changes nothing. Allocates only if the ask is accepted. Never
+/// returns `Store` if the matter is part of sound rows.
 pub fn decide(matter: &Matter, caller: &Caller, ask: &Ask, day: Day) -> Result<Change, Refusal>
-    // The entry that the ask names, and the one that this names, are held.
+    // The entry that the ask names, and the one that this names, are loaded or do not exist.
     requires { holds_for matter.now ask.now ≡ true }
-    // It is the step of all sound rows of which the matter is a part.
+    // The answer is right for all sound rows that the matter is part of.
     ensures { (rows : Rows) → Sound rows → IsPart matter.now rows
         → Decides rows (record { caller = caller.now; ask = ask.now; day = day }) result }
 {

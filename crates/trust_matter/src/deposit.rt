@@ -1,20 +1,20 @@
-//! Deposits, as they are asked for.
+//! Asks about deposits.
 
 ghost use Rattle.std.specs.Prelude.{◌≡◌, IfOk};
 ghost use Rattle.std.specs.Option.{option_copied};
-ghost use Rattle.matter_parts.specs.Parts.{entry_in};
 ghost use Rattle.trust_matter.specs.declared.ask.Caller.{Caller as AnyCaller};
 ghost use Rattle.trust_matter.specs.Conditions.{is_as_asked};
 ghost use Rattle.trust_matter.specs.KeptFacts.{kept_facts};
 ghost use Rattle.trust_matter.specs.Step.{AnswersLateBy, deposit_of};
 
 use crate::ask::Ask;
-use matter_parts::{Edit, Kept, Matter, Numbered};
+use crate::changing::{check_change, entry_under};
+use matter_parts::{Edit, Matter, Numbered};
 use matter_rows::{Deposit, DepositState, Entry};
 use std::alloc::AllocError;
 use trust_base::{Cents, Day, EntryNo, Label, Refusal};
 
-/// A deposit is to be booked under a number.
+/// Asks to book a deposit under a number.
 #[derive(Drop)]
 pub struct DepositAsk {
     pub number: EntryNo,
@@ -24,7 +24,7 @@ pub struct DepositAsk {
 }
 
 impl DepositAsk {
-    // The deposit that it makes on a day.
+    // The held deposit that the ask makes on a day.
     fn held_on(&self, day: Day) -> Result<Deposit, AllocError>
         ensures { IfOk result (λ d. Entry.Deposit d ≡ deposit_of self.now day) }
     {
@@ -40,20 +40,17 @@ impl DepositAsk {
     }
 }
 
-// Whether the entry of the number is the deposit asked for.
-fn is_as_asked(kept: Option<&Kept>, asked: &DepositAsk) -> bool
-    ensures { result ≡ is_as_asked (entry_in (option_copied kept.entry)) asked.now }
+// Whether the entry found is the deposit asked for.
+fn is_as_asked(found: Option<&Entry>, asked: &DepositAsk) -> bool
+    ensures { result ≡ is_as_asked (option_copied found.entry) asked.now }
 {
-    match kept {
-        None => false,
-        Some(kept) => match &kept.entry {
-            Entry::Deposit(d) => {
-                d.amount.get() == asked.amount.get()
-                    && d.source.is_same(&asked.source)
-                    && d.description.is_same(&asked.description)
-            }
-            _ => false,
-        },
+    match found {
+        Some(Entry::Deposit(d)) => {
+            d.amount.get() == asked.amount.get()
+                && d.source.is_same(&asked.source)
+                && d.description.is_same(&asked.description)
+        }
+        _ => false,
     }
 }
 
@@ -61,47 +58,27 @@ pub(crate) fn decide_deposit(matter: &Matter, asked: &DepositAsk, day: Day) -> R
     ensures { (c : AnyCaller) → AnswersLateBy (kept_facts matter.now (Ask.Deposit asked.now))
         (record { caller = c; ask = Ask.Deposit asked.now; day = day }) result }
 {
-    if is_as_asked(matter.find(asked.number), asked) {
+    if is_as_asked(entry_under(matter, Some(asked.number)), asked) {
         return Ok(Edit::Nothing);
     }
-    if matter.is_closed() {
-        return Err(Refusal::Closed);
-    }
-    if let Some(last) = matter.last_behind(day) {
-        return Err(Refusal::DateBackwards(last));
-    }
-    if !matter.is_next(asked.number) {
-        return Err(Refusal::WrongNumber(matter.next_number()));
-    }
-    let deposit = asked.held_on(day)?;
-    Ok(Edit::Append(Numbered {
-        number: asked.number,
-        entry: Entry::Deposit(deposit),
-    }))
+    check_change(matter, Some(asked.number), day)?;
+    let number = asked.number;
+    let entry = Entry::Deposit(asked.held_on(day)?);
+    Ok(Edit::Append(Numbered { number, entry }))
 }
 
 pub(crate) fn decide_cancel(matter: &Matter, number: EntryNo, day: Day) -> Result<Edit, Refusal>
     ensures { (c : AnyCaller) → AnswersLateBy (kept_facts matter.now (Ask.CancelDeposit number))
         (record { caller = c; ask = Ask.CancelDeposit number; day = day }) result }
 {
-    if matter.is_closed() {
-        return Err(Refusal::Closed);
-    }
-    if let Some(last) = matter.last_behind(day) {
-        return Err(Refusal::DateBackwards(last));
-    }
-    let Some(kept) = matter.find(number) else {
-        return Err(Refusal::NoEntry);
-    };
-    let Entry::Deposit(deposit) = &kept.entry else {
+    check_change(matter, None, day)?;
+    let entry = entry_under(matter, Some(number)).ok_or(Refusal::NoEntry)?;
+    let Entry::Deposit(deposit) = entry else {
         return Err(Refusal::WrongKind);
     };
     let DepositState::Held = &deposit.state else {
         return Err(Refusal::WrongState);
     };
-    let cancelled = deposit.restated(DepositState::Cancelled(day))?;
-    Ok(Edit::Exchange(Numbered {
-        number,
-        entry: Entry::Deposit(cancelled),
-    }))
+    let entry = Entry::Deposit(deposit.restated(DepositState::Cancelled(day))?);
+    Ok(Edit::Exchange(Numbered { number, entry }))
 }

@@ -1,4 +1,4 @@
-//! The opening and the closing of a matter, as they are asked for.
+//! Asks to open, close or purge a matter.
 
 ghost use Rattle.std.specs.Prelude.{◌≡◌};
 ghost use Rattle.trust_matter.specs.declared.ask.Caller.{Caller as AnyCaller};
@@ -6,6 +6,7 @@ ghost use Rattle.trust_matter.specs.KeptFacts.{kept_facts};
 ghost use Rattle.trust_matter.specs.Step.{AnswersLateBy};
 
 use crate::ask::{Ask, OpenAsk};
+use crate::changing::check_change;
 use matter_parts::{Edit, Matter, Opening};
 use matter_rows::{Head, Holder, Role, Seat};
 use trust_base::{Day, Refusal};
@@ -37,12 +38,7 @@ pub(crate) fn decide_close(matter: &Matter, day: Day) -> Result<Edit, Refusal>
     ensures { (c : AnyCaller) → AnswersLateBy (kept_facts matter.now Ask.CloseMatter)
         (record { caller = c; ask = Ask.CloseMatter; day = day }) result }
 {
-    if matter.is_closed() {
-        return Err(Refusal::Closed);
-    }
-    if let Some(last) = matter.last_behind(day) {
-        return Err(Refusal::DateBackwards(last));
-    }
+    check_change(matter, None, day)?;
     let figures = matter.figures();
     let total = figures.available + figures.disputed + figures.fees + figures.claims;
     if total + figures.held != 0 || figures.pending != 0 {
@@ -51,7 +47,7 @@ pub(crate) fn decide_close(matter: &Matter, day: Day) -> Result<Edit, Refusal>
     Ok(Edit::Close(day))
 }
 
-// A closed matter is purged from the day on after the last for which its records are kept.
+// Decides to purge a closed matter, which is allowed from the day after the last on which its records are kept.
 pub(crate) fn decide_purge(matter: &Matter, day: Day) -> Result<Edit, Refusal>
     ensures { (c : AnyCaller) → AnswersLateBy (kept_facts matter.now Ask.Purge)
         (record { caller = c; ask = Ask.Purge; day = day }) result }

@@ -1,10 +1,11 @@
-//! The step of one matter: what an ask and a line of the bank are answered, and what they change. `cases` are worked
-//! cases over the definitions of a matter.
+//! The step of one matter: how an ask or a bank line is answered, and what it changes. `cases` has worked cases over
+//! the definitions of a matter.
 #![tactic(auto)]
 
 mod ask;
 mod bank_line;
 pub mod cases;
+mod changing;
 mod claim;
 mod deciding;
 mod deposit;

@@ -1,4 +1,4 @@
-//! What a line of the bank does to a matter.
+//! What a bank line does to a matter.
 
 ghost use Rattle.std.specs.Prelude.{◌≡◌, true, IfOk, OnErr};
 ghost use Rattle.std.specs.Option.{option_copied};
@@ -16,7 +16,7 @@ use matter_rows::{DepositState, Entry, PaymentState};
 use std::alloc::AllocError;
 use trust_base::{Day, EntryNo, Line, StoreFault};
 
-// The edit that clears it, or takes it back, under its number; no line clears a fee or a claim.
+// The edit by which the line clears the entry or takes it back. No line clears a fee or a claim.
 fn told(entry: &Entry, number: EntryNo, line: &Line, today: Day) -> Result<Edit, AllocError>
     ensures { IfOk result (λ e. e ≡ told_by number (Some entry.now) line.now today) }
 {
@@ -34,7 +34,7 @@ fn told(entry: &Entry, number: EntryNo, line: &Line, today: Day) -> Result<Edit,
     Ok(Edit::Exchange(Numbered { number, entry }))
 }
 
-// Did the line clear the entry, or take the deposit back, before?
+// Whether this line already cleared the entry or took the deposit back.
 fn is_again(kept: Option<&Kept>, line: &Line) -> bool
     ensures { result ≡ is_line_again (entry_in (option_copied kept.entry)) line.now }
 {
@@ -50,8 +50,8 @@ fn is_again(kept: Option<&Kept>, line: &Line) -> bool
     }
 }
 
-/// Can a line be decided on: are the entry that it names, and the fee or claim that this draws on, held?
-/// It takes no memory.
+/// Whether enough is loaded to decide a line: the entry that it names, and the fee or claim that this entry draws on,
+/// are loaded or do not exist. Allocates nothing.
 pub fn holds_for_line(matter: &Matter, line: &BankLine) -> bool
     ensures { result ≡ holds_for_line matter.now line.now.entry }
 {
@@ -68,7 +68,7 @@ pub fn holds_for_line(matter: &Matter, line: &BankLine) -> bool
     }
 }
 
-// Does the line take a cleared deposit back?
+// Whether the line takes back a cleared deposit.
 fn is_return(matter: &Matter, line: &BankLine) -> bool
     ensures { result ≡ is_return (entry_in (kept_at matter.now line.now.entry)) line.now.line }
 {
@@ -78,7 +78,7 @@ fn is_return(matter: &Matter, line: &BankLine) -> bool
     }
 }
 
-// The last day after a line that is applied.
+// The last day after an applied line.
 fn last_by(matter: &Matter, line: &BankLine, today: Day) -> Day
     ensures { result ≡ last_by (kept_line_facts matter.now line.now today) }
 {
@@ -91,7 +91,7 @@ fn last_by(matter: &Matter, line: &BankLine, today: Day) -> Day
     }
 }
 
-// The first reason for which the line clears no entry.
+// The first reason why the line clears no entry.
 fn reason_against(matter: &Matter, line: &BankLine, today: Day) -> Option<Reason>
     ensures { result ≡ first_reason (reasons (kept_line_facts matter.now line.now today)) }
 {
@@ -122,7 +122,7 @@ fn reason_against(matter: &Matter, line: &BankLine, today: Day) -> Option<Reason
     None
 }
 
-// What a line changes, by what is kept. Memory is wanting only where it is applied.
+// What a line changes, from what is loaded. Allocates only if the line is applied.
 fn line_effect(matter: &Matter, line: &BankLine, today: Day) -> Result<LineEffect, AllocError>
     ensures ok { IfOk result (λ e. e ≡ line_effect (kept_line_facts matter.now line.now today)) }
     ensures err { OnErr result (IsApplied (line_effect (kept_line_facts matter.now line.now today))) }
@@ -142,13 +142,13 @@ fn line_effect(matter: &Matter, line: &BankLine, today: Day) -> Result<LineEffec
     Ok(LineEffect::Applied(DatedEdit { edit, last }))
 }
 
-/// Decides on a line of a bank's statement on a business day: whether it clears the entry that it names, did so
-/// before, or matches none, for the first reason that holds. Memory is wanting only where the line is applied, and
-/// the other verdicts take none. Store is never answered for a part of sound rows.
+/// Decides a bank line on a business day. The line clears the entry that it names or takes it back, already did so, or
+/// matches no entry, for the first reason that holds. Allocates only if the line is applied. Never returns `Store` if
+/// the matter is part of sound rows.
 pub fn decide_line(matter: &Matter, line: &BankLine, today: Day) -> Result<LineVerdict, StoreFault>
-    // The entry that the line names, and the one that this draws on, are held.
+    // The entry that the line names, and the one that this draws on, are loaded or do not exist.
     requires { holds_for_line matter.now line.now.entry ≡ true }
-    // It is the step of all sound rows of which the matter is a part.
+    // The answer is right for all sound rows that the matter is part of.
     ensures { (rows : Rows) → Sound rows → IsPart matter.now rows → LineDecides rows line.now today result }
 {
     match line_effect(matter, line, today) {

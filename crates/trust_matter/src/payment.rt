@@ -1,20 +1,20 @@
-//! Payments, as they are asked for.
+//! Asks about payments.
 
 ghost use Rattle.std.specs.Prelude.{◌≡◌, ◌&&◌, true, IfOk, is_none};
 ghost use Rattle.std.specs.Option.{option_copied};
-ghost use Rattle.matter_parts.specs.Parts.{entry_in};
 ghost use Rattle.trust_matter.specs.declared.ask.Caller.{Caller as AnyCaller};
 ghost use Rattle.trust_matter.specs.Conditions.{is_an_entry, is_claimant_of, is_no_fund, is_no_fund_yet, is_payment_asked, is_wrong_payee_of};
 ghost use Rattle.trust_matter.specs.KeptFacts.{kept_facts};
 ghost use Rattle.trust_matter.specs.Step.{AnswersLateBy, payment_of};
 
 use crate::ask::Ask;
-use matter_parts::{Edit, Kept, Matter, Numbered};
+use crate::changing::{check_change, entry_under};
+use matter_parts::{Edit, Matter, Numbered};
 use matter_rows::{Against, ClaimState, Entry, Fund, Payment, PaymentState, VoidedPayment};
 use std::alloc::AllocError;
 use trust_base::{Cents, Day, EntryNo, Label, Refusal};
 
-/// A payment is to be proposed under a number, from a fund, to a named payee, by an instrument.
+/// Asks to propose a payment under a number, from a fund, to a named payee, by an instrument.
 #[derive(Drop)]
 pub struct PaymentAsk {
     pub number: EntryNo,
@@ -26,7 +26,7 @@ pub struct PaymentAsk {
 }
 
 impl PaymentAsk {
-    // The payment that it makes on a day.
+    // The proposed payment that the ask makes on a day.
     fn proposed_on(&self, day: Day) -> Result<Payment, AllocError>
         ensures { IfOk result (λ p. Entry.Payment p ≡ payment_of self.now day) }
     {
@@ -45,52 +45,38 @@ impl PaymentAsk {
     }
 }
 
-// Does it name an entry that is missing?
-fn is_missing(fund: Fund, named: Option<&Kept>) -> bool
-    ensures { result ≡ (is_an_entry fund && is_none (entry_in (option_copied named.entry))) }
+// Whether the fund is an entry that does not exist.
+fn is_missing(fund: Fund, named: Option<&Entry>) -> bool
+    ensures { result ≡ (is_an_entry fund && is_none (option_copied named.entry)) }
 {
-    match fund {
-        Fund::General => false,
-        Fund::Fee(_) | Fund::Claim(_) => named.is_none(),
+    !matches!(fund, Fund::General) && named.is_none()
+}
+
+// Whether the fund is an entry of the wrong kind.
+fn is_of_another_kind(fund: Fund, named: Option<&Entry>) -> bool
+    ensures { result ≡ is_no_fund fund (option_copied named.entry) }
+{
+    match (fund, named) {
+        (Fund::General, _) | (_, None) => false,
+        (Fund::Fee(_), Some(entry)) => !matches!(entry, Entry::Fee(_)),
+        (Fund::Claim(_), Some(Entry::Claim(claim))) => matches!(&claim.against, Against::Fee(_)),
+        (Fund::Claim(_), Some(_)) => true,
     }
 }
 
-// Is the entry that it names of another kind?
-fn is_of_another_kind(fund: Fund, named: Option<&Kept>) -> bool
-    ensures { result ≡ is_no_fund fund (entry_in (option_copied named.entry)) }
+// Whether the fund is a claim that is not settled.
+fn is_unsettled(fund: Fund, named: Option<&Entry>) -> bool
+    ensures { result ≡ is_no_fund_yet fund (option_copied named.entry) }
 {
-    match named {
-        None => false,
-        Some(kept) => match fund {
-            Fund::General => false,
-            Fund::Fee(_) => !matches!(&kept.entry, Entry::Fee(_)),
-            Fund::Claim(_) => match &kept.entry {
-                Entry::Claim(claim) => !matches!(&claim.against, Against::General(_)),
-                _ => true,
-            },
-        },
+    match (fund, named) {
+        (Fund::Claim(_), Some(Entry::Claim(it))) => !matches!(it.state, ClaimState::Settled(_)),
+        _ => false,
     }
 }
 
-// Is it a claim that is not settled?
-fn is_unsettled(fund: Fund, named: Option<&Kept>) -> bool
-    ensures { result ≡ is_no_fund_yet fund (entry_in (option_copied named.entry)) }
-{
-    match named {
-        None => false,
-        Some(kept) => match fund {
-            Fund::General | Fund::Fee(_) => false,
-            Fund::Claim(_) => match &kept.entry {
-                Entry::Claim(claim) => !matches!(claim.state, ClaimState::Settled(_)),
-                _ => false,
-            },
-        },
-    }
-}
-
-// Does it pay another than this payee? The firm is paid from a fee, a claimant from the claim.
-fn pays_another(fund: Fund, named: Option<&Kept>, payee: &Label) -> bool
-    ensures { result ≡ is_wrong_payee_of fund (entry_in (option_copied named.entry)) payee.now }
+// Whether the fund may not pay this payee. A fee pays the firm, a claim its claimant.
+fn pays_another(fund: Fund, named: Option<&Entry>, payee: &Label) -> bool
+    ensures { result ≡ is_wrong_payee_of fund (option_copied named.entry) payee.now }
 {
     match fund {
         Fund::General => payee.is_firm(),
@@ -99,38 +85,32 @@ fn pays_another(fund: Fund, named: Option<&Kept>, payee: &Label) -> bool
     }
 }
 
-// Is the payee the one who claimed?
-fn is_claimant(named: Option<&Kept>, payee: &Label) -> bool
-    ensures { result ≡ is_claimant_of (entry_in (option_copied named.entry)) payee.now }
+// Whether the payee is the claimant.
+fn is_claimant(named: Option<&Entry>, payee: &Label) -> bool
+    ensures { result ≡ is_claimant_of (option_copied named.entry) payee.now }
 {
     match named {
-        None => false,
-        Some(kept) => match &kept.entry {
-            Entry::Claim(claim) => match &claim.against {
-                Against::General(claimant) => claimant.is_same(payee),
-                Against::Fee(_) => false,
-            },
-            _ => false,
+        Some(Entry::Claim(claim)) => match &claim.against {
+            Against::General(claimant) => claimant.is_same(payee),
+            Against::Fee(_) => false,
         },
+        _ => false,
     }
 }
 
-// Whether the entry of the number is the payment asked for.
-fn is_payment_asked(kept: Option<&Kept>, asked: &PaymentAsk) -> bool
-    ensures { result ≡ is_payment_asked (entry_in (option_copied kept.entry)) asked.now }
+// Whether the entry found is the payment asked for.
+fn is_payment_asked(found: Option<&Entry>, asked: &PaymentAsk) -> bool
+    ensures { result ≡ is_payment_asked (option_copied found.entry) asked.now }
 {
-    match kept {
-        None => false,
-        Some(kept) => match &kept.entry {
-            Entry::Payment(p) => {
-                p.amount.get() == asked.amount.get()
-                    && p.fund.is_same(asked.fund)
-                    && p.payee.is_same(&asked.payee)
-                    && p.purpose.is_same(&asked.purpose)
-                    && p.instrument.is_same(&asked.instrument)
-            }
-            _ => false,
-        },
+    match found {
+        Some(Entry::Payment(p)) => {
+            p.amount.get() == asked.amount.get()
+                && p.fund.is_same(asked.fund)
+                && p.payee.is_same(&asked.payee)
+                && p.purpose.is_same(&asked.purpose)
+                && p.instrument.is_same(&asked.instrument)
+        }
+        _ => false,
     }
 }
 
@@ -138,19 +118,11 @@ pub(crate) fn decide_propose(matter: &Matter, asked: &PaymentAsk, day: Day) -> R
     ensures { (c : AnyCaller) → AnswersLateBy (kept_facts matter.now (Ask.Propose asked.now))
         (record { caller = c; ask = Ask.Propose asked.now; day = day }) result }
 {
-    if is_payment_asked(matter.find(asked.number), asked) {
+    if is_payment_asked(entry_under(matter, Some(asked.number)), asked) {
         return Ok(Edit::Nothing);
     }
-    if matter.is_closed() {
-        return Err(Refusal::Closed);
-    }
-    if let Some(last) = matter.last_behind(day) {
-        return Err(Refusal::DateBackwards(last));
-    }
-    if !matter.is_next(asked.number) {
-        return Err(Refusal::WrongNumber(matter.next_number()));
-    }
-    let named = matter.kept_under(asked.fund.number());
+    check_change(matter, Some(asked.number), day)?;
+    let named = entry_under(matter, asked.fund.number());
     if is_missing(asked.fund, named) {
         return Err(Refusal::NoEntry);
     }
@@ -166,27 +138,18 @@ pub(crate) fn decide_propose(matter: &Matter, asked: &PaymentAsk, day: Day) -> R
     if pays_another(asked.fund, named, &asked.payee) {
         return Err(Refusal::WrongPayee);
     }
-    let proposed = asked.proposed_on(day)?;
-    Ok(Edit::Append(Numbered {
-        number: asked.number,
-        entry: Entry::Payment(proposed),
-    }))
+    let number = asked.number;
+    let entry = Entry::Payment(asked.proposed_on(day)?);
+    Ok(Edit::Append(Numbered { number, entry }))
 }
 
 pub(crate) fn decide_approve(matter: &Matter, number: EntryNo, day: Day) -> Result<Edit, Refusal>
     ensures { (c : AnyCaller) → AnswersLateBy (kept_facts matter.now (Ask.Approve number))
         (record { caller = c; ask = Ask.Approve number; day = day }) result }
 {
-    if matter.is_closed() {
-        return Err(Refusal::Closed);
-    }
-    if let Some(last) = matter.last_behind(day) {
-        return Err(Refusal::DateBackwards(last));
-    }
-    let Some(kept) = matter.find(number) else {
-        return Err(Refusal::NoEntry);
-    };
-    let Entry::Payment(payment) = &kept.entry else {
+    check_change(matter, None, day)?;
+    let entry = entry_under(matter, Some(number)).ok_or(Refusal::NoEntry)?;
+    let Entry::Payment(payment) = entry else {
         return Err(Refusal::WrongKind);
     };
     let PaymentState::Proposed = &payment.state else {
@@ -196,64 +159,42 @@ pub(crate) fn decide_approve(matter: &Matter, number: EntryNo, day: Day) -> Resu
     if left < payment.amount.get() {
         return Err(Refusal::Short(left));
     }
-    let issued = payment.restated(PaymentState::Issued(day))?;
-    Ok(Edit::Exchange(Numbered {
-        number,
-        entry: Entry::Payment(issued),
-    }))
+    let entry = Entry::Payment(payment.restated(PaymentState::Issued(day))?);
+    Ok(Edit::Exchange(Numbered { number, entry }))
 }
 
 pub(crate) fn decide_decline(matter: &Matter, number: EntryNo, day: Day) -> Result<Edit, Refusal>
     ensures { (c : AnyCaller) → AnswersLateBy (kept_facts matter.now (Ask.Decline number))
         (record { caller = c; ask = Ask.Decline number; day = day }) result }
 {
-    if matter.is_closed() {
-        return Err(Refusal::Closed);
-    }
-    if let Some(last) = matter.last_behind(day) {
-        return Err(Refusal::DateBackwards(last));
-    }
-    let Some(kept) = matter.find(number) else {
-        return Err(Refusal::NoEntry);
-    };
-    let Entry::Payment(payment) = &kept.entry else {
+    check_change(matter, None, day)?;
+    let entry = entry_under(matter, Some(number)).ok_or(Refusal::NoEntry)?;
+    let Entry::Payment(payment) = entry else {
         return Err(Refusal::WrongKind);
     };
     let PaymentState::Proposed = &payment.state else {
         return Err(Refusal::WrongState);
     };
-    let declined = payment.restated(PaymentState::Declined)?;
-    Ok(Edit::Exchange(Numbered {
-        number,
-        entry: Entry::Payment(declined),
-    }))
+    let entry = Entry::Payment(payment.restated(PaymentState::Declined)?);
+    Ok(Edit::Exchange(Numbered { number, entry }))
 }
 
 pub(crate) fn decide_void(matter: &Matter, number: EntryNo, day: Day) -> Result<Edit, Refusal>
     ensures { (c : AnyCaller) → AnswersLateBy (kept_facts matter.now (Ask.VoidPayment number))
         (record { caller = c; ask = Ask.VoidPayment number; day = day }) result }
 {
-    if matter.is_closed() {
-        return Err(Refusal::Closed);
-    }
-    if let Some(last) = matter.last_behind(day) {
-        return Err(Refusal::DateBackwards(last));
-    }
-    let Some(kept) = matter.find(number) else {
-        return Err(Refusal::NoEntry);
-    };
-    let Entry::Payment(payment) = &kept.entry else {
+    check_change(matter, None, day)?;
+    let entry = entry_under(matter, Some(number)).ok_or(Refusal::NoEntry)?;
+    let Entry::Payment(payment) = entry else {
         return Err(Refusal::WrongKind);
     };
     let PaymentState::Issued(issued) = &payment.state else {
         return Err(Refusal::WrongState);
     };
-    let voided = payment.restated(PaymentState::Voided(VoidedPayment {
+    let voided = PaymentState::Voided(VoidedPayment {
         issued: *issued,
         undone: day,
-    }))?;
-    Ok(Edit::Exchange(Numbered {
-        number,
-        entry: Entry::Payment(voided),
-    }))
+    });
+    let entry = Entry::Payment(payment.restated(voided)?);
+    Ok(Edit::Exchange(Numbered { number, entry }))
 }

@@ -1,4 +1,4 @@
-//! Who may ask.
+//! The policy: who may ask.
 
 ghost use Rattle.std.specs.Prelude.{◌≡◌, ◌+◌, ◌<◌, ◌≤◌, ◌++◌, ◌∷◌, [], true, false, None};
 ghost use Rattle.trust_matter.specs.Policy.{allows, has, standing_in, Cashier, rule_against};
@@ -9,7 +9,7 @@ use matter_parts::Matter;
 use matter_rows::{Against, Role};
 use trust_base::Rule;
 
-/// Is there no such matter to the caller?
+/// Whether the matter does not exist for the caller.
 pub(crate) fn is_unknown_to(matter: &Matter, caller: &Caller, ask: &Ask) -> bool
     ensures { result ≡ is_unknown_to caller.now matter.now.head matter.now.seats ask.now }
 {
@@ -19,7 +19,7 @@ pub(crate) fn is_unknown_to(matter: &Matter, caller: &Caller, ask: &Ask) -> bool
     }
 }
 
-/// Does the policy allow the caller to ask under this rule?
+/// Whether the policy allows the caller to ask under this rule.
 pub(crate) fn allows(matter: &Matter, caller: &Caller, rule: Rule) -> bool
     ensures { result ≡ allows matter.now.seats caller.now rule }
 {
@@ -32,7 +32,7 @@ pub(crate) fn allows(matter: &Matter, caller: &Caller, rule: Rule) -> bool
     }
 }
 
-/// May the cashier ask under this rule?
+/// Whether the cashier may ask under this rule.
 pub fn cashier_may(rule: Rule) -> bool
     ensures { result ≡ has Cashier rule }
 {
@@ -42,7 +42,7 @@ pub fn cashier_may(rule: Rule) -> bool
     }
 }
 
-/// May a person with this role ask under this rule?
+/// Whether a person with this role may ask under this rule.
 pub fn role_may(role: Role, rule: Rule) -> bool
     ensures { result ≡ has (standing_in role) rule }
 {

@@ -1,4 +1,4 @@
-//! Seats, as they are asked for.
+//! Asks about seats.
 
 ghost use Rattle.std.specs.Prelude.{◌≡◌};
 ghost use Rattle.trust_matter.specs.declared.ask.Caller.{Caller as AnyCaller};
@@ -6,6 +6,7 @@ ghost use Rattle.trust_matter.specs.KeptFacts.{kept_facts};
 ghost use Rattle.trust_matter.specs.Step.{AnswersLateBy};
 
 use crate::ask::Ask;
+use crate::changing::check_change;
 use matter_parts::{Edit, Matter};
 use matter_rows::{Role, Seat};
 use trust_base::{Day, PersonId, Refusal};
@@ -14,12 +15,7 @@ pub(crate) fn decide_add_seat(matter: &Matter, asked: &Seat, day: Day) -> Result
     ensures { (c : AnyCaller) → AnswersLateBy (kept_facts matter.now (Ask.AddSeat asked.now))
         (record { caller = c; ask = Ask.AddSeat asked.now; day = day }) result }
 {
-    if matter.is_closed() {
-        return Err(Refusal::Closed);
-    }
-    if let Some(last) = matter.last_behind(day) {
-        return Err(Refusal::DateBackwards(last));
-    }
+    check_change(matter, None, day)?;
     if matter.role_of(&asked.person).is_some() {
         return Err(Refusal::SeatTaken);
     }
@@ -31,12 +27,7 @@ pub(crate) fn decide_drop_seat(matter: &Matter, asked: &PersonId, day: Day) -> R
     ensures { (c : AnyCaller) → AnswersLateBy (kept_facts matter.now (Ask.DropSeat asked.now))
         (record { caller = c; ask = Ask.DropSeat asked.now; day = day }) result }
 {
-    if matter.is_closed() {
-        return Err(Refusal::Closed);
-    }
-    if let Some(last) = matter.last_behind(day) {
-        return Err(Refusal::DateBackwards(last));
-    }
+    check_change(matter, None, day)?;
     let Some(role) = matter.role_of(asked) else {
         return Err(Refusal::NoSeat);
     };

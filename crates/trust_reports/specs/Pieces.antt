@@ -1,4 +1,4 @@
--- The texts of what the writers are given.
+-- How the values passed to the writers are printed.
 use Rattle.std.specs.Prelude.{ℕ, List, neg_ℤ}
 use Rattle.std.specs.Borrow.{Bor}
 use Rattle.trust_base.specs.Texts.{amount_text, day_text, entry_text, matter_text, signed_text}
@@ -30,10 +30,10 @@ text_of (piece.Entry n) = entry_text n
 text_of (piece.Reference m n) = reference_text m n
 text_of (piece.Owner o) = owner_text o
 
--- a piece behind another
+-- a piece after another
 abbrev pub further_piece : Piece → List ℕ
 further_piece p = further (text_of p)
 
--- a label and a figure in their places
+-- a label and a figure, each padded to its width
 abbrev pub row_text : ℕ → ℕ → Bor (List ℕ) × Sum → List ℕ
 row_text label_places figure_places row = column label_places figure_places row.0.now (sum_text row.1)

@@ -1,4 +1,4 @@
--- A client's ledger card: the matter, each entry as it stands, and the balances; and the firm's own.
+-- A client's ledger card: the matter, each entry in its current state, and the balances. Also the firm's own card.
 use Rattle.std.specs.Prelude.{◌≡◌, ℕ, ◌+◌, ℤ, pos, List, [], ◌∷◌, ◌++◌, codes, flat_map, Option, Some, None}
 use Rattle.trust_base.specs.Texts.{amount_text, day_text, entry_text, matter_text, signed_text}
 use Rattle.matter_rows.specs.declared.head.Head.{Head}
@@ -33,7 +33,7 @@ use Rattle.trust_reports.specs.Texts.{column, heading, line, or_dash, words_show
 
 -- The heading.
 
--- the client's label; a dash where there is none
+-- the client's label; a dash if there is no client
 abbrev pub holder_text : Holder → List ℕ
 holder_text (holder.Client c) = c
 holder_text (holder.Purged day) = codes "-"
@@ -57,11 +57,11 @@ ledger_heading m head =
 
 -- An entry.
 
--- behind a bar
+-- after a bar
 abbrev pub barred : List ℕ → List (List ℕ)
 barred text = codes "|" ∷ text ∷ []
 
--- what the bank told: its day and its own reference
+-- what the bank reported: its day and its own reference
 abbrev pub told : List ℕ → Clearing → List (List ℕ)
 told word c = word ∷ day_text c.bank_day ∷ c.bank_ref ∷ []
 
@@ -78,24 +78,24 @@ payment_state (payment.Issued day) = codes "ISSUED" ∷ day_text day ∷ []
 payment_state (payment.Cleared c) = codes "ISSUED" ∷ day_text c.issued ∷ told (codes "CLEARED") c.clearing
 payment_state (payment.Voided v) = codes "ISSUED" ∷ day_text v.issued ∷ codes "VOIDED" ∷ day_text v.undone ∷ []
 
--- where a payment takes its money
+-- what a payment is paid from
 abbrev pub fund_fields : Fund → List (List ℕ)
 fund_fields fund.General = codes "FROM GENERAL" ∷ []
 fund_fields (fund.Fee k) = codes "FROM FEE" ∷ entry_text k ∷ []
 fund_fields (fund.Claim k) = codes "FROM CLAIM" ∷ entry_text k ∷ []
 
--- an offer leaves a claim open
+-- a claim with an offer is still open
 abbrev pub claim_state : ClaimState → List (List ℕ)
 claim_state claim.Open = codes "OPEN" ∷ []
 claim_state (claim.Offered part) = codes "OPEN" ∷ []
 claim_state (claim.Settled s) = codes "SETTLED" ∷ day_text s.day ∷ codes "TO CLIENT" ∷ amount_text s.part ∷ []
 
--- what a claim is on, and who makes it: the client, where it is on a fee
+-- what a claim is on, and who makes it: if it is on a fee, the client
 abbrev pub against_fields : Against → List (List ℕ)
 against_fields (against.General claimant) = codes "ON GENERAL" ∷ barred claimant
 against_fields (against.Fee k) = codes "ON FEE" ∷ entry_text k ∷ barred (codes "client")
 
--- its day, its kind and its amount
+-- an entry's day, kind and amount
 abbrev pub made : ℕ → List ℕ → ℕ → List (List ℕ)
 made book kind amount = day_text book ∷ kind ∷ amount_text amount ∷ []
 
@@ -118,7 +118,7 @@ claim_fields c =
     made c.book (codes "CLAIM") c.amount
     ++ (claim_state c.state ++ (against_fields c.against ++ barred c.reason))
 
--- an entry, and what is left of it where it is a fee
+-- an entry, with what is left of it if it is a fee
 abbrev pub entry_fields : Entry → ℤ → List (List ℕ)
 entry_fields (entry.Deposit d) left = deposit_fields d
 entry_fields (entry.Payment p) left = payment_fields p
@@ -128,12 +128,12 @@ entry_fields (entry.Claim c) left = claim_fields c
 abbrev pub kept_line : Kept → List ℕ
 kept_line k = line (entry_text k.number) (entry_fields k.entry (pos k.left))
 
--- the lines of entries that have the numbers n, n + 1 and so on, each with what is left of it among all of them
+-- the lines of entries numbered from n on, each with what is left of it among all entries
 abbrev pub entry_lines : List Entry → ℕ → List Entry → List ℕ
 entry_lines es n [] = []
 entry_lines es n (e ∷ some) = line (entry_text n) (entry_fields e (left_of es n e)) ++ entry_lines es (n + 1) some
 
--- The balances: labels have 10 places, and figures 18.
+-- The balances: labels take 10 places, figures 18.
 
 abbrev pub balance_line : List ℕ → ℤ → List ℕ
 balance_line label cents = column 10 18 label (signed_text cents)
@@ -147,27 +147,27 @@ balance_lines a h f c d t =
     ++ (balance_line (codes "DISPUTED") d
     ++ balance_line (codes "TOTAL") t))))
 
--- by the totals that are kept
+-- from the stored totals
 abbrev pub kept_balances : Figures → List ℕ
 kept_balances f =
     balance_lines (pos f.available) (pos f.held) (pos f.fees) (pos f.claims) (pos f.disputed) (pos (total_kept f))
 
--- added up anew
+-- added up from the entries
 abbrev pub added_balances : List Entry → List ℕ
 added_balances es = balance_lines (available es) (held es) (fees es) (claims es) (disputed es) (total es)
 
 -- The card.
 
--- by what is kept of the matter
+-- from what is loaded of the matter
 abbrev pub ledger_card : ℕ → Part → List ℕ
 ledger_card m matter = ledger_heading m matter.head ++ (flat_map kept_line matter.kept ++ kept_balances matter.figures)
 
--- of the rows: each entry in the order of their numbers, and the balances added up anew
+-- from the rows: each entry by number, and the balances added up from the entries
 abbrev pub ledger_card_of : ℕ → Rows → List ℕ
 ledger_card_of m rows =
     ledger_heading m rows.head ++ (entry_lines rows.entries 1 rows.entries ++ added_balances rows.entries)
 
--- the card of a matter that keeps all entries of sound rows is that of the rows
+-- the card of a matter with all entries of sound rows loaded is that of the rows
 abbrev pub WholeCardIsOfRows : Type 0
 WholeCardIsOfRows =
     (m : ℕ) (matter : Part) (rows : Rows) → Sound rows → IsWhole matter rows
@@ -175,11 +175,11 @@ WholeCardIsOfRows =
 
 -- The firm's own card.
 
--- a line of the firm's own: its day, the bank's reference, its signed amount and the bank's words
+-- a line of the firm's own: its day, the bank's reference, the signed amount, and the line's text
 abbrev pub own_line : FirmLine → List ℕ
 own_line l = line (day_text l.date) (or_dash l.bank_ref ∷ signed_text l.amount ∷ words_shown l.text ∷ [])
 
--- on a business day: the lines in the order of acceptance, and what they add up to
+-- on a business day: the lines in the order of acceptance, and their sum
 abbrev pub own_card_text : ℕ → List FirmLine → List ℕ
 own_card_text today lines =
     heading (codes "LEDGER FIRM") today

@@ -1,4 +1,4 @@
--- The trial balance, the journal, the retention list and the exceptions, as they are printed.
+-- How the trial balance, the journal, the retention list and the exceptions are printed.
 use Rattle.std.specs.Prelude.{ℕ, ℤ, List, [], ◌∷◌, ◌++◌, codes, flat_map, if◌then◌else◌}
 use Rattle.trust_base.specs.Texts.{day_text, matter_text, signed_text}
 use Rattle.trust_base.specs.declared.line.Line.{Line}
@@ -7,12 +7,12 @@ use Rattle.firm_figures.specs.declared.retention_sink.RetentionLine.{RetentionLi
 use Rattle.firm_figures.specs.declared.trial_sink.TrialLine.{TrialLine}
 use Rattle.trust_reports.specs.Texts.{column, heading, line, or_dash, owner_text, words_shown}
 
--- The firm's figures: labels have 14 places, and figures 24.
+-- The firm's figures: labels take 14 places, figures 24.
 
 abbrev pub figure_line : List ℕ → ℤ → List ℕ
 figure_line label figure = column 14 24 label (signed_text figure)
 
--- The trial balance: the ledger of each open matter, the firm's own balance, and what they add up to.
+-- The trial balance: the ledger of each open matter, the firm's own balance, and their sum.
 
 abbrev pub trial_line : TrialLine → List ℕ
 trial_line l = figure_line (matter_text l.matter) l.ledger
@@ -24,7 +24,7 @@ trial_text today lines own total =
     ++ (figure_line (codes "FIRM") own
     ++ figure_line (codes "TOTAL") total))
 
--- The journal: each movement with its day, whose it is, its signed amount, and the sum so far.
+-- The journal: each movement with its day, whose it is, its signed amount, and the running sum.
 
 abbrev pub journal_line : JournalLine → List ℕ
 journal_line l =
@@ -34,7 +34,7 @@ journal_line l =
 abbrev pub journal_text : ℕ → List JournalLine → List ℕ
 journal_text today lines = heading (codes "JOURNAL") today ++ flat_map journal_line lines
 
--- The retention list: each closed matter, until when its records are kept, and whether they may go.
+-- The retention list: each closed matter, until when its records are kept, and whether it may be purged.
 
 abbrev pub purge_fields : RetentionLine → List (List ℕ)
 purge_fields l = if l.may_purge then codes "MAY PURGE" ∷ [] else []
@@ -47,7 +47,7 @@ retention_line l =
 abbrev pub retention_text : ℕ → List RetentionLine → List ℕ
 retention_text today lines = heading (codes "RETENTION") today ++ flat_map retention_line lines
 
--- The exceptions: the bank's lines that nothing was made of, an empty field as a dash.
+-- The exceptions: bank lines that matched nothing, with a dash for an empty field.
 
 abbrev pub exception_line : Line → List ℕ
 exception_line l =

@@ -140,12 +140,11 @@ fn push_card(page: &mut Page, number: MatterNo, matter: &Matter) -> Result<(), A
 }
 
 /// Appends the ledger card of a matter, the full accounting that a client may ask for (ABA Model Rule 1.15(d)): its
-/// number and client, the days of its opening and its close, each entry that is kept as it stands, and the six balances
-/// in cents, labels in 10 places and amounts at the right of 18. Of a matter that was never opened, or was purged, a
-/// dash stands for the client, and one for a day that there is not. The card is whole where the matter keeps all its
-/// entries.
+/// number and client, the days it was opened and closed, each loaded entry in its current state, and the six balances
+/// in cents. Labels take 10 places; amounts are right-aligned in 18. Prints `-` for the client of an unopened or purged
+/// matter, and for a missing day. The card is complete if all entries of the matter are loaded.
 ///
-/// The only error is want of memory; the vector is then as before.
+/// The only error is out of memory; `out` is then unchanged.
 pub fn ledger_card(number: MatterNo, matter: &Matter, out: &mut Vec<u8>) -> Result<(), AllocError>
     ensures ok { OnOk result (out.new.items ≡ out.old.items ++ ledger_card number matter.now) }
     ensures err { OnErr result (out.new.items ≡ out.old.items) }

@@ -14,7 +14,7 @@ use trust_matter::{
     PaymentState, Settlement, VoidedPayment,
 };
 
-// A text behind a bar.
+// Appends a text after a bar.
 fn push_barred(page: &mut Page, text: &Label) -> Result<(), AllocError>
     ensures before { page.new.before ≡ page.old.before }
     ensures text { OnOk result (page.new.text ≡ page.old.text ++ flat_map further (barred text.now)) }
@@ -22,7 +22,7 @@ fn push_barred(page: &mut Page, text: &Label) -> Result<(), AllocError>
     push_fields(page, &[Piece::Word("|"), Piece::Label(text)])
 }
 
-// A word and an entry.
+// Appends a word and an entry.
 fn push_named(page: &mut Page, word: &str, entry: EntryNo) -> Result<(), AllocError>
     ensures before { page.new.before ≡ page.old.before }
     ensures text { OnOk result (page.new.text ≡ page.old.text ++ flat_map further (word.now ∷ entry_text entry ∷ [])) }
@@ -30,7 +30,7 @@ fn push_named(page: &mut Page, word: &str, entry: EntryNo) -> Result<(), AllocEr
     push_fields(page, &[Piece::Word(word), Piece::Entry(entry)])
 }
 
-// A word and a day.
+// Appends a word and a day.
 fn push_dated(page: &mut Page, word: &str, day: Day) -> Result<(), AllocError>
     ensures before { page.new.before ≡ page.old.before }
     ensures text { OnOk result (page.new.text ≡ page.old.text ++ flat_map further (word.now ∷ day_text day ∷ [])) }
@@ -38,7 +38,7 @@ fn push_dated(page: &mut Page, word: &str, day: Day) -> Result<(), AllocError>
     push_fields(page, &[Piece::Word(word), Piece::Day(day)])
 }
 
-// A word, and the line of the bank.
+// Appends a word, and the day and reference of a bank line.
 fn push_told<'a>(page: &mut Page, word: &'a str, clearing: &'a Clearing) -> Result<(), AllocError>
     ensures before { page.new.before ≡ page.old.before }
     ensures text { OnOk result (page.new.text ≡ page.old.text ++ flat_map further (told word.now clearing.now)) }
@@ -53,7 +53,7 @@ fn push_told<'a>(page: &mut Page, word: &'a str, clearing: &'a Clearing) -> Resu
     )
 }
 
-// The day, the kind and the amount of an entry.
+// Appends the day, kind and amount of an entry.
 fn push_made(page: &mut Page, book: Day, kind: &str, amount: Cents) -> Result<(), AllocError>
     ensures before { page.new.before ≡ page.old.before }
     ensures text { OnOk result (page.new.text ≡ page.old.text ++ flat_map further (made book kind.now amount)) }
@@ -142,7 +142,7 @@ fn push_claim_state(page: &mut Page, state: ClaimState) -> Result<(), AllocError
     }
 }
 
-// What the claim is on, and the client, who makes it.
+// Appends the fee that a claim is on, and the client, who makes the claim.
 fn push_disputed(page: &mut Page, fee: EntryNo) -> Result<(), AllocError>
     ensures before { page.new.before ≡ page.old.before }
     ensures text { OnOk result (page.new.text ≡ page.old.text

@@ -1,4 +1,4 @@
-// Lines of a label and a figure, each in its places.
+// Lines of a label and a figure, each padded to its width.
 
 ghost use Rattle.std.specs.Prelude.{◌≡◌, ◌++◌, OnOk, flat_map};
 ghost use Rattle.trust_reports.specs.Texts.{column, left_in, right_in};
@@ -26,7 +26,7 @@ fn push_right(page: &mut Page, places: usize, text: &[u8]) -> Result<(), AllocEr
     page.push(text)
 }
 
-/// Appends a line: a label at the left of its places, a figure at the right of its own.
+/// Appends a line: a left-aligned label and a right-aligned figure, each in its own width.
 pub(crate) fn push_column(
     page: &mut Page,
     label_places: usize,
@@ -43,7 +43,7 @@ pub(crate) fn push_column(
     page.end_line()
 }
 
-/// Appends a line for each label and its figure.
+/// Appends a line for each label and figure.
 pub(crate) fn push_columns(
     page: &mut Page,
     label_places: usize,

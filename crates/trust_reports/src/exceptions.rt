@@ -43,11 +43,11 @@ fn push_exceptions(page: &mut Page, today: Day, lines: &[Line]) -> Result<(), Al
     push_exception_lines(page, lines)
 }
 
-/// Appends the exceptions on a business day: the bank's lines of which the books have nothing, each with its date, its
-/// reference, the bank's own reference, its signed amount in cents and the bank's words. An empty field is printed as
-/// `-`, and each character U+0000 to U+001F and U+007F to U+009F of the words as a space.
+/// Appends the exceptions on a business day: the bank lines that matched nothing in the books. Each has its date, its
+/// reference, the bank's own reference, the signed amount in cents and the line's text. An empty field is printed as
+/// `-`, and each character U+0000 to U+001F and U+007F to U+009F of the text as a space.
 ///
-/// The only error is want of memory; the vector is then as before.
+/// The only error is out of memory; `out` is then unchanged.
 pub fn exceptions_text(today: Day, lines: &[Line], out: &mut Vec<u8>) -> Result<(), AllocError>
     ensures ok { OnOk result (out.new.items ≡ out.old.items ++ exceptions_text today lines.now) }
     ensures err { OnErr result (out.new.items ≡ out.old.items) }
@@ -58,9 +58,9 @@ pub fn exceptions_text(today: Day, lines: &[Line], out: &mut Vec<u8>) -> Result<
     written
 }
 
-/// Appends the line of one exception, as it stands in the report of all of them.
+/// Appends the line of one exception, as it is in the report of all of them.
 ///
-/// The only error is want of memory; the vector is then as before.
+/// The only error is out of memory; `out` is then unchanged.
 pub fn exception_line(line: &Line, out: &mut Vec<u8>) -> Result<(), AllocError>
     ensures ok { OnOk result (out.new.items ≡ out.old.items ++ exception_line line.now) }
     ensures err { OnErr result (out.new.items ≡ out.old.items) }

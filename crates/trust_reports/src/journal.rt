@@ -43,11 +43,11 @@ fn push_journal(page: &mut Page, today: Day, lines: &[JournalLine]) -> Result<()
     push_journal_lines(page, lines)
 }
 
-/// Appends the journal of receipts and disbursements of the ABA Model Rules for Client Trust Account Records, on a
-/// business day: for each movement, in the order given, its day by the books, the entry that moved its client's money
-/// or `FIRM` for the firm's own, the signed amount and the sum so far, in cents.
+/// Appends the journal of receipts and disbursements (ABA Model Rules for Client Trust Account Records) on a business
+/// day. Each movement has the day it was booked, the entry that moved its client's money or `FIRM` for the firm's own,
+/// the signed amount and the running sum, in cents. The order is that of `lines`.
 ///
-/// The only error is want of memory; the vector is then as before.
+/// The only error is out of memory; `out` is then unchanged.
 pub fn journal_text(today: Day, lines: &[JournalLine], out: &mut Vec<u8>) -> Result<(), AllocError>
     ensures ok { OnOk result (out.new.items ≡ out.old.items ++ journal_text today lines.now) }
     ensures err { OnErr result (out.new.items ≡ out.old.items) }

@@ -53,12 +53,12 @@ fn push_own_card(page: &mut Page, today: Day, ledger: &FirmLedger) -> Result<(),
     Ok(())
 }
 
-/// Appends the ledger card of the firm's own money in the trust account (ABA Model Rule 1.15(b)) on a business day: for
-/// each of its lines, in the order of acceptance, the date, the bank's reference, the signed amount and the bank's
-/// words, and behind them what they add up to, all in cents. An empty field is printed as `-`, and each character
-/// U+0000 to U+001F and U+007F to U+009F of the words as a space.
+/// Appends the ledger card of the firm's own money in the trust account (ABA Model Rule 1.15(b)) on a business day.
+/// Each line, in the order of acceptance, has its date, the bank's reference, the signed amount and the line's text;
+/// the sum comes last. Amounts are in cents. An empty field is printed as `-`, and each character U+0000 to U+001F and
+/// U+007F to U+009F of the text as a space.
 ///
-/// The only error is want of memory; the vector is then as before.
+/// The only error is out of memory; `out` is then unchanged.
 pub fn own_card_text(today: Day, ledger: &FirmLedger, out: &mut Vec<u8>) -> Result<(), AllocError>
     ensures ok { OnOk result (out.new.items ≡ out.old.items ++ own_card_text today ledger.now) }
     ensures err { OnErr result (out.new.items ≡ out.old.items) }

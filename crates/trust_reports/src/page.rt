@@ -1,4 +1,4 @@
-// A report behind what a vector holds.
+// A report appended to a vector.
 
 ghost use Rattle.std.specs.Prelude.{◌≡◌, [], ◌∷◌, ◌++◌, take, drop, replicate, OnOk};
 ghost use Rattle.trust_reports.specs.Pages.{ended};
@@ -7,9 +7,9 @@ use std::alloc::AllocError;
 use std::marker::Model;
 use std::mem;
 
-/// A report that is being written behind what a vector held, which can be had back until it is whole.
+/// A report being appended to a vector. Until it is complete, the vector's earlier content can be restored.
 ///
-/// Contracts see it as what was there before, and the text so far.
+/// Contracts see it as that content, and the report so far.
 #[derive(Drop)]
 pub(crate) struct Page {
     bytes: Vec<u8>,
@@ -28,7 +28,7 @@ impl Model for Page {
 }
 
 impl Page {
-    /// Begins behind what a vector holds, which is empty until the page has ended.
+    /// Starts a report after the content of a vector. The vector is empty until the page has ended.
     pub(crate) fn behind(out: &mut Vec<u8>) -> Page
         ensures before { result.before ≡ out.old.items }
         ensures text { result.text ≡ [] }
@@ -47,7 +47,7 @@ impl Page {
         self.bytes.extend_from_slice(bytes)
     }
 
-    /// Appends so many spaces.
+    /// Appends this many spaces.
     pub(crate) fn push_spaces(&mut self, count: usize) -> Result<(), AllocError>
         ensures before { self.new.before ≡ self.old.before }
         ensures text { OnOk result (self.new.text ≡ self.old.text ++ replicate count 32) }
@@ -66,7 +66,7 @@ impl Page {
         self.push(b"\n")
     }
 
-    /// What the vector holds afterwards: the text too, where it is whole.
+    /// The vector afterwards: with the report if it is complete, otherwise without.
     pub(crate) fn ended(self, whole: bool) -> Vec<u8>
         ensures { result.items ≡ ended self whole }
     {

@@ -17,17 +17,17 @@ use trust_base::{
 /// A piece of a line.
 #[derive(Clone, Copy)]
 pub(crate) enum Piece<'a> {
-    /// Words of the report's own.
+    /// A word of the report's own.
     Word(&'a str),
     Label(&'a Label),
-    /// The bank's reference as it is.
+    /// The bank's reference, unchanged.
     BankRef(&'a BankText),
     /// A reference, or `-` for an empty one.
     OrDash(&'a BankText),
-    /// The bank's words, each control character as a space, or `-` for none.
+    /// A bank line's text with each control character as a space, or `-` if it is empty.
     Words(&'a LineText),
     Day(Day),
-    /// A day that may lie past 2199.
+    /// A day that may lie after 2199.
     LastDay(CivilDay),
     Amount(Cents),
     Part(CentsOrZero),
@@ -35,7 +35,7 @@ pub(crate) enum Piece<'a> {
     Left(u64),
     /// A sum in cents.
     Sum(i128),
-    /// What a bank's line moved, or a balance.
+    /// A bank amount: what a line moved, or a balance.
     Bank(BankAmount),
     Matter(MatterNo),
     Entry(EntryNo),
@@ -96,7 +96,7 @@ fn push_or_dash(page: &mut Page, text: &[u8]) -> Result<(), AllocError>
     page.push(text)
 }
 
-// Appends a character, or a space for a control character.
+// Appends a character, or a space if it is a control character.
 fn push_shown(page: &mut Page, character: char) -> Result<(), AllocError>
     ensures before { page.new.before ≡ page.old.before }
     ensures text { OnOk result (page.new.text ≡ page.old.text ++ encode_utf8 (shown character)) }
@@ -201,7 +201,7 @@ fn push_further(page: &mut Page, piece: &Piece<'_>) -> Result<(), AllocError>
     push(page, piece)
 }
 
-/// Appends a word behind another field.
+/// Appends a word after another field.
 pub(crate) fn push_word(page: &mut Page, word: &str) -> Result<(), AllocError>
     ensures before { page.new.before ≡ page.old.before }
     ensures text { OnOk result (page.new.text ≡ page.old.text ++ further word.now) }
@@ -210,7 +210,7 @@ pub(crate) fn push_word(page: &mut Page, word: &str) -> Result<(), AllocError>
     page.push(word.as_bytes())
 }
 
-/// Appends fields behind others.
+/// Appends fields after others.
 pub(crate) fn push_fields(page: &mut Page, pieces: &[Piece<'_>]) -> Result<(), AllocError>
     ensures before { page.new.before ≡ page.old.before }
     ensures text { OnOk result (page.new.text ≡ page.old.text ++ flat_map further_piece pieces.now) }
@@ -221,7 +221,7 @@ pub(crate) fn push_fields(page: &mut Page, pieces: &[Piece<'_>]) -> Result<(), A
     Ok(())
 }
 
-/// Appends a field and others behind it, and leaves the line open.
+/// Appends a field and others after it, without ending the line.
 pub(crate) fn push_open_line(
     page: &mut Page,
     first: &Piece<'_>,
@@ -235,7 +235,7 @@ pub(crate) fn push_open_line(
     push_fields(page, others)
 }
 
-/// Appends a line of fields parted by one space.
+/// Appends a line of fields separated by single spaces.
 pub(crate) fn push_line(
     page: &mut Page,
     first: &Piece<'_>,
@@ -249,7 +249,7 @@ pub(crate) fn push_line(
     page.end_line()
 }
 
-/// Appends the line above a report: its name and its day.
+/// Appends the first line of a report: its name and its day.
 #[tactic(auto, unfolding(crate::specs::Texts::heading))]
 pub(crate) fn push_heading(page: &mut Page, name: &str, day: Day) -> Result<(), AllocError>
     ensures before { page.new.before ≡ page.old.before }

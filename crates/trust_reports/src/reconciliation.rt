@@ -190,12 +190,12 @@ fn push_reconciliation(
     push_openings(page, &reconciliation.openings)
 }
 
-/// Appends the three-way reconciliation as of a day that the ABA Model Rules for Client Trust Account Records ask for:
-/// the ten figures in cents, labels in 14 places and amounts at the right of 24, OUTSTANDING as a negative; then the
-/// deposits in transit, the payments outstanding, the exceptions, what came early, the payments whose instrument
-/// another has, and the openings that differ from the closing before them.
+/// Appends the three-way reconciliation as of a day (ABA Model Rules for Client Trust Account Records). First come the
+/// ten figures in cents, OUTSTANDING as a negative; labels take 14 places, amounts are right-aligned in 24. Then come
+/// the deposits in transit, the outstanding payments, the exceptions, what came early, the payments with the same
+/// instrument as another, and the openings that differ from the closing before them.
 ///
-/// The only error is want of memory; the vector is then as before.
+/// The only error is out of memory; `out` is then unchanged.
 pub fn reconciliation_text(
     p: Day,
     reconciliation: &Reconciliation,

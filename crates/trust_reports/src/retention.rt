@@ -67,11 +67,11 @@ fn push_retention(page: &mut Page, today: Day, lines: &[RetentionLine]) -> Resul
     push_retention_lines(page, lines)
 }
 
-/// Appends the retention list on a business day: each closed matter given, with its close day, the last day for which
-/// its records are kept, five years after the close (ABA Model Rule 1.15(a)), and whether they may be purged. That last
-/// day may lie past 2199.
+/// Appends the retention list on a business day. Each given closed matter has the day it was closed, the last day on
+/// which its records are kept, five years later (ABA Model Rule 1.15(a)), and whether it may be purged. That last day
+/// may lie after 2199.
 ///
-/// The only error is want of memory; the vector is then as before.
+/// The only error is out of memory; `out` is then unchanged.
 pub fn retention_text(
     today: Day,
     lines: &[RetentionLine],

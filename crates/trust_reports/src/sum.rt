@@ -16,7 +16,7 @@ pub(crate) enum Sum {
     NegativeOf(i128),
 }
 
-/// The text of a sum, at most 44 bytes, on the stack.
+/// A printed sum, at most 44 bytes, on the stack.
 pub(crate) type SumText = ArrayVec<u8, 44>;
 
 // Appends cents as dollars, a point and two digits.
@@ -34,7 +34,7 @@ fn push_size(text: &mut SumText, cents: u128)
     push_piece(text, &end);
 }
 
-// The text of a size, behind a minus sign where it is that of a sum below zero.
+// An amount with a leading minus sign if the sum is negative.
 fn signed(below: bool, cents: u128) -> SumText
     ensures { result.items ≡ (if below then 45 ∷ amount_text cents else amount_text cents) }
 {
@@ -47,7 +47,7 @@ fn signed(below: bool, cents: u128) -> SumText
 }
 
 impl Sum {
-    /// The text, `-` in front below zero. Takes no memory.
+    /// The sum as text, with a leading `-` if negative. Allocates nothing.
     pub(crate) fn text(self) -> SumText
         ensures { result.items ≡ sum_text self }
     {

@@ -63,11 +63,11 @@ fn push_trial(
     Ok(())
 }
 
-/// Appends the trial balance on a business day, the listing of the clients' ledgers that the ABA Model Rules for Client
-/// Trust Account Records ask for at each reconciliation: the ledger of each open matter, the firm's own balance and the
-/// sum of all, in cents. Matters stand in 14 places, amounts at the right of 24; a wider one is printed whole.
+/// Appends the trial balance on a business day, the list of client ledgers required at each reconciliation (ABA Model
+/// Rules for Client Trust Account Records): the ledger of each open matter, the firm's own balance, and their sum, in
+/// cents. Matters take 14 places; amounts are right-aligned in 24, and a wider one is printed whole.
 ///
-/// The only error is want of memory; the vector is then as before.
+/// The only error is out of memory; `out` is then unchanged.
 pub fn trial_text(
     today: Day,
     lines: &[TrialLine],

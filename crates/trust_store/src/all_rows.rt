@@ -8,16 +8,16 @@ use matter_parts::Matter;
 use std::alloc::{AllocError, Global};
 use trust_base::Line;
 
-/// All rows of a firm as they were read, whether they are sound or not.
+/// All rows of a firm as they were read, sound or not.
 #[derive(Drop)]
 pub struct AllRows {
     /// Each matter with all its entries, by number.
     pub matters: Vec<KeptMatter>,
-    /// What was moved, in the order of acceptance.
+    /// The movements, in the order of acceptance.
     pub movements: Vec<Movement>,
     /// The lines of the firm's own, in the order of acceptance.
     pub firm_lines: Vec<FirmLine>,
-    /// The exceptions, in their order.
+    /// The exceptions, sorted.
     pub exceptions: Vec<Line>,
     /// The balances: openings before closings, each by day.
     pub balances: Vec<StatementRow>,
@@ -69,7 +69,7 @@ pub(crate) fn firm_lines_copied(
     Ok(copies)
 }
 
-/// Copies of lines of the bank.
+/// Copies of bank lines.
 pub(crate) fn lines_copied(alloc: Global, lines: &[Line]) -> Result<Vec<Line>, AllocError>
     ensures { IfOk result (λ copies. copies.items ≡ lines.now) }
 {

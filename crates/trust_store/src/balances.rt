@@ -1,4 +1,4 @@
-// The balances that the bank told of, as a list in their order.
+// The balances that the bank reported, as a sorted list.
 
 ghost use Rattle.std.specs.Prelude.{◌≡◌, ◌≢◌, ◌≤◌, None, length, insert, IfOk, IfErr, OnOk, OnErr};
 ghost use Rattle.std.specs.List.Sorted.{IsStrictlySortedBy};
@@ -8,7 +8,7 @@ use firm_rows::{BalanceKind, StatementRow};
 use std::alloc::AllocError;
 use trust_base::Day;
 
-// Where a balance would stand, unless one of its kind and day is kept.
+// Where the balance would be inserted. Ok if one of its kind and day is already there.
 fn place_of(rows: &[StatementRow], row: &StatementRow) -> Result<usize, usize>
     requires { IsStrictlySortedBy balance_cmp rows.now }
     ensures found { IfOk result (λ i. kept_balance row.now.kind row.now.day rows.now ≢ None) }
@@ -18,8 +18,8 @@ fn place_of(rows: &[StatementRow], row: &StatementRow) -> Result<usize, usize>
     rows.binary_search_by(|other| other.compare(row))
 }
 
-/// Adds a balance in its place, where none of its kind and day is kept. At an error, want of memory, the balances are
-/// as before.
+/// Inserts a balance in order; none of its kind and day may be there yet. If memory runs out, the balances are
+/// unchanged.
 pub fn add_balance(rows: &mut Vec<StatementRow>, row: StatementRow) -> Result<(), AllocError>
     requires order { IsStrictlySortedBy balance_cmp rows.old.items }
     requires absent { kept_balance row.kind row.day rows.old.items ≡ None }
@@ -32,7 +32,7 @@ pub fn add_balance(rows: &mut Vec<StatementRow>, row: StatementRow) -> Result<()
     Ok(())
 }
 
-/// The amount of the balance of a kind and day in cents, or None where none is kept.
+/// The amount of the balance of this kind and day, in cents. None if there is no such balance.
 pub fn balance_kept(rows: &[StatementRow], kind: BalanceKind, day: Day) -> Option<i64>
     ensures { result ≡ kept_balance kind day rows.now }
 {

@@ -13,18 +13,21 @@ ghost use Rattle.trust_store.specs.Kept.{firm_of_all};
 ghost use Rattle.trust_store.specs.Named.{IsPartFor};
 
 use crate::all_rows::AllRows;
-use firm_rows::{BalanceKind, FirmLedger, RowSink, Verdict};
+use firm_rows::{
+    BalanceKind, BalanceSink, ExceptionSink, FirmLedger, FirmLineSink, MovementSink, RowSink,
+    Verdict,
+};
 use std::alloc::Global;
 use trust_base::{Day, EntryNo, Line, MatterNo, StoreFault};
 use trust_matter::{BankLine, Change, LineVerdict, Matter};
 
-/// The rows of a firm, however they are kept.
+/// The rows of a firm, however they are stored.
 ///
-/// What is said of them holds where the store that keeps them is clean as the call ends, so that what it read was what
-/// had been written, and where it stood for a sound firm as the call began. A call answers Store where the store
-/// refused or held a row that stands for nothing, and Memory where a growth was refused; it has then changed nothing.
+/// The promises of a call hold if two things are so. The store is clean when the call ends: it works, and whatever it
+/// read is what was written. And the store stood for a sound firm when the call began. A call returns `Store` if the
+/// store refused something or had an invalid row, and `Memory` if memory ran out. On an error it has changed nothing.
 ///
-/// A line of the bank that matches nothing, kept and taken back:
+/// A bank line that matches nothing is recorded and dismissed:
 ///
 ///     let mut book = PlainBook::new(alloc);
 ///     book.write_stray(alloc, &line)?;    // it is an exception
@@ -35,44 +38,43 @@ pub trait Book {
     ghost use Rattle.firm_rows.specs.Firm.{Firm};
     ghost use Rattle.firm_rows.specs.FirmSound.{FirmSound};
 
-    /// What it holds.
+    /// The firm that it stores.
     ghost firm: { Self → Firm };
 
-    /// Its store serves, and what it read was what had been written.
+    /// The store works, and whatever it read is what was written.
     ghost clean: { Self → Type 0 };
 
-    /// What its store read was what had been written, also where a fault has shut it since.
+    /// Whatever the store read is what was written, even if a fault has since shut it.
     ghost sure: { Self → Type 0 };
 
-    /// What the store keeps stands for the rows of a sound firm.
+    /// What is stored stands for the rows of a sound firm.
     ghost stands: { Self → Type 0 };
 
-    /// What the store keeps can be read as rows, which may be sound or not.
+    /// What is stored can be read as rows, sound or not.
     ghost readable: { Self → Type 0 };
 
-    /// Whatever a crash leaves now is taken as a book again, and stands for the rows of a sound firm.
+    /// Whatever a crash leaves now can be opened as a book again, and stands for the rows of a sound firm.
     ghost lasts: { Self → Type 0 };
 
     /// The rows that may be found after a crash now.
     ghost leaves: { Self → Firm → Type 0 };
 
-    /// A firm for whose rows a store stands is sound.
+    /// If a store stands for a firm, that firm is sound.
     ghost sound: { (b : Self) → stands b → FirmSound (firm b) };
 
-    /// A store that serves is sure of what it read.
+    /// A clean store is sure of what it read.
     ghost clean_is_sure: { (b : Self) → clean b → sure b };
 
-    /// How many calls have answered Store, up to `u64::MAX`.
+    /// How many calls have returned `Store`, up to `u64::MAX`.
     ghost refusals: { Self → ℕ };
 
-    /// A matter with all its entries in order; where it was never opened, without any row.
+    /// Returns a matter with all its entries in order. If it was never opened, it has no rows.
     fn matter(&mut self, alloc: Global, matter: MatterNo) -> Result<Matter, StoreFault>
         ensures whole { clean self.new → stands self.old
             → IfOk result (λ part. IsWhole part (of matter (firm self.old))) }
         ensures read { IsRead firm clean sure stands lasts leaves refusals result self.old self.new };
 
-    /// A matter with its head, seats and totals, the entries that are named, those that these draw on, and no
-    /// others.
+    /// Returns a matter with its head, seats and totals, and only the named entries and those that they draw on.
     fn matter_for(
         &mut self,
         alloc: Global,
@@ -84,59 +86,58 @@ pub trait Book {
             → IfOk result (λ part. IsPartFor (of matter (firm self.old)) entry other part) }
         ensures read { IsRead firm clean sure stands lasts leaves refusals result self.old self.new };
 
-    /// The firm's own ledger: its lines in the order of acceptance.
+    /// Returns the firm's own ledger: its lines in the order of acceptance.
     fn firm(&mut self, alloc: Global) -> Result<FirmLedger, StoreFault>
         ensures found { clean self.new → stands self.old → IfOk result (λ ledger. ledger ≡ (firm self.old).firm_lines) }
         ensures read { IsRead firm clean sure stands lasts leaves refusals result self.old self.new };
 
-    /// The opening or closing balance of a day, in cents, or None where none is kept.
+    /// Returns the opening or closing balance of a day, in cents. None if there is no such balance.
     fn balance(&mut self, kind: BalanceKind, day: Day) -> Result<Option<i64>, StoreFault>
         ensures found { clean self.new → stands self.old
             → IfOk result (λ kept. kept ≡ kept_balance kind day (firm self.old).balances) }
         ensures read { IsRead firm clean sure stands lasts leaves refusals result self.old self.new };
 
-    /// All rows, each matter with all its entries. They need not be those of a sound firm; but a matter that is not the
-    /// whole of sound rows is Store.
+    /// Returns all rows, each matter with all its entries. They need not be those of a sound firm, but a matter that is
+    /// not complete and sound makes the call return `Store`.
     fn all_rows(&mut self, alloc: Global) -> Result<AllRows, StoreFault>
         ensures found { clean self.new → readable self.old → IfOk result (λ rows. firm_of_all rows ≡ firm self.old) }
         ensures read { IsRead firm clean sure stands lasts leaves refusals result self.old self.new };
 
-    /// Hands over each row. They come in order: by matter, and in each the head, the seats by person and the entries by
-    /// number. A row for which the sink wants memory ends the call.
+    /// Passes each row to the sink, sorted by matter, and within a matter the head, then the seats by person, then the
+    /// entries by number. Stops if the sink runs out of memory.
     fn each_row<S: RowSink>(&mut self, sink: &mut S) -> Result<(), StoreFault>
         ensures handed { clean self.new → stands self.old
             → AreHanded S.stepped IsRowInRange (firm self.old).rows result sink.old sink.new }
         ensures read { IsRead firm clean sure stands lasts leaves refusals result self.old self.new };
 
-    /// Hands over each movement, in the order of acceptance. One for which the sink wants memory ends the call.
-    fn each_movement<S: RowSink>(&mut self, sink: &mut S) -> Result<(), StoreFault>
+    /// Passes each movement to the sink, in the order of acceptance. Stops if the sink runs out of memory.
+    fn each_movement<S: MovementSink>(&mut self, sink: &mut S) -> Result<(), StoreFault>
         ensures handed { clean self.new → stands self.old
             → AreHanded S.moved IsMovementInRange (firm self.old).movements result sink.old sink.new }
         ensures read { IsRead firm clean sure stands lasts leaves refusals result self.old self.new };
 
-    /// Hands over each line of the firm's own, in the order of acceptance. One for which the sink wants memory ends the
-    /// call.
-    fn each_firm_line<S: RowSink>(&mut self, sink: &mut S) -> Result<(), StoreFault>
+    /// Passes each line of the firm's own to the sink, in the order of acceptance. Stops if the sink runs out of
+    /// memory.
+    fn each_firm_line<S: FirmLineSink>(&mut self, sink: &mut S) -> Result<(), StoreFault>
         ensures handed { clean self.new → stands self.old
             → AreHanded S.lined IsFirmLineInRange (firm self.old).firm_lines result sink.old sink.new }
         ensures read { IsRead firm clean sure stands lasts leaves refusals result self.old self.new };
 
-    /// Hands over each exception. They come in order: by day, reference, the bank's reference, amount as a number, and
-    /// text. A line for which the sink wants memory ends the call.
-    fn each_exception<S: RowSink>(&mut self, sink: &mut S) -> Result<(), StoreFault>
+    /// Passes each exception to the sink, sorted by day, reference, bank's reference, amount as a number, then text.
+    /// Stops if the sink runs out of memory.
+    fn each_exception<S: ExceptionSink>(&mut self, sink: &mut S) -> Result<(), StoreFault>
         ensures handed { clean self.new → stands self.old
             → AreHanded S.noted IsLineInRange (firm self.old).exceptions result sink.old sink.new }
         ensures read { IsRead firm clean sure stands lasts leaves refusals result self.old self.new };
 
-    /// Hands over each balance. They come in order: openings before closings, each by day. One for which the sink wants
-    /// memory ends the call.
-    fn each_balance<S: RowSink>(&mut self, sink: &mut S) -> Result<(), StoreFault>
+    /// Passes each balance to the sink, openings before closings, each by day. Stops if the sink runs out of memory.
+    fn each_balance<S: BalanceSink>(&mut self, sink: &mut S) -> Result<(), StoreFault>
         ensures handed { clean self.new → stands self.old
             → AreHanded S.balanced IsBalanceInRange (firm self.old).balances result sink.old sink.new }
         ensures read { IsRead firm clean sure stands lasts leaves refusals result self.old self.new };
 
-    /// Makes one change of a matter, or none where it is refused. The change has to be one of the matter's rows as they
-    /// are now. A change that is nothing is never refused.
+    /// Makes one change of a matter, or none if it is refused. It must be a change of the matter's rows as they are
+    /// now. A change of nothing is never refused.
     fn write_change(
         &mut self,
         alloc: Global,
@@ -148,10 +149,9 @@ pub trait Book {
             (OfMatter matter None change.now) result self.old self.new }
         ensures nothing { change.now.edit ≡ Nothing → IsOk result };
 
-    /// Writes what becomes of a line of the bank that names an entry: one that is applied changes the entry's matter
-    /// and is no exception from then on, nor is one that comes again; one that matches nothing joins the exceptions.
-    /// The verdict has to be that on this line, by the matter's rows as they are now. It is one write: nothing has
-    /// changed where it is refused.
+    /// Writes the verdict on a bank line that names an entry. An applied line changes the entry's matter. An applied or
+    /// repeated line is no exception from then on; an unmatched one becomes an exception. The verdict must be that on
+    /// this line, from the matter's rows as they are now. This is one write: if it is refused, nothing has changed.
     fn write_line(
         &mut self,
         alloc: Global,
@@ -162,17 +162,17 @@ pub trait Book {
         ensures written { IsWrite firm clean sure stands lasts leaves refusals
             (by_line line.now verdict.now) result self.old self.new };
 
-    /// Writes what becomes of a line of the firm's own: one that is applied joins the firm's ledger with what it moved
-    /// and is no exception from then on, nor is one that comes again; any other joins the exceptions. The verdict has
-    /// to be that on this line, by the ledger as it is now. It is one write.
+    /// Writes the verdict on a line of the firm's own. An applied line is added to the firm's ledger, with what it
+    /// moves. An applied or repeated line is no exception from then on; any other becomes an exception. The verdict
+    /// must be that on this line, from the ledger as it is now. This is one write.
     fn write_firm(&mut self, alloc: Global, line: &Line, verdict: Verdict) -> Result<(), StoreFault>
         requires { clean self.old → stands self.old → IsFirmVerdict (firm self.old) line.now verdict }
         ensures written { IsWrite firm clean sure stands lasts leaves refusals
             (by_firm_line line.now verdict) result self.old self.new };
 
-    /// Writes what becomes of an opening or closing balance: one that is applied is kept and is no exception from then
-    /// on, nor is one that comes again; any other joins the exceptions. The verdict has to be that on this line, by the
-    /// balance that is kept of its kind and day now. It is one write.
+    /// Writes the verdict on an opening or closing balance. An applied balance is stored. An applied or repeated one is
+    /// no exception from then on; any other becomes an exception. The verdict must be that on this line, from the
+    /// balance now on file for its kind and day. This is one write.
     fn write_balance(
         &mut self,
         alloc: Global,
@@ -184,13 +184,13 @@ pub trait Book {
         ensures written { IsWrite firm clean sure stands lasts leaves refusals
             (by_balance kind line.now verdict) result self.old self.new };
 
-    /// Adds a whole line to the exceptions. Where an equal one is there already nothing changes.
+    /// Adds a whole line to the exceptions. If the same line is already there, nothing changes.
     fn write_stray(&mut self, alloc: Global, line: &Line) -> Result<(), StoreFault>
         ensures written { IsWrite firm clean sure stands lasts leaves refusals
             (Unmatched line.now) result self.old self.new };
 
-    /// Takes a whole line out of the exceptions, and changes nothing else; where it is none of them nothing changes. It
-    /// is one write.
+    /// Removes a whole line from the exceptions, and changes nothing else. If it is not there, nothing changes. This is
+    /// one write.
     fn dismiss(&mut self, alloc: Global, line: &Line) -> Result<(), StoreFault>
         ensures written { IsWrite firm clean sure stands lasts leaves refusals
             (Repeated line.now) result self.old self.new };

@@ -1,23 +1,28 @@
-// The rows that a sink is handed one by one.
+// Passing rows to a sink one by one.
 
 ghost use Rattle.std.specs.Prelude.{FitsSigned};
 ghost use Rattle.std.specs.Int.{w64};
 ghost use Rattle.firm_rows.specs.Countable.{IsMovementInRange, IsFirmLineInRange, IsLineInRange, IsBalanceInRange};
 ghost use Rattle.trust_store.specs.Calls.{AreHanded};
 
-use firm_rows::{FirmLine, Movement, RowSink, StatementRow};
+use firm_rows::{
+    BalanceSink, ExceptionSink, FirmLine, FirmLineSink, Movement, MovementSink, StatementRow,
+};
 use std::alloc::AllocError;
 use trust_base::Line;
 
-// What a movement moved is a number of 64 bits.
+// A movement's amount always fits 64 bits.
 fn fits_a_word(movement: &Movement)
     ensures { FitsSigned w64 movement.now.amount }
 {
     let _amount = movement.amount;
 }
 
-/// Hands over each movement in order. One for which the sink wants memory ends the call.
-pub fn hand_movements<S: RowSink>(movements: &[Movement], sink: &mut S) -> Result<(), AllocError>
+/// Passes each movement to the sink, in order. Stops if the sink runs out of memory.
+pub fn hand_movements<S: MovementSink>(
+    movements: &[Movement],
+    sink: &mut S,
+) -> Result<(), AllocError>
     ensures { AreHanded S.moved IsMovementInRange movements.now result sink.old sink.new }
 {
     for movement in movements {
@@ -27,8 +32,8 @@ pub fn hand_movements<S: RowSink>(movements: &[Movement], sink: &mut S) -> Resul
     Ok(())
 }
 
-/// Hands over each line of the firm's own in order. One for which the sink wants memory ends the call.
-pub fn hand_firm_lines<S: RowSink>(lines: &[FirmLine], sink: &mut S) -> Result<(), AllocError>
+/// Passes each line of the firm's own to the sink, in order. Stops if the sink runs out of memory.
+pub fn hand_firm_lines<S: FirmLineSink>(lines: &[FirmLine], sink: &mut S) -> Result<(), AllocError>
     ensures { AreHanded S.lined IsFirmLineInRange lines.now result sink.old sink.new }
 {
     for line in lines {
@@ -38,8 +43,8 @@ pub fn hand_firm_lines<S: RowSink>(lines: &[FirmLine], sink: &mut S) -> Result<(
     Ok(())
 }
 
-/// Hands over each exception in order. One for which the sink wants memory ends the call.
-pub fn hand_lines<S: RowSink>(lines: &[Line], sink: &mut S) -> Result<(), AllocError>
+/// Passes each exception to the sink, in order. Stops if the sink runs out of memory.
+pub fn hand_lines<S: ExceptionSink>(lines: &[Line], sink: &mut S) -> Result<(), AllocError>
     ensures { AreHanded S.noted IsLineInRange lines.now result sink.old sink.new }
 {
     for line in lines {
@@ -49,8 +54,8 @@ pub fn hand_lines<S: RowSink>(lines: &[Line], sink: &mut S) -> Result<(), AllocE
     Ok(())
 }
 
-/// Hands over each balance in order. One for which the sink wants memory ends the call.
-pub fn hand_balances<S: RowSink>(rows: &[StatementRow], sink: &mut S) -> Result<(), AllocError>
+/// Passes each balance to the sink, in order. Stops if the sink runs out of memory.
+pub fn hand_balances<S: BalanceSink>(rows: &[StatementRow], sink: &mut S) -> Result<(), AllocError>
     ensures { AreHanded S.balanced IsBalanceInRange rows.now result sink.old sink.new }
 {
     for row in rows {

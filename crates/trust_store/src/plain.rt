@@ -1,4 +1,4 @@
-// A book of lists.
+// A book in memory, made of lists.
 
 ghost use Rattle.std.specs.Prelude.{◌≡◌, ◌≤◌, ◌++◌, ◌∷◌, [], ◌+ℤ◌, None, ℕ, length, fold, IfOk, IfSome, OnOk, OnErr, IsOk};
 ghost use Rattle.matter_parts.specs.declared.edit.Edit.TheVariants.{Nothing};
@@ -22,7 +22,8 @@ use crate::exceptions::{add_line, remove_line};
 use crate::handing::{hand_balances, hand_firm_lines, hand_lines, hand_movements};
 use firm_rows::laws::{firm_stays_sound, verdicts_fit};
 use firm_rows::{
-    BalanceKind, FirmLedger, FirmLine, Movement, Owner, RowSink, StatementRow, Verdict,
+    BalanceKind, BalanceSink, ExceptionSink, FirmLedger, FirmLine, FirmLineSink, Movement,
+    MovementSink, Owner, RowSink, StatementRow, Verdict,
 };
 use std::alloc::{AllocError, Global};
 use std::marker::Model;
@@ -36,10 +37,10 @@ pub struct KeptMatter {
     pub matter: Matter,
 }
 
-/// Keeps each matter whole in a list, by number, what was moved in another, the firm's own ledger, and the exceptions
-/// and the balances in two lists, in their order.
+/// Stores everything in lists: whole matters by number, the movements, the firm's own ledger, and the exceptions and
+/// the balances, both sorted.
 ///
-/// It never answers Store, and promises nothing of what a crash leaves.
+/// It never returns `Store`, and promises nothing about a crash.
 #[derive(Drop)]
 pub struct PlainBook {
     matters: Vec<KeptMatter>,
@@ -62,7 +63,7 @@ impl Model for PlainBook {
 }
 
 impl PlainBook {
-    /// A book without rows. It takes no memory.
+    /// A book without rows. Allocates nothing.
     pub fn new(alloc: Global) -> PlainBook
         ensures empty { result ≡ empty_firm }
         ensures sound { FirmSound result }
@@ -103,7 +104,7 @@ impl PlainBook {
         })
     }
 
-    // Makes one change of a matter, or none at an error.
+    // Makes one change of a matter, or none on an error.
     fn change(&mut self, alloc: Global, matter: MatterNo, change: &Change) -> Result<(), AllocError>
         requires { IsChange (of matter self.old) change.now }
         ensures ok { OnOk result (self.new ≡ after_change matter change.now self.old) }
@@ -124,7 +125,7 @@ impl PlainBook {
         Ok(())
     }
 
-    // Books a line of the firm's own, with what it moves, or nothing at an error.
+    // Books a line of the firm's own with what it moves, or nothing on an error.
     fn book(&mut self, line: &Line) -> Result<(), AllocError>
         requires { IsOwnBalance (balance_of (self.old).firm_lines +ℤ line.now.amount) }
         ensures ok { OnOk result (self.new ≡ with_firm_line (as_firm_line line.now) self.old) }
@@ -134,7 +135,7 @@ impl PlainBook {
         Ok(())
     }
 
-    // Keeps a balance, where none of its kind and day is kept.
+    // Stores a balance. None of its kind and day may be there yet.
     fn keep(&mut self, kind: BalanceKind, line: &Line) -> Result<(), AllocError>
         requires { kept_balance kind line.now.date (self.old).balances ≡ None }
         ensures ok { OnOk result (self.new ≡ with_statement (balance_row kind line.now) self.old) }
@@ -154,7 +155,7 @@ impl PlainBook {
         Ok(())
     }
 
-    // Takes a line out of the exceptions. It takes no memory.
+    // Removes a line from the exceptions. Allocates nothing.
     fn settle(&mut self, line: &Line)
         ensures { self.new ≡ after_match line.now self.old }
     {
@@ -213,19 +214,19 @@ impl Book for PlainBook {
         Ok(hand_counted(&self.matters, sink)?)
     }
 
-    fn each_movement<S: RowSink>(&mut self, sink: &mut S) -> Result<(), StoreFault> {
+    fn each_movement<S: MovementSink>(&mut self, sink: &mut S) -> Result<(), StoreFault> {
         Ok(hand_movements(&self.movements, sink)?)
     }
 
-    fn each_firm_line<S: RowSink>(&mut self, sink: &mut S) -> Result<(), StoreFault> {
+    fn each_firm_line<S: FirmLineSink>(&mut self, sink: &mut S) -> Result<(), StoreFault> {
         Ok(hand_firm_lines(self.own.lines(), sink)?)
     }
 
-    fn each_exception<S: RowSink>(&mut self, sink: &mut S) -> Result<(), StoreFault> {
+    fn each_exception<S: ExceptionSink>(&mut self, sink: &mut S) -> Result<(), StoreFault> {
         Ok(hand_lines(&self.exceptions, sink)?)
     }
 
-    fn each_balance<S: RowSink>(&mut self, sink: &mut S) -> Result<(), StoreFault> {
+    fn each_balance<S: BalanceSink>(&mut self, sink: &mut S) -> Result<(), StoreFault> {
         Ok(hand_balances(&self.balances, sink)?)
     }
 
@@ -241,7 +242,7 @@ impl Book for PlainBook {
         Ok(())
     }
 
-    // The change comes first, since it may want memory; taking the exception out wants none, and ends the write.
+    // The change comes first, since it may run out of memory. Removing the exception cannot, so it ends the write.
     fn write_line(
         &mut self,
         alloc: Global,
@@ -310,7 +311,7 @@ impl Book for PlainBook {
     }
 }
 
-// The place of a matter, or where it would stand.
+// The index of a matter, or where it would be inserted.
 fn search(kept: &[KeptMatter], matter: MatterNo) -> Result<usize, usize>
     requires { AreKeptWhole kept.now }
     ensures { result ≡ seek matter kept.now }
@@ -329,7 +330,7 @@ fn matter_of(alloc: Global, kept: &[KeptMatter], matter: MatterNo) -> Result<Mat
     }
 }
 
-// A copy of a matter with the named entries and those that these draw on.
+// A copy of a matter with the named entries and those that they draw on.
 fn part_of(
     alloc: Global,
     kept: &[KeptMatter],
@@ -346,7 +347,7 @@ fn part_of(
     }
 }
 
-// Makes the change, with what it moves, or nothing at all.
+// Makes the change with what it moves, or nothing on an error.
 fn write_kept(
     alloc: Global,
     kept: &mut Vec<KeptMatter>,
@@ -358,7 +359,7 @@ fn write_kept(
     requires change { IsChange (rows_in matter kept.old.items) change.now }
     ensures kept { OnOk result
         (IsKeptAs matter (changed change.now (rows_in matter kept.old.items)) kept.old.items kept.new.items) }
-    // Those of a matter that is purged go, and what the change moves comes behind the others.
+    // What the change moves is appended. If the matter is purged, its movements are removed.
     ensures moved { OnOk result
         (movements.new.items ≡ kept_movements matter change.now.edit
         (movements.old.items ++ joined_movement matter change.now.movement)) }
@@ -378,7 +379,7 @@ fn write_kept(
     }
 }
 
-// Books a line of the firm's own, with what it moves, or nothing at all.
+// Books a line of the firm's own with what it moves, or nothing on an error.
 fn book_line(
     movements: &mut Vec<Movement>,
     own: &mut FirmLedger,
@@ -406,7 +407,7 @@ fn book_line(
     }
 }
 
-// Takes out what a matter moved, where it is purged.
+// Removes a matter's movements, if the edit purges it.
 fn drop_movements(movements: &mut Vec<Movement>, matter: MatterNo, edit: &Edit)
     ensures { movements.new.items ≡ kept_movements matter edit.now movements.old.items }
 {
@@ -422,14 +423,14 @@ fn drop_movements(movements: &mut Vec<Movement>, matter: MatterNo, edit: &Edit)
     }
 }
 
-// Takes out what a matter moved.
+// Removes a matter's movements.
 fn take_out(movements: &mut Vec<Movement>, matter: MatterNo)
     ensures { movements.new.items ≡ moved_without matter movements.old.items }
 {
     movements.retain(|moved| !is_of_matter(&moved.owner, matter));
 }
 
-// Is it a movement of this matter?
+// Whether it is a movement of this matter.
 fn is_of_matter(owner: &Owner, number: MatterNo) -> bool
     ensures { result ≡ is_of_matter number owner.now }
 {
@@ -439,7 +440,7 @@ fn is_of_matter(owner: &Owner, number: MatterNo) -> bool
     }
 }
 
-// Adds what a change moves.
+// Appends what a change moves.
 fn push_movement(
     movements: &mut Vec<Movement>,
     matter: MatterNo,
@@ -461,7 +462,7 @@ fn push_movement(
     Ok(())
 }
 
-// Changes the matter that is kept, or keeps a new one.
+// Changes the stored matter, or stores a new one.
 fn change_kept(
     alloc: Global,
     kept: &mut Vec<KeptMatter>,
@@ -494,7 +495,7 @@ fn change_kept(
     }
 }
 
-// Hands over all rows; where they were 2^64 or more, none, as for want of memory.
+// Passes all rows to the sink. If there are 2^64 or more, passes none and reports out of memory.
 fn hand_counted<S: RowSink>(kept: &[KeptMatter], sink: &mut S) -> Result<(), AllocError>
     requires { AreKeptWhole kept.now }
     ensures { AreHanded S.stepped IsRowInRange (joined kept.now) result sink.old sink.new }
@@ -505,7 +506,7 @@ fn hand_counted<S: RowSink>(kept: &[KeptMatter], sink: &mut S) -> Result<(), All
     }
 }
 
-// How many rows there are, or None where they are 2^64 or more.
+// How many rows there are. None if 2^64 or more.
 fn row_count(kept: &[KeptMatter]) -> Option<u64>
     ensures value { IfSome result (λ n. n ≡ length (joined kept.now)) }
     ensures few { IfSome result (λ n. n ≤ MOST_ROWS) }
@@ -518,7 +519,7 @@ fn row_count(kept: &[KeptMatter]) -> Option<u64>
     Some(count)
 }
 
-// How many rows a matter has, or None where they are 2^64 or more.
+// How many rows a matter has. None if 2^64 or more.
 fn rows_of(matter: &Matter) -> Option<u64>
     ensures { IfSome result (λ n. (number : ℕ) → n ≡ length (pairs number (rows_kept matter.now))) }
 {

@@ -11,19 +11,19 @@ MIN_AMOUNT = 1
 abbrev pub IsAmount : ℕ → Type 0
 IsAmount n = (MIN_AMOUNT ≤ n) × (n ≤ MAX_AMOUNT)
 
--- the first number of a matter
+-- the lowest matter number
 abbrev pub MIN_MATTER : ℕ
 MIN_MATTER = 1
 
--- the number of a matter
+-- a matter number
 abbrev pub IsMatterNo : ℕ → Type 0
 IsMatterNo n = (MIN_MATTER ≤ n) × (n ≤ MAX_MATTER)
 
--- the year of a day
+-- the year of a business day
 abbrev pub IsDayYear : ℕ → Type 0
 IsDayYear y = (MIN_YEAR ≤ y) × (y ≤ MAX_YEAR)
 
--- A civil day is one number, year * 10000 + month * 100 + day of the month, so that days compare as numbers.
+-- A civil day is one number, year * 10000 + month * 100 + day of the month. Days compare as these numbers do.
 
 -- 2000-01-01
 abbrev pub MIN_DAY : ℕ
@@ -45,37 +45,37 @@ month_of n = n / 100 % 100
 abbrev pub month_day_of : ℕ → ℕ
 month_day_of n = n % 100
 
--- a day of the Gregorian calendar in the years that are kept
+-- a day of the Gregorian calendar in the years 2000 to 2199
 unfoldable pub IsDay : ℕ → Type 0
 IsDay n =
     IsDayYear (year_of n)
     × ((1 ≤ month_of n) × (month_of n ≤ 12))
     × ((1 ≤ month_day_of n) × (month_day_of n ≤ days_in_month (pos (year_of n)) (month_of n)))
 
--- the same as a test
+-- `IsDay` as a boolean
 unfoldable pub is_day : ℕ → Bool
 is_day n =
     (nat_le MIN_YEAR (year_of n) && nat_le (year_of n) MAX_YEAR)
     && (nat_le 1 (month_of n) && nat_le (month_of n) 12)
     && (nat_le 1 (month_day_of n) && nat_le (month_day_of n) (days_in_month (pos (year_of n)) (month_of n)))
 
--- the first number of an entry
+-- the lowest entry number
 abbrev pub MIN_ENTRY : ℕ
 MIN_ENTRY = 1
 
--- the number of an entry of a matter
+-- the number of an entry within its matter
 abbrev pub IsEntryNo : ℕ → Type 0
 IsEntryNo n = (MIN_ENTRY ≤ n) × (n ≤ MAX_ENTRY)
 
--- an amount or nothing, in cents
+-- an amount or zero, in cents
 abbrev pub IsAmountOrZero : ℕ → Type 0
 IsAmountOrZero n = n ≤ MAX_AMOUNT
 
--- an amount of a bank's line, in cents, below zero for money that went out
+-- an amount on a bank line, in cents; negative if the money went out
 abbrev pub IsBankAmount : ℤ → Type 0
 IsBankAmount z = unsigned_abs z ≤ MAX_BANK_AMOUNT
 
--- a day of the Gregorian calendar that may lie past the years that are kept
+-- a day of the Gregorian calendar in the years 2000 to 9999
 unfoldable pub IsCivilDay : ℕ → Type 0
 IsCivilDay n =
     ((MIN_YEAR ≤ year_of n) × (year_of n ≤ MAX_CIVIL_YEAR))

@@ -1,4 +1,4 @@
-// Amounts on a bank's lines.
+// Amounts on bank lines.
 
 ghost use Rattle.std.specs.Prelude.{Some, ◌++◌, OnOk, OnErr, ◌≡◌, ◌≢◌, ◌≤◌, ℕ, ℤ, ◌∷◌, IfSome, IfNone};
 ghost use Rattle.trust_values.specs.Limits.{IsBankAmount};
@@ -10,7 +10,7 @@ use std::alloc::AllocError;
 use std::fmt;
 use std::marker::Model;
 
-/// A bank's amount in whole cents, below zero for money that went out; at most sixteen digits before the point.
+/// A bank's amount in whole cents, negative if the money went out. At most sixteen digits before the point.
 ///
 /// Contracts see it as the signed number of cents.
 #[derive(Clone, Copy, PartialEq, Eq, PartialOrd, Ord, Debug)]
@@ -28,7 +28,7 @@ impl Model for BankAmount {
     ghost inverse = { λ z. record { value = z } };
 }
 
-// The amount, not below zero, of a text without a sign.
+// Parses an amount without a sign.
 fn read_unsigned(text: &[u8]) -> Option<BankAmount>
     ensures range { IfSome result IsBankAmount }
     ensures some { IfSome result (λ a. signed_text a ≡ text.now) }
@@ -38,7 +38,7 @@ fn read_unsigned(text: &[u8]) -> Option<BankAmount>
     Some(BankAmount { value: size as i64 })
 }
 
-// The amount below zero of a size, where there is one.
+// The negative amount of this size. None if the size is zero.
 fn withdrawal(size: u64) -> Option<BankAmount>
     requires { size ≤ MAX_BANK_AMOUNT }
     ensures range { IfSome result IsBankAmount }
@@ -53,7 +53,7 @@ fn withdrawal(size: u64) -> Option<BankAmount>
     })
 }
 
-// The amount below zero of a text behind its minus sign.
+// Parses a negative amount; `size` is what follows the minus sign.
 fn read_negative(size: &[u8]) -> Option<BankAmount>
     ensures range { IfSome result IsBankAmount }
     ensures some { IfSome result (λ a. signed_text a ≡ 45 ∷ size.now) }
@@ -63,7 +63,7 @@ fn read_negative(size: &[u8]) -> Option<BankAmount>
     withdrawal(size)
 }
 
-// The amount of a text, where it is the text of one.
+// Parses an amount, negative or not.
 fn read_signed(text: &[u8]) -> Option<BankAmount>
     ensures range { IfSome result IsBankAmount }
     ensures some { IfSome result (λ a. signed_text a ≡ text.now) }
@@ -76,7 +76,7 @@ fn read_signed(text: &[u8]) -> Option<BankAmount>
 }
 
 impl BankAmount {
-    /// The amount of a text, exactly where it is the text of one; `-0.00` is of none.
+    /// Parses an amount such as `-12.05`. Returns None for any other bytes, including `-0.00`.
     pub fn read(text: &[u8]) -> Option<BankAmount>
         ensures value { result ≡ bank_amount_of text.now }
         ensures some { IfSome result (λ a. signed_text a ≡ text.now) }
@@ -85,7 +85,7 @@ impl BankAmount {
         read_signed(text)
     }
 
-    /// The amount of a number of cents, exactly where it is one.
+    /// An amount of this many cents. None if it is out of range.
     pub fn from_number(cents: i64) -> Option<BankAmount>
         ensures some { IfSome result (λ a. (a ≡ cents) × IsBankAmount a) }
         ensures none { IfNone result (¬ IsBankAmount cents) }
@@ -104,7 +104,7 @@ impl BankAmount {
         self.value
     }
 
-    /// Appends the amount's text. At an error, want of memory, the vector is as before.
+    /// Appends the amount's text. If memory runs out, `out` is unchanged.
     pub fn write_to(self, out: &mut Vec<u8>) -> Result<(), AllocError>
         ensures ok { OnOk result (out.new.items ≡ out.old.items ++ signed_text self) }
         ensures err { OnErr result (out.new.items ≡ out.old.items) }

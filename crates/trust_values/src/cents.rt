@@ -11,7 +11,7 @@ use std::marker::Model;
 
 /// An amount of whole cents, from 1 to 99,999,999,999: 0.01 to 999999999.99 dollars.
 ///
-/// Contracts see it as the number of cents. Of texts only the one that it is written as is read:
+/// Contracts see it as the number of cents. Each amount is written in exactly one way, and only that is read:
 ///
 ///     Cents::read(b"500.00")    // Some, of 50,000 cents
 ///     Cents::read(b"$500")      // None, and so are "500", "0500.00" and "0.00"
@@ -30,7 +30,7 @@ impl Model for Cents {
     ghost inverse = { λ n. record { value = n } };
 }
 
-// Whether a text may start a number without leading zeros and without a plus sign; the parse refuses a minus sign.
+// Whether a text starts like a number: no leading zeros, no plus sign. The parse itself refuses a minus sign.
 fn is_plain(text: &[u8]) -> bool
     ensures { result ≡ starts_plainly text.now }
 {
@@ -40,7 +40,7 @@ fn is_plain(text: &[u8]) -> bool
     text[0] != b'+' && (text[0] != b'0' || text.len() == 1)
 }
 
-// The whole dollars of a text without leading zeros, at most so many.
+// Parses whole dollars without leading zeros. None if above `most`.
 fn read_dollars(text: &[u8], most: u64) -> Option<u64>
     ensures some { IfSome result (λ n. (n ≤ most) × (decimal n ≡ text.now)) }
     ensures none { IfNone result ((n : ℕ) → n ≤ most → decimal n ≢ text.now) }
@@ -60,7 +60,7 @@ fn read_dollars(text: &[u8], most: u64) -> Option<u64>
     Some(whole)
 }
 
-// The cents of the end of a text: a point and two digits.
+// Parses a point and two digits of cents.
 fn read_end(end: &[u8]) -> Option<u64>
     ensures some { IfSome result (λ n. (n < 100) × (end_text n ≡ end.now)) }
     ensures none { IfNone result ((n : ℕ) → n < 100 → end_text n ≢ end.now) }
@@ -75,8 +75,8 @@ fn read_end(end: &[u8]) -> Option<u64>
     Some((tens - b'0') as u64 * 10 + (ones - b'0') as u64)
 }
 
-/// The cents, also none, of a text of dollars without leading zeros, at most `most`, a point and two digits. `most` is
-/// below 10^17.
+/// Parses dollars without leading zeros, a point and two digits, as cents. The result may be zero. None if the dollars
+/// exceed `most`, which is below 10^17.
 pub(crate) fn read_sum(text: &[u8], most: u64) -> Option<u64>
     requires { most < 10 ^ 17 }
     ensures range { IfSome result (λ n. n / 100 ≤ most) }
@@ -92,7 +92,7 @@ pub(crate) fn read_sum(text: &[u8], most: u64) -> Option<u64>
     Some(dollars * 100 + cents)
 }
 
-// The amount of a text, where it is the text of one.
+// Parses an amount.
 fn read_amount(text: &[u8]) -> Option<Cents>
     ensures range { IfSome result IsAmount }
     ensures some { IfSome result (λ c. amount_text c ≡ text.now) }
@@ -103,8 +103,8 @@ fn read_amount(text: &[u8]) -> Option<Cents>
 }
 
 impl Cents {
-    /// The amount of a text, exactly where it is the text of one: dollars without leading zeros, a
-    /// point and two digits.
+    /// Parses an amount: dollars without leading zeros, a point and two digits. Returns None for any other bytes, and
+    /// for `0.00`.
     pub fn read(text: &[u8]) -> Option<Cents>
         ensures value { result ≡ amount_of text.now }
         ensures some { IfSome result (λ n. amount_text n ≡ text.now) }
@@ -113,7 +113,7 @@ impl Cents {
         read_amount(text)
     }
 
-    /// The amount of a number of cents, where it is in range.
+    /// An amount of this many cents. None if it is out of range.
     pub fn from_number(value: u64) -> Option<Cents>
         ensures some { IfSome result (λ n. (n ≡ value) × IsAmount n) }
         ensures none { IfNone result (¬ IsAmount value) }
@@ -132,7 +132,7 @@ impl Cents {
         self.value
     }
 
-    /// Appends the amount's text. At an error, want of memory, the vector is as before.
+    /// Appends the amount's text. If memory runs out, `out` is unchanged.
     pub fn write_to(self, out: &mut Vec<u8>) -> Result<(), AllocError>
         ensures ok { OnOk result (out.new.items ≡ out.old.items ++ amount_text self) }
         ensures err { OnErr result (out.new.items ≡ out.old.items) }

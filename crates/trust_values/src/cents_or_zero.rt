@@ -1,4 +1,4 @@
-// Amounts of money, or nothing.
+// Amounts of money that may be zero.
 
 ghost use Rattle.std.specs.Prelude.{Some, ◌≡◌, ◌≢◌, ℕ, ◌++◌, IfSome, IfNone, OnOk, OnErr};
 ghost use Rattle.trust_values.specs.Limits.{IsAmountOrZero};
@@ -10,7 +10,7 @@ use std::alloc::AllocError;
 use std::fmt;
 use std::marker::Model;
 
-/// An amount of whole cents or nothing, from 0.00 to 999999999.99 dollars.
+/// An amount of whole cents that may be zero, from 0.00 to 999999999.99 dollars.
 ///
 /// Contracts see it as the number of cents.
 #[derive(Clone, Copy, PartialEq, Eq, PartialOrd, Ord, Debug)]
@@ -28,7 +28,7 @@ impl Model for CentsOrZero {
     ghost inverse = { λ n. record { value = n } };
 }
 
-// The amount or zero of a text, where it is the text of one.
+// Parses an amount that may be zero.
 fn read_zero_or(text: &[u8]) -> Option<CentsOrZero>
     ensures range { IfSome result IsAmountOrZero }
     ensures some { IfSome result (λ c. amount_text c ≡ text.now) }
@@ -39,7 +39,7 @@ fn read_zero_or(text: &[u8]) -> Option<CentsOrZero>
 }
 
 impl CentsOrZero {
-    /// The amount of a text or zero of `0.00`, exactly where it is the text of one.
+    /// Parses an amount, or `0.00`. Returns None for any other bytes.
     pub fn read(text: &[u8]) -> Option<CentsOrZero>
         ensures value { result ≡ amount_or_zero_of text.now }
         ensures some { IfSome result (λ c. amount_text c ≡ text.now) }
@@ -48,7 +48,7 @@ impl CentsOrZero {
         read_zero_or(text)
     }
 
-    /// The sum of a number of cents, exactly where it is one.
+    /// An amount of this many cents, which may be 0. None if it is out of range.
     pub fn from_number(cents: u64) -> Option<CentsOrZero>
         ensures some { IfSome result (λ c. (c ≡ cents) × IsAmountOrZero c) }
         ensures none { IfNone result (¬ IsAmountOrZero cents) }
@@ -67,7 +67,7 @@ impl CentsOrZero {
         self.value
     }
 
-    /// Appends the amount's text. At an error, want of memory, the vector is as before.
+    /// Appends the amount's text. If memory runs out, `out` is unchanged.
     pub fn write_to(self, out: &mut Vec<u8>) -> Result<(), AllocError>
         ensures ok { OnOk result (out.new.items ≡ out.old.items ++ amount_text self) }
         ensures err { OnErr result (out.new.items ≡ out.old.items) }

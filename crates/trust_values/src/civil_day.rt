@@ -1,4 +1,4 @@
-// Days that may lie past the last business day.
+// Days that may lie after the last business day.
 
 ghost use Rattle.std.specs.Prelude.{◌≡◌, ◌++◌, ◌↔◌, ℕ, IsTrue, IfSome, IfNone, OnOk, OnErr};
 ghost use Rattle.trust_values.specs.Limits.{IsCivilDay};
@@ -10,7 +10,7 @@ use jiff::civil::Date;
 use std::alloc::AllocError;
 use std::marker::Model;
 
-/// A civil day from 2000-01-01 to 9999-12-31, as a day counted on from a business day may be.
+/// A civil day from 2000-01-01 to 9999-12-31, such as one counted forward from a business day.
 ///
 /// Contracts see it as the number year * 10000 + month * 100 + day of the month.
 #[derive(Clone, Copy, PartialEq, Eq, PartialOrd, Ord, Debug)]
@@ -28,7 +28,7 @@ impl Model for CivilDay {
     ghost inverse = { λ n. record { number = n } };
 }
 
-// Whether the calendar has the day of a number, in a year from 2000 to 9999.
+// Whether the calendar has the day with this number, in a year from 2000 to 9999.
 #[tactic(auto, unfolding(crate::specs::Limits::IsCivilDay))]
 fn is_on_calendar(number: u32) -> bool
     ensures { IsTrue result ↔ IsCivilDay number }
@@ -43,7 +43,7 @@ fn is_on_calendar(number: u32) -> bool
 }
 
 impl CivilDay {
-    /// The day of a number year * 10000 + month * 100 + day of the month, where the calendar has it.
+    /// The day with the number year * 10000 + month * 100 + day of the month. None if the calendar has no such day.
     pub fn from_number(number: u32) -> Option<CivilDay>
         ensures some { IfSome result (λ d. (d ≡ number) × IsCivilDay d) }
         ensures none { IfNone result (¬ IsCivilDay number) }
@@ -62,7 +62,7 @@ impl CivilDay {
         self.number
     }
 
-    /// Appends the day's text. At an error, want of memory, the vector is as before.
+    /// Appends the day's text. If memory runs out, `out` is unchanged.
     pub fn write_to(self, out: &mut Vec<u8>) -> Result<(), AllocError>
         ensures ok { OnOk result (out.new.items ≡ out.old.items ++ day_text self) }
         ensures err { OnErr result (out.new.items ≡ out.old.items) }

@@ -30,7 +30,7 @@ impl Model for Day {
     ghost inverse = { λ n. record { number = n } };
 }
 
-// The calendar's date of a day's number, or none.
+// The calendar date with this number. None if it is not a business day.
 #[tactic(auto, unfolding(crate::specs::Limits::IsDay))]
 fn date_of(number: u32) -> Option<Date>
     ensures day { IfSome result (λ _. IsDay number) }
@@ -49,7 +49,7 @@ fn date_of(number: u32) -> Option<Date>
     }
 }
 
-/// The ten bytes of the text of a day's number, which is below 100,000,000.
+/// A day's number as the ten bytes `YYYY-MM-DD`. The number is below 100,000,000.
 pub fn day_bytes(number: u32) -> [u8; 10]
     requires { number < 100_000_000 }
     ensures { result ≡ day_text number }
@@ -69,14 +69,14 @@ pub fn day_bytes(number: u32) -> [u8; 10]
     ]
 }
 
-// Whether a text has ten bytes, with dashes in their places.
+// Whether a text has ten bytes, with dashes at 4 and 7.
 fn has_dashes(text: &[u8]) -> bool
     ensures { IsTrue result ↔ ((length text.now ≡ 10) × (slice_index text.now 4 ≡ 45) × (slice_index text.now 7 ≡ 45)) }
 {
     text.len() == 10 && text[4] == b'-' && text[7] == b'-'
 }
 
-// The number of a text of four digits, two and two with dashes between them.
+// Parses `YYYY-MM-DD` as a number, whether or not the calendar has that day.
 fn read_number(text: &[u8]) -> Option<u32>
     ensures below { IfSome result (λ n. n < 100_000_000) }
     ensures some { IfSome result (λ n. day_text n ≡ text.now) }
@@ -91,7 +91,7 @@ fn read_number(text: &[u8]) -> Option<u32>
     Some(year * 10_000 + month * 100 + day)
 }
 
-// The day of a text, where it is the text of one.
+// Parses a day.
 fn read_day(text: &[u8]) -> Option<Day>
     ensures range { IfSome result IsDay }
     ensures some { IfSome result (λ d. day_text d ≡ text.now) }
@@ -102,7 +102,7 @@ fn read_day(text: &[u8]) -> Option<Day>
 }
 
 impl Day {
-    /// The day of a text `YYYY-MM-DD`, exactly where it is the text of one.
+    /// Parses a day `YYYY-MM-DD`. Returns None for any other bytes, and if the calendar has no such day.
     pub fn read(text: &[u8]) -> Option<Day>
         ensures value { result ≡ day_of text.now }
         ensures some { IfSome result (λ d. day_text d ≡ text.now) }
@@ -111,7 +111,7 @@ impl Day {
         read_day(text)
     }
 
-    /// The day of a number year * 10000 + month * 100 + day of the month, where the calendar has it.
+    /// The day with the number year * 10000 + month * 100 + day of the month. None if the calendar has no such day.
     pub fn from_number(number: u32) -> Option<Day>
         ensures some { IfSome result (λ d. (d ≡ number) × IsDay d) }
         ensures none { IfNone result (¬ IsDay number) }
@@ -128,7 +128,7 @@ impl Day {
         self.number
     }
 
-    /// The day as a date of the calendar.
+    /// The day as a calendar date.
     pub fn date(self) -> Date
         ensures { IsYmd (pos (year_of self)) (pos (month_of self)) (pos (month_day_of self)) result }
     {
@@ -138,7 +138,7 @@ impl Day {
         date
     }
 
-    /// Appends the day's text. At an error, want of memory, the vector is as before.
+    /// Appends the day's text. If memory runs out, `out` is unchanged.
     pub fn write_to(self, out: &mut Vec<u8>) -> Result<(), AllocError>
         ensures ok { OnOk result (out.new.items ≡ out.old.items ++ day_text self) }
         ensures err { OnErr result (out.new.items ≡ out.old.items) }

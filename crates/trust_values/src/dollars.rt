@@ -1,4 +1,4 @@
-// Sums of cents as they are printed.
+// Sums of cents, printed as dollars.
 
 ghost use Rattle.std.specs.Prelude.{◌≡◌, ◌++◌, Some, OnOk, OnErr};
 ghost use Rattle.trust_values.specs.Texts.{signed_text};
@@ -6,7 +6,7 @@ ghost use Rattle.trust_values.specs.Texts.{signed_text};
 use std::alloc::AllocError;
 use std::fmt;
 
-/// A sum in cents, also zero or below zero, that prints as dollars: `-12.05`.
+/// A sum in cents, which may be zero or negative. It prints as dollars: `-12.05`.
 #[derive(Clone, Copy, PartialEq, Eq, Debug)]
 pub struct Dollars(pub i128);
 
@@ -26,8 +26,7 @@ impl fmt::Display for Dollars {
     }
 }
 
-/// Appends the text of a sum in cents, `-` in front below zero. At an error, want of memory, the
-/// vector is as before.
+/// Appends a sum in cents as dollars, with a leading `-` if negative. If memory runs out, `out` is unchanged.
 pub fn write_amount(amount: i128, out: &mut Vec<u8>) -> Result<(), AllocError>
     ensures ok { OnOk result (out.new.items ≡ out.old.items ++ signed_text amount) }
     ensures err { OnErr result (out.new.items ≡ out.old.items) }

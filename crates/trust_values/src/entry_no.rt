@@ -10,7 +10,7 @@ use std::alloc::AllocError;
 use std::fmt;
 use std::marker::Model;
 
-/// The number of an entry of a matter, from 1 to 9999; its text has four digits.
+/// The number of an entry within its matter, from 1 to 9999, written with four digits.
 ///
 /// Contracts see it as that number.
 #[derive(Clone, Copy, PartialEq, Eq, PartialOrd, Ord, Debug)]
@@ -28,7 +28,7 @@ impl Model for EntryNo {
     ghost inverse = { λ n. record { number = n } };
 }
 
-// The entry of a text, where it is the text of one.
+// Parses an entry number.
 fn read_entry(text: &[u8]) -> Option<EntryNo>
     ensures range { IfSome result IsEntryNo }
     ensures some { IfSome result (λ e. entry_text e ≡ text.now) }
@@ -42,7 +42,7 @@ fn read_entry(text: &[u8]) -> Option<EntryNo>
 }
 
 impl EntryNo {
-    /// The entry of a text, exactly where it is the text of one.
+    /// Parses an entry number: four digits, not all zero. Returns None for any other bytes.
     pub fn read(text: &[u8]) -> Option<EntryNo>
         ensures value { result ≡ entry_of text.now }
         ensures some { IfSome result (λ e. entry_text e ≡ text.now) }
@@ -51,7 +51,7 @@ impl EntryNo {
         read_entry(text)
     }
 
-    /// The entry of a number, exactly where it is one.
+    /// The entry with this number. None if it is out of range.
     pub fn from_number(number: u16) -> Option<EntryNo>
         ensures some { IfSome result (λ e. (e ≡ number) × IsEntryNo e) }
         ensures none { IfNone result (¬ IsEntryNo number) }
@@ -70,7 +70,7 @@ impl EntryNo {
         self.number
     }
 
-    /// The four digits of the text.
+    /// The four digits as text.
     pub fn digits(self) -> [u8; 4]
         ensures { result ≡ entry_text self }
     {
@@ -83,7 +83,7 @@ impl EntryNo {
         ]
     }
 
-    /// Appends the number's text. At an error, want of memory, the vector is as before.
+    /// Appends the four digits. If memory runs out, `out` is unchanged.
     pub fn write_to(self, out: &mut Vec<u8>) -> Result<(), AllocError>
         ensures ok { OnOk result (out.new.items ≡ out.old.items ++ entry_text self) }
         ensures err { OnErr result (out.new.items ≡ out.old.items) }

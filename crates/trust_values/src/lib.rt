@@ -1,4 +1,4 @@
-//! Amounts, days and numbers of trust account records, each value with one text.
+//! Amounts, days and numbers of trust account records. Each value is written in exactly one way.
 #![tactic(auto)]
 
 mod bank_amount;

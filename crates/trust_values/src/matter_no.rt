@@ -10,7 +10,7 @@ use std::alloc::AllocError;
 use std::fmt;
 use std::marker::Model;
 
-/// The number of a matter, from 1 to 999999, that the cashier chooses.
+/// The number of a matter, from 1 to 999999, chosen by the cashier.
 ///
 /// Contracts see it as that number.
 #[derive(Clone, Copy, PartialEq, Eq, PartialOrd, Ord, Debug)]
@@ -28,7 +28,7 @@ impl Model for MatterNo {
     ghost inverse = { λ n. record { number = n } };
 }
 
-// The matter of a text, where it is the text of one.
+// Parses a matter number.
 fn read_matter(text: &[u8]) -> Option<MatterNo>
     ensures range { IfSome result IsMatterNo }
     ensures some { IfSome result (λ m. matter_text m ≡ text.now) }
@@ -42,7 +42,7 @@ fn read_matter(text: &[u8]) -> Option<MatterNo>
 }
 
 impl MatterNo {
-    /// The matter of a text, exactly where it is the text of one: six digits, not all zero.
+    /// Parses a matter number: six digits, not all zero. Returns None for any other bytes.
     pub fn read(text: &[u8]) -> Option<MatterNo>
         ensures value { result ≡ matter_of text.now }
         ensures some { IfSome result (λ n. matter_text n ≡ text.now) }
@@ -51,7 +51,7 @@ impl MatterNo {
         read_matter(text)
     }
 
-    /// The matter of a number, where it is in range.
+    /// The matter with this number. None if it is out of range.
     pub fn from_number(number: u32) -> Option<MatterNo>
         ensures some { IfSome result (λ n. (n ≡ number) × IsMatterNo n) }
         ensures none { IfNone result (¬ IsMatterNo number) }
@@ -70,7 +70,7 @@ impl MatterNo {
         self.number
     }
 
-    /// Appends the number's six digits. At an error, want of memory, the vector is as before.
+    /// Appends the six digits. If memory runs out, `out` is unchanged.
     pub fn write_to(self, out: &mut Vec<u8>) -> Result<(), AllocError>
         ensures ok { OnOk result (out.new.items ≡ out.old.items ++ matter_text self) }
         ensures err { OnErr result (out.new.items ≡ out.old.items) }

@@ -1,4 +1,4 @@
-// Until when the records of a closed matter are kept.
+// How long the records of a closed matter are kept.
 
 ghost use Rattle.std.specs.Prelude.{◌≡◌, ◌+◌, ◌<◌, ◌≤◌};
 ghost use Rattle.trust_values.specs.Limits.{year_of};
@@ -6,7 +6,7 @@ ghost use Rattle.trust_values.specs.Retention.{IsDayAfter, first_purge_day, next
 
 use crate::{CivilDay, Day, MAX_CIVIL_YEAR, MAX_YEAR, YEARS_KEPT};
 
-// The day after a day of a year before 9999.
+// The day after a day, whose year is before 9999.
 fn day_after(day: CivilDay) -> CivilDay
     requires { year_of day < MAX_CIVIL_YEAR }
     ensures value { result ≡ next_day day }
@@ -28,8 +28,8 @@ fn day_after(day: CivilDay) -> CivilDay
 }
 
 impl Day {
-    /// The last day for which the records of a matter that was closed on this day are kept: the same month and day five
-    /// years later, or 28 February for 29 February. It may lie past 2199, up to 2204-12-31.
+    /// The last day on which the records of a matter closed on this day are kept: the same month and day five years
+    /// later, or 28 February for 29 February. It may lie after 2199, up to 2204-12-31.
     pub fn retained_until(self) -> CivilDay
         ensures value { result ≡ retained_until self }
         ensures range { year_of result ≤ MAX_YEAR + YEARS_KEPT }
@@ -46,8 +46,8 @@ impl Day {
         day
     }
 
-    /// The first day on which a matter that was closed on this day may be purged: the one after the last for which its
-    /// records are kept. It may lie past 2199.
+    /// The first day on which a matter closed on this day may be purged: the day after `retained_until`. It may lie
+    /// after 2199.
     pub fn first_purge_day(self) -> CivilDay
         ensures value { result ≡ first_purge_day self }
         ensures after { IsDayAfter (retained_until self) result }

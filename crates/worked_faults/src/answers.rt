@@ -1,16 +1,16 @@
-// Clients that take their answers slowly, and clocks that can't be read.
+// Clients that accept their answers slowly, and clocks that cannot be read.
 
 use crate::cases::{Case, DONE, serves};
 use crate::clients::{Arrival, Client, GOOD, MESSAGE, QUIET};
 
-// A client that takes nothing.
+// A client that accepts nothing.
 const TAKES_NOTHING: Client = Client {
     takes: (1_000_000, 1_000_000),
     answered: (0, ""),
     ..GOOD
 };
 
-// A client that takes a byte each second.
+// A client that accepts one byte a second.
 const TAKES_BYTES: Client = Client {
     takes: (1, 1_000),
     answered: (
@@ -20,7 +20,7 @@ const TAKES_BYTES: Client = Client {
     ..GOOD
 };
 
-// A client that sends three messages at once, and takes each head and each body after 59 seconds.
+// A client that sends three messages at once, and accepts each head and each body after 59 seconds.
 const TAKES_LATE: Client = Client {
     sends: &[(
         1,
@@ -42,7 +42,7 @@ const IN_TWO: Client = Client {
     ..QUIET
 };
 
-// A client whose message is read and can't be answered.
+// A client whose message is read and cannot be answered.
 const UNANSWERED: Client = Client {
     sends: &[(1, 0, MESSAGE)],
     read: 47,

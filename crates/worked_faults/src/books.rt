@@ -1,5 +1,5 @@
-// A book that refuses a write: that is answered by a fault of the store, nothing has changed, and the same goes through
-// when it is sent again.
+// A book that refuses a write: the answer is a fault of the store, nothing has changed, and the same succeeds when it
+// is sent again.
 
 use crate::fronts::{Wrong, today};
 use crate::given::{ALL, End, Given, read_at};
@@ -8,14 +8,16 @@ use crate::pieces::{
     DEPOSIT, DEPOSIT_REFUSED, ENTRY_PROPOSED, FIRM_LINE, FIRM_LINE_AGAIN, FIRM_LINE_REFUSED, OPEN,
     PROPOSED, Piece, SHOWN_CLEARED, SHOWN_HELD, SHOWN_ISSUED, SHOWN_OPENED, SHOWN_PROPOSED,
 };
+use crate::refusing::RefusingBook;
 use crate::sheets::{OPENING, STRAY_LINES, STRAYS};
+use crate::trial::TrialWriter;
 use portal_http::{Input, Next, Routes, read_message, request_of, write_reply};
 use std::alloc::Global;
-use trust_base::{Day, TrialWriter};
+use trust_base::Day;
 use trust_desk::{Desk, Request};
-use trust_store::{Book, PlainBook, RefusingBook};
+use trust_store::{Book, PlainBook};
 
-// Messages of which each is answered so, over a book that refuses the write of a number, counted from 1.
+// Messages with their answers, over a book that refuses the write with this number, counted from 1.
 type Refused = (&'static str, u64, &'static [Piece]);
 
 const REFUSED: &[Refused] = &[
@@ -81,7 +83,7 @@ fn new_desk(alloc: Global, nth: u64) -> Desk<RefusingBook<PlainBook>> {
     Desk::new(RefusingBook::new(PlainBook::new(alloc), nth))
 }
 
-/// Sends messages to a desk, each as a stream of its own. Fails with the place of the first that is answered otherwise.
+/// Sends messages to a desk, each as its own stream. Fails with the index of the first that gets another answer.
 pub(crate) fn serve<B: Book>(
     alloc: Global,
     desk: &mut Desk<B>,
@@ -121,7 +123,7 @@ fn request(alloc: Global, routes: &Routes, message: &str) -> Option<Request> {
     }
 }
 
-// What messages ask.
+// Returns the requests of messages.
 fn requests(alloc: Global, messages: &[Piece]) -> Option<Vec<Request>> {
     let routes = Routes::new(alloc).ok()?;
     let mut requests = Vec::new(alloc);
@@ -132,7 +134,7 @@ fn requests(alloc: Global, messages: &[Piece]) -> Option<Vec<Request>> {
     Some(requests)
 }
 
-// The answers to messages that are asked in one run.
+// Returns the answers to messages that are asked in one run.
 fn answers_of_a_run(alloc: Global, nth: u64, messages: &[Piece]) -> Option<Vec<u8>> {
     let requests = requests(alloc, messages)?;
     let mut desk = new_desk(alloc, nth);
@@ -144,7 +146,7 @@ fn answers_of_a_run(alloc: Global, nth: u64, messages: &[Piece]) -> Option<Vec<u
     Some(writer.written)
 }
 
-// Whether they are these.
+// Whether a run gives exactly the expected answers.
 fn is_run(alloc: Global, nth: u64, messages: &[Piece]) -> bool {
     let Some(found) = answers_of_a_run(alloc, nth, messages) else {
         return false;
@@ -166,8 +168,8 @@ fn a_run_goes_on_behind_a_refused_write(rt: HostRuntime) {
     }
 }
 
-// What is given to the cashier's program over a book that refuses the write of a number, behind messages, and what is
-// given then.
+// What is given, after some messages, over a book that refuses the write with this number: the text and its answer at
+// first, and those of the second attempt.
 #[derive(Clone, Copy)]
 struct Again {
     nth: u64,
@@ -241,7 +243,8 @@ const AGAIN: &[(&str, Again)] = &[
     ),
 ];
 
-// It ends where the store is refused, and goes through when it is given again; so many bytes at a read and at a write.
+// Whether it ends when the store refuses, and succeeds when it is given again, with at most this many bytes at a read
+// and at a write.
 fn is_done_again(alloc: Global, again: &Again, most: usize) -> Result<bool, Wrong> {
     let day = today()?;
     let mut desk = new_desk(alloc, again.nth);

@@ -1,34 +1,35 @@
-// Clients that are served in turn, and what is wanted.
+// Clients that are served in turn, and what is expected.
 
 use crate::clients::{ANSWER, Arrival, Client};
 use crate::clock::TrialClock;
 use crate::halves::TrialPeer;
 use crate::listener::TrialListener;
+use crate::trial::TrialWriter;
 use portal_http::{ServeEnd, serve_connections};
 use std::alloc::{AllocError, AllocFailed, Global};
 use std::time::Duration;
-use trust_base::{Day, TrialWriter};
+use trust_base::Day;
 use trust_desk::Desk;
 use trust_store::PlainBook;
 
-/// Clients that are served in turn, as many as there are.
+/// Clients that are served in turn, all of them.
 #[derive(Clone, Copy)]
 pub(crate) struct Case<'a> {
-    /// What comes of each accept.
+    /// The result of each accept.
     pub(crate) arrivals: &'a [Arrival],
-    /// How often the clock can be read before it fails.
+    /// How many readings of the clock succeed.
     pub(crate) clock: u64,
-    /// How many writes of the operator's lines succeed, each of seven bytes at most.
+    /// How many writes of the operator's lines succeed, each of at most seven bytes.
     pub(crate) writes: u64,
     /// How serving ends.
     pub(crate) end: ServeEnd,
     /// The operator's lines.
     pub(crate) lines: &'a str,
-    /// How many milliseconds pass in all.
+    /// How many milliseconds pass in total.
     pub(crate) passed: u64,
 }
 
-/// All are served, with no fault but the clients' own, in no time.
+/// All clients are served in no time, with no fault except their own.
 pub(crate) const DONE: Case<'static> = Case {
     arrivals: &[],
     clock: u64::MAX,
@@ -41,19 +42,19 @@ pub(crate) const DONE: Case<'static> = Case {
 /// Why a test fails.
 #[derive(Clone, Copy, PartialEq, Eq, Debug)]
 pub(crate) enum Wrong {
-    /// A word stands for no day.
+    /// A word is not a day.
     Day,
-    /// A growth was refused.
+    /// Out of memory.
     Memory,
-    /// Serving ended otherwise.
+    /// Serving ended differently.
     End(ServeEnd),
-    /// The operator was told other lines.
+    /// Other lines were written for the operator.
     Lines,
     /// Another time passed.
     Passed(Duration),
-    /// The client of this place, counted from 0, was told other bytes; so many.
+    /// The client with this index received other bytes; this many.
     Answers(usize, usize),
-    /// Of the client of this place another count of bytes was read.
+    /// Another number of bytes was read of the client with this index.
     Read(usize, u64),
 }
 
@@ -69,7 +70,7 @@ impl<T: Drop> From<AllocFailed<T>> for Wrong {
     }
 }
 
-// What a client is told.
+// Returns what a client should receive.
 fn wanted(alloc: Global, client: &Client) -> Result<Vec<u8>, AllocError> {
     let (answers, behind) = client.answered;
     let mut bytes = Vec::new(alloc);
@@ -80,7 +81,7 @@ fn wanted(alloc: Global, client: &Client) -> Result<Vec<u8>, AllocError> {
     Ok(bytes)
 }
 
-// What became of a client is what is wanted.
+// Checks that a client's connection went as expected.
 fn check_client(
     alloc: Global,
     peer: &TrialPeer,
@@ -109,7 +110,7 @@ fn check_clients(alloc: Global, peers: &[TrialPeer], arrivals: &[Arrival]) -> Re
     Ok(())
 }
 
-/// Serves the clients over a book that begins without rows, and compares all that is wanted.
+/// Serves the clients over a book that begins without rows, and compares everything that is expected.
 pub(crate) fn serves(alloc: Global, case: &Case<'_>) -> Result<(), Wrong> {
     let clock = TrialClock::new(case.clock);
     let mut peers = Vec::new(alloc);

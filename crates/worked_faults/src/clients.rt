@@ -1,12 +1,12 @@
-// Clients as data: what they do, and what is wanted of their connections.
+// Clients as data: what they do, and what is expected of their connections.
 
-/// What a client sends: so many times, each time after so many milliseconds, these bytes.
+/// What a client sends: the number of times, the milliseconds before each time, and the bytes.
 pub(crate) type Piece = (u64, u64, &'static [u8]);
 
-/// What a client does behind all that it sends.
+/// What a client does after everything that it sends.
 #[derive(Clone, Copy)]
 pub(crate) enum Behind {
-    /// It shuts down its writing.
+    /// It closes its writing side.
     Ends,
     /// It resets the connection.
     Resets,
@@ -15,26 +15,26 @@ pub(crate) enum Behind {
 /// A client.
 #[derive(Clone, Copy)]
 pub(crate) struct Client {
-    /// What it sends, in order. A read gets bytes of one piece alone.
+    /// What it sends, in order. Each read gets bytes of only one piece.
     pub(crate) sends: &'static [Piece],
-    /// What it does behind that.
+    /// What it does after that.
     pub(crate) behind: Behind,
-    /// How many bytes of a write it takes at most, and after how many milliseconds.
+    /// How many bytes of a write it accepts at most, and after how many milliseconds.
     pub(crate) takes: (usize, u64),
-    /// How often it is answered by `ANSWER` first, and by what behind that.
+    /// How often it is answered with `ANSWER` first, and with what after that.
     pub(crate) answered: (usize, &'static str),
     /// How many of its bytes are read before its connection is closed.
     pub(crate) read: u64,
 }
 
-/// What comes of an accept.
+/// The result of an accept.
 #[derive(Clone, Copy)]
 pub(crate) enum Arrival {
     /// A client.
     Comes(Client),
     /// A client that is gone.
     Aborted,
-    /// Nothing: the network refuses the accept.
+    /// The network refuses the accept.
     Refused,
 }
 
@@ -46,12 +46,12 @@ pub(crate) const ANSWER: &str =
     "HTTP/1.1 404 Not Found\r\ncontent-type: application/json\r\ncontent-length: 31\r\n\r\n\
 {\"name\":\"NoMatter\",\"refusal\":8}";
 
-/// The answer to what is no message.
+/// The answer to bytes that are not a message.
 pub(crate) const BAD_MESSAGE: &str =
     "HTTP/1.1 400 Bad Request\r\ncontent-type: application/json\r\n\
 content-length: 33\r\n\r\n{\"name\":\"BadMessage\",\"refusal\":1}";
 
-/// A client that says nothing, takes all that it is told, and ends.
+/// A client that sends nothing, accepts everything it is sent, and ends.
 pub(crate) const QUIET: Client = Client {
     sends: &[],
     behind: Behind::Ends,

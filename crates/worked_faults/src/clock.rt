@@ -6,7 +6,7 @@ use std::io::{Error, ErrorKind};
 use std::rt::Clock;
 use std::time::Duration;
 
-/// A clock that begins at 0, and whose time passes only while a client lets the server wait.
+/// A clock that starts at 0. Its time passes only while a client keeps the server waiting.
 #[derive(Drop)]
 pub(crate) struct TrialClock {
     now: Cell<Duration>,
@@ -22,13 +22,13 @@ impl TrialClock {
         }
     }
 
-    /// How much time passed.
+    /// Returns how much time passed.
     pub(crate) fn passed(&self) -> Duration {
         self.now.get()
     }
 
-    /// Waits for so many milliseconds, or, with `WouldBlock`, until the limit, where that comes before. Fails at once
-    /// where there is no limit, so that no client is ever waited for without one.
+    /// Waits for this many milliseconds or, if the limit comes first, until the limit, and then fails with
+    /// `WouldBlock`. Fails at once without a limit, so that no wait for a client is ever without one.
     pub(crate) fn wait(&self, millis: u64, limit: Option<Duration>) -> io::Result<()> {
         let Some(limit) = limit else {
             return Err(Error::from(ErrorKind::InvalidInput));

@@ -10,7 +10,7 @@ const HEAD: &[u8] = b"POST /matters/000001/open HTTP/1.1\r\ncontent-length: 9999
 
 const PART: &[u8] = b"AAAAAAAAAAAAAAAAAAAAAAAAAAAAAAAAAAAAAAAAAAAAAAAAAAAAAAAAAAAAAAAA";
 
-// A client that sends a body of more than is dropped, and takes its answer meanwhile.
+// A client that sends more of a body than is dropped, and accepts its answer meanwhile.
 const MUCH: Client = Client {
     sends: &[(1, 0, HEAD), (70_000, 0, PART)],
     answered: (0, TOO_LARGE),
@@ -18,7 +18,7 @@ const MUCH: Client = Client {
     ..QUIET
 };
 
-// A client that goes on slowly.
+// A client that continues slowly.
 const SLOWLY: Client = Client {
     sends: &[(1, 0, HEAD), (9, 300, PART)],
     answered: (0, TOO_LARGE),

@@ -1,10 +1,10 @@
-// How serving ends, and what the operator is told.
+// How serving ends, and what is written for the operator.
 
 use crate::cases::{Case, DONE, serves};
 use crate::clients::{Arrival, BAD_MESSAGE, Behind, Client, GOOD, MESSAGE, QUIET};
 use portal_http::ServeEnd;
 
-// A client that sends a message and what is none.
+// A client that sends a message and then bytes that are not one.
 const BAD: Client = Client {
     sends: &[(1, 0, MESSAGE), (1, 0, b"bad header\r\n\r\n")],
     answered: (1, BAD_MESSAGE),
@@ -12,7 +12,7 @@ const BAD: Client = Client {
     ..QUIET
 };
 
-// A client that sends a message more than a stream has.
+// A client that sends one message more than a stream may have.
 const MANY: Client = Client {
     sends: &[(1_001, 0, MESSAGE)],
     answered: (1_000, ""),

@@ -1,4 +1,4 @@
-// Statements in files that can't be opened or read, or that tell too great a length. Standard input is never read.
+// Statements in files that cannot be opened or read, or that report too great a length. Standard input is never read.
 
 use crate::runs::{NO_FILE, NOTHING, Run, TrialFolder, check};
 use crate::stores::TrialStores;
@@ -27,14 +27,14 @@ const IMPORTS: &[Run] = &[
         lines: "",
         ..IMPORT
     },
-    // it can't be opened
+    // it cannot be opened
     Run {
         folder: NO_FILE,
         outcome: Outcome::FileFault,
         lines: "",
         ..IMPORT
     },
-    // it tells a byte more than the limit, and would fail if it were read
+    // it reports a byte more than the limit, and would fail if it were read
     Run {
         folder: TrialFolder {
             length: Some(4_194_305),

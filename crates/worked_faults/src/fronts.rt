@@ -1,5 +1,5 @@
-// Each read and each write of what is given fails in turn: what was written is what was read whole is answered by, or
-// a front of all answers.
+// Each read and each write fails in turn. If a read fails, the answers to everything that was read whole are written;
+// if a write fails, a prefix of all answers.
 
 use crate::given::{ALL, Became, End, Given, read};
 use crate::interrupted::interrupted;
@@ -7,8 +7,8 @@ use crate::pieces::Piece;
 use std::alloc::{AllocError, Global};
 use trust_base::Day;
 
-/// What is given, its pieces and the answers to them, what stands behind them, how it ends, and how many bytes a read
-/// gives and a write takes at most.
+/// What is given, its pieces and their answers, what follows them, how it ends, and how many bytes a read gives and a
+/// write accepts at most.
 #[derive(Clone, Copy)]
 pub(crate) struct Trial {
     pub(crate) given: Given,
@@ -18,21 +18,21 @@ pub(crate) struct Trial {
     pub(crate) most: usize,
 }
 
-/// Nothing stands behind the pieces.
+/// Nothing follows the pieces.
 pub(crate) const NOTHING: Piece = ("", "");
 
 /// Why a test fails.
 #[derive(Clone, Copy, PartialEq, Eq, Debug)]
 pub(crate) enum Wrong {
-    /// A growth was refused.
+    /// Out of memory.
     Memory,
-    /// The day stands for none.
+    /// The day of the tests is not a day.
     Day,
-    /// Behind so many good calls it ended so.
+    /// After this many good calls, it ended differently.
     End(u64, End),
-    /// Behind so many good calls other bytes were written; so many.
+    /// After this many good calls, other bytes were written; this many.
     Written(u64, usize),
-    /// Behind so many good calls so many others succeeded.
+    /// After this many good calls, this many others succeeded.
     Calls(u64, u64),
 }
 
@@ -47,7 +47,7 @@ pub(crate) fn today() -> Result<Day, Wrong> {
     Day::read(b"2024-01-10").ok_or(Wrong::Day)
 }
 
-/// All bytes that are given.
+/// Returns all bytes that are given.
 pub(crate) fn bytes_of(alloc: Global, trial: &Trial) -> Result<Vec<u8>, AllocError> {
     let mut bytes = Vec::new(alloc);
     for (text, _) in trial.pieces {
@@ -57,14 +57,14 @@ pub(crate) fn bytes_of(alloc: Global, trial: &Trial) -> Result<Vec<u8>, AllocErr
     Ok(bytes)
 }
 
-/// All answers.
+/// Returns all answers.
 pub(crate) fn answers_of(alloc: Global, trial: &Trial) -> Result<Vec<u8>, AllocError> {
     let mut answers = answers_within(alloc, trial.pieces, usize::MAX)?;
     answers.extend_from_slice(trial.behind.1.as_bytes())?;
     Ok(answers)
 }
 
-// The answers to all pieces that are whole within so many bytes.
+// Returns the answers to all pieces that lie wholly within this many bytes.
 fn answers_within(alloc: Global, pieces: &[Piece], size: usize) -> Result<Vec<u8>, AllocError> {
     let mut answers = Vec::new(alloc);
     let mut end: usize = 0;
@@ -77,7 +77,7 @@ fn answers_within(alloc: Global, pieces: &[Piece], size: usize) -> Result<Vec<u8
     Ok(answers)
 }
 
-/// Fails unless it ended so, behind so many good calls, and this was written.
+/// Fails unless, after this many good calls, it ended like this and these bytes were written.
 pub(crate) fn expect(found: &Became, good: u64, wanted: &[u8], end: End) -> Result<(), Wrong> {
     if found.written.as_slice() != wanted {
         return Err(Wrong::Written(good, found.written.len()));
@@ -88,7 +88,7 @@ pub(crate) fn expect(found: &Became, good: u64, wanted: &[u8], end: End) -> Resu
     Ok(())
 }
 
-/// Reads all that is given, with no fault.
+/// Reads everything that is given, without a fault.
 pub(crate) fn whole(alloc: Global, trial: &Trial, bytes: &[u8]) -> Result<Became, Wrong> {
     let answers = answers_of(alloc, trial)?;
     let found = read(alloc, today()?, trial.given, bytes, trial.most, (ALL, ALL));
@@ -96,8 +96,8 @@ pub(crate) fn whole(alloc: Global, trial: &Trial, bytes: &[u8]) -> Result<Became
     Ok(found)
 }
 
-// A read fails, or is interrupted, behind so many good ones: of a stream the messages that were read whole are
-// answered, of a sheet or a statement nothing is.
+// A read fails, or is interrupted, after this many good ones. Of a stream, the messages that were read whole are
+// answered; of a sheet or a statement, nothing is.
 fn read_fails(alloc: Global, trial: &Trial, bytes: &[u8], good: u64) -> Result<(), Wrong> {
     let day = today()?;
     let size = match trial.given {
@@ -111,7 +111,7 @@ fn read_fails(alloc: Global, trial: &Trial, bytes: &[u8], good: u64) -> Result<(
     expect(&cut, good, &answers, End::ReadFault)
 }
 
-/// Each read fails in turn, also the one that finds the end.
+/// Each read fails in turn, including the one that finds the end.
 pub(crate) fn each_read_fails(alloc: Global, trial: &Trial) -> Result<(), Wrong> {
     let bytes = bytes_of(alloc, trial)?;
     let reads = whole(alloc, trial, &bytes)?.reads;
@@ -121,7 +121,7 @@ pub(crate) fn each_read_fails(alloc: Global, trial: &Trial) -> Result<(), Wrong>
     Ok(())
 }
 
-// So many writes took a front of the answers, each a byte at least and so many at most, and the next one failed.
+// Fails unless this many writes took a prefix of the answers, each from one byte to `most`, and the next one failed.
 fn expect_front(found: &Became, answers: &[u8], good: u64, most: usize) -> Result<(), Wrong> {
     let size = found.written.len() as u64;
     let is_front = answers.starts_with(&found.written) && size < answers.len() as u64;
@@ -138,7 +138,7 @@ fn expect_front(found: &Became, answers: &[u8], good: u64, most: usize) -> Resul
     Ok(())
 }
 
-// A write fails, or is interrupted, behind so many good ones.
+// A write fails, or is interrupted, after this many good ones.
 fn write_fails(
     alloc: Global,
     trial: &Trial,

@@ -1,32 +1,33 @@
-// Streams, day sheets and statements, by one name: each is read, and answered in bytes.
+// Streams, day sheets and statements under one name: each is read, and answered in bytes.
 
+use crate::trial::{TrialReader, TrialWriter};
 use cashier::{NoRemarks, SheetEnd, StatementEnd, run_import, run_sheet};
 use portal_http::{StreamEnd, serve_stream};
 use std::alloc::Global;
 use std::io::{Read, Write};
-use trust_base::{Day, TrialReader, TrialWriter};
+use trust_base::Day;
 use trust_desk::{Desk, NoWatch};
 use trust_store::{Book, PlainBook};
 
 /// What is given to be read.
 #[derive(Clone, Copy, PartialEq, Eq, Debug)]
 pub(crate) enum Given {
-    /// A stream of messages, which are answered one by one.
+    /// A stream of messages, answered one by one.
     Stream,
-    /// A day sheet, which is read whole before a record is run.
+    /// A day sheet, read whole before any record is run.
     Sheet,
-    /// A statement of the bank, which is answered at its end.
+    /// A bank statement, answered at its end.
     Statement,
 }
 
 /// How it ended.
 #[derive(Clone, Copy, PartialEq, Eq, Debug)]
 pub(crate) enum End {
-    /// All was read and answered; of a sheet or a statement, all was accepted.
+    /// Everything was read and answered; for a sheet or a statement, everything was accepted.
     Done,
-    /// Something of it was refused, or a stream has something that is no message.
+    /// Something in it was refused, or something in a stream is not a message.
     Refused,
-    /// The limit of a stream was met.
+    /// The limit of a stream was reached.
     Limit,
     /// A read failed.
     ReadFault,
@@ -34,7 +35,7 @@ pub(crate) enum End {
     WriteFault,
     /// The store refused a call.
     Store,
-    /// A growth was refused.
+    /// Out of memory.
     Memory,
 }
 
@@ -71,7 +72,7 @@ fn of_statement(end: StatementEnd) -> End {
     }
 }
 
-/// Reads what is given at a desk on a day, and writes what it is answered.
+/// Reads what is given at a desk on a day, and writes the answers.
 pub(crate) fn run<R: Read + Drop, W: Write, B: Book>(
     alloc: Global,
     given: Given,
@@ -89,10 +90,10 @@ pub(crate) fn run<R: Read + Drop, W: Write, B: Book>(
     }
 }
 
-/// Calls of a reader or a writer that all succeed.
+/// The number of calls that succeed, if none is to fail.
 pub(crate) const ALL: u64 = u64::MAX;
 
-/// What became of what was given.
+/// What happened to what was given.
 #[derive(Drop)]
 pub(crate) struct Became {
     pub(crate) end: End,
@@ -102,7 +103,7 @@ pub(crate) struct Became {
     pub(crate) writes: u64,
 }
 
-/// Reads what is given at a desk, at most `most` bytes at a read and at a write, of which so many succeed.
+/// Reads what is given at a desk, at most `most` bytes at a read and at a write. Only `calls` many of each succeed.
 pub(crate) fn read_at<B: Book>(
     alloc: Global,
     desk: &mut Desk<B>,
@@ -124,7 +125,7 @@ pub(crate) fn read_at<B: Book>(
     }
 }
 
-/// The same at a desk over a book without rows.
+/// The same, at a desk over a book without rows.
 pub(crate) fn read(
     alloc: Global,
     day: Day,

@@ -9,17 +9,17 @@ use std::io::{Error, ErrorKind, Read, Write};
 use std::net::{OpenStream, Shutdown};
 use std::time::Duration;
 
-/// What became of a client's connection.
+/// What happened on a client's connection.
 #[derive(Drop)]
 pub(crate) struct TrialPeer {
     /// How many of its bytes were read.
     pub(crate) read: Cell<u64>,
-    /// What it was told.
+    /// What it received.
     pub(crate) told: RefCell<Vec<u8>>,
 }
 
 impl TrialPeer {
-    /// A client that was not heard yet. Takes no memory.
+    /// A client from which nothing was read yet. Does not allocate.
     pub(crate) fn new(alloc: Global) -> TrialPeer {
         TrialPeer {
             read: Cell::new(0),
@@ -27,7 +27,7 @@ impl TrialPeer {
         }
     }
 
-    // The client takes these bytes.
+    // Adds bytes that the client received.
     fn take(&self, bytes: &[u8]) -> io::Result<()> {
         let Ok(mut told) = self.told.try_borrow_mut() else {
             return Err(Error::from(ErrorKind::Other));
@@ -39,12 +39,12 @@ impl TrialPeer {
     }
 }
 
-/// The half of a client's connection that is read.
+/// The reading half of a client's connection.
 #[derive(Drop)]
 pub(crate) struct TrialReading<'p> {
     clock: &'p TrialClock,
     peer: &'p TrialPeer,
-    // What comes, of which the first piece was sent so many times.
+    // What is still to come, and how often its first piece was sent already.
     pieces: &'static [Piece],
     times: u64,
     // The rest of what was sent last.
@@ -54,7 +54,7 @@ pub(crate) struct TrialReading<'p> {
 }
 
 impl<'p> TrialReading<'p> {
-    /// The half of a client that sent nothing yet.
+    /// The half of a client that has sent nothing yet.
     pub(crate) fn new(
         clock: &'p TrialClock,
         peer: &'p TrialPeer,
@@ -71,7 +71,7 @@ impl<'p> TrialReading<'p> {
         }
     }
 
-    // Waits until the client sends this piece, behind which others come.
+    // Waits until the client sends this piece, which others follow.
     fn next_piece(&mut self, piece: Piece, behind: &'static [Piece]) -> io::Result<()> {
         let (times, after, bytes) = piece;
         self.clock.wait(after, self.limit.get())?;
@@ -112,7 +112,7 @@ impl OpenStream for TrialReading<'_> {
     }
 }
 
-/// The half of a client's connection that is written.
+/// The writing half of a client's connection.
 #[derive(Drop)]
 pub(crate) struct TrialWriting<'p> {
     clock: &'p TrialClock,
@@ -122,7 +122,7 @@ pub(crate) struct TrialWriting<'p> {
 }
 
 impl<'p> TrialWriting<'p> {
-    /// The half of a client that took nothing yet.
+    /// The half of a client that has accepted nothing yet.
     pub(crate) fn new(
         clock: &'p TrialClock,
         peer: &'p TrialPeer,

@@ -1,11 +1,12 @@
-// Statements of which a read fails: what was read before is applied, and the rest when the statement is sent again.
+// A read of a statement fails: what was read before is applied, and the rest when the statement is sent again.
 
 use crate::books::serve;
 use crate::fronts::{Wrong, today};
 use crate::pieces::{DEPOSIT, OPEN, OTHER_DEPOSIT, OTHER_OPEN, SHOWN_CLEARED, SHOWN_OTHER_HELD};
+use crate::trial::TrialReader;
 use std::alloc::Global;
 use std::io::Read;
-use trust_base::{Day, TrialReader};
+use trust_base::Day;
 use trust_desk::{Desk, ImportReply, ImportStop, NoWatch};
 use trust_store::PlainBook;
 
@@ -26,14 +27,14 @@ const STATEMENT: &[u8] = b"date,reference,bank_ref,amount,text\n\
         garbage\n\
         2024-01-10,M000002-0001,B2,70.00,\n";
 
-// Whether both lines were applied, each once, and what was applied at first came again.
+// Whether both lines were applied exactly once, and those applied at first were repeated.
 fn are_whole(first: &ImportReply, again: &ImportReply) -> bool {
     again.repeated == first.applied
         && first.applied.saturating_add(again.applied) == 2
         && again.unreadable == 1
 }
 
-// Whether that is so where the reads, a byte each, failed after the first good ones, and the statement was sent again.
+// Whether that holds if the reads, of one byte each, fail after the first good ones and the statement is sent again.
 fn is_whole_again(alloc: Global, good: u64) -> Result<bool, Wrong> {
     let day = today()?;
     let mut desk = booked(alloc, day)?;
@@ -57,8 +58,8 @@ fn each_read_fails(rt: HostRuntime) {
     }
 }
 
-// A statement of the line that clears the first deposit, 4,000 times with a text of 900 bytes, and of the line that
-// clears the second one.
+// A statement with the line that clears the first deposit, 4,000 times and with a text of 900 bytes, and the line
+// that clears the second one.
 fn long_statement(alloc: Global) -> Result<Vec<u8>, Wrong> {
     let mut line = Vec::from_slice(alloc, b"2024-01-10,M000001-0001,B1,500.00,")?;
     line.resize(934, b't')?;
@@ -71,7 +72,7 @@ fn long_statement(alloc: Global) -> Result<Vec<u8>, Wrong> {
     Ok(bytes)
 }
 
-// Whether the first lines of a statement were applied, where the read fails within its last line.
+// Whether the first lines of a statement are applied if a read fails within its last line.
 fn is_cut_in_the_last_line(alloc: Global) -> Result<bool, Wrong> {
     let day = today()?;
     let mut desk = booked(alloc, day)?;

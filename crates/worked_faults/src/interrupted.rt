@@ -1,14 +1,15 @@
 // Readers and writers that are interrupted once.
 
 use crate::given::{ALL, Became, Given, run};
+use crate::trial::{TrialReader, TrialWriter};
 use std::alloc::Global;
 use std::io;
 use std::io::{Error, ErrorKind, Read, Write};
-use trust_base::{Day, TrialReader, TrialWriter};
+use trust_base::Day;
 use trust_desk::Desk;
 use trust_store::PlainBook;
 
-// A reader or a writer, which is interrupted once, behind so many calls.
+// A reader or a writer that is interrupted once, after a number of calls.
 #[derive(Drop)]
 struct OnceInterrupted<S> {
     stream: S,
@@ -57,7 +58,7 @@ impl<W: Write> Write for OnceInterrupted<W> {
 }
 
 /// Reads what is given at a desk over a book without rows, at most `most` bytes at a read and at a write. Its reader
-/// and its writer are interrupted once, behind so many calls; the calls behind that one would succeed.
+/// and its writer are interrupted once, after this many calls; the calls after that would succeed.
 pub(crate) fn interrupted(
     alloc: Global,
     day: Day,

@@ -1,6 +1,6 @@
-//! Tests: readers, writers and books that fail at each call, below streams of messages, day sheets and statements;
-//! files, books and networks that refuse a run of the cashier's program, from its words to its outcome; connections of
-//! clients in virtual time.
+//! Tests. Readers, writers and books fail at each call, under streams of messages, day sheets and statements. Files,
+//! books and networks refuse a run of the cashier's program, from its words to its outcome. Clients connect in
+//! virtual time.
 #![tactic(auto)]
 
 #[cfg(test)]
@@ -46,6 +46,8 @@ mod ports;
 #[cfg(test)]
 mod refused_books;
 #[cfg(test)]
+mod refusing;
+#[cfg(test)]
 mod replies;
 #[cfg(test)]
 mod runs;
@@ -59,3 +61,5 @@ mod stores;
 mod streams;
 #[cfg(test)]
 mod texts;
+#[cfg(test)]
+mod trial;

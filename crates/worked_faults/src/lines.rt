@@ -1,13 +1,13 @@
 // Statements and their items, through readers that fail.
 
+use crate::trial::TrialReader;
 use statement_csv::{Item, Lines, ReadFault};
 use std::alloc::{AllocError, Global};
 use std::io::Read;
 use std::test::Fail;
-use trust_base::TrialReader;
 
-// Item by item: `O` and `C` for an opening and a closing, `M` and `F` for a line of a matter and of the firm, `S` for
-// one that names nothing, `U` for what is no line.
+// The letter of an item: `O` and `C` for an opening and a closing balance, `M` and `F` for a line of a matter and of
+// the firm, `S` for one that names nothing, `U` for what is not a line.
 fn item_letter(item: &Item) -> u8 {
     match item {
         Item::Opening(_) => b'O',
@@ -19,7 +19,7 @@ fn item_letter(item: &Item) -> u8 {
     }
 }
 
-// One call's letter: that of its item, a point at the end, or a small letter for a fault.
+// The letter of a call's result: that of its item, a point at the end, or a small letter for a fault.
 fn letter<R: Read>(lines: &mut Lines<R>) -> u8 {
     match lines.next() {
         Ok(Some(item)) => item_letter(&item),
@@ -31,7 +31,7 @@ fn letter<R: Read>(lines: &mut Lines<R>) -> u8 {
     }
 }
 
-// How many of the items came that are wanted, one after the other, and the letters of the two calls behind them.
+// Returns how many of the expected items came, one after the other, and the letters of the two calls after them.
 fn front_of<R: Read + Drop>(alloc: Global, reader: R, wanted: &str) -> (usize, [u8; 2]) {
     let mut lines = Lines::new(alloc, reader);
     for (place, item) in wanted.as_bytes().iter().enumerate() {
@@ -56,7 +56,7 @@ const ITEMS: &str = "OMUFSC";
 fn cuts_of_the_reads(rt: HostRuntime) {
     let bytes = STATEMENT.as_bytes();
     for most in [1, 2, 3, 7, 8_192] {
-        // No more reads than bytes and the end.
+        // There are no more reads than bytes, plus one for the end.
         let reader = TrialReader::new(bytes, most, bytes.len() as u64 + 1);
         assert_eq!(rt;
             front_of(rt.alloc(), reader, ITEMS),
@@ -66,7 +66,7 @@ fn cuts_of_the_reads(rt: HostRuntime) {
     }
 }
 
-// Whether a front of the items came, and then what a reader's fault gives, or all of them and the end.
+// Whether the first items came and then the reader's fault, or all of them and then the end.
 fn is_front(told: (usize, [u8; 2])) -> bool {
     told.1 == *b"rr" || told == (6, *b"..")
 }
@@ -88,7 +88,7 @@ fn each_read_fails(rt: HostRuntime) {
 
 const MOST_BYTES: usize = 4_194_304;
 
-// A statement of this many bytes: a line, and then empty lines.
+// A statement of this many bytes: one line, and then empty lines.
 fn long_statement(alloc: Global, len: usize) -> Result<Vec<u8>, AllocError> {
     let mut bytes = Vec::from_slice(alloc, b"date,reference,bank_ref,amount,text\n")?;
     bytes.extend_from_slice(b"2024-01-12,M000001-0001,B1,500.00,\n")?;
@@ -101,7 +101,7 @@ fn reads_of_the_greatest_length(rt: HostRuntime) -> Result<(), Fail> {
     let alloc = rt.alloc();
     let long = long_statement(alloc, MOST_BYTES + 1)?;
     let (whole, _) = long.split_at(long.len().saturating_sub(1));
-    // Bytes at a read, and the reads that succeed: no more are made than there are bytes, and one for the end.
+    // Bytes at a read, and the reads that succeed. No more reads are made than there are bytes, plus one for the end.
     for (bytes, most, good, letters) in [
         (whole, 8_192, 600, *b".."),
         (whole, 8_192, 400, *b"rr"),

@@ -1,4 +1,4 @@
-// Where the clients of a test come from.
+// The source of a test's clients.
 
 ghost use Rattle.std.specs.Prelude.{⊤};
 
@@ -7,14 +7,14 @@ use crate::clock::TrialClock;
 use crate::halves::{TrialPeer, TrialReading, TrialWriting};
 use portal_http::{AcceptFault, ClientListener, Connection};
 
-/// The clients of a test, one after the other. Behind the last the network refuses.
+/// The clients of a test, one after the other. After the last one, the network refuses.
 #[derive(Drop)]
 pub(crate) struct TrialListener<'p> {
-    /// What passes while they are waited for.
+    /// The time that passes while they are waited for.
     pub(crate) clock: &'p TrialClock,
-    /// Those to come.
+    /// The clients to come.
     pub(crate) arrivals: &'p [Arrival],
-    /// What becomes of each of them.
+    /// What happens to each of them.
     pub(crate) peers: &'p [TrialPeer],
 }
 

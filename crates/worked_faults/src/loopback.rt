@@ -1,6 +1,7 @@
 // A client over the system's own network.
 
 use crate::clients::{ANSWER, MESSAGE};
+use crate::trial::TrialWriter;
 use portal_http::{Network, ServeEnd, SystemNetwork, serve_connections};
 use std::alloc::Global;
 use std::io;
@@ -8,11 +9,11 @@ use std::io::{Read, Write};
 use std::net::{Ipv4Addr, Net, OpenListener, OpenStream, Shutdown, TcpListener, TcpStream};
 use std::rt::Clock;
 use std::test::Fail;
-use trust_base::{Day, TrialWriter};
+use trust_base::Day;
 use trust_desk::Desk;
 use trust_store::PlainBook;
 
-// A port that nobody listens to.
+// A port on which nobody listens.
 fn free_port(net: &impl Net) -> io::Result<u16> {
     Ok(
         TcpListener::bind(net, (Ipv4Addr::LOCALHOST, 0))?
@@ -21,7 +22,7 @@ fn free_port(net: &impl Net) -> io::Result<u16> {
     )
 }
 
-// What a client is told that connects, sends a message, and shuts its writing down before it is accepted.
+// Returns what a client receives that connects, sends a message, and closes its writing side before it is accepted.
 fn told<R: Net + Clock + Drop>(alloc: Global, rt: &R) -> Result<Vec<u8>, Fail> {
     let port = free_port(rt)?;
     let mut listener = SystemNetwork { rt }

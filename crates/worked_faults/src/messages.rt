@@ -1,10 +1,11 @@
-// How many reads the messages of a stream take, and what a cut and a fault leave.
+// How many reads the messages of a stream take, and what is left after a cut and after a fault.
 
+use crate::trial::TrialReader;
 use portal_messages::{Input, Next, Stop, read_message};
 use std::alloc::Global;
-use trust_base::{Refusal, TrialReader};
+use trust_base::Refusal;
 
-// What comes behind the last message.
+// What follows the last message.
 #[derive(Clone, Copy, PartialEq, Eq, Debug)]
 enum Ending {
     Message,
@@ -22,8 +23,8 @@ fn ending_of(answer: &Result<Next, Stop>) -> Ending {
     }
 }
 
-// How many messages come from a reader of these bytes, at most two, what comes behind them, and whether the same comes
-// once more.
+// Returns how many messages, at most two, come from a reader of these bytes, what follows them, and whether the same
+// comes once more.
 fn told(alloc: Global, bytes: &[u8], most: usize, good: u64) -> (usize, Ending, bool) {
     let mut input = Input::new(alloc, TrialReader::new(bytes, most, good));
     for messages in 0..3 {
@@ -42,7 +43,7 @@ const TWO: &[u8] =
 // The bytes of the first of the two.
 const ONE: usize = 47;
 
-// How many of the two are whole within so many bytes.
+// How many of the two messages lie wholly within this many bytes.
 fn whole_within(size: usize) -> usize {
     if size < ONE {
         0
@@ -53,7 +54,7 @@ fn whole_within(size: usize) -> usize {
     }
 }
 
-// How the two end where they are cut behind so many bytes.
+// What follows the messages if they are cut after this many bytes.
 fn ending_within(size: usize) -> Ending {
     if size == 0 || size == ONE || size >= TWO.len() - 2 {
         Ending::Ended

@@ -1,12 +1,12 @@
 // A clock, clients and ports for runs of the program.
 
+use crate::trial::TrialReader;
 use cashier::{AcceptFault, ClientListener, Connection, Network};
 use std::io;
 use std::io::{Read, Write};
 use std::net::OpenStream;
 use std::rt::Clock;
 use std::time::Duration;
-use trust_base::TrialReader;
 
 /// A clock that stands still.
 #[derive(Clone, Copy)]
@@ -44,7 +44,7 @@ impl OpenStream for Sent {
     }
 }
 
-/// What a client is sent, which nobody looks at.
+/// What is sent to a client, which no test looks at.
 #[derive(Clone, Copy)]
 pub(crate) struct Unseen;
 
@@ -68,8 +68,8 @@ impl OpenStream for Unseen {
     }
 }
 
-/// Clients that come one after the other, each with what it sends; none for one that is gone before it is accepted.
-/// Behind them the network refuses.
+/// Clients that come one after the other, each with what it sends; `None` for one that is gone before it is accepted.
+/// After them, the network refuses.
 #[derive(Clone, Copy)]
 pub(crate) struct TrialClients {
     pub(crate) rest: &'static [Option<&'static [u8]>],
@@ -102,7 +102,7 @@ impl ClientListener for TrialClients {
     }
 }
 
-/// A network of one port, or of none.
+/// A network with one port, or none.
 #[derive(Clone, Copy)]
 pub(crate) struct TrialNetwork {
     pub(crate) port: Option<u16>,
@@ -127,7 +127,7 @@ impl Network for TrialNetwork {
     }
 }
 
-/// A network of which no port can be had.
+/// A network without a port.
 pub(crate) const NO_NETWORK: TrialNetwork = TrialNetwork {
     port: None,
     clients: TrialClients { rest: &[] },

@@ -1,6 +1,6 @@
-// Messages and the answers that are wanted to them, byte by byte, on 2024-01-10.
+// Messages and the answers expected to them, byte by byte, on 2024-01-10.
 
-/// A piece of what is given, and the bytes that are wanted to it.
+/// A piece of what is given, and the answer that is expected to it.
 pub(crate) type Piece = (&'static str, &'static str);
 
 /// The first matter is opened.
@@ -47,7 +47,7 @@ pub(crate) const OTHER_OPEN: Piece = (
     ),
 );
 
-/// A deposit of the second matter whose number is not the next.
+/// A deposit of the second matter whose number is not the next one.
 pub(crate) const OTHER_SKIPPED: Piece = (
     concat!(
         "POST /matters/000002/entries/0002/deposit HTTP/1.1\r\nx-caller: cashier\r\ncontent-length: 62\r\n\r\n",
@@ -74,7 +74,7 @@ pub(crate) const OTHER_DEPOSIT: Piece = (
     ),
 );
 
-/// A statement of the line that clears it.
+/// A statement with the line that clears it.
 pub(crate) const OTHER_CLEARED: Piece = (
     concat!(
         "POST /firm/statements HTTP/1.1\r\nx-caller: cashier\r\ncontent-length: 70\r\n\r\n",
@@ -101,7 +101,7 @@ pub(crate) const OTHER_REOPENED: Piece = (
     ),
 );
 
-/// A statement of that line and of one of an entry that the second matter lacks.
+/// A statement with that line, and with one for an entry that the second matter lacks.
 pub(crate) const OTHER_STATEMENT: Piece = (
     concat!(
         "POST /firm/statements HTTP/1.1\r\nx-caller: cashier\r\ncontent-length: 103\r\n\r\n",
@@ -128,7 +128,7 @@ pub(crate) const OTHER_SHOWN: Piece = (
     ),
 );
 
-/// Who has no seat asks for the first matter.
+/// A person without a seat asks for the first matter.
 pub(crate) const STRANGER: Piece = (
     "GET /matters/000001 HTTP/1.1\r\nx-caller: bob\r\n\r\n",
     concat!(
@@ -138,7 +138,7 @@ pub(crate) const STRANGER: Piece = (
     ),
 );
 
-/// A head with a line that is no field.
+/// A head with a line that is not a field.
 pub(crate) const BAD_HEADER: Piece = (
     "GET /matters/000001 HTTP/1.1\r\nbad header\r\n\r\n",
     concat!(
@@ -173,7 +173,7 @@ pub(crate) const SHOWN_OTHER_HELD: Piece = (
     ),
 );
 
-/// The first matter is shown, as it was opened.
+/// The first matter is shown as it was opened.
 pub(crate) const SHOWN_OPENED: Piece = (
     "GET /matters/000001 HTTP/1.1\r\nx-caller: lee\r\n\r\n",
     concat!(
@@ -185,7 +185,7 @@ pub(crate) const SHOWN_OPENED: Piece = (
     ),
 );
 
-/// The same, while its deposit is held.
+/// The first matter is shown while its deposit is held.
 pub(crate) const SHOWN_HELD: Piece = (
     "GET /matters/000001 HTTP/1.1\r\nx-caller: lee\r\n\r\n",
     concat!(
@@ -197,7 +197,7 @@ pub(crate) const SHOWN_HELD: Piece = (
     ),
 );
 
-/// The same, once its deposit is cleared.
+/// The first matter is shown once its deposit is cleared.
 pub(crate) const SHOWN_CLEARED: Piece = (
     "GET /matters/000001 HTTP/1.1\r\nx-caller: lee\r\n\r\n",
     concat!(
@@ -209,7 +209,7 @@ pub(crate) const SHOWN_CLEARED: Piece = (
     ),
 );
 
-/// The deposit of the first matter, of which the write is refused.
+/// The deposit of the first matter, whose write is refused.
 pub(crate) const DEPOSIT_REFUSED: Piece = (
     concat!(
         "POST /matters/000001/entries/0001/deposit HTTP/1.1\r\nx-caller: cashier\r\ncontent-length: 64\r\n\r\n",
@@ -222,7 +222,7 @@ pub(crate) const DEPOSIT_REFUSED: Piece = (
     ),
 );
 
-/// A statement of the line that clears the deposit.
+/// A statement with the line that clears the deposit.
 pub(crate) const CLEARED: Piece = (
     concat!(
         "POST /firm/statements HTTP/1.1\r\nx-caller: cashier\r\ncontent-length: 71\r\n\r\n",
@@ -236,7 +236,7 @@ pub(crate) const CLEARED: Piece = (
     ),
 );
 
-/// The same, of which the write is refused.
+/// That statement, when its write is refused.
 pub(crate) const CLEARED_REFUSED: Piece = (
     concat!(
         "POST /firm/statements HTTP/1.1\r\nx-caller: cashier\r\ncontent-length: 71\r\n\r\n",
@@ -288,7 +288,7 @@ pub(crate) const ENTRY_PROPOSED: Piece = (
     ),
 );
 
-/// The lawyer approves it.
+/// The lawyer approves the payment.
 pub(crate) const APPROVED: Piece = (
     concat!(
         "POST /matters/000001/entries/0002/approve HTTP/1.1\r\nx-caller: lee\r\ncontent-length: 2\r\n\r\n",
@@ -303,7 +303,7 @@ pub(crate) const APPROVED: Piece = (
     ),
 );
 
-/// The same, of which the write is refused.
+/// That approval, when its write is refused.
 pub(crate) const APPROVED_REFUSED: Piece = (
     concat!(
         "POST /matters/000001/entries/0002/approve HTTP/1.1\r\nx-caller: lee\r\ncontent-length: 2\r\n\r\n",
@@ -316,7 +316,7 @@ pub(crate) const APPROVED_REFUSED: Piece = (
     ),
 );
 
-/// The first matter is shown when the payment is issued.
+/// The first matter is shown once the payment is issued.
 pub(crate) const SHOWN_ISSUED: Piece = (
     "GET /matters/000001 HTTP/1.1\r\nx-caller: lee\r\n\r\n",
     concat!(
@@ -328,7 +328,7 @@ pub(crate) const SHOWN_ISSUED: Piece = (
     ),
 );
 
-/// A statement of a line of the firm's own.
+/// A statement with a line of the firm's own.
 pub(crate) const FIRM_LINE: Piece = (
     concat!(
         "POST /firm/statements HTTP/1.1\r\nx-caller: cashier\r\ncontent-length: 62\r\n\r\n",
@@ -342,7 +342,7 @@ pub(crate) const FIRM_LINE: Piece = (
     ),
 );
 
-/// The same, of which the write is refused.
+/// That statement, when its write is refused.
 pub(crate) const FIRM_LINE_REFUSED: Piece = (
     concat!(
         "POST /firm/statements HTTP/1.1\r\nx-caller: cashier\r\ncontent-length: 62\r\n\r\n",
@@ -356,7 +356,7 @@ pub(crate) const FIRM_LINE_REFUSED: Piece = (
     ),
 );
 
-/// The same, that comes again.
+/// That statement, sent again.
 pub(crate) const FIRM_LINE_AGAIN: Piece = (
     concat!(
         "POST /firm/statements HTTP/1.1\r\nx-caller: cashier\r\ncontent-length: 62\r\n\r\n",
@@ -370,7 +370,7 @@ pub(crate) const FIRM_LINE_AGAIN: Piece = (
     ),
 );
 
-/// A statement of a closing balance.
+/// A statement with a closing balance.
 pub(crate) const CLOSING: Piece = (
     concat!(
         "POST /firm/statements HTTP/1.1\r\nx-caller: cashier\r\ncontent-length: 62\r\n\r\n",
@@ -384,7 +384,7 @@ pub(crate) const CLOSING: Piece = (
     ),
 );
 
-/// The same, of which the write is refused.
+/// That statement, when its write is refused.
 pub(crate) const CLOSING_REFUSED: Piece = (
     concat!(
         "POST /firm/statements HTTP/1.1\r\nx-caller: cashier\r\ncontent-length: 62\r\n\r\n",
@@ -398,7 +398,7 @@ pub(crate) const CLOSING_REFUSED: Piece = (
     ),
 );
 
-/// The same, that comes again.
+/// That statement, sent again.
 pub(crate) const CLOSING_AGAIN: Piece = (
     concat!(
         "POST /firm/statements HTTP/1.1\r\nx-caller: cashier\r\ncontent-length: 62\r\n\r\n",

@@ -1,4 +1,5 @@
-// Ports that can't be had, clients that are gone, and lines that can't be written. Standard input is never read.
+// Ports that are not available, clients that are gone, and lines that cannot be written. Standard input is never
+// read.
 
 use crate::networks::{NO_NETWORK, TrialClients, TrialNetwork};
 use crate::runs::{NOTHING, Run, check};
@@ -7,7 +8,7 @@ use cashier::Outcome;
 
 const SHOWN: &[u8] = b"GET /matters/000001 HTTP/1.1\r\nx-caller: cashier\r\n\r\n";
 
-// Three clients of port 8080: one that sends a message, one that sends what is none, and one that sends nothing.
+// Three clients of port 8080: one sends a message, one sends bytes that are not a message, and one sends nothing.
 const THREE: TrialNetwork = TrialNetwork {
     port: Some(8080),
     clients: TrialClients {
@@ -52,7 +53,7 @@ const SERVE_TWO: Run = Run {
 
 const CLIENTS: &[Run] = &[
     SERVE_THREE,
-    // no more clients than are wanted
+    // no more clients are served than asked for
     Run {
         words: &["cashier_cli", "--today", "2024-01-10", "serve", "8080", "1"],
         lines: "Ended\n",
@@ -96,13 +97,13 @@ const NO_PORT: Run = Run {
 
 const NO_PORTS: &[Run] = &[
     NO_PORT,
-    // another port than the network has
+    // a port that the network does not have
     Run {
         words: &["cashier_cli", "--today", "2024-01-10", "serve", "8081", "2"],
         network: THREE,
         ..NO_PORT
     },
-    // the least and the greatest of ports and counts
+    // the least and the greatest ports and counts
     Run {
         words: &[
             "cashier_cli",

@@ -1,4 +1,4 @@
-// Books that are kept at paths, and stores that have none there, or can't put it back.
+// Books at paths, and stores that have no book there or cannot put it back.
 
 use crate::runs::{NOTHING, Run, check};
 use crate::stores::TrialStores;
@@ -15,7 +15,7 @@ const SHOWN: &str =
         \"disputed\":\"0.00\",\"entries\":0,\"fees\":\"0.00\",\"held\":\"0.00\",\"matter\":\"000001\",\
         \"opened\":\"2024-01-10\",\"seats\":[{\"person\":\"lee\",\"role\":\"lawyer\"}],\"total\":\"0.00\"}\n";
 
-// A sheet that opens the matter, over the book at the store's path.
+// A sheet that opens a matter, over the book at the store's path.
 const OPEN: Run = Run {
     words: &[
         "cashier_cli",
@@ -31,7 +31,7 @@ const OPEN: Run = Run {
     ..NOTHING
 };
 
-// One that shows it, where it was not opened.
+// A sheet that shows the matter when it was not opened.
 const SHOW: Run = Run {
     input: "show,000001,\n",
     outcome: Outcome::Refused,
@@ -39,7 +39,7 @@ const SHOW: Run = Run {
     ..OPEN
 };
 
-// A statement in a file that can't be opened.
+// A statement in a file that cannot be opened.
 const IMPORT: Run = Run {
     words: &[
         "cashier_cli",
@@ -95,7 +95,7 @@ fn no_book_is_asked_for_where_none_is_named(rt: HostRuntime) {
 }
 
 const FAULTS: &[Run] = &[
-    // before one of a file
+    // the store's fault is reported before one of a file
     Run {
         words: &[
             "cashier_cli",
@@ -109,7 +109,7 @@ const FAULTS: &[Run] = &[
         ..NOTHING
     },
     IMPORT,
-    // before one of a port
+    // the store's fault is reported before one of a port
     Run {
         words: &[
             "cashier_cli",
@@ -137,7 +137,7 @@ const FAULTS: &[Run] = &[
         outcome: Outcome::NetworkFault,
         ..NOTHING
     },
-    // before standard input is read
+    // the store's fault is reported before standard input is read
     Run {
         words: &[
             "cashier_cli",
@@ -187,7 +187,7 @@ const NOT_PUT_BACK: &[Run] = &[
         outcome: Outcome::StoreFault,
         ..OPEN
     },
-    // another fault is told before
+    // another fault is reported first
     IMPORT,
 ];
 

@@ -1,16 +1,17 @@
-// The bytes of replies, which no program asks for at once.
+// The bytes of whole replies, which no program asks for.
 
+use crate::trial::TrialWriter;
 use portal_http::{bytes_of, write_reply};
 use std::alloc::{AllocError, Global};
 use std::test::Fail;
-use trust_base::{OwnedBytes, Refusal, TrialWriter};
+use trust_base::{OwnedBytes, Refusal};
 use trust_desk::{Body, Reply};
 
 fn copied(alloc: Global, text: &str) -> Result<OwnedBytes, AllocError> {
     Ok(OwnedBytes::new(Vec::from_slice(alloc, text.as_bytes())?))
 }
 
-// The bytes of a reply, which is also written by seven bytes at a time.
+// Whether these are the bytes of a reply, also if they are written at most seven bytes at a time.
 fn is(alloc: Global, reply: &Reply, wanted: &str) -> Result<bool, Fail> {
     let bytes = bytes_of(alloc, reply)?;
     let mut writer = TrialWriter::new(alloc, 7, 1_000);

@@ -1,17 +1,17 @@
-// Runs of the program as data, and what is wanted of them.
+// Runs of the program as data, and what is expected of them.
 
 use crate::networks::{NO_NETWORK, StillClock, TrialNetwork};
 use crate::stores::TrialStores;
+use crate::trial::{TrialReader, TrialWriter};
 use cashier::{Folder, NoRemarks, Opened, Outcome, Surroundings, run_over_stores};
 use std::process::Abort;
-use trust_base::{TrialReader, TrialWriter};
 
-/// A folder with one file, or none that can be opened.
+/// A folder with one file, which may not be there to open.
 #[derive(Clone, Copy)]
 pub(crate) struct TrialFolder {
     /// The bytes of the file `bank.csv`, if it can be opened.
     pub(crate) bytes: Option<&'static [u8]>,
-    /// The length that it tells.
+    /// The length that it reports.
     pub(crate) length: Option<u64>,
     /// How many of its reads succeed.
     pub(crate) good: u64,
@@ -38,7 +38,7 @@ impl Folder for TrialFolder {
     }
 }
 
-/// A folder whose file can't be opened.
+/// A folder whose file cannot be opened.
 pub(crate) const NO_FILE: TrialFolder = TrialFolder {
     bytes: None,
     length: None,
@@ -54,7 +54,7 @@ pub(crate) struct Run {
     pub(crate) input: &'static str,
     pub(crate) folder: TrialFolder,
     pub(crate) network: TrialNetwork,
-    /// How many writes to standard output succeed, each of three bytes at most.
+    /// How many writes to standard output succeed, each of at most three bytes.
     pub(crate) writes: u64,
     pub(crate) outcome: Outcome,
     /// What it prints.
@@ -66,7 +66,7 @@ pub(crate) struct Run {
 /// An opening on standard input.
 pub(crate) const OPENING: &str = "open,000001,,Ada Chen,lee\n";
 
-/// A run that ends by a fault before it reads or prints, beside no file and no port.
+/// A run that ends with a fault before it reads or prints, with no file and no port.
 pub(crate) const NOTHING: Run = Run {
     words: &[],
     input: OPENING,
@@ -105,7 +105,8 @@ fn check_one(rt: &(impl Abort + AllocGlobal), stores: &TrialStores, run: &Run) {
     );
 }
 
-/// Asserts the outcome of runs beside these stores, one after the other, and what each prints and reads.
+/// Runs the program with these stores, one run after the other, and asserts the outcome of each and what it prints
+/// and reads.
 pub(crate) fn check(rt: &(impl Abort + AllocGlobal), stores: &TrialStores, runs: &[Run]) {
     for run in runs {
         check_one(rt, stores, run);

@@ -1,4 +1,4 @@
-// Day sheets and statements of which a read or a write fails.
+// Day sheets and statements whose reads or writes fail.
 
 use crate::fronts::{NOTHING, Trial, Wrong, each_read_fails, each_write_fails, today};
 use crate::given::{ALL, End, Given, read_at};
@@ -18,7 +18,7 @@ pub(crate) const OPENING: Piece = (
     ),
 );
 
-// The lawyer is to be dropped, who is the last.
+// A request to drop the matter's last lawyer.
 const LAST: Piece = (
     "drop,000001,,lee\n",
     "409 {\"name\":\"LastLawyer\",\"refusal\":24}\n",
@@ -32,11 +32,11 @@ const SHEET: Trial = Trial {
     most: 4,
 };
 
-/// Two lines that match nothing, and what is no line.
+/// Two lines that match nothing, and one that is not a line.
 pub(crate) const STRAY_LINES: &str =
     "date,reference,bank_ref,amount,text\n2024-01-10,M000001-0001,B1,500.00,\ngarbage\n2024-01-10,rent,B2,-5.00,\n";
 
-/// A statement of them.
+/// A statement with them.
 pub(crate) const STRAYS: Piece = (
     STRAY_LINES,
     "200 {\"applied\":0,\"exceptions\":2,\"repeated\":0,\"statement\":null,\"unreadable\":1}\n",
@@ -71,7 +71,8 @@ fn each_write_of_a_statement_fails(rt: HostRuntime) {
 
 const AGAIN: &str = "409 {\"name\":\"AlreadyOpen\",\"refusal\":11}\n";
 
-// The line of an opening is cut behind so many writes of four bytes: the matter is open all the same.
+// Whether the matter is open even though the line that answers its opening is cut after this many writes of four
+// bytes.
 fn is_open_behind_a_cut(alloc: Global, writes: u64) -> Result<bool, Wrong> {
     let day = today()?;
     let mut desk = Desk::new(PlainBook::new(alloc));

@@ -3,7 +3,7 @@
 use crate::cases::{Case, DONE, serves};
 use crate::clients::{Arrival, Behind, Client, GOOD, MESSAGE, QUIET};
 
-// A client that says nothing.
+// A client that sends nothing.
 const SILENT: Client = Client {
     sends: &[(1, 1_000_000, MESSAGE)],
     ..QUIET
@@ -16,7 +16,7 @@ const BYTES: Client = Client {
     ..QUIET
 };
 
-// A client that sends all of a head but its end, and its end just too late.
+// A client that sends all of a head except its end, and that just too late.
 const LATE: Client = Client {
     sends: &[
         (1, 0, b"GET /matters/000001 HTTP/1.1\r\nx-caller: bob\r\n"),
@@ -26,7 +26,7 @@ const LATE: Client = Client {
     ..QUIET
 };
 
-// The same just in time.
+// The same client, just in time.
 const IN_TIME: Client = Client {
     sends: &[
         (1, 0, b"GET /matters/000001 HTTP/1.1\r\nx-caller: bob\r\n"),
@@ -43,7 +43,7 @@ const OFTEN: Client = Client {
     ..QUIET
 };
 
-// A client that resets its connection within a head.
+// A client that resets its connection in the middle of a head.
 const RESETS: Client = Client {
     sends: &[(1, 0, b"GET /matters/0000")],
     behind: Behind::Resets,
@@ -61,7 +61,7 @@ const CASES: &[(&str, Case<'static>)] = &[
             ..DONE
         },
     ),
-    // The first byte comes in the silence, and the others have a minute.
+    // The first byte comes within the silence, and the others have a minute.
     (
         "a byte a second has a minute",
         Case {

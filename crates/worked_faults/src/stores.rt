@@ -5,7 +5,7 @@ use std::cell::{Cell, RefCell};
 use trust_base::StoreFault;
 use trust_store::{PlainBook, Stores};
 
-/// A store with a place for one book, which is kept in memory, and what comes of putting it back.
+/// A store with room for one book, kept in memory, and the result of putting it back.
 #[derive(Drop)]
 pub(crate) struct TrialStores {
     kept: RefCell<Option<PlainBook>>,

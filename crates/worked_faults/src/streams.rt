@@ -1,4 +1,4 @@
-// Streams of which a read or a write fails.
+// Streams whose reads or writes fail.
 
 use crate::fronts::{
     NOTHING, Trial, Wrong, bytes_of, each_read_fails, each_write_fails, expect, today, whole,
@@ -18,8 +18,8 @@ const ALONE: Trial = Trial {
     most: 3,
 };
 
-// The same messages, with an opening, deposits, refused requests and statements of a second matter before, between and
-// behind them.
+// The same messages, with an opening, deposits, refused requests and statements of a second matter before, between
+// and after them.
 const AMONG_OTHERS: Trial = Trial {
     pieces: &[
         OTHER_OPEN,
@@ -48,7 +48,7 @@ const BEFORE_A_CUT: Trial = Trial {
     ..BEFORE_A_BAD_HEADER
 };
 
-// A message of one byte at a read and seven at a write.
+// A message, with one byte at a read and seven at a write.
 const ONE: Trial = Trial {
     pieces: &[STRANGER],
     most: 1,
@@ -97,7 +97,7 @@ fn each_write_of_a_stream_fails(rt: HostRuntime) {
     }
 }
 
-// A read for each byte, and one for the end.
+// One read for each byte, and one for the end.
 fn reads_byte_by_byte(alloc: Global) -> Result<u64, Wrong> {
     let bytes = bytes_of(alloc, &ONE)?;
     let found = whole(alloc, &ONE, &bytes)?;
@@ -109,7 +109,7 @@ fn a_message_byte_by_byte(rt: HostRuntime) {
     assert_eq!(rt; reads_byte_by_byte(rt.alloc()), Ok(1));
 }
 
-// A writer that takes no byte: nothing is answered.
+// A writer that accepts no byte: nothing is answered.
 fn takes_nothing(alloc: Global, trial: &Trial) -> Result<(), Wrong> {
     let bytes = bytes_of(alloc, trial)?;
     let found = read(alloc, today()?, trial.given, &bytes, 0, (ALL, ALL));
@@ -126,7 +126,7 @@ fn a_writer_that_takes_nothing(rt: HostRuntime) {
     assert_eq!(rt; takes_nothing(rt.alloc(), &only_bad), Ok(()));
 }
 
-// A text, so many times.
+// Repeats a text.
 fn repeated(alloc: Global, text: &str, times: usize) -> Result<Vec<u8>, Wrong> {
     let mut bytes = Vec::new(alloc);
     for _ in 0..times {
@@ -135,7 +135,7 @@ fn repeated(alloc: Global, text: &str, times: usize) -> Result<Vec<u8>, Wrong> {
     Ok(bytes)
 }
 
-// Of so many messages, one at a read, the first 1,000 are answered, and so many are read.
+// Sends this many messages, one at a read: the first 1,000 are answered. Returns how many are read.
 fn reads_of_many(alloc: Global, messages: usize) -> Result<u64, Wrong> {
     let (message, answer): Piece = STRANGER;
     let bytes = repeated(alloc, message, messages)?;

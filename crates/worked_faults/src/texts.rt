@@ -1,12 +1,13 @@
-// What is read to the end, and what is written whole.
+// Reading to the end, and writing everything.
 
+use crate::trial::{TrialReader, TrialWriter};
 use std::alloc::Global;
-use trust_base::{InputFault, TrialReader, TrialWriter, WriteFault, read_whole, send};
+use trust_base::{InputFault, WriteFault, read_whole, send};
 
 const TEXT: &[u8] = b"take,000001,500.00";
 
-// What reading at most so many bytes tells, of a reader of seven bytes at each call of which so many succeed: whether
-// they are the text's, where they came.
+// Reads at most `most` bytes from a reader that gives seven bytes a call, of which this many succeed. Returns whether
+// the bytes are those of the text, if any came.
 fn told(alloc: Global, most: u32, good: u64) -> Result<Option<bool>, InputFault> {
     let mut reader = TrialReader::new(TEXT, 7, good);
     match read_whole(alloc, &mut reader, most as usize) {
@@ -23,7 +24,7 @@ fn whole_inputs(rt: HostRuntime) {
     assert_eq!(rt; told(rt.alloc(), 18, 2), Err(InputFault::Reader));
 }
 
-// Bytes at a write, the writes that succeed, and how many bytes of the text are taken.
+// Bytes at a write, the writes that succeed, and how many bytes of the text are accepted.
 const WRITERS: &[(usize, u64, usize)] = &[(5, 100, 18), (18, 1, 18), (5, 2, 10), (0, 100, 0)];
 
 #[test]

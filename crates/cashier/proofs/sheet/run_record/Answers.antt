@@ -1,6 +1,7 @@
 use Rattle.std.proofs.Common.{ap, inl, inr, refl, ◌∙◌}
 use Rattle.csv.specs.Records.{fields_of}
-use Rattle.cashier.specs.Sheet.{heard_of, ran_by}
+use Rattle.cashier_remarks.specs.Records.{heard_of}
+use Rattle.cashier.specs.Sheet.{ran_by}
 use Rattle.trust_desk.proofs.Crashes.{leave-failed}
 use Rattle.cashier.proofs.SheetKept.{reply-says, told-as}
 use Rattle.cashier.proofs.sheet.run_record.Goals as goal

@@ -6,15 +6,15 @@ use Rattle.firm_figures.proofs.firm_row.hand_firm_lines.Goals as goal
 
 pub loop-line-preserved : goal.loop-line-preserved
 loop-line-preserved g c =
-    next_taken g.S.RowSink.lined IsFirmLineInRange c.args.sink.now c.args.lines.now c.loop-line.line-index c.line-item.result c.loop-line.sink c.firm_line.new.self
+    next_taken g.S.FirmLineSink.lined IsFirmLineInRange c.args.sink.now c.args.lines.now c.loop-line.line-index c.line-item.result c.loop-line.sink c.firm_line.new.self
     c.loop-line.invariant (omega arith) c.line-item.is c.in_ok-firm_line.ensures.ok (subst IsBankAmount c.get-in_range.ensures.value c.get-in_range.ensures.range)
 
 pub returns-clause-taken : goal.returns-clause-taken
 returns-clause-taken g c =
-    all_taken g.S.RowSink.lined IsFirmLineInRange c.args.sink.now c.args.lines.now c.loop-line.line-index c.loop-line.sink
+    all_taken g.S.FirmLineSink.lined IsFirmLineInRange c.args.sink.now c.args.lines.now c.loop-line.line-index c.loop-line.sink
     c.loop-line.invariant (omega arith)
 
 pub returns-clause-countable : goal.returns-clause-countable
 returns-clause-countable g c =
-    all_countable g.S.RowSink.lined IsFirmLineInRange c.args.sink.now c.args.lines.now c.loop-line.line-index c.loop-line.sink
+    all_countable g.S.FirmLineSink.lined IsFirmLineInRange c.args.sink.now c.args.lines.now c.loop-line.line-index c.loop-line.sink
     c.loop-line.invariant (omega arith) (omega arith)

@@ -1,8 +1,27 @@
-use Rattle.matter_parts.proofs.Keepers.{left-set, left-none}
+use Rattle.std.specs.List.{position}
+use Rattle.std.proofs.Common.{◌≡◌, ℕ, List, Some, None, get_or, ap, sym, subst, ◌∙◌}
+use Rattle.std.proofs.Math.ListN.{set}
+use Rattle.matter_parts.specs.declared.kept.Kept.{Kept}
+use Rattle.matter_parts.proofs.ByPlace.{numbered-left-set}
+use Rattle.matter_parts.proofs.Keepers.{is_number, left-set, left-none}
 use Rattle.matter_parts.proofs.kept.set_left.Goals as goal
 
+pub invariant_of-kept : goal.invariant_of-kept
+invariant_of-kept c = λ is.
+    let own : c.kept.inside.entries.items ≡ c.args.kept.now = c.kept.view_is in
+    let P : ℕ → Type 0 = λ n. Some c.in-Some.i ≡ position (is_number n) c.args.kept.now in
+    let Q : List Kept → Type 0 = λ ks. Some c.in-Some.i ≡ position (is_number c.args.number) ks in
+    numbered-left-set c.kept.inside.entries.items c.args.number c.args.left c.in-Some.i c.index_mut.result.now (c.kept.invariant is) (subst Q (sym own) (subst P c.get.ensures.value c.in-Some.ensures)) c.index_mut.ensures.value
+
 pub returns-in-Some : goal.returns-in-Some
-returns-in-Some c = left-set c.args.kept.now.items c.args.number c.args.left c.in-Some.i c.index_mut.result.now c.in-Some.ensures c.index_mut.ensures.value
+returns-in-Some c =
+    let own : c.kept.inside.entries.items ≡ c.args.kept.now = c.kept.view_is in
+    let P : ℕ → Type 0 = λ n. Some c.in-Some.i ≡ position (is_number n) c.args.kept.now in
+    let Q : List Kept → Type 0 = λ ks. c.index_mut.result.now ≡ get_or ks c.in-Some.i c.index_mut.result.now in
+    ap (λ (ks : List Kept). set ks c.in-Some.i (record c.index_mut.result.now { left = c.args.left })) own
+    ∙ left-set c.args.kept.now c.args.number c.args.left c.in-Some.i c.index_mut.result.now (subst P c.get.ensures.value c.in-Some.ensures) (subst Q own c.index_mut.ensures.value)
 
 pub returns-in_default : goal.returns-in_default
-returns-in_default c = left-none c.args.kept.now.items c.args.number c.args.left c.in_default.ensures
+returns-in_default c =
+    let P : ℕ → Type 0 = λ n. None ≡ position (is_number n) c.args.kept.now in
+    left-none c.args.kept.now c.args.number c.args.left (subst P c.get.ensures.value c.in_default.ensures)

@@ -12,4 +12,4 @@ returns-clause-written g c =
     let balance = c.balance_columns-balance.ensures ∙ ap balance_columns {y = row} c.of.ensures in
     c.write_script.ensures.written (OfBalance c.args.kind line)
     (c.line_scripts_are_meant.ensures.of_balance c.args.kind line) tt
-    (λ l clean stands fits. ap₂ (λ b e. AddBalance b ∷ ExceptionGone e ∷ []) balance c.exception_columns.ensures)
+    (ap₂ (λ b e. AddBalance b ∷ ExceptionGone e ∷ []) balance c.exception_columns.ensures)

@@ -11,8 +11,7 @@ returns-clause-written g c =
     let line = c.args.line.now in
     let kept = firm_line_columns (as_firm_line line) in
     c.write_script.ensures.written (OfFirm line) (c.line_scripts_are_meant.ensures.of_firm line) tt
-    (λ l clean stands fits.
-    ap (λ s. AddFirmLine s ∷ AddMovement (movement_given c.moved_columns.result)
+    (ap (λ s. AddFirmLine s ∷ AddMovement (movement_given c.moved_columns.result)
     ∷ ExceptionGone (exception_given c.exception_columns.result) ∷ []) {y = kept} c.kept_columns.ensures
     ∙ ap₂ (λ m e. AddFirmLine kept ∷ AddMovement m ∷ ExceptionGone e ∷ []) c.moved_columns.ensures
     c.exception_columns.ensures)

@@ -7,4 +7,4 @@ pub returns-clause-written : goal.returns-clause-written
 returns-clause-written g c =
     let line = c.args.line.now in
     c.write_script.ensures.written (Unmatched line) (c.line_scripts_are_meant.ensures.unmatched line) tt
-    (λ l clean stands fits. ap (λ e. NoteException e ∷ []) c.exception_columns.ensures)
+    (ap (λ e. NoteException e ∷ []) c.exception_columns.ensures)

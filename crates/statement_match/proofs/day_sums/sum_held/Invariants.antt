@@ -1,8 +1,9 @@
 use Rattle.std.proofs.Common.{◌≡◌, ◌*◌, ◌^◌, pos, ◌+ℤ◌, ◌≤ℤ◌, take}
 use Rattle.std.specs.List.{filter}
 use Rattle.firm_rows.specs.Sums.{sum_of}
-use Rattle.statement_match.specs.DaySums.{amount_of, is_held}
-use Rattle.statement_match.specs.Lookups.{elements}
+use Rattle.statement_lines.specs.EntryStates.{is_held}
+use Rattle.statement_lines.specs.Lookups.{elements}
+use Rattle.statement_match.specs.DaySums.{amount_of}
 use Rattle.statement_match.proofs.day_sums.sum_held.Given as goal
 
 abbrev pub invariant-loop-entry : goal.invariant-loop-entry

@@ -2,8 +2,8 @@ use Rattle.std.proofs.Common.{◌∙◌, sym, ap, ◌++◌, ℕ, append-nil, ref
 use Rattle.std.specs.Prelude.{Option, option_to_list}
 use Rattle.std.proofs.lemmas.List.{map-append}
 use Rattle.std.proofs.lemmas.Option.{slice_get_past, slice_get_read}
-use Rattle.statement_match.specs.Lookups.{elements}
-use Rattle.statement_match.specs.declared.book_entry.BookEntry.{BookEntry}
+use Rattle.statement_lines.specs.Lookups.{elements}
+use Rattle.statement_lines.specs.declared.book_entry.BookEntry.{BookEntry}
 use Rattle.statement_match.proofs.entry_index.add_at.Goals as goal
 use denote.Ref.{Bor}
 

@@ -1,5 +1,5 @@
 use Rattle.std.proofs.Common.{rules}
-use Rattle.statement_match.specs.Keys.{day_key}
+use Rattle.statement_lines.specs.Keys.{day_key}
 use Rattle.statement_match.proofs.entry_index.by_day.Goals as goal
 
 pub returns : goal.returns

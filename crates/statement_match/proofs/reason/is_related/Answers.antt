@@ -1,8 +1,8 @@
 use Rattle.std.proofs.Common.{◌∙◌, ap}
 use Rattle.std.specs.List.{list_any}
 use Rattle.trust_base.specs.declared.line.Line.{Line}
-use Rattle.statement_match.specs.Relations.{stands}
-use Rattle.statement_match.proofs.Found.{any_kept}
+use Rattle.statement_lines.specs.Relations.{stands}
+use Rattle.statement_lines.proofs.Found.{any_kept}
 use Rattle.statement_match.proofs.reason.is_related.Goals as goal
 
 pub returns : goal.returns

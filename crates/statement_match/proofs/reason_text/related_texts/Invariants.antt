@@ -1,7 +1,7 @@
 use Rattle.std.proofs.Common.{◌≡◌, ◌≤◌, length, take, map}
 use Rattle.std.specs.List.{filter}
-use Rattle.statement_match.specs.Lookups.{elements}
-use Rattle.statement_match.specs.Relations.{stands}
+use Rattle.statement_lines.specs.Lookups.{elements}
+use Rattle.statement_lines.specs.Relations.{stands}
 use Rattle.statement_match.specs.ReasonTexts.{related_entry_text}
 use Rattle.statement_match.proofs.reason_text.related_texts.Given as goal
 

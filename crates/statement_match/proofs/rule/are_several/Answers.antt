@@ -1,10 +1,10 @@
 use Rattle.std.proofs.Common.{◌∙◌, ap, ◌==◌}
 use Rattle.std.specs.Prelude.{nat_lt}
 use Rattle.std.specs.List.{filter}
-use Rattle.statement_match.specs.Keys.{line_key}
-use Rattle.statement_match.specs.Rule.{is_open_like}
-use Rattle.statement_match.proofs.Alike.{open_like_narrows}
-use Rattle.statement_match.proofs.Found.{counted}
+use Rattle.statement_lines.specs.Keys.{line_key}
+use Rattle.statement_lines.specs.OpenLines.{is_open_like}
+use Rattle.statement_lines.proofs.Alike.{open_like_narrows}
+use Rattle.statement_lines.proofs.Found.{counted}
 use Rattle.statement_match.proofs.rule.are_several.Goals as goal
 
 pub returns : goal.returns

@@ -1,7 +1,7 @@
 use Rattle.std.proofs.Common.{◌≡◌, ◌*◌, ◌^◌, pos, ◌+ℤ◌, ◌≤ℤ◌, take}
 use Rattle.std.specs.List.{filter}
-use Rattle.statement_match.specs.Bookings.{booking_of, is_beside, total_of}
-use Rattle.statement_match.specs.Lookups.{elements}
+use Rattle.statement_lines.specs.Bookings.{booking_of, is_beside, total_of}
+use Rattle.statement_lines.specs.Lookups.{elements}
 use Rattle.statement_match.proofs.rule.sum_beside.Given as goal
 
 abbrev pub invariant-loop-entry : goal.invariant-loop-entry

@@ -1,23 +1,14 @@
-use Rattle.std.proofs.Common.{◌≡◌, ◌∙◌, ap, map, [], ◌∷◌, Some}
-use Rattle.statement_csv.specs.Headers.{header}
-use Rattle.statement_match.specs.Records.{Records, lines_from, numbers_from, records_of, rows_of}
-use Rattle.statement_match.specs.Rule.{becomes, outcomes}
-use Rattle.statement_match.specs.Statements.{rows_by, statement_text, text_of}
-use Rattle.statement_match.proofs.RowsWritten.{adds-more}
+use Rattle.std.proofs.Common.{◌≡◌, ◌∙◌, ap, map}
+use Rattle.statement_lines.specs.Records.{Records, lines_from, records_of, rows_of}
+use Rattle.statement_match.specs.Rule.{becomes}
+use Rattle.statement_match.specs.Statements.{statement_text}
 use Rattle.statement_match.proofs.statement.statement_of.Goals as goal
 
 pub returns : goal.returns
 unfolding statement_text records_of
 returns c today held given =
-    let rows = rows_of c.args.statement.now in
-    let outcome_of = becomes today held (lines_from 1 rows) in
-    let same = c.records.view_is ∙ c.requires in
-    let numbers : c.deref.result.now ≡ numbers_from 1 rows =
-    c.deref.ensures.value ∙ ap (λ (r : Records). r.numbers) same in
-    let found : c.args.outcomes.now ≡ map outcome_of (lines_from 1 rows) =
-    given ∙ ap (λ (r : Records). outcomes today held r.lines) c.requires in
-    let both =
-    adds-more (λ bytes. Some bytes.items) c.new_writer-writer.result c.write_header.new.writer c.write_rows.new.writer
-    (header ∷ []) (rows_by outcome_of 1 rows) c.in_ok-write_header.ensures
-    (c.in_ok-write_rows.ensures outcome_of numbers found) in
-    c.text_in.ensures (text_of (header ∷ rows_by outcome_of 1 rows)) (both [] c.new_writer-writer.ensures)
+    let lines = c.args.records.now.lines in
+    let all = lines_from 1 (rows_of c.args.statement.now) in
+    let found : c.args.outcomes.now ≡ map (becomes today held all) lines =
+    given ∙ ap (λ ls. map (becomes today held ls) lines) (ap (λ (r : Records). r.lines) c.requires) in
+    c.write_statement.ensures (becomes today held all) found

@@ -6,5 +6,5 @@ use Rattle.trust_store.proofs.handing.hand_lines.Goals as goal
 
 pub loop-line-preserved : goal.loop-line-preserved
 loop-line-preserved g c =
-    next_handed g.S.RowSink.noted IsLineInRange c.args.sink.now c.args.lines.now c.loop-line.line-index c.line-item.result c.loop-line.sink c.exception.new.self
+    next_handed g.S.ExceptionSink.noted IsLineInRange c.args.sink.now c.args.lines.now c.loop-line.line-index c.line-item.result c.loop-line.sink c.exception.new.self
     c.loop-line.invariant (omega arith) c.line-item.is c.in_ok-exception.ensures.ok (subst IsBankAmount c.get-in_range.ensures.value c.get-in_range.ensures.range)

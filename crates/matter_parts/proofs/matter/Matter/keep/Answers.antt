@@ -11,5 +11,5 @@ invariant_of-self-2 c =
     record {
       figures = c.requires.figures;
       lefts = subst P (sym (c.set_other.ensures ∙ ap (λ ks. other_written ks other) c.in_ok-put.ensures.ok))
-          (small-after c.self.inside.kept.items _ other c.self.invariant.lefts c.requires.left c.requires.other);
+          (small-after c.self.inside.kept _ other c.self.invariant.lefts c.requires.left c.requires.other);
     }

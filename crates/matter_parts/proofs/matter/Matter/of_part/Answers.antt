@@ -1,13 +1,15 @@
-use Rattle.std.proofs.Common.{◌≤◌, List, All, subst}
+use Rattle.std.proofs.Common.{◌≤◌, List, All, subst, sym}
 use Rattle.matter_rows.specs.declared.limits.TheConstants.{MAX_TOTAL}
 use Rattle.matter_parts.specs.declared.kept.Kept.{Kept}
+use Rattle.matter_parts.proofs.Keepers.{AreSmallLefts}
 use Rattle.matter_parts.proofs.WholeRows.{lefts-within}
 use Rattle.matter_parts.proofs.matter.Matter.of_part.Goals as goal
 
 pub made-requires : goal.made-requires
 made-requires c =
     let P : List Kept → Type 0 = λ ks. All (λ k. k.left ≤ MAX_TOTAL) ks in
+    let Q : List Kept → Type 0 = AreSmallLefts in
     record {
       figures = c.are_small.ensures.0 c.if-not-are_small.false;
-      lefts = lefts-within c.args.kept.items (subst P c.as_slice.ensures.value (c.are_small_lefts.ensures.0 c.if-not-are_small_lefts.false));
+      lefts = subst Q (sym c.some.ensures) (lefts-within c.args.kept.items (subst P c.as_slice.ensures.value (c.are_small_lefts.ensures.0 c.if-not-are_small_lefts.false)));
     }

@@ -1,9 +1,9 @@
 use Rattle.std.proofs.Common.{◌≡◌, ◌∙◌, ap, subst}
 use Rattle.std.specs.List.{filter}
+use Rattle.statement_lines.specs.Lookups.{elements}
+use Rattle.statement_lines.specs.Marks.{is_shown}
+use Rattle.statement_lines.specs.Relations.{stands}
 use Rattle.statement_match.specs.Grounds.{LineGrounds}
-use Rattle.statement_match.specs.Lookups.{elements}
-use Rattle.statement_match.specs.Marks.{is_shown}
-use Rattle.statement_match.specs.Relations.{stands}
 use Rattle.statement_match.proofs.Candidates.{amount_kept, held_kept, named_kept, shown_kept}
 use Rattle.statement_match.proofs.grounds.LineGrounds.candidates.Goals as goal
 

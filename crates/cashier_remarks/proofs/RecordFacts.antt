@@ -1,0 +1,105 @@
+-- What a record of a sheet does to a firm.
+use Rattle.std.proofs.Common.{◌≡◌, cond, ℕ, Bool, true, false, List, Option, Some, None, Result, Ok, Err, refl, sym, ap, subst}
+use Rattle.std.specs.Prelude.{⊤}
+use Rattle.trust_base.specs.Texts.{matter_of}
+use Rattle.statement_csv.specs.Lines.{line_of_texts}
+use Rattle.trust_base.specs.declared.line.Line.{Line}
+use Rattle.trust_base.specs.declared.refusal.Field.{Field}
+use Rattle.trust_base.specs.declared.refusal.Field.TheVariants as field
+use Rattle.trust_base.specs.declared.refusal.Refusal.{Refusal}
+use Rattle.trust_base.specs.declared.refusal.Refusal.TheVariants.{BadField, Memory}
+use Rattle.firm_rows.specs.Firm.{Firm}
+use Rattle.trust_desk.specs.FirmStep.{KindStopped, Steps, firm_step}
+use Rattle.trust_desk.specs.Heard.{Asks, Dismisses, Heard, Kind, NotRead, OfItems, OfMatter, OnlyTold, Unread, kind_of}
+use Rattle.trust_desk.specs.Replies.{is_fault_reply, refused}
+use Rattle.trust_desk.specs.declared.requests.Reply.{Reply}
+use Rattle.trust_desk.specs.declared.requests.Request.{Request}
+use Rattle.trust_desk.proofs.Steps.{nothing-done, steps-fault as steps-stopped}
+use Rattle.trust_matter.specs.declared.ask.Ask.{Ask}
+use Rattle.ask_fields.specs.Fields.{Reads}
+use Rattle.cashier_remarks.specs.Records.{ask_of, asked_of, by_cashier, dismissing, dismissing_in, has_dismissal_form, heard_as, heard_of, is_dismissal, of_matter, of_verb, text_at, verb_in}
+use Rattle.cashier_remarks.specs.declared.record.Verb.{Verb}
+use Rattle.trust_desk.specs.Crashes.{IsMade, MayLeave}
+use Rattle.trust_desk.proofs.Crashes.{leave-as, leave-still}
+use Rattle.trust_desk.proofs.MadeRows.{plain-step}
+
+-- ---- what the desk hears
+
+pub heard-read : (fields : List (List ℕ)) (request : Request) → asked_of fields ≡ Ok request → heard_of fields ≡ Asks request
+unfolding heard_of
+heard-read fields request e = ap (λ (o : Result Request Field). heard_as o (matter_of (text_at fields 1))) e
+
+heard-bad : (fields : List (List ℕ)) (f : Field) → asked_of fields ≡ Err f → heard_of fields ≡ Unread (matter_of (text_at fields 1)) (BadField f)
+unfolding heard_of
+heard-bad fields f e = ap (λ (o : Result Request Field). heard_as o (matter_of (text_at fields 1))) e
+
+-- it brings no items of a statement
+abbrev IsNoImport : Kind → Type 0
+IsNoImport (OfMatter m caller a) = ⊤
+IsNoImport (OfItems refused items) = ⊥
+IsNoImport (Dismisses caller line) = ⊤
+IsNoImport (OnlyTold text) = ⊤
+IsNoImport (NotRead named r) = ⊤
+
+-- no record asks for an import
+by_cashier-none : (n : ℕ) (asked : Result Ask Field) (named : Option ℕ) → IsNoImport (kind_of (heard_as (by_cashier n asked) named))
+by_cashier-none n (Err f) named = tt
+by_cashier-none n (Ok a) named = tt
+
+of_matter-none : (read : Option ℕ) (asked : Result Ask Field) (named : Option ℕ) → IsNoImport (kind_of (heard_as (of_matter read asked) named))
+of_matter-none None asked named = tt
+of_matter-none (Some n) asked named = by_cashier-none n asked named
+
+of_verb-none : (verb : Option Verb) (fields : List (List ℕ)) (named : Option ℕ) → IsNoImport (kind_of (heard_as (of_verb verb fields) named))
+of_verb-none None fields named = tt
+of_verb-none (Some v) fields named = of_matter-none (matter_of (text_at fields 1)) (ask_of v fields) named
+
+dismissing-none : (line : Option Line) (named : Option ℕ) → IsNoImport (kind_of (heard_as (dismissing line) named))
+dismissing-none None named = tt
+dismissing-none (Some line) named = tt
+
+dismissal-none : (b : Bool) (line : Option Line) (named : Option ℕ) → IsNoImport (kind_of (heard_as (cond b (dismissing line) (Err field.Record)) named))
+dismissal-none true line named = dismissing-none line named
+dismissal-none false line named = tt
+
+record-none : (fields : List (List ℕ)) → IsNoImport (kind_of (heard_of fields))
+unfolding heard_of asked_of
+record-none fields = cases (is_dismissal fields)
+  where
+    cases : (b : Bool) → IsNoImport (kind_of (heard_as (cond b (dismissing_in fields) (of_verb (verb_in fields) fields)) (matter_of (text_at fields 1))))
+    cases true = dismissal-none (has_dismissal_form fields) (line_of_texts (text_at fields 3) (text_at fields 4) (text_at fields 5) (text_at fields 6) (text_at fields 7)) (matter_of (text_at fields 1))
+    cases false = of_verb-none (verb_in fields) fields (matter_of (text_at fields 1))
+
+-- a record that could not be read is refused, and changes nothing
+pub refused-step : (day : ℕ) (firm : Firm) (fields : List (List ℕ)) (r : Refusal) → Reads (asked_of fields) (Err r) → Steps day firm (heard_of fields) (refused r) firm
+refused-step day firm fields (BadField f) h = rw (heard-bad fields f h) (refl, refl)
+refused-step day firm fields Memory h = steps-stopped day firm firm (heard_of fields) Memory refl (nothing-done day firm (heard_of fields))
+refused-step day firm fields _ h = absurd h
+
+-- ---- what is left of a fault
+
+stopped-is : (day : ℕ) (firm after : Firm) (k : Kind) → IsNoImport k → KindStopped day firm k after → after ≡ firm
+stopped-is day firm after (OfMatter m caller a) none s = s
+stopped-is day firm after (OfItems refused items) none s = absurd none
+stopped-is day firm after (Dismisses caller line) none s = s
+stopped-is day firm after (OnlyTold text) none s = s
+stopped-is day firm after (NotRead named r) none s = s
+
+pub steps-fault : (day : ℕ) (firm after : Firm) (fields : List (List ℕ)) (reply : Reply) → is_fault_reply reply ≡ true → Steps day firm (heard_of fields) reply after
+    → after ≡ firm
+steps-fault day firm after fields reply e steps = let stopped = rw e at steps in stopped-is day firm after (kind_of (heard_of fields)) (record-none fields) stopped.leaves
+
+-- ---- what a crash leaves of a record
+
+pub record-asked : {B : Type 0} {clean : B → Type 0} {leaves : B → Firm → Type 0} (day : ℕ) (firm : Firm) (old new : B) (fields : List (List ℕ)) (request : Request) (reply : Reply) → asked_of fields ≡ Ok request
+    → MayLeave clean leaves (is_fault_reply reply ≡ false) (IsMade day firm (Asks request)) firm (firm_step day firm (Asks request)).firm old new
+    → MayLeave clean leaves (is_fault_reply reply ≡ false) (IsMade day firm (heard_of fields)) firm (firm_step day firm (heard_of fields)).firm old new
+record-asked {clean} {leaves} day firm old new fields request reply e may =
+    subst (λ (h : Heard). MayLeave clean leaves (is_fault_reply reply ≡ false) (IsMade day firm h) firm (firm_step day firm h).firm old new) (sym (heard-read fields request e)) may
+
+-- a record that could not be read changes nothing
+pub record-refused : {B : Type 0} {clean : B → Type 0} {leaves : B → Firm → Type 0} (day : ℕ) (firm : Firm) (b : B) (fields : List (List ℕ)) (why : Refusal) (reply : Reply) → Reads (asked_of fields) (Err why) → reply ≡ refused why
+    → MayLeave clean leaves (is_fault_reply reply ≡ false) (IsMade day firm (heard_of fields)) firm (firm_step day firm (heard_of fields)).firm b b
+record-refused day firm b fields why reply unread is =
+    let step = subst (λ (x : Reply). Steps day firm (heard_of fields) x firm) (sym is) (refused-step day firm fields why unread) in
+    leave-as {done = ⊤} (λ fine. tt) (λ found made. made) (λ fine. sym (plain-step day firm firm (heard_of fields) reply fine step)) (leave-still firm b)

@@ -1,0 +1,20 @@
+//! What a person is told of a run as it goes, and what that is told of: a record of a day sheet, as a person types it,
+//! with what it asks; and the files that a command line names.
+#![tactic(auto)]
+
+mod dismissal;
+mod fields;
+mod folder;
+mod record;
+mod record_asks;
+mod remarks;
+
+pub use folder::{Folder, Opened, Presence};
+pub use record::{Verb, answer_record};
+pub use remarks::{
+    AskedRemarks, Caution, ClearedTwice, EarlierLine, EntryFault, EntryLine, ExceptionRemark,
+    ExceptionTelling, Excerpt, FileRemark, HeaderRemark, LineFault, LineRemark, NoRemarks,
+    NowTelling, OwnLine, Place, Plain, RecordFault, RecordRemark, RefusedRecord, Remark, Remarks,
+    StatementTelling, Telling, TwiceTelling, UnmatchedLine, VerbFault, is_past, tell_of_day,
+    tell_of_loss, tell_of_new_book, tell_of_no_book,
+};

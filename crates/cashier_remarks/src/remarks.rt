@@ -1,0 +1,242 @@
+// Remarks: what a person is told during a run, in addition to what it prints and how it ends.
+
+mod beginning;
+mod beside;
+mod caution;
+mod check;
+mod day_meant;
+mod earlier_line;
+mod entry_line;
+mod exception;
+mod excerpt;
+mod fault;
+mod fields;
+mod header;
+mod kept;
+mod line;
+mod line_fault;
+mod own_line;
+mod place;
+mod plain;
+mod record;
+mod refused;
+mod rereading;
+mod statement;
+mod sum_meant;
+mod telling;
+mod unmatched;
+mod verb_fault;
+mod verbs;
+mod whole_file;
+
+pub use beginning::{is_past, tell_of_day, tell_of_new_book, tell_of_no_book};
+pub use beside::{ClearedTwice, NowTelling, TwiceTelling};
+use beside::{write_earlier_end, write_of_now, write_rows_end};
+pub use caution::Caution;
+use check::{write_flaw, write_unread};
+pub use earlier_line::EarlierLine;
+pub use entry_line::{EntryFault, EntryLine};
+use exception::write_end;
+pub use exception::{ExceptionRemark, ExceptionTelling};
+pub use excerpt::Excerpt;
+pub use fault::RecordFault;
+pub use header::HeaderRemark;
+pub use kept::tell_of_loss;
+pub use line::LineRemark;
+pub use line_fault::LineFault;
+pub use own_line::OwnLine;
+pub use place::Place;
+pub use plain::Plain;
+pub use record::RecordRemark;
+pub use refused::RefusedRecord;
+pub use statement::StatementTelling;
+use std::fmt;
+pub use telling::Telling;
+use trust_base::{Day, StoreFault};
+use trust_desk::{Flaw, Unread};
+use trust_store::NoBook;
+pub use unmatched::UnmatchedLine;
+pub use verb_fault::VerbFault;
+pub use whole_file::FileRemark;
+
+/// What a person is told during a run.
+#[derive(Clone, Copy, PartialEq, Eq, Debug)]
+pub enum Remark<'a> {
+    /// About the record of a sheet that begins on this line.
+    Record { line: u64, told: RecordRemark<'a> },
+    /// A sheet is above the size limit.
+    SheetTooLarge,
+    /// About the line of a statement at this place.
+    Line { place: Place, told: LineRemark<'a> },
+    /// A statement has another header.
+    Header(HeaderRemark<'a>),
+    /// A statement is above the size limit, after this many of its records were handled.
+    StatementTooLarge { taken: u64 },
+    /// What was accepted is lost when the run ends.
+    NothingKept,
+    /// A statement to be matched is above the size limit.
+    MatchTooLarge,
+    /// Something about the record that begins on this line that only the file of a statement shows.
+    OfFile { line: u64, told: FileRemark },
+    /// There was no book at this path, and a new one was begun.
+    NewBook(&'a str),
+    /// There was an empty file at this path, and a book was begun in it.
+    EmptyBook(&'a str),
+    /// No book is available at this path.
+    NoBook { path: &'a str, why: NoBook },
+    /// The business day is far ahead of the machine's clock.
+    FarDay(Day),
+    /// About the records of a matched statement: one that has to be looked at, or how many there are of each kind.
+    Unmatched(UnmatchedLine<'a>),
+    /// About an exception: why it is one, or that an import would accept it.
+    Exception(ExceptionRemark<'a>),
+    /// Reporting the exceptions was ended by this fault.
+    ExceptionsEnd(StoreFault),
+    /// Two bank lines look like the same line.
+    ClearedTwice(ClearedTwice<'a>),
+    /// A report names a business day, but has today's figures: a matter was changed on a later day.
+    OfNow { today: Day, last: Day },
+    /// Reporting what goes with a report was ended by this fault.
+    RowsEnd(StoreFault),
+    /// The lines that a book has before an import could not be read, because of this fault.
+    EarlierEnd(StoreFault),
+    /// This is not sound in the book's rows.
+    Flaw(Flaw),
+    /// This can't be read in the book's rows.
+    Unread(Unread),
+}
+
+// Why no book is available, as written after its path.
+fn words_of(why: NoBook) -> &'static str {
+    match why {
+        NoBook::InUse => "is in use by another run (serve?) or another program: end that first",
+        NoBook::Unopened => {
+            "can't be opened: its folder is missing, or the folder or the file may not be read and written"
+        }
+        NoBook::NoDatabase => {
+            "is no book: look at --db; if it was one, its bytes were changed: \
+            put the last backup in its place"
+        }
+        NoBook::OtherTables => {
+            "is a database of something else, or a book of another version of this program"
+        }
+        NoBook::Failed => "could not be read or written: look at the disk",
+        NoBook::Unknown => "could not be had",
+    }
+}
+
+// Writes why no book is available at a path.
+fn write_no_book<W: fmt::Write>(f: &mut fmt::Formatter<W>, path: &str, why: NoBook) -> fmt::Result {
+    let words = words_of(why);
+    if path.is_empty() {
+        write!(f, "the empty path {words}")
+    } else {
+        write!(f, "{path} {words}")
+    }
+}
+
+impl fmt::Display for Remark<'_> {
+    fn fmt<W: fmt::Write>(&self, f: &mut fmt::Formatter<W>) -> fmt::Result {
+        match self {
+            Remark::Record { line, told } => {
+                write!(f, "line {line}: ")?;
+                told.fmt(f)
+            }
+            Remark::Line { place, told } => {
+                place.fmt(f)?;
+                told.fmt(f)
+            }
+            Remark::Header(told) => told.fmt(f),
+            Remark::NothingKept => f.write_str("nothing was kept: no --db was given"),
+            Remark::OfFile { line, told } => write!(f, "line {line}: {told}"),
+            Remark::FarDay(day) => write!(
+                f,
+                "{day} is more than 31 days ahead of this machine's clock: what is booked locks its \
+                matters until then, and only a backup takes it back; look at --today"
+            ),
+            Remark::Unmatched(line) => line.fmt(f),
+            Remark::Exception(told) => told.fmt(f),
+            Remark::ExceptionsEnd(fault) => write_end(f, fault),
+            Remark::ClearedTwice(told) => told.fmt(f),
+            Remark::OfNow { today, last } => write_of_now(f, *today, *last),
+            Remark::RowsEnd(fault) => write_rows_end(f, *fault),
+            Remark::EarlierEnd(fault) => write_earlier_end(f, *fault),
+            Remark::Flaw(flaw) => write_flaw(f, *flaw),
+            Remark::Unread(unread) => write_unread(f, unread),
+            Remark::NewBook(path) => write!(f, "{path} was not there: a new book was begun"),
+            Remark::EmptyBook(path) => write!(
+                f,
+                "{path} was empty: a new book was begun; if it had one, put the last backup in its place"
+            ),
+            Remark::NoBook { path, why } => write_no_book(f, path, *why),
+            _ => self.write_size(f),
+        }
+    }
+}
+
+impl Remark<'_> {
+    // Writes about what is above its size limit.
+    fn write_size<W: fmt::Write>(&self, f: &mut fmt::Formatter<W>) -> fmt::Result {
+        match self {
+            Remark::StatementTooLarge { taken: 0 } => f.write_str(
+                "the statement has more than 4194304 bytes, and no line was applied: \
+                import it in parts, each with the first line",
+            ),
+            Remark::StatementTooLarge { taken } => write!(
+                f,
+                "the statement has more than 4194304 bytes, and was read up to record {taken}: \
+                import it in parts, each with the first line"
+            ),
+            Remark::MatchTooLarge => f.write_str(
+                "the statement has more than 4194304 bytes: match it in parts, each with the first line",
+            ),
+            _ => f.write_str(
+                "the sheet has more than 4194304 bytes, and no record was run: send it in parts",
+            ),
+        }
+    }
+}
+
+/// Receives remarks. Nothing depends on whether it succeeds.
+pub trait Remarks {
+    /// Receives a remark.
+    fn tell(&self, remark: &Remark<'_>);
+
+    /// Whether anybody receives them. If not, nothing is read only for remarks.
+    fn are_told(&self) -> bool {
+        true
+    }
+}
+
+/// Ignores all remarks.
+#[derive(Clone, Copy, Debug)]
+pub struct NoRemarks;
+
+impl Remarks for NoRemarks {
+    fn tell(&self, _remark: &Remark<'_>) {}
+
+    fn are_told(&self) -> bool {
+        false
+    }
+}
+
+/// Passes remarks on as a command line asks: none if it is quiet.
+#[derive(Drop)]
+pub struct AskedRemarks<'a, M> {
+    /// Receives the remarks if it is not quiet.
+    pub remarks: &'a M,
+    /// Whether remarks are dropped.
+    pub is_quiet: bool,
+}
+
+impl<M: Remarks> Remarks for AskedRemarks<'_, M> {
+    fn tell(&self, remark: &Remark<'_>) {
+        if self.are_told() {
+            self.remarks.tell(remark);
+        }
+    }
+
+    fn are_told(&self) -> bool {
+        !self.is_quiet && self.remarks.are_told()
+    }
+}

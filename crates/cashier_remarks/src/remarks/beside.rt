@@ -1,0 +1,121 @@
+// Remarks that go with a report, from the rows of the book.
+
+use crate::remarks::plain::Plain;
+use crate::remarks::{Remark, Remarks};
+use firm_rows::Owner;
+use std::fmt;
+use trust_base::{Day, Dollars, StoreFault};
+use trust_desk::{ClearedLine, RowWatch};
+
+/// Two bank lines with the same date, bank reference and amount.
+#[derive(Clone, Copy, PartialEq, Eq, Debug)]
+pub struct ClearedTwice<'a> {
+    pub first: Owner,
+    pub second: Owner,
+    pub date: Day,
+    pub bank_ref: Plain<'a>,
+    /// The amount in cents.
+    pub amount: i64,
+}
+
+/// Writes the reference of a line.
+pub fn write_owner<W: fmt::Write>(f: &mut fmt::Formatter<W>, owner: Owner) -> fmt::Result {
+    match owner {
+        Owner::Matter { matter, entry } => write!(f, "M{matter}-{entry}"),
+        Owner::Firm => f.write_str("FIRM"),
+    }
+}
+
+impl fmt::Display for ClearedTwice<'_> {
+    fn fmt<W: fmt::Write>(&self, f: &mut fmt::Formatter<W>) -> fmt::Result {
+        let (date, bank_ref, amount) = (self.date, self.bank_ref, Dollars(self.amount as i128));
+        write_owner(f, self.first)?;
+        f.write_str(" and ")?;
+        write_owner(f, self.second)?;
+        write!(
+            f,
+            " stand on lines of the same date, bank reference and amount, {date}, {bank_ref}, {amount}: \
+            look whether the bank has two"
+        )
+    }
+}
+
+/// Writes that a report which names a business day has today's figures.
+pub fn write_of_now<W: fmt::Write>(
+    f: &mut fmt::Formatter<W>,
+    today: Day,
+    last: Day,
+) -> fmt::Result {
+    write!(
+        f,
+        "the book has work of {last}: these figures are of now, not of {today}; \
+        reconcile {today} has those of that day"
+    )
+}
+
+/// Writes which fault ended the remarks that go with a report.
+pub fn write_rows_end<W: fmt::Write>(f: &mut fmt::Formatter<W>, fault: StoreFault) -> fmt::Result {
+    f.write_str(match fault {
+        StoreFault::Store => "the store failed: nothing more is told beside the report",
+        StoreFault::Memory => "memory ran out: nothing more is told beside the report",
+    })
+}
+
+/// Writes which fault kept the lines that a book has before an import from being read.
+pub fn write_earlier_end<W: fmt::Write>(
+    f: &mut fmt::Formatter<W>,
+    fault: StoreFault,
+) -> fmt::Result {
+    f.write_str(match fault {
+        StoreFault::Store => {
+            "the store failed: it is not told which lines stand on another entry by an earlier import"
+        }
+        StoreFault::Memory => {
+            "memory ran out: it is not told which lines stand on another entry by an earlier import"
+        }
+    })
+}
+
+/// Reports what the rows of a book show in addition to a report that has all figures of its day: the reconciliation and
+/// the exceptions.
+#[derive(Drop)]
+pub struct TwiceTelling<'a, M> {
+    /// Receives the remarks.
+    pub remarks: &'a M,
+}
+
+impl<M: Remarks> RowWatch for TwiceTelling<'_, M> {
+    fn cleared_twice(&self, first: &ClearedLine, second: &ClearedLine) {
+        self.remarks.tell(&Remark::ClearedTwice(ClearedTwice {
+            first: first.owner,
+            second: second.owner,
+            date: second.date,
+            bank_ref: Plain::new(second.bank_ref.as_slice()),
+            amount: second.amount,
+        }));
+    }
+
+    fn worked_on(&self, _last: Day) {}
+}
+
+/// Reports what they show in addition to a report of today's figures that names a business day.
+#[derive(Drop)]
+pub struct NowTelling<'a, M> {
+    /// The business day.
+    pub today: Day,
+    /// Receives the remarks.
+    pub remarks: &'a M,
+}
+
+impl<M: Remarks> RowWatch for NowTelling<'_, M> {
+    fn cleared_twice(&self, _first: &ClearedLine, _second: &ClearedLine) {}
+
+    fn worked_on(&self, last: Day) {
+        if self.today.get() < last.get() {
+            self.remarks.tell(&Remark::OfNow {
+                today: self.today,
+                last,
+            });
+        }
+    }
+}

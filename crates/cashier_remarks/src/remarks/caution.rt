@@ -1,0 +1,107 @@
+// Warnings about accepted records that may not mean what was intended.
+
+use crate::fields::field_bytes;
+use crate::record::{Verb, read_verb};
+use crate::remarks::excerpt::Excerpt;
+use crate::remarks::fields::text_at;
+use csv::ByteRecord;
+use std::fmt;
+
+/// How an accepted record may not mean what was intended.
+#[derive(Clone, Copy, PartialEq, Eq, Debug)]
+pub enum Caution<'a> {
+    /// This payee of the general fund differs from the firm only in letter case or blanks.
+    NotFirm(Excerpt<'a>),
+    /// A single double quote stands in a field that is in double quotes: the field with this number, from 1, is read as
+    /// this.
+    LoneQuote(usize, Excerpt<'a>),
+    /// The field with this number, from 1, is in single quotes, which are read as part of it.
+    SingleQuotes(usize, Excerpt<'a>),
+}
+
+// The state of reading a record's bytes.
+#[derive(Clone, Copy, PartialEq, Eq)]
+enum Reading {
+    // At the start of a field.
+    Start,
+    // In a field without quotes.
+    Bare,
+    // In a field in double quotes.
+    Quoted,
+    // After a double quote in a quoted field, which ends the field or is the first of two.
+    Closing,
+}
+
+// Returns the place of the first field in double quotes that contains a single one. The record is at the start of the
+// bytes.
+fn place_of_lone_quote(bytes: &[u8]) -> Option<usize> {
+    let mut reading = Reading::Start;
+    let mut place = 0usize;
+    for byte in bytes {
+        reading = match (reading, *byte) {
+            (Reading::Start, b'"') | (Reading::Closing, b'"') => Reading::Quoted,
+            (Reading::Quoted, b'"') => Reading::Closing,
+            (Reading::Quoted, _) => Reading::Quoted,
+            (_, b',') => {
+                place = place.saturating_add(1);
+                Reading::Start
+            }
+            (_, b'\n') | (_, b'\r') => return None,
+            (Reading::Closing, _) => return Some(place),
+            (Reading::Start, _) | (Reading::Bare, _) => Reading::Bare,
+        };
+    }
+    None
+}
+
+// Returns the place of the first field in single quotes.
+fn place_in_single_quotes(row: &ByteRecord) -> Option<usize> {
+    for place in 0..row.len() {
+        let field = field_bytes(row, place);
+        if field.len() > 1 && field.starts_with(b"'") && field.ends_with(b"'") {
+            return Some(place);
+        }
+    }
+    None
+}
+
+// Whether a record proposes a payment from the general fund to a payee that is written almost like the firm.
+fn is_almost_to_firm(row: &ByteRecord) -> bool {
+    matches!(read_verb(field_bytes(row, 0)), Some(Verb::Propose))
+        && field_bytes(row, 4) == b"general".as_slice()
+        && field_bytes(row, 6)
+            .trim_ascii()
+            .eq_ignore_ascii_case(b"FIRM")
+}
+
+/// Returns the warning about an accepted record, which is at the start of these bytes.
+pub fn caution_on<'a>(row: &'a ByteRecord, bytes: &[u8]) -> Option<Caution<'a>> {
+    if is_almost_to_firm(row) {
+        return Some(Caution::NotFirm(Excerpt::new(text_at(row, 6))));
+    }
+    if let Some(place) = place_of_lone_quote(bytes) {
+        return Some(Caution::LoneQuote(place.saturating_add(1), Excerpt::new(text_at(row, place))));
+    }
+    let place = place_in_single_quotes(row)?;
+    Some(Caution::SingleQuotes(place.saturating_add(1), Excerpt::new(text_at(row, place))))
+}
+
+impl fmt::Display for Caution<'_> {
+    fn fmt<W: fmt::Write>(&self, f: &mut fmt::Formatter<W>) -> fmt::Result {
+        match *self {
+            Caution::NotFirm(payee) => write!(
+                f,
+                "{payee} is not FIRM, the firm: if the firm is meant, have this declined, \
+                and pay FIRM from a fee that was earned"
+            ),
+            Caution::LoneQuote(number, text) => write!(
+                f,
+                "field {number} is read as {text}: within double quotes write a double quote twice"
+            ),
+            Caution::SingleQuotes(number, text) => write!(
+                f,
+                "field {number} is read as {text}, with its single quotes: quotes around a field are double ones"
+            ),
+        }
+    }
+}

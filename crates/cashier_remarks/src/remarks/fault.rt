@@ -1,0 +1,256 @@
+// What is wrong with a record that can't be read.
+
+use crate::dismissal::is_dismissal;
+use crate::fields::field_bytes;
+use crate::record::{Verb, count_of, is_text, names_entry, read_verb};
+use crate::remarks::excerpt::Excerpt;
+use crate::remarks::fields::{form_of as form_of_field, noun_of, place_of, text_at};
+use crate::remarks::line_fault::{LineFault, fault_of_dismissed};
+use crate::remarks::sum_meant::{sum_meant, sum_of_two};
+use crate::remarks::verb_fault::{VerbFault, fault_of_verb};
+use crate::remarks::verbs::{form_of, name_of};
+use csv::ByteRecord;
+use std::fmt;
+use trust_base::{BankAmount, Field, MAX_AMOUNT};
+
+/// What is wrong with a record that can't be read.
+#[derive(Clone, Copy, PartialEq, Eq, Debug)]
+pub enum RecordFault<'a> {
+    /// A field contains the end of a line, so the next line belongs to it.
+    OpenQuote,
+    /// The first field is not a verb of a sheet.
+    NoVerb(VerbFault<'a>),
+    /// The record has this many fields, more than the verb takes.
+    TooMany(Verb, usize),
+    /// The record has this many fields, more than the verb takes, because this amount was written with a comma.
+    Comma(Verb, usize, BankAmount),
+    /// The record has this many fields, more than the verb takes; the extra ones are empty.
+    Padded(Verb, usize),
+    /// The record has this many fields, fewer than the verb takes.
+    TooFew(Verb, usize),
+    /// The verb takes no entry, but one is given.
+    NeedlessEntry(Verb),
+    /// The record does not have the fields of a line to dismiss.
+    NoLine,
+    /// The record has the fields of a line to dismiss, but one is invalid.
+    BadLine(LineFault<'a>),
+    /// The field with this number, from 1, is not UTF-8.
+    NotText(usize),
+    /// The general fund belongs to no entry, but one is given.
+    NeedlessFund,
+    /// The first is not a valid amount; the second is meant.
+    NoAmount(Excerpt<'a>, BankAmount),
+    /// This amount is negative.
+    Minus(Excerpt<'a>),
+    /// This is not valid in the field.
+    BadField(Field, Excerpt<'a>),
+}
+
+/// Whether a field contains the end of a line.
+pub fn has_line_end(bytes: &[u8]) -> bool {
+    bytes.iter().any(|byte| *byte == b'\n' || *byte == b'\r')
+}
+
+// Whether a field of the record contains the end of a line.
+fn has_open_quote(row: &ByteRecord) -> bool {
+    for place in 0..row.len() {
+        if has_line_end(field_bytes(row, place)) {
+            return true;
+        }
+    }
+    false
+}
+
+// Whether all fields from a place on are empty.
+fn is_empty_from(row: &ByteRecord, first: usize) -> bool {
+    for place in first..row.len() {
+        if !field_bytes(row, place).is_empty() {
+            return false;
+        }
+    }
+    true
+}
+
+/// The number of the first field that is not UTF-8, from 1; 0 if there is none.
+pub fn first_not_text(row: &ByteRecord) -> usize {
+    for place in 0..row.len() {
+        if !is_text(field_bytes(row, place)) {
+            return place + 1;
+        }
+    }
+    0
+}
+
+// The amount that was written with a comma, and so became two fields.
+fn amount_with_comma(verb: Verb, row: &ByteRecord) -> Option<BankAmount> {
+    match verb {
+        Verb::Deposit | Verb::Propose | Verb::Claim | Verb::Award => {
+            sum_of_two(text_at(row, 3), text_at(row, 4))
+        }
+        _ => None,
+    }
+}
+
+// The fault for too many fields.
+fn fault_of_many<'a>(verb: Verb, row: &ByteRecord) -> RecordFault<'a> {
+    match amount_with_comma(verb, row) {
+        Some(amount) => RecordFault::Comma(verb, row.len(), amount),
+        None => RecordFault::TooMany(verb, row.len()),
+    }
+}
+
+// The fault for a wrong number of fields, if it is wrong.
+fn fault_of_count<'a>(verb: Verb, row: &ByteRecord) -> Option<RecordFault<'a>> {
+    let found = row.len();
+    let wanted = count_of(verb);
+    if found < wanted {
+        Some(RecordFault::TooFew(verb, found))
+    } else if found == wanted {
+        None
+    } else if is_empty_from(row, wanted) {
+        Some(RecordFault::Padded(verb, found))
+    } else {
+        Some(fault_of_many(verb, row))
+    }
+}
+
+// The fault for an invalid record that is meant to dismiss a line.
+fn fault_of_dismissal(row: &ByteRecord) -> RecordFault<'_> {
+    if row.len() == 8 && field_bytes(row, 1).is_empty() && field_bytes(row, 2).is_empty() {
+        RecordFault::BadLine(fault_of_dismissed(row))
+    } else {
+        RecordFault::NoLine
+    }
+}
+
+// The fault for a record as a whole.
+fn fault_of_form(row: &ByteRecord) -> RecordFault<'_> {
+    if is_dismissal(row) {
+        return fault_of_dismissal(row);
+    }
+    let Some(verb) = read_verb(field_bytes(row, 0)) else {
+        return RecordFault::NoVerb(fault_of_verb(row));
+    };
+    if let Some(fault) = fault_of_count(verb, row) {
+        return fault;
+    }
+    if !names_entry(verb) && !field_bytes(row, 2).is_empty() {
+        return RecordFault::NeedlessEntry(verb);
+    }
+    RecordFault::NotText(first_not_text(row))
+}
+
+// The fault for a field that should have an amount of at least `least` cents.
+fn fault_of_amount<'a>(field: Field, text: &'a str, least: i64) -> RecordFault<'a> {
+    let excerpt = Excerpt::new(text);
+    match sum_meant(text) {
+        Some(amount) if amount.get() < 0 => RecordFault::Minus(excerpt),
+        Some(amount) if least <= amount.get() && amount.get() <= MAX_AMOUNT as i64 => {
+            RecordFault::NoAmount(excerpt, amount)
+        }
+        _ => RecordFault::BadField(field, excerpt),
+    }
+}
+
+fn fault_of_field(row: &ByteRecord, field: Field) -> RecordFault<'_> {
+    if field == Field::Of && field_bytes(row, place_of(Field::From)) == b"general".as_slice() {
+        return RecordFault::NeedlessFund;
+    }
+    let text = text_at(row, place_of(field));
+    match field {
+        Field::Amount => fault_of_amount(field, text, 1),
+        Field::ToClient => fault_of_amount(field, text, 0),
+        _ => RecordFault::BadField(field, Excerpt::new(text)),
+    }
+}
+
+/// Returns what is wrong with a record in which this field is invalid.
+pub fn fault_of(row: &ByteRecord, field: Field) -> RecordFault<'_> {
+    if has_open_quote(row) {
+        RecordFault::OpenQuote
+    } else if field == Field::Record {
+        fault_of_form(row)
+    } else {
+        fault_of_field(row, field)
+    }
+}
+
+// Writes how many fields a verb takes, and how many there are.
+fn write_count<W: fmt::Write>(f: &mut fmt::Formatter<W>, verb: Verb, found: usize) -> fmt::Result {
+    let (name, count) = (name_of(verb), count_of(verb));
+    write!(f, "{name} takes {count} fields, {found} are here: ")
+}
+
+// Writes about an invalid field.
+fn write_field<W: fmt::Write>(
+    f: &mut fmt::Formatter<W>,
+    field: Field,
+    text: Excerpt<'_>,
+) -> fmt::Result {
+    let (noun, form) = (noun_of(field), form_of_field(field));
+    if text.is_empty() {
+        write!(f, "the {noun} is empty: write {form}")
+    } else {
+        write!(f, "{text} is no {noun}: write {form}")
+    }
+}
+
+impl RecordFault<'_> {
+    // Writes about numbers of fields, and about amounts.
+    fn write_numbers<W: fmt::Write>(&self, f: &mut fmt::Formatter<W>) -> fmt::Result {
+        match *self {
+            RecordFault::TooMany(verb, found) => {
+                write_count(f, verb, found)?;
+                let form = form_of(verb);
+                write!(f, "{form}, and a field with a comma in double quotes")
+            }
+            RecordFault::Comma(verb, found, amount) => {
+                write_count(f, verb, found)?;
+                write!(f, "write the amount without a comma, {amount}")
+            }
+            RecordFault::Padded(verb, found) => {
+                write_count(f, verb, found)?;
+                f.write_str("take the empty ones off its end")
+            }
+            RecordFault::TooFew(verb, found) => {
+                write_count(f, verb, found)?;
+                f.write_str(form_of(verb))
+            }
+            RecordFault::NoAmount(text, amount) => {
+                write!(f, "{text} is no amount: write {amount}")
+            }
+            RecordFault::Minus(text) => write!(
+                f,
+                "{text} is below zero: write it without a sign, since the verb tells which way it goes"
+            ),
+            _ => Ok(()),
+        }
+    }
+}
+
+impl fmt::Display for RecordFault<'_> {
+    fn fmt<W: fmt::Write>(&self, f: &mut fmt::Formatter<W>) -> fmt::Result {
+        match self {
+            RecordFault::OpenQuote => f.write_str(
+                "a double quote is opened here and not closed in its line: close it, or take it away",
+            ),
+            RecordFault::NoVerb(fault) => fault.fmt(f),
+            RecordFault::NeedlessEntry(verb) => {
+                let name = name_of(*verb);
+                write!(f, "{name} names no entry: its third field stays empty")
+            }
+            RecordFault::NoLine => f.write_str(
+                "a line is dismissed as the list of exceptions has it: dismiss,,,DATE,REFERENCE,BANK_REF,AMOUNT,TEXT",
+            ),
+            RecordFault::BadLine(fault) => fault.fmt(f),
+            RecordFault::NotText(number) => {
+                write!(f, "field {number} is not UTF-8: save the sheet as UTF-8")
+            }
+            RecordFault::NeedlessFund => {
+                f.write_str("general is of no entry: its sixth field stays empty")
+            }
+            RecordFault::BadField(field, text) => write_field(f, *field, *text),
+            _ => self.write_numbers(f),
+        }
+    }
+}

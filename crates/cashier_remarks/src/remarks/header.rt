@@ -1,0 +1,81 @@
+// Remarks about a statement with another header.
+
+use crate::dismissal::is_dismissal;
+use crate::fields::field_bytes;
+use crate::record::read_verb;
+use crate::remarks::line_fault::HEADER;
+use crate::remarks::plain::Plain;
+use crate::remarks::rereading::Found;
+use crate::remarks::verb_fault::is_no_text;
+use std::fmt;
+
+/// What is reported about a statement with another header.
+#[derive(Clone, Copy, PartialEq, Eq, Debug)]
+pub enum HeaderRemark<'a> {
+    /// The first record, which begins on this line, is this.
+    Other { line: u64, here: Plain<'a> },
+    /// The record that begins on this line is one of a sheet.
+    Sheet { line: u64 },
+    /// The file is not text, or not in UTF-8: its first record, which begins on this line, is not.
+    NotText { line: u64 },
+    /// The file has no records.
+    Empty,
+    /// The file can't be read again.
+    Unseen,
+}
+
+// The bytes up to the end of the line.
+fn first_line(rest: &[u8]) -> &[u8] {
+    let mut length = 0usize;
+    for byte in rest {
+        if *byte == b'\n' || *byte == b'\r' {
+            break;
+        }
+        length = length.saturating_add(1);
+    }
+    rest.get(..length).unwrap_or(rest)
+}
+
+/// Makes the remark about the first record of a statement, which is not a header.
+pub fn remark_on_header(found: Found<'_>) -> HeaderRemark<'_> {
+    let (line, here) = (found.line, first_line(found.rest));
+    if is_no_text(here) {
+        HeaderRemark::NotText { line }
+    } else if is_dismissal(found.row) || read_verb(field_bytes(found.row, 0)).is_some() {
+        HeaderRemark::Sheet { line }
+    } else {
+        HeaderRemark::Other {
+            line,
+            here: Plain::new(here),
+        }
+    }
+}
+
+impl fmt::Display for HeaderRemark<'_> {
+    fn fmt<W: fmt::Write>(&self, f: &mut fmt::Formatter<W>) -> fmt::Result {
+        match self {
+            HeaderRemark::Other { line, here } => {
+                write!(
+                    f,
+                    "line {line}: the first line must be {HEADER}; here it is {here}; \
+                    bank-to-statement makes a statement of a bank's own file"
+                )
+            }
+            HeaderRemark::Sheet { line } => write!(
+                f,
+                "line {line}: this is a record of a sheet, not of a statement: the command sheet takes it"
+            ),
+            HeaderRemark::NotText { line } => write!(
+                f,
+                "line {line}: this is no text in UTF-8: save the statement as CSV in UTF-8"
+            ),
+            HeaderRemark::Empty => {
+                write!(
+                    f,
+                    "the first line must be {HEADER}; here is none, the file is empty"
+                )
+            }
+            HeaderRemark::Unseen => write!(f, "the first line must be {HEADER}"),
+        }
+    }
+}

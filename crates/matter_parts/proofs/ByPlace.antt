@@ -1,0 +1,141 @@
+-- Entries with the numbers 1, 2 and so on: each stands at the place of its number.
+use Rattle.std.specs.List.{filter, position, position_or_len, slice_get}
+use Rattle.std.proofs.Common.{zero, suc, ◌≡◌, ℕ, ◌+◌, ◌-◌, ◌<◌, ◌≤◌, not, ltb, Bool, true, false, cond, List, [], ◌∷◌, ◌++◌, take, length, get_or, refl, ap, sym, ◌∙◌, subst, arith, Some, None, eqb}
+use Rattle.std.proofs.Math.ListN.{set}
+use Rattle.std.proofs.lemmas.Bool.Decides.{nat_tests}
+use Rattle.std.proofs.lemmas.List.{append-nil, take_all}
+use Rattle.std.proofs.lemmas.List.Elements.{filter_more}
+use Rattle.std.proofs.lemmas.List.Folds.{find_at}
+use Rattle.std.proofs.lemmas.List.Sums.{position_or_len_is}
+use Rattle.std.proofs.lemmas.Option.{slice_get_past, slice_get_read}
+use Rattle.matter_rows.proofs.Places.{place-none, place-some}
+use Rattle.matter_parts.specs.declared.kept.Kept.{Kept}
+use Rattle.matter_parts.specs.NamedEntries.{IsNextPlace}
+use Rattle.matter_parts.specs.Applied.{entry_put}
+use Rattle.matter_parts.specs.Parts.{AreNumbered, kept_in}
+use Rattle.matter_parts.proofs.AllKept.{numbered-left}
+use Rattle.matter_parts.proofs.Keepers.{is_number, left-set, with-set}
+
+pub number-at : (a i : ℕ) (ks : List Kept) (d : Kept) → AreNumbered a ks → i < length ks → (get_or ks i d).number ≡ a + i
+number-at a i [] d numbered inside = absurd (omega arith)
+number-at a zero (k ∷ ks) d numbered inside = let own : k.number ≡ a = numbered.0 in omega (arith, own)
+number-at a (suc i) (k ∷ ks) d numbered inside = let more = number-at (a + 1) i ks d numbered.1 (omega arith) in omega (arith, more)
+
+-- The place of a number.
+
+pub placed : (n : ℕ) (ks : List Kept) → AreNumbered 1 ks → 1 ≤ n → n ≤ length ks → Some (n - 1) ≡ position (is_number n) ks
+placed n [] numbered low high = absurd (omega arith)
+placed n (k ∷ ks) numbered low high =
+    let is = position_or_len_is (is_number n) (k ∷ ks) (n - 1) k (omega arith) (λ i h. let own = number-at 1 i (k ∷ ks) k numbered (omega arith) in grind (arith, nat_tests)) (λ h. let own = number-at 1 (n - 1) (k ∷ ks) k numbered h in grind (arith, nat_tests)) in
+    found (position_or_len (is_number n) (k ∷ ks)) is
+  where
+    found : (at : ℕ) → at ≡ n - 1 → Some (n - 1) ≡ cond (ltb at (length (k ∷ ks))) (Some at) None
+    found at is = let inside : ltb at (length (k ∷ ks)) ≡ true = grind (arith, nat_tests) in rw inside (ap (λ i. Some i) (sym is))
+
+pub not-placed : (n : ℕ) (ks : List Kept) → AreNumbered 1 ks → (1 ≤ n → length ks < n) → None ≡ position (is_number n) ks
+not-placed n [] numbered out = refl
+not-placed n (k ∷ ks) numbered out =
+    let is = position_or_len_is (is_number n) (k ∷ ks) (length (k ∷ ks)) k (omega arith) (λ i h. let own = number-at 1 i (k ∷ ks) k numbered h in apart (get_or (k ∷ ks) i k).number i own h) (λ h. absurd (omega arith)) in
+    missed (position_or_len (is_number n) (k ∷ ks)) is
+  where
+    apart : (m i : ℕ) → m ≡ 1 + i → i < length (k ∷ ks) → eqb m n ≡ false
+    apart m i own h =
+        elim (eqb m n) as (λ b. eqb m n ≡ b → b ≡ false) [
+          | true ↦ λ s. let same : m ≡ n = grind (arith, nat_tests) in let past = out (omega arith) in absurd (omega (arith, past))
+          | false ↦ λ s. refl
+        ] refl
+
+    missed : (at : ℕ) → at ≡ length (k ∷ ks) → None ≡ cond (ltb at (length (k ∷ ks))) (Some at) None
+    missed at is = let past : ltb at (length (k ∷ ks)) ≡ false = grind (arith, nat_tests) in rw past refl
+
+-- what stands at the place of a number is what is kept under it
+pub kept-at-place : (ks : List Kept) (n i : ℕ) (k : Kept) → Some i ≡ position (is_number n) ks → k ≡ get_or ks i k → Some k ≡ kept_in ks n
+kept-at-place ks n i k is at =
+    let place = place-some (is_number n) ks i is in
+    sym (find_at (is_number n) ks ∙ ap (λ (j : ℕ). slice_get ks j) (sym place.1) ∙ slice_get_read ks (length ks) i k refl place.0 at)
+
+pub kept-nowhere : (ks : List Kept) (n : ℕ) → None ≡ position (is_number n) ks → None ≡ kept_in ks n
+kept-nowhere ks n none =
+    let past = place-none (is_number n) ks none in
+    sym (find_at (is_number n) ks ∙ slice_get_past ks (position_or_len (is_number n) ks) past)
+
+-- The numbers after a write.
+
+pub numbered-push : (a : ℕ) (ks : List Kept) (new : Kept) → AreNumbered a ks → new.number ≡ a + length ks → AreNumbered a (ks ++ new ∷ [])
+numbered-push a [] new numbered next = (omega (arith, next), tt)
+numbered-push a (k ∷ ks) new numbered next = (numbered.0, numbered-push (a + 1) ks new numbered.1 (omega (arith, next)))
+
+numbered-put : (a : ℕ) (ks : List Kept) (new : Kept) → AreNumbered a ks → position_or_len (is_number new.number) ks < length ks → AreNumbered a (entry_put ks new)
+numbered-put a [] new numbered inside = absurd (omega arith)
+numbered-put a (k ∷ ks) new numbered inside =
+    let own : k.number ≡ a = numbered.0 in
+    elim (eqb k.number new.number) as (λ b. eqb k.number new.number ≡ b → cond (not b) (1 + position_or_len (is_number new.number) ks) 0 < suc (length ks) → AreNumbered a (cond b (new ∷ ks) (k ∷ entry_put ks new))) [
+      | true ↦ λ s g. (grind (arith, nat_tests), numbered.1)
+      | false ↦ λ s g. (own, numbered-put (a + 1) ks new numbered.1 (omega arith))
+    ] refl inside
+
+pub numbered-set : (ks : List Kept) (new : Kept) (i : ℕ) → AreNumbered 1 ks → Some i ≡ position (is_number new.number) ks → AreNumbered 1 (set ks i new)
+numbered-set ks new i numbered is =
+    let place = place-some (is_number new.number) ks i is in
+    let P : List Kept → Type 0 = AreNumbered 1 in
+    let Q : ℕ → Type 0 = λ j. j < length ks in
+    subst P (sym (with-set ks new i is)) (numbered-put 1 ks new numbered (subst Q place.1 place.0))
+
+pub numbered-left-set : (ks : List Kept) (n left i : ℕ) (k : Kept) → AreNumbered 1 ks → Some i ≡ position (is_number n) ks → k ≡ get_or ks i k → AreNumbered 1 (set ks i (record k { left = left }))
+numbered-left-set ks n left i k numbered is at =
+    let P : List Kept → Type 0 = AreNumbered 1 in
+    subst P (sym (left-set ks n left i k is at)) (numbered-left 1 ks n left numbered)
+
+-- The named ones, from place to place.
+
+abbrev those : (ℕ → Bool) → List Kept → List Kept
+those p ks = filter (λ k. p k.number) ks
+
+-- the named ones before a place are copied, and its own is named, or it is the end
+pub record AreCopiedTo (p : ℕ → Bool) (ks : List Kept) (place : ℕ) (copies : List Kept) : Type 0 where
+  pub high : place ≤ length ks
+  pub is : place < length ks → p (place + 1) ≡ true
+  pub before : copies ≡ filter (λ k. p k.number) (take place ks)
+
+none-between : (p : ℕ → Bool) (ks : List Kept) (d : Kept) (i s : ℕ) → AreNumbered 1 ks → i + s ≤ length ks → ((n : ℕ) → i ≤ n → n < i + s → p (n + 1) ≡ false) → those p (take (i + s) ks) ≡ those p (take i ks)
+none-between p ks d i zero numbered high none = let same : i + 0 ≡ i = omega arith in rw same refl
+none-between p ks d i (suc s) numbered high none =
+    let next : i + suc s ≡ i + s + 1 = omega arith in
+    let own = number-at 1 (i + s) ks d numbered (omega arith) in
+    let number : (get_or ks (i + s) d).number ≡ i + s + 1 = omega (arith, own) in
+    let other : p (get_or ks (i + s) d).number ≡ false = ap p number ∙ none (i + s) (omega arith) (omega arith) in
+    ap (λ (j : ℕ). those p (take j ks)) next
+    ∙ filter_more (λ (k : Kept). p k.number) ks (i + s) d (omega arith)
+    ∙ ap (λ (b : Bool). those p (take (i + s) ks) ++ cond b (get_or ks (i + s) d ∷ []) []) other
+    ∙ append-nil (those p (take (i + s) ks))
+    ∙ none-between p ks d i s numbered (omega arith) (λ n low h. none n low (omega arith))
+
+up-to : (p : ℕ → Bool) (ks : List Kept) (i j : ℕ) → AreNumbered 1 ks → IsNextPlace p i (length ks) j → those p (take j ks) ≡ those p (take i ks)
+up-to p [] i j numbered next = let at : j ≡ i = (let low = next.low in let high = next.high in omega (arith, low, high)) in rw at refl
+up-to p (k ∷ ks) i j numbered next =
+    let low = next.low in
+    let high = next.high in
+    let at : i + (j - i) ≡ j = omega (arith, low) in
+    ap (λ (m : ℕ). those p (take m (k ∷ ks))) (sym at)
+    ∙ none-between p (k ∷ ks) k i (j - i) numbered (omega (arith, low, high)) (λ n from to. next.none n from (omega (arith, low, to)))
+
+pub copied-none : (p : ℕ → Bool) (ks : List Kept) (j : ℕ) → AreNumbered 1 ks → IsNextPlace p 0 (length ks) j → AreCopiedTo p ks j []
+copied-none p ks j numbered next = record { high = next.high; is = next.is; before = sym (up-to p ks 0 j numbered next) }
+
+pub copied-more : (p : ℕ → Bool) (ks : List Kept) (i j : ℕ) (k : Kept) (copies : List Kept) → AreNumbered 1 ks → AreCopiedTo p ks i copies → i < length ks → k ≡ get_or ks i k → IsNextPlace p (i + 1) (length ks) j → AreCopiedTo p ks j (copies ++ k ∷ [])
+copied-more p ks i j k copies numbered so inside at next =
+    let own = number-at 1 i ks k numbered inside in
+    let number : (get_or ks i k).number ≡ i + 1 = omega (arith, own) in
+    let is : p (get_or ks i k).number ≡ true = ap p number ∙ so.is inside in
+    record {
+      high = next.high;
+      is = next.is;
+      before = ap (λ (l : List Kept). l ++ k ∷ []) so.before
+          ∙ ap (λ (x : Kept). those p (take i ks) ++ x ∷ []) at
+          ∙ sym (ap (λ (b : Bool). those p (take i ks) ++ cond b (get_or ks i k ∷ []) []) is)
+          ∙ sym (filter_more (λ (x : Kept). p x.number) ks i k inside)
+          ∙ sym (up-to p ks (i + 1) j numbered next);
+    }
+
+pub copied-all : (p : ℕ → Bool) (ks : List Kept) (i : ℕ) (copies : List Kept) → AreCopiedTo p ks i copies → length ks ≤ i → copies ≡ filter (λ k. p k.number) ks
+copied-all p ks i copies so past = so.before ∙ ap (λ (l : List Kept). those p l) (take_all i ks past)

@@ -1,0 +1,7 @@
+use Rattle.std.specs.List.{filter}
+use Rattle.std.proofs.Common.{◌≡◌, take}
+use Rattle.matter_parts.specs.NamedEntries.{has_number}
+use Rattle.matter_parts.proofs.kept.copies_by_number.Given as goal
+
+abbrev pub invariant-loop-k : goal.invariant-loop-k
+invariant-loop-k l = l.copies.items ≡ filter (λ k. has_number l.named k.number) (take l.k-index l.kept)

@@ -1,0 +1,27 @@
+use Rattle.std.proofs.Common.{[], map}
+use Rattle.sqlite.specs.Held.{state}
+use Rattle.sqlite_keyed.specs.Lists.{sort_by}
+use Rattle.firm_rows.specs.Countable.{IsLineInRange}
+use Rattle.sql_tables.specs.Rows.{exception_cmp, exceptions_in, exception_values}
+use Rattle.sql_tables.proofs.Means.{exception_scan_asks, exception_scan_selects}
+use Rattle.sql_tables.proofs.ReadLemmas.{exception_scan_answer}
+use Rattle.sql_rows.specs.Meaning.{exception_from}
+use Rattle.sql_reads.specs.Shown.{exception_at}
+use Rattle.sql_reads.proofs.Handed.{all_left, handed}
+use Rattle.sql_reads.proofs.Shown.{exceptions_shown}
+use Rattle.sql_reads.proofs.lists.each_exception.Goals as goal
+
+pub returns-clause-handed : goal.returns-clause-handed
+returns-clause-handed g c l clean stands =
+    let old = state g.S.Store c.args.conn.now in
+    let lines = sort_by exception_cmp (exceptions_in l old.now.trees) in
+    handed (exception_scan_asks l) [] old (state g.S.Store c.hand_rows.new.conn) stands.schema
+    (map exception_values lines) (λ found a. exception_scan_answer l old.now stands found a)
+    g.K.ExceptionSink.noted exception_at IsLineInRange (map exception_from lines) (exceptions_shown lines)
+    c.hand_rows.result c.args.sink.now c.hand_rows.new.sink (c.hand_rows.ensures.handed clean exception_scan_selects)
+    c.and.result c.and.ensures
+
+pub returns-clause-left : goal.returns-clause-left
+returns-clause-left g c =
+    all_left (state g.S.Store c.args.conn.now) (state g.S.Store c.hand_rows.new.conn) c.hand_rows.result
+    (c.hand_rows.ensures.left exception_scan_selects) c.and.result c.and.ensures

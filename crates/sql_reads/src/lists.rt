@@ -1,0 +1,256 @@
+// The lists that belong to no matter, each passed to a sink one row at a time: the movements of the journal, the lines
+// of the firm's own ledger, the bank lines that matched nothing, and the balances that the bank reported.
+
+ghost use Rattle.std.specs.Prelude.{◌≡◌, false, IfOk, FitsSigned};
+ghost use Rattle.std.specs.Int.{w64};
+ghost use Rattle.sqlite.specs.Held.{state};
+ghost use Rattle.sqlite.specs.State.{HasCleanDisk};
+ghost use Rattle.firm_rows.specs.Countable.{IsBalanceInRange, IsFirmLineInRange, IsLineInRange, IsMovementInRange};
+ghost use Rattle.trust_store.specs.Calls.{AreHanded};
+ghost use Rattle.sql_schema.specs.declared.layout.Layout.{Layout};
+ghost use Rattle.sql_tables.specs.Reading.{LeavesAll};
+ghost use Rattle.sql_tables.specs.Standing.{Stands};
+ghost use Rattle.sql_rows.specs.Columns.{IsOwner};
+ghost use Rattle.sql_rows.specs.Standing.{firm_in};
+ghost use Rattle.sql_reads.specs.Shown.{balance_at, exception_at, movement_at};
+
+use crate::columns::{balance_in, exception_in, movement_in};
+use crate::ledger::line_of;
+use crate::stream::{RowTaking, hand_rows};
+use firm_rows::{
+    BalanceSink, ExceptionSink, FirmLineSink, Movement, MovementSink, Owner, StatementRow,
+};
+use sql_rows::{balance_of, exception_of, movement_of};
+use sqlite::{Alter, Connection, Row};
+use std::alloc::Global;
+use trust_base::{Line, StoreFault};
+
+// By their types, matters and entries are numbered from 1, so none of their movements is read as the firm's own.
+fn is_numbered(movement: &Movement)
+    ensures { IsOwner movement.now.owner }
+{
+    if let Owner::Matter { matter, entry } = movement.owner {
+        let _numbers = (matter.get(), entry.get());
+    }
+}
+
+// The amount of a movement fits in 64 bits.
+fn fits_a_word(movement: &Movement)
+    ensures { FitsSigned w64 movement.now.amount }
+{
+    let _amount = movement.amount;
+}
+
+// Reads a movement from a row.
+fn read_movement(row: &Row) -> Result<Movement, StoreFault>
+    ensures is { IfOk result (λ v. v ≡ movement_at row.now) }
+    ensures fits { IfOk result IsMovementInRange }
+{
+    let columns = movement_in(row)?;
+    let movement = movement_of(columns)?;
+    is_numbered(&movement);
+    fits_a_word(&movement);
+    Ok(movement)
+}
+
+// Takes the rows of the journal.
+#[derive(Drop)]
+struct MovementTaking;
+
+impl<K: MovementSink> RowTaking<K> for MovementTaking {
+    ghost use Rattle.firm_rows.specs.Countable.{IsMovementInRange};
+    ghost use Rattle.sql_reads.specs.Shown.{movement_at};
+
+    ghost taken = { λ _ sink row. K.moved sink (movement_at row) };
+
+    ghost fits = { λ _ row. IsMovementInRange (movement_at row) };
+
+    fn take(&self, row: &Row, sink: &mut K) -> Result<(), StoreFault> {
+        let movement = read_movement(row)?;
+        sink.movement(&movement)?;
+        Ok(())
+    }
+}
+
+/// Passes each movement to the sink, in order of acceptance. Stops with `Memory` if memory runs out, and with `Store`
+/// at a movement that is invalid or past the 2^64 - 1st; the sink keeps those before it. Holds one row at a time.
+pub fn each_movement<S: Alter, K: MovementSink>(
+    conn: &mut Connection<S>,
+    sink: &mut K,
+) -> Result<(), StoreFault>
+    requires { conn.old.in_transaction ≡ false }
+    ensures mode { conn.new.in_transaction ≡ false }
+    ensures handed { (l : Layout) → HasCleanDisk (state S.Store conn.new) → Stands l (state S.Store conn.old).now
+        → AreHanded K.moved IsMovementInRange (firm_in l (state S.Store conn.old).now.trees).movements
+        result sink.old sink.new }
+    ensures left { LeavesAll result (state S.Store conn.old) (state S.Store conn.new) }
+{
+    hand_rows(
+        conn,
+        "SELECT matter, entry, day, amount FROM journal ORDER BY seq",
+        &[],
+        &MovementTaking,
+        sink,
+    )
+    .and(Ok(()))
+}
+
+// Takes the rows of the firm's lines.
+#[derive(Drop)]
+struct FirmLineTaking {
+    alloc: Global,
+}
+
+impl<K: FirmLineSink> RowTaking<K> for FirmLineTaking {
+    ghost use Rattle.firm_rows.specs.Countable.{IsFirmLineInRange};
+    ghost use Rattle.sql_reads.specs.Shown.{firm_line_at};
+
+    ghost taken = { λ _ sink row. K.lined sink (firm_line_at row) };
+
+    ghost fits = { λ _ row. IsFirmLineInRange (firm_line_at row) };
+
+    fn take(&self, row: &Row, sink: &mut K) -> Result<(), StoreFault> {
+        let line = line_of(self.alloc, row)?;
+        sink.firm_line(&line)?;
+        Ok(())
+    }
+}
+
+/// Passes each line of the firm's own to the sink, in order of acceptance. Stops with `Memory` if memory runs out,
+/// and with `Store` at a line that is invalid or past the 2^64 - 1st; the sink keeps those before it. Holds one row
+/// at a time.
+pub fn each_firm_line<S: Alter, K: FirmLineSink>(
+    conn: &mut Connection<S>,
+    alloc: Global,
+    sink: &mut K,
+) -> Result<(), StoreFault>
+    requires { conn.old.in_transaction ≡ false }
+    ensures mode { conn.new.in_transaction ≡ false }
+    ensures handed { (l : Layout) → HasCleanDisk (state S.Store conn.new) → Stands l (state S.Store conn.old).now
+        → AreHanded K.lined IsFirmLineInRange (firm_in l (state S.Store conn.old).now.trees).firm_lines
+        result sink.old sink.new }
+    ensures left { LeavesAll result (state S.Store conn.old) (state S.Store conn.new) }
+{
+    hand_rows(
+        conn,
+        "SELECT day, bank_ref, amount, text FROM firm_line ORDER BY seq",
+        &[],
+        &FirmLineTaking { alloc },
+        sink,
+    )
+    .and(Ok(()))
+}
+
+// Reads a line from a row.
+fn read_exception(alloc: Global, row: &Row) -> Result<Line, StoreFault>
+    ensures is { IfOk result (λ v. v ≡ exception_at row.now) }
+    ensures fits { IfOk result IsLineInRange }
+{
+    let columns = exception_in(row)?;
+    let line = exception_of(alloc, columns)?;
+    // An amount of this type is in range.
+    let _amount = line.amount.get();
+    Ok(line)
+}
+
+// Takes the rows of exceptions.
+#[derive(Drop)]
+struct ExceptionTaking {
+    alloc: Global,
+}
+
+impl<K: ExceptionSink> RowTaking<K> for ExceptionTaking {
+    ghost use Rattle.firm_rows.specs.Countable.{IsLineInRange};
+    ghost use Rattle.sql_reads.specs.Shown.{exception_at};
+
+    ghost taken = { λ _ sink row. K.noted sink (exception_at row) };
+
+    ghost fits = { λ _ row. IsLineInRange (exception_at row) };
+
+    fn take(&self, row: &Row, sink: &mut K) -> Result<(), StoreFault> {
+        let line = read_exception(self.alloc, row)?;
+        sink.exception(&line)?;
+        Ok(())
+    }
+}
+
+/// Passes each exception to the sink, ordered by day, reference, the bank's reference, amount (as a number) and text.
+/// Stops with `Memory` if memory runs out, and with `Store` at a line that is invalid or past the 2^64 - 1st; the
+/// sink keeps those before it. Holds one row at a time.
+pub fn each_exception<S: Alter, K: ExceptionSink>(
+    conn: &mut Connection<S>,
+    alloc: Global,
+    sink: &mut K,
+) -> Result<(), StoreFault>
+    requires { conn.old.in_transaction ≡ false }
+    ensures mode { conn.new.in_transaction ≡ false }
+    ensures handed { (l : Layout) → HasCleanDisk (state S.Store conn.new) → Stands l (state S.Store conn.old).now
+        → AreHanded K.noted IsLineInRange (firm_in l (state S.Store conn.old).now.trees).exceptions
+        result sink.old sink.new }
+    ensures left { LeavesAll result (state S.Store conn.old) (state S.Store conn.new) }
+{
+    hand_rows(
+        conn,
+        "SELECT day, reference, bank_ref, amount, text FROM exception ORDER BY day, reference, \
+         bank_ref, amount, text, rowid",
+        &[],
+        &ExceptionTaking { alloc },
+        sink,
+    )
+    .and(Ok(()))
+}
+
+// Reads a balance from a row.
+fn read_balance(row: &Row) -> Result<StatementRow, StoreFault>
+    ensures is { IfOk result (λ v. v ≡ balance_at row.now) }
+    ensures fits { IfOk result IsBalanceInRange }
+{
+    let columns = balance_in(row)?;
+    let balance = balance_of(columns)?;
+    // An amount of this type is in range.
+    let _amount = balance.amount.get();
+    Ok(balance)
+}
+
+// Takes the rows of balances.
+#[derive(Drop)]
+struct BalanceTaking;
+
+impl<K: BalanceSink> RowTaking<K> for BalanceTaking {
+    ghost use Rattle.firm_rows.specs.Countable.{IsBalanceInRange};
+    ghost use Rattle.sql_reads.specs.Shown.{balance_at};
+
+    ghost taken = { λ _ sink row. K.balanced sink (balance_at row) };
+
+    ghost fits = { λ _ row. IsBalanceInRange (balance_at row) };
+
+    fn take(&self, row: &Row, sink: &mut K) -> Result<(), StoreFault> {
+        let balance = read_balance(row)?;
+        sink.balance(&balance)?;
+        Ok(())
+    }
+}
+
+/// Passes each balance to the sink: openings before closings, each by day. Stops with `Memory` if memory runs out,
+/// and with `Store` at a balance that is invalid or past the 2^64 - 1st; the sink keeps those before it. Holds one
+/// row at a time.
+pub fn each_balance<S: Alter, K: BalanceSink>(
+    conn: &mut Connection<S>,
+    sink: &mut K,
+) -> Result<(), StoreFault>
+    requires { conn.old.in_transaction ≡ false }
+    ensures mode { conn.new.in_transaction ≡ false }
+    ensures handed { (l : Layout) → HasCleanDisk (state S.Store conn.new) → Stands l (state S.Store conn.old).now
+        → AreHanded K.balanced IsBalanceInRange (firm_in l (state S.Store conn.old).now.trees).balances
+        result sink.old sink.new }
+    ensures left { LeavesAll result (state S.Store conn.old) (state S.Store conn.new) }
+{
+    hand_rows(
+        conn,
+        "SELECT kind, day, amount FROM balance ORDER BY kind, day, rowid",
+        &[],
+        &BalanceTaking,
+        sink,
+    )
+    .and(Ok(()))
+}

@@ -1,0 +1,31 @@
+use Rattle.std.proofs.Common.{w64, SFits, rules}
+use Rattle.std.proofs.lemmas.Int.{to_z-of_z}
+use Rattle.sql_tables.specs.declared.statements.Statement.TheVariants as statement
+use Rattle.sql_tables.proofs.ScriptLemmas.{inside_does}
+use Rattle.sql_tables.proofs.statements.put_totals.Goals as goal
+
+pub returns-clause-ran : goal.returns-clause-ran
+returns-clause-ran g c =
+    let f0 : SFits w64 c.args.t.no = search rules in
+    let f1 : SFits w64 c.args.t.last = search rules in
+    let f2 : SFits w64 c.args.t.entries = search rules in
+    let f3 : SFits w64 c.args.t.held = search rules in
+    let f4 : SFits w64 c.args.t.available = search rules in
+    let f5 : SFits w64 c.args.t.disputed = search rules in
+    let f6 : SFits w64 c.args.t.fees = search rules in
+    let f7 : SFits w64 c.args.t.claims = search rules in
+    let f8 : SFits w64 c.args.t.pending = search rules in
+    record { ok = λ clean inside. simp to_z-of_z at (c.execute.ensures.runs clean inside); crash = c.execute.ensures.survives }
+
+pub returns-clause-changes : goal.returns-clause-changes
+returns-clause-changes g c l clean inside stands =
+    let f0 : SFits w64 c.args.t.no = search rules in
+    let f1 : SFits w64 c.args.t.last = search rules in
+    let f2 : SFits w64 c.args.t.entries = search rules in
+    let f3 : SFits w64 c.args.t.held = search rules in
+    let f4 : SFits w64 c.args.t.available = search rules in
+    let f5 : SFits w64 c.args.t.disputed = search rules in
+    let f6 : SFits w64 c.args.t.fees = search rules in
+    let f7 : SFits w64 c.args.t.claims = search rules in
+    let f8 : SFits w64 c.args.t.pending = search rules in
+    inside_does l (statement.Totals c.args.t) _ _ c.execute.result stands (simp to_z-of_z at (c.execute.ensures.runs clean inside))

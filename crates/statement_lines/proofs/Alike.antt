@@ -1,0 +1,94 @@
+-- What is alike has one number.
+use Rattle.std.proofs.Common.{◌≡◌, ◌∙◌, sym, ap, ℕ, ◌==◌, true, false, not, ◌&&◌, List, [], Option, Some, None}
+use Rattle.std.specs.Prelude.{find, nat_le, option_map, unsigned_abs, unwrap_or}
+use Rattle.std.specs.Ordering.{int_eq}
+use Rattle.std.specs.Str.{bytes_eq}
+use Rattle.std.proofs.lemmas.Bool.{and_parts, cond-false, cond-true, eqb-true, eq-eqb}
+use Rattle.std.proofs.lemmas.Bool.Decides.{Decides-int_eq}
+use Rattle.std.proofs.lemmas.Slice.Eq.{bytes_eq-Decides}
+use Rattle.trust_base.specs.declared.line.Line.{Line}
+use Rattle.statement_lines.specs.declared.booking.Booking.{Booking}
+use Rattle.statement_lines.specs.Bookings.{booking_of, is_beside, is_same_booking}
+use Rattle.statement_lines.specs.Keys.{amount_key, booking_key, claim_key, line_key, text_key, waiting_key}
+use Rattle.statement_lines.specs.OpenLines.{claimed_reference, exception_reference, is_named_like, is_open, is_open_fit, is_open_like}
+use Rattle.statement_lines.specs.Showing.{fits, is_other_business, shows}
+use Rattle.statement_lines.specs.Waiting.{Waiting}
+use Rattle.statement_lines.proofs.Found.{Narrows}
+
+beside_key : (a b : Booking) → is_beside a b ≡ true → (booking_key b == booking_key a) ≡ true
+beside_key a b is =
+    let parts = and_parts (a.date == b.date) (bytes_eq a.bank_ref b.bank_ref) is in
+    let date = eqb-true a.date b.date parts.0 in
+    let reference = (bytes_eq-Decides a.bank_ref b.bank_ref).0 parts.1 in
+    eq-eqb (booking_key b) (booking_key a)
+    (ap (λ d. text_key d b.bank_ref) (sym date) ∙ ap (λ r. text_key a.date r) (sym reference))
+
+pub beside_narrows : (line : Line) → Narrows (is_beside (booking_of line)) (λ b. booking_key b == line_key line)
+beside_narrows line b is = beside_key (booking_of line) b is
+
+pub same_narrows : (line : Line) → Narrows (is_same_booking (booking_of line)) (λ b. booking_key b == line_key line)
+same_narrows line b is =
+    beside_key (booking_of line) b (and_parts (is_beside (booking_of line) b) (int_eq line.amount b.amount) is).0
+
+pub line_beside_narrows : (line : Line)
+    → Narrows (λ x. is_beside (booking_of line) (booking_of x)) (λ x. line_key x == line_key line)
+line_beside_narrows line x is = beside_key (booking_of line) (booking_of x) is
+
+pub open_like_narrows : (line : Line) → Narrows (is_open_like line) (λ x. line_key x == line_key line)
+open_like_narrows line x is =
+    same_narrows line (booking_of x) (and_parts (is_open x) (is_same_booking (booking_of line) (booking_of x)) is).1
+
+pub named_like_narrows : (line : Line) → Narrows (is_named_like line) (λ x. line_key x == line_key line)
+named_like_narrows line x is =
+    let closed = and_parts (is_same_booking (booking_of line) (booking_of x) && bytes_eq line.text x.text)
+    (not (is_open x)) is in
+    let alike = and_parts (is_same_booking (booking_of line) (booking_of x)) (bytes_eq line.text x.text) closed.0 in
+    same_narrows line (booking_of x) alike.0
+
+-- a line has the amount of an entry that it fits
+fit_key : (today : ℕ) (line : Line) (w : Waiting) → fits today line w ≡ true → line.amount ≡ w.amount
+unfolding fits
+fit_key today line w is =
+    let shown = and_parts (nat_le line.date today && int_eq line.amount w.amount && nat_le w.since line.date
+    && not (is_other_business line)) (shows line w) is in
+    let own = and_parts (nat_le line.date today && int_eq line.amount w.amount && nat_le w.since line.date)
+    (not (is_other_business line)) shown.0 in
+    let since = and_parts (nat_le line.date today && int_eq line.amount w.amount) (nat_le w.since line.date) own.0 in
+    let amount = and_parts (nat_le line.date today) (int_eq line.amount w.amount) since.0 in
+    (Decides-int_eq line.amount w.amount).0 amount.1
+
+pub fits_narrows : (today : ℕ) (line : Line) → Narrows (fits today line) (λ w. waiting_key w == amount_key line)
+fits_narrows today line w is =
+    eq-eqb (waiting_key w) (amount_key line) (ap unsigned_abs (sym (fit_key today line w is)))
+
+pub open_fit_narrows : (today : ℕ) (w : Waiting) → Narrows (is_open_fit today w) (λ x. amount_key x == waiting_key w)
+open_fit_narrows today w x is =
+    eq-eqb (amount_key x) (waiting_key w)
+    (ap unsigned_abs (fit_key today x w (and_parts (is_open x) (fits today x w) is).1))
+
+pub claims_narrows : (exceptions : List Line) (reference : List ℕ)
+    → Narrows (λ x. bytes_eq (claimed_reference exceptions x) reference)
+    (λ x. claim_key exceptions x == text_key 0 reference)
+claims_narrows exceptions reference x is =
+    eq-eqb (claim_key exceptions x) (text_key 0 reference)
+    (ap (text_key 0) ((bytes_eq-Decides (claimed_reference exceptions x) reference).0 is))
+
+-- the reference that a record has by itself, where its exception is found
+pub claimed_closed : (exceptions : List Line) (line : Line) → is_open line ≡ false
+    → claimed_reference exceptions line ≡ line.reference
+claimed_closed exceptions line closed =
+    cond-false (is_open line) (unwrap_or (exception_reference exceptions line) []) line.reference closed
+
+pub claimed_named : (exceptions : List Line) (line x : Line) → is_open line ≡ true
+    → find (is_named_like line) exceptions ≡ Some x → claimed_reference exceptions line ≡ x.reference
+unfolding exception_reference
+claimed_named exceptions line x opened found =
+    cond-true (is_open line) (unwrap_or (exception_reference exceptions line) []) line.reference opened
+    ∙ ap (λ (o : Option Line). unwrap_or (option_map (λ (y : Line). y.reference) o) []) found
+
+pub claimed_none : (exceptions : List Line) (line : Line) → is_open line ≡ true
+    → find (is_named_like line) exceptions ≡ None → claimed_reference exceptions line ≡ []
+unfolding exception_reference
+claimed_none exceptions line opened found =
+    cond-true (is_open line) (unwrap_or (exception_reference exceptions line) []) line.reference opened
+    ∙ ap (λ (o : Option Line). unwrap_or (option_map (λ (y : Line). y.reference) o) []) found

@@ -1,0 +1,71 @@
+-- What a writer holds after a record.
+use Rattle.std.proofs.Common.{◌≡◌, ◌≢◌, ◌∙◌, sym, ap, subst, ℕ, true, false, List, [], ◌∷◌, ◌++◌, append-nil, append_assoc, Option, Some, None, refl}
+use Rattle.std.specs.Io.KnownBytes.{Appends}
+use Rattle.std.proofs.lemmas.Grind.{flat_map-append}
+use Rattle.csv.specs.Writing.{default_writer, escaped, field_text, fields_text, fields_written, has_written, is_blank, row_text, text_written, with_flexible, writer_setup}
+use Rattle.csv.specs.declared.writer.QuoteStyle.TheVariants as style
+use Rattle.csv.specs.declared.writer.Writer.{Writer}
+use Rattle.statement_lines.specs.Records.{Rows}
+use Rattle.statement_lines.specs.RowsLeft.{Adds, Holds}
+use Rattle.statement_lines.specs.Written.{text_of}
+
+-- A writer of records of any length writes what the default writer writes.
+
+escaped-same : (x : List ℕ) → escaped (with_flexible default_writer true) x ≡ escaped default_writer x
+unfolding escaped
+escaped-same [] = refl
+escaped-same (b ∷ rest) = rw (escaped-same rest) refl
+
+field_text-same : (x : List ℕ) → field_text (with_flexible default_writer true) x ≡ field_text default_writer x
+field_text-same x = rw (escaped-same x) refl
+
+fields_text-same : (fields : List (List ℕ))
+    → fields_text (with_flexible default_writer true) fields ≡ fields_text default_writer fields
+unfolding fields_text
+fields_text-same [] = refl
+fields_text-same (x ∷ rest) = rw (field_text-same x, fields_text-same rest) refl
+
+is_blank-same : (fields : List (List ℕ))
+    → is_blank (with_flexible default_writer true) fields ≡ is_blank default_writer fields
+unfolding is_blank
+is_blank-same [] = refl
+is_blank-same (x ∷ []) = rw (field_text-same x) refl
+is_blank-same (x ∷ y ∷ rest) = refl
+
+row_text-same : (fields : List (List ℕ))
+    → row_text (with_flexible default_writer true) fields ≡ row_text default_writer fields
+row_text-same [] = rw (is_blank-same []) refl
+row_text-same (x ∷ rest) = rw (field_text-same x, fields_text-same rest, is_blank-same (x ∷ rest)) refl
+
+appended : (known : Option (List ℕ)) (text bs : List ℕ) → Appends (Some text) known bs → known ≡ Some (text ++ bs)
+appended None text bs h = absurd h
+appended (Some ys) text bs h = rw h refl
+
+-- one more record was written
+pub holds-more : {W : Type 0} (contents : W → Option (List ℕ)) (a b : Writer W) (fields : List (List ℕ))
+    → ((fields_written a ≡ 0) → (has_written a ≡ false) → ((writer_setup a).style ≢ style.NonNumeric)
+    → Appends (text_written contents a) (text_written contents b) (row_text (writer_setup a) fields))
+    → fields_written b ≡ 0 → has_written b ≡ false → writer_setup b ≡ writer_setup a
+    → (text : List ℕ) → Holds contents a text → Holds contents b (text ++ text_of (fields ∷ []))
+holds-more contents a b fields bytes starts fresh same text h =
+    let plain : (writer_setup a).style ≢ style.NonNumeric = rw h.setup (λ e. cc e) in
+    let more = rw (h.held, h.setup) at (bytes h.starts h.fresh plain) in
+    record {
+      setup = same ∙ h.setup;
+      starts = starts;
+      fresh = fresh;
+      held = appended (text_written contents b) text _ more ∙ ap (λ t. Some (text ++ t)) (row_text-same fields ∙ sym (append-nil (row_text default_writer fields)));
+    }
+
+-- records were added after others
+pub adds-more : {W : Type 0} (contents : W → Option (List ℕ)) (a b c : Writer W) (first second : Rows)
+    → Adds contents a b first → Adds contents b c second → Adds contents a c (first ++ second)
+adds-more contents a b c first second one two text h =
+    let parts : (text ++ text_of first) ++ text_of second ≡ text ++ text_of (first ++ second) =
+    append_assoc text (text_of first) (text_of second)
+    ∙ ap (λ t. text ++ t) (sym (flat_map-append (row_text default_writer) first second)) in
+    subst (λ t. Holds contents c t) parts (two (text ++ text_of first) (one text h))
+
+-- no record was added
+pub adds-none : {W : Type 0} (contents : W → Option (List ℕ)) (a : Writer W) → Adds contents a a []
+adds-none contents a text h = rw (append-nil text) h

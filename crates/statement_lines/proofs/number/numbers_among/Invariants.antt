@@ -1,0 +1,7 @@
+use Rattle.std.proofs.Common.{◌≡◌, take, map}
+use Rattle.std.specs.List.{filter}
+use Rattle.statement_lines.specs.Numbers.{is_number, without_zeros}
+use Rattle.statement_lines.proofs.number.numbers_among.Given as goal
+
+abbrev pub invariant-loop-token : goal.invariant-loop-token
+invariant-loop-token l = l.found.items ≡ map without_zeros (filter is_number (take l.token-index l.tokens))

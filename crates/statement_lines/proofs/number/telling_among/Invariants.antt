@@ -1,0 +1,7 @@
+use Rattle.std.proofs.Common.{◌≡◌, ◌++◌, [], drop}
+use Rattle.statement_lines.specs.Numbers.{telling_behind}
+use Rattle.statement_lines.proofs.number.telling_among.Given as goal
+
+abbrev pub invariant-loop-token : goal.invariant-loop-token
+invariant-loop-token l =
+    telling_behind [] [] l.tokens ≡ l.found.items ++ telling_behind l.second l.last (drop l.token-index l.tokens)

@@ -1,0 +1,6 @@
+use Rattle.std.proofs.Common.{◌≡◌, ◌++◌, drop}
+use Rattle.statement_lines.specs.Tokens.{tokens, tokens_behind}
+use Rattle.statement_lines.proofs.token.tokens_of.Given as goal
+
+abbrev pub invariant-loop-place : goal.invariant-loop-place
+invariant-loop-place l = tokens l.text ≡ l.found.items ++ tokens_behind l.second l.last (drop l.place l.text)

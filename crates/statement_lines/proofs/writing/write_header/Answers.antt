@@ -1,0 +1,6 @@
+use Rattle.statement_lines.proofs.writing.write_header.Goals as goal
+
+pub returns : goal.returns
+returns g c =
+    rw (c.as_slice.ensures, c.as_slice-2.ensures, c.as_slice-3.ensures, c.as_slice-4.ensures, c.as_slice-5.ensures)
+    at c.write_fields.ensures

@@ -1,0 +1,39 @@
+//! What the lines of a bank's own file show, and the deposits, payments and booked lines that they are compared with.
+#![tactic(auto)]
+
+mod book_entry;
+mod booking;
+mod exceptions;
+mod held;
+mod index;
+mod key;
+mod known;
+mod lookup;
+mod mark;
+mod number;
+mod outcome;
+mod records;
+mod relation;
+mod rows;
+mod statement_line;
+mod token;
+mod waiting;
+mod words;
+mod writing;
+
+pub use book_entry::{BookEntry, EntryState};
+pub use booking::Booking;
+pub use exceptions::Exceptions;
+pub use held::Held;
+pub use index::Index;
+pub use key::text_key;
+pub use known::Known;
+pub use lookup::Lookup;
+pub use mark::{Mark, line_marks_of, marks_of};
+pub use outcome::Outcome;
+pub use records::{Records, line_at, line_count, number_at, number_of, records_in};
+pub use relation::Relation;
+pub use statement_line::StatementLine;
+pub use waiting::WaitingEntry;
+pub use words::push_line_words;
+pub use writing::write_statement;

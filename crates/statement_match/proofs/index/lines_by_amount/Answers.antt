@@ -1,6 +1,0 @@
-use Rattle.std.proofs.Common.{rules}
-use Rattle.statement_match.specs.Keys.{amount_key}
-use Rattle.statement_match.proofs.index.lines_by_amount.Goals as goal
-
-pub returns : goal.returns
-returns c = c.of.ensures amount_key (λ x r k. search rules)

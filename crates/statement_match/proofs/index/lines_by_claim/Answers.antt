@@ -1,6 +1,0 @@
-use Rattle.std.proofs.Common.{rules}
-use Rattle.statement_match.specs.Keys.{claim_key}
-use Rattle.statement_match.proofs.index.lines_by_claim.Goals as goal
-
-pub returns : goal.returns
-returns c = c.of.ensures (claim_key c.args.exceptions.now) (λ x r k. search rules)

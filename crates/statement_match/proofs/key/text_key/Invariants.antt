@@ -1,6 +1,0 @@
-use Rattle.std.proofs.Common.{◌≡◌, fold, take}
-use Rattle.statement_match.specs.Keys.{next_key}
-use Rattle.statement_match.proofs.key.text_key.Given as goal
-
-abbrev pub invariant-loop-byte : goal.invariant-loop-byte
-invariant-loop-byte l = l.key ≡ fold next_key l.start (take l.byte-index l.text)

@@ -1,6 +1,0 @@
-use Rattle.std.proofs.Common.{◌≡◌, ◌++◌, map, take}
-use Rattle.statement_match.specs.Keys.{text_key}
-use Rattle.statement_match.proofs.mark.add_numbers.Given as goal
-
-abbrev pub invariant-loop-number : goal.invariant-loop-number
-invariant-loop-number l = l.marks.items ≡ l.fn.marks.items ++ map (text_key 0) (take l.number-index l.numbers)

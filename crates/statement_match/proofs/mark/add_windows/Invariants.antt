@@ -1,6 +1,0 @@
-use Rattle.std.proofs.Common.{◌≡◌, ◌++◌, drop}
-use Rattle.statement_match.specs.Marks.{window_marks}
-use Rattle.statement_match.proofs.mark.add_windows.Given as goal
-
-abbrev pub invariant-loop-place : goal.invariant-loop-place
-invariant-loop-place l = l.fn.marks.items ++ window_marks l.text ≡ l.marks.items ++ window_marks (drop l.place l.text)

@@ -1,8 +1,0 @@
-use Rattle.std.proofs.Common.{◌∙◌, sym, ◌≤◌, length, arith}
-use Rattle.statement_match.proofs.Marked.{marks_done}
-use Rattle.statement_match.proofs.mark.marks_of.Goals as goal
-
-pub returns : goal.returns
-returns c =
-    let past : length c.args.entries.now ≤ c.loop-place.place = omega arith in
-    sym (c.loop-place.invariant ∙ marks_done c.args.entries.now c.loop-place.place c.loop-place.marks.items past)

@@ -1,6 +1,0 @@
-use Rattle.std.proofs.Common.{◌≡◌, ◌++◌, drop}
-use Rattle.statement_match.specs.Marks.{marks_from}
-use Rattle.statement_match.proofs.mark.marks_of.Given as goal
-
-abbrev pub invariant-loop-place : goal.invariant-loop-place
-invariant-loop-place l = marks_from 0 l.entries ≡ l.marks.items ++ marks_from l.place (drop l.place l.entries)

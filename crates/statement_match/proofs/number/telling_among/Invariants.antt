@@ -1,7 +1,0 @@
-use Rattle.std.proofs.Common.{◌≡◌, ◌++◌, [], drop}
-use Rattle.statement_match.specs.Numbers.{telling_behind}
-use Rattle.statement_match.proofs.number.telling_among.Given as goal
-
-abbrev pub invariant-loop-token : goal.invariant-loop-token
-invariant-loop-token l =
-    telling_behind [] [] l.tokens ≡ l.found.items ++ telling_behind l.second l.last (drop l.token-index l.tokens)

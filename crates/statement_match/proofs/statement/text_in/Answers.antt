@@ -1,5 +1,0 @@
-use Rattle.std.proofs.Common.{◌∙◌, ap, ℕ, List, [], Option, unwrap_or}
-use Rattle.statement_match.proofs.statement.text_in.Goals as goal
-
-pub returns : goal.returns
-returns c = λ text h. c.in-Ok.ensures.ok ∙ ap (λ (o : Option (List ℕ)). unwrap_or o []) h.held

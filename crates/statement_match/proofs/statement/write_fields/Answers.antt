@@ -1,9 +1,0 @@
-use Rattle.std.proofs.Common.{map}
-use Rattle.statement_match.proofs.RowsWritten.{holds-more}
-use Rattle.statement_match.proofs.statement.write_fields.Goals as goal
-
-pub returns : goal.returns
-returns g c =
-    let done = c.in-Ok.ensures in
-    holds-more g.W.Write.contents c.args.writer.now c.write_fields.new.self (map (λ field. field.now) c.args.fields.now)
-    done.bytes done.ended done.clean done.setup

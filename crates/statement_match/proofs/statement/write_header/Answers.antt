@@ -1,6 +1,0 @@
-use Rattle.statement_match.proofs.statement.write_header.Goals as goal
-
-pub returns : goal.returns
-returns g c =
-    rw (c.as_slice.ensures, c.as_slice-2.ensures, c.as_slice-3.ensures, c.as_slice-4.ensures, c.as_slice-5.ensures)
-    at c.write_fields.ensures

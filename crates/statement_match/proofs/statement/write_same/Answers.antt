@@ -1,9 +1,0 @@
-use Rattle.csv.specs.Records.{fields_of}
-use Rattle.statement_match.proofs.RowsWritten.{holds-more}
-use Rattle.statement_match.proofs.statement.write_same.Goals as goal
-
-pub returns : goal.returns
-returns g c =
-    let done = c.in-Ok.ensures in
-    holds-more g.W.Write.contents c.args.writer.now c.write_byte_record.new.self (fields_of c.args.row.now)
-    done.bytes done.ended done.clean done.setup

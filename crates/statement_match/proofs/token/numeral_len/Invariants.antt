@@ -1,6 +1,0 @@
-use Rattle.std.proofs.Common.{◌≡◌, ◌+◌, drop}
-use Rattle.statement_match.specs.Tokens.{numeral_len as numeral_length}
-use Rattle.statement_match.proofs.token.numeral_len.Given as goal
-
-abbrev pub invariant-loop-place : goal.invariant-loop-place
-invariant-loop-place l = numeral_length l.text ≡ l.place + numeral_length (drop l.place l.text)

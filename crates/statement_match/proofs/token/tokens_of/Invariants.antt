@@ -1,6 +1,0 @@
-use Rattle.std.proofs.Common.{◌≡◌, ◌++◌, drop}
-use Rattle.statement_match.specs.Tokens.{tokens, tokens_behind}
-use Rattle.statement_match.proofs.token.tokens_of.Given as goal
-
-abbrev pub invariant-loop-place : goal.invariant-loop-place
-invariant-loop-place l = tokens l.text ≡ l.found.items ++ tokens_behind l.second l.last (drop l.place l.text)

@@ -1,8 +1,0 @@
-use Rattle.std.proofs.Common.{◌≡◌, ◌++◌, map}
-use Rattle.std.specs.Prelude.{encode_utf8_all}
-use Rattle.statement_match.specs.Unmatched.{shown}
-use Rattle.statement_match.proofs.words.push_shown_text.Given as goal
-
--- the text so far
-abbrev pub invariant-loop-character : goal.invariant-loop-character
-invariant-loop-character l = l.out.items ≡ l.fn.out.items ++ encode_utf8_all (map shown l.yielded)

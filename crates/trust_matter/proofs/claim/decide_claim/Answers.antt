@@ -1,0 +1,14 @@
+use Rattle.std.proofs.Common.{◌≡◌, true, refl, arith, rules}
+use Rattle.std.proofs.lemmas.Grind.{common_steps}
+use Rattle.matter_rows.specs.declared.claim.Against.{Against}
+use Rattle.matter_rows.specs.declared.claim.Against.TheVariants as against
+use Rattle.trust_matter.specs.Policy.{changes_matter, rule_against}
+use Rattle.trust_matter.proofs.claim.decide_claim.Goals as goal
+
+-- a claim comes under a rule by which a matter changes, whatever it is on
+changes : (on : Against) → changes_matter (rule_against on) ≡ true
+changes (against.General claimant) = refl
+changes (against.Fee k) = refl
+
+pub returns-in_err-check_change : goal.returns-in_err-check_change
+returns-in_err-check_change c = λ c'. rw (changes c.args.asked.now.against) (first_of (search rules, grind (arith, common_steps)))
