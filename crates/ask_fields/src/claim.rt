@@ -1,17 +1,16 @@
-// Claims.
+// Fees, and claims on them or on the general fund.
 
-ghost use Rattle.std.specs.Prelude.{◌≢◌, IfErr, option_and_then};
+ghost use Rattle.std.specs.Prelude.{◌≡◌, IfErr, IfOk, None, Some, option_and_then};
 ghost use Rattle.std.specs.Option.{option_copied};
 ghost use Rattle.trust_base.specs.Names.{label_of};
-ghost use Rattle.trust_matter.specs.declared.ask.Ask.TheVariants as ask;
 ghost use Rattle.trust_base.specs.Texts.{amount_of, amount_or_zero_of, entry_of};
-ghost use Rattle.ask_fields.specs.Asks.{claiming, splitting};
+ghost use Rattle.ask_fields.specs.Asks.{claiming, earning};
 ghost use Rattle.ask_fields.specs.Fields.{Reads, against_in, on_fee, on_general};
 
-use crate::entry::bad;
 use std::alloc::Global;
-use trust_base::{Cents, CentsOrZero, EntryNo, Field, Label, Refusal};
-use trust_matter::{Against, Ask, ClaimAsk, SplitAsk};
+use trust_base::Refusal::{self, BadField};
+use trust_base::{Cents, CentsOrZero, EntryNo, Field, Label};
+use trust_matter::{Against, Ask, ClaimAsk, FeeAsk, SplitAsk};
 
 /// The texts of a claim's fields, in the order in which they are checked.
 #[derive(Clone, Copy)]
@@ -26,6 +25,22 @@ pub struct ClaimTexts<'a> {
     pub reason: &'a [u8],
 }
 
+/// Reads an ask to set apart a fee under a number.
+pub fn read_earning(
+    alloc: Global,
+    number: EntryNo,
+    amount: &[u8],
+    description: &[u8],
+) -> Result<Ask, Refusal>
+    ensures { Reads (earning number (amount_of amount.now) (label_of description.now)) result }
+{
+    Ok(Ask::EarnFee(FeeAsk {
+        number,
+        amount: Cents::read(amount).ok_or(BadField(Field::Amount))?,
+        description: Label::read(alloc, description)?.ok_or(BadField(Field::Description))?,
+    }))
+}
+
 // Reads a claim on the general fund: there is a claimant and no entry.
 fn read_on_general(
     alloc: Global,
@@ -35,27 +50,21 @@ fn read_on_general(
     ensures { Reads (on_general (option_copied of.entry) (option_copied claimant.entry)) result }
 {
     if of.is_some() {
-        return Err(bad(Field::Of));
+        return Err(BadField(Field::Of));
     }
-    let Some(claimant) = claimant else {
-        return Err(bad(Field::Claimant));
-    };
-    match Label::read(alloc, claimant)? {
-        Some(claimant) => Ok(Against::General(claimant)),
-        None => Err(bad(Field::Claimant)),
-    }
+    let claimant = claimant.ok_or(BadField(Field::Claimant))?;
+    let claimant = Label::read(alloc, claimant)?.ok_or(BadField(Field::Claimant))?;
+    Ok(Against::General(claimant))
 }
 
 // Reads a claim on a fee: there is an entry and no claimant.
 fn read_on_fee(of: Option<&[u8]>, claimant: Option<&[u8]>) -> Result<Against, Refusal>
     ensures { Reads (on_fee (option_and_then entry_of (option_copied of.entry)) (option_copied claimant.entry)) result }
 {
-    let Some(number) = of.and_then(EntryNo::read) else {
-        return Err(bad(Field::Of));
-    };
+    let number = of.and_then(EntryNo::read).ok_or(BadField(Field::Of))?;
     match claimant {
         None => Ok(Against::Fee(number)),
-        Some(_) => Err(bad(Field::Claimant)),
+        Some(_) => Err(BadField(Field::Claimant)),
     }
 }
 
@@ -73,7 +82,7 @@ fn read_against(
     } else if on == b"fee".as_slice() {
         read_on_fee(of, claimant)
     } else {
-        Err(bad(Field::On))
+        Err(BadField(Field::On))
     }
 }
 
@@ -83,50 +92,21 @@ pub fn read_claiming(alloc: Global, number: EntryNo, texts: &ClaimTexts<'_>) -> 
         (against_in texts.now.on.now (option_copied texts.now.of) (option_copied texts.now.claimant))
         (label_of texts.now.reason.now)) result }
 {
-    let Some(amount) = Cents::read(texts.amount) else {
-        return Err(bad(Field::Amount));
-    };
-    let against = read_against(alloc, texts.on, texts.of, texts.claimant)?;
-    let Some(reason) = Label::read(alloc, texts.reason)? else {
-        return Err(bad(Field::Reason));
-    };
     Ok(Ask::RaiseClaim(ClaimAsk {
         number,
-        amount,
-        against,
-        reason,
+        amount: Cents::read(texts.amount).ok_or(BadField(Field::Amount))?,
+        against: read_against(alloc, texts.on, texts.of, texts.claimant)?,
+        reason: Label::read(alloc, texts.reason)?.ok_or(BadField(Field::Reason))?,
     }))
 }
 
-/// Reads an ask to offer the client a part of the claim with this number. Allocates nothing.
-pub fn read_offering(number: EntryNo, to_client: &[u8]) -> Result<Ask, Refusal>
-    ensures value { Reads (splitting ask.Offer number (amount_or_zero_of to_client.now)) result }
-    ensures memory { IfErr result (λ why. why ≢ Refusal.Memory) }
+/// Reads what is offered, accepted or awarded to the client of the claim with this number. Allocates nothing.
+pub fn read_split(number: EntryNo, to_client: &[u8]) -> Result<SplitAsk, Refusal>
+    ensures ok { IfOk result (λ split.
+        (split.number ≡ number) × (amount_or_zero_of to_client.now ≡ Some split.to_client)) }
+    ensures err { IfErr result (λ why.
+        (why ≡ Refusal.BadField Field.ToClient) × (amount_or_zero_of to_client.now ≡ None)) }
 {
-    match CentsOrZero::read(to_client) {
-        Some(to_client) => Ok(Ask::Offer(SplitAsk { number, to_client })),
-        None => Err(bad(Field::ToClient)),
-    }
-}
-
-/// Reads an ask to accept the offered part of the claim with this number. Allocates nothing.
-pub fn read_accepting(number: EntryNo, to_client: &[u8]) -> Result<Ask, Refusal>
-    ensures value { Reads (splitting ask.Accept number (amount_or_zero_of to_client.now)) result }
-    ensures memory { IfErr result (λ why. why ≢ Refusal.Memory) }
-{
-    match CentsOrZero::read(to_client) {
-        Some(to_client) => Ok(Ask::Accept(SplitAsk { number, to_client })),
-        None => Err(bad(Field::ToClient)),
-    }
-}
-
-/// Reads an ask to award the client a part of the claim with this number. Allocates nothing.
-pub fn read_awarding(number: EntryNo, to_client: &[u8]) -> Result<Ask, Refusal>
-    ensures value { Reads (splitting ask.Award number (amount_or_zero_of to_client.now)) result }
-    ensures memory { IfErr result (λ why. why ≢ Refusal.Memory) }
-{
-    match CentsOrZero::read(to_client) {
-        Some(to_client) => Ok(Ask::Award(SplitAsk { number, to_client })),
-        None => Err(bad(Field::ToClient)),
-    }
+    let to_client = CentsOrZero::read(to_client).ok_or(BadField(Field::ToClient))?;
+    Ok(SplitAsk { number, to_client })
 }

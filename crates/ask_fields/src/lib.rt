@@ -9,13 +9,11 @@
 mod claim;
 mod deposit;
 mod entry;
-mod fee;
 mod payment;
 mod seat;
 
-pub use claim::{ClaimTexts, read_accepting, read_awarding, read_claiming, read_offering};
-pub use deposit::{read_cancelling, read_depositing};
-pub use entry::{bad, read_entry, read_showing};
-pub use fee::read_earning;
-pub use payment::{PaymentTexts, read_approving, read_declining, read_proposing, read_voiding};
+pub use claim::{ClaimTexts, read_claiming, read_earning, read_split};
+pub use deposit::read_depositing;
+pub use entry::{read_cancelling, read_showing};
+pub use payment::{PaymentTexts, read_proposing};
 pub use seat::{read_dropping, read_opening, read_seating};

@@ -5,9 +5,9 @@ ghost use Rattle.trust_base.specs.Names.{label_of, person_of};
 ghost use Rattle.ask_fields.specs.Asks.{dropping, opening, seating};
 ghost use Rattle.ask_fields.specs.Fields.{Reads, role_of};
 
-use crate::entry::bad;
 use std::alloc::Global;
-use trust_base::{Field, Label, PersonId, Refusal};
+use trust_base::Refusal::{self, BadField};
+use trust_base::{Field, Label, PersonId};
 use trust_matter::{Ask, OpenAsk, Role, Seat};
 
 fn read_role(text: &[u8]) -> Option<Role>
@@ -26,12 +26,8 @@ fn read_role(text: &[u8]) -> Option<Role>
 pub fn read_opening(alloc: Global, client: &[u8], lawyer: &[u8]) -> Result<Ask, Refusal>
     ensures { Reads (opening (label_of client.now) (person_of lawyer.now)) result }
 {
-    let Some(client) = Label::read(alloc, client)? else {
-        return Err(bad(Field::Client));
-    };
-    let Some(lawyer) = PersonId::read(alloc, lawyer)? else {
-        return Err(bad(Field::Lawyer));
-    };
+    let client = Label::read(alloc, client)?.ok_or(BadField(Field::Client))?;
+    let lawyer = PersonId::read(alloc, lawyer)?.ok_or(BadField(Field::Lawyer))?;
     Ok(Ask::OpenMatter(OpenAsk { client, lawyer }))
 }
 
@@ -39,12 +35,8 @@ pub fn read_opening(alloc: Global, client: &[u8], lawyer: &[u8]) -> Result<Ask, 
 pub fn read_seating(alloc: Global, person: &[u8], role: &[u8]) -> Result<Ask, Refusal>
     ensures { Reads (seating (person_of person.now) (role_of role.now)) result }
 {
-    let Some(person) = PersonId::read(alloc, person)? else {
-        return Err(bad(Field::Person));
-    };
-    let Some(role) = read_role(role) else {
-        return Err(bad(Field::Role));
-    };
+    let person = PersonId::read(alloc, person)?.ok_or(BadField(Field::Person))?;
+    let role = read_role(role).ok_or(BadField(Field::Role))?;
     Ok(Ask::AddSeat(Seat { person, role }))
 }
 
@@ -52,8 +44,6 @@ pub fn read_seating(alloc: Global, person: &[u8], role: &[u8]) -> Result<Ask, Re
 pub fn read_dropping(alloc: Global, person: &[u8]) -> Result<Ask, Refusal>
     ensures { Reads (dropping (person_of person.now)) result }
 {
-    match PersonId::read(alloc, person)? {
-        Some(person) => Ok(Ask::DropSeat(person)),
-        None => Err(bad(Field::Person)),
-    }
+    let dropped = PersonId::read(alloc, person)?.ok_or(BadField(Field::Person))?;
+    Ok(Ask::DropSeat(dropped))
 }

@@ -2,11 +2,8 @@
 //! with what it asks; and the files that a command line names.
 #![tactic(auto)]
 
-mod dismissal;
-mod fields;
 mod folder;
 mod record;
-mod record_asks;
 mod remarks;
 
 pub use folder::{Folder, Opened, Presence};

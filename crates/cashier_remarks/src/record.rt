@@ -1,9 +1,10 @@
 // One record of a day sheet.
 
-ghost use Rattle.std.specs.Prelude.{◌≡◌, false};
+ghost use Rattle.std.specs.Prelude.{◌≡◌, [], false, unwrap_or};
 ghost use Rattle.std.specs.List.{list_all};
+ghost use Rattle.std.specs.Option.{option_copied};
 ghost use Rattle.std.specs.Str.{is_utf8};
-ghost use Rattle.csv.specs.Records.{fields_of};
+ghost use Rattle.csv.specs.Records.{field_at, fields_of};
 ghost use Rattle.ask_fields.specs.Fields.{Reads};
 ghost use Rattle.trust_desk.specs.Calls.{KeepsBook};
 ghost use Rattle.trust_desk.specs.Counts.{counted_reply};
@@ -11,15 +12,17 @@ ghost use Rattle.trust_desk.specs.Crashes.{IsMade, MayLeave};
 ghost use Rattle.trust_desk.specs.FirmStep.{Steps, firm_step};
 ghost use Rattle.trust_desk.specs.Replies.{is_fault_reply};
 ghost use Rattle.cashier_remarks.specs.Records as spec;
-ghost use Rattle.cashier_remarks.specs.Records.{ask_of, asked_of, heard_of, verb_in, verb_of};
+ghost use Rattle.cashier_remarks.specs.Records.{ask_of, asked_of, awarding_in, claiming_in, dismissing_in, has_dismissal_form, heard_of, proposing_in, text_given, verb_in, verb_of};
 
-use crate::dismissal::{is_dismissal, read_dismissal};
-use crate::fields::field_bytes;
-use crate::record_asks::{read_award, read_claim, read_deposit, read_payment};
-use ask_fields::{bad, read_cancelling, read_dropping, read_opening, read_seating, read_showing};
+use ask_fields::{
+    ClaimTexts, PaymentTexts, read_cancelling, read_claiming, read_depositing, read_dropping,
+    read_opening, read_proposing, read_seating, read_showing, read_split,
+};
 use csv::ByteRecord;
+use statement_csv::line_of_texts;
 use std::alloc::Global;
-use trust_base::{Day, Field, MatterNo, Refusal};
+use trust_base::Refusal::{self, BadField};
+use trust_base::{Day, EntryNo, Field, MatterNo};
 use trust_desk::{Desk, Reply, Request};
 use trust_matter::{Ask, Caller};
 use trust_store::Book;
@@ -51,6 +54,13 @@ pub enum Verb {
     Entry,
     /// Show a matter.
     Show,
+}
+
+/// The field of a record, or empty if there is none.
+pub(crate) fn field_bytes(row: &ByteRecord, i: usize) -> &[u8]
+    ensures { result.now ≡ unwrap_or (field_at (fields_of row.now) i) [] }
+{
+    row.get(i).unwrap_or(&[])
 }
 
 pub(crate) fn read_verb(name: &[u8]) -> Option<Verb>
@@ -154,6 +164,52 @@ fn verb_of_record(row: &ByteRecord) -> Option<Verb>
     if is_of_form { Some(verb) } else { None }
 }
 
+// The text of an optional field: `None` if it is empty.
+fn given(text: &[u8]) -> Option<&[u8]>
+    ensures { option_copied result ≡ text_given text.now }
+{
+    if text.is_empty() { None } else { Some(text) }
+}
+
+// Parses an ask to propose a payment from a fund.
+fn read_payment(alloc: Global, row: &ByteRecord) -> Result<Ask, Refusal>
+    ensures { Reads (proposing_in (fields_of row.now)) result }
+{
+    let number = EntryNo::read(field_bytes(row, 2)).ok_or(BadField(Field::Entry))?;
+    let texts = PaymentTexts {
+        amount: field_bytes(row, 3),
+        from: field_bytes(row, 4),
+        of: given(field_bytes(row, 5)),
+        payee: field_bytes(row, 6),
+        purpose: field_bytes(row, 7),
+        instrument: field_bytes(row, 8),
+    };
+    read_proposing(alloc, number, &texts)
+}
+
+// Parses an ask to raise a claim on the general fund.
+fn read_claim(alloc: Global, row: &ByteRecord) -> Result<Ask, Refusal>
+    ensures { Reads (claiming_in (fields_of row.now)) result }
+{
+    let number = EntryNo::read(field_bytes(row, 2)).ok_or(BadField(Field::Entry))?;
+    let texts = ClaimTexts {
+        amount: field_bytes(row, 3),
+        on: b"general",
+        of: None,
+        claimant: Some(field_bytes(row, 4)),
+        reason: field_bytes(row, 5),
+    };
+    read_claiming(alloc, number, &texts)
+}
+
+// Parses an ask to award a part of a claim to the client.
+fn read_award(row: &ByteRecord) -> Result<Ask, Refusal>
+    ensures { Reads (awarding_in (fields_of row.now)) result }
+{
+    let number = EntryNo::read(field_bytes(row, 2)).ok_or(BadField(Field::Entry))?;
+    Ok(Ask::Award(read_split(number, field_bytes(row, 3))?))
+}
+
 fn read_ask(alloc: Global, verb: Verb, row: &ByteRecord) -> Result<Ask, Refusal>
     ensures { Reads (ask_of verb (fields_of row.now)) result }
 {
@@ -161,7 +217,11 @@ fn read_ask(alloc: Global, verb: Verb, row: &ByteRecord) -> Result<Ask, Refusal>
         Verb::Open => read_opening(alloc, field_bytes(row, 3), field_bytes(row, 4)),
         Verb::Seat => read_seating(alloc, field_bytes(row, 3), field_bytes(row, 4)),
         Verb::Drop => read_dropping(alloc, field_bytes(row, 3)),
-        Verb::Deposit => read_deposit(alloc, row),
+        Verb::Deposit => {
+            let number = EntryNo::read(field_bytes(row, 2)).ok_or(BadField(Field::Entry))?;
+            let (amount, source) = (field_bytes(row, 3), field_bytes(row, 4));
+            read_depositing(alloc, number, amount, source, field_bytes(row, 5))
+        }
         Verb::Cancel => read_cancelling(field_bytes(row, 2)),
         Verb::Propose => read_payment(alloc, row),
         Verb::Claim => read_claim(alloc, row),
@@ -173,19 +233,58 @@ fn read_ask(alloc: Global, verb: Verb, row: &ByteRecord) -> Result<Ask, Refusal>
     }
 }
 
-/// Parses a record as a request to the desk, in the cashier's name. Errors: the first invalid field, and out of memory.
+/// Whether a record dismisses a line.
+pub(crate) fn is_dismissal(row: &ByteRecord) -> bool
+    ensures { result ≡ spec.is_dismissal (fields_of row.now) }
+{
+    field_bytes(row, 0) == b"dismiss".as_slice()
+}
+
+// Whether it has eight fields, with the second and the third empty.
+fn has_form(row: &ByteRecord) -> bool
+    ensures { result ≡ has_dismissal_form (fields_of row.now) }
+{
+    row.len() == 8 && field_bytes(row, 1).is_empty() && field_bytes(row, 2).is_empty()
+}
+
+// Parses the request to the desk, in the cashier's name. Errors: `BadField` of the record if the verb is not followed
+// by two empty fields and the five fields of a line, and out of memory.
+fn read_dismissal(alloc: Global, row: &ByteRecord) -> Result<Request, Refusal>
+    ensures { Reads (dismissing_in (fields_of row.now)) result }
+{
+    if !has_form(row) {
+        return Err(BadField(Field::Record));
+    }
+    let line = line_of_texts(
+        alloc,
+        field_bytes(row, 3),
+        field_bytes(row, 4),
+        field_bytes(row, 5),
+        field_bytes(row, 6),
+        field_bytes(row, 7),
+    )?;
+    match line {
+        Some(line) => Ok(Request::Dismiss {
+            caller: Caller::Cashier,
+            line,
+        }),
+        None => Err(BadField(Field::Record)),
+    }
+}
+
+// Parses a record as a request to the desk, in the cashier's name. Errors: the first invalid field, and out of memory.
 #[tactic(auto, unfolding(crate::specs::Records::asked_of))]
-pub fn read_request(alloc: Global, row: &ByteRecord) -> Result<Request, Refusal>
+fn read_request(alloc: Global, row: &ByteRecord) -> Result<Request, Refusal>
     ensures { Reads (asked_of (fields_of row.now)) result }
 {
     if is_dismissal(row) {
         return read_dismissal(alloc, row);
     }
     let Some(verb) = verb_of_record(row) else {
-        return Err(bad(Field::Record));
+        return Err(BadField(Field::Record));
     };
     let Some(no) = MatterNo::read(field_bytes(row, 1)) else {
-        return Err(bad(Field::Matter));
+        return Err(BadField(Field::Matter));
     };
     let ask = read_ask(alloc, verb, row)?;
     Ok(Request::Matter {

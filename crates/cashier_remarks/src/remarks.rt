@@ -1,4 +1,5 @@
-// Remarks: what a person is told during a run, in addition to what it prints and how it ends.
+// Remarks: what a person is told during a run, in addition to what it prints and how it ends. They are told and
+// forgotten: nothing compares them.
 
 mod beginning;
 mod beside;
@@ -60,7 +61,7 @@ pub use verb_fault::VerbFault;
 pub use whole_file::FileRemark;
 
 /// What a person is told during a run.
-#[derive(Clone, Copy, PartialEq, Eq, Debug)]
+#[derive(Clone, Copy)]
 pub enum Remark<'a> {
     /// About the record of a sheet that begins on this line.
     Record { line: u64, told: RecordRemark<'a> },

@@ -1,7 +1,7 @@
 -- The texts of ports and of counts.
 use Rattle.std.specs.Prelude.{◌≡◌, ◌≤◌, ℕ, List}
 use Rattle.std.specs.Fmt.{decimal}
-use Rattle.command_line.specs.declared.numerals.TheConstants.{MAX_COUNT, MAX_PORT, MIN_PORT}
+use Rattle.command_line.specs.declared.command.TheConstants.{MAX_COUNT, MAX_PORT, MIN_PORT}
 
 -- the text is the digits of the number, without leading zeros, and the number is from `least` to `most`
 pub record IsNumberBetween (least most : ℕ) (text : List ℕ) (number : ℕ) : Type 0 where

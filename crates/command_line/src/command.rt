@@ -1,18 +1,21 @@
 // The plan of a run, given by the words of the command line.
 
-ghost use Rattle.std.specs.Prelude.{◌≡◌, ℕ, IfErr, IfOk, IfSome, IfNone, codes, option_map};
+ghost use Rattle.std.specs.Prelude.{◌≡◌, ℕ, IfErr, IfOk, IfSome, IfNone, codes, option_and_then, option_map};
+ghost use Rattle.std.specs.Str.{bytes_eq};
 ghost use Rattle.clap.specs.Words.{first_of, found_of, rows_of, subcommand_rows_of};
-ghost use Rattle.command_line.specs.Program.{Gives, IsTask, LeavesNoPlan, Means, db_of, fault_by, is_flag_set};
-ghost use Rattle.command_line.specs.Program.{quiet_of, words_of};
+ghost use Rattle.trust_base.specs.Texts.{day_of, matter_of};
+ghost use Rattle.command_line.specs.Numerals.{IsCount, IsNumberBetween, IsPort};
+ghost use Rattle.command_line.specs.Program.{Gives, IsCountGiven, IsPortGiven, IsTask, LeavesNoPlan, Means};
+ghost use Rattle.command_line.specs.Program.{db_of, fault_by, is_flag_set, quiet_of, words_of};
 ghost use Rattle.command_line.specs.declared.command.Task.{Task};
 
 use crate::grammar::parse;
-use crate::operands::{count_operand, day_operand, is_flag_set, port_operand};
 use crate::report_command::{ReportCommand, report_command_of};
 use clap::ArgMatches;
 use clap::error::ErrorKind;
+use itoa::Buffer;
 use std::alloc::Global;
-use trust_base::Day;
+use trust_base::{Day, MatterNo};
 
 /// What a run is to do.
 #[derive(Clone, Copy, PartialEq, Eq, Debug)]
@@ -69,6 +72,100 @@ impl From<ErrorKind> for CliFault {
             ErrorKind::OutOfMemory => CliFault::Memory,
             _ => CliFault::Line,
         }
+    }
+}
+
+/// The lowest port that can be served. Those below are reserved for the system.
+pub const MIN_PORT: u32 = 1_024;
+
+/// The highest port of TCP (RFC 9293, 3.1).
+pub const MAX_PORT: u32 = 65_535;
+
+/// The most connections of one run.
+pub const MAX_COUNT: u32 = 1_000_000;
+
+// Parses a number from `least` to `most`, in digits without leading zeros.
+fn number_between(text: &str, least: u32, most: u32) -> Option<u32>
+    ensures some { IfSome result (IsNumberBetween least most text.now) }
+    ensures none { IfNone result ((number : ℕ) → ¬ IsNumberBetween least most text.now number) }
+{
+    let Ok(number) = text.parse::<u32>() else {
+        return None;
+    };
+    let mut buffer = Buffer::new();
+    if buffer.format(number) == text && least <= number && number <= most {
+        Some(number)
+    } else {
+        None
+    }
+}
+
+/// Parses a port: a number from 1,024 to 65,535, in digits without leading zeros.
+pub fn port_of(text: &str) -> Option<u16>
+    ensures some { IfSome result (IsPort text.now) }
+    ensures none { IfNone result ((port : ℕ) → ¬ IsPort text.now port) }
+{
+    match number_between(text, MIN_PORT, MAX_PORT) {
+        Some(port) => Some(port as u16),
+        None => None,
+    }
+}
+
+/// Parses a count of connections: a number from 1 to 1,000,000, in digits without leading zeros.
+pub fn count_of(text: &str) -> Option<u32>
+    ensures some { IfSome result (IsCount text.now) }
+    ensures none { IfNone result ((count : ℕ) → ¬ IsCount text.now count) }
+{
+    number_between(text, 1, MAX_COUNT)
+}
+
+/// Returns the day that is the first value of an argument; `None` without a value, or if it is not a day.
+pub(crate) fn day_operand(values: &ArgMatches, id: &str) -> Option<Day>
+    ensures { result ≡ option_and_then day_of (first_of id.now (rows_of (found_of values.now))) }
+{
+    Day::read(values.get_str(id)?.as_bytes())
+}
+
+/// Returns the matter whose number is the first value of an argument; `None` without a value, or if it is not six
+/// digits of a matter.
+pub(crate) fn matter_operand(values: &ArgMatches, id: &str) -> Option<MatterNo>
+    ensures { result ≡ option_and_then matter_of (first_of id.now (rows_of (found_of values.now))) }
+{
+    MatterNo::read(values.get_str(id)?.as_bytes())
+}
+
+/// Whether a text is the word FIRM, which may be given instead of a matter's number.
+pub fn is_firm(text: &str) -> bool
+    ensures { result ≡ bytes_eq text.now (codes "FIRM") }
+{
+    text == "FIRM"
+}
+
+// Returns the port that is the first value of an argument; `None` without a value, or if it is not a port.
+fn port_operand(values: &ArgMatches, id: &str) -> Option<u16>
+    ensures some { IfSome result (IsPortGiven (first_of id.now (rows_of (found_of values.now)))) }
+    ensures none { IfNone result
+        ((port : ℕ) → ¬ IsPortGiven (first_of id.now (rows_of (found_of values.now))) port) }
+{
+    port_of(values.get_str(id)?)
+}
+
+// Returns the count that is the first value of an argument; `None` without a value, or if it is not a count.
+fn count_operand(values: &ArgMatches, id: &str) -> Option<u32>
+    ensures some { IfSome result (IsCountGiven (first_of id.now (rows_of (found_of values.now)))) }
+    ensures none { IfNone result
+        ((count : ℕ) → ¬ IsCountGiven (first_of id.now (rows_of (found_of values.now))) count) }
+{
+    count_of(values.get_str(id)?)
+}
+
+// Whether a flag is given; false if no argument has this name.
+fn is_flag_set(values: &ArgMatches, id: &str) -> bool
+    ensures { result ≡ is_flag_set id.now (rows_of (found_of values.now)) }
+{
+    match values.get_str(id) {
+        Some(text) => text == "true",
+        None => false,
     }
 }
 

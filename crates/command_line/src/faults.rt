@@ -1,19 +1,19 @@
 // Finds what is wrong with words that mean nothing, from clap's errors on their first words.
 
-ghost use Rattle.std.specs.Prelude.{◌≡◌, ◌≢◌, ◌<◌, ℕ, IfNone, IfSome, None, [], codes, false, length, true};
+ghost use Rattle.std.specs.Prelude.{◌≡◌, ◌≢◌, ◌<◌, ℕ, IfNone, IfSome, None, [], codes, length, take, true};
+ghost use Rattle.std.specs.Str.{bytes_eq};
 ghost use Rattle.std.specs.List.{list_any};
 ghost use Rattle.clap.specs.Words.{fault_of, found_of, rows_of, subcommand_rows_of};
 ghost use Rattle.trust_base.specs.Texts.{day_of, matter_of};
 ghost use Rattle.command_line.specs.Advice.{IsFront, IsWrong, IsWrongOperand, IsWrongToday, IsWrongValue};
 ghost use Rattle.command_line.specs.Advice.{LacksValue, LacksValueAt, Names, front_by, last_setting, names_day};
-ghost use Rattle.command_line.specs.Advice.{names_db, names_quiet, setting_named};
+ghost use Rattle.command_line.specs.Advice.{setting_named};
 ghost use Rattle.command_line.specs.Numerals.{IsCount, IsPort};
 ghost use Rattle.command_line.specs.Program.{IsRefused, program, words_of};
 
 use crate::advice::{Advice, Setting, Verb, Wrong, verb_of};
+use crate::command::{count_of, is_firm, port_of};
 use crate::grammar::parse;
-use crate::numerals::{count_of, port_of};
-use crate::operands::is_firm;
 use clap::ArgMatches;
 use clap::error::ErrorKind;
 use std::alloc::Global;
@@ -131,39 +131,23 @@ fn verb_named<'a>(alloc: Global, words: &'a [&'a str]) -> Option<Verb>
     None
 }
 
-// Whether a word begins like the option of the business day.
-fn is_naming_day(word: &str) -> bool
-    ensures { result ≡ names_day word.now }
+// Whether a word begins with these bytes.
+fn begins(word: &str, front: &[u8]) -> bool
+    ensures { result ≡ bytes_eq (take (length front.now) word.now) front.now }
 {
     let bytes = word.as_bytes();
-    &bytes[..bytes.len().min(7)] == b"--today".as_slice()
-}
-
-// Whether a word begins like the option of the database.
-fn is_naming_db(word: &str) -> bool
-    ensures { result ≡ names_db word.now }
-{
-    let bytes = word.as_bytes();
-    &bytes[..bytes.len().min(4)] == b"--db".as_slice()
-}
-
-// Whether a word begins like the flag of a quiet run.
-fn is_naming_quiet(word: &str) -> bool
-    ensures { result ≡ names_quiet word.now }
-{
-    let bytes = word.as_bytes();
-    &bytes[..bytes.len().min(7)] == b"--quiet".as_slice()
+    &bytes[..bytes.len().min(front.len())] == front
 }
 
 // Returns the option that a word begins like.
 fn setting_named(word: &str) -> Option<Setting>
     ensures { result ≡ setting_named word.now }
 {
-    if is_naming_day(word) {
+    if begins(word, b"--today") {
         Some(Setting::Today)
-    } else if is_naming_db(word) {
+    } else if begins(word, b"--db") {
         Some(Setting::Db)
-    } else if is_naming_quiet(word) {
+    } else if begins(word, b"--quiet") {
         Some(Setting::Quiet)
     } else {
         None
@@ -187,7 +171,7 @@ fn is_day_named(words: &[&str]) -> bool
 {
     let mut is_named = false;
     for word in words {
-        is_named |= is_naming_day(word);
+        is_named |= begins(word, b"--today");
     }
     is_named
 }

@@ -84,14 +84,6 @@ fn with_operand<'a>(
     command.subcommand(behind)
 }
 
-// Adds the command that serves connections.
-fn with_serve<'a>(alloc: Global, command: Command<'a>) -> Result<Command<'a>, AllocError>
-    ensures { IfOk result (λ c. app_of c ≡ with_subcommand (app_of command.entry) serve_app.top) }
-{
-    let behind = serve_command(alloc)?;
-    command.subcommand(behind)
-}
-
 // Builds a command with one required operand.
 fn operand_command<'a>(
     alloc: Global,
@@ -107,16 +99,16 @@ fn operand_command<'a>(
     Command::new(alloc, name).arg(value)
 }
 
-// Builds the command that serves connections, with its port and their count.
-fn serve_command<'a>(alloc: Global) -> Result<Command<'a>, AllocError>
-    ensures ok { IfOk result (λ c. app_of c ≡ serve_app) }
-    ensures local { IfOk result (λ c. (out-Command c).has_globals ≡ false) }
+// Adds the command that serves connections, with its port and their count.
+fn with_serve<'a>(alloc: Global, command: Command<'a>) -> Result<Command<'a>, AllocError>
+    ensures { IfOk result (λ c. app_of c ≡ with_subcommand (app_of command.entry) serve_app.top) }
 {
     let with_port = operand_command(alloc, "serve", "PORT")?;
     let count = Arg::new(alloc, "COUNT")
         .required(true)
         .action(ArgAction::Set);
-    with_port.arg(count)
+    let behind = with_port.arg(count)?;
+    command.subcommand(behind)
 }
 
 /// Parses words, the first of which is the program's name. Returns the kind of error with which the command line

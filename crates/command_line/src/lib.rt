@@ -6,14 +6,12 @@ mod command;
 mod faults;
 mod grammar;
 pub mod laws;
-mod numerals;
-mod operands;
 mod report_command;
 
 pub use advice::{Advice, Setting, Verb, Wrong};
-pub use command::{CliFault, Plan, Task, command_of};
+pub use command::{
+    CliFault, MAX_COUNT, MAX_PORT, MIN_PORT, Plan, Task, command_of, count_of, is_firm, port_of,
+};
 pub use faults::advice_of;
 pub use grammar::parse;
-pub use numerals::{MAX_COUNT, MAX_PORT, MIN_PORT, count_of, port_of};
-pub use operands::is_firm;
 pub use report_command::ReportCommand;

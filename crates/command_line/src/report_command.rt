@@ -5,7 +5,7 @@ ghost use Rattle.clap.specs.Words.{found_of, rows_of};
 ghost use Rattle.command_line.specs.Program.{IsReportCommand};
 ghost use Rattle.command_line.specs.declared.report_command.ReportCommand.{ReportCommand};
 
-use crate::operands::{day_operand, is_firm, matter_operand};
+use crate::command::{day_operand, is_firm, matter_operand};
 use clap::ArgMatches;
 use trust_base::{Day, MatterNo};
 

@@ -1,16 +1,17 @@
 -- The rows of sound matters that are kept by number.
-use Rattle.std.proofs.Common.{◌≡◌, ◌≢◌, ℕ, ◌<◌, ◌≤◌, Bool, true, false, List, [], ◌∷◌, ◌++◌, cond, refl, sym, ap, ◌∙◌, subst, arith}
+use Rattle.std.proofs.Common.{◌≡◌, ◌≢◌, ℕ, ◌≤◌, Bool, true, false, List, [], ◌∷◌, ◌++◌, cond, refl, sym, ap, ◌∙◌, subst, arith}
 use Rattle.std.specs.Prelude.{nat_lt, ◌==◌}
 use Rattle.std.specs.List.{AllByRecursion}
 use Rattle.std.proofs.lemmas.Bool.Decides.{nat_tests}
 use Rattle.matter_rows.specs.Rows.{Rows, unopened}
 use Rattle.matter_rows.specs.Sound.{Sound}
 use Rattle.firm_rows.specs.Firm.{pairs, put}
-use Rattle.firm_rows.proofs.Joined.{passing, passing-append, pairs_pass, pairs_fail}
+use Rattle.firm_rows.proofs.Joined.{passing}
 use Rattle.firm_rows.proofs.Kept.{unopened-sound}
 use Rattle.firm_rows.proofs.Order.{put-again, put-other}
 use Rattle.trust_store.specs.declared.plain.KeptMatter.{KeptMatter}
 use Rattle.trust_store.specs.Kept.{rows_kept, joined, IsBefore, Ascends, IsKeptWhole, rows_in}
+use Rattle.trust_store.proofs.KeptMatters.{joined_pass, joined_fail}
 
 -- A matter by its number.
 
@@ -40,14 +41,6 @@ sound_in m ks all = at-each (λ m rows. Sound rows) m ks (λ _. unopened-sound) 
     sounds (k ∷ ks) all = (all.0.sound, sounds ks all.1)
 
 -- The joined rows.
-
-joined_pass : (t : ℕ → Bool) (n : ℕ) (ks : List KeptMatter) → IsBefore n ks → ((x : ℕ) → n < x → t x ≡ true) → passing t (joined ks) ≡ joined ks
-joined_pass t n [] h f = refl
-joined_pass t n (k ∷ ks) h f = passing-append t (pairs k.number (rows_kept k.matter)) (joined ks) ∙ (λ i. pairs_pass t k.number (rows_kept k.matter) (f k.number h.0) i ++ joined_pass t n ks h.1 f i)
-
-joined_fail : (t : ℕ → Bool) (n : ℕ) (ks : List KeptMatter) → IsBefore n ks → ((x : ℕ) → n < x → t x ≡ false) → passing t (joined ks) ≡ []
-joined_fail t n [] h f = refl
-joined_fail t n (k ∷ ks) h f = passing-append t (pairs k.number (rows_kept k.matter)) (joined ks) ∙ (λ i. pairs_fail t k.number (rows_kept k.matter) (f k.number h.0) i ++ joined_fail t n ks h.1 f i)
 
 -- the first matter is put in among the others
 joined-put : (k : KeptMatter) (ks : List KeptMatter) → IsBefore k.number ks → joined (k ∷ ks) ≡ put k.number (rows_kept k.matter) (joined ks)

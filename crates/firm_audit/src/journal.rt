@@ -3,7 +3,7 @@
 ghost use Rattle.std.specs.Prelude.{◌≡◌, true, None, IfOk, IsTrue, is_some};
 ghost use Rattle.std.specs.List.{AllByRecursion};
 ghost use Rattle.matter_rows.specs.Rows.{entry_at};
-ghost use Rattle.trust_store.specs.Kept.{Ascends, IsKeptWhole, AreKeptWhole, rows_in, seek};
+ghost use Rattle.trust_store.specs.Kept.{Ascends, IsKeptWhole, AreKeptWhole, rows_in};
 ghost use Rattle.firm_audit.specs.Audited.{moved_of, IsJournal, IsOwned, IsJournalOf};
 
 use crate::Flaw;
@@ -11,22 +11,14 @@ use crate::matter_journal::matter_flaw;
 use firm_rows::{Movement, Owner};
 use std::alloc::{AllocError, Global};
 use trust_base::{EntryNo, MatterNo};
-use trust_store::KeptMatter;
-
-// The index of a matter, or where it would be inserted.
-fn search(matters: &[KeptMatter], number: MatterNo) -> Result<usize, usize>
-    requires { Ascends matters.now }
-    ensures { result ≡ seek number matters.now }
-{
-    matters.binary_search_by_key(&number.get(), |k| k.number.get())
-}
+use trust_store::{KeptMatter, matter_place};
 
 // Whether the matter has an entry with this number.
 fn has_entry(matters: &[KeptMatter], matter: MatterNo, entry: EntryNo) -> bool
     requires { Ascends matters.now }
     ensures { IsTrue result → is_some (entry_at (rows_in matter matters.now).entries entry) ≡ true }
 {
-    match search(matters, matter) {
+    match matter_place(matters, matter) {
         Ok(place) => entry.get() as usize <= matters[place].matter.kept().len(),
         Err(_) => false,
     }

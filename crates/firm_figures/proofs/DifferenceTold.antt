@@ -22,6 +22,7 @@ use Rattle.firm_rows.specs.Sums.{sum_of}
 use Rattle.firm_rows.specs.Firm.{Row, Firm, of}
 use Rattle.firm_rows.specs.FirmSound.{FirmSound}
 use Rattle.firm_figures.specs.Figures.{entries_in, is_in_transit, is_outstanding, lines_of, is_event_by, is_moved_by, is_dated_by, is_matched_by, is_early, transit, outstanding, journal, ledgers, matched, early, AlwaysAgree}
+use Rattle.firm_figures.specs.Reconciling.{transit_share, outstanding_share}
 use Rattle.firm_rows.proofs.Sums.{sum-filter, sum-flat, sum-agree}
 use Rattle.firm_rows.proofs.Agree.{of_row, rows-entries, all-entries, agree}
 
@@ -29,12 +30,6 @@ use Rattle.firm_rows.proofs.Agree.{of_row, rows-entries, all-entries, agree}
 module _ (p : ℕ) where
   abbrev pub event_by : Event → ℤ
   event_by e = cond (is_event_by p e) e.amount (pos 0)
-
-  abbrev pub transit_share : Entry → ℤ
-  transit_share e = cond (is_in_transit p e) (pos (entry_amount e)) (pos 0)
-
-  abbrev pub outstanding_share : Entry → ℤ
-  outstanding_share e = cond (is_outstanding p e) (pos (entry_amount e)) (pos 0)
 
   abbrev pub ledger_by : Entry → ℤ
   ledger_by e = sum_of event_by (events_of e)
@@ -47,10 +42,10 @@ module _ (p : ℕ) where
 
   -- Each figure is a sum of shares.
 
-  pub transit-shares : (firm : Firm) → transit p firm ≡ sum_of transit_share (entries_in firm.rows)
+  pub transit-shares : (firm : Firm) → transit p firm ≡ sum_of (transit_share p) (entries_in firm.rows)
   transit-shares firm = sum-filter (is_in_transit p) (λ e. pos (entry_amount e)) (entries_in firm.rows)
 
-  pub outstanding-shares : (firm : Firm) → outstanding p firm ≡ sum_of outstanding_share (entries_in firm.rows)
+  pub outstanding-shares : (firm : Firm) → outstanding p firm ≡ sum_of (outstanding_share p) (entries_in firm.rows)
   outstanding-shares firm = sum-filter (is_outstanding p) (λ e. pos (entry_amount e)) (entries_in firm.rows)
 
   pub ledger-shares : (firm : Firm) → sum_of (λ e. e.amount) (filter (is_event_by p) (flat_map events_of (entries_in firm.rows))) ≡ sum_of ledger_by (entries_in firm.rows)
@@ -75,37 +70,20 @@ module _ (p : ℕ) where
   -- One entry: what waits, less what the books have, is what came early, less what the bank had.
 
   abbrev untold : Entry → ℤ
-  untold e = ((transit_share e -ℤ outstanding_share e) -ℤ ledger_by e) +ℤ (matched_by e -ℤ early_by e)
+  untold e = ((transit_share p e -ℤ outstanding_share p e) -ℤ ledger_by e) +ℤ (matched_by e -ℤ early_by e)
 
   held : (b : Bool) (z : ℤ) → ((cond (b && true) z (pos 0) -ℤ pos 0) -ℤ (cond b z (pos 0) +ℤ pos 0)) +ℤ (pos 0 -ℤ pos 0) ≡ pos 0
-  held true z = omega (arith, ints)
-  held false z = omega (arith, ints)
+  held b z = grind (arith, ints)
 
   cleared : (b k : Bool) (z : ℤ) → ((cond (b && not k) z (pos 0) -ℤ pos 0) -ℤ (cond b z (pos 0) +ℤ pos 0)) +ℤ ((cond k z (pos 0) +ℤ pos 0) -ℤ (cond (k && not b) z (pos 0) +ℤ pos 0)) ≡ pos 0
-  cleared true true z = omega (arith, ints)
-  cleared true false z = omega (arith, ints)
-  cleared false true z = omega (arith, ints)
-  cleared false false z = omega (arith, ints)
+  cleared b k z = grind (arith, ints)
 
   cancelled : (b c : Bool) (z : ℤ) → (c ≡ true → b ≡ true) → ((cond (b && (not c && true)) z (pos 0) -ℤ pos 0) -ℤ (cond b z (pos 0) +ℤ (cond c (pos 0 -ℤ z) (pos 0) +ℤ pos 0))) +ℤ (pos 0 -ℤ pos 0) ≡ pos 0
-  cancelled true true z h = omega (arith, ints)
-  cancelled true false z h = omega (arith, ints)
-  cancelled false true z h = absurd (let no = h refl in (cc))
-  cancelled false false z h = omega (arith, ints)
+  cancelled b c z h = grind (arith, ints)
 
   returned : (b k t u : Bool) (z : ℤ) → (u ≡ true → b ≡ true) → (u ≡ true → t ≡ true) → ((cond (b && not k) z (pos 0) -ℤ pos 0) -ℤ (cond b z (pos 0) +ℤ (cond u (pos 0 -ℤ z) (pos 0) +ℤ pos 0))) +ℤ ((cond k z (pos 0) +ℤ (cond t (pos 0 -ℤ z) (pos 0) +ℤ pos 0)) -ℤ (cond (k && not b) z (pos 0) +ℤ (cond (t && not u) (pos 0 -ℤ z) (pos 0) +ℤ pos 0))) ≡ pos 0
-  returned true true true true z booked back = omega (arith, ints)
-  returned true true true false z booked back = omega (arith, ints)
-  returned true true false false z booked back = omega (arith, ints)
-  returned true false true true z booked back = omega (arith, ints)
-  returned true false true false z booked back = omega (arith, ints)
-  returned true false false false z booked back = omega (arith, ints)
-  returned false true true false z booked back = omega (arith, ints)
-  returned false true false false z booked back = omega (arith, ints)
-  returned false false true false z booked back = omega (arith, ints)
-  returned false false false false z booked back = omega (arith, ints)
-  returned true k false true z booked back = absurd (let none = back refl in (cc))
-  returned false k t true z booked back = absurd (let none = booked refl in (cc))
+  returned b k t true z booked back = grind (arith, ints)
+  returned b k t false z booked back = grind (arith, ints)
 
   -- a day that is by p has those before it by p
   by-before : (a b : ℕ) → a ≤ b → nat_le b p ≡ true → nat_le a p ≡ true
@@ -119,20 +97,13 @@ module _ (p : ℕ) where
   deposit-told d (deposit.Returned r) up = returned (nat_le d.book p) (nat_le r.clearing.bank_day p) (nat_le r.returning.bank_day p) (nat_le r.undone p) (pos d.amount) (by-before d.book r.undone up.0.0) (by-before r.returning.bank_day r.undone up.1)
 
   issued : (b : Bool) (z : ℤ) → ((pos 0 -ℤ cond (b && true) z (pos 0)) -ℤ (cond b (pos 0 -ℤ z) (pos 0) +ℤ pos 0)) +ℤ (pos 0 -ℤ pos 0) ≡ pos 0
-  issued true z = omega (arith, ints)
-  issued false z = omega (arith, ints)
+  issued b z = grind (arith, ints)
 
   paid : (b k : Bool) (z : ℤ) → ((pos 0 -ℤ cond (b && not k) z (pos 0)) -ℤ (cond b (pos 0 -ℤ z) (pos 0) +ℤ pos 0)) +ℤ ((cond k (pos 0 -ℤ z) (pos 0) +ℤ pos 0) -ℤ (cond (k && not b) (pos 0 -ℤ z) (pos 0) +ℤ pos 0)) ≡ pos 0
-  paid true true z = omega (arith, ints)
-  paid true false z = omega (arith, ints)
-  paid false true z = omega (arith, ints)
-  paid false false z = omega (arith, ints)
+  paid b k z = grind (arith, ints)
 
   voided : (b c : Bool) (z : ℤ) → (c ≡ true → b ≡ true) → ((pos 0 -ℤ cond (b && (not c && true)) z (pos 0)) -ℤ (cond b (pos 0 -ℤ z) (pos 0) +ℤ (cond c z (pos 0) +ℤ pos 0))) +ℤ (pos 0 -ℤ pos 0) ≡ pos 0
-  voided true true z h = omega (arith, ints)
-  voided true false z h = omega (arith, ints)
-  voided false true z h = absurd (let no = h refl in (cc))
-  voided false false z h = omega (arith, ints)
+  voided b c z h = grind (arith, ints)
 
   payment-told : (y : Payment) (s : PaymentState) → AreRising y.book (payment_days s) → untold (entry.Payment (record y { state = s })) ≡ pos 0
   unfolding events_of
@@ -168,7 +139,7 @@ module _ (p : ℕ) where
       all-entries untold firm.rows
       ∙ sum-agree (λ q. q.0) (λ q. of_row untold q.1) firm.rows (λ (q : ℕ × Row). q.0) (λ q. of_row untold q.1) [] (λ m. rows-entries untold m firm.rows ∙ entries-told (of m firm).entries (rising (of m firm) (sound.matters m)))
 
-  parts : (es : List Entry) → sum_of untold es ≡ ((sum_of transit_share es -ℤ sum_of outstanding_share es) -ℤ sum_of ledger_by es) +ℤ (sum_of matched_by es -ℤ sum_of early_by es)
+  parts : (es : List Entry) → sum_of untold es ≡ ((sum_of (transit_share p) es -ℤ sum_of (outstanding_share p) es) -ℤ sum_of ledger_by es) +ℤ (sum_of matched_by es -ℤ sum_of early_by es)
   parts [] = refl
   parts (e ∷ es) = omega (arith, ints, parts es)
 

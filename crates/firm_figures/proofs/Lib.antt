@@ -1,6 +1,5 @@
 pub mod DifferenceTold
 pub mod DoubleRows
-pub mod Handed
 pub mod Listing
 pub mod OpeningRows
 pub mod PurgedFigures

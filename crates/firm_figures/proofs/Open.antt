@@ -10,6 +10,7 @@ use Rattle.matter_rows.specs.Rows.{Rows}
 use Rattle.matter_rows.specs.Balances.{ledger}
 use Rattle.firm_rows.specs.Firm.{Row, HeadRow, SeatRow, EntryRow, Firm, of, pairs, head_pairs, seat_pairs, entry_pairs}
 use Rattle.firm_rows.proofs.Joined.{passing, own-put}
+use Rattle.firm_rows.proofs.Ordered.{all-map}
 use Rattle.firm_figures.specs.declared.trial_sink.TrialLine.{TrialLine}
 use Rattle.firm_figures.specs.Lists.{open_matters, is_open, ListedAreOpen}
 
@@ -50,8 +51,7 @@ itself : (m : ℕ) → (m == m) ≡ true
 itself m = grind (arith, nat_tests)
 
 or-none : (b c : Bool) → c ≡ false → (b || c) ≡ b
-or-none true c is = refl
-or-none false c is = is
+or-none b c is = grind arith
 
 pairs-open : (m : ℕ) (rows : Rows) → some_open m (pairs m rows) ≡ is_open rows.head
 pairs-open m rows = cases rows.head (seats-open m m rows.seats (entry_pairs m 1 rows.entries) (entries-open m m 1 rows.entries))
@@ -61,17 +61,11 @@ pairs-open m rows = cases rows.head (seats-open m m rows.seats (entry_pairs m 1 
     cases (Some h) none = rw (itself m) (or-none (is_none h.closed) _ none)
 
 more-open : (b c : Bool) (d : Bool) → d ≡ true → cond b (c || d) d ≡ true
-more-open true true d is = refl
-more-open true false d is = is
-more-open false c d is = is
-
-all-more : (P Q : ℕ → Type 0) → ((k : ℕ) → P k → Q k) → (ks : List ℕ) → AllByRecursion P ks → AllByRecursion Q ks
-all-more P Q f [] all = tt
-all-more P Q f (k ∷ ks) all = (f k all.0, all-more P Q f ks all.1)
+more-open b c d is = grind arith
 
 listed : (xs : List (ℕ × Row)) → AllByRecursion (λ k. some_open k xs ≡ true) (open_matters xs)
 listed [] = tt
-listed ((m, HeadRow h) ∷ xs) = cases (is_none h.closed) refl (all-more (λ k. some_open k xs ≡ true) (λ k. some_open k ((m, HeadRow h) ∷ xs) ≡ true) (λ k is. more-open (m == k) (is_none h.closed) (some_open k xs) is) (open_matters xs) (listed xs))
+listed ((m, HeadRow h) ∷ xs) = cases (is_none h.closed) refl (all-map (λ k. some_open k xs ≡ true) (λ k. some_open k ((m, HeadRow h) ∷ xs) ≡ true) (open_matters xs) (λ k is. more-open (m == k) (is_none h.closed) (some_open k xs) is) (listed xs))
   where
     cases : (b : Bool) → is_none h.closed ≡ b → AllByRecursion (λ k. some_open k ((m, HeadRow h) ∷ xs) ≡ true) (open_matters xs) → AllByRecursion (λ k. some_open k ((m, HeadRow h) ∷ xs) ≡ true) (cond b (m ∷ open_matters xs) (open_matters xs))
     cases true is more = ((rw (itself m) (rw is refl)), more)
@@ -89,4 +83,4 @@ listed-open firm order =
     sym (own-open m firm.rows)
     ∙ (ap (some_open m) (ap (passing (λ x. x == m)) (sym (order.rows m)) ∙ own-put m (of m firm) firm.rows)
     ∙ pairs-open m (of m firm)) in
-    lines-open firm (open_matters firm.rows) (all-more (λ k. some_open k firm.rows ≡ true) (λ k. is_open (of k firm).head ≡ true) (λ k is. sym (same k) ∙ is) (open_matters firm.rows) (listed firm.rows))
+    lines-open firm (open_matters firm.rows) (all-map (λ k. some_open k firm.rows ≡ true) (λ k. is_open (of k firm).head ≡ true) (open_matters firm.rows) (λ k is. sym (same k) ∙ is) (listed firm.rows))

@@ -7,12 +7,13 @@ use Rattle.std.proofs.lemmas.Bool.Decides.{nat_tests}
 use Rattle.std.specs.declared.cmp.Ordering.TheVariants.{Less, Equal, Greater}
 use Rattle.std.specs.Ordering.{nat_cmp, ordering_then}
 use Rattle.std.specs.Prelude.{◌==◌}
-use Rattle.std.proofs.lemmas.List.Elements.{All-from_recursion, recursion_from_All}
+use Rattle.std.proofs.lemmas.List.Elements.{All-from_recursion, recursion_from_All, filter_passes}
 use Rattle.std.proofs.lemmas.List.Kept.{IsStrictlySortedBy-filter}
 use Rattle.firm_rows.specs.declared.ledger.StatementRow.{StatementRow}
 use Rattle.firm_rows.specs.declared.ledger.BalanceKind.{BalanceKind}
 use Rattle.firm_rows.specs.declared.ledger.BalanceKind.TheVariants as kind
 use Rattle.firm_rows.specs.FirmLines.{balance_cmp, place_of}
+use Rattle.firm_rows.proofs.Ordered.{all-map}
 use Rattle.firm_figures.specs.Figures.{is_closing}
 use Rattle.firm_figures.specs.Openings.{is_closing_before, latest_before, after_closing, is_opening_by, opening_line, BalancesKept, no_balances, with_balance_kept, AreClosings, openings_after, openings_kept, OpeningsKept}
 
@@ -46,8 +47,7 @@ latest-of day found (r ∷ rows) p le = cases (is_closing r.kind) refl (nat_le r
     cases false kind b on rest = rest found
 
 and-right : (a b : Bool) → (a && b) ≡ true → b ≡ true
-and-right true b is = is
-and-right false b is = absurd (cc)
+and-right a b is = grind arith
 
 -- each opening by the day, after the closings that are kept
 lines-of : (p : ℕ) (all rows : List StatementRow) → openings_after (filter (is_closing_by p) all) (filter (is_opening_by p) rows) ≡ flat_map (opening_line all p) rows
@@ -68,19 +68,13 @@ recursion_from_get P [] d f = tt
 recursion_from_get P (r ∷ rows) d f = (f 0 (omega arith), recursion_from_get P rows d (λ k h. f (suc k) (omega (arith, h))))
 
 all-filter : (P : StatementRow → Type 0) (q : StatementRow → Bool) (rows : List StatementRow) → ((r : StatementRow) → q r ≡ true → P r) → AllByRecursion P (filter q rows)
-all-filter P q [] f = tt
-all-filter P q (r ∷ rows) f = cases (q r) refl (all-filter P q rows f)
-  where
-    cases : (b : Bool) → q r ≡ b → AllByRecursion P (filter q rows) → AllByRecursion P (cond b (r ∷ filter q rows) (filter q rows))
-    cases true is more = (f r is, more)
-    cases false is more = more
+all-filter P q rows f = all-map (λ r. q r ≡ true) P (filter q rows) f (recursion_from_All _ _ (filter_passes q rows))
 
 are-closings : (p : ℕ) (rows : List StatementRow) → AllByRecursion (λ (r : StatementRow). is_closing r.kind ≡ true) (filter (is_closing_by p) rows)
 are-closings p rows = all-filter (λ (r : StatementRow). is_closing r.kind ≡ true) (is_closing_by p) rows (λ r is. and-left (is_closing r.kind) (nat_le r.day p) is)
   where
     and-left : (a b : Bool) → (a && b) ≡ true → a ≡ true
-    and-left true b is = refl
-    and-left false b is = is
+    and-left a b is = grind arith
 
 closings-day : (a b : StatementRow) → is_closing a.kind ≡ true → is_closing b.kind ≡ true → balance_cmp a b ≡ Less → a.day ≤ b.day
 closings-day a b one other less = kinds a.kind b.kind one other less

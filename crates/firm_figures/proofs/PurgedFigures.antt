@@ -1,6 +1,6 @@
 -- Purging changes no figure of a day that is not before the close.
-use Rattle.std.proofs.Common.{◌≡◌, ◌≢◌, ℕ, ◌≤◌, Bool, true, false, List, [], ◌∷◌, Option, Some, None, refl, sym, ap, ◌∙◌, subst, arith}
-use Rattle.std.specs.Prelude.{ℤ, pos, ◌+ℤ◌, ◌-ℤ◌, ◌≤ℤ◌, ◌==◌, nat_le}
+use Rattle.std.proofs.Common.{◌≡◌, ℕ, ◌≤◌, true, List, [], ◌∷◌, Option, Some, None, refl, sym, ap, ◌∙◌, subst, arith}
+use Rattle.std.specs.Prelude.{ℤ, pos, ◌+ℤ◌, ◌-ℤ◌, ◌≤ℤ◌, nat_le}
 use Rattle.std.specs.List.{AllByRecursion}
 use Rattle.std.specs.Option.{option_map}
 use Rattle.std.proofs.lemmas.Int.{ints}
@@ -31,8 +31,9 @@ use Rattle.firm_rows.specs.Firm.{cleared_by, after_change, after_edit}
 use Rattle.firm_figures.specs.Purged.{IsClosedBy, PurgeChangesNoFigure}
 use Rattle.firm_rows.proofs.Sums.{sum-agree}
 use Rattle.firm_rows.proofs.Agree.{of_row, rows-entries, all-entries}
-use Rattle.firm_figures.proofs.DifferenceTold.{transit_share, outstanding_share, ledger_by, matched_by, early_by, transit-shares, outstanding-shares, ledger-shares, matched-shares, early-shares, journal-ledgers}
-use Rattle.firm_rows.proofs.Changed.{of-cleared_by, of_other-cleared_by}
+use Rattle.firm_figures.specs.Reconciling.{transit_share, outstanding_share}
+use Rattle.firm_figures.proofs.DifferenceTold.{ledger_by, matched_by, early_by, transit-shares, outstanding-shares, ledger-shares, matched-shares, early-shares, journal-ledgers}
+use Rattle.firm_rows.proofs.Changed.{each-matter, of-cleared_by, of_other-cleared_by}
 use Rattle.firm_rows.proofs.Clearing.{IsClear, sound-cleared}
 
 -- A sum over all entries where those of one matter add nothing, before and after.
@@ -41,16 +42,10 @@ module _ (g : Entry → ℤ) (m : ℕ) (rows : Rows) (firm : Firm) (empty : rows
   cleared = cleared_by m rows firm
 
   at-each : (k : ℕ) → sum_of g (of k cleared).entries ≡ sum_of g (of k firm).entries
-  at-each k = cases (k == m) refl
-    where
-      cases : (b : Bool) → (k == m) ≡ b → sum_of g (of k cleared).entries ≡ sum_of g (of k firm).entries
-      cases true same_test =
-          let same : k ≡ m = grind (arith, nat_tests) in
-          let here : sum_of g (of m cleared).entries ≡ sum_of g (of m firm).entries = ap (λ (r : Rows). sum_of g r.entries) (of-cleared_by m rows firm) ∙ (ap (sum_of g) empty ∙ sym nothing) in
-          subst (λ j. sum_of g (of j cleared).entries ≡ sum_of g (of j firm).entries) (sym same) here
-      cases false other_test =
-          let apart : k ≢ m = grind (arith, nat_tests) in
-          ap (λ (r : Rows). sum_of g r.entries) (of_other-cleared_by k m rows firm apart)
+  at-each =
+      each-matter (λ k. sum_of g (of k cleared).entries ≡ sum_of g (of k firm).entries) m
+      (ap (λ (r : Rows). sum_of g r.entries) (of-cleared_by m rows firm) ∙ (ap (sum_of g) empty ∙ sym nothing))
+      (λ k apart. ap (λ (r : Rows). sum_of g r.entries) (of_other-cleared_by k m rows firm apart))
 
   pub sum-cleared : sum_of g (entries_in cleared.rows) ≡ sum_of g (entries_in firm.rows)
   sum-cleared =

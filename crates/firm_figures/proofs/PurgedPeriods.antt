@@ -17,12 +17,10 @@ use Rattle.firm_figures.proofs.PurgedFigures.{purge-changes-no_figure}
 use Rattle.firm_figures.proofs.PurgedLists.{purge-changes-no_list}
 
 or-first : (a b : Bool) → (a || b) ≡ false → a ≡ false
-or-first true b is = is
-or-first false b is = refl
+or-first a b is = grind arith
 
 or-second : (a b : Bool) → (a || b) ≡ false → b ≡ false
-or-second true b is = absurd (cc)
-or-second false b is = is
+or-second a b is = grind arith
 
 -- of the rows that are put, too, none passes
 none-put : (t : ℕ × Row → Bool) (m : ℕ) (rows : Rows) (joined : List (ℕ × Row)) → list_any t (put m rows joined) ≡ false → list_any t (head_pairs m rows.head) ≡ false

@@ -1,5 +1,5 @@
 -- What a reconciliation's sink keeps of the rows of a firm.
-use Rattle.std.proofs.Common.{◌≡◌, ℕ, Bool, true, false, List, [], ◌∷◌, fold, Option, Some, None, refl, sym, ap, ◌∙◌, subst}
+use Rattle.std.proofs.Common.{arith, ◌≡◌, ℕ, Bool, true, false, List, [], ◌∷◌, fold, Option, Some, None, refl, sym, ap, ◌∙◌, subst}
 use Rattle.std.specs.Prelude.{◌||◌}
 use Rattle.std.specs.List.{list_any}
 use Rattle.std.specs.Option.{option_map}
@@ -80,18 +80,14 @@ purged-kept s [] = refl
 purged-kept s (x ∷ xs) = purged-kept (with_row_purged s x) xs ∙ turned (list_any (is_purged_after s.day) xs) (is_purged_after s.day x) s.purged
   where
     turned : (a b c : Bool) → (a || (b || c)) ≡ ((b || a) || c)
-    turned true true c = refl
-    turned true false c = refl
-    turned false true c = refl
-    turned false false c = refl
+    turned a b c = grind arith
 
 period-kept : (p : ℕ) (firm : Firm) → (fold with_row_purged (whole_period p) firm.rows).purged ≡ is_period_purged p firm
 unfolding is_period_purged
 period-kept p firm = purged-kept (whole_period p) firm.rows ∙ plain (list_any (is_purged_after p) firm.rows)
   where
     plain : (a : Bool) → (a || false) ≡ a
-    plain true = refl
-    plain false = refl
+    plain a = grind arith
 
 pub reconciliation-kept : ReconciliationIsKept
 reconciliation-kept p firm sound is = record {

@@ -29,28 +29,19 @@ use Rattle.firm_figures.proofs.DifferenceTold.{ledger_by, matched_by, early_by, 
 -- An entry's shares are those of its events and lines.
 module _ (p : ℕ) where
   once : (b : Bool) (z : ℤ) → cond b z (pos 0) -ℤ pos 0 ≡ cond b z (pos 0) +ℤ pos 0
-  once true z = omega (arith, ints)
-  once false z = omega (arith, ints)
+  once b z = omega (arith, ints)
 
   twice : (b c : Bool) (z : ℤ) → cond b z (pos 0) -ℤ cond c z (pos 0) ≡ cond b z (pos 0) +ℤ (cond c (pos 0 -ℤ z) (pos 0) +ℤ pos 0)
-  twice true true z = omega (arith, ints)
-  twice true false z = omega (arith, ints)
-  twice false true z = omega (arith, ints)
-  twice false false z = omega (arith, ints)
+  twice b c z = grind (arith, ints)
 
   back : (b c : Bool) (z : ℤ) → cond b (pos 0 -ℤ z) (pos 0) -ℤ cond c (pos 0 -ℤ z) (pos 0) ≡ cond b (pos 0 -ℤ z) (pos 0) +ℤ (cond c z (pos 0) +ℤ pos 0)
-  back true true z = omega (arith, ints)
-  back true false z = omega (arith, ints)
-  back false true z = omega (arith, ints)
-  back false false z = omega (arith, ints)
+  back b c z = grind (arith, ints)
 
   undoing : (b c : Bool) (z : ℤ) → cond b z (pos 0) -ℤ cond (c || false) z (pos 0) ≡ cond b z (pos 0) +ℤ (cond c (pos 0 -ℤ z) (pos 0) +ℤ pos 0)
-  undoing b true z = twice b true z
-  undoing b false z = twice b false z
+  undoing b c z = grind (arith, ints)
 
   voiding : (b c : Bool) (z : ℤ) → cond b (pos 0 -ℤ z) (pos 0) -ℤ cond (c || false) (pos 0 -ℤ z) (pos 0) ≡ cond b (pos 0 -ℤ z) (pos 0) +ℤ (cond c z (pos 0) +ℤ pos 0)
-  voiding b true z = back b true z
-  voiding b false z = back b false z
+  voiding b c z = grind (arith, ints)
 
   deposit-ledger : (d : Deposit) (s : DepositState) → ledger_share_by p (entry.Deposit (record d { state = s })) ≡ ledger_by p (entry.Deposit (record d { state = s }))
   unfolding events_of

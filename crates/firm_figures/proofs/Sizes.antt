@@ -20,6 +20,7 @@ use Rattle.firm_rows.specs.Firm.{Row, HeadRow, SeatRow, EntryRow, Firm}
 use Rattle.firm_figures.specs.Figures.{entries_in, is_by, booked_on, undone_on, returned_on, banked_on, back_on, is_banked_early, is_back_early, is_in_transit, is_outstanding, is_dated_by, is_counted, own_by, exceptions, is_closing_of, closing_on}
 use Rattle.firm_figures.specs.Reconciling.{transit_share, outstanding_share, ledger_share_by, matched_share, early_share, FiguresFit, FiguresTold}
 use Rattle.firm_rows.proofs.Sums.{sum-same, sum-filter}
+use Rattle.firm_rows.proofs.Ordered.{all-map}
 use Rattle.firm_figures.proofs.DifferenceTold.{ledger_by, matched_by, early_by, transit-shares, outstanding-shares, ledger-shares, matched-shares, early-shares, journal-ledgers}
 use Rattle.firm_figures.proofs.Reconciling.{entry-ledger, entry-matched, entry-early, figures-kept}
 
@@ -40,10 +41,6 @@ sum-within f (x ∷ xs) all =
 
 pub wider : (n m : ℕ) (z : ℤ) → n ≤ m → IsWithin n z → IsWithin m z
 wider n m z le is = record { low = omega (arith, ints, is.low); high = omega (arith, ints, is.high) }
-
-pub all-from : {A : Type 0} (P Q : A → Type 0) (xs : List A) → ((x : A) → P x → Q x) → AllByRecursion P xs → AllByRecursion Q xs
-all-from P Q [] f all = tt
-all-from P Q (x ∷ xs) f all = (f x all.0, all-from P Q xs f all.1)
 
 pub tested : (n : ℕ) (b : Bool) (z : ℤ) → IsWithin n z → IsWithin n (cond b z (pos 0))
 tested n true z is = is
@@ -94,7 +91,7 @@ entries-within : (firm : Firm) → IsCountable firm → (f : Entry → ℤ) → 
 entries-within firm is f each =
     let few = fewer firm.rows in
     let most = is.rows.few in
-    wider (length (entries_in firm.rows) * MOST) WHOLE _ (omega arith) (sum-within f (entries_in firm.rows) (all-from (λ e. IsAmount (entry_amount e)) (λ e. IsWithin MOST (f e)) (entries_in firm.rows) each (amounts firm.rows is.rows.ranged)))
+    wider (length (entries_in firm.rows) * MOST) WHOLE _ (omega arith) (sum-within f (entries_in firm.rows) (all-map (λ e. IsAmount (entry_amount e)) (λ e. IsWithin MOST (f e)) (entries_in firm.rows) each (amounts firm.rows is.rows.ranged)))
 
 pub fits : (z : ℤ) → IsWithin 170_141_183_460_469_231_731_687_303_715_884_105_727 z → FitsSigned w128 z
 fits (pos n) is = fits_signed_from_abs w128 (pos n) (omega (arith, ints, is.high))
@@ -112,8 +109,8 @@ figures-fit p closing firm sound is bank =
     let y = subst (IsWithin WHOLE) (sum-same (early_share p) (early_by p) (entries_in firm.rows) (entry-early p) ∙ sym (early-shares p firm)) (entries-within firm is (early_share p) (λ e a. both-within _ _ (tested CENTS (is_banked_early p e) (cleared_amount e) (cleared-within e a)) (tested CENTS (is_back_early p e) (cleared_amount e) (cleared-within e a)))) in
     let few_lines = is.firm_lines.few in
     let few_exceptions = is.exceptions.few in
-    let w : IsWithin WHOLE (own_by p firm) = subst (IsWithin WHOLE) (sym (sum-filter (is_dated_by p) (λ (l : FirmLine). l.amount) firm.firm_lines)) (wider (length firm.firm_lines * MOST) WHOLE _ (omega arith) (sum-within (λ (l : FirmLine). cond (is_dated_by p l) l.amount (pos 0)) firm.firm_lines (all-from (λ (l : FirmLine). IsBankAmount l.amount) _ firm.firm_lines (λ l b. tested MOST (is_dated_by p l) l.amount (bank-within l.amount b)) is.firm_lines.ranged))) in
-    let x : IsWithin WHOLE (exceptions p firm) = subst (IsWithin WHOLE) (sym (sum-filter (is_counted p) (λ (l : Line). l.amount) firm.exceptions)) (wider (length firm.exceptions * MOST) WHOLE _ (omega arith) (sum-within (λ (l : Line). cond (is_counted p l) l.amount (pos 0)) firm.exceptions (all-from (λ (l : Line). IsBankAmount l.amount) _ firm.exceptions (λ l b. tested MOST (is_counted p l) l.amount (bank-within l.amount b)) is.exceptions.ranged))) in
+    let w : IsWithin WHOLE (own_by p firm) = subst (IsWithin WHOLE) (sym (sum-filter (is_dated_by p) (λ (l : FirmLine). l.amount) firm.firm_lines)) (wider (length firm.firm_lines * MOST) WHOLE _ (omega arith) (sum-within (λ (l : FirmLine). cond (is_dated_by p l) l.amount (pos 0)) firm.firm_lines (all-map (λ (l : FirmLine). IsBankAmount l.amount) _ firm.firm_lines (λ l b. tested MOST (is_dated_by p l) l.amount (bank-within l.amount b)) is.firm_lines.ranged))) in
+    let x : IsWithin WHOLE (exceptions p firm) = subst (IsWithin WHOLE) (sym (sum-filter (is_counted p) (λ (l : Line). l.amount) firm.exceptions)) (wider (length firm.exceptions * MOST) WHOLE _ (omega arith) (sum-within (λ (l : Line). cond (is_counted p l) l.amount (pos 0)) firm.exceptions (all-map (λ (l : Line). IsBankAmount l.amount) _ firm.exceptions (λ l b. tested MOST (is_counted p l) l.amount (bank-within l.amount b)) is.exceptions.ranged))) in
     let c = bank-within closing bank in
     let same = journal-ledgers p firm sound in
     record {

@@ -2,21 +2,19 @@
 use Rattle.std.proofs.Common.{◌≡◌, ℕ, zero, suc, ◌+◌, ◌-◌, ◌<◌, ◌≤◌, Bool, true, false, not, cond, List, [], ◌∷◌, length, get_or, refl, sym, ap, ◌∙◌, subst, arith}
 use Rattle.std.specs.Prelude.{◌&&◌, nat_lt}
 use Rattle.std.proofs.lemmas.Bool.Decides.{nat_tests}
+use Rattle.std.proofs.lemmas.Grind.{common_steps}
 use Rattle.std.specs.Cmp.{IsStrictWeakOrder}
 use Rattle.std.specs.List.{AllByRecursion, filter}
 use Rattle.std.specs.List.Sorted.{IsSortedBy, IsStableBy, ties}
 use Rattle.std.proofs.lemmas.List.Elements.{recursion_from_All}
 use Rattle.std.proofs.lemmas.List.Sorted.{sorted_far}
+use Rattle.firm_rows.proofs.Ordered.{all-map}
 use Rattle.firm_figures.specs.Doubles.{put_in_order, in_order}
 
 module _ {X : Type 0} (lt : X → X → Bool) (o : IsStrictWeakOrder lt) where
   abbrev Up : List X → Type 0
   Up [] = Unit {0}
   Up (x ∷ xs) = AllByRecursion (λ y. lt y x ≡ false) xs × Up xs
-
-  all-more : (P Q : X → Type 0) → ((x : X) → P x → Q x) → (xs : List X) → AllByRecursion P xs → AllByRecursion Q xs
-  all-more P Q f [] all = tt
-  all-more P Q f (x ∷ xs) all = (f x all.0, all-more P Q f xs all.1)
 
   itself : (x : X) → lt x x ≡ false
   itself x = cases (lt x x) refl
@@ -42,16 +40,14 @@ module _ {X : Type 0} (lt : X → X → Bool) (o : IsStrictWeakOrder lt) where
     where
       cases : (b : Bool) → lt y x ≡ b → Up (put_in_order lt x ys) → Up (cond b (y ∷ put_in_order lt x ys) (x ∷ y ∷ ys))
       cases true is more = (put-all (λ w. lt w y ≡ false) x ys (o.one_way y x is) up.0, more)
-      cases false is more = ((is, all-more (λ w. lt w y ≡ false) (λ w. lt w x ≡ false) (λ w h. o.chain w y x h is) ys up.0), up)
+      cases false is more = ((is, all-map (λ w. lt w y ≡ false) (λ w. lt w x ≡ false) ys (λ w h. o.chain w y x h is) up.0), up)
 
   in_order-up : (xs : List X) → Up (in_order lt xs)
   in_order-up [] = tt
   in_order-up (x ∷ xs) = put-up x (in_order lt xs) (in_order-up xs)
 
   apart : (a b : Bool) → (not a && not b) ≡ true → (a ≡ false) × (b ≡ false)
-  apart false false is = (refl, refl)
-  apart true b is = absurd (cc)
-  apart false true is = absurd (cc)
+  apart a b is = (grind arith, grind arith)
 
   -- two that tie with one tie with one another
   never : (k x y : X) → ties lt k x ≡ true → ties lt k y ≡ true → lt y x ≡ false
@@ -129,8 +125,7 @@ module _ {X : Type 0} (p : X → Bool) where
   count-none (x ∷ xs) d none = rw (none 0 (omega arith)) (count-none xs d (λ j h. none (suc j) (omega (arith, h))))
 
   more-one : (b : Bool) (x : X) (xs : List X) (n : ℕ) → n ≤ length xs → n ≤ length (cond b (x ∷ xs) xs)
-  more-one true x xs n le = omega (arith, le)
-  more-one false x xs n le = le
+  more-one b x xs n le = grind arith
 
   count-some : (xs : List X) (i : ℕ) (d : X) → i < length xs → p (get_or xs i d) ≡ true → 1 ≤ length (filter p xs)
   count-some [] i d h is = absurd (omega (arith, h))
@@ -148,29 +143,23 @@ module _ {X : Type 0} (p : X → Bool) where
   count-one (x ∷ xs) zero d h none = cases (p x) (count-none xs d (λ j h. none (suc j) (omega (arith, h)) (λ e. omega (arith, e))))
     where
       cases : (b : Bool) → length (filter p xs) ≡ 0 → length (cond b (x ∷ filter p xs) (filter p xs)) ≤ 1
-      cases true more = omega (arith, more)
-      cases false more = omega (arith, more)
+      cases b more = grind arith
   count-one (x ∷ xs) (suc i) d h none = rw (none 0 (omega arith) (λ e. omega (arith, e))) (count-one xs i d (omega (arith, h)) (λ j l n. none (suc j) (omega (arith, l)) (λ e. n (omega (arith, e)))))
 
   -- a list in order has as many
+  put-counted : (b c d : Bool) (x y : X) (zs ys : List X) → p x ≡ c → p y ≡ d → length (filter p zs) ≡ length (cond c (x ∷ filter p ys) (filter p ys)) → length (filter p (cond b (y ∷ zs) (x ∷ y ∷ ys))) ≡ length (cond c (x ∷ cond d (y ∷ filter p ys) (filter p ys)) (cond d (y ∷ filter p ys) (filter p ys)))
+  put-counted b c d x y zs ys px py more = grind (arith, common_steps)
+
   count-put : (lt : X → X → Bool) (x : X) (ys : List X) → length (filter p (put_in_order lt x ys)) ≡ length (filter p (x ∷ ys))
   count-put lt x [] = refl
-  count-put lt x (y ∷ ys) = cases (lt y x) (p x) (p y) refl refl (count-put lt x ys)
-    where
-      cases : (b c d : Bool) → p x ≡ c → p y ≡ d → length (filter p (put_in_order lt x ys)) ≡ length (cond c (x ∷ filter p ys) (filter p ys)) → length (filter p (cond b (y ∷ put_in_order lt x ys) (x ∷ y ∷ ys))) ≡ length (cond c (x ∷ cond d (y ∷ filter p ys) (filter p ys)) (cond d (y ∷ filter p ys) (filter p ys)))
-      cases true true true px py more = rw py (omega (arith, more))
-      cases true true false px py more = rw py more
-      cases true false true px py more = rw py (omega (arith, more))
-      cases true false false px py more = rw py more
-      cases false c d px py more = rw (px, py) refl
+  count-put lt x (y ∷ ys) = put-counted (lt y x) (p x) (p y) x y (put_in_order lt x ys) ys refl refl (count-put lt x ys)
 
   pub count-ordered : (lt : X → X → Bool) (xs : List X) → length (filter p (in_order lt xs)) ≡ length (filter p xs)
   count-ordered lt [] = refl
   count-ordered lt (x ∷ xs) = count-put lt x (in_order lt xs) ∙ again (p x) (count-ordered lt xs)
     where
       again : (b : Bool) → length (filter p (in_order lt xs)) ≡ length (filter p xs) → length (cond b (x ∷ filter p (in_order lt xs)) (filter p (in_order lt xs))) ≡ length (cond b (x ∷ filter p xs) (filter p xs))
-      again true more = omega (arith, more)
-      again false more = more
+      again b more = grind arith
 
 -- Neighbours.
 

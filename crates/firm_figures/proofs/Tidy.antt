@@ -3,6 +3,7 @@ use Rattle.std.proofs.Common.{◌≡◌, ℕ, ◌+◌, ◌<◌, ◌≤◌, Bool,
 use Rattle.std.specs.Prelude.{nat_lt, ◌==◌}
 use Rattle.std.specs.List.{filter, AllByRecursion}
 use Rattle.std.proofs.lemmas.Bool.Decides.{nat_tests}
+use Rattle.std.proofs.lemmas.List.Elements.{recursion_from_All, filter_passes}
 use Rattle.matter_rows.specs.declared.head.Head.{Head}
 use Rattle.matter_rows.specs.declared.seat.Seat.{Seat}
 use Rattle.matter_rows.specs.declared.entry.Entry.{Entry}
@@ -10,6 +11,7 @@ use Rattle.matter_rows.specs.Rows.{Rows}
 use Rattle.firm_rows.specs.Firm.{Row, HeadRow, SeatRow, EntryRow, Firm, of, pairs, head_pairs, seat_pairs, entry_pairs}
 use Rattle.firm_rows.specs.FirmSound.{IsInOrder}
 use Rattle.firm_rows.proofs.Joined.{passing, own-put}
+use Rattle.firm_rows.proofs.Ordered.{all-append}
 
 abbrev pub is_head : Row → Bool
 is_head (HeadRow h) = true
@@ -45,10 +47,6 @@ module _ {A : Type 0} where
   both : (P Q R : A → Type 0) (xs : List A) → ((x : A) → P x → Q x → R x) → AllByRecursion P xs → AllByRecursion Q xs → AllByRecursion R xs
   both P Q R [] f ps qs = tt
   both P Q R (x ∷ xs) f ps qs = (f x ps.0 qs.0, both P Q R xs f ps.1 qs.1)
-
-  all-join : (P : A → Type 0) (xs ys : List A) → AllByRecursion P xs → AllByRecursion P ys → AllByRecursion P (xs ++ ys)
-  all-join P [] ys all more = more
-  all-join P (x ∷ xs) ys all more = (all.0, all-join P xs ys all.1 more)
 
 -- The rows of matter k stand behind those of lesser ones and before those of greater.
 abbrev lesser : ℕ → List (ℕ × Row) → List (ℕ × Row)
@@ -87,12 +85,7 @@ own-first k p (x ∷ xs) ys zs lt all is =
     absurd (grind (arith, nat_tests))
 
 passes : (t : ℕ → Bool) (xs : List (ℕ × Row)) → AllByRecursion (λ q. t q.0 ≡ true) (passing t xs)
-passes t [] = tt
-passes t (x ∷ xs) = cases (t x.0) refl (passes t xs)
-  where
-    cases : (b : Bool) → t x.0 ≡ b → AllByRecursion (λ q. t q.0 ≡ true) (passing t xs) → AllByRecursion (λ q. t q.0 ≡ true) (cond b (x ∷ passing t xs) (passing t xs))
-    cases true at more = (at, more)
-    cases false at more = more
+passes t xs = recursion_from_All _ _ (filter_passes (λ (q : ℕ × Row). t q.0) xs)
 
 -- where a list begins, that part of it does
 tail-same : (p : ℕ × Row) (xs ys : List (ℕ × Row)) → (p ∷ xs) ≡ (p ∷ ys) → xs ≡ ys
@@ -171,7 +164,7 @@ first-pairs : (m : ℕ) (rows : Rows) → FirstHead (pairs m rows)
 first-pairs m rows = cases rows.head
   where
     rest : NoHeads (seat_pairs m rows.seats ++ entry_pairs m 1 rows.entries)
-    rest = all-join (λ q. is_head q.1 ≡ false) (seat_pairs m rows.seats) (entry_pairs m 1 rows.entries) (no-seats m rows.seats) (no-entries m 1 rows.entries)
+    rest = all-append (λ q. is_head q.1 ≡ false) (seat_pairs m rows.seats) (entry_pairs m 1 rows.entries) (no-seats m rows.seats) (no-entries m 1 rows.entries)
 
     cases : (o : Option Head) → FirstHead (head_pairs m o ++ (seat_pairs m rows.seats ++ entry_pairs m 1 rows.entries))
     cases None = later (seat_pairs m rows.seats ++ entry_pairs m 1 rows.entries) rest

@@ -27,7 +27,8 @@ use Rattle.matter_rows.specs.declared.entry.Entry.TheVariants as entry
 use Rattle.matter_rows.specs.Rows.{entry_amount}
 use Rattle.matter_rows.specs.Shares.{cleared_deposit, held_deposit, paid, total_share, held_share}
 use Rattle.firm_figures.specs.Reconciling.{added}
-use Rattle.firm_figures.proofs.Sizes.{IsWithin, MOST, CENTS, WHOLE, sum-within, wider, all-from, tested, bank-within, amount-within, out-within, none-within, fits, narrow}
+use Rattle.firm_rows.proofs.Ordered.{all-map}
+use Rattle.firm_figures.proofs.Sizes.{IsWithin, MOST, CENTS, WHOLE, sum-within, wider, tested, bank-within, amount-within, out-within, none-within, fits, narrow}
 use Rattle.firm_figures.proofs.Lists.{trial-sum}
 use Rattle.firm_figures.specs.Lists.{open_matters, trial_lines, add_last, TrialKept, no_trial, with_trial_row, with_trial_own, trial_total, TrialIsKept, TotalIsKept}
 use Rattle.firm_rows.proofs.Sums.{at, sum-same}
@@ -91,8 +92,7 @@ open-same f g m ((k, SeatRow seat) ∷ xs) all same = open-same f g m xs all.1 s
 open-same f g m ((k, EntryRow n e) ∷ xs) all same = open-same f g m xs all.1 same
 
 no-share : (b : Bool) (z : ℤ) → cond b (pos 0) (pos 0) +ℤ z ≡ z
-no-share true z = omega (arith, ints)
-no-share false z = omega (arith, ints)
+no-share b z = grind (arith, ints)
 
 -- a row of matter m adds nothing to a greater one
 skipped : (m k : ℕ) (z s : ℤ) → m < k → cond (m == k) z (pos 0) +ℤ s ≡ s
@@ -246,7 +246,7 @@ row-within (m, EntryRow n e) is = entry-within e is
 rows-within : (f : ℕ × Row → ℤ) (rows : List (ℕ × Row)) → AreCountable IsRowInRange rows → ((p : ℕ × Row) → IsRowInRange p → IsWithin MOST (f p)) → IsWithin WHOLE (sum_of f rows)
 rows-within f rows is each =
     let few = is.few in
-    wider (length rows * MOST) WHOLE _ (omega arith) (sum-within f rows (all-from IsRowInRange (λ p. IsWithin MOST (f p)) rows each is.ranged))
+    wider (length rows * MOST) WHOLE _ (omega arith) (sum-within f rows (all-map IsRowInRange (λ p. IsWithin MOST (f p)) rows each is.ranged))
 
 ledger-within : (firm : Firm) (m : ℕ) → AreCountable IsRowInRange firm.rows → IsWithin WHOLE (ledger (of m firm).entries)
 ledger-within firm m is = subst (IsWithin WHOLE) (sum-ledger firm m) (rows-within (at (λ (p : ℕ × Row). p.0) (λ (p : ℕ × Row). row_share p.1) m) firm.rows is (λ p h. wider CENTS MOST _ (omega arith) (tested CENTS (p.0 == m) (row_share p.1) (row-within p h))))
@@ -258,7 +258,7 @@ each-fits firm (m ∷ ms) is = (narrow _ (ledger-within firm m is), each-fits fi
 own-within : (lines : List FirmLine) → AreCountable IsFirmLineInRange lines → IsWithin WHOLE (balance_of lines)
 own-within lines is =
     let few = is.few in
-    wider (length lines * MOST) WHOLE _ (omega arith) (sum-within (λ (l : FirmLine). l.amount) lines (all-from IsFirmLineInRange (λ (l : FirmLine). IsWithin MOST l.amount) lines (λ l. bank-within l.amount) is.ranged))
+    wider (length lines * MOST) WHOLE _ (omega arith) (sum-within (λ (l : FirmLine). l.amount) lines (all-map IsFirmLineInRange (λ (l : FirmLine). IsWithin MOST l.amount) lines (λ l. bank-within l.amount) is.ranged))
 
 -- The firm's own balance.
 

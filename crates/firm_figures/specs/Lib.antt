@@ -1,4 +1,3 @@
-pub mod Copied
 pub mod Doubles
 pub mod Figures
 pub mod Listing

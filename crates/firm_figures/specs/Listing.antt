@@ -5,6 +5,7 @@ use Rattle.trust_base.specs.declared.line.Line.{Line}
 use Rattle.matter_rows.specs.declared.entry.Entry.{Entry}
 use Rattle.matter_rows.specs.Clearings.{cleared_amount}
 use Rattle.firm_figures.specs.declared.lister.EntryLine.{EntryLine}
+use Rattle.firm_figures.specs.declared.lister.ReconciliationLists.{ReconciliationLists}
 use Rattle.firm_rows.specs.Firm.{Row, HeadRow, SeatRow, EntryRow, Firm}
 use Rattle.firm_figures.specs.Figures.{booked_on, banked_on, back_on, is_banked_early, is_back_early, is_in_transit, is_outstanding}
 
@@ -56,6 +57,16 @@ pub record Listed : Type 0 where
   pub out : List EntryLine
   pub early : List EntryLine
   pub exceptions : List Line
+
+-- these lists as of a day
+abbrev pub listed : ℕ → ReconciliationLists → Listed
+listed p lists = record {
+  day = p;
+  transit = lists.transit.items;
+  out = lists.out.items;
+  early = lists.early.items;
+  exceptions = lists.exceptions.items;
+}
 
 abbrev pub none_listed : ℕ → Listed
 none_listed p = record { day = p; transit = []; out = []; early = []; exceptions = [] }

@@ -7,7 +7,6 @@ use Rattle.firm_rows.specs.declared.movement.Movement.{Movement}
 use Rattle.firm_rows.specs.declared.ledger.FirmLine.{FirmLine}
 use Rattle.firm_figures.specs.declared.journal_sink.JournalLine.{JournalLine}
 use Rattle.firm_figures.specs.declared.trial_sink.TrialLine.{TrialLine}
-use Rattle.firm_figures.specs.declared.trial_sink.TrialBalance.{TrialBalance}
 use Rattle.firm_rows.specs.Countable.{AreCountable, IsRowInRange, IsMovementInRange, IsFirmLineInRange}
 use Rattle.firm_rows.specs.Sums.{sum_of}
 use Rattle.firm_rows.specs.FirmLines.{balance_of}
@@ -142,9 +141,3 @@ TotalIsKept =
     (firm : Firm) → FirmSound firm
     → AreCountable IsRowInRange firm.rows → AreCountable IsFirmLineInRange firm.firm_lines
     → trial_sum (trial_of firm) ≡ trial_total firm
-
--- the trial balance in memory is that of the firm
-pub record IsTrialBalance (firm : Firm) (balance : TrialBalance) : Type 0 where
-  pub lines : balance.lines.items ≡ trial_lines firm
-  pub own : balance.own ≡ balance_of firm.firm_lines
-  pub total : balance.total ≡ trial_total firm

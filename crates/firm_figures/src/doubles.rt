@@ -8,12 +8,11 @@ ghost use Rattle.firm_figures.specs.Figures.{booked_on};
 ghost use Rattle.firm_figures.specs.declared.doubles.Issued.{Issued};
 ghost use Rattle.firm_figures.specs.Doubles.{issued_cmp, is_before_issued, has_same_instrument, is_double_in, in_order, doubles_in, issued_line, issued_in, IssuedKept, no_issued, with_row_issued};
 
-use crate::shares;
+use crate::entry_days::{EntryDays, signed_amount};
 use std::alloc::{AllocError, Global};
 use std::cmp::Ordering;
-use std::marker::Model;
 use trust_base::{Day, EntryNo, Label, MatterNo};
-use trust_matter::{Entry, Payment};
+use trust_matter::Entry;
 
 /// An issued payment: the day of issue, the negative amount in cents, and the instrument.
 #[derive(Drop, Debug)]
@@ -78,7 +77,8 @@ fn is_double(sorted: &[Issued], place: usize) -> bool
     place + 1 < sorted.len() && issued.has_same_instrument(&sorted[place + 1])
 }
 
-fn doubles_of(alloc: Global, sorted: &[Issued]) -> Result<Vec<Issued>, AllocError>
+// Those of a sorted list that have the same instrument as another.
+fn doubles_among(alloc: Global, sorted: &[Issued]) -> Result<Vec<Issued>, AllocError>
     requires { IsSortedBy is_before_issued sorted.now }
     ensures { IfOk result (λ xs. xs.items ≡ filter (is_double_in sorted.now) sorted.now) }
 {
@@ -93,109 +93,39 @@ fn doubles_of(alloc: Global, sorted: &[Issued]) -> Result<Vec<Issued>, AllocErro
     Ok(doubles)
 }
 
-/// Collects the payments issued on or before a day, and not voided by then.
-///
-/// Contracts see it as the day and the list.
-#[derive(Drop)]
-pub struct IssuedList {
-    day: Day,
-    issued: Vec<Issued>,
-}
-
-impl Model for IssuedList {
-    ghost Value = { IssuedKept };
-
-    ghost view = { λ s. record { day = s.day; issued = s.issued.items } };
-}
-
-// Appends a payment with its day of issue, if it has one.
-fn push_issued(
-    xs: &mut Vec<Issued>,
-    matter: MatterNo,
-    number: EntryNo,
-    entry: &Entry,
-    payment: &Payment,
-) -> Result<(), AllocError>
-    requires { entry.now ≡ Entry.Payment payment.now }
-    ensures ok { let lines = issued_line matter number (booked_on entry.now) entry.now in
-        OnOk result (xs.new.items ≡ xs.old.items ++ lines) }
-    ensures err { OnErr result (xs.new.items ≡ xs.old.items) }
+/// The payments with the same instrument as another, sorted by instrument (byte by byte), matter and entry.
+pub(crate) fn doubles_of(alloc: Global, issued: Vec<Issued>) -> Result<Vec<Issued>, AllocError>
+    ensures { IfOk result (λ xs. xs.items ≡ doubles_in issued.items) }
 {
-    if let Some(day) = shares::booked_on(entry) {
-        let instrument = payment.instrument.copied()?;
-        let amount = shares::signed_amount(entry);
-        xs.push(Issued {
-            matter,
-            entry: number,
-            day,
-            amount,
-            instrument,
-        })?;
-    }
-    Ok(())
+    let mut all = issued;
+    sort(&mut all)?;
+    doubles_among(alloc, all.as_slice())
 }
 
-fn push_entry(
-    xs: &mut Vec<Issued>,
+/// Appends the entry, if it is a payment issued on or before a day, and not voided by then.
+pub(crate) fn push_issued(
+    issued: &mut Vec<Issued>,
     p: Day,
     matter: MatterNo,
     number: EntryNo,
     entry: &Entry,
 ) -> Result<(), AllocError>
-    ensures ok { OnOk result (xs.new.items ≡ xs.old.items ++ issued_in p (matter, EntryRow number entry.now)) }
-    ensures err { OnErr result (xs.new.items ≡ xs.old.items) }
+    ensures ok { OnOk result (issued.new.items ≡ issued.old.items ++ issued_in p (matter, EntryRow number entry.now)) }
+    ensures err { OnErr result (issued.new.items ≡ issued.old.items) }
 {
-    let counts = shares::is_issued(entry, p);
-    match entry {
-        Entry::Payment(payment) if counts => push_issued(xs, matter, number, entry, payment),
-        _ => Ok(()),
-    }
-}
-
-impl IssuedList {
-    /// An empty collection as of a day.
-    pub fn new(alloc: Global, day: Day) -> IssuedList
-        ensures { result ≡ no_issued day }
-    {
-        IssuedList {
+    let days = EntryDays::of(entry);
+    let (Entry::Payment(payment), true) = (entry, days.is_issued(p)) else {
+        return Ok(());
+    };
+    if let Some(day) = days.booked {
+        let instrument = payment.instrument.copied()?;
+        issued.push(Issued {
+            matter,
+            entry: number,
             day,
-            issued: Vec::new(alloc),
-        }
+            amount: signed_amount(entry),
+            instrument,
+        })?;
     }
-
-    /// How many payments it has.
-    pub fn len(&self) -> usize
-        ensures { result ≡ length self.now.issued }
-    {
-        self.issued.len()
-    }
-
-    /// Drops all but the first `kept` payments.
-    pub fn truncate(&mut self, kept: usize)
-        ensures { self.new ≡ record self.old { issued = take kept self.old.issued } }
-    {
-        self.issued.truncate(kept);
-    }
-
-    /// Adds an entry, if it is such a payment. If memory runs out, the collection is unchanged.
-    pub fn add(
-        &mut self,
-        matter: MatterNo,
-        number: EntryNo,
-        entry: &Entry,
-    ) -> Result<(), AllocError>
-        ensures ok { OnOk result (self.new ≡ with_row_issued self.old (matter, EntryRow number entry.now)) }
-        ensures err { OnErr result (self.new ≡ self.old) }
-    {
-        push_entry(&mut self.issued, self.day, matter, number, entry)
-    }
-
-    /// The payments with the same instrument as another, sorted by instrument (byte by byte), matter and entry.
-    pub fn finish(self, alloc: Global) -> Result<Vec<Issued>, AllocError>
-        ensures { IfOk result (λ xs. xs.items ≡ doubles_in self.issued) }
-    {
-        let mut all = self.issued;
-        sort(&mut all)?;
-        doubles_of(alloc, all.as_slice())
-    }
+    Ok(())
 }

@@ -1,10 +1,9 @@
 // Builds the journal from movements that arrive one at a time.
 
-ghost use Rattle.std.specs.Prelude.{◌≡◌, IfOk};
-ghost use Rattle.firm_figures.specs.Lists.{JournalKept, no_journal, with_moved, journal_of};
+ghost use Rattle.std.specs.Prelude.{◌≡◌};
+ghost use Rattle.firm_figures.specs.Lists.{JournalKept, no_journal, with_moved};
 ghost use Rattle.firm_figures.specs.declared.journal_sink.JournalLine.{JournalLine};
 
-use crate::firm_row::hand_movements;
 use crate::reconciler::added;
 use firm_rows::{Movement, MovementSink};
 use std::alloc::{AllocError, Global};
@@ -63,14 +62,4 @@ impl MovementSink for JournalSink {
         self.sum = sum;
         Ok(())
     }
-}
-
-/// The journal of movements in memory: each with the running sum, in the order of the list. The only error is out of
-/// memory.
-pub fn journal_list(alloc: Global, movements: &[Movement]) -> Result<Vec<JournalLine>, AllocError>
-    ensures { IfOk result (λ lines. lines.items ≡ journal_of movements.now) }
-{
-    let mut sink = JournalSink::new(alloc);
-    hand_movements(&mut sink, movements)?;
-    Ok(sink.finish())
 }

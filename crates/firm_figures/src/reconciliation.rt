@@ -1,29 +1,27 @@
 // The reconciliation as of a day, its figures and lists, from rows that arrive one at a time.
 
-ghost use Rattle.std.specs.Prelude.{◌≡◌, Option, IfOk, OnOk, OnErr};
+ghost use Rattle.std.specs.Prelude.{◌≡◌, IfOk, OnOk, OnErr};
 ghost use Rattle.std.specs.Option.{option_map};
 ghost use Rattle.firm_rows.specs.Firm.{EntryRow};
-ghost use Rattle.firm_rows.specs.FirmSound.{FirmSound};
-ghost use Rattle.firm_figures.specs.Copied.{in_memory};
+ghost use Rattle.firm_figures.specs.Figures.{names_balance};
+ghost use Rattle.firm_figures.specs.Listing.{listed};
 ghost use Rattle.firm_figures.specs.Openings.{AreClosings};
-ghost use Rattle.firm_figures.specs.Reconciliations.{ReconciliationKept, nothing_kept, with_row_kept, with_movement_kept, with_own_kept, with_exception_kept, with_balance_noted, kept_told, told, reconciliation_on};
+ghost use Rattle.firm_figures.specs.Reconciling.{figures_kept, less, with_entry_told};
+ghost use Rattle.firm_figures.specs.Reconciliations.{ReconciliationKept, nothing_kept, with_row_kept, with_movement_kept, with_own_kept, with_exception_kept, with_balance_noted, kept_told, told};
 
-use crate::doubles::{Issued, IssuedList};
-use crate::firm_row::{
-    FirmRow, hand_balances, hand_exceptions, hand_firm_lines, hand_movements, hand_rows,
-};
-use crate::lister::{Lister, ReconciliationLists};
-use crate::openings::{BalanceList, OpeningLine};
-use crate::period::Period;
-use crate::reconciler::{Figures, Reconciler};
+use crate::doubles::{Issued, doubles_of, push_issued};
+use crate::entry_days::Shares;
+use crate::lister::{ReconciliationLists, push_early, push_waiting};
+use crate::openings::{OpeningLine, openings_after};
+use crate::reconciler::{Figures, Sums, added, less, together};
 use firm_rows::{
-    BalanceSink, ExceptionSink, FirmLine, FirmLineSink, Movement, MovementSink, RowSink,
-    StatementRow,
+    BalanceKind, BalanceSink, ExceptionSink, FirmLine, FirmLineSink, MatterRow, MatterRowSink,
+    Movement, MovementSink, StatementRow,
 };
 use std::alloc::{AllocError, Global};
 use std::marker::Model;
-use trust_base::{Day, EntryNo, Line, MatterNo};
-use trust_matter::{Entry, Head, Seat};
+use trust_base::{BankText, Day, EntryNo, Line, MatterNo};
+use trust_matter::{Entry, Holder};
 
 /// The reconciliation as of a day: the ten figures, and the lists that go with them. Doubles are payments with the same
 /// instrument as another, sorted by instrument (byte by byte), matter and entry. Openings are those that differ from
@@ -41,35 +39,38 @@ pub struct Reconciliation {
 /// the balances dated on or before the day, and whether the day's records are complete.
 ///
 /// Contracts see it as these.
+#[derive(Drop)]
 pub struct ReconciliationSink {
-    figures: Reconciler,
-    lists: Lister,
-    issued: IssuedList,
-    balances: BalanceList,
-    period: Period,
-}
-
-impl Drop for ReconciliationSink {
-    fn drop(self) {
-        let ReconciliationSink {
-            figures: _figures,
-            lists: _lists,
-            issued: _issued,
-            balances: _balances,
-            period: _period,
-        } = self;
-    }
+    day: Day,
+    sums: Sums,
+    lists: ReconciliationLists,
+    issued: Vec<Issued>,
+    openings: Vec<StatementRow>,
+    closings: Vec<StatementRow>,
+    // Whether a matter that was closed after the day was purged.
+    purged: bool,
 }
 
 impl Model for ReconciliationSink {
     ghost Value = { ReconciliationKept };
 
     ghost view = { λ s. record {
-      figures = s.figures;
-      lists = s.lists;
-      issued = s.issued;
-      balances = s.balances;
-      period = s.period;
+      figures = record {
+        day = s.day;
+        closing = s.sums.closing;
+        transit = s.sums.transit;
+        outstanding = s.sums.outstanding;
+        journal = s.sums.journal;
+        entries = s.sums.entries;
+        own = s.sums.own;
+        exceptions = s.sums.exceptions;
+        matched = s.sums.matched;
+        early = s.sums.early;
+      };
+      lists = listed s.day s.lists;
+      issued = record { day = s.day; issued = s.issued.items };
+      balances = record { day = s.day; openings = s.openings.items; closings = s.closings.items };
+      period = record { day = s.day; purged = s.purged };
     } };
 }
 
@@ -79,11 +80,28 @@ impl ReconciliationSink {
         ensures { result ≡ nothing_kept day }
     {
         ReconciliationSink {
-            figures: Reconciler::new(day),
-            lists: Lister::new(alloc, day),
-            issued: IssuedList::new(alloc, day),
-            balances: BalanceList::new(alloc, day),
-            period: Period::new(day),
+            day,
+            sums: Sums {
+                closing: None,
+                transit: 0,
+                outstanding: 0,
+                journal: 0,
+                entries: 0,
+                own: 0,
+                exceptions: 0,
+                matched: 0,
+                early: 0,
+            },
+            lists: ReconciliationLists {
+                transit: Vec::new(alloc),
+                out: Vec::new(alloc),
+                early: Vec::new(alloc),
+                exceptions: Vec::new(alloc),
+            },
+            issued: Vec::new(alloc),
+            openings: Vec::new(alloc),
+            closings: Vec::new(alloc),
+            purged: false,
         }
     }
 
@@ -94,24 +112,70 @@ impl ReconciliationSink {
         number: EntryNo,
         entry: &Entry,
     ) -> Result<(), AllocError>
-        ensures ok { let listed = with_row_kept self.old (matter, EntryRow number entry.now) in
-            OnOk result (self.new ≡ record listed { figures = self.old.figures }) }
+        ensures ok { let after = with_row_kept self.old (matter, EntryRow number entry.now) in
+            OnOk result (self.new ≡ record after { figures = self.old.figures }) }
         ensures err { OnErr result (self.new ≡ self.old) }
     {
-        let kept = self.issued.len();
-        self.issued.add(matter, number, entry)?;
-        if let Err(error) = self.lists.add_entry(matter, number, entry) {
-            self.issued.truncate(kept);
+        let issued = self.issued.len();
+        let early = self.lists.early.len();
+        push_issued(&mut self.issued, self.day, matter, number, entry)?;
+        if let Err(error) = push_early(&mut self.lists.early, self.day, matter, number, entry) {
+            self.issued.truncate(issued);
+            return Err(error);
+        }
+        if let Err(error) = push_waiting(&mut self.lists, self.day, matter, number, entry) {
+            self.issued.truncate(issued);
+            self.lists.early.truncate(early);
             return Err(error);
         }
         Ok(())
+    }
+
+    // Adds an entry to the sums.
+    fn add_entry(&mut self, entry: &Entry)
+        ensures { self.new ≡ record self.old { figures = with_entry_told self.old.figures entry.now } }
+    {
+        let shares = Shares::of(entry, self.day);
+        self.sums.transit = added(self.sums.transit, shares.transit);
+        self.sums.outstanding = added(self.sums.outstanding, shares.outstanding);
+        self.sums.entries = added(self.sums.entries, shares.entries);
+        self.sums.matched = added(self.sums.matched, shares.matched);
+        self.sums.early = added(self.sums.early, shares.early);
     }
 
     /// Whether a matter that was closed after the day was purged. The day's records are then no longer complete.
     pub fn is_period_purged(&self) -> bool
         ensures { result ≡ self.now.period.purged }
     {
-        self.period.is_purged()
+        self.purged
+    }
+
+    // The figures, if this is the day's closing balance.
+    fn figures(&self, closing: i64) -> Figures
+        ensures { result ≡ figures_kept self.now.figures closing }
+    {
+        let adjusted = less(added(self.sums.transit, closing), self.sums.outstanding);
+        Figures {
+            closing,
+            transit: self.sums.transit,
+            outstanding: self.sums.outstanding,
+            adjusted,
+            journal: self.sums.journal,
+            ledgers: together(self.sums.entries, self.sums.own),
+            difference: less(adjusted, self.sums.journal),
+            exceptions: self.sums.exceptions,
+            early: self.sums.early,
+            gap: self.gap(closing),
+        }
+    }
+
+    // The part of the closing balance that nothing explains.
+    fn gap(&self, closing: i64) -> i128
+        ensures { let figures = self.now.figures in
+            result ≡ less (less (less closing figures.matched) figures.own) figures.exceptions }
+    {
+        let unmatched = less(closing as i128, self.sums.matched);
+        less(less(unmatched, self.sums.own), self.sums.exceptions)
     }
 
     /// The reconciliation, or None if no closing balance of the day was added. The closings must have been added in
@@ -119,47 +183,37 @@ impl ReconciliationSink {
     pub fn finish(self, alloc: Global) -> Result<Option<Reconciliation>, AllocError>
         ensures { AreClosings self.balances.closings → IfOk result (λ found. option_map told found ≡ kept_told self) }
     {
-        let ReconciliationSink {
-            figures,
-            lists,
-            issued,
-            balances,
-            period: _period,
-        } = self;
-        let Some(figures) = figures.finish() else {
+        let Some(closing) = self.sums.closing else {
             return Ok(None);
         };
-        let doubles = issued.finish(alloc)?;
-        let openings = balances.finish(alloc)?;
+        let figures = self.figures(closing);
+        let openings = openings_after(alloc, &self.closings, &self.openings)?;
         Ok(Some(Reconciliation {
             figures,
-            lists: lists.finish(),
-            doubles,
+            lists: self.lists,
+            doubles: doubles_of(alloc, self.issued)?,
             openings,
         }))
     }
 }
 
-impl RowSink for ReconciliationSink {
-    ghost stepped = { with_row_kept };
+impl MatterRowSink for ReconciliationSink {
+    ghost taken = { with_row_kept };
 
-    fn head(&mut self, matter: MatterNo, head: &Head) -> Result<(), AllocError> {
-        self.period.add_head(matter, head);
-        Ok(())
-    }
-
-    fn seat(&mut self, _matter: MatterNo, _seat: &Seat) -> Result<(), AllocError> {
-        Ok(())
-    }
-
-    fn entry(
-        &mut self,
-        matter: MatterNo,
-        number: EntryNo,
-        entry: &Entry,
-    ) -> Result<(), AllocError> {
-        self.list_entry(matter, number, entry)?;
-        self.figures.add_entry(entry);
+    fn matter_row(&mut self, matter: MatterNo, row: MatterRow<'_>) -> Result<(), AllocError> {
+        match row {
+            MatterRow::Head(head) => match (&head.holder, head.closed) {
+                (Holder::Purged(_), Some(closed)) if self.day.get() < closed.get() => {
+                    self.purged = true;
+                }
+                _ => {}
+            },
+            MatterRow::Seat(_seat) => {}
+            MatterRow::Entry(number, entry) => {
+                self.list_entry(matter, number, entry)?;
+                self.add_entry(entry);
+            }
+        }
         Ok(())
     }
 }
@@ -168,8 +222,14 @@ impl ExceptionSink for ReconciliationSink {
     ghost noted = { with_exception_kept };
 
     fn exception(&mut self, line: &Line) -> Result<(), AllocError> {
-        self.lists.add_exception(line)?;
-        self.figures.add_exception(line);
+        let mut amount = 0;
+        if line.date.get() <= self.day.get() {
+            self.lists.exceptions.push(line.copied()?)?;
+            if !names_balance(&line.reference) {
+                amount = line.amount.get();
+            }
+        }
+        self.sums.exceptions = added(self.sums.exceptions, amount);
         Ok(())
     }
 }
@@ -178,7 +238,9 @@ impl MovementSink for ReconciliationSink {
     ghost moved = { with_movement_kept };
 
     fn movement(&mut self, movement: &Movement) -> Result<(), AllocError> {
-        self.figures.add_movement(movement);
+        let is_counted = movement.day.get() <= self.day.get();
+        let amount = if is_counted { movement.amount } else { 0 };
+        self.sums.journal = added(self.sums.journal, amount);
         Ok(())
     }
 }
@@ -187,7 +249,9 @@ impl FirmLineSink for ReconciliationSink {
     ghost lined = { with_own_kept };
 
     fn firm_line(&mut self, line: &FirmLine) -> Result<(), AllocError> {
-        self.figures.add_own(line);
+        let is_counted = line.date.get() <= self.day.get();
+        let amount = if is_counted { line.amount.get() } else { 0 };
+        self.sums.own = added(self.sums.own, amount);
         Ok(())
     }
 }
@@ -196,31 +260,21 @@ impl BalanceSink for ReconciliationSink {
     ghost balanced = { with_balance_noted };
 
     fn balance(&mut self, row: &StatementRow) -> Result<(), AllocError> {
-        self.balances.add(row)?;
-        self.figures.add_balance(row);
+        if row.day.get() <= self.day.get() {
+            match row.kind {
+                BalanceKind::Opening => self.openings.push(*row)?,
+                BalanceKind::Closing => self.closings.push(*row)?,
+            }
+        }
+        if self.sums.closing.is_none() && row.kind == BalanceKind::Closing && row.day == self.day {
+            self.sums.closing = Some(row.amount.get());
+        }
         Ok(())
     }
 }
 
-/// The reconciliation as of a day of rows in memory, or None if they have no closing balance of the day. It is the one
-/// in the definitions if the rows are those of a sound firm. The only error is out of memory.
-pub fn reconcile_at(
-    alloc: Global,
-    day: Day,
-    rows: &[FirmRow],
-    movements: &[Movement],
-    firm_lines: &[FirmLine],
-    exceptions: &[Line],
-    balances: &[StatementRow],
-) -> Result<Option<Reconciliation>, AllocError>
-    ensures { let firm = in_memory rows.now movements.now firm_lines.now exceptions.now balances.now in
-        FirmSound firm → IfOk result (λ found. option_map told found ≡ reconciliation_on day firm) }
+fn names_balance(reference: &BankText) -> bool
+    ensures { result ≡ names_balance reference.now }
 {
-    let mut sink = ReconciliationSink::new(alloc, day);
-    hand_rows(&mut sink, rows)?;
-    hand_movements(&mut sink, movements)?;
-    hand_firm_lines(&mut sink, firm_lines)?;
-    hand_exceptions(&mut sink, exceptions)?;
-    hand_balances(&mut sink, balances)?;
-    sink.finish(alloc)
+    reference.as_slice() == b"OPEN".as_slice() || reference.as_slice() == b"CLOSE".as_slice()
 }

@@ -1,16 +1,13 @@
 // How long the records of closed matters are kept, from rows that arrive one at a time.
 
-ghost use Rattle.std.specs.Prelude.{◌≡◌, [], option_to_list, IfOk, OnOk, OnErr};
-ghost use Rattle.firm_rows.specs.Firm.{HeadRow};
-ghost use Rattle.firm_figures.specs.Copied.{in_memory};
-ghost use Rattle.firm_figures.specs.Retained.{retention_line, retention_list as retention_lines, Retained, none_retained, with_row_retained};
+ghost use Rattle.std.specs.Prelude.{◌≡◌};
+ghost use Rattle.firm_figures.specs.Retained.{Retained, none_retained, with_row_retained};
 
-use crate::firm_row::{FirmRow, hand_rows};
-use firm_rows::RowSink;
+use firm_rows::{MatterRow, MatterRowSink};
 use std::alloc::{AllocError, Global};
 use std::marker::Model;
-use trust_base::{CivilDay, Day, EntryNo, MatterNo};
-use trust_matter::{Entry, Head, Holder, Seat};
+use trust_base::{CivilDay, Day, MatterNo};
+use trust_matter::Holder;
 
 /// A closed matter: the day it was closed, the last day on which its records are kept, which may lie after 2199, and
 /// whether it may be purged on the business day.
@@ -37,24 +34,6 @@ impl Model for RetentionSink {
     ghost view = { λ s. record { today = s.today; lines = s.lines.items } };
 }
 
-// The line of a matter that was closed and not purged.
-fn line_of(today: Day, matter: MatterNo, head: &Head) -> Option<RetentionLine>
-    ensures { option_to_list result ≡ retention_line today (matter, HeadRow head.now) }
-{
-    match (&head.holder, head.closed) {
-        (Holder::Client(_), Some(closed)) => {
-            let until = closed.retained_until();
-            Some(RetentionLine {
-                matter,
-                closed,
-                until,
-                may_purge: until.get() < today.get(),
-            })
-        }
-        _ => None,
-    }
-}
-
 impl RetentionSink {
     /// An empty list as of a business day.
     pub fn new(alloc: Global, today: Day) -> RetentionSink
@@ -66,16 +45,6 @@ impl RetentionSink {
         }
     }
 
-    fn add_head(&mut self, matter: MatterNo, head: &Head) -> Result<(), AllocError>
-        ensures ok { OnOk result (self.new ≡ with_row_retained self.old (matter, HeadRow head.now)) }
-        ensures err { OnErr result (self.new ≡ self.old) }
-    {
-        if let Some(line) = line_of(self.today, matter, head) {
-            self.lines.push(line)?;
-        }
-        Ok(())
-    }
-
     /// The lines.
     pub fn finish(self) -> Vec<RetentionLine>
         ensures { result.items ≡ self.lines }
@@ -84,36 +53,24 @@ impl RetentionSink {
     }
 }
 
-impl RowSink for RetentionSink {
-    ghost stepped = { with_row_retained };
+impl MatterRowSink for RetentionSink {
+    ghost taken = { with_row_retained };
 
-    fn head(&mut self, matter: MatterNo, head: &Head) -> Result<(), AllocError> {
-        self.add_head(matter, head)
-    }
-
-    fn seat(&mut self, _matter: MatterNo, _seat: &Seat) -> Result<(), AllocError> {
+    fn matter_row(&mut self, matter: MatterNo, row: MatterRow<'_>) -> Result<(), AllocError> {
+        let head = match row {
+            MatterRow::Head(head) => head,
+            MatterRow::Seat(_seat) => return Ok(()),
+            MatterRow::Entry(_number, _entry) => return Ok(()),
+        };
+        if let (Holder::Client(_), Some(closed)) = (&head.holder, head.closed) {
+            let until = closed.retained_until();
+            self.lines.push(RetentionLine {
+                matter,
+                closed,
+                until,
+                may_purge: until.get() < self.today.get(),
+            })?;
+        }
         Ok(())
     }
-
-    fn entry(
-        &mut self,
-        _matter: MatterNo,
-        _number: EntryNo,
-        _entry: &Entry,
-    ) -> Result<(), AllocError> {
-        Ok(())
-    }
-}
-
-/// The retention list of rows in memory, as of a business day. The only error is out of memory.
-pub fn retention_list(
-    alloc: Global,
-    today: Day,
-    rows: &[FirmRow],
-) -> Result<Vec<RetentionLine>, AllocError>
-    ensures { IfOk result (λ lines. lines.items ≡ retention_lines today (in_memory rows.now [] [] [] [])) }
-{
-    let mut sink = RetentionSink::new(alloc, today);
-    hand_rows(&mut sink, rows)?;
-    Ok(sink.finish())
 }

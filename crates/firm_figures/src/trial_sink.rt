@@ -1,21 +1,17 @@
 // The trial balance, from rows that arrive one at a time.
 
-ghost use Rattle.std.specs.Prelude.{◌≡◌, IfOk, fold, map};
-ghost use Rattle.firm_rows.specs.Firm.{Firm};
-ghost use Rattle.firm_rows.specs.FirmSound.{FirmSound};
-ghost use Rattle.firm_figures.specs.Copied.{row_pair};
+ghost use Rattle.std.specs.Prelude.{◌≡◌, fold};
 ghost use Rattle.firm_rows.specs.Journal.{ledger_share};
 ghost use Rattle.firm_figures.specs.Reconciling.{added};
-ghost use Rattle.firm_figures.specs.Lists.{TrialKept, no_trial, add_last, with_trial_row, with_trial_own, trial_sum, IsTrialBalance};
+ghost use Rattle.firm_figures.specs.Lists.{TrialKept, no_trial, add_last, with_trial_row, with_trial_own, trial_sum};
 ghost use Rattle.firm_figures.specs.declared.trial_sink.TrialLine.{TrialLine};
 
-use crate::firm_row::{FirmRow, hand_firm_lines, hand_rows};
 use crate::reconciler::{added, together};
-use firm_rows::{FirmLine, FirmLineSink, RowSink};
+use firm_rows::{FirmLine, FirmLineSink, MatterRow, MatterRowSink};
 use std::alloc::{AllocError, Global};
 use std::marker::Model;
-use trust_base::{EntryNo, MatterNo};
-use trust_matter::{DepositState, Entry, Head, PaymentState, Seat};
+use trust_base::MatterNo;
+use trust_matter::{DepositState, Entry, PaymentState};
 
 /// An open matter and its ledger, in cents.
 #[derive(Clone, Copy, Debug)]
@@ -121,28 +117,19 @@ impl TrialSink {
     }
 }
 
-impl RowSink for TrialSink {
-    ghost stepped = { with_trial_row };
+impl MatterRowSink for TrialSink {
+    ghost taken = { with_trial_row };
 
-    fn head(&mut self, matter: MatterNo, head: &Head) -> Result<(), AllocError> {
-        if head.closed.is_none() {
-            self.lines.push(TrialLine { matter, ledger: 0 })?;
+    fn matter_row(&mut self, matter: MatterNo, row: MatterRow<'_>) -> Result<(), AllocError> {
+        match row {
+            MatterRow::Head(head) => {
+                if head.closed.is_none() {
+                    self.lines.push(TrialLine { matter, ledger: 0 })?;
+                }
+            }
+            MatterRow::Seat(_seat) => {}
+            MatterRow::Entry(_, entry) => add_last(&mut self.lines, matter, ledger_share(entry)),
         }
-        Ok(())
-    }
-
-    fn seat(&mut self, _matter: MatterNo, _seat: &Seat) -> Result<(), AllocError> {
-        Ok(())
-    }
-
-    fn entry(
-        &mut self,
-        matter: MatterNo,
-        _number: EntryNo,
-        entry: &Entry,
-    ) -> Result<(), AllocError> {
-        let amount = ledger_share(entry);
-        add_last(&mut self.lines, matter, amount);
         Ok(())
     }
 }
@@ -154,20 +141,4 @@ impl FirmLineSink for TrialSink {
         self.own = added(self.own, line.amount.get());
         Ok(())
     }
-}
-
-/// The trial balance of rows and lines of the firm's own in memory, if they are those of a sound firm. The only error
-/// is out of memory.
-pub fn trial_balance(
-    alloc: Global,
-    rows: &[FirmRow],
-    firm_lines: &[FirmLine],
-) -> Result<TrialBalance, AllocError>
-    ensures { (firm : Firm) → FirmSound firm → firm.rows ≡ map row_pair rows.now → firm.firm_lines ≡ firm_lines.now
-        → IfOk result (IsTrialBalance firm) }
-{
-    let mut sink = TrialSink::new(alloc);
-    hand_rows(&mut sink, rows)?;
-    hand_firm_lines(&mut sink, firm_lines)?;
-    Ok(sink.finish())
 }

@@ -1,5 +1,6 @@
 -- A change of a matter changes the rows of that matter alone.
-use Rattle.std.proofs.Common.{◌≡◌, ◌≢◌, ℕ, ◌⊎◌, inl, inr, refl, sym, ap, ◌∙◌, ◌++◌, List, append-nil}
+use Rattle.std.proofs.Common.{◌≡◌, ◌≢◌, ℕ, ◌⊎◌, inl, inr, ⊎_elim, refl, sym, ap, ◌∙◌, subst, ◌++◌, List, append-nil}
+use Rattle.std.proofs.lemmas.Bool.{cases_eq}
 use Rattle.trust_matter.specs.edit.Edit.{Edit}
 use Rattle.trust_matter.specs.edit.Edit.TheVariants as edit
 use Rattle.trust_matter.specs.Rows.{Rows}
@@ -7,6 +8,10 @@ use Rattle.trust_matter.specs.Changes.{MatterChange, changed, changed_by}
 use Rattle.firm_rows.specs.declared.movement.Movement.{Movement}
 use Rattle.firm_rows.specs.Firm.{Firm, of, among, rewritten_by, cleared_by, moved_by, moved_without, kept_movements, put, after_edit, after_change}
 use Rattle.firm_rows.proofs.Joined.{rows_of-put_same, rows_of-put_other}
+
+-- what is so of one matter, and of each other, is so of all
+pub each-matter : (P : ℕ → Type 0) (m : ℕ) → P m → ((k : ℕ) → k ≢ m → P k) → (k : ℕ) → P k
+each-matter P m here other k = ⊎_elim (λ same. subst P (sym same) here) (other k) (cases_eq k m)
 
 -- the edit purges the matter, and its movements go
 pub record IsCleared (m : ℕ) (e : Edit) (last : ℕ) (firm : Firm) : Type 0 where

@@ -15,7 +15,7 @@ use Rattle.firm_rows.specs.declared.movement.Owner.TheVariants as owner
 use Rattle.firm_rows.specs.Firm.{Firm, of, is_of_matter, moved_without, cleared_by}
 use Rattle.firm_rows.specs.Journal.{event_of, is_of_entry, is_of_firm, events_moved, days_moved, amount_for, moved_for}
 use Rattle.firm_rows.specs.FirmSound.{AreMovedInTime, FirmSound, PurgedMovesNothing, PurgeLeavesOthers}
-use Rattle.firm_rows.proofs.Changed.{of-cleared_by, of_other-cleared_by}
+use Rattle.firm_rows.proofs.Changed.{each-matter, of-cleared_by, of_other-cleared_by}
 use Rattle.firm_rows.proofs.Order.{in_order-cleared_by}
 
 -- rows that a matter may be left with: sound, and without an entry
@@ -100,28 +100,17 @@ module _ (m : ℕ) (rows : Rows) (firm : Firm) (sound : FirmSound firm) (is : Is
   after = cleared_by m rows firm
 
   matters : (k : ℕ) → Sound (of k after)
-  matters k = cases (k == m) refl
-    where
-      cases : (b : Bool) → (k == m) ≡ b → Sound (of k after)
-      cases true same_test = let same : k ≡ m = grind (arith, nat_tests) in subst Sound (sym (ap (λ n. of n after) same ∙ of-cleared_by m rows firm)) is.sound
-      cases false other_test = let apart : k ≢ m = grind (arith, nat_tests) in subst Sound (sym (of_other-cleared_by k m rows firm apart)) (sound.matters k)
+  matters = each-matter (λ k. Sound (of k after)) m (subst Sound (sym (of-cleared_by m rows firm)) is.sound) (λ k apart. subst Sound (sym (of_other-cleared_by k m rows firm apart)) (sound.matters k))
 
   none : (of m after).entries ≡ []
   none = ap (λ (r : Rows). r.entries) (of-cleared_by m rows firm) ∙ is.none
 
   events : (k n : ℕ) → events_moved k n after.movements ≡ events_in (entry_at (of k after).entries n)
-  events k n = cases (k == m) refl
-    where
-      cases : (b : Bool) → (k == m) ≡ b → events_moved k n after.movements ≡ events_in (entry_at (of k after).entries n)
-      cases true same_test =
-          let same : k ≡ m = grind (arith, nat_tests) in
-          let here : events_moved m n after.movements ≡ events_in (entry_at (of m after).entries n) =
-          ap (map event_of) (passing-gone m (is_of_entry m n) (entry-own m n) firm.movements) ∙ ap (λ (es : List Entry). events_in (entry_at es n)) (sym none) in
-          subst (λ j. events_moved j n after.movements ≡ events_in (entry_at (of j after).entries n)) (sym same) here
-      cases false other_test =
-          let apart : k ≢ m = grind (arith, nat_tests) in
-          ap (map event_of) (passing-kept m (is_of_entry k n) (λ o own. entry-other m k n o apart own) firm.movements)
-          ∙ (sound.events k n ∙ ap (λ (r : Rows). events_in (entry_at r.entries n)) (sym (of_other-cleared_by k m rows firm apart)))
+  events k n =
+      each-matter (λ j. events_moved j n after.movements ≡ events_in (entry_at (of j after).entries n)) m
+      (ap (map event_of) (passing-gone m (is_of_entry m n) (entry-own m n) firm.movements) ∙ ap (λ (es : List Entry). events_in (entry_at es n)) (sym none))
+      (λ k apart. ap (map event_of) (passing-kept m (is_of_entry k n) (λ o own. entry-other m k n o apart own) firm.movements) ∙ (sound.events k n ∙ ap (λ (r : Rows). events_in (entry_at r.entries n)) (sym (of_other-cleared_by k m rows firm apart))))
+      k
 
   days : (k : ℕ) → k ≢ m → days_moved k after.movements ≡ days_moved k firm.movements
   days k apart = ap (map (λ v. v.day)) (passing-kept m (is_of_matter k) (λ o own. matter-other m k o apart own) firm.movements)
@@ -130,52 +119,32 @@ module _ (m : ℕ) (rows : Rows) (firm : Firm) (sound : FirmSound firm) (is : Is
   no_days = ap (map (λ v. v.day)) (passing-gone m (is_of_matter m) (λ o other. other) firm.movements)
 
   in_time : (k : ℕ) → AreMovedInTime k after
-  in_time k = cases (k == m) refl
-    where
-      cases : (b : Bool) → (k == m) ≡ b → AreMovedInTime k after
-      cases true same_test =
-          let same : k ≡ m = grind (arith, nat_tests) in
-          let here : AreMovedInTime m after = record { rising = rw no_days tt; by_last = rw no_days tt } in
-          subst (λ j. AreMovedInTime j after) (sym same) here
-      cases false other_test =
-          let apart : k ≢ m = grind (arith, nat_tests) in
-          let before = sound.in_time k in
-          let same : last_of (of k firm).head ≡ last_of (of k after).head = ap (λ (r : Rows). last_of r.head) (sym (of_other-cleared_by k m rows firm apart)) in
-          record { rising = rw (days k apart) before.rising; by_last = subst (λ last. AllByRecursion (λ day. day ≤ last) (days_moved k after.movements)) same (rw (days k apart) before.by_last) }
+  in_time k =
+      each-matter (λ j. AreMovedInTime j after) m
+      (record { rising = rw no_days tt; by_last = rw no_days tt })
+      (λ k apart. let before = sound.in_time k in let same : last_of (of k firm).head ≡ last_of (of k after).head = ap (λ (r : Rows). last_of r.head) (sym (of_other-cleared_by k m rows firm apart)) in record { rising = rw (days k apart) before.rising; by_last = subst (λ last. AllByRecursion (λ day. day ≤ last) (days_moved k after.movements)) same (rw (days k apart) before.by_last) })
+      k
 
   ledgers : (k : ℕ) → moved_for k after.movements ≡ ledger (of k after).entries
-  ledgers k = cases (k == m) refl
+  ledgers =
+      each-matter (λ k. moved_for k after.movements ≡ ledger (of k after).entries) m
+      (gone firm.movements ∙ ap ledger (sym none))
+      (λ k apart. other-sum m k firm.movements apart ∙ (sound.ledgers k ∙ ap (λ (r : Rows). ledger r.entries) (sym (of_other-cleared_by k m rows firm apart))))
     where
-      cases : (b : Bool) → (k == m) ≡ b → moved_for k after.movements ≡ ledger (of k after).entries
-      cases true same_test =
-          let same : k ≡ m = grind (arith, nat_tests) in
-          let here : moved_for m after.movements ≡ ledger (of m after).entries = gone firm.movements ∙ ap ledger (sym none) in
-          subst (λ j. moved_for j after.movements ≡ ledger (of j after).entries) (sym same) here
+      gone : (vs : List Movement) → moved_for m (moved_without m vs) ≡ pos 0
+      gone [] = refl
+      gone (v ∷ vs) = one (is_of_matter m v.owner) refl (gone vs)
         where
-          gone : (vs : List Movement) → moved_for m (moved_without m vs) ≡ pos 0
-          gone [] = refl
-          gone (v ∷ vs) = one (is_of_matter m v.owner) refl (gone vs)
-            where
-              one : (b : Bool) → is_of_matter m v.owner ≡ b → moved_for m (moved_without m vs) ≡ pos 0 → moved_for m (cond (not b) (v ∷ moved_without m vs) (moved_without m vs)) ≡ pos 0
-              one true is more = more
-              one false is more = rw is (omega (arith, ints, more))
-      cases false other_test =
-          let apart : k ≢ m = grind (arith, nat_tests) in
-          other-sum m k firm.movements apart ∙ (sound.ledgers k ∙ ap (λ (r : Rows). ledger r.entries) (sym (of_other-cleared_by k m rows firm apart)))
+          one : (b : Bool) → is_of_matter m v.owner ≡ b → moved_for m (moved_without m vs) ≡ pos 0 → moved_for m (cond (not b) (v ∷ moved_without m vs) (moved_without m vs)) ≡ pos 0
+          one true is more = more
+          one false is more = rw is (omega (arith, ints, more))
 
   covered : (k n : ℕ) → pos 0 ≤ℤ moved_for k (take n after.movements)
-  covered k n = cases (k == m) refl
-    where
-      cases : (b : Bool) → (k == m) ≡ b → pos 0 ≤ℤ moved_for k (take n after.movements)
-      cases true same_test =
-          let same : k ≡ m = grind (arith, nat_tests) in
-          let here : pos 0 ≤ℤ moved_for m (take n after.movements) = let z = own-sum m n firm.movements in omega (arith, ints, z) in
-          subst (λ j. pos 0 ≤ℤ moved_for j (take n after.movements)) (sym same) here
-      cases false other_test =
-          let apart : k ≢ m = grind (arith, nat_tests) in
-          let place = place-kept m n firm.movements in
-          let so_far : moved_for k (take n after.movements) ≡ moved_for k (take place.0 firm.movements) = ap (moved_for k) place.1 ∙ other-sum m k (take place.0 firm.movements) apart in
-          subst (λ z. pos 0 ≤ℤ z) (sym so_far) (sound.covered k place.0)
+  covered k n =
+      each-matter (λ j. pos 0 ≤ℤ moved_for j (take n after.movements)) m
+      (let z = own-sum m n firm.movements in omega (arith, ints, z))
+      (λ k apart. let place = place-kept m n firm.movements in let so_far : moved_for k (take n after.movements) ≡ moved_for k (take place.0 firm.movements) = ap (moved_for k) place.1 ∙ other-sum m k (take place.0 firm.movements) apart in subst (λ z. pos 0 ≤ℤ z) (sym so_far) (sound.covered k place.0))
+      k
 
   pub sound-cleared : FirmSound after
   sound-cleared = record {

@@ -1,9 +1,8 @@
 -- A change of a sound firm leaves it sound.
-use Rattle.std.proofs.Common.{◌≡◌, ◌≢◌, ℕ, ◌+◌, ◌<◌, ◌≤◌, Bool, true, false, List, [], ◌∷◌, ◌++◌, length, map, take, Option, Some, None, refl, sym, ap, ◌∙◌, subst, arith, rules, append-nil, length-append, ◌⊎◌, inl, inr}
-use Rattle.std.specs.Prelude.{pos, ◌+ℤ◌, ◌≤ℤ◌, ◌==◌}
+use Rattle.std.proofs.Common.{◌≡◌, ◌≢◌, ℕ, ◌+◌, ◌<◌, ◌≤◌, List, [], ◌∷◌, ◌++◌, length, map, take, Option, Some, None, refl, sym, ap, ◌∙◌, subst, arith, rules, append-nil, length-append, ◌⊎◌, inl, inr}
+use Rattle.std.specs.Prelude.{pos, ◌+ℤ◌, ◌≤ℤ◌}
 use Rattle.std.proofs.lemmas.Int.{ints}
 use Rattle.std.proofs.lemmas.Bool.{cases_lt}
-use Rattle.std.proofs.lemmas.Bool.Decides.{nat_tests}
 use Rattle.std.proofs.Math.Seq.{take-nil}
 use Rattle.std.proofs.lemmas.List.{take-append-le, take_all}
 use Rattle.std.specs.List.Sorted.{IsStrictlySortedBy}
@@ -25,7 +24,7 @@ use Rattle.firm_rows.proofs.Sums.{sum-append}
 use Rattle.firm_rows.proofs.InTime.{RiseTo, days-same, rise-own}
 use Rattle.firm_rows.proofs.Order.{in_order-rewritten_by}
 use Rattle.firm_rows.proofs.Clearing.{sound-cleared}
-use Rattle.firm_rows.proofs.Changed.{IsNoClear, EditCases, edit-cases, of-rewritten_by, of_other-rewritten_by}
+use Rattle.firm_rows.proofs.Changed.{each-matter, IsNoClear, EditCases, edit-cases, of-rewritten_by, of_other-rewritten_by}
 use Rattle.firm_rows.proofs.Told.{events-append, firm-append, joined-other, joined-firm, moved-other, events-told, ledger-told}
 
 -- no ledger of a sound matter is below zero
@@ -69,63 +68,41 @@ module _ (m : ℕ) (e : Edit) (last : ℕ) (firm : Firm) (sound : FirmSound firm
   own = of-rewritten_by m e last firm
 
   matters : (k : ℕ) → Sound (of k after)
-  matters k = cases (k == m) refl
-    where
-      cases : (b : Bool) → (k == m) ≡ b → Sound (of k after)
-      cases true same_test = let same : k ≡ m = grind (arith, nat_tests) in subst Sound (sym (ap (λ n. of n after) same ∙ own)) is.sound
-      cases false other_test = let apart : k ≢ m = grind (arith, nat_tests) in subst Sound (sym (of_other-rewritten_by k m e last firm apart)) (sound.matters k)
+  matters = each-matter (λ k. Sound (of k after)) m (subst Sound (sym own) is.sound) (λ k apart. subst Sound (sym (of_other-rewritten_by k m e last firm apart)) (sound.matters k))
 
   events : (k n : ℕ) → events_moved k n after.movements ≡ events_in (entry_at (of k after).entries n)
-  events k n = events-append k n firm.movements (moved_by m e old) ∙ cases (k == m) refl
-    where
-      cases : (b : Bool) → (k == m) ≡ b → events_moved k n firm.movements ++ events_moved k n (moved_by m e old) ≡ events_in (entry_at (of k after).entries n)
-      cases true same_test =
-          let same : k ≡ m = grind (arith, nat_tests) in
-          let here : events_moved m n firm.movements ++ events_moved m n (moved_by m e old) ≡ events_in (entry_at (of m after).entries n) =
-          ap (λ xs. xs ++ events_moved m n (moved_by m e old)) (sound.events m n)
-          ∙ (sym (events-told m old e n keeps is.place is.moved) ∙ ap (λ (r : Rows). events_in (entry_at r.entries n)) (sym own)) in
-          subst (λ j. events_moved j n firm.movements ++ events_moved j n (moved_by m e old) ≡ events_in (entry_at (of j after).entries n)) (sym same) here
-      cases false other_test =
-          let apart : k ≢ m = grind (arith, nat_tests) in
-          ap (λ xs. events_moved k n firm.movements ++ xs) (joined-other m k n (movement_of old.entries e) apart)
-          ∙ (append-nil (events_moved k n firm.movements) ∙ (sound.events k n ∙ ap (λ (r : Rows). events_in (entry_at r.entries n)) (sym (of_other-rewritten_by k m e last firm apart))))
+  events k n =
+      events-append k n firm.movements (moved_by m e old) ∙ each-matter (λ j. events_moved j n firm.movements ++ events_moved j n (moved_by m e old) ≡ events_in (entry_at (of j after).entries n)) m
+      (ap (λ xs. xs ++ events_moved m n (moved_by m e old)) (sound.events m n) ∙ (sym (events-told m old e n keeps is.place is.moved) ∙ ap (λ (r : Rows). events_in (entry_at r.entries n)) (sym own)))
+      (λ k apart. ap (λ xs. events_moved k n firm.movements ++ xs) (joined-other m k n (movement_of old.entries e) apart) ∙ (append-nil (events_moved k n firm.movements) ∙ (sound.events k n ∙ ap (λ (r : Rows). events_in (entry_at r.entries n)) (sym (of_other-rewritten_by k m e last firm apart)))))
+      k
 
   own_money : firm_events after.movements ≡ map line_event firm.firm_lines
   own_money = firm-append firm.movements (moved_by m e old) ∙ ((λ i. sound.own i ++ joined-firm m (movement_of old.entries e) i) ∙ append-nil (map line_event firm.firm_lines))
 
   in_time : (k : ℕ) → AreMovedInTime k after
-  in_time k = cases (k == m) refl
+  in_time = each-matter (λ k. AreMovedInTime k after) m here other
     where
-      cases : (b : Bool) → (k == m) ≡ b → AreMovedInTime k after
-      cases true same_test =
-          let same : k ≡ m = grind (arith, nat_tests) in
+      here : AreMovedInTime m after
+      here =
           let before = sound.in_time m in
           let rise : RiseTo last (days_moved m after.movements) = rise-own m (last_of old.head) last firm.movements (movement_of old.entries e) (before.rising, before.by_last) is.not_before is.dated in
           let seen : last_of (of m after).head ≡ last = ap (λ (r : Rows). last_of r.head) own ∙ is.seen in
-          let by_last = (subst (λ n. RiseTo n (days_moved m after.movements)) (sym seen) rise).1 in
-          subst (λ j. AreMovedInTime j after) (sym same) (record { rising = rise.0; by_last = by_last })
-      cases false other_test =
-          let apart : k ≢ m = grind (arith, nat_tests) in
+          record { rising = rise.0; by_last = (subst (λ n. RiseTo n (days_moved m after.movements)) (sym seen) rise).1 }
+
+      other : (k : ℕ) → k ≢ m → AreMovedInTime k after
+      other k apart =
           let before = sound.in_time k in
           let rise : RiseTo (last_of (of k firm).head) (days_moved k after.movements) = subst (RiseTo (last_of (of k firm).head)) (sym (days-same m k firm.movements (movement_of old.entries e) apart)) (before.rising, before.by_last) in
           let same : last_of (of k firm).head ≡ last_of (of k after).head = ap (λ (r : Rows). last_of r.head) (sym (of_other-rewritten_by k m e last firm apart)) in
           record { rising = rise.0; by_last = (subst (λ n. RiseTo n (days_moved k after.movements)) same rise).1 }
 
   ledgers : (k : ℕ) → moved_for k after.movements ≡ ledger (of k after).entries
-  ledgers k = sum-append (amount_for k) firm.movements (moved_by m e old) ∙ cases (k == m) refl
-    where
-      cases : (b : Bool) → (k == m) ≡ b → moved_for k firm.movements +ℤ moved_for k (moved_by m e old) ≡ ledger (of k after).entries
-      cases true same_test =
-          let same : k ≡ m = grind (arith, nat_tests) in
-          let here : moved_for m firm.movements +ℤ moved_for m (moved_by m e old) ≡ ledger (of m after).entries =
-          ap (λ z. z +ℤ moved_for m (moved_by m e old)) (sound.ledgers m)
-          ∙ (sym (ledger-told m old e keeps is.place is.moved) ∙ ap (λ (r : Rows). ledger r.entries) (sym own)) in
-          subst (λ j. moved_for j firm.movements +ℤ moved_for j (moved_by m e old) ≡ ledger (of j after).entries) (sym same) here
-      cases false other_test =
-          let apart : k ≢ m = grind (arith, nat_tests) in
-          let none = moved-other m k (movement_of old.entries e) apart in
-          let same : moved_for k firm.movements +ℤ moved_for k (moved_by m e old) ≡ moved_for k firm.movements = omega (arith, ints, none) in
-          same ∙ (sound.ledgers k ∙ ap (λ (r : Rows). ledger r.entries) (sym (of_other-rewritten_by k m e last firm apart)))
+  ledgers k =
+      sum-append (amount_for k) firm.movements (moved_by m e old) ∙ each-matter (λ j. moved_for j firm.movements +ℤ moved_for j (moved_by m e old) ≡ ledger (of j after).entries) m
+      (ap (λ z. z +ℤ moved_for m (moved_by m e old)) (sound.ledgers m) ∙ (sym (ledger-told m old e keeps is.place is.moved) ∙ ap (λ (r : Rows). ledger r.entries) (sym own)))
+      (λ k apart. let none = moved-other m k (movement_of old.entries e) apart in let same : moved_for k firm.movements +ℤ moved_for k (moved_by m e old) ≡ moved_for k firm.movements = omega (arith, ints, none) in same ∙ (sound.ledgers k ∙ ap (λ (r : Rows). ledger r.entries) (sym (of_other-rewritten_by k m e last firm apart))))
+      k
 
   covered : Covered → (k n : ℕ) → pos 0 ≤ℤ moved_for k (take n after.movements)
   covered law k n = covered-more k m firm.movements n (movement_of old.entries e) (sound.covered k) (subst (λ z. pos 0 ≤ℤ z) (sym (ledgers k)) (ledger-least law (of k after) (matters k)))

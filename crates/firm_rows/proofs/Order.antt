@@ -1,6 +1,6 @@
 -- The rows of each matter stand together, also after a change.
-use Rattle.std.proofs.Common.{◌≡◌, ◌≢◌, ℕ, ◌<◌, ◌≤◌, Bool, true, false, List, [], ◌++◌, refl, sym, ap, ◌∙◌, subst, arith, append_assoc, append-nil, ◌⊎◌, inl, inr}
-use Rattle.std.specs.Prelude.{nat_lt, ◌==◌}
+use Rattle.std.proofs.Common.{◌≡◌, ◌≢◌, ℕ, ◌<◌, ◌≤◌, Bool, true, List, [], ◌++◌, sym, ap, ◌∙◌, subst, arith, append_assoc, append-nil, ◌⊎◌, inl, inr}
+use Rattle.std.specs.Prelude.{nat_lt}
 use Rattle.std.proofs.lemmas.Bool.{cases_lt}
 use Rattle.std.proofs.lemmas.Bool.Decides.{nat_tests}
 use Rattle.trust_matter.specs.edit.Edit.{Edit}
@@ -9,7 +9,7 @@ use Rattle.trust_matter.specs.Changes.{MatterChange, changed_by}
 use Rattle.firm_rows.specs.Firm.{Row, Firm, of, pairs, put, rewritten_by, cleared_by, after_change}
 use Rattle.firm_rows.specs.FirmSound.{IsInOrder}
 use Rattle.firm_rows.proofs.Joined.{passing, passing-append, passing_twice, passing_never, passing_swap, pairs_pass, pairs_fail}
-use Rattle.firm_rows.proofs.Changed.{EditCases, edit-cases, of-rewritten_by, of_other-rewritten_by, of-cleared_by, of_other-cleared_by}
+use Rattle.firm_rows.proofs.Changed.{each-matter, EditCases, edit-cases, of-cleared_by, of_other-cleared_by}
 
 -- the pairs of lesser numbers, and those of greater
 abbrev before : ℕ → List (ℕ × Row) → List (ℕ × Row)
@@ -72,35 +72,17 @@ put-other k m own rows xs apart is = cases (cases_lt k m)
         put-rear k own low (pairs m rows ++ behind m xs) all none
         ∙ ap (λ ys. low ++ ys) (put-rear k own (pairs m rows) (behind m xs) all_own none_own ∙ ap (λ ys. pairs m rows ++ ys) (put-passing k own (λ x. nat_lt m x) xs (grind (arith, nat_tests)) is))
 
-rows-rewritten_by : (m : ℕ) (e : Edit) (last : ℕ) (firm : Firm) → IsInOrder firm → (k : ℕ) → put k (of k (rewritten_by m e last firm)) (rewritten_by m e last firm).rows ≡ (rewritten_by m e last firm).rows
-rows-rewritten_by m e last firm order k = cases (k == m) refl
-  where
-    cases : (b : Bool) → (k == m) ≡ b → put k (of k (rewritten_by m e last firm)) (put m (changed_by e last (of m firm)) firm.rows) ≡ put m (changed_by e last (of m firm)) firm.rows
-    cases true same_test =
-        let same : k ≡ m = grind (arith, nat_tests) in
-        let own : of k (rewritten_by m e last firm) ≡ changed_by e last (of m firm) = ap (λ n. of n (rewritten_by m e last firm)) same ∙ of-rewritten_by m e last firm in
-        (λ i. put (same i) (own i) (put m (changed_by e last (of m firm)) firm.rows)) ∙ put-again m (changed_by e last (of m firm)) firm.rows
-    cases false other_test =
-        let apart : k ≢ m = grind (arith, nat_tests) in
-        ap (λ r. put k r (put m (changed_by e last (of m firm)) firm.rows)) (of_other-rewritten_by k m e last firm apart) ∙ put-other k m (of k firm) (changed_by e last (of m firm)) firm.rows apart (order.rows k)
+rows-put : (m : ℕ) (rows : Rows) (firm : Firm) → IsInOrder firm → (k : ℕ) → put k (of k (cleared_by m rows firm)) (put m rows firm.rows) ≡ put m rows firm.rows
+rows-put m rows firm order =
+    each-matter (λ k. put k (of k (cleared_by m rows firm)) (put m rows firm.rows) ≡ put m rows firm.rows) m
+    (ap (λ r. put m r (put m rows firm.rows)) (of-cleared_by m rows firm) ∙ put-again m rows firm.rows)
+    (λ k apart. ap (λ r. put k r (put m rows firm.rows)) (of_other-cleared_by k m rows firm apart) ∙ put-other k m (of k firm) rows firm.rows apart (order.rows k))
 
 pub in_order-rewritten_by : (m : ℕ) (e : Edit) (last : ℕ) (firm : Firm) → IsInOrder firm → IsInOrder (rewritten_by m e last firm)
-in_order-rewritten_by m e last firm order = record { rows = rows-rewritten_by m e last firm order; exceptions = order.exceptions; balances = order.balances }
-
-rows-cleared : (m : ℕ) (rows : Rows) (firm : Firm) → IsInOrder firm → (k : ℕ) → put k (of k (cleared_by m rows firm)) (put m rows firm.rows) ≡ put m rows firm.rows
-rows-cleared m rows firm order k = cases (k == m) refl
-  where
-    cases : (b : Bool) → (k == m) ≡ b → put k (of k (cleared_by m rows firm)) (put m rows firm.rows) ≡ put m rows firm.rows
-    cases true same_test =
-        let same : k ≡ m = grind (arith, nat_tests) in
-        let own : of k (cleared_by m rows firm) ≡ rows = ap (λ n. of n (cleared_by m rows firm)) same ∙ of-cleared_by m rows firm in
-        (λ i. put (same i) (own i) (put m rows firm.rows)) ∙ put-again m rows firm.rows
-    cases false other_test =
-        let apart : k ≢ m = grind (arith, nat_tests) in
-        ap (λ r. put k r (put m rows firm.rows)) (of_other-cleared_by k m rows firm apart) ∙ put-other k m (of k firm) rows firm.rows apart (order.rows k)
+in_order-rewritten_by m e last firm order = record { rows = rows-put m (changed_by e last (of m firm)) firm order; exceptions = order.exceptions; balances = order.balances }
 
 pub in_order-cleared_by : (m : ℕ) (rows : Rows) (firm : Firm) → IsInOrder firm → IsInOrder (cleared_by m rows firm)
-in_order-cleared_by m rows firm order = record { rows = rows-cleared m rows firm order; exceptions = order.exceptions; balances = order.balances }
+in_order-cleared_by m rows firm order = record { rows = rows-put m rows firm order; exceptions = order.exceptions; balances = order.balances }
 
 pub stays-in_order : (m : ℕ) (change : MatterChange) (firm : Firm) → IsInOrder firm → IsInOrder (after_change m change firm)
 stays-in_order m change firm order = cases (edit-cases m change.edit change.last firm)

@@ -6,7 +6,7 @@ use Rattle.std.specs.Cmp.{IsTotalOrder}
 use Rattle.std.specs.declared.cmp.Ordering.{Ordering}
 use Rattle.std.specs.declared.cmp.Ordering.TheVariants.{Less, Equal, Greater}
 use Rattle.std.specs.Ordering.{is_lt, is_eq, ordering_index, ordering_reverse}
-use Rattle.std.proofs.lemmas.Bool.{cond_both, false≢true, cases_lt, cases_eq}
+use Rattle.std.proofs.lemmas.Bool.{cond_both, not-true, false≢true, cases_lt, cases_eq}
 use Rattle.std.proofs.lemmas.Cmp.{tied_itself}
 use Rattle.std.proofs.lemmas.List.Elements.{recursion_from_All, All-from_recursion, filter_passes, Contains-append_left, Contains-append_right, Contains-append_cases}
 use Rattle.std.proofs.lemmas.List.Kept.{IsStrictlySortedBy-filter}
@@ -18,15 +18,6 @@ pub lt-Less : (r : Ordering) → is_lt r ≡ true → r ≡ Less
 lt-Less Less is = refl
 lt-Less Equal is = absurd (false≢true is)
 lt-Less Greater is = absurd (false≢true is)
-
-eq-Equal : (r : Ordering) → is_eq r ≡ true → r ≡ Equal
-eq-Equal Less is = absurd (false≢true is)
-eq-Equal Equal is = refl
-eq-Equal Greater is = absurd (false≢true is)
-
-not-twice : (b : Bool) → not b ≡ true → b ≡ false
-not-twice true is = absurd (false≢true is)
-not-twice false is = refl
 
 -- Lists and tests.
 
@@ -196,7 +187,7 @@ module _ {K : Type 0} (R : K → K → Ordering) (o : IsTotalOrder R) (exact : (
       tied is = ap is_eq (ap (λ y. R y k) is ∙ tied_itself o k)
 
       there : Contains (without R k ks) x → Contains ks x × (x ≢ k)
-      there c = (filter-contains (λ y. not (is_eq (R y k))) ks x c, λ is. false≢true (sym (not-twice (is_eq (R x k)) (filter-passed (λ y. not (is_eq (R y k))) ks x c)) ∙ tied is))
+      there c = (filter-contains (λ y. not (is_eq (R y k))) ks x c, λ is. false≢true (sym (not-true (is_eq (R x k)) (filter-passed (λ y. not (is_eq (R y k))) ks x c)) ∙ tied is))
 
       apart : (r : Ordering) → R x k ≡ r → x ≢ k → not (is_eq r) ≡ true
       apart Less is other = refl

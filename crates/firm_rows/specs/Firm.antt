@@ -17,6 +17,8 @@ use Rattle.firm_rows.specs.declared.movement.Owner.{Owner}
 use Rattle.firm_rows.specs.declared.movement.Owner.TheVariants as owner
 use Rattle.firm_rows.specs.declared.ledger.FirmLine.{FirmLine}
 use Rattle.firm_rows.specs.declared.ledger.StatementRow.{StatementRow}
+use Rattle.firm_rows.specs.declared.sink.MatterRow.{MatterRow}
+use Rattle.firm_rows.specs.declared.sink.MatterRow.TheVariants as given
 use Rattle.firm_rows.specs.FirmLines.{with_balance}
 
 -- a row of some matter
@@ -24,6 +26,12 @@ pub data Row : Type 0 where
   HeadRow : (head : Head) → Row
   SeatRow : (seat : Seat) → Row
   EntryRow : (number : ℕ) (entry : Entry) → Row
+
+-- the row that a sink receives
+abbrev pub row_of : MatterRow → Row
+row_of (given.Head head) = HeadRow head.now
+row_of (given.Seat seat) = SeatRow seat.now
+row_of (given.Entry number entry) = EntryRow number entry.now
 
 -- the rows of all matters, each with its matter's number; the movements and the lines of the firm's own ledger, both in
 -- the order of acceptance; the exceptions, a sorted set of whole lines; and the balances, openings before closings,

@@ -12,4 +12,6 @@ pub use ledger::{
 };
 pub use limits::MAX_OWN;
 pub use movement::{Movement, Owner};
-pub use sink::{BalanceSink, ExceptionSink, FirmLineSink, MovementSink, RowSink};
+pub use sink::{
+    BalanceSink, ExceptionSink, FirmLineSink, MatterRow, MatterRowSink, MovementSink, RowSink,
+};

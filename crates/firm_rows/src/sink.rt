@@ -1,7 +1,7 @@
 // Traits for receiving rows one at a time, one trait for each kind of row.
 
 ghost use Rattle.std.specs.Prelude.{◌≡◌, ℕ, OnOk, OnErr};
-ghost use Rattle.firm_rows.specs.Firm.{Row, HeadRow, SeatRow, EntryRow};
+ghost use Rattle.firm_rows.specs.Firm.{Row, HeadRow, SeatRow, EntryRow, row_of};
 
 use crate::ledger::{FirmLine, StatementRow};
 use crate::movement::Movement;
@@ -31,6 +31,44 @@ pub trait RowSink {
     fn entry(&mut self, matter: MatterNo, number: EntryNo, entry: &Entry) -> Result<(), AllocError>
         ensures ok { OnOk result (self.new ≡ stepped self.old (matter, EntryRow number entry.now)) }
         ensures err { OnErr result (self.new ≡ self.old) };
+}
+
+/// A row of a matter, borrowed.
+#[derive(Clone, Copy)]
+pub enum MatterRow<'a> {
+    Head(&'a Head),
+    Seat(&'a Seat),
+    Entry(EntryNo, &'a Entry),
+}
+
+/// Receives the rows of a firm's matters in order, all by one method. If memory runs out, the sink is unchanged.
+pub trait MatterRowSink {
+    ghost use Rattle.std.specs.Prelude.{ℕ};
+    ghost use Rattle.firm_rows.specs.Firm.{Row};
+
+    /// The sink after a row of a matter.
+    ghost taken: { Self → ℕ × Row → Self };
+
+    /// Receives a row of a matter.
+    fn matter_row(&mut self, matter: MatterNo, row: MatterRow<'_>) -> Result<(), AllocError>
+        ensures ok { OnOk result (self.new ≡ taken self.old (matter, row_of row.entry)) }
+        ensures err { OnErr result (self.new ≡ self.old) };
+}
+
+impl<S: MatterRowSink> RowSink for S {
+    ghost stepped = { S.taken };
+
+    fn head(&mut self, matter: MatterNo, head: &Head) -> Result<(), AllocError> {
+        self.matter_row(matter, MatterRow::Head(head))
+    }
+
+    fn seat(&mut self, matter: MatterNo, seat: &Seat) -> Result<(), AllocError> {
+        self.matter_row(matter, MatterRow::Seat(seat))
+    }
+
+    fn entry(&mut self, matter: MatterNo, no: EntryNo, entry: &Entry) -> Result<(), AllocError> {
+        self.matter_row(matter, MatterRow::Entry(no, entry))
+    }
 }
 
 /// Receives the exceptions of a firm in order. If memory runs out, the sink is unchanged.

@@ -10,9 +10,11 @@ ghost use Rattle.matter_bodies.specs.Bodies.{balance_sums, client_value, entry_b
 ghost use Rattle.matter_bodies.specs.Json.{object_of};
 ghost use Rattle.matter_bodies.specs.Values.{data_of};
 
-use crate::entries::{claim_body, deposit_body, fee_body, payment_body};
+use crate::entries::{
+    claim_body, claim_receipt, deposit_body, deposit_receipt, fee_body, fee_receipt, payment_body,
+    payment_receipt,
+};
 use crate::json_text::{Value, day_or_null, label, object_text};
-use crate::receipts::{claim_receipt, deposit_receipt, fee_receipt, payment_receipt};
 use std::alloc::{AllocError, Global};
 use trust_base::{Day, EntryNo, MatterNo};
 use trust_matter::{Balances, Entry, Head, Holder, Matter, Seat, balances};

@@ -1,141 +1,161 @@
-//! The bodies of entries in their current state.
+//! The bodies of entries: as they were first made, and in their current state.
 
 ghost use Rattle.std.specs.Prelude.{◌≡◌, IfOk, pos};
 ghost use Rattle.std.specs.Option.{option_copied};
 ghost use Rattle.matter_rows.specs.declared.entry.Entry.TheVariants.{Claim as claim_entry, Deposit as deposit_entry, Fee as fee_entry, Payment as payment_entry};
-ghost use Rattle.matter_bodies.specs.Bodies.{bank_day_value, bank_ref_value, claim_left_value, claim_state_name as claim_word, client_part as client_part_in, deposit_clearing as deposit_clearing_in, deposit_returning as deposit_returning_in, deposit_state_name as deposit_word, entry_body, issued_on as issued_in, payment_clearing as payment_clearing_in, payment_state_name as payment_word, settled_on as settled_in, undone_on as undone_in, voided_on as voided_in};
+ghost use Rattle.matter_bodies.specs.Bodies.{against_entry as claimed_fee_in, against_name as ground_name_in, bank_day_value, bank_ref_value, claim_left_value, claimant_of as claimant_in, entry_body, fund_entry as fund_entry_in, fund_name as fund_name_in, receipt_body};
 ghost use Rattle.matter_bodies.specs.Values.{data_of};
 
 use crate::json_text::{
     Value, cents_or_null, day_or_null, entry_or_null, label, label_or_null, object_text, reference,
 };
-use crate::receipts::{claimant, claimed_fee, fund_entry, fund_name, ground_name};
 use std::alloc::{AllocError, Global};
-use trust_base::{CentsOrZero, Day, EntryNo, MatterNo};
+use trust_base::{EntryNo, Label, MatterNo};
 use trust_matter::{
-    Against, Claim, ClaimState, Clearing, Deposit, DepositState, Fee, Payment, PaymentState,
+    Against, Claim, ClaimState, Clearing, Deposit, DepositState, Fee, Fund, Payment, PaymentState,
 };
 
-fn deposit_state_name(state: &DepositState) -> &'static str
-    ensures { result.now ≡ deposit_word state.now }
+// The word for what a payment is paid from.
+fn fund_name(fund: Fund) -> &'static str
+    ensures { result.now ≡ fund_name_in fund }
 {
-    match state {
-        DepositState::Held => "held",
-        DepositState::Cleared(_) => "cleared",
-        DepositState::Cancelled(_) => "cancelled",
-        DepositState::Returned(_) => "returned",
+    match fund {
+        Fund::General => "general",
+        Fund::Fee(_) => "fee",
+        Fund::Claim(_) => "claim",
     }
 }
 
-fn deposit_clearing(state: &DepositState) -> Option<&Clearing>
-    ensures { option_copied result ≡ deposit_clearing_in state.now }
+// The entry that a payment is paid from, if any.
+fn fund_entry(fund: Fund) -> Option<EntryNo>
+    ensures { result ≡ fund_entry_in fund }
 {
-    match state {
-        DepositState::Held => None,
-        DepositState::Cleared(clearing) => Some(clearing),
-        DepositState::Cancelled(_) => None,
-        DepositState::Returned(back) => Some(&back.clearing),
+    match fund {
+        Fund::General => None,
+        Fund::Fee(number) | Fund::Claim(number) => Some(number),
     }
 }
 
-fn deposit_returning(state: &DepositState) -> Option<&Clearing>
-    ensures { option_copied result ≡ deposit_returning_in state.now }
+// The word for what a claim is on.
+fn ground_name(against: &Against) -> &'static str
+    ensures { result.now ≡ ground_name_in against.now }
 {
-    match state {
-        DepositState::Held => None,
-        DepositState::Cleared(_) => None,
-        DepositState::Cancelled(_) => None,
-        DepositState::Returned(back) => Some(&back.returning),
+    match against {
+        Against::General(_) => "general",
+        Against::Fee(_) => "fee",
     }
 }
 
-fn undone_on(state: &DepositState) -> Option<Day>
-    ensures { result ≡ undone_in state.now }
+// The fee that is claimed, if any.
+fn claimed_fee(against: &Against) -> Option<EntryNo>
+    ensures { result ≡ claimed_fee_in against.now }
 {
-    match state {
-        DepositState::Held => None,
-        DepositState::Cleared(_) => None,
-        DepositState::Cancelled(day) => Some(*day),
-        DepositState::Returned(back) => Some(back.undone),
+    match against {
+        Against::General(_) => None,
+        Against::Fee(number) => Some(*number),
     }
 }
 
-fn payment_state_name(state: &PaymentState) -> &'static str
-    ensures { result.now ≡ payment_word state.now }
+// Who claims what is available, if anyone.
+fn claimant(against: &Against) -> Option<&Label>
+    ensures { option_copied result ≡ claimant_in against.now }
 {
-    match state {
-        PaymentState::Proposed => "proposed",
-        PaymentState::Declined => "declined",
-        PaymentState::Issued(_) => "issued",
-        PaymentState::Cleared(_) => "cleared",
-        PaymentState::Voided(_) => "voided",
+    match against {
+        Against::General(claimant) => Some(claimant),
+        Against::Fee(_) => None,
     }
 }
 
-fn payment_clearing(state: &PaymentState) -> Option<&Clearing>
-    ensures { option_copied result ≡ payment_clearing_in state.now }
+pub(crate) fn deposit_receipt(
+    alloc: Global,
+    matter: MatterNo,
+    number: EntryNo,
+    deposit: &Deposit,
+) -> Result<Vec<u8>, AllocError>
+    ensures { IfOk result (λ bytes. bytes.items ≡ receipt_body matter number (deposit_entry deposit.now)) }
 {
-    match state {
-        PaymentState::Proposed => None,
-        PaymentState::Declined => None,
-        PaymentState::Issued(_) => None,
-        PaymentState::Cleared(cleared) => Some(&cleared.clearing),
-        PaymentState::Voided(_) => None,
-    }
+    object_text(
+        alloc,
+        &[
+            ("amount", Value::Cents(deposit.amount.get())),
+            ("day", Value::Day(deposit.book)),
+            ("description", label(&deposit.description)),
+            ("entry", Value::Entry(number)),
+            ("kind", Value::Text("deposit")),
+            ("matter", Value::Matter(matter)),
+            ("source", label(&deposit.source)),
+        ],
+    )
 }
 
-fn issued_on(state: &PaymentState) -> Option<Day>
-    ensures { result ≡ issued_in state.now }
+pub(crate) fn payment_receipt(
+    alloc: Global,
+    matter: MatterNo,
+    number: EntryNo,
+    payment: &Payment,
+) -> Result<Vec<u8>, AllocError>
+    ensures { IfOk result (λ bytes. bytes.items ≡ receipt_body matter number (payment_entry payment.now)) }
 {
-    match state {
-        PaymentState::Proposed => None,
-        PaymentState::Declined => None,
-        PaymentState::Issued(day) => Some(*day),
-        PaymentState::Cleared(cleared) => Some(cleared.issued),
-        PaymentState::Voided(voided) => Some(voided.issued),
-    }
+    object_text(
+        alloc,
+        &[
+            ("amount", Value::Cents(payment.amount.get())),
+            ("day", Value::Day(payment.book)),
+            ("entry", Value::Entry(number)),
+            ("from", Value::Text(fund_name(payment.fund))),
+            ("instrument", label(&payment.instrument)),
+            ("kind", Value::Text("payment")),
+            ("matter", Value::Matter(matter)),
+            ("of", entry_or_null(fund_entry(payment.fund))),
+            ("payee", label(&payment.payee)),
+            ("purpose", label(&payment.purpose)),
+        ],
+    )
 }
 
-fn voided_on(state: &PaymentState) -> Option<Day>
-    ensures { result ≡ voided_in state.now }
+pub(crate) fn fee_receipt(
+    alloc: Global,
+    matter: MatterNo,
+    number: EntryNo,
+    fee: &Fee,
+) -> Result<Vec<u8>, AllocError>
+    ensures { IfOk result (λ bytes. bytes.items ≡ receipt_body matter number (fee_entry fee.now)) }
 {
-    match state {
-        PaymentState::Proposed => None,
-        PaymentState::Declined => None,
-        PaymentState::Issued(_) => None,
-        PaymentState::Cleared(_) => None,
-        PaymentState::Voided(voided) => Some(voided.undone),
-    }
+    object_text(
+        alloc,
+        &[
+            ("amount", Value::Cents(fee.amount.get())),
+            ("day", Value::Day(fee.book)),
+            ("description", label(&fee.description)),
+            ("entry", Value::Entry(number)),
+            ("kind", Value::Text("fee")),
+            ("matter", Value::Matter(matter)),
+        ],
+    )
 }
 
-fn claim_state_name(state: ClaimState) -> &'static str
-    ensures { result.now ≡ claim_word state }
+pub(crate) fn claim_receipt(
+    alloc: Global,
+    matter: MatterNo,
+    number: EntryNo,
+    claim: &Claim,
+) -> Result<Vec<u8>, AllocError>
+    ensures { IfOk result (λ bytes. bytes.items ≡ receipt_body matter number (claim_entry claim.now)) }
 {
-    match state {
-        ClaimState::Open => "open",
-        ClaimState::Offered(_) => "open",
-        ClaimState::Settled(_) => "settled",
-    }
-}
-
-fn client_part(state: ClaimState) -> Option<CentsOrZero>
-    ensures { result ≡ client_part_in state }
-{
-    match state {
-        ClaimState::Open => None,
-        ClaimState::Offered(part) => Some(part),
-        ClaimState::Settled(settlement) => Some(settlement.part),
-    }
-}
-
-fn settled_on(state: ClaimState) -> Option<Day>
-    ensures { result ≡ settled_in state }
-{
-    match state {
-        ClaimState::Open => None,
-        ClaimState::Offered(_) => None,
-        ClaimState::Settled(settlement) => Some(settlement.day),
-    }
+    object_text(
+        alloc,
+        &[
+            ("amount", Value::Cents(claim.amount.get())),
+            ("claimant", label_or_null(claimant(&claim.against))),
+            ("day", Value::Day(claim.book)),
+            ("entry", Value::Entry(number)),
+            ("kind", Value::Text("claim")),
+            ("matter", Value::Matter(matter)),
+            ("of", entry_or_null(claimed_fee(&claim.against))),
+            ("on", Value::Text(ground_name(&claim.against))),
+            ("reason", label(&claim.reason)),
+        ],
+    )
 }
 
 // The day of the bank line; null if there is no bank line.
@@ -176,22 +196,33 @@ pub(crate) fn deposit_body(
 ) -> Result<Vec<u8>, AllocError>
     ensures { IfOk result (λ bytes. bytes.items ≡ entry_body matter number (deposit_entry deposit.now) (pos 0)) }
 {
+    let (state, clearing, returning, undone) = match &deposit.state {
+        DepositState::Held => ("held", None, None, None),
+        DepositState::Cleared(clearing) => ("cleared", Some(clearing), None, None),
+        DepositState::Cancelled(day) => ("cancelled", None, None, Some(*day)),
+        DepositState::Returned(back) => (
+            "returned",
+            Some(&back.clearing),
+            Some(&back.returning),
+            Some(back.undone),
+        ),
+    };
     object_text(
         alloc,
         &[
             ("amount", Value::Cents(deposit.amount.get())),
-            ("bank_day", bank_day(deposit_clearing(&deposit.state))),
-            ("bank_ref", bank_ref(deposit_clearing(&deposit.state))),
+            ("bank_day", bank_day(clearing)),
+            ("bank_ref", bank_ref(clearing)),
             ("day", Value::Day(deposit.book)),
             ("description", label(&deposit.description)),
             ("entry", Value::Entry(number)),
             ("kind", Value::Text("deposit")),
             ("matter", Value::Matter(matter)),
-            ("return_day", bank_day(deposit_returning(&deposit.state))),
-            ("return_ref", bank_ref(deposit_returning(&deposit.state))),
+            ("return_day", bank_day(returning)),
+            ("return_ref", bank_ref(returning)),
             ("source", label(&deposit.source)),
-            ("state", Value::Text(deposit_state_name(&deposit.state))),
-            ("undone", day_or_null(undone_on(&deposit.state))),
+            ("state", Value::Text(state)),
+            ("undone", day_or_null(undone)),
         ],
     )
 }
@@ -204,24 +235,36 @@ pub(crate) fn payment_body(
 ) -> Result<Vec<u8>, AllocError>
     ensures { IfOk result (λ bytes. bytes.items ≡ entry_body matter number (payment_entry payment.now) (pos 0)) }
 {
+    let (state, issued, clearing, undone) = match &payment.state {
+        PaymentState::Proposed => ("proposed", None, None, None),
+        PaymentState::Declined => ("declined", None, None, None),
+        PaymentState::Issued(day) => ("issued", Some(*day), None, None),
+        PaymentState::Cleared(cleared) => (
+            "cleared",
+            Some(cleared.issued),
+            Some(&cleared.clearing),
+            None,
+        ),
+        PaymentState::Voided(voided) => ("voided", Some(voided.issued), None, Some(voided.undone)),
+    };
     object_text(
         alloc,
         &[
             ("amount", Value::Cents(payment.amount.get())),
-            ("bank_day", bank_day(payment_clearing(&payment.state))),
-            ("bank_ref", bank_ref(payment_clearing(&payment.state))),
+            ("bank_day", bank_day(clearing)),
+            ("bank_ref", bank_ref(clearing)),
             ("day", Value::Day(payment.book)),
             ("entry", Value::Entry(number)),
             ("from", Value::Text(fund_name(payment.fund))),
             ("instrument", label(&payment.instrument)),
-            ("issued", day_or_null(issued_on(&payment.state))),
+            ("issued", day_or_null(issued)),
             ("kind", Value::Text("payment")),
             ("matter", Value::Matter(matter)),
             ("of", entry_or_null(fund_entry(payment.fund))),
             ("payee", label(&payment.payee)),
             ("purpose", label(&payment.purpose)),
-            ("state", Value::Text(payment_state_name(&payment.state))),
-            ("undone", day_or_null(voided_on(&payment.state))),
+            ("state", Value::Text(state)),
+            ("undone", day_or_null(undone)),
         ],
     )
 }
@@ -258,6 +301,12 @@ pub(crate) fn claim_body(
 ) -> Result<Vec<u8>, AllocError>
     ensures { IfOk result (λ bytes. bytes.items ≡ entry_body matter number (claim_entry claim.now) (pos left)) }
 {
+    // A claim with an offer is still open.
+    let (state, part, settled) = match claim.state {
+        ClaimState::Open => ("open", None, None),
+        ClaimState::Offered(part) => ("open", Some(part), None),
+        ClaimState::Settled(settlement) => ("settled", Some(settlement.part), Some(settlement.day)),
+    };
     object_text(
         alloc,
         &[
@@ -271,9 +320,9 @@ pub(crate) fn claim_body(
             ("of", entry_or_null(claimed_fee(&claim.against))),
             ("on", Value::Text(ground_name(&claim.against))),
             ("reason", label(&claim.reason)),
-            ("settled", day_or_null(settled_on(claim.state))),
-            ("state", Value::Text(claim_state_name(claim.state))),
-            ("to_client", cents_or_null(client_part(claim.state))),
+            ("settled", day_or_null(settled)),
+            ("state", Value::Text(state)),
+            ("to_client", cents_or_null(part)),
         ],
     )
 }

@@ -1,15 +1,15 @@
 //! Writes the JSON object of an answer.
 
-ghost use Rattle.std.specs.Prelude.{◌≡◌, ◌++◌, map, IfOk, OnOk};
+ghost use Rattle.std.specs.Prelude.{◌≡◌, ◌++◌, map, IfOk, IfSome, OnOk};
 ghost use Rattle.std.specs.Option.{option_copied};
 ghost use Rattle.serde_json.specs.Data.{string as text_data};
 ghost use Rattle.serde_json.specs.Written.{compact_text};
-ghost use Rattle.matter_bodies.specs.Json.{amount_value, array_of, day_value, entry_value, matter_value, member_tokens, object_of, or_null, value_tokens};
+ghost use Rattle.matter_bodies.specs.Json.{amount_value, array_of, day_value, entry_value, object_of, or_null, value_tokens};
 ghost use Rattle.matter_bodies.specs.Values.{data_of, member_of, role_name as role_word, seat_object};
 
-use crate::texts::{label_text, person_text, reference_text};
 use json::Writer;
 use std::alloc::{AllocError, Global};
+use std::fmt;
 use trust_base::{BankText, CentsOrZero, Day, Dollars, EntryNo, Label, MatterNo};
 use trust_matter::{Role, Seat};
 
@@ -33,14 +33,17 @@ pub(crate) type Member<'a> = (&'a str, Value<'a>);
 pub(crate) fn label(label: &Label) -> Value<'_>
     ensures { data_of result ≡ text_data label.now }
 {
-    Value::Text(label_text(label))
+    let Ok(text) = str::from_utf8(label.as_slice()) else {
+        unreachable!()
+    };
+    Value::Text(text)
 }
 
-pub(crate) fn label_or_null(label: Option<&Label>) -> Value<'_>
-    ensures { data_of result ≡ or_null text_data (option_copied label.entry) }
+pub(crate) fn label_or_null(found: Option<&Label>) -> Value<'_>
+    ensures { data_of result ≡ or_null text_data (option_copied found.entry) }
 {
-    match label {
-        Some(label) => Value::Text(label_text(label)),
+    match found {
+        Some(found) => label(found),
         None => Value::Null,
     }
 }
@@ -48,7 +51,10 @@ pub(crate) fn label_or_null(label: Option<&Label>) -> Value<'_>
 pub(crate) fn reference(reference: &BankText) -> Value<'_>
     ensures { data_of result ≡ text_data reference.now }
 {
-    Value::Text(reference_text(reference))
+    let Ok(text) = str::from_utf8(reference.as_slice()) else {
+        unreachable!()
+    };
+    Value::Text(text)
 }
 
 pub(crate) fn day_or_null(day: Option<Day>) -> Value<'static>
@@ -92,9 +98,12 @@ fn write_seat(out: &mut Writer, seat: &Seat) -> Result<(), AllocError>
     ensures before { out.new.before ≡ out.old.before }
     ensures tokens { OnOk result (out.new.tokens ≡ out.old.tokens ++ value_tokens (seat_object seat.now)) }
 {
+    let Ok(person) = str::from_utf8(seat.person.as_slice()) else {
+        unreachable!()
+    };
     out.begin_object()?;
     out.key("person")?;
-    out.string(person_text(&seat.person))?;
+    out.string(person)?;
     out.key("role")?;
     out.string(role_name(seat.role))?;
     out.end_object()
@@ -113,33 +122,17 @@ fn write_seats(out: &mut Writer, seats: &[Seat]) -> Result<(), AllocError>
     out.end_array()
 }
 
-fn write_cents(alloc: Global, out: &mut Writer, cents: u64) -> Result<(), AllocError>
+// Writes the text that a value is shown as.
+fn write_shown<T: fmt::Display>(
+    alloc: Global,
+    out: &mut Writer,
+    shown: &T,
+) -> Result<(), AllocError>
     ensures before { out.new.before ≡ out.old.before }
-    ensures tokens { OnOk result (out.new.tokens ≡ out.old.tokens ++ value_tokens (amount_value cents)) }
+    ensures tokens { OnOk result (IfSome (T.output shown.now)
+        (λ text. out.new.tokens ≡ out.old.tokens ++ value_tokens (text_data text))) }
 {
-    let sum = Dollars(cents as i128);
-    out.string(format!(in alloc; "{sum}")?.as_str())
-}
-
-fn write_day(alloc: Global, out: &mut Writer, day: Day) -> Result<(), AllocError>
-    ensures before { out.new.before ≡ out.old.before }
-    ensures tokens { OnOk result (out.new.tokens ≡ out.old.tokens ++ value_tokens (day_value day)) }
-{
-    out.string(format!(in alloc; "{day}")?.as_str())
-}
-
-fn write_entry(alloc: Global, out: &mut Writer, entry: EntryNo) -> Result<(), AllocError>
-    ensures before { out.new.before ≡ out.old.before }
-    ensures tokens { OnOk result (out.new.tokens ≡ out.old.tokens ++ value_tokens (entry_value entry)) }
-{
-    out.string(format!(in alloc; "{entry}")?.as_str())
-}
-
-fn write_matter(alloc: Global, out: &mut Writer, matter: MatterNo) -> Result<(), AllocError>
-    ensures before { out.new.before ≡ out.old.before }
-    ensures tokens { OnOk result (out.new.tokens ≡ out.old.tokens ++ value_tokens (matter_value matter)) }
-{
-    out.string(format!(in alloc; "{matter}")?.as_str())
+    out.string(format!(in alloc; "{shown}")?.as_str())
 }
 
 fn write_value(alloc: Global, out: &mut Writer, value: &Value<'_>) -> Result<(), AllocError>
@@ -150,34 +143,12 @@ fn write_value(alloc: Global, out: &mut Writer, value: &Value<'_>) -> Result<(),
         Value::Null => out.null(),
         Value::Text(text) => out.string(text),
         Value::Count(count) => out.u64(*count),
-        Value::Cents(cents) => write_cents(alloc, out, *cents),
-        Value::Day(day) => write_day(alloc, out, *day),
-        Value::Entry(entry) => write_entry(alloc, out, *entry),
-        Value::Matter(matter) => write_matter(alloc, out, *matter),
+        Value::Cents(cents) => write_shown(alloc, out, &Dollars(*cents as i128)),
+        Value::Day(day) => write_shown(alloc, out, day),
+        Value::Entry(entry) => write_shown(alloc, out, entry),
+        Value::Matter(matter) => write_shown(alloc, out, matter),
         Value::Seats(seats) => write_seats(out, seats),
     }
-}
-
-fn write_member(alloc: Global, out: &mut Writer, member: &Member<'_>) -> Result<(), AllocError>
-    ensures before { out.new.before ≡ out.old.before }
-    ensures tokens { OnOk result
-        (out.new.tokens ≡ out.old.tokens ++ member_tokens member.now.0.now (data_of member.now.1)) }
-{
-    out.key(member.0)?;
-    write_value(alloc, out, &member.1)
-}
-
-// Writes an object with these members, in their order.
-fn write_object(alloc: Global, out: &mut Writer, members: &[Member<'_>]) -> Result<(), AllocError>
-    ensures before { out.new.before ≡ out.old.before }
-    ensures tokens { OnOk result
-        (out.new.tokens ≡ out.old.tokens ++ value_tokens (object_of (map member_of members.now))) }
-{
-    out.begin_object()?;
-    for member in members {
-        write_member(alloc, out, member)?;
-    }
-    out.end_object()
 }
 
 /// The compact text of an object with these members, in their order. The only error is out of memory.
@@ -185,6 +156,11 @@ pub(crate) fn object_text(alloc: Global, members: &[Member<'_>]) -> Result<Vec<u
     ensures { IfOk result (λ bytes. bytes.items ≡ compact_text (object_of (map member_of members.now))) }
 {
     let mut out = Writer::new(Vec::with_capacity(alloc, 256)?);
-    write_object(alloc, &mut out, members)?;
+    out.begin_object()?;
+    for member in members {
+        out.key(member.0)?;
+        write_value(alloc, &mut out, &member.1)?;
+    }
+    out.end_object()?;
     Ok(out.into_inner())
 }

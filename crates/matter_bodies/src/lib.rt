@@ -5,7 +5,5 @@ mod bodies;
 mod entries;
 mod json_text;
 pub mod laws;
-mod receipts;
-mod texts;
 
 pub use bodies::{ImportReply, entry_body, import_body, matter_body, purge_body, receipt_body};

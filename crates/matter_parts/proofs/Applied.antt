@@ -22,7 +22,7 @@ use Rattle.matter_parts.specs.declared.kept.Kept.{Kept}
 use Rattle.matter_parts.specs.declared.change.Left.{Left}
 use Rattle.matter_parts.specs.declared.change.TotalsAfter.{TotalsAfter}
 use Rattle.matter_parts.specs.Applied.{IsWritten, kept_as, entry_put, other_written}
-use Rattle.matter_parts.specs.Changes.{changed, changed_by, MatterChange, edited, head_after, seats_after, IsOther, AreLeft, AreLefts, IsPlace, IsExchange, IsChange}
+use Rattle.matter_parts.specs.Changes.{changed, changed_by, MatterChange, edited, head_after, seats_after, IsOther, AreLeft, IsPlace, IsExchange, IsChange}
 use Rattle.matter_parts.specs.Parts.{Part, no_figures, is_held, kept_in, AreFigures, IsPart, IsEntryOf, AreKept, HoldsOn, IsWhole, entries_kept, AreNumbered}
 use Rattle.matter_parts.proofs.AllKept.{entries-end, numbered-end, entries-at, numbered-at, entries-other, numbered-other, length-kept}
 use Rattle.matter_parts.proofs.Keepers.{put_in, with_left, other_relieved, kept-with, kept-other}
@@ -194,45 +194,34 @@ pub record IsAfter (m : Part) (c : MatterChange) (m' : Part) : Type 0 where
   pub held : (rows : Rows) → Sound rows → IsPart m rows → IsChange rows c → HoldsOn m m'
   pub whole : (rows : Rows) → Sound rows → IsWhole m rows → IsChange rows c → IsWhole m' (changed c rows)
 
-as-told : (m m' : Part) (x : Numbered) (v w : TotalsAfter) (day last : ℕ) → v ≡ w → day ≡ last → IsWritten m x v day m' → IsWritten m x w last m'
-as-told m m' x v w day last moves on a =
-    let P : TotalsAfter → Type 0 = λ u. IsWritten m x u day m' in
-    let Q : ℕ → Type 0 = λ d. IsWritten m x w d m' in
-    subst Q on (subst P moves a)
+-- the change of this edit and day, with these totals
+abbrev change-by : MatterChange → Edit → ℕ → TotalsAfter → MatterChange
+change-by c e day v = record c { edit = e; last = day; moves = v }
+
+as-told : (m m' n : Part) (c : MatterChange) (e : Edit) (v : TotalsAfter) (day : ℕ) → c.edit ≡ e → v ≡ c.moves → day ≡ c.last → m' ≡ n → IsAfter m (change-by c e day v) n → IsAfter m c m'
+as-told m m' n c e v day is moves on made after =
+    let same : change-by c e day v ≡ c = λ i. record c { edit = sym is i; last = on i; moves = moves i } in
+    let P : MatterChange → Type 0 = λ d. IsAfter m d m' in
+    let Q : Part → Type 0 = λ x. IsAfter m (change-by c e day v) x in
+    subst P same (subst Q (sym made) after)
 
 pub after-append : (m m' : Part) (c : MatterChange) (x : Numbered) (v : TotalsAfter) (day : ℕ) → c.edit ≡ edit.Append x → v ≡ c.moves → day ≡ c.last → IsWritten m x v day m' → IsAfter m c m'
-after-append m m' c x v day is moves on told =
-    let a : IsWritten m x c.moves c.last m' = as-told m m' x v c.moves day c.last moves on told in
-    let place : (rows : Rows) → IsChange rows c → x.number ≡ length rows.entries + 1 = λ rows ch. let P : Edit → Type 0 = λ e. IsPlace rows e in (subst P is ch.place).1 in
-    let figures : (rows : Rows) → IsChange rows c → AreFigures c.moves.figures (rows.entries ++ x.entry ∷ []) = λ rows ch. let P : Edit → Type 0 = λ e. AreFigures c.moves.figures (edited rows.entries e) in subst P is ch.figures in
-    let lefts : (rows : Rows) → IsChange rows c → AreLeft (rows.entries ++ x.entry ∷ []) x c.moves = λ rows ch. let P : Edit → Type 0 = λ e. AreLefts (edited rows.entries e) e c.moves in subst P is ch.lefts in
-    let part : (rows : Rows) → IsPart m rows → IsChange rows c → IsPart m' (changed_by c.edit c.last rows) = λ rows p ch.
-    let Q : Edit → Type 0 = λ e. IsPart m' (changed_by e c.last rows) in
-    subst Q (sym is) (applied-append m m' rows x c.moves c.last p (place rows ch) (figures rows ch) (lefts rows ch) a) in
-    record {
-      part = λ rows s p ch. part rows p ch;
-      held = λ rows s p ch. held-append m m' rows x c.moves c.last p (place rows ch) (figures rows ch) a;
-      whole = λ rows s w ch.
-          let kept = whole-append m m' rows x c.moves c.last w (place rows ch) a in
-          record { part = part rows w.part ch; entries = kept.0 ∙ ap (edited rows.entries) (sym is); numbered = kept.1 };
-    }
+after-append m m' c x v day is moves on a = as-told m m' m' c (edit.Append x) v day is moves on refl (record {
+  part = λ rows s p ch. applied-append m m' rows x v day p ch.place.1 ch.figures ch.lefts a;
+  held = λ rows s p ch. held-append m m' rows x v day p ch.place.1 ch.figures a;
+  whole = λ rows s w ch.
+      let kept = whole-append m m' rows x v day w ch.place.1 a in
+      record { part = applied-append m m' rows x v day w.part ch.place.1 ch.figures ch.lefts a; entries = kept.0; numbered = kept.1 };
+})
 
 pub after-exchange : (m m' : Part) (c : MatterChange) (x : Numbered) (v : TotalsAfter) (day : ℕ) → c.edit ≡ edit.Exchange x → v ≡ c.moves → day ≡ c.last → IsWritten m x v day m' → IsAfter m c m'
-after-exchange m m' c x v day is moves on told =
-    let a : IsWritten m x c.moves c.last m' = as-told m m' x v c.moves day c.last moves on told in
-    let place : (rows : Rows) → IsChange rows c → (old : Entry) × IsExchange rows.entries x old = λ rows ch. let P : Edit → Type 0 = λ e. IsPlace rows e in (subst P is ch.place).1 in
-    let figures : (rows : Rows) → IsChange rows c → AreFigures c.moves.figures (with_entry rows.entries x.number x.entry) = λ rows ch. let P : Edit → Type 0 = λ e. AreFigures c.moves.figures (edited rows.entries e) in subst P is ch.figures in
-    let lefts : (rows : Rows) → IsChange rows c → AreLeft (with_entry rows.entries x.number x.entry) x c.moves = λ rows ch. let P : Edit → Type 0 = λ e. AreLefts (edited rows.entries e) e c.moves in subst P is ch.lefts in
-    let part : (rows : Rows) → IsPart m rows → IsChange rows c → IsPart m' (changed_by c.edit c.last rows) = λ rows p ch.
-    let Q : Edit → Type 0 = λ e. IsPart m' (changed_by e c.last rows) in
-    subst Q (sym is) (applied-exchange m m' rows x (place rows ch).0 c.moves c.last p (place rows ch).1 (figures rows ch) (lefts rows ch) a) in
-    record {
-      part = λ rows s p ch. part rows p ch;
-      held = λ rows s p ch. held-exchange m m' rows x c.moves c.last p (figures rows ch) a;
-      whole = λ rows s w ch.
-          let kept = whole-exchange m m' rows x (place rows ch).0 c.moves c.last w (place rows ch).1.there a in
-          record { part = part rows w.part ch; entries = kept.0 ∙ ap (edited rows.entries) (sym is); numbered = kept.1 };
-    }
+after-exchange m m' c x v day is moves on a = as-told m m' m' c (edit.Exchange x) v day is moves on refl (record {
+  part = λ rows s p ch. applied-exchange m m' rows x ch.place.1.0 v day p ch.place.1.1 ch.figures ch.lefts a;
+  held = λ rows s p ch. held-exchange m m' rows x v day p ch.figures a;
+  whole = λ rows s w ch.
+      let kept = whole-exchange m m' rows x ch.place.1.0 v day w ch.place.1.1.there a in
+      record { part = applied-exchange m m' rows x ch.place.1.0 v day w.part ch.place.1.1 ch.figures ch.lefts a; entries = kept.0; numbered = kept.1 };
+})
 
 -- a change of the head and the seats alone
 record IsSeated (m : Part) (e : Edit) (day : ℕ) (m' : Part) : Type 0 where
@@ -264,54 +253,51 @@ after-seated m m' c is =
     }
 
 pub after-nothing : (m : Part) (c : MatterChange) → c.edit ≡ edit.Nothing → IsAfter m c m
-after-nothing m c is = after-seated m m c (let P : Edit → Type 0 = λ e. IsSeated m e c.last m in subst P (sym is) (record { kept = λ rows. refl; figures = refl; same = refl; parts = λ rows s p place. (p.head, p.seats) }))
+after-nothing m c is = as-told m m m c edit.Nothing c.moves c.last is refl refl refl
+    (after-seated m m (change-by c edit.Nothing c.last c.moves) (record { kept = λ rows. refl; figures = refl; same = refl; parts = λ rows s p place. (p.head, p.seats) }))
 
 no-seats : (h : Option Head) (seats : List Seat) (es : List Entry) → h ≡ None → IsHeaded h seats es → seats ≡ []
 no-seats None seats es none headed = headed.0
 no-seats (Some h) seats es none headed = cc
 
 pub after-open : (m m' : Part) (c : MatterChange) (o : Opening) → c.edit ≡ edit.Open o → m' ≡ record m { head = Some o.head; seats = m.seats ++ o.seat ∷ [] } → IsAfter m c m'
-after-open m m' c o is made = after-seated m m' c
-    (let P : Edit → Type 0 = λ e. IsSeated m e c.last m' in
-    subst P (sym is) (record {
+after-open m m' c o is made = as-told m m' _ c (edit.Open o) c.moves c.last is refl refl made
+    (after-seated m _ (change-by c (edit.Open o) c.last c.moves) (record {
       kept = λ rows. refl;
-      figures = ap (λ p. p.figures) made;
-      same = ap (λ p. p.kept) made;
-      parts = λ rows s p place. (ap (λ p. p.head) made, ap (λ p. p.seats) made ∙ ap (λ l. l ++ o.seat ∷ []) (p.seats ∙ no-seats rows.head rows.seats rows.entries place s.headed));
+      figures = refl;
+      same = refl;
+      parts = λ rows s p place. (refl, ap (λ l. l ++ o.seat ∷ []) (p.seats ∙ no-seats rows.head rows.seats rows.entries place s.headed));
     }))
 
 pub after-seat : (m m' : Part) (c : MatterChange) (seat : Seat) (day : ℕ) → c.edit ≡ edit.Seat seat → day ≡ c.last → m' ≡ record m { head = seen_on m.head day; seats = m'.seats } → (AreInOrder m.seats → role_in m.seats seat.person ≡ None → m'.seats ≡ seats_with m.seats seat) → IsAfter m c m'
-after-seat m m' c seat day is on made seats = after-seated m m' c
-    (let P : Edit → Type 0 = λ e. IsSeated m e c.last m' in
-    subst P (sym is) (record {
+after-seat m m' c seat day is on made seats = as-told m m' _ c (edit.Seat seat) c.moves day is refl on made
+    (after-seated m _ (change-by c (edit.Seat seat) day c.moves) (record {
       kept = λ rows. refl;
-      figures = ap (λ p. p.figures) made;
-      same = ap (λ p. p.kept) made;
+      figures = refl;
+      same = refl;
       parts = λ rows s p place.
           let O : List Seat → Type 0 = AreInOrder in
           let R : List Seat → Type 0 = λ l. role_in l seat.person ≡ None in
           let e = seats (subst O (sym p.seats) s.seated) (subst R (sym p.seats) place.1) in
-          (ap (λ p. p.head) made ∙ ap (λ h. seen_on h day) p.head ∙ ap (seen_on rows.head) on, e ∙ ap (λ l. seats_with l seat) p.seats);
+          (ap (λ h. seen_on h day) p.head, e ∙ ap (λ l. seats_with l seat) p.seats);
     }))
 
 pub after-unseat : (m m' : Part) (c : MatterChange) (person : List ℕ) (day : ℕ) → c.edit ≡ edit.Unseat person → day ≡ c.last → m' ≡ record m { head = seen_on m.head day; seats = seats_without m.seats person } → IsAfter m c m'
-after-unseat m m' c person day is on made = after-seated m m' c
-    (let P : Edit → Type 0 = λ e. IsSeated m e c.last m' in
-    subst P (sym is) (record {
+after-unseat m m' c person day is on made = as-told m m' _ c (edit.Unseat person) c.moves day is refl on made
+    (after-seated m _ (change-by c (edit.Unseat person) day c.moves) (record {
       kept = λ rows. refl;
-      figures = ap (λ p. p.figures) made;
-      same = ap (λ p. p.kept) made;
-      parts = λ rows s p place. (ap (λ p. p.head) made ∙ ap (λ h. seen_on h day) p.head ∙ ap (seen_on rows.head) on, ap (λ p. p.seats) made ∙ ap (λ l. seats_without l person) p.seats);
+      figures = refl;
+      same = refl;
+      parts = λ rows s p place. (ap (λ h. seen_on h day) p.head, ap (λ l. seats_without l person) p.seats);
     }))
 
 pub after-close : (m m' : Part) (c : MatterChange) (on last : ℕ) → c.edit ≡ edit.Close on → last ≡ c.last → m' ≡ record m { head = closed_head m.head on last } → IsAfter m c m'
-after-close m m' c on last is seen made = after-seated m m' c
-    (let P : Edit → Type 0 = λ e. IsSeated m e c.last m' in
-    subst P (sym is) (record {
+after-close m m' c on last is seen made = as-told m m' _ c (edit.Close on) c.moves last is refl seen made
+    (after-seated m _ (change-by c (edit.Close on) last c.moves) (record {
       kept = λ rows. refl;
-      figures = ap (λ p. p.figures) made;
-      same = ap (λ p. p.kept) made;
-      parts = λ rows s p place. (ap (λ p. p.head) made ∙ ap (λ h. closed_head h on last) p.head ∙ ap (closed_head rows.head on) seen, ap (λ p. p.seats) made ∙ p.seats);
+      figures = refl;
+      same = refl;
+      parts = λ rows s p place. (ap (λ h. closed_head h on last) p.head, p.seats);
     }))
 
 held-none : (m : Part) (rows : Rows) (n : ℕ) → IsPart m rows → is_held m n ≡ true → ltb 0 n ≡ true
@@ -327,27 +313,13 @@ cleared_part m on last = record { head = cleared_head m.head on last; seats = []
 
 pub after-clear : (m m' : Part) (c : MatterChange) (on last : ℕ) → c.edit ≡ edit.Clear on → last ≡ c.last → m' ≡ cleared_part m on last → IsAfter m c m'
 after-clear m m' c on last is seen made =
-    let Q : (rows : Rows) → Edit → Type 0 = λ rows e. IsPart m' (changed_by e c.last rows) in
-    let W : (rows : Rows) → Edit → Type 0 = λ rows e. IsWhole m' (changed_by e c.last rows) in
-    let part : (rows : Rows) → IsPart m rows → IsPart m' (changed_by (edit.Clear on) c.last rows) = λ rows p.
-    let R : Part → Type 0 = λ x. IsPart x (changed_by (edit.Clear on) c.last rows) in
-    subst R (sym made) (record {
-      head = ap (λ h. cleared_head h on last) p.head ∙ ap (cleared_head rows.head on) seen;
-      seats = refl;
-      figures = figures-none;
-      kept = λ n k there. absurd (cc);
-    }) in
-    record {
-      part = λ rows s p ch. subst (Q rows) (sym is) (part rows p);
-      held = λ rows s p ch n h.
-          let H : Part → Type 0 = λ x. is_held x n ≡ true in
-          subst H (sym made) (held-none m rows n p h);
-      whole = λ rows s w ch. subst (W rows) (sym is) (record {
-        part = part rows w.part;
-        entries = ap (λ (x : Part). entries_kept x.kept) made;
-        numbered = let N : Part → Type 0 = λ x. AreNumbered 1 x.kept in subst N (sym made) tt;
-      });
-    }
+    let part : (rows : Rows) → IsPart m rows → IsPart (cleared_part m on last) (changed_by (edit.Clear on) last rows) = λ rows p.
+    record { head = ap (λ h. cleared_head h on last) p.head; seats = refl; figures = figures-none; kept = λ n k there. absurd (cc) } in
+    as-told m m' (cleared_part m on last) c (edit.Clear on) c.moves last is refl seen made (record {
+      part = λ rows s p ch. part rows p;
+      held = λ rows s p ch n h. held-none m rows n p h;
+      whole = λ rows s w ch. record { part = part rows w.part; entries = refl; numbered = tt };
+    })
 
 pub ok-map : {X E : Type 0} (A B : Type 0) (r : Result X E) → OnOk r A → (A → B) → OnOk r B
 ok-map A B (Ok x) h f = f h

@@ -1,22 +1,18 @@
 -- The whole of sound rows passes each test, and what passes each is that.
-use Rattle.std.specs.List.{AllByRecursion}
-use Rattle.std.proofs.Common.{◌≡◌, ℕ, ◌≤◌, true, List, length, map, refl, sym, subst, arith, Option, Some, None, pos}
-use Rattle.std.proofs.lemmas.Int.{ints}
+use Rattle.std.proofs.Common.{◌≡◌, ◌≤◌, List, length, refl, sym, subst, arith, Option}
 use Rattle.std.proofs.lemmas.List.{length-map}
 use Rattle.matter_rows.specs.declared.head.Head.{Head}
 use Rattle.matter_rows.specs.declared.seat.Seat.{Seat}
 use Rattle.matter_rows.specs.declared.entry.Entry.{Entry}
 use Rattle.matter_rows.specs.Rows.{Rows, closed_on}
-use Rattle.matter_rows.specs.Balances.{names}
-use Rattle.matter_rows.specs.Sound.{AreBacked, AreInOrder, IsRanged, Sound}
-use Rattle.matter_rows.specs.SoundRows.{IsSoundEntry, AreInForm}
-use Rattle.matter_rows.proofs.Exchange.{all-map}
+use Rattle.matter_rows.specs.Sound.{AreInOrder, Sound}
+use Rattle.matter_rows.specs.SoundRows.{AreInForm}
 use Rattle.matter_parts.specs.declared.figures.Figures.{Figures}
 use Rattle.matter_parts.specs.declared.kept.Kept.{Kept}
 use Rattle.matter_parts.specs.Parts.{Part, IsWhole, AreEmptyIfClosed, AreFigures, entries_kept}
-use Rattle.matter_parts.proofs.WholeRows.{form-of, empty-of, sound-of}
+use Rattle.matter_parts.proofs.WholeRows.{form-of, empty-of, backed-of, sound-of}
 use Rattle.matter_parts.specs.Audit.{AreInPlace, IsSoundWhole, WholeIsSound, rows_kept}
-use Rattle.matter_parts.proofs.InPlace.{in-place, kept-of, lefts-of, numbered-of}
+use Rattle.matter_parts.proofs.InPlace.{in-place, kept-of, numbered-of}
 
 -- what is tested of a matter
 pub record IsTested (m : Part) : Type 0 where
@@ -27,36 +23,18 @@ pub record IsTested (m : Part) : Type 0 where
   pub empty : AreEmptyIfClosed (closed_on m.head) m.figures
   pub place : AreInPlace (entries_kept m.kept) 1 m.kept
 
-ranged-of : (head : Option Head) (seats : List Seat) (es : List Entry) → AreInForm head seats es → AllByRecursion IsRanged es
-ranged-of None seats es form = let P : List Entry → Type 0 = AllByRecursion IsRanged in subst P (sym form.1) tt
-ranged-of (Some h) seats es form = all-map (IsSoundEntry h es) IsRanged es (λ e i. i.ranged) form.0.entries
-
-pub named-of : (head : Option Head) (seats : List Seat) (es : List Entry) → AreInForm head seats es → AllByRecursion (λ e. names es e ≡ true) es
-named-of None seats es form = let P : List Entry → Type 0 = λ l. AllByRecursion (λ e. names l e ≡ true) l in subst P (sym form.1) tt
-named-of (Some h) seats es form = all-map (IsSoundEntry h es) (λ e. names es e ≡ true) es (λ e i. i.named) form.0.entries
-
-backed-of : (m : Part) → IsTested m → AreBacked (entries_kept m.kept)
-backed-of m t =
+pub from-tests : (m : Part) → IsTested m → IsSoundWhole m
+from-tests m t =
+    let es = entries_kept m.kept in
     let count = length-map m.kept (λ (k : Kept). k.entry) in
     let few = t.few in
-    let available = t.totals.available in
+    let numbered = numbered-of es 1 m.kept t.place in
+    let kept = kept-of m.kept t.place in
+    let backed = backed-of m.head m.seats es m.figures m.kept (omega (arith, count, few)) t.form t.totals.available refl numbered kept in
     record {
-      few = omega (arith, count, few);
-      ranged = ranged-of m.head m.seats (entries_kept m.kept) t.form;
-      named = named-of m.head m.seats (entries_kept m.kept) t.form;
-      available = omega (arith, ints, available);
-      left = lefts-of m.kept t.place;
+      sound = sound-of m.head m.seats es m.figures t.order t.form backed t.totals t.empty;
+      whole = record { part = record { head = refl; seats = refl; figures = t.totals; kept = kept }; entries = refl; numbered = numbered };
     }
-
-pub from-tests : (m : Part) → IsTested m → IsSoundWhole m
-from-tests m t = record {
-  sound = sound-of m.head m.seats (entries_kept m.kept) m.figures t.order t.form (backed-of m t) t.totals t.empty;
-  whole = record {
-    part = record { head = refl; seats = refl; figures = t.totals; kept = kept-of m.kept t.place };
-    entries = refl;
-    numbered = numbered-of (entries_kept m.kept) 1 m.kept t.place;
-  };
-}
 
 pub to-tests : (m : Part) → IsSoundWhole m → IsTested m
 to-tests m s =

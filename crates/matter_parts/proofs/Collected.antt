@@ -31,9 +31,6 @@ pub record IsCollected (es : List Entry) (i : ℕ) (ks : List Kept) : Type 0 whe
   pub own : AreKept ks es
   pub small : AreSmallLefts ks
 
-pub collected-none : (es : List Entry) → IsCollected es 0 []
-collected-none es = record { count = refl; entries = refl; numbered = tt; own = λ n k h. cc; small = λ n k h. cc }
-
 own-next : (es : List Entry) (ks : List Kept) (new : Kept) → AreKept ks es → IsEntryOf es new.number new → (n : ℕ) (k : Kept) → put_in ks new n ≡ Some k → IsEntryOf es n k
 own-next es ks new own is n k h =
     elim (eqb new.number n) as (λ b. eqb new.number n ≡ b → cond b (Some new) (kept_in ks n) ≡ Some k → IsEntryOf es n k) [

@@ -11,10 +11,9 @@ use Rattle.matter_rows.specs.Rows.{entry_at}
 use Rattle.matter_rows.specs.Shares.{draw, draw_on, target, worth, available_share}
 use Rattle.matter_rows.specs.Balances.{left_of, names}
 use Rattle.matter_rows.specs.Sound.{AreBacked}
-use Rattle.matter_rows.proofs.Keeping.{MayAdd, MayTake, sound-append, sound-with}
+use Rattle.matter_rows.proofs.Keeping.{MayAdd, MayTake}
 use Rattle.matter_parts.specs.declared.edit.Edit.{Edit}
 use Rattle.matter_parts.specs.declared.edit.Edit.TheVariants as edit
-use Rattle.matter_parts.specs.Changes.{edited}
 
 pub left-drawn : (es : List Entry) (x : Entry) → ((e : Entry) → entry_at es (target x) ≡ Some e → pos 0 ≤ℤ (left_of es (target x) e -ℤ draw x)) → ((n : ℕ) (e : Entry) → entry_at es n ≡ Some e → pos 0 ≤ℤ left_of es n e) → (n : ℕ) (e : Entry) → entry_at es n ≡ Some e → pos 0 ≤ℤ (left_of es n e -ℤ draw_on n x)
 left-drawn es x enough lefts n e h =
@@ -72,13 +71,3 @@ MayEdit es t n (edit.Clear d) = Unit {0}
 
 pub backed-none : AreBacked []
 backed-none = record { few = omega arith; ranged = tt; named = tt; available = search rules; left = λ n e there. absurd (cc) }
-
-pub sound-edited : (es : List Entry) (t n : ℕ) (e : Edit) → AreBacked es → MayEdit es t n e → AreBacked (edited es e)
-sound-edited es t n edit.Nothing s m = s
-sound-edited es t n (edit.Open o) s m = s
-sound-edited es t n (edit.Seat x) s m = s
-sound-edited es t n (edit.Unseat p) s m = s
-sound-edited es t n (edit.Close d) s m = s
-sound-edited es t n (edit.Clear d) s m = backed-none
-sound-edited es t n (edit.Append x) s m = sound-append es x.entry s m.1
-sound-edited es t n (edit.Exchange x) s m = sound-with es x.number m.0 x.entry s m.1

@@ -1,8 +1,9 @@
 -- For a part of sound rows there is always a change in range.
-use Rattle.std.proofs.Common.{◌≡◌, ℕ, ◌+◌, ◌≤◌, ◌==◌, ◌||◌, ltb, is_some, true, false, List, [], ◌∷◌, ◌++◌, length, refl, sym, ◌∙◌, arith, subst, Some, None, eqb, pos, ◌+ℤ◌, ◌-ℤ◌, ◌⊎◌, inl, inr}
+use Rattle.std.proofs.Common.{◌≡◌, ℕ, ◌+◌, ◌≤◌, ◌==◌, ◌||◌, ltb, is_some, true, false, List, [], ◌∷◌, ◌++◌, length, refl, sym, ◌∙◌, arith, subst, Option, Some, None, IfSome, IfNone, eqb, pos, ◌+ℤ◌, ◌-ℤ◌, ◌⊎◌, inl, inr}
 use Rattle.std.proofs.lemmas.Int.{ints}
 use Rattle.std.proofs.lemmas.Bool.Decides.{nat_tests}
 use Rattle.matter_rows.specs.declared.entry.Entry.{Entry}
+use Rattle.matter_rows.specs.declared.shares.Shares.{Shares}
 use Rattle.matter_rows.specs.Balances.{total_of, left_of, held, available, disputed, fees, claims}
 use Rattle.matter_rows.specs.Shares.{target, worth, held_share, available_share, disputed_share, fee_share, claim_share, pending_share, no_shares, shares_of}
 use Rattle.matter_rows.specs.declared.limits.TheConstants.{MAX_TOTAL}
@@ -20,7 +21,8 @@ use Rattle.matter_parts.specs.declared.change.Left.{Left}
 use Rattle.matter_parts.specs.declared.change.TotalsAfter.{TotalsAfter}
 use Rattle.matter_parts.specs.Changes.{AreSmallTotals, IsSmallOther}
 use Rattle.matter_parts.specs.TotalsAfter.{FiguresMoved, AppendMoved, ExchangeMoved}
-use Rattle.matter_parts.specs.Parts.{Part, AreSmall, kept_at, AreFigures, AreKept, is_held_or_none}
+use Rattle.matter_parts.specs.Parts.{Part, AreSmall, no_figures, kept_at, AreFigures, AreKept, is_held_or_none}
+use Rattle.matter_parts.proofs.Moving.{moved-same}
 use Rattle.matter_parts.proofs.Moved.{append-apart, own-append, draw-here}
 
 -- the figures of sound entries, as numbers
@@ -37,6 +39,56 @@ small-figures n es few s = record {
   fees = (fees-balance es s).small;
   claims = (claims-balance es s).small;
 }
+
+-- The figures of all entries, from the sums of their shares.
+
+pub record AreSumsOf (s : Shares) (es : List Entry) : Type 0 where
+  pub held : s.held ≡ total_of held_share es
+  pub available : s.available ≡ total_of available_share es
+  pub disputed : s.disputed ≡ total_of disputed_share es
+  pub fees : s.fees ≡ total_of fee_share es
+  pub claims : s.claims ≡ total_of claim_share es
+  pub pending : s.pending ≡ total_of pending_share es
+
+-- from no figures and no shares
+module _ (es : List Entry) (n : ℕ) (z : Figures) (a s : Shares) (few : n ≡ length es) (zero_figures : z ≡ no_figures) (zero_shares : a ≡ no_shares) (sums : AreSumsOf s es) where
+  from-none : (f : Figures) → FiguresMoved z n a s f → FiguresMoved no_figures n no_shares s f
+  from-none f m = moved-same z no_figures n a no_shares s s f m zero_figures zero_shares refl
+
+  pub figures-summed : (r : Option Figures) → IfSome r (λ f. FiguresMoved z n a s f) → IfSome r (λ f. AreBacked es → AreFigures f es)
+  figures-summed None m = tt
+  figures-summed (Some f) moved = λ backed.
+      let m = from-none f moved in
+      record {
+        entries = m.count ∙ few;
+        pending = omega (arith, ints, m.pending, sums.pending);
+        held = omega (arith, ints, m.held, sums.held);
+        available = omega (arith, ints, m.available, sums.available);
+        disputed = omega (arith, ints, m.disputed, sums.disputed);
+        fees = omega (arith, ints, m.fees, sums.fees, fees-by_share es backed.named);
+        claims = omega (arith, ints, m.claims, sums.claims, claims-by_share es backed.named);
+      }
+
+  pub available-summed : (r : Option Figures) → IfSome r (λ f. FiguresMoved z n a s f) → IfSome r (λ f. pos f.available ≡ available es)
+  available-summed None m = tt
+  available-summed (Some f) moved = let m = from-none f moved in omega (arith, ints, m.available, sums.available)
+
+  pub none-summed : (r : Option Figures) → IfNone r ((f : Figures) → AreSmall f → FiguresMoved z n a s f → ⊥) → IfNone r (AreBacked es → ⊥)
+  none-summed (Some f) none = tt
+  none-summed None none = λ backed.
+      let moved : FiguresMoved no_figures n no_shares s (figures_of n es) = record {
+        count = refl;
+        pending = omega (arith, ints, (pending-balance es backed).is, sums.pending);
+        held = omega (arith, ints, (held-balance es backed).is, sums.held);
+        available = omega (arith, ints, (available-balance es backed).is, sums.available);
+        disputed = omega (arith, ints, (disputed-balance es backed).is, sums.disputed);
+        fees = omega (arith, ints, (fees-balance es backed).is, sums.fees, fees-by_share es backed.named);
+        claims = omega (arith, ints, (claims-balance es backed).is, sums.claims, claims-by_share es backed.named);
+      } in
+      let most = backed.few in
+      none (figures_of n es) (small-figures n es (omega (arith, few, most)) backed) (moved-same no_figures z n no_shares a s s (figures_of n es) moved (sym zero_figures) (sym zero_shares) refl)
+
+-- The figures after an entry is added or changed.
 
 moved-append : (es : List Entry) (x : Entry) (f : Figures) → AreBacked es → AreBacked (es ++ x ∷ []) → AreFigures f es → FiguresMoved f (f.entries + 1) no_shares (shares_of x) (figures_of (f.entries + 1) (es ++ x ∷ []))
 moved-append es x f s t a =

@@ -1,15 +1,14 @@
 -- Kept entries that have the numbers of their places, and what the entries leave of each.
-use Rattle.std.proofs.Common.{◌≡◌, ℕ, ◌+◌, ◌-◌, ◌<◌, ◌≤◌, ◌↔◌, cond, true, false, List, [], ◌∷◌, length, drop, get_or, eqb, sym, subst, arith, Option, Some, None, refl, ap, ℤ, pos, ◌-ℤ◌, ◌≤ℤ◌}
+use Rattle.std.proofs.Common.{◌≡◌, ℕ, ◌+◌, ◌-◌, ◌<◌, ◌≤◌, ◌↔◌, cond, true, false, List, [], ◌∷◌, length, drop, get_or, eqb, sym, subst, arith, Some, refl, ap, ℤ, pos, ◌-ℤ◌}
 use Rattle.std.proofs.lemmas.Bool.Decides.{nat_tests}
 use Rattle.std.proofs.lemmas.Int.{ints}
 use Rattle.matter_rows.specs.declared.entry.Entry.{Entry}
 use Rattle.matter_rows.specs.Rows.{entry_at}
 use Rattle.matter_rows.specs.Balances.{left_of}
 use Rattle.matter_rows.specs.Shares.{worth}
-use Rattle.matter_rows.proofs.Entries.{within}
 use Rattle.matter_rows.proofs.Tested.{rest-at, rest-none}
 use Rattle.matter_parts.specs.declared.kept.Kept.{Kept}
-use Rattle.matter_parts.specs.Parts.{AreKept, AreNumbered, IsEntryOf, entries_kept, kept_in}
+use Rattle.matter_parts.specs.Parts.{AreKept, AreNumbered, entries_kept, kept_in}
 use Rattle.matter_parts.specs.Audit.{AreDrawn, AreInPlace, IsInPlace}
 
 -- Tested one after the other.
@@ -112,33 +111,3 @@ in-place-from es a (x ∷ ks) numbered own = (
 
 pub in-place : (es : List Entry) (ks : List Kept) → AreNumbered 1 ks → AreKept ks es → AreInPlace es 1 ks
 in-place es ks numbered kept = in-place-from es 1 ks numbered (λ n k found. (kept n k found).left)
-
--- What is left of each entry is kept, so that it is not below zero.
-
-lefts-from : (es : List Entry) (a j : ℕ) (ks : List Kept) (e : Entry) → AreInPlace es a ks → entry_at (entries_kept ks) j ≡ Some e → (k : Kept) × (pos k.left ≡ left_of es (a + j - 1) e)
-lefts-from es a j [] e here at = absurd (cc)
-lefts-from es a j (x ∷ ks) e here at =
-    let inside = within (entries_kept (x ∷ ks)) j e at in
-    let low : 0 < j = inside.0 in
-    elim (eqb j 1) as (λ b. eqb j 1 ≡ b → cond b (Some x.entry) (entry_at (entries_kept ks) (j - 1)) ≡ Some e → (k : Kept) × (pos k.left ≡ left_of es (a + j - 1) e)) [
-      | true ↦ λ s g.
-          let same : x.entry ≡ e = cc in
-          let own : a ≡ a + j - 1 = grind (arith, nat_tests) in
-          let P : Entry → Type 0 = λ y. pos x.left ≡ left_of es (a + j - 1) y in
-          let Q : ℕ → Type 0 = λ m. pos x.left ≡ left_of es m x.entry in
-          (x, subst P same (subst Q own here.0.left))
-      | false ↦ λ s g.
-          let more = lefts-from es (a + 1) (j - 1) ks e here.1 g in
-          let own : a + 1 + (j - 1) - 1 ≡ a + j - 1 = omega arith in
-          let Q : ℕ → Type 0 = λ m. pos more.0.left ≡ left_of es m e in
-          (more.0, subst Q own more.1)
-    ] refl at
-
-pub lefts-of : (ks : List Kept) → AreInPlace (entries_kept ks) 1 ks → (n : ℕ) (e : Entry) → entry_at (entries_kept ks) n ≡ Some e → pos 0 ≤ℤ left_of (entries_kept ks) n e
-lefts-of ks here n e at =
-    let es = entries_kept ks in
-    let own = lefts-from es 1 n ks e here at in
-    let same : 1 + n - 1 ≡ n = omega arith in
-    let Q : ℕ → Type 0 = λ m. pos own.0.left ≡ left_of es m e in
-    let left = subst Q same own.1 in
-    omega (arith, ints, left)

@@ -1,22 +1,41 @@
--- TotalsAfter under equal numbers.
-use Rattle.std.proofs.Common.{◌≡◌, ℕ, subst, ℤ, Option, Some, None, IfNone}
+-- What moves when an entry is written, from what it counted for before.
+use Rattle.std.proofs.Common.{◌≡◌, ℕ, ◌+◌, arith, subst, sym, ℤ, pos, Option, Some}
+use Rattle.std.proofs.lemmas.Int.{ints}
+use Rattle.matter_rows.specs.declared.entry.Entry.{Entry}
 use Rattle.matter_rows.specs.declared.shares.Shares.{Shares}
+use Rattle.matter_rows.specs.Shares.{shares_of, no_shares, worth, draw, IsSmallShare, AreSmallShares, IsSmallSum, AreSmallSums}
 use Rattle.matter_parts.specs.declared.figures.Figures.{Figures}
+use Rattle.matter_parts.specs.declared.change.Before.{Before}
 use Rattle.matter_parts.specs.declared.change.Left.{Left}
 use Rattle.matter_parts.specs.declared.change.TotalsAfter.{TotalsAfter}
 use Rattle.matter_parts.specs.declared.edit.Numbered.{Numbered}
 use Rattle.matter_parts.specs.declared.kept.Kept.{Kept}
-use Rattle.matter_parts.specs.Changes.{AreSmallTotals}
-use Rattle.matter_parts.specs.TotalsAfter.{FiguresMoved, OtherMoved, ExchangeMoved}
+use Rattle.matter_parts.specs.TotalsAfter.{FiguresMoved, OtherMoved, EntryMoved, AppendMoved, ExchangeMoved}
 use Rattle.matter_parts.specs.Parts.{kept_at, Part}
 
-pub moved-same : (f f' : Figures) (n n' : ℕ) (a a' b b' : Shares) (g : Figures) → FiguresMoved f n a b g → f ≡ f' → n ≡ n' → a ≡ a' → b ≡ b' → FiguresMoved f' n' a' b' g
-moved-same f f' n n' a a' b b' g h p q r s =
-    let P : Figures → Type 0 = λ x. FiguresMoved x n' a' b' g in
-    let Q : ℕ → Type 0 = λ x. FiguresMoved f x a' b' g in
-    let R : Shares → Type 0 = λ x. FiguresMoved f n x b' g in
-    let S : Shares → Type 0 = λ x. FiguresMoved f n a x g in
-    subst P p (subst Q q (subst R r (subst S s h)))
+-- Shares and sums.
+
+pub small_sum : (z : ℤ) → IsSmallShare z → IsSmallSum z
+small_sum z s = record { low = omega (arith, ints, s.low); high = omega (arith, ints, s.high) }
+
+pub small_sums : (s : Shares) → AreSmallShares s → AreSmallSums s
+small_sums s a = record {
+  held = small_sum s.held a.held;
+  available = small_sum s.available a.available;
+  disputed = small_sum s.disputed a.disputed;
+  fees = small_sum s.fees a.fees;
+  claims = small_sum s.claims a.claims;
+  pending = small_sum s.pending a.pending;
+}
+
+-- The figures and the other entry, under equal numbers.
+
+pub moved-same : (f f' : Figures) (n : ℕ) (a a' b b' : Shares) (g : Figures) → FiguresMoved f n a b g → f ≡ f' → a ≡ a' → b ≡ b' → FiguresMoved f' n a' b' g
+moved-same f f' n a a' b b' g h p q r =
+    let P : Figures → Type 0 = λ x. FiguresMoved x n a' b' g in
+    let Q : Shares → Type 0 = λ x. FiguresMoved f n x b' g in
+    let R : Shares → Type 0 = λ x. FiguresMoved f n a x g in
+    subst P p (subst Q q (subst R r h))
 
 pub other-same : (m : Part) (t t' : ℕ) (a a' b b' : ℤ) (o : Option Left) → OtherMoved m t a b o → t ≡ t' → a ≡ a' → b ≡ b' → OtherMoved m t' a' b' o
 other-same m t t' a a' b b' o h p q r =
@@ -25,9 +44,32 @@ other-same m t t' a a' b b' o h p q r =
     let R : ℤ → Type 0 = λ x. OtherMoved m t a x o in
     subst P p (subst Q q (subst R r h))
 
-pub none-kept : (m : Part) (x : Numbered) (k : Kept) (r : Option TotalsAfter) → Some k ≡ kept_at m x.number → IfNone r ((v : TotalsAfter) → AreSmallTotals v → ExchangeMoved m x k v → ⊥) → IfNone r ((v : TotalsAfter) → AreSmallTotals v → (j : Kept) × ExchangeMoved m x j v → ⊥)
-none-kept m x k None e h = λ v s p.
-    let same : p.0 ≡ k = let q = p.1.kept in cc in
-    let P : Kept → Type 0 = λ j. ExchangeMoved m x j v in
-    h v s (subst P same p.1)
-none-kept m x k (Some w) e h = tt
+-- An entry that is added or changed.
+
+abbrev pub counted : Kept → Before
+counted k = record { shares = shares_of k.entry; left = k.left; worth = worth k.entry; draw = draw k.entry }
+
+abbrev pub uncounted : Before
+uncounted = record { shares = no_shares; left = 0; worth = pos 0; draw = pos 0 }
+
+pub written-same : (m : Part) (n n' : ℕ) (b b' : Before) (e : Entry) (v : TotalsAfter) → EntryMoved m n b e v → n ≡ n' → b ≡ b' → EntryMoved m n' b' e v
+written-same m n n' b b' e v h p q =
+    let P : ℕ → Type 0 = λ x. EntryMoved m x b' e v in
+    let Q : Before → Type 0 = λ x. EntryMoved m n x e v in
+    subst P p (subst Q q h)
+
+pub append-written : (m : Part) (x : Numbered) (v : TotalsAfter) → AppendMoved m x v → EntryMoved m (m.figures.entries + 1) uncounted x.entry v
+append-written m x v h = record { figures = h.figures; left = omega (arith, ints, h.left); other = h.other }
+
+pub written-append : (m : Part) (x : Numbered) (v : TotalsAfter) → x.number ≡ m.figures.entries + 1 → EntryMoved m (m.figures.entries + 1) uncounted x.entry v → AppendMoved m x v
+written-append m x v next h = record { number = next; figures = h.figures; left = omega (arith, ints, h.left); other = h.other }
+
+pub exchange-written : (m : Part) (x : Numbered) (k j : Kept) (v : TotalsAfter) → Some k ≡ kept_at m x.number → ExchangeMoved m x j v → EntryMoved m m.figures.entries (counted k) x.entry v
+exchange-written m x k j v is h =
+    let at = h.kept in
+    let same : j ≡ k = cc in
+    let P : Kept → Type 0 = λ i. EntryMoved m m.figures.entries (counted i) x.entry v in
+    subst P same (record { figures = h.figures; left = h.left; other = h.other })
+
+pub written-exchange : (m : Part) (x : Numbered) (k : Kept) (v : TotalsAfter) → Some k ≡ kept_at m x.number → EntryMoved m m.figures.entries (counted k) x.entry v → ExchangeMoved m x k v
+written-exchange m x k v is h = record { kept = sym is; figures = h.figures; left = h.left; other = h.other }

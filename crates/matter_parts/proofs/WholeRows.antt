@@ -17,7 +17,7 @@ use Rattle.matter_rows.proofs.Entries.{within}
 use Rattle.matter_rows.proofs.Exchange.{all-map}
 use Rattle.matter_parts.specs.declared.figures.Figures.{Figures}
 use Rattle.matter_parts.specs.declared.kept.Kept.{Kept}
-use Rattle.matter_parts.specs.Parts.{AreEmptyIfClosed, AreFigures, AreAllKept, kept_in}
+use Rattle.matter_parts.specs.Parts.{AreEmptyIfClosed, AreFigures, AreKept, AreNumbered, entries_kept, kept_in}
 use Rattle.matter_parts.proofs.AllKept.{kept-numbered, length-kept}
 use Rattle.matter_parts.proofs.StepForms.{rows-of}
 
@@ -71,7 +71,7 @@ ranged-of : (head : Option Head) (seats : List Seat) (es : List Entry) → AreIn
 ranged-of None seats es form = let P : List Entry → Type 0 = AllByRecursion IsRanged in subst P (sym form.1) tt
 ranged-of (Some h) seats es form = all-map (IsSoundEntry h es) IsRanged es (λ e i. i.ranged) form.0.entries
 
-named-of : (head : Option Head) (seats : List Seat) (es : List Entry) → AreInForm head seats es → AllByRecursion (λ e. names es e ≡ true) es
+pub named-of : (head : Option Head) (seats : List Seat) (es : List Entry) → AreInForm head seats es → AllByRecursion (λ e. names es e ≡ true) es
 named-of None seats es form = let P : List Entry → Type 0 = λ l. AllByRecursion (λ e. names l e ≡ true) l in subst P (sym form.1) tt
 named-of (Some h) seats es form = all-map (IsSoundEntry h es) (λ e. names es e ≡ true) es (λ e i. i.named) form.0.entries
 
@@ -80,33 +80,30 @@ funded-of None seats es form = let P : List Entry → Type 0 = λ l. AllByRecurs
 funded-of (Some h) seats es form = all-map (IsSoundEntry h es) (IsFundedInTime es) es (λ e i. i.funded) form.0.entries
 
 -- what is left of each entry is a total
-lefts-of : (es : List Entry) (ks : List Kept) → AreAllKept ks es → (n : ℕ) (e : Entry) → entry_at es n ≡ Some e → pos 0 ≤ℤ left_of es n e
-lefts-of es ks all n e at =
+lefts-of : (es : List Entry) (ks : List Kept) → entries_kept ks ≡ es → AreNumbered 1 ks → AreKept ks es → (n : ℕ) (e : Entry) → entry_at es n ≡ Some e → pos 0 ≤ℤ left_of es n e
+lefts-of es ks entries numbered own n e at =
     let inside = within es n e at in
-    let len = length-kept ks es all.entries in
-    kept (kept_in ks n) refl (kept-numbered 1 n ks all.numbered (omega (arith, inside.0)) (omega (arith, inside.1, len)))
+    let len = length-kept ks es entries in
+    kept (kept_in ks n) refl (kept-numbered 1 n ks numbered (omega (arith, inside.0)) (omega (arith, inside.1, len)))
   where
     kept : (o : Option Kept) → kept_in ks n ≡ o → is_some o ≡ true → pos 0 ≤ℤ left_of es n e
     kept None is there = absurd (cc)
     kept (Some k) is there =
-        let own = all.own n k is in
-        let same_there = own.there in
+        let here = own n k is in
+        let same_there = here.there in
         let same : k.entry ≡ e = cc in
         let P : Entry → Type 0 = λ x. pos k.left ≡ left_of es n x in
-        let left = subst P same own.left in
+        let left = subst P same here.left in
         omega (arith, ints, left)
 
-pub backed-of : (head : Option Head) (seats : List Seat) (es : List Entry) (f : Figures) (ks : List Kept) → length es ≤ 9_999 → AreInForm head seats es → pos f.available ≡ available es → AreAllKept ks es → AreBacked es
-backed-of head seats es f ks few form is all = record {
+pub backed-of : (head : Option Head) (seats : List Seat) (es : List Entry) (f : Figures) (ks : List Kept) → length es ≤ 9_999 → AreInForm head seats es → pos f.available ≡ available es → entries_kept ks ≡ es → AreNumbered 1 ks → AreKept ks es → AreBacked es
+backed-of head seats es f ks few form is entries numbered own = record {
   few = few;
   ranged = ranged-of head seats es form;
   named = named-of head seats es form;
   available = omega (arith, ints, is);
-  left = lefts-of es ks all;
+  left = lefts-of es ks entries numbered own;
 }
-
-by-closes : (closed : Option ℕ) (es : List Entry) (day : ℕ) → closed ≡ Some day → AllByRecursion (IsByIfClosed closed) es → AllByRecursion (IsBy day) es
-by-closes closed es day is all = let P : Option ℕ → Type 0 = λ c. AllByRecursion (IsByIfClosed c) es in subst P is all
 
 rest-of : (closed : Option ℕ) (es : List Entry) (h : Head) (f : Figures) → AllByRecursion (λ e. names es e ≡ true) es → AreFigures f es → AreEmptyIfClosed closed f → IsClosedWithin h.opened h.last closed → AllByRecursion (IsByIfClosed closed) es → IsAtRestIfClosed h closed es
 rest-of None es h f named a empty between all = tt

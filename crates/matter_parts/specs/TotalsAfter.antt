@@ -1,8 +1,10 @@
 -- How the totals and what is left of entries change, computed from the loaded entries.
-use Rattle.std.specs.Prelude.{◌≡◌, ℕ, ◌+◌, [], Option, Some, None, ℤ, pos, ◌+ℤ◌, ◌-ℤ◌}
+use Rattle.std.specs.Prelude.{◌≡◌, ℕ, ◌+◌, ◌≤◌, [], Option, Some, None, ℤ, pos, ◌+ℤ◌, ◌-ℤ◌}
 use Rattle.matter_rows.specs.declared.shares.Shares.{Shares}
 use Rattle.matter_rows.specs.declared.movement.EntryMovement.{EntryMovement}
-use Rattle.matter_rows.specs.Shares.{shares_of, no_shares, worth, draw, target}
+use Rattle.matter_rows.specs.declared.limits.TheConstants.{MAX_TOTAL}
+use Rattle.matter_rows.specs.declared.entry.Entry.{Entry}
+use Rattle.matter_rows.specs.Shares.{shares_of, no_shares, worth, draw, target, AreSmallShares, IsSmallShare}
 use Rattle.matter_rows.specs.Events.{events_of, events_in, moved_beyond}
 use Rattle.matter_parts.specs.declared.figures.Figures.{Figures}
 use Rattle.matter_parts.specs.declared.kept.Kept.{Kept}
@@ -10,6 +12,7 @@ use Rattle.matter_parts.specs.declared.edit.Numbered.{Numbered}
 use Rattle.matter_parts.specs.declared.edit.Edit.{Edit}
 use Rattle.matter_parts.specs.declared.edit.Edit.TheVariants as edit
 use Rattle.matter_parts.specs.declared.change.Left.{Left}
+use Rattle.matter_parts.specs.declared.change.Before.{Before}
 use Rattle.matter_parts.specs.declared.change.TotalsAfter.{TotalsAfter}
 use Rattle.matter_parts.specs.Parts.{Part, no_figures, kept_at, entry_in}
 use Rattle.matter_parts.specs.Changes.{MatterChange}
@@ -39,6 +42,19 @@ OtherCases m t out draw (Some o) =
 
 pub record OtherMoved (m : Part) (t : ℕ) (out draw : ℤ) (o : Option Left) : Type 0 where
   pub cases : OtherCases m t out draw o
+
+-- what an entry counted for before it is written is within the range of a matter
+pub record IsSmallBefore (b : Before) : Type 0 where
+  pub shares : AreSmallShares b.shares
+  pub left : b.left ≤ MAX_TOTAL
+  pub worth : IsSmallShare b.worth
+  pub draw : IsSmallShare b.draw
+
+-- the figures after an entry is written that counted for b before, and what is left of it and of the one that it names
+pub record EntryMoved (m : Part) (entries : ℕ) (b : Before) (e : Entry) (v : TotalsAfter) : Type 0 where
+  pub figures : FiguresMoved m.figures entries b.shares (shares_of e) v.figures
+  pub left : pos v.left ≡ (pos b.left -ℤ b.worth) +ℤ worth e
+  pub other : OtherMoved m (target e) b.draw (draw e) v.other
 
 -- the figures after an entry is added, and what is left of it and of the one that it names
 pub record AppendMoved (m : Part) (x : Numbered) (v : TotalsAfter) : Type 0 where

@@ -1,18 +1,15 @@
 //! A change of a matter: its edit, the totals after it, and its movement in the journal.
 
-ghost use Rattle.std.specs.Prelude.{◌≡◌, ◌+◌, ◌-◌, ◌<◌, ◌≤◌, ◌≤ℤ◌, ◌-ℤ◌, ◌+ℤ◌, IfOk, IfErr, IfSome, IfNone, OnErr, Option, []};
-ghost use Rattle.matter_rows.specs.Shares.{no_shares, draw, target, IsSmallShare, number_or_none};
-ghost use Rattle.matter_rows.specs.declared.limits.TheConstants.{MAX_TOTAL};
+ghost use Rattle.std.specs.Prelude.{◌≡◌, ◌≤◌, IfOk, IfErr, IfSome, IfNone, OnErr, Option, None};
+ghost use Rattle.matter_rows.specs.Shares.{IsSmallSum, number_or_none};
 ghost use Rattle.matter_parts.specs.declared.change.Left.{Left};
-ghost use Rattle.matter_parts.specs.Parts.{kept_at};
 ghost use Rattle.matter_parts.specs.Changes.{AreSmallTotals, IsSmallOther};
-ghost use Rattle.matter_parts.specs.TotalsAfter.{OtherMoved, AppendMoved, ExchangeMoved, EditMoved, IsMade, TheTotalsAfter, movement_kept};
+ghost use Rattle.matter_parts.specs.TotalsAfter.{OtherMoved, IsSmallBefore, EntryMoved, EditMoved, IsMade, TheTotalsAfter, movement_kept};
 
-use crate::edit::{Edit, Numbered};
+use crate::edit::Edit;
 use crate::figures::{Figures, figures_after};
-use crate::kept::Kept;
 use crate::matter::Matter;
-use matter_rows::{EntryMovement, moved, movement_beyond, no_shares};
+use matter_rows::{Entry, EntryMovement, Shares, moved, no_shares};
 use std::marker::Model;
 use trust_base::{Day, EntryNo, MAX_ENTRY, Refusal};
 
@@ -32,24 +29,27 @@ pub struct TotalsAfter {
     pub other: Option<Left>,
 }
 
+impl TotalsAfter {
+    // These totals, if no entry is written.
+    fn unwritten(figures: Figures) -> TotalsAfter
+        ensures { result ≡ record { figures = figures; left = 0; other = None } }
+    {
+        TotalsAfter {
+            figures,
+            left: 0,
+            other: None,
+        }
+    }
+}
+
 /// A change of a matter: the edit, the matter's last day after it, the totals after it, and its movement in the
 /// journal.
+#[derive(Drop)]
 pub struct Change {
     edit: Edit,
     last: Day,
     moves: TotalsAfter,
     movement: Option<EntryMovement>,
-}
-
-impl Drop for Change {
-    fn drop(self) {
-        let Change {
-            edit: _edit,
-            last: _last,
-            moves: _moves,
-            movement: _movement,
-        } = self;
-    }
 }
 
 impl Model for Change {
@@ -93,15 +93,25 @@ impl Change {
     }
 }
 
-/// Returns what is left of the named entry after what is drawn on it has changed.
+/// What an entry counted for before it is written: what it added to each total, what was left of it, what it was worth
+// and what it drew on the entry that it names. All zero for a new entry.
+#[derive(Clone, Copy)]
+struct Before {
+    shares: Shares,
+    left: u64,
+    worth: i64,
+    draw: i64,
+}
+
+// Returns what is left of the named entry after what is drawn on it has changed.
 fn other_after(
     matter: &Matter,
     target: Option<EntryNo>,
     out: i64,
     draw: i64,
 ) -> Option<Option<Left>>
-    requires out { IsSmallShare out }
-    requires draw { IsSmallShare draw }
+    requires out { IsSmallSum out }
+    requires draw { IsSmallSum draw }
     ensures small { IfSome result (λ o. IsSmallOther o) }
     ensures some { IfSome result (λ o. OtherMoved matter.now (number_or_none target) out draw o) }
     ensures none { IfNone result
@@ -117,95 +127,65 @@ fn other_after(
     }
 }
 
-fn append_moves(matter: &Matter, added: &Numbered) -> Option<TotalsAfter>
+// Returns the totals, and what is left, after an entry that counted for `before` is written as `new`.
+#[tactic(auto, using(crate::proofs::Moving::small_sum, crate::proofs::Moving::small_sums))]
+fn written(matter: &Matter, entries: u64, before: &Before, new: &Entry) -> Option<TotalsAfter>
+    requires entries { entries ≤ MAX_ENTRY }
+    requires before { IsSmallBefore before.now }
     ensures small { IfSome result (λ v. AreSmallTotals v) }
-    ensures some { IfSome result (λ v. AppendMoved matter.now added.now v) }
-    ensures none { IfNone result ((v : TheTotalsAfter) → AreSmallTotals v → AppendMoved matter.now added.now v → ⊥) }
-{
-    let figures = matter.figures();
-    if figures.entries >= MAX_ENTRY as u64 {
-        return None;
-    }
-    if added.number.get() as u64 != figures.entries + 1 {
-        return None;
-    }
-    let none = no_shares();
-    let shares = added.entry.shares();
-    let after = figures_after(&figures, figures.entries + 1, &none, &shares)?;
-    let left = moved(0, 0, added.entry.worth())?;
-    let other = other_after(matter, added.entry.target(), 0, added.entry.draw())?;
-    Some(TotalsAfter {
-        figures: after,
-        left,
-        other,
-    })
-}
-
-fn exchange_moves(matter: &Matter, kept: &Kept, changed: &Numbered) -> Option<TotalsAfter>
-    requires kept { kept_at matter.now changed.now.number ≡ Some kept.now }
-    requires small { kept.now.left ≤ MAX_TOTAL }
-    ensures small { IfSome result (λ v. AreSmallTotals v) }
-    ensures some { IfSome result (λ v. ExchangeMoved matter.now changed.now kept.now v) }
+    ensures some { IfSome result (λ v. EntryMoved matter.now entries before.now new.now v) }
     ensures none { IfNone result
-        ((v : TheTotalsAfter) → AreSmallTotals v → ExchangeMoved matter.now changed.now kept.now v → ⊥) }
+        ((v : TheTotalsAfter) → AreSmallTotals v → EntryMoved matter.now entries before.now new.now v → ⊥) }
 {
-    let figures = matter.figures();
-    let out = kept.entry.shares();
-    let shares = changed.entry.shares();
-    let after = figures_after(&figures, figures.entries, &out, &shares)?;
-    let left = moved(kept.left, kept.entry.worth(), changed.entry.worth())?;
-    let draws = kept.entry.draw();
-    let other = other_after(matter, changed.entry.target(), draws, changed.entry.draw())?;
+    let figures = figures_after(&matter.figures(), entries, &before.shares, &new.shares())?;
+    let left = moved(before.left, before.worth, new.worth())?;
+    let other = other_after(matter, new.target(), before.draw, new.draw())?;
     Some(TotalsAfter {
-        figures: after,
+        figures,
         left,
         other,
     })
 }
 
-// Returns the totals and what is left after an edit.
-fn edit_moves(matter: &Matter, edit: &Edit) -> Option<TotalsAfter>
-    ensures small { IfSome result (λ v. AreSmallTotals v) }
-    ensures some { IfSome result (λ v. EditMoved matter.now edit.now v) }
+// Returns the totals and what is left after an edit, and its movement in the journal, if any.
+fn edit_moves(matter: &Matter, edit: &Edit) -> Option<(TotalsAfter, Option<EntryMovement>)>
+    ensures small { IfSome result (λ v. AreSmallTotals v.0) }
+    ensures some { IfSome result (λ v. EditMoved matter.now edit.now v.0) }
+    ensures movement { IfSome result (λ v. v.1 ≡ movement_kept matter.now edit.now) }
     ensures none { IfNone result ((v : TheTotalsAfter) → AreSmallTotals v → EditMoved matter.now edit.now v → ⊥) }
 {
+    let figures = matter.figures();
     match edit {
-        Edit::Append(added) => append_moves(matter, added),
-        Edit::Exchange(changed) => {
-            let kept = matter.find(changed.number)?;
-            exchange_moves(matter, kept, changed)
-        }
-        Edit::Clear(_) => Some(TotalsAfter {
-            figures: Figures::none(),
-            left: 0,
-            other: None,
-        }),
-        Edit::Nothing | Edit::Open(_) | Edit::Seat(_) | Edit::Unseat(_) | Edit::Close(_) => Some(
-            TotalsAfter {
-                figures: matter.figures(),
+        Edit::Append(new) => {
+            let entries = figures.entries + 1;
+            if new.number.get() as u64 != entries {
+                return None;
+            }
+            let before = Before {
+                shares: no_shares(),
                 left: 0,
-                other: None,
-            },
-        ),
-    }
-}
-
-// Returns the movement of an edit in the journal, if any.
-fn edit_movement(matter: &Matter, edit: &Edit) -> Option<EntryMovement>
-    ensures { result ≡ movement_kept matter.now edit.now }
-{
-    match edit {
-        Edit::Append(added) => movement_beyond(added.number, None, &added.entry),
-        Edit::Exchange(changed) => match matter.find(changed.number) {
-            None => movement_beyond(changed.number, None, &changed.entry),
-            Some(kept) => movement_beyond(changed.number, Some(&kept.entry), &changed.entry),
-        },
-        Edit::Nothing
-        | Edit::Open(_)
-        | Edit::Seat(_)
-        | Edit::Unseat(_)
-        | Edit::Close(_)
-        | Edit::Clear(_) => None,
+                worth: 0,
+                draw: 0,
+            };
+            let moves = written(matter, entries, &before, &new.entry)?;
+            Some((moves, new.entry.event(new.number, 0)))
+        }
+        Edit::Exchange(new) => {
+            let kept = matter.find(new.number)?;
+            let old = &kept.entry;
+            let before = Before {
+                shares: old.shares(),
+                left: kept.left,
+                worth: old.worth(),
+                draw: old.draw(),
+            };
+            let moves = written(matter, figures.entries, &before, &new.entry)?;
+            Some((moves, new.entry.event(new.number, old.event_count())))
+        }
+        Edit::Clear(_) => Some((TotalsAfter::unwritten(Figures::none()), None)),
+        Edit::Nothing | Edit::Open(_) | Edit::Seat(_) | Edit::Unseat(_) | Edit::Close(_) => {
+            Some((TotalsAfter::unwritten(figures), None))
+        }
     }
 }
 
@@ -218,14 +198,11 @@ pub fn change_of(matter: &Matter, edit: Edit, last: Day) -> Result<Change, Refus
 {
     match edit_moves(matter, &edit) {
         None => Err(Refusal::Store),
-        Some(moves) => {
-            let movement = edit_movement(matter, &edit);
-            Ok(Change {
-                edit,
-                last,
-                moves,
-                movement,
-            })
-        }
+        Some((moves, movement)) => Ok(Change {
+            edit,
+            last,
+            moves,
+            movement,
+        }),
     }
 }

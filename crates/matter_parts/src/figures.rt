@@ -1,13 +1,13 @@
 //! The totals and counts of a matter.
 
 ghost use Rattle.std.specs.Prelude.{◌≡◌, ◌+◌, ◌-◌, ◌<◌, ◌≤◌, ◌≤ℤ◌, ◌-ℤ◌, ◌+ℤ◌, pos, IfSome, IfNone, [], ◌++◌, ◌∷◌, None, ◌≢◌, ◌↔◌, length, IsTrue};
-ghost use Rattle.matter_rows.specs.Shares.{AreSmallShares};
+ghost use Rattle.matter_rows.specs.Shares.{AreSmallSums};
 ghost use Rattle.matter_rows.specs.Balances.{available};
 ghost use Rattle.matter_rows.specs.Sound.{AreBacked};
 ghost use Rattle.matter_parts.specs.Parts.{AreSmall, no_figures, AreFigures};
 ghost use Rattle.matter_parts.specs.TotalsAfter.{FiguresMoved, TheFigures};
 
-use matter_rows::{Entry, MAX_TOTAL, Shares, as_total, moved, sums_of};
+use matter_rows::{Entry, MAX_TOTAL, Shares, moved, no_shares, sums_of};
 use trust_base::MAX_ENTRY;
 
 /// The totals of a matter in cents, the number of its entries, and that of the payments proposed or issued.
@@ -24,7 +24,7 @@ pub struct Figures {
 
 impl Figures {
     /// The totals of a matter without entries.
-    pub(crate) fn none() -> Figures
+    pub fn none() -> Figures
         ensures { result ≡ no_figures }
     {
         Figures {
@@ -56,7 +56,7 @@ pub struct Balances {
     pub total: u64,
 }
 
-/// Returns the figures with one entry's shares replaced by another's; `None` if one of them would go out of range.
+// Returns the figures with the shares `out` replaced by others; `None` if one of them would go out of range.
 pub(crate) fn figures_after(
     figures: &Figures,
     entries: u64,
@@ -65,27 +65,21 @@ pub(crate) fn figures_after(
 ) -> Option<Figures>
     requires small { AreSmall figures.now }
     requires entries { entries ≤ MAX_ENTRY }
-    requires out { AreSmallShares out.now }
-    requires shares { AreSmallShares shares.now }
+    requires out { AreSmallSums out.now }
+    requires shares { AreSmallSums shares.now }
     ensures small { IfSome result (λ f. AreSmall f) }
     ensures some { IfSome result (λ f. FiguresMoved figures.now entries out.now shares.now f) }
     ensures none { IfNone result
         ((f : TheFigures) → AreSmall f → FiguresMoved figures.now entries out.now shares.now f → ⊥) }
 {
-    let held = moved(figures.held, out.held, shares.held)?;
-    let available = moved(figures.available, out.available, shares.available)?;
-    let disputed = moved(figures.disputed, out.disputed, shares.disputed)?;
-    let fees = moved(figures.fees, out.fees, shares.fees)?;
-    let claims = moved(figures.claims, out.claims, shares.claims)?;
-    let pending = moved(figures.pending, out.pending, shares.pending)?;
     Some(Figures {
         entries,
-        pending,
-        held,
-        available,
-        disputed,
-        fees,
-        claims,
+        pending: moved(figures.pending, out.pending, shares.pending)?,
+        held: moved(figures.held, out.held, shares.held)?,
+        available: moved(figures.available, out.available, shares.available)?,
+        disputed: moved(figures.disputed, out.disputed, shares.disputed)?,
+        fees: moved(figures.fees, out.fees, shares.fees)?,
+        claims: moved(figures.claims, out.claims, shares.claims)?,
     })
 }
 
@@ -99,21 +93,7 @@ pub(crate) fn figures_of(entries: &[Entry]) -> Option<Figures>
     ensures none { IfNone result (AreBacked entries.now → ⊥) }
 {
     let sums = sums_of(entries);
-    let pending = as_total(sums.pending)?;
-    let held = as_total(sums.held)?;
-    let available = as_total(sums.available)?;
-    let disputed = as_total(sums.disputed)?;
-    let fees = as_total(sums.fees)?;
-    let claims = as_total(sums.claims)?;
-    Some(Figures {
-        entries: entries.len() as u64,
-        pending,
-        held,
-        available,
-        disputed,
-        fees,
-        claims,
-    })
+    figures_after(&Figures::none(), entries.len() as u64, &no_shares(), &sums)
 }
 
 // Whether all totals and counts are in range.

@@ -6,11 +6,11 @@ ghost use Rattle.std.specs.List.{filter, position};
 ghost use Rattle.matter_rows.specs.Sound.{AreBacked};
 ghost use Rattle.matter_parts.specs.NamedEntries.{has_number};
 ghost use Rattle.matter_parts.specs.Parts.{kept_at, kept_in, IsEntryOf, AreAllKept, AreNumbered};
-ghost use Rattle.matter_parts.specs.Applied.{entry_put, left_written, other_written};
+ghost use Rattle.matter_parts.specs.Applied.{entry_put, other_written};
 
 use crate::change::Left;
 use crate::named_entries::NamedEntries;
-use matter_rows::{Entry, MAX_TOTAL, as_total, drawn_on};
+use matter_rows::{Entry, MAX_TOTAL, drawn_on, moved};
 use std::alloc::{AllocError, Global};
 use std::marker::Model;
 use trust_base::{EntryNo, MAX_ENTRY, StoreFault};
@@ -28,11 +28,9 @@ impl Kept {
     fn copied(&self) -> Result<Kept, AllocError>
         ensures { IfOk result (λ k. k ≡ self.now) }
     {
-        let entry = self.entry.copied()?;
         Ok(Kept {
-            number: self.number,
-            left: self.left,
-            entry,
+            entry: self.entry.copied()?,
+            ..*self
         })
     }
 }
@@ -41,18 +39,10 @@ impl Kept {
 /// search.
 ///
 /// Contracts see their list.
+#[derive(Drop)]
 pub struct KeptEntries {
     entries: Vec<Kept>,
     is_numbered: bool,
-}
-
-impl Drop for KeptEntries {
-    fn drop(self) {
-        let KeptEntries {
-            entries: _entries,
-            is_numbered: _is_numbered,
-        } = self;
-    }
 }
 
 impl Model for KeptEntries {
@@ -221,22 +211,15 @@ pub fn put(kept: &mut KeptEntries, new: Kept) -> Result<(), AllocError>
     }
 }
 
-/// Sets what is left of the entry with this number, if it is loaded.
-pub fn set_left(kept: &mut KeptEntries, number: EntryNo, left: u64)
-    ensures { kept.new ≡ left_written kept.old number left }
+/// Sets what is left of the given entry, if one is given and it is loaded.
+pub fn set_left(kept: &mut KeptEntries, given: Option<Left>)
+    ensures { kept.new ≡ other_written kept.old given }
 {
-    if let Some(i) = kept.place_of(number.get()) {
-        kept.entries[i].left = left;
-    }
-}
-
-/// Sets what is left of the given entry, if one is given.
-pub fn set_other(kept: &mut KeptEntries, other: Option<Left>)
-    ensures { kept.new ≡ other_written kept.old other }
-{
-    match other {
-        None => {}
-        Some(other) => set_left(kept, other.number, other.left),
+    let Some(given) = given else {
+        return;
+    };
+    if let Some(i) = kept.place_of(given.number.get()) {
+        kept.entries[i].left = given.left;
     }
 }
 
@@ -253,7 +236,7 @@ fn kept_at(entries: &[Entry], place: usize) -> Result<Kept, StoreFault>
     let Some(number) = EntryNo::from_number((place + 1) as u16) else {
         return Err(StoreFault::Store);
     };
-    let Some(left) = as_total(entry.worth() - drawn_on(entries, number)) else {
+    let Some(left) = moved(0, drawn_on(entries, number), entry.worth()) else {
         return Err(StoreFault::Store);
     };
     let entry = entry.copied()?;

@@ -16,7 +16,7 @@ use crate::change::{Change, TotalsAfter};
 use crate::edit::{Edit, Numbered, Opening};
 use crate::figures::{Figures, are_small, figures_of};
 use crate::kept::{
-    Kept, KeptEntries, all_kept, are_small_lefts, found, kept_copied, kept_of, put, set_other,
+    Kept, KeptEntries, all_kept, are_small_lefts, found, kept_copied, kept_of, put, set_left,
 };
 use crate::named_entries::NamedEntries;
 use matter_rows::{
@@ -30,22 +30,12 @@ use trust_base::{Day, EntryNo, MAX_ENTRY, PersonId, StoreFault};
 /// A matter, with its head, its seats, its totals and its loaded entries.
 ///
 /// Contracts see it as a part of its rows.
+#[derive(Drop)]
 pub struct Matter {
     head: Option<Head>,
     seats: Vec<Seat>,
     figures: Figures,
     kept: KeptEntries,
-}
-
-impl Drop for Matter {
-    fn drop(self) {
-        let Matter {
-            head: _head,
-            seats: _seats,
-            figures: _figures,
-            kept: _kept,
-        } = self;
-    }
 }
 
 impl Model for Matter {
@@ -399,7 +389,7 @@ impl Matter {
             entry: copy,
         };
         put(&mut self.kept, kept)?;
-        set_other(&mut self.kept, moves.other);
+        set_left(&mut self.kept, moves.other);
         self.figures = moves.figures;
         see_on(&mut self.head, last);
         Ok(())

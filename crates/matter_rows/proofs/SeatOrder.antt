@@ -1,22 +1,10 @@
 -- Seats stay in order where one is added or given up.
 use Rattle.std.specs.List.{AllByRecursion, filter}
-use Rattle.std.specs.Ordering.{is_lt, nat_cmp}
-use Rattle.std.specs.Cmp.Lexicographic.{slice_cmp}
-use Rattle.std.proofs.Common.{◌≡◌, ℕ, Bool, true, false, cond, List, [], ◌∷◌, ◌++◌, refl, ap, Ordering, Less, Equal, Greater}
-use Rattle.std.proofs.lemmas.Cmp.{nat_list_cmp_total}
+use Rattle.std.proofs.Common.{◌≡◌, ℕ, Bool, true, false, cond, List, [], ◌∷◌, ◌++◌, refl}
 use Rattle.matter_rows.specs.declared.seat.Seat.{Seat}
 use Rattle.matter_rows.specs.Rows.{comes_before, seats_with, seats_without}
 use Rattle.matter_rows.specs.Sound.{AreInOrder}
-
-is-less : (o : Ordering) → is_lt o ≡ true → o ≡ Less
-is-less Less h = refl
-is-less Equal h = absurd (cc)
-is-less Greater h = absurd (cc)
-
--- the order of names is transitive
-pub before-trans : (a b c : List ℕ) → comes_before a b ≡ true → comes_before b c ≡ true → comes_before a c ≡ true
-before-trans a b c h g =
-    ap is_lt (nat_list_cmp_total.trans a b c (is-less (slice_cmp nat_cmp a b) h) (is-less (slice_cmp nat_cmp b c) g))
+use Rattle.matter_rows.proofs.Seating.{after-more}
 
 -- what holds of all holds of those that are kept, which pass the test too
 all-filter : (P : Seat → Type 0) (p : Seat → Bool) (ss : List Seat) → AllByRecursion P ss → AllByRecursion P (filter p ss)
@@ -43,10 +31,6 @@ order-filter p (s ∷ ss) h =
       | false ↦ order-filter p ss h.1
     ]
 
-all-later : (a : List ℕ) (new : Seat) (ys : List Seat) → comes_before a new.person ≡ true → AllByRecursion (λ t. comes_before new.person t.person ≡ true) ys → AllByRecursion (λ t. comes_before a t.person ≡ true) ys
-all-later a new [] h g = tt
-all-later a new (y ∷ ys) h g = (before-trans a new.person y.person h g.0, all-later a new ys h g.1)
-
 all-joined : (P : Seat → Type 0) (xs : List Seat) (new : Seat) (ys : List Seat) → AllByRecursion P xs → P new → AllByRecursion P ys → AllByRecursion P (xs ++ new ∷ ys)
 all-joined P [] new ys h n g = (n, g)
 all-joined P (x ∷ xs) new ys h n g = (h.0, all-joined P xs new ys h.1 n g)
@@ -55,7 +39,7 @@ all-joined P (x ∷ xs) new ys h n g = (h.0, all-joined P xs new ys h.1 n g)
 order-joined : (xs : List Seat) (new : Seat) (ys : List Seat) → AreInOrder xs → AllByRecursion (λ s. comes_before s.person new.person ≡ true) xs → AreInOrder ys → AllByRecursion (λ t. comes_before new.person t.person ≡ true) ys → AreInOrder (xs ++ new ∷ ys)
 order-joined [] new ys h b g a = (a, g)
 order-joined (x ∷ xs) new ys h b g a = (
-  all-joined (λ t. comes_before x.person t.person ≡ true) xs new ys h.0 b.0 (all-later x.person new ys b.0 a),
+  all-joined (λ t. comes_before x.person t.person ≡ true) xs new ys h.0 b.0 (after-more x.person new.person ys b.0 a),
   order-joined xs new ys h.1 b.1 g a,
 )
 

@@ -9,7 +9,7 @@ use Rattle.matter_rows.specs.Rows.{entry_at, book_day, comes_before}
 use Rattle.matter_rows.specs.Sound.{AreRising, AreInOrder}
 use Rattle.matter_rows.proofs.Collected.{entry-at-place}
 use Rattle.matter_rows.proofs.Entries.{none-past}
-use Rattle.matter_rows.proofs.SeatOrder.{before-trans}
+use Rattle.matter_rows.proofs.Seating.{after-more}
 
 -- The rest of a list, from a place on.
 
@@ -64,10 +64,6 @@ AreChained [] = Unit {0}
 AreChained (s ∷ []) = Unit {0}
 AreChained (s ∷ t ∷ ss) = (comes_before s.person t.person ≡ true) × AreChained (t ∷ ss)
 
-all-behind : (p q : List ℕ) (ss : List Seat) → comes_before p q ≡ true → AllByRecursion (λ t. comes_before q t.person ≡ true) ss → AllByRecursion (λ t. comes_before p t.person ≡ true) ss
-all-behind p q [] h all = tt
-all-behind p q (s ∷ ss) h all = (before-trans p q s.person h all.0, all-behind p q ss h all.1)
-
 pub chained-of : (ss : List Seat) → AreInOrder ss → AreChained ss
 chained-of [] h = tt
 chained-of (s ∷ []) h = tt
@@ -78,7 +74,7 @@ order-of [] h = tt
 order-of (s ∷ []) h = (tt, tt)
 order-of (s ∷ t ∷ ss) h =
     let more = order-of (t ∷ ss) h.1 in
-    ((h.0, all-behind s.person t.person ss h.0 more.0), more)
+    ((h.0, after-more s.person t.person ss h.0 more.0), more)
 
 pub order-first : (ss : List Seat) → AreInOrder ss ↔ AreChained (drop 0 ss)
 order-first ss = (chained-of ss, order-of ss)

@@ -141,21 +141,12 @@ impl Claim {
     pub fn restated(&self, state: ClaimState) -> Result<Claim, AllocError>
         ensures { IfOk result (λ c. c ≡ record self.now { state = state }) }
     {
-        let against = self.against.copied()?;
-        let reason = self.reason.copied()?;
         Ok(Claim {
-            book: self.book,
-            amount: self.amount,
-            against,
-            reason,
+            against: self.against.copied()?,
+            reason: self.reason.copied()?,
             state,
+            ..*self
         })
-    }
-
-    pub(crate) fn copied(&self) -> Result<Claim, AllocError>
-        ensures { IfOk result (λ c. c ≡ self.now) }
-    {
-        self.restated(self.state)
     }
 
     fn apart(&self) -> i64

@@ -18,10 +18,9 @@ impl Clearing {
     pub fn copied(&self) -> Result<Clearing, AllocError>
         ensures { IfOk result (λ m. m ≡ self.now) }
     {
-        let bank_ref = self.bank_ref.copied()?;
         Ok(Clearing {
             bank_day: self.bank_day,
-            bank_ref,
+            bank_ref: self.bank_ref.copied()?,
         })
     }
 
@@ -37,9 +36,8 @@ impl Clearing {
 pub(crate) fn clearing_by(line: &Line) -> Result<Clearing, AllocError>
     ensures { IfOk result (λ c. c ≡ clearing_by line.now) }
 {
-    let bank_ref = line.bank_ref.copied()?;
     Ok(Clearing {
         bank_day: line.date,
-        bank_ref,
+        bank_ref: line.bank_ref.copied()?,
     })
 }

@@ -3,17 +3,15 @@
 ghost use Rattle.std.specs.Prelude.{◌≡◌, IfOk, ◌+◌, ◌-◌, ◌<◌, ◌≤◌, ◌≤ℤ◌, ◌-ℤ◌, ◌+ℤ◌, true, ◌++◌, ◌↔◌, ◌&&◌, IsTrue};
 ghost use Rattle.std.specs.List.{AllByRecursion};
 ghost use Rattle.matter_rows.specs.Shares.{shares_of, no_shares, AreSmallShares};
-ghost use Rattle.matter_rows.specs.Events.{events_of, nth_moved};
-ghost use Rattle.matter_rows.specs.Clearings.{has_amount_back, clearing_by, is_deposit_cleared_by, is_deposit_returned_by, is_line_again, deposit_by};
+ghost use Rattle.matter_rows.specs.Clearings.{has_amount_back, clearing_by, is_deposit_cleared_by, is_line_again, deposit_by};
 ghost use Rattle.matter_rows.specs.Sound.{deposit_days, deposit_bank, AreRising, IsBackInTime};
 
 use crate::clearing::{Clearing, clearing_by};
 use crate::entry::Entry;
-use crate::movement::{EntryMovement, movement};
 use crate::shares::{Shares, no_shares};
 use crate::soundness::is_up_to;
 use std::alloc::AllocError;
-use trust_base::{Cents, Day, EntryNo, Label, Line};
+use trust_base::{Cents, Day, Label, Line};
 
 /// A deposit that the bank cleared and then took back: both bank lines, and the day on which the return was booked.
 #[derive(Drop)]
@@ -41,15 +39,11 @@ impl DepositState {
             DepositState::Held => Ok(DepositState::Held),
             DepositState::Cleared(clearing) => Ok(DepositState::Cleared(clearing.copied()?)),
             DepositState::Cancelled(day) => Ok(DepositState::Cancelled(*day)),
-            DepositState::Returned(back) => {
-                let clearing = back.clearing.copied()?;
-                let returning = back.returning.copied()?;
-                Ok(DepositState::Returned(ReturnedDeposit {
-                    clearing,
-                    returning,
-                    undone: back.undone,
-                }))
-            }
+            DepositState::Returned(back) => Ok(DepositState::Returned(ReturnedDeposit {
+                clearing: back.clearing.copied()?,
+                returning: back.returning.copied()?,
+                undone: back.undone,
+            })),
         }
     }
 
@@ -64,16 +58,6 @@ impl DepositState {
         }
     }
 
-    // Whether the deposit was taken back with the line's date and bank reference.
-    fn is_returned_by(&self, line: &Line) -> bool
-        ensures { result ≡ is_deposit_returned_by self.now line.now }
-    {
-        match self {
-            DepositState::Returned(back) => back.returning.is_by(line),
-            DepositState::Held | DepositState::Cleared(_) | DepositState::Cancelled(_) => false,
-        }
-    }
-
     /// The state after this line: a held deposit is cleared, and a cleared one is returned on the business day. Any
     /// other state is copied unchanged.
     pub fn told(&self, line: &Line, today: Day) -> Result<DepositState, AllocError>
@@ -81,15 +65,11 @@ impl DepositState {
     {
         match self {
             DepositState::Held => Ok(DepositState::Cleared(clearing_by(line)?)),
-            DepositState::Cleared(clearing) => {
-                let clearing = clearing.copied()?;
-                let returning = clearing_by(line)?;
-                Ok(DepositState::Returned(ReturnedDeposit {
-                    clearing,
-                    returning,
-                    undone: today,
-                }))
-            }
+            DepositState::Cleared(clearing) => Ok(DepositState::Returned(ReturnedDeposit {
+                clearing: clearing.copied()?,
+                returning: clearing_by(line)?,
+                undone: today,
+            })),
             DepositState::Cancelled(_) | DepositState::Returned(_) => self.copied(),
         }
     }
@@ -138,22 +118,12 @@ impl Deposit {
     pub fn restated(&self, state: DepositState) -> Result<Deposit, AllocError>
         ensures { IfOk result (λ d. d ≡ record self.now { state = state }) }
     {
-        let source = self.source.copied()?;
-        let description = self.description.copied()?;
         Ok(Deposit {
-            book: self.book,
-            amount: self.amount,
-            source,
-            description,
+            source: self.source.copied()?,
+            description: self.description.copied()?,
             state,
+            ..*self
         })
-    }
-
-    pub(crate) fn copied(&self) -> Result<Deposit, AllocError>
-        ensures { IfOk result (λ d. d ≡ self.now) }
-    {
-        let state = self.state.copied()?;
-        self.restated(state)
     }
 
     // What the deposit adds to each balance.
@@ -177,22 +147,6 @@ impl Deposit {
         }
     }
 
-    // Event `place`, counted from 0, of the deposit.
-    #[tactic(auto, unfolding(crate::specs::Events::events_of))]
-    pub(crate) fn event(&self, number: EntryNo, place: usize) -> Option<EntryMovement>
-        ensures { result ≡ nth_moved number place (events_of (Entry.Deposit self.now)) }
-    {
-        let amount = self.amount.get() as i64;
-        if place == 0 {
-            return Some(movement(number, self.book, amount));
-        }
-        match &self.state {
-            DepositState::Cancelled(day) if place == 1 => Some(movement(number, *day, -amount)),
-            DepositState::Returned(r) if place == 1 => Some(movement(number, r.undone, -amount)),
-            _ => None,
-        }
-    }
-
     // Whether the line has the negative of the deposit's amount.
     pub(crate) fn has_amount_back(&self, line: &Line) -> bool
         ensures { result ≡ has_amount_back self.now line.now }
@@ -207,6 +161,11 @@ impl Deposit {
         if self.state.is_cleared_by(line) && self.amount.get() as i64 == line.amount.get() {
             return true;
         }
-        self.state.is_returned_by(line) && self.has_amount_back(line)
+        match &self.state {
+            DepositState::Returned(back) => {
+                back.returning.is_by(line) && self.has_amount_back(line)
+            }
+            _ => false,
+        }
     }
 }

@@ -4,7 +4,7 @@ ghost use Rattle.std.specs.Prelude.{◌≡◌, IfOk, ◌+◌, ◌-◌, ◌<◌, 
 ghost use Rattle.matter_rows.specs.Shares.{shares_of, worth, draw, target, AreSmallShares, IsSmallShare, number_or_none, draw_on};
 ghost use Rattle.matter_rows.specs.Events.{events_of, nth_moved};
 ghost use Rattle.matter_rows.specs.Sound.{Sound, IsRanged, IsBy, IsRising, IsFundedInTime};
-ghost use Rattle.matter_rows.specs.Clearings.{cleared_amount, has_its_amount, is_return};
+ghost use Rattle.matter_rows.specs.Clearings.{has_its_amount, is_return};
 ghost use Rattle.matter_rows.specs.Rows.{book_day};
 ghost use Rattle.matter_rows.specs.Balances.{is_settled, names};
 ghost use Rattle.matter_rows.specs.SoundRows.{IsByIfClosed, IsSoundEntry};
@@ -35,10 +35,10 @@ impl Entry {
         ensures { IfOk result (λ e. e ≡ self.now) }
     {
         match self {
-            Entry::Deposit(d) => Ok(Entry::Deposit(d.copied()?)),
-            Entry::Payment(p) => Ok(Entry::Payment(p.copied()?)),
+            Entry::Deposit(d) => Ok(Entry::Deposit(d.restated(d.state.copied()?)?)),
+            Entry::Payment(p) => Ok(Entry::Payment(p.restated(p.state.copied()?)?)),
             Entry::Fee(f) => Ok(Entry::Fee(f.copied()?)),
-            Entry::Claim(c) => Ok(Entry::Claim(c.copied()?)),
+            Entry::Claim(c) => Ok(Entry::Claim(c.restated(c.state)?)),
         }
     }
 
@@ -107,9 +107,9 @@ impl Entry {
         }
     }
 
-    // How many events the entry has had.
+    /// How many movements the entry has made in the journal.
     #[tactic(auto, unfolding(crate::specs::Events::events_of))]
-    pub(crate) fn event_count(&self) -> usize
+    pub fn event_count(&self) -> usize
         ensures { result ≡ length (events_of self.now) }
     {
         match self {
@@ -126,14 +126,38 @@ impl Entry {
         }
     }
 
-    // Event `place`, counted from 0, of the entry.
+    /// Movement `place`, counted from 0, of the entry, which has this number.
     #[tactic(auto, unfolding(crate::specs::Events::events_of))]
-    pub(crate) fn event(&self, number: EntryNo, place: usize) -> Option<EntryMovement>
+    pub fn event(&self, number: EntryNo, place: usize) -> Option<EntryMovement>
         ensures { result ≡ nth_moved number place (events_of self.now) }
     {
+        let movement = |day: Day, amount: i64| {
+            Some(EntryMovement {
+                entry: number,
+                day,
+                amount,
+            })
+        };
         match self {
-            Entry::Deposit(d) => d.event(number, place),
-            Entry::Payment(p) => p.event(number, place),
+            Entry::Deposit(d) => {
+                let amount = d.amount.get() as i64;
+                match &d.state {
+                    _ if place == 0 => movement(d.book, amount),
+                    DepositState::Cancelled(day) if place == 1 => movement(*day, -amount),
+                    DepositState::Returned(r) if place == 1 => movement(r.undone, -amount),
+                    _ => None,
+                }
+            }
+            Entry::Payment(p) => {
+                let amount = p.amount.get() as i64;
+                match &p.state {
+                    PaymentState::Issued(day) if place == 0 => movement(*day, -amount),
+                    PaymentState::Cleared(c) if place == 0 => movement(c.issued, -amount),
+                    PaymentState::Voided(v) if place == 0 => movement(v.issued, -amount),
+                    PaymentState::Voided(v) if place == 1 => movement(v.undone, amount),
+                    _ => None,
+                }
+            }
             _ => None,
         }
     }
@@ -156,17 +180,6 @@ impl Entry {
         }
     }
 
-    // The amount of the line that clears the entry, in cents: positive for a deposit, negative for a payment.
-    fn cleared_amount(&self) -> i64
-        ensures { result ≡ cleared_amount self.now }
-    {
-        match self {
-            Entry::Deposit(deposit) => deposit.amount.get() as i64,
-            Entry::Payment(payment) => -(payment.amount.get() as i64),
-            Entry::Fee(_) | Entry::Claim(_) => 0,
-        }
-    }
-
     /// Whether the line takes the entry back: the entry is a cleared deposit, and the line has the negative of its
     /// amount.
     pub fn is_return(&self, line: &Line) -> bool
@@ -180,11 +193,15 @@ impl Entry {
         }
     }
 
-    /// Whether the line has the amount that clears the entry.
+    /// Whether the line has the amount that clears the entry: positive for a deposit, negative for a payment.
     pub fn has_its_amount(&self, line: &Line) -> bool
         ensures { result ≡ has_its_amount self.now line.now }
     {
-        self.cleared_amount() == line.amount.get()
+        match self {
+            Entry::Deposit(deposit) => deposit.amount.get() as i64 == line.amount.get(),
+            Entry::Payment(payment) => -(payment.amount.get() as i64) == line.amount.get(),
+            Entry::Fee(_) | Entry::Claim(_) => line.amount.get() == 0,
+        }
     }
 
     // Whether it is a settled claim on the general fund.

@@ -20,11 +20,9 @@ impl Fee {
     pub(crate) fn copied(&self) -> Result<Fee, AllocError>
         ensures { IfOk result (λ f. f ≡ self.now) }
     {
-        let description = self.description.copied()?;
         Ok(Fee {
-            book: self.book,
-            amount: self.amount,
-            description,
+            description: self.description.copied()?,
+            ..*self
         })
     }
 

@@ -41,12 +41,9 @@ impl Head {
     pub fn copied(&self) -> Result<Head, AllocError>
         ensures { IfOk result (λ h. h ≡ self.now) }
     {
-        let holder = self.holder.copied()?;
         Ok(Head {
-            holder,
-            opened: self.opened,
-            closed: self.closed,
-            last: self.last,
+            holder: self.holder.copied()?,
+            ..*self
         })
     }
 }

@@ -3,7 +3,6 @@
 ghost use Rattle.std.specs.Prelude.{◌≡◌, IfOk, ◌+◌, ◌-◌, ◌<◌, ◌≤◌, ◌≤ℤ◌, ◌-ℤ◌, ◌+ℤ◌, pos, true, ◌&&◌, ◌++◌, ◌↔◌, IsTrue};
 ghost use Rattle.std.specs.List.{AllByRecursion};
 ghost use Rattle.matter_rows.specs.Shares.{shares_of, no_shares, AreSmallShares, number_or_none, paid, fund_no};
-ghost use Rattle.matter_rows.specs.Events.{events_of, nth_moved};
 ghost use Rattle.matter_rows.specs.Rows.{is_same_fund, entry_at};
 ghost use Rattle.matter_rows.specs.Clearings.{clearing_by, is_payment_cleared_by, cleared_payment};
 ghost use Rattle.matter_rows.specs.Balances.{funds};
@@ -14,7 +13,6 @@ use crate::claim::Claim;
 use crate::clearing::{Clearing, clearing_by};
 use crate::entry::Entry;
 use crate::fee::Fee;
-use crate::movement::{EntryMovement, movement};
 use crate::shares::{Shares, no_shares};
 use crate::soundness::{entry_at, has_fee, is_up_to};
 use std::alloc::AllocError;
@@ -117,13 +115,10 @@ impl PaymentState {
             PaymentState::Proposed => Ok(PaymentState::Proposed),
             PaymentState::Declined => Ok(PaymentState::Declined),
             PaymentState::Issued(day) => Ok(PaymentState::Issued(*day)),
-            PaymentState::Cleared(paid) => {
-                let clearing = paid.clearing.copied()?;
-                Ok(PaymentState::Cleared(ClearedPayment {
-                    issued: paid.issued,
-                    clearing,
-                }))
-            }
+            PaymentState::Cleared(paid) => Ok(PaymentState::Cleared(ClearedPayment {
+                issued: paid.issued,
+                clearing: paid.clearing.copied()?,
+            })),
             PaymentState::Voided(voided) => Ok(PaymentState::Voided(*voided)),
         }
     }
@@ -147,13 +142,10 @@ impl PaymentState {
         ensures { IfOk result (λ s. s ≡ cleared_payment line.now self.now) }
     {
         match self {
-            PaymentState::Issued(issued) => {
-                let clearing = clearing_by(line)?;
-                Ok(PaymentState::Cleared(ClearedPayment {
-                    issued: *issued,
-                    clearing,
-                }))
-            }
+            PaymentState::Issued(issued) => Ok(PaymentState::Cleared(ClearedPayment {
+                issued: *issued,
+                clearing: clearing_by(line)?,
+            })),
             _ => self.copied(),
         }
     }
@@ -204,25 +196,13 @@ impl Payment {
     pub fn restated(&self, state: PaymentState) -> Result<Payment, AllocError>
         ensures { IfOk result (λ p. p ≡ record self.now { state = state }) }
     {
-        let payee = self.payee.copied()?;
-        let purpose = self.purpose.copied()?;
-        let instrument = self.instrument.copied()?;
         Ok(Payment {
-            book: self.book,
-            amount: self.amount,
-            fund: self.fund,
-            payee,
-            purpose,
-            instrument,
+            payee: self.payee.copied()?,
+            purpose: self.purpose.copied()?,
+            instrument: self.instrument.copied()?,
             state,
+            ..*self
         })
-    }
-
-    pub(crate) fn copied(&self) -> Result<Payment, AllocError>
-        ensures { IfOk result (λ p. p ≡ self.now) }
-    {
-        let state = self.state.copied()?;
-        self.restated(state)
     }
 
     // What the payment takes out of its fund, in cents: its amount while issued or cleared, otherwise 0.
@@ -266,21 +246,6 @@ impl Payment {
                 pending,
                 ..none
             },
-        }
-    }
-
-    // Event `place`, counted from 0, of the payment.
-    #[tactic(auto, unfolding(crate::specs::Events::events_of))]
-    pub(crate) fn event(&self, number: EntryNo, place: usize) -> Option<EntryMovement>
-        ensures { result ≡ nth_moved number place (events_of (Entry.Payment self.now)) }
-    {
-        let amount = self.amount.get() as i64;
-        match &self.state {
-            PaymentState::Issued(day) if place == 0 => Some(movement(number, *day, -amount)),
-            PaymentState::Cleared(c) if place == 0 => Some(movement(number, c.issued, -amount)),
-            PaymentState::Voided(v) if place == 0 => Some(movement(number, v.issued, -amount)),
-            PaymentState::Voided(v) if place == 1 => Some(movement(number, v.undone, amount)),
-            _ => None,
         }
     }
 }

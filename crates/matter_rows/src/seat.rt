@@ -27,9 +27,8 @@ impl Seat {
     pub fn copied(&self) -> Result<Seat, AllocError>
         ensures { IfOk result (λ s. s ≡ self.now) }
     {
-        let person = self.person.copied()?;
         Ok(Seat {
-            person,
+            person: self.person.copied()?,
             role: self.role,
         })
     }

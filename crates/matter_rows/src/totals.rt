@@ -1,11 +1,10 @@
 //! The sum of the shares of many entries.
 
-ghost use Rattle.std.specs.Prelude.{◌≡◌, ◌≢◌, ℕ, ◌+◌, ◌<◌, ◌≤◌, ◌↔◌, pos, length, IfSome, IfNone};
+ghost use Rattle.std.specs.Prelude.{◌≡◌, ℕ, ◌+◌, ◌<◌, ◌≤◌, ◌↔◌, pos, length};
 ghost use Rattle.matter_rows.specs.Shares.{draw_on, held_share, available_share, disputed_share, fee_share, claim_share, pending_share, IsSmallSum, AreSmallSums};
 ghost use Rattle.matter_rows.specs.Balances.{available, total_of};
 ghost use Rattle.trust_base.specs.TheConstants.{MAX_ENTRY};
 
-use crate::MAX_TOTAL;
 use crate::entry::Entry;
 use crate::shares::{Shares, no_shares};
 use trust_base::EntryNo;
@@ -32,18 +31,6 @@ pub fn sums_of(entries: &[Entry]) -> Shares
         sums.pending += shares.pending;
     }
     sums
-}
-
-/// The sum as a total, in cents. None if it is negative or above `MAX_TOTAL`.
-pub fn as_total(sum: i64) -> Option<u64>
-    ensures some { IfSome result (λ t. (t ≤ MAX_TOTAL) × (pos t ≡ sum)) }
-    ensures none { IfNone result ((t : ℕ) → t ≤ MAX_TOTAL → pos t ≢ sum) }
-{
-    if sum < 0 || sum > MAX_TOTAL as i64 {
-        None
-    } else {
-        Some(sum as u64)
-    }
 }
 
 /// What all entries together draw on the entry with this number.

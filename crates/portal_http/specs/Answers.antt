@@ -49,11 +49,11 @@ abbrev pub line_end : List ℕ
 line_end = 13 ∷ 10 ∷ []
 
 -- the status line of an answer
-unfoldable pub status_line : ℕ → List ℕ
+abbrev pub status_line : ℕ → List ℕ
 status_line status = codes "HTTP/1.1 " ++ decimal status ++ 32 ∷ (phrase_of status ++ line_end)
 
 -- a field line
-unfoldable pub field_line : List ℕ → List ℕ → List ℕ
+abbrev pub field_line : List ℕ → List ℕ → List ℕ
 field_line name value = name ++ 58 ∷ 32 ∷ (value ++ line_end)
 
 -- the head of an answer: the status line, two fields, and an empty line

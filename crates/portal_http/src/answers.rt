@@ -1,10 +1,8 @@
 // The bytes of answers.
 
-ghost use Rattle.std.specs.Prelude.{◌≡◌, ◌≤◌, ◌<◌, ◌+◌, ℕ, ◌++◌, length, take, IfOk, OnOk, OnErr};
-ghost use Rattle.std.specs.Fmt.{decimal};
+ghost use Rattle.std.specs.Prelude.{◌≡◌, ◌≤◌, ◌<◌, ℕ, ◌++◌, length, take, IfOk, OnOk, OnErr};
 ghost use Rattle.std.specs.Io.KnownBytes.{Appends};
-ghost use Rattle.arrayvec.specs.ArrayVec.{array_vec_len};
-ghost use Rattle.portal_http.specs.Answers.{field_line, head_text, kind_of, phrase_of, reply_bytes, status_line};
+ghost use Rattle.portal_http.specs.Answers.{head_text, kind_of, phrase_of, reply_bytes};
 
 use arrayvec::ArrayVec;
 use byte_streams::{push_number, push_piece};
@@ -50,57 +48,21 @@ fn kind(body: &Body) -> &'static str
     }
 }
 
-// Appends the status line.
-#[tactic(auto, unfolding(crate::specs::Answers::status_line))]
-fn push_status_line(text: &mut HeadText, status: u16)
-    requires { array_vec_len text.old ≤ 100 }
-    ensures items { text.new.items ≡ text.old.items ++ status_line status }
-    ensures len { array_vec_len text.new ≤ array_vec_len text.old + 52 }
-{
-    push_piece(text, b"HTTP/1.1 ");
-    push_number(text, status as u64);
-    push_piece(text, b" ");
-    push_piece(text, phrase(status).as_bytes());
-    push_piece(text, b"\r\n");
-}
-
-// Appends a field.
-#[tactic(auto, unfolding(crate::specs::Answers::field_line))]
-fn push_field(text: &mut HeadText, name: &[u8], value: &[u8])
-    requires { array_vec_len text.old + (length name.now + length value.now) ≤ 150 }
-    ensures items { text.new.items ≡ text.old.items ++ field_line name.now value.now }
-    ensures len { array_vec_len text.new ≤ array_vec_len text.old + (length name.now + length value.now) + 4 }
-{
-    push_piece(text, name);
-    push_piece(text, b": ");
-    push_piece(text, value);
-    push_piece(text, b"\r\n");
-}
-
-// Appends a field whose value is a number.
-#[tactic(auto, unfolding(crate::specs::Answers::field_line))]
-fn push_number_field(text: &mut HeadText, name: &[u8], number: u64)
-    requires { array_vec_len text.old + length name.now ≤ 130 }
-    ensures items { text.new.items ≡ text.old.items ++ field_line name.now (decimal number) }
-    ensures len { array_vec_len text.new ≤ array_vec_len text.old + length name.now + 24 }
-{
-    push_piece(text, name);
-    push_piece(text, b": ");
-    push_number(text, number);
-    push_piece(text, b"\r\n");
-}
-
 // Builds the head of an answer with a body of this kind and size.
-#[tactic(auto, unfolding(crate::specs::Answers::head_text))]
 fn head(status: u16, kind: &str, size: usize) -> HeadText
     requires { length kind.now ≤ 25 }
     ensures { result.items ≡ head_text status kind.now size }
 {
     let mut text = HeadText::new();
-    push_status_line(&mut text, status);
-    push_field(&mut text, b"content-type", kind.as_bytes());
-    push_number_field(&mut text, b"content-length", size as u64);
-    push_piece(&mut text, b"\r\n");
+    push_piece(&mut text, b"HTTP/1.1 ");
+    push_number(&mut text, status as u64);
+    push_piece(&mut text, b" ");
+    push_piece(&mut text, phrase(status).as_bytes());
+    push_piece(&mut text, b"\r\ncontent-type: ");
+    push_piece(&mut text, kind.as_bytes());
+    push_piece(&mut text, b"\r\ncontent-length: ");
+    push_number(&mut text, size as u64);
+    push_piece(&mut text, b"\r\n\r\n");
     text
 }
 

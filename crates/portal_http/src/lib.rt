@@ -6,22 +6,18 @@
 #![tactic(auto)]
 
 mod answers;
-mod connection;
-mod end_line;
 pub mod laws;
 mod listener;
 mod pace;
-mod paced;
 mod server;
 mod stream;
 mod system;
 
 pub use answers::{bytes_of, write_reply};
-pub use connection::{Answered, serve_connection};
 pub use listener::{AcceptFault, ClientListener, Connection, Network};
 pub use portal_messages::{Input, Message, Next, Stop, read_message};
 pub use portal_requests::{Routes, request_of};
-pub use server::{ServeEnd, serve_connections};
+pub use server::{Answered, ServeEnd, serve_connection, serve_connections};
 pub use stream::{StreamEnd, serve_stream};
 pub use system::{SystemListener, SystemNetwork};
 pub use trust_desk::Desk;

@@ -5,7 +5,8 @@ ghost use Rattle.std.specs.Duration.{as_nanos};
 
 use std::cell::Cell;
 use std::io;
-use std::io::{Error, ErrorKind};
+use std::io::{Error, ErrorKind, Read, Write};
+use std::net::OpenStream;
 use std::rt::Clock;
 use std::time::{Duration, Instant};
 
@@ -62,9 +63,9 @@ impl<C: Clock> Pace<C> {
         }
     }
 
-    /// Returns how long the next read may take; `TimedOut` if the time for its message is over. Also fails if the
-    /// clock, which is asked after the first byte of a message, cannot be read.
-    pub fn time_to_read(&self) -> io::Result<Duration>
+    // Returns how long the next read may take; `TimedOut` if the time for its message is over. Also fails if the
+    // clock, which is asked after the first byte of a message, cannot be read.
+    fn time_to_read(&self) -> io::Result<Duration>
         ensures { IfOk result (λ left. as_nanos left ≤ MESSAGE_SECONDS * 1_000_000_000) }
     {
         let whole = Duration::from_secs(MESSAGE_SECONDS);
@@ -81,16 +82,9 @@ impl<C: Clock> Pace<C> {
         }
     }
 
-    /// Records that bytes of a message were read.
-    pub fn has_read(&self) {
-        if let Phase::Between = self.phase.get() {
-            self.phase.set(Phase::Begun);
-        }
-    }
-
-    /// Returns how long the next write may take; `TimedOut` if the time for its text is over. Also fails if the clock
-    /// cannot be read.
-    pub fn time_to_write(&self) -> io::Result<Duration>
+    // Returns how long the next write may take; `TimedOut` if the time for its text is over. Also fails if the clock
+    // cannot be read.
+    fn time_to_write(&self) -> io::Result<Duration>
         ensures { IfOk result (λ left. as_nanos left ≤ TEXT_SECONDS * 1_000_000_000) }
     {
         let whole = Duration::from_secs(TEXT_SECONDS);
@@ -102,9 +96,56 @@ impl<C: Clock> Pace<C> {
             }
         }
     }
+}
 
-    /// Records that the last write accepted everything, so that a head or body is written.
-    pub fn has_written(&self) {
-        self.phase.set(Phase::Between);
+/// The reading half of a connection. Each read may take what is left of the silence between messages, or of the
+/// message's time.
+#[derive(Drop)]
+pub struct PacedReader<'p, 'h, C, R> {
+    /// The pace of the connection.
+    pub pace: &'p Pace<C>,
+    /// What is read.
+    pub half: &'h mut R,
+}
+
+impl<C: Clock, R: Read + OpenStream> Read for PacedReader<'_, '_, C, R> {
+    ghost remaining = { λ reader. R.remaining reader.half.now };
+
+    fn read(&mut self, buf: &mut [u8]) -> io::Result<usize> {
+        let left = self.pace.time_to_read()?;
+        self.half.set_read_timeout(Some(left))?;
+        let count = self.half.read(buf)?;
+        if let Phase::Between = self.pace.phase.get() {
+            self.pace.phase.set(Phase::Begun);
+        }
+        Ok(count)
+    }
+}
+
+/// The writing half of a connection. Each write may take what is left of the time for the text being written. What a
+/// write leaves of a text has to be offered to the next write.
+#[derive(Drop)]
+pub struct PacedWriter<'p, C, W> {
+    /// The pace of the connection.
+    pub pace: &'p Pace<C>,
+    /// What is written.
+    pub half: W,
+}
+
+impl<C: Clock, W: Write + OpenStream> Write for PacedWriter<'_, C, W> {
+    ghost contents = { λ writer. W.contents writer.half };
+
+    fn write(&mut self, buf: &[u8]) -> io::Result<usize> {
+        let left = self.pace.time_to_write()?;
+        self.half.set_write_timeout(Some(left))?;
+        let taken = self.half.write(buf)?;
+        if taken == buf.len() {
+            self.pace.phase.set(Phase::Between);
+        }
+        Ok(taken)
+    }
+
+    fn flush(&mut self) -> io::Result<()> {
+        self.half.flush()
     }
 }

@@ -1,21 +1,37 @@
 // Connections, one after the other.
 
-ghost use Rattle.portal_http.specs.ServedAll.{IsClientServed, KeepsStanding, ServedAll};
-ghost use Rattle.portal_http.specs.Clients.{Comes, Refused};
-ghost use Rattle.std.specs.Prelude.{◌≡◌, ◌+◌, ℕ, IfNone, IfSome};
+ghost use Rattle.portal_http.specs.Served.{Served};
+ghost use Rattle.portal_http.specs.ServedAll.{KeepsStanding, ServedAll};
 
-use crate::connection::serve_connection;
-use crate::end_line::line_of;
-use crate::listener::{AcceptFault, ClientListener};
-use crate::stream::StreamEnd;
+use crate::listener::{AcceptFault, ClientListener, Connection};
+use crate::pace::{Pace, PacedReader, PacedWriter, time_left};
+use crate::stream::{StreamEnd, line_of, serve_routes, serve_stream};
 use byte_streams::send;
 use portal_requests::Routes;
 use std::alloc::Global;
-use std::io::Write;
+use std::io;
+use std::io::{Read, Write};
+use std::net::{OpenStream, Shutdown};
 use std::rt::Clock;
+use std::time::{Duration, Instant};
 use trust_base::Day;
 use trust_desk::Desk;
 use trust_store::Book;
+
+// How many unread bytes are read and dropped before a connection is closed.
+const MAX_DROPPED: usize = 4_194_304;
+
+// How many seconds reading them may take in total.
+const CLOSING_SECONDS: u64 = 1;
+
+/// A connection whose stream was served.
+#[derive(Drop)]
+pub struct Answered<W: Drop> {
+    /// How its stream ended.
+    pub end: StreamEnd,
+    /// What the answers were written to.
+    pub writer: W,
+}
 
 /// How serving ended.
 #[derive(Clone, Copy, PartialEq, Eq, Debug)]
@@ -28,27 +44,97 @@ pub enum ServeEnd {
     WriteFault,
 }
 
-// Serves the next client and returns how its stream ended; `None` if the network refused the accept. A client that
-// was gone before it was accepted ends with `ReadFault`.
-fn serve_next<C: Clock + Drop, L: ClientListener, B: Book>(
+// Reads and drops what a client still sends, within the limits of a close.
+fn drop_rest<C: Clock, R: Read + OpenStream>(clock: &C, reader: &mut R) -> io::Result<()> {
+    let start = Instant::now(clock)?;
+    let mut part = [0u8; 8_192];
+    let mut room = MAX_DROPPED;
+    for _ in 0..MAX_DROPPED {
+        let left = time_left(clock, start, Duration::from_secs(CLOSING_SECONDS))?;
+        reader.set_read_timeout(Some(left))?;
+        let most = part.len().min(room);
+        let count = reader.read(&mut part[..most])?;
+        if count == 0 {
+            break;
+        }
+        room -= count;
+    }
+    Ok(())
+}
+
+// Closes a connection on which an answer may stand before bytes that were not read. Closing a socket with unread
+// bytes resets the connection, and the client could lose the answer, so they are read first.
+fn close<C: Clock, R: Read + OpenStream, W: OpenStream>(clock: &C, reader: &mut R, writer: &W) {
+    if writer.shutdown(Shutdown::Write).is_ok() {
+        let _ = drop_rest(clock, reader);
+    }
+}
+
+// Serves a stream at this pace, and returns its writer.
+fn serve_paced<C: Clock + Drop, R: Read + OpenStream + Drop, W: Write + OpenStream + Drop, B: Book>(
     alloc: Global,
-    clock: &C,
-    listener: &mut L,
+    pace: &Pace<C>,
+    reader: &mut R,
+    writer: W,
     desk: &mut Desk<B>,
     routes: &Option<Routes>,
     day: Day,
-) -> Option<StreamEnd>
-    ensures some { IfSome result (λ end. IsClientServed B.clean B.sure B.stands B.lasts B.leaves B.firm B.refusals
-        L.Writer.contents day (L.comes listener.old 0) desk.old end desk.new) }
-    ensures none { IfNone result (desk.new ≡ desk.old) }
-    ensures refused { IfNone result (L.comes listener.old 0 Refused) }
-    ensures next { (k : ℕ) (c : Comes L.Writer) → L.comes listener.new k c → L.comes listener.old (k + 1) c }
+) -> Answered<W>
+    ensures { Served B.clean B.sure B.stands B.lasts B.leaves B.firm B.refusals day (R.remaining reader.old)
+        (W.contents writer) desk.old result.end (W.contents result.writer) desk.new }
 {
-    match listener.accept() {
-        Ok(client) => Some(serve_connection(alloc, clock, client, desk, routes, day).end),
-        Err(AcceptFault::Aborted) => Some(StreamEnd::ReadFault),
-        Err(AcceptFault::Network) => None,
+    let messages = PacedReader { pace, half: reader };
+    let mut answers = PacedWriter { pace, half: writer };
+    let end = match routes {
+        Some(routes) => serve_routes(alloc, messages, &mut answers, desk, routes, day),
+        None => serve_stream(alloc, messages, &mut answers, desk, day),
+    };
+    let PacedWriter { pace: _, half } = answers;
+    Answered { end, writer: half }
+}
+
+/// Serves the stream of one connection, and closes it.
+///
+/// The client may be silent for 10 seconds between messages. The bytes of a message may take 60 seconds from the
+/// first; the client may take 60 seconds to accept the head of an answer, and 60 more for its body. A client that
+/// takes longer ends the stream with `ReadFault` or `WriteFault`, as does a clock that cannot be read. The time that
+/// the desk works is not counted. So every connection ends, since a stream has at most 1,000 messages.
+///
+/// If an answer ended the stream, the client still gets it: before the close, up to 4,194,304 bytes or one second of
+/// what it still sends are read and dropped. If no routes are given, they are made for this connection.
+pub fn serve_connection<
+    C: Clock + Drop,
+    R: Read + OpenStream + Drop,
+    W: Write + OpenStream + Drop,
+    B: Book,
+>(
+    alloc: Global,
+    clock: &C,
+    client: Connection<R, W>,
+    desk: &mut Desk<B>,
+    routes: &Option<Routes>,
+    day: Day,
+) -> Answered<W>
+    ensures { Served B.clean B.sure B.stands B.lasts B.leaves B.firm B.refusals day (R.remaining client.reader)
+        (W.contents client.writer) desk.old result.end (W.contents result.writer) desk.new }
+{
+    let Connection { mut reader, writer } = client;
+    let answered = serve_paced(
+        alloc,
+        &Pace::new(clock),
+        &mut reader,
+        writer,
+        desk,
+        routes,
+        day,
+    );
+    match answered.end {
+        StreamEnd::BadFraming | StreamEnd::Limit | StreamEnd::NoMemory => {
+            close(clock, &mut reader, &answered.writer);
+        }
+        StreamEnd::Ended | StreamEnd::ReadFault | StreamEnd::WriteFault => (),
     }
+    answered
 }
 
 /// Serves `count` clients one after the other, each over the book that the one before it left. Writes a line for
@@ -71,8 +157,11 @@ pub fn serve_connections<C: Clock + Drop, L: ClientListener, W: Write, B: Book>(
     // Made once for all clients. If memory runs out here, each connection makes its own.
     let routes = Routes::new(alloc).ok();
     for _ in 0..count {
-        let Some(end) = serve_next(alloc, clock, listener, desk, &routes, day) else {
-            return ServeEnd::NetworkFault;
+        let end = match listener.accept() {
+            Ok(client) => serve_connection(alloc, clock, client, desk, &routes, day).end,
+            // A client that was gone before it was accepted.
+            Err(AcceptFault::Aborted) => StreamEnd::ReadFault,
+            Err(AcceptFault::Network) => return ServeEnd::NetworkFault,
         };
         match send(writer, line_of(end)) {
             Ok(()) => (),

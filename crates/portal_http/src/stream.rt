@@ -7,6 +7,7 @@ ghost use Rattle.trust_desk.specs.Crashes.{IsMade, MayLeave};
 ghost use Rattle.trust_desk.specs.FirmStep.{Steps, firm_step};
 ghost use Rattle.trust_desk.specs.Replies.{is_fault_reply};
 ghost use Rattle.portal_requests.specs.Requests.{heard_of};
+ghost use Rattle.portal_http.specs.EndLines.{end_line};
 ghost use Rattle.portal_http.specs.Served.{Served};
 
 use crate::answers::write_reply;
@@ -38,6 +39,20 @@ pub enum StreamEnd {
     NoMemory,
 }
 
+/// Returns the line for the end of a stream: the name of the end.
+pub(crate) fn line_of(end: StreamEnd) -> &'static [u8]
+    ensures { result.now ≡ end_line end }
+{
+    match end {
+        StreamEnd::Ended => b"Ended\n",
+        StreamEnd::BadFraming => b"BadFraming\n",
+        StreamEnd::Limit => b"Limit\n",
+        StreamEnd::ReadFault => b"ReadFault\n",
+        StreamEnd::WriteFault => b"WriteFault\n",
+        StreamEnd::NoMemory => b"NoMemory\n",
+    }
+}
+
 // Returns the reply to a message.
 fn answer_message<B: Book>(
     alloc: Global,
@@ -62,8 +77,8 @@ fn answer_message<B: Book>(
     }
 }
 
-// Serves a stream with these routes.
-fn serve_routes<R: Read + Drop, W: Write, B: Book>(
+/// Serves a stream as `serve_stream` does, with these routes.
+pub(crate) fn serve_routes<R: Read + Drop, W: Write, B: Book>(
     alloc: Global,
     reader: R,
     writer: &mut W,
@@ -133,23 +148,5 @@ pub fn serve_stream<R: Read + Drop, W: Write, B: Book>(
             Ok(()) => StreamEnd::NoMemory,
             Err(_) => StreamEnd::WriteFault,
         },
-    }
-}
-
-/// Serves a stream as `serve_stream` does, with these routes; if there are none, it makes its own.
-pub(crate) fn serve_stream_by<R: Read + Drop, W: Write, B: Book>(
-    alloc: Global,
-    reader: R,
-    writer: &mut W,
-    desk: &mut Desk<B>,
-    routes: &Option<Routes>,
-    day: Day,
-) -> StreamEnd
-    ensures { Served B.clean B.sure B.stands B.lasts B.leaves B.firm B.refusals day (R.remaining reader)
-        (W.contents writer.old) desk.old result (W.contents writer.new) desk.new }
-{
-    match routes {
-        Some(routes) => serve_routes(alloc, reader, writer, desk, routes, day),
-        None => serve_stream(alloc, reader, writer, desk, day),
     }
 }

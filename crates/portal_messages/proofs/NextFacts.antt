@@ -6,7 +6,7 @@ use Rattle.httparse.specs.declared.spans.HeaderSpan.{HeaderSpan}
 use Rattle.portal_messages.specs.Heads.{HasNoHead, IsFound, is_ended}
 use Rattle.portal_messages.specs.Sources.{IsHeadNext}
 use Rattle.portal_messages.specs.declared.head.Found.TheVariants as found
-use Rattle.portal_messages.specs.declared.source.HeadNext.TheVariants as heads
+use Rattle.portal_messages.specs.declared.input.HeadNext.TheVariants as heads
 use Rattle.portal_messages.proofs.HeadFacts.{goes_on-append}
 
 pub bad-next : (buf : List ℕ) (spans : List HeaderSpan) (o a : Option (List ℕ)) → Keeps o (prepend_known buf a) → IsFound buf spans found.Bad → IsHeadNext o buf spans heads.Bad

@@ -5,9 +5,9 @@ use Rattle.httparse.specs.declared.spans.HeaderSpan.{HeaderSpan}
 use Rattle.httparse.specs.declared.spans.RequestSpans.{RequestSpans}
 use Rattle.httparse.specs.Grammar.{RequestHead}
 use Rattle.portal_messages.specs.Heads.{HasNoHead, IsHeadAt, is_ended}
-use Rattle.portal_messages.specs.declared.source.Source.{Source}
-use Rattle.portal_messages.specs.declared.source.HeadNext.{HeadNext}
-use Rattle.portal_messages.specs.declared.source.HeadNext.TheVariants as heads
+use Rattle.portal_messages.specs.declared.input.Source.{Source}
+use Rattle.portal_messages.specs.declared.input.HeadNext.{HeadNext}
+use Rattle.portal_messages.specs.declared.input.HeadNext.TheVariants as heads
 
 -- the bytes that no message has used, if those of the reader are known
 abbrev pub unread : {R : Type 0} → (R → Option (List ℕ)) → Source R → Option (List ℕ)
@@ -24,8 +24,3 @@ IsHeadNext known buffer spans (heads.Head r) =
     (is_ended buffer ≡ false) × (head : RequestHead) × IsHeadAt buffer spans r head
 IsHeadNext known buffer spans heads.Ended = IfSome known (λ bytes. is_ended bytes ≡ true)
 IsHeadNext known buffer spans heads.Bad = IfSome known (λ bytes. (is_ended bytes ≡ false) × HasNoHead bytes)
-
--- the buffer begins with a head
-abbrev pub HeadStands : {R : Type 0} → Source R → List HeaderSpan → RequestSpans → Type 0
-HeadStands source spans r =
-    (is_ended source.buffer.items ≡ false) × (head : RequestHead) × IsHeadAt source.buffer.items spans r head

@@ -1,15 +1,21 @@
 // A stream that is being read, and what comes next in it.
 
-ghost use Rattle.std.specs.Prelude.{◌≡◌, IfOk, None, Some, Result};
-ghost use Rattle.std.specs.Io.KnownBytes.{Keeps};
+ghost use Rattle.std.specs.Prelude.{◌≡◌, ◌≤◌, ◌<◌, IfOk, OnOk, MatchBool, None, Result, Some, drop, length, slice_range, true};
+ghost use Rattle.std.specs.Io.KnownBytes.{IsAtEnd, Keeps};
 ghost use Rattle.portal_messages.specs.Inputs.{IsFramed, IsNext, stays};
+ghost use Rattle.portal_messages.specs.Sources.{unread};
 
+use crate::head::{Found, MAX_FIELDS, copied_callers, find_head, first_bytes, size_of_body};
 use crate::message::Message;
-use crate::source::Source;
+use httparse::spans::{EMPTY_HEADER_SPAN, HeaderSpan, RequestSpans};
 use std::alloc::{AllocError, Global};
 use std::io::Read;
 use std::marker::Model;
-use trust_base::Refusal;
+use std::mem;
+use trust_base::{OwnedBytes, Refusal};
+
+// The most bytes of one read.
+const MAX_PART_BYTES: usize = 1_024;
 
 /// What comes next in a stream.
 #[derive(Debug, Drop)]
@@ -37,6 +43,165 @@ pub(crate) enum Last {
     Ended,
     Framing(Refusal),
     Stopped(Stop),
+}
+
+impl From<AllocError> for Stop {
+    ghost use Rattle.portal_messages.specs.declared.input.Stop.TheVariants.{Memory as memory_stop};
+
+    ghost from_gives = { λ _ stop. stop ≡ memory_stop };
+
+    fn from(_: AllocError) -> Self {
+        Stop::Memory
+    }
+}
+
+// The next head, with the positions of its parts, or why there is none.
+#[derive(Clone, Copy, PartialEq, Eq, Debug)]
+pub(crate) enum HeadNext {
+    Head(RequestSpans),
+    Ended,
+    Bad,
+}
+
+// A reader, with the bytes that it gave and no message has used.
+#[derive(Drop)]
+pub(crate) struct Source<R> {
+    pub(crate) reader: R,
+    pub(crate) buffer: Vec<u8>,
+    // Whether the last read reached the end.
+    pub(crate) ended: bool,
+}
+
+// Removes the bytes before `end` and returns those from `from` on. They stay in their own memory; only the bytes
+// after `end` are copied. Fails if memory runs out.
+fn take_body(buffer: &mut Vec<u8>, from: usize, end: usize) -> Result<Vec<u8>, AllocError>
+    requires ordered { from ≤ end }
+    requires within { end ≤ length buffer.old.items }
+    ensures body { IfOk result (λ body. body.items ≡ slice_range buffer.old.items from end) }
+    ensures rest { OnOk result (buffer.new.items ≡ drop end buffer.old.items) }
+{
+    let alloc = *buffer.allocator();
+    let rest = Vec::from_slice(alloc, buffer.as_slice().split_at(end).1)?;
+    let mut body = mem::replace(buffer, rest);
+    body.rotate_left(from);
+    body.truncate(end - from);
+    Ok(body)
+}
+
+impl<R: Read> Source<R> {
+    ghost use Rattle.portal_messages.specs.Sources.{Grew, IsHeadNext};
+
+    /// A reader from which nothing was read yet. Does not allocate.
+    fn new(alloc: Global, reader: R) -> Source<R>
+        ensures reader { result.reader ≡ reader }
+        ensures unread { Keeps (R.remaining reader) (unread R.remaining result) }
+    {
+        Source {
+            reader,
+            buffer: Vec::new(alloc),
+            ended: false,
+        }
+    }
+
+    // Reads once.
+    fn fill(&mut self) -> Result<(), Stop>
+        ensures unread { OnOk result (Keeps (unread R.remaining self.old) (unread R.remaining self.new)) }
+        ensures more { OnOk result (Grew self.old self.new) }
+        ensures ended { OnOk result (self.new.ended ≡ true → IsAtEnd (R.remaining self.new.reader)) }
+    {
+        let mut part = [0u8; MAX_PART_BYTES];
+        match self.reader.read(&mut part) {
+            Ok(0) => {
+                self.ended = true;
+                Ok(())
+            }
+            Ok(n) => {
+                if self.buffer.extend_from_slice(&part[..n]).is_err() {
+                    return Err(Stop::Memory);
+                }
+                self.ended = false;
+                Ok(())
+            }
+            Err(_) => Err(Stop::Reader),
+        }
+    }
+
+    // Finds the next head, reading no further than it must.
+    fn next_head(&mut self, spans: &mut [HeaderSpan; MAX_FIELDS]) -> Result<HeadNext, Stop>
+        requires { length spans.old ≡ 64 }
+        ensures unread { OnOk result (Keeps (unread R.remaining self.old) (unread R.remaining self.new)) }
+        ensures next { IfOk result (IsHeadNext (unread R.remaining self.old) self.new.buffer.items spans.new) }
+    {
+        // Each turn but the last adds a byte, and 8,193 bytes are always enough to decide.
+        for _ in 0..8_194usize {
+            let at_end = match find_head(self.buffer.as_slice(), spans) {
+                Found::Head(head) => return Ok(HeadNext::Head(head)),
+                Found::Bad => return Ok(HeadNext::Bad),
+                Found::Blank => HeadNext::Ended,
+                Found::More => HeadNext::Bad,
+            };
+            self.fill()?;
+            if self.ended {
+                return Ok(at_end);
+            }
+        }
+        unreachable!()
+    }
+
+    // Reads until the buffer has `size` bytes, or to the end. The room for them is allocated at once, as one block.
+    fn fill_to(&mut self, size: usize) -> Result<bool, Stop>
+        requires { size ≤ 100000000 }
+        ensures unread { OnOk result (Keeps (unread R.remaining self.old) (unread R.remaining self.new)) }
+        ensures full { IfOk result (λ full. MatchBool full (size ≤ length self.new.buffer.items)
+            ((length self.new.buffer.items < size) × IsAtEnd (R.remaining self.new.reader))) }
+    {
+        // With room for what the last read may add after them, reading never moves bytes.
+        let room = (size + MAX_PART_BYTES).saturating_sub(self.buffer.len());
+        self.buffer.reserve_exact(room)?;
+        for _ in 0..size + 1 {
+            if self.buffer.len() >= size {
+                return Ok(true);
+            }
+            self.fill()?;
+            if self.ended {
+                return Ok(false);
+            }
+        }
+        unreachable!()
+    }
+
+    // Reads what comes next, and no further than it must. The parts of the head are copied before the body is read.
+    fn read_next(&mut self) -> Result<Next, Stop>
+        ensures next { IfOk result (IsNext (unread R.remaining self.old) (unread R.remaining self.new)) }
+        ensures framing { IfOk result IsFramed }
+    {
+        let mut spans = [EMPTY_HEADER_SPAN; MAX_FIELDS];
+        let head = match self.next_head(&mut spans)? {
+            HeadNext::Head(head) => head,
+            HeadNext::Ended => return Ok(Next::Ended),
+            HeadNext::Bad => return Ok(Next::Framing(Refusal::BadMessage)),
+        };
+        let alloc = *self.buffer.allocator();
+        let first = first_bytes(self.buffer.as_slice());
+        let size = match size_of_body(first, &spans, &head) {
+            Ok(size) => size as usize,
+            Err(why) => return Ok(Next::Framing(why)),
+        };
+        let method = OwnedBytes::new(Vec::from_slice(alloc, head.method.of(first))?);
+        let target = OwnedBytes::new(Vec::from_slice(alloc, head.path.of(first))?);
+        let callers = copied_callers(alloc, first, &spans, &head)?;
+        let end = head.len + size;
+        if !self.fill_to(end)? {
+            return Ok(Next::Framing(Refusal::BadMessage));
+        }
+        let body = OwnedBytes::new(take_body(&mut self.buffer, head.len, end)?);
+        Ok(Next::Message(Message {
+            method,
+            target,
+            callers,
+            body,
+        }))
+    }
 }
 
 /// A stream that is being read: its reader, and the bytes that were read and no message has used.
@@ -76,43 +241,6 @@ impl<R: Read> Input<R> {
     }
 }
 
-impl From<AllocError> for Stop {
-    ghost use Rattle.portal_messages.specs.declared.input.Stop.TheVariants.{Memory as memory_stop};
-
-    ghost from_gives = { λ _ stop. stop ≡ memory_stop };
-
-    fn from(_: AllocError) -> Self {
-        Stop::Memory
-    }
-}
-
-impl Last {
-    ghost use Rattle.portal_messages.specs.Inputs.{answer_of, last_answer};
-
-    // Returns the answer again.
-    fn answer(self) -> Result<Next, Stop>
-        ensures { result ≡ answer_of self }
-    {
-        match self {
-            Last::Ended => Ok(Next::Ended),
-            Last::Framing(why) => Ok(Next::Framing(why)),
-            Last::Stopped(stop) => Err(stop),
-        }
-    }
-
-    // Returns what to store of an answer.
-    fn of(answer: &Result<Next, Stop>) -> Option<Last>
-        ensures { last_answer result ≡ stays answer.now }
-    {
-        match answer {
-            Ok(Next::Message(_)) => None,
-            Ok(Next::Ended) => Some(Last::Ended),
-            Ok(Next::Framing(why)) => Some(Last::Framing(*why)),
-            Err(stop) => Some(Last::Stopped(*stop)),
-        }
-    }
-}
-
 /// Reads what comes next in a stream, and no further than it must. After any answer but a message, it reads nothing
 /// more and always returns the same answer.
 ///
@@ -127,10 +255,18 @@ pub fn read_message<R: Read>(input: &mut Input<R>) -> Result<Next, Stop>
         → (result ≡ answer) × (input.new ≡ input.old) }
     ensures last { input.new.last ≡ stays result }
 {
-    if let Some(last) = input.last {
-        return last.answer();
+    match input.last {
+        None => (),
+        Some(Last::Ended) => return Ok(Next::Ended),
+        Some(Last::Framing(why)) => return Ok(Next::Framing(why)),
+        Some(Last::Stopped(stop)) => return Err(stop),
     }
     let answer = input.source.read_next();
-    input.last = Last::of(&answer);
+    input.last = match &answer {
+        Ok(Next::Message(_)) => None,
+        Ok(Next::Ended) => Some(Last::Ended),
+        Ok(Next::Framing(why)) => Some(Last::Framing(*why)),
+        Err(stop) => Some(Last::Stopped(*stop)),
+    };
     answer
 }

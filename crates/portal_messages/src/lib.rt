@@ -2,15 +2,11 @@
 //! a time, however the stream is cut into reads.
 #![tactic(auto)]
 
-mod fields;
 mod head;
 mod input;
 pub mod laws;
 mod message;
-mod source;
-mod text;
 
-pub use fields::path;
+pub use head::path;
 pub use input::{Input, Next, Stop, read_message};
-pub use message::Message;
-pub use text::Texts;
+pub use message::{Message, Texts};

@@ -1,7 +1,51 @@
 // A message.
 
-use crate::text::Texts;
+ghost use Rattle.std.specs.Prelude.{◌≡◌, List, ℕ, [], ◌∷◌, ◌++◌, OnOk, OnErr};
+
+use std::alloc::{AllocError, Global};
+use std::marker::Model;
 use trust_base::OwnedBytes;
+
+/// Texts of a message, in order. Contracts see the list of them.
+#[derive(Debug, Drop)]
+pub struct Texts {
+    texts: Vec<OwnedBytes>,
+}
+
+impl Model for Texts {
+    ghost Value = { List (List ℕ) };
+
+    ghost view = { λ t. t.texts.items };
+}
+
+impl Texts {
+    /// An empty list of texts. Does not allocate.
+    pub fn new(alloc: Global) -> Texts
+        ensures { result ≡ [] }
+    {
+        Texts {
+            texts: Vec::new(alloc),
+        }
+    }
+
+    /// Appends a text. Fails if memory runs out, with the texts unchanged.
+    pub fn push(&mut self, text: OwnedBytes) -> Result<(), AllocError>
+        ensures ok { OnOk result (self.new ≡ self.old ++ text ∷ []) }
+        ensures err { OnErr result (self.new ≡ self.old) }
+    {
+        match self.texts.push(text) {
+            Ok(()) => Ok(()),
+            Err(_) => Err(AllocError),
+        }
+    }
+
+    /// The texts.
+    pub fn as_slice(&self) -> &[OwnedBytes]
+        ensures { result.now ≡ self.now }
+    {
+        self.texts.as_slice()
+    }
+}
 
 /// The parts of an HTTP/1.1 request that matter here (RFC 9112). All other fields of its head are ignored.
 #[derive(Debug, Drop)]

@@ -1,15 +1,13 @@
--- What is read of an ask is what is answered.
-use Rattle.std.proofs.Common.{◌≡◌, inl, inr, ℕ, Option, Some, Result, Err, refl, sym}
+-- What is asked of an entry, once its number was read.
+use Rattle.std.proofs.Common.{◌≡◌, ℕ, List, Some, Result}
+use Rattle.trust_base.specs.Texts.{entry_of}
 use Rattle.trust_base.specs.declared.refusal.Field.{Field}
 use Rattle.trust_base.specs.declared.refusal.Refusal.{Refusal}
-use Rattle.trust_base.specs.declared.refusal.Refusal.TheVariants.{BadField, Memory}
 use Rattle.trust_matter.specs.declared.ask.Ask.{Ask}
-use Rattle.trust_matter.specs.declared.ask.Caller.{Caller}
 use Rattle.ask_fields.specs.Fields.{Reads}
-use Rattle.portal_requests.specs.Answers.{Answers}
-use Rattle.portal_requests.specs.Requests.{of_matter}
+use Rattle.portal_requests.specs.Asked.{entry_ask, numbered_ask}
+use Rattle.portal_requests.specs.declared.routes.EntryPlace.{EntryPlace}
 
-pub answers-refused : (caller : Caller) (o : Option ℕ) (m : ℕ) (asked : Result Ask Field) (why : Refusal) → Some m ≡ o → Reads asked (Err why) → Answers (of_matter caller o asked) (Err why)
-answers-refused caller o m asked (BadField f) found read = inr (refl, (λ i. of_matter caller (sym found i) (read i)))
-answers-refused caller o m asked Memory found read = inl refl
-answers-refused caller o m asked _ found read = absurd read
+pub asked-of : (place : EntryPlace) (text body : List ℕ) (number : ℕ) (asked : Result Ask Field) (r : Result Ask Refusal) → entry_of text ≡ Some number → numbered_ask place number body ≡ asked
+    → Reads asked r → Reads (entry_ask place text body) r
+asked-of place text body number asked r found same read = rw (found, same) read

@@ -13,10 +13,10 @@ use Rattle.trust_matter.specs.declared.ask.Caller.{Caller}
 use Rattle.trust_desk.specs.declared.requests.Request.{Request}
 use Rattle.portal_messages.specs.declared.message.Message.{Message}
 use Rattle.portal_messages.specs.Fields.{path_of}
-use Rattle.portal_requests.specs.declared.place.ReportPlace.{ReportPlace}
-use Rattle.portal_requests.specs.declared.place.ReportPlace.TheVariants as report
-use Rattle.portal_requests.specs.declared.place.Place.{Place}
-use Rattle.portal_requests.specs.declared.place.Place.TheVariants as place
+use Rattle.portal_requests.specs.declared.routes.ReportPlace.{ReportPlace}
+use Rattle.portal_requests.specs.declared.routes.ReportPlace.TheVariants as report
+use Rattle.portal_requests.specs.declared.routes.Place.{Place}
+use Rattle.portal_requests.specs.declared.routes.Place.TheVariants as place
 use Rattle.portal_requests.specs.Asked.{entry_ask, matter_ask}
 use Rattle.portal_requests.specs.Bodies.{body_in}
 use Rattle.portal_requests.specs.Callers.{caller_of}

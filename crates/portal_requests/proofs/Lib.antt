@@ -1,7 +1,7 @@
+pub mod AskFacts
 pub mod HeardFacts
 pub mod RouteFacts
 pub mod BodyFacts
-pub mod AskFacts
 pub mod Literals
 pub mod PathFacts
 pub mod Least

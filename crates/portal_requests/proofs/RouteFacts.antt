@@ -5,7 +5,7 @@ use Rattle.std.specs.Str.{IsUtf8}
 use Rattle.std.proofs.lemmas.Str.{is_utf8-from_IsUtf8}
 use Rattle.trust_base.proofs.NameFacts.{is_utf8-of_other}
 use Rattle.matchit.specs.Seek.{first}
-use Rattle.portal_requests.specs.declared.place.Place.{Place}
+use Rattle.portal_requests.specs.declared.routes.Place.{Place}
 use Rattle.portal_requests.specs.Table.{the_routes}
 use Rattle.portal_requests.specs.Routing.{place_of}
 

@@ -8,10 +8,10 @@ use Rattle.trust_matter.specs.declared.ask.Ask.TheVariants as ask
 use Rattle.trust_matter.specs.declared.claim.SplitAsk.{SplitAsk}
 use Rattle.ask_fields.specs.Asks.{claiming, depositing, dropping, earning, opening, proposing, seating, splitting}
 use Rattle.ask_fields.specs.Fields.{against_in, fund_in, of_entry, role_of}
-use Rattle.portal_requests.specs.declared.place.MatterPlace.{MatterPlace}
-use Rattle.portal_requests.specs.declared.place.MatterPlace.TheVariants as matter
-use Rattle.portal_requests.specs.declared.place.EntryPlace.{EntryPlace}
-use Rattle.portal_requests.specs.declared.place.EntryPlace.TheVariants as entry
+use Rattle.portal_requests.specs.declared.routes.MatterPlace.{MatterPlace}
+use Rattle.portal_requests.specs.declared.routes.MatterPlace.TheVariants as matter
+use Rattle.portal_requests.specs.declared.routes.EntryPlace.{EntryPlace}
+use Rattle.portal_requests.specs.declared.routes.EntryPlace.TheVariants as entry
 use Rattle.portal_requests.specs.Bodies.{optional_text_at, text_at, with_body}
 
 -- ---- of a matter as a whole

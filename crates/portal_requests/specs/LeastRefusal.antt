@@ -8,7 +8,7 @@ use Rattle.trust_matter.specs.declared.ask.Caller.{Caller}
 use Rattle.trust_desk.specs.declared.requests.Request.{Request}
 use Rattle.portal_messages.specs.declared.message.Message.{Message}
 use Rattle.portal_messages.specs.Fields.{path_of}
-use Rattle.portal_requests.specs.declared.place.Place.{Place}
+use Rattle.portal_requests.specs.declared.routes.Place.{Place}
 use Rattle.portal_requests.specs.Callers.{caller_of}
 use Rattle.portal_requests.specs.Places.{method_of}
 use Rattle.portal_requests.specs.Requests.{asked_at, request}

@@ -1,11 +1,11 @@
 -- Where routes lead, and by which method.
 use Rattle.std.specs.Prelude.{ℕ, List, codes}
-use Rattle.portal_requests.specs.declared.place.MatterPlace.TheVariants as matter
-use Rattle.portal_requests.specs.declared.place.MatterPlace.{MatterPlace}
-use Rattle.portal_requests.specs.declared.place.EntryPlace.TheVariants as entry
-use Rattle.portal_requests.specs.declared.place.EntryPlace.{EntryPlace}
-use Rattle.portal_requests.specs.declared.place.Place.TheVariants as place
-use Rattle.portal_requests.specs.declared.place.Place.{Place}
+use Rattle.portal_requests.specs.declared.routes.MatterPlace.TheVariants as matter
+use Rattle.portal_requests.specs.declared.routes.MatterPlace.{MatterPlace}
+use Rattle.portal_requests.specs.declared.routes.EntryPlace.TheVariants as entry
+use Rattle.portal_requests.specs.declared.routes.EntryPlace.{EntryPlace}
+use Rattle.portal_requests.specs.declared.routes.Place.TheVariants as place
+use Rattle.portal_requests.specs.declared.routes.Place.{Place}
 
 -- the method of a place: GET for what only reads, POST for what changes something or sends a bank statement
 abbrev pub matter_method : MatterPlace → List ℕ

@@ -13,12 +13,12 @@ use Rattle.trust_desk.specs.declared.requests.Request.TheVariants as requests
 use Rattle.trust_desk.specs.Heard.{Heard, Asks, Unread}
 use Rattle.portal_messages.specs.declared.message.Message.{Message}
 use Rattle.portal_messages.specs.Fields.{path_of}
-use Rattle.portal_requests.specs.declared.place.ReportPlace.{ReportPlace}
-use Rattle.portal_requests.specs.declared.place.ReportPlace.TheVariants as report
-use Rattle.portal_requests.specs.declared.place.StatementPlace.{StatementPlace}
-use Rattle.portal_requests.specs.declared.place.StatementPlace.TheVariants as statement
-use Rattle.portal_requests.specs.declared.place.Place.{Place}
-use Rattle.portal_requests.specs.declared.place.Place.TheVariants as place
+use Rattle.portal_requests.specs.declared.routes.ReportPlace.{ReportPlace}
+use Rattle.portal_requests.specs.declared.routes.ReportPlace.TheVariants as report
+use Rattle.portal_requests.specs.declared.routes.StatementPlace.{StatementPlace}
+use Rattle.portal_requests.specs.declared.routes.StatementPlace.TheVariants as statement
+use Rattle.portal_requests.specs.declared.routes.Place.{Place}
+use Rattle.portal_requests.specs.declared.routes.Place.TheVariants as place
 use Rattle.portal_requests.specs.Asked.{entry_ask, matter_ask}
 use Rattle.portal_requests.specs.Callers.{caller_of}
 use Rattle.portal_requests.specs.Paths.{day_part, entry_part, named_in}

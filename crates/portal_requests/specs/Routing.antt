@@ -2,7 +2,7 @@
 use Rattle.std.specs.Prelude.{ℕ, List, Option, None, option_map, if◌then◌else◌}
 use Rattle.std.specs.Str.{is_utf8}
 use Rattle.matchit.specs.Seek.{first}
-use Rattle.portal_requests.specs.declared.place.Place.{Place}
+use Rattle.portal_requests.specs.declared.routes.Place.{Place}
 use Rattle.portal_requests.specs.Table.{the_routes}
 
 -- where the route of a path leads; only a path in UTF-8 has one

@@ -6,12 +6,12 @@ use Rattle.matchit.specs.Order.{placed}
 use Rattle.matchit.specs.Router.{RouteOf, nearest, route_from}
 use Rattle.matchit.specs.Route.{Scan, parse_route}
 use Rattle.matchit.specs.declared.error.InsertError.{InsertError}
-use Rattle.portal_requests.specs.declared.place.MatterPlace.TheVariants as matter
-use Rattle.portal_requests.specs.declared.place.EntryPlace.TheVariants as entry
-use Rattle.portal_requests.specs.declared.place.ReportPlace.TheVariants as report
-use Rattle.portal_requests.specs.declared.place.StatementPlace.TheVariants as statement
-use Rattle.portal_requests.specs.declared.place.Place.{Place}
-use Rattle.portal_requests.specs.declared.place.Place.TheVariants.{Dismissal, Matter, Entry, Report, Statement}
+use Rattle.portal_requests.specs.declared.routes.MatterPlace.TheVariants as matter
+use Rattle.portal_requests.specs.declared.routes.EntryPlace.TheVariants as entry
+use Rattle.portal_requests.specs.declared.routes.ReportPlace.TheVariants as report
+use Rattle.portal_requests.specs.declared.routes.StatementPlace.TheVariants as statement
+use Rattle.portal_requests.specs.declared.routes.Place.{Place}
+use Rattle.portal_requests.specs.declared.routes.Place.TheVariants.{Dismissal, Matter, Entry, Report, Statement}
 
 -- the rows with one more route
 abbrev pub row_in : Result Scan InsertError → Place → RowsOf (RouteOf Place) → RowsOf (RouteOf Place)

@@ -1,12 +1,13 @@
 // The object in a body, and the texts of its fields.
 
-ghost use Rattle.std.specs.Prelude.{◌≡◌, IfOk, option_map};
+ghost use Rattle.std.specs.Prelude.{◌≡◌, ◌⊎◌, IfErr, IfOk, None, Some};
 ghost use Rattle.std.specs.Option.{option_copied};
-ghost use Rattle.serde_json.specs.View.{view, members_view};
+ghost use Rattle.serde_json.specs.View.{members_view, view};
 ghost use Rattle.portal_requests.specs.Bodies.{body_in, has_keys, is_key, is_object, optional_text_at, text_at, text_in, texts};
 
 use serde_json::{Map, Value};
-use std::alloc::{AllocError, Global};
+use std::alloc::Global;
+use trust_base::{Field, Refusal};
 
 fn is_key(keys: &[&str], key: &str) -> bool
     ensures { result ≡ is_key (texts keys.now) key.now }
@@ -48,28 +49,26 @@ fn object_text(body: &[u8]) -> &[u8]
     if body.is_empty() { b"{}" } else { body }
 }
 
-/// Parses the object in a body, if all its keys are among `keys`. An empty body counts as an object without keys.
-/// Fails if memory runs out.
-pub(crate) fn read_body(
-    alloc: Global,
-    keys: &[&str],
-    body: &[u8],
-) -> Result<Option<Value>, AllocError>
-    ensures { IfOk result (λ found. option_map view found ≡ body_in (texts keys.now) body.now) }
+/// Parses the object in a body. An empty body counts as an object without keys. Refuses with `BadField` of the body if
+/// it is no object or has another key than these, or `Memory` if memory runs out.
+pub(crate) fn read_body(alloc: Global, keys: &[&str], body: &[u8]) -> Result<Value, Refusal>
+    ensures ok { IfOk result (λ fields. body_in (texts keys.now) body.now ≡ Some (view fields)) }
+    ensures err { IfErr result (λ why. (why ≡ Refusal.Memory)
+        ⊎ (why ≡ Refusal.BadField Field.Body) × (body_in (texts keys.now) body.now ≡ None)) }
 {
     let value = match Value::from_slice(alloc, object_text(body)) {
         Ok(value) => value,
         Err(why) => {
             if why.is_memory() {
-                return Err(AllocError);
+                return Err(Refusal::Memory);
             }
-            return Ok(None);
+            return Err(Refusal::BadField(Field::Body));
         }
     };
     if is_object(keys, &value) {
-        Ok(Some(value))
+        Ok(value)
     } else {
-        Ok(None)
+        Err(Refusal::BadField(Field::Body))
     }
 }
 

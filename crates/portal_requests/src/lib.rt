@@ -2,14 +2,11 @@
 #![tactic(auto)]
 
 mod body;
-mod caller;
 mod dismissal;
 mod entry_asks;
 pub mod laws;
 mod matter_asks;
 mod named;
-mod parts;
-mod place;
 mod request;
 mod routes;
 

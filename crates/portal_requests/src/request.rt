@@ -1,24 +1,39 @@
 // The request of a message.
 
-ghost use Rattle.std.specs.Prelude.{Ok};
+ghost use Rattle.std.specs.Prelude.{◌≡◌, IfOk, Ok};
 ghost use Rattle.portal_requests.specs.Answers.{Answers};
 ghost use Rattle.portal_requests.specs.Asked.{entry_ask, matter_ask};
+ghost use Rattle.portal_requests.specs.Callers.{caller_of};
 ghost use Rattle.portal_requests.specs.Paths.{entry_part, named_in};
-ghost use Rattle.portal_requests.specs.Requests.{asked_at, of_matter, reported, request, with_statement};
+ghost use Rattle.portal_requests.specs.Requests.{of_matter, reported, request, with_statement};
 
-use crate::caller::caller;
 use crate::dismissal::read_dismissal;
 use crate::entry_asks::read_entry_ask;
 use crate::matter_asks::read_matter_ask;
-use crate::named::named_matter;
-use crate::parts::{day_part, entry_part};
-use crate::place::{EntryPlace, MatterPlace, Place, ReportPlace, StatementPlace, method};
-use crate::routes::Routes;
+use crate::named::{day_part, entry_part, named_matter};
+use crate::routes::{EntryPlace, MatterPlace, Place, ReportPlace, Routes, StatementPlace, method};
 use portal_messages::{Message, path};
-use std::alloc::Global;
-use trust_base::{Day, Field, OwnedBytes, Refusal};
+use std::alloc::{AllocError, Global};
+use trust_base::{Day, Field, OwnedBytes, PersonId, Refusal};
 use trust_desk::Request;
 use trust_matter::Caller;
+
+// Returns the caller, if there is exactly one value and it names one. Fails if memory runs out.
+fn read_caller(alloc: Global, values: &[OwnedBytes]) -> Result<Option<Caller>, AllocError>
+    ensures { IfOk result (λ found. found ≡ caller_of values.now) }
+{
+    if values.len() != 1 {
+        return Ok(None);
+    }
+    let value = values[0].as_slice();
+    if value == b"cashier".as_slice() {
+        return Ok(Some(Caller::Cashier));
+    }
+    match PersonId::read(alloc, value)? {
+        Some(person) => Ok(Some(Caller::Person(person))),
+        None => Ok(None),
+    }
+}
 
 // Returns what is asked of the matter in a path.
 fn read_matter_at(
@@ -92,24 +107,6 @@ fn read_statement_at(
     })
 }
 
-fn read_at(
-    alloc: Global,
-    place: Place,
-    caller: Caller,
-    path: &[u8],
-    body: &[u8],
-) -> Result<Request, Refusal>
-    ensures { Answers (asked_at place caller path.now body.now) result }
-{
-    match place {
-        Place::Matter(place) => read_matter_at(alloc, place, caller, path, body),
-        Place::Entry(place) => read_entry_at(alloc, place, caller, path, body),
-        Place::Report(place) => read_report_at(place, caller, path),
-        Place::Statement(place) => read_statement_at(alloc, place, caller, body),
-        Place::Dismissal => read_dismissal(alloc, caller, body),
-    }
-}
-
 /// Returns the request of a message, or the first of these refusals: `NoRoute`, `BadMethod`, `NoCaller`, and
 /// `BadField` of the matter, the entry, the day, the body or the first invalid field. Returns `Memory` if memory runs
 /// out.
@@ -124,8 +121,15 @@ pub fn request_of(alloc: Global, routes: &Routes, message: &Message) -> Result<R
     if message.method.as_slice() != method(place) {
         return Err(Refusal::BadMethod);
     }
-    let Some(caller) = caller(alloc, message.callers.as_slice())? else {
+    let Some(caller) = read_caller(alloc, message.callers.as_slice())? else {
         return Err(Refusal::NoCaller);
     };
-    read_at(alloc, place, caller, path, message.body.as_slice())
+    let body = message.body.as_slice();
+    match place {
+        Place::Matter(place) => read_matter_at(alloc, place, caller, path, body),
+        Place::Entry(place) => read_entry_at(alloc, place, caller, path, body),
+        Place::Report(place) => read_report_at(place, caller, path),
+        Place::Statement(place) => read_statement_at(alloc, place, caller, body),
+        Place::Dismissal => read_dismissal(alloc, caller, body),
+    }
 }

@@ -1,15 +1,88 @@
-// The routes.
+// The routes, and where they lead.
 
-ghost use Rattle.std.specs.Prelude.{◌≡◌, [], IfErr, IfOk, OnOk, option_map};
+ghost use Rattle.std.specs.Prelude.{◌≡◌, [], IfErr, IfOk, OnOk};
 ghost use Rattle.matchit.specs.Route.{parse_route};
-ghost use Rattle.matchit.specs.Seek.{first};
+ghost use Rattle.portal_requests.specs.Places.{method_of};
 ghost use Rattle.portal_requests.specs.Routing.{place_of};
 ghost use Rattle.portal_requests.specs.Table.{AreTaken, IsTaken, row_in, route_rows, rows_of, the_routes};
 
-use crate::place::{EntryPlace, MatterPlace, Place, ReportPlace, StatementPlace};
 use matchit::{InsertError, Router};
 use std::alloc::Global;
 use std::marker::Model;
+
+/// What a route asks of a matter as a whole.
+#[derive(Clone, Copy, PartialEq, Eq, Debug)]
+pub(crate) enum MatterPlace {
+    Show,
+    Open,
+    AddSeat,
+    DropSeat,
+    Close,
+    Purge,
+    Accounting,
+}
+
+/// What a route asks of an entry.
+#[derive(Clone, Copy, PartialEq, Eq, Debug)]
+pub(crate) enum EntryPlace {
+    Show,
+    Deposit,
+    Cancel,
+    Propose,
+    Approve,
+    Decline,
+    Void,
+    Fee,
+    Claim,
+    Offer,
+    Accept,
+    Award,
+}
+
+/// The report on the firm that a route asks for.
+#[derive(Clone, Copy, PartialEq, Eq, Debug)]
+pub(crate) enum ReportPlace {
+    Exceptions,
+    TrialBalance,
+    Journal,
+    Reconciliation,
+    Retention,
+}
+
+/// What a route does with a bank statement.
+#[derive(Clone, Copy, PartialEq, Eq, Debug)]
+pub(crate) enum StatementPlace {
+    Import,
+    Match,
+    Unmatched,
+}
+
+/// Where a route leads.
+#[derive(Clone, Copy, PartialEq, Eq, Debug)]
+pub(crate) enum Place {
+    /// To a matter.
+    Matter(MatterPlace),
+    /// To an entry of a matter.
+    Entry(EntryPlace),
+    /// To a report on the firm.
+    Report(ReportPlace),
+    /// To what is done with a bank statement.
+    Statement(StatementPlace),
+    /// To the dismissal of a line from the exceptions.
+    Dismissal,
+}
+
+/// Returns the only method of a place.
+pub(crate) fn method(place: Place) -> &'static [u8]
+    ensures { result.now ≡ method_of place }
+{
+    match place {
+        Place::Matter(MatterPlace::Show | MatterPlace::Accounting)
+        | Place::Entry(EntryPlace::Show)
+        | Place::Report(_) => b"GET",
+        Place::Matter(_) | Place::Entry(_) | Place::Statement(_) | Place::Dismissal => b"POST",
+    }
+}
 
 /// The routes of the portal: paths, and the place to which each leads.
 #[derive(Drop)]
@@ -21,7 +94,7 @@ impl Model for Routes {
     ghost use Rattle.std.specs.Prelude.{◌≡◌};
     ghost use Rattle.matchit.specs.Rows.{RowsOf};
     ghost use Rattle.matchit.specs.Router.{RouteOf};
-    ghost use Rattle.portal_requests.specs.declared.place.Place.{Place};
+    ghost use Rattle.portal_requests.specs.declared.routes.Place.{Place};
     ghost use Rattle.portal_requests.specs.Table.{the_routes};
 
     ghost Value = { RowsOf (RouteOf Place) };
@@ -141,15 +214,6 @@ impl Routes {
         Ok(Routes { router })
     }
 
-    fn place_at(&self, path: &str) -> Option<Place>
-        ensures { result ≡ option_map (λ e. e.value) (first the_routes path.now) }
-    {
-        match self.router.at(path) {
-            Ok(found) => Some(*found.value),
-            Err(_) => None,
-        }
-    }
-
     /// Returns where the route of a path leads. A path that is not UTF-8 has no route.
     pub(crate) fn place(&self, path: &[u8]) -> Option<Place>
         ensures { result ≡ place_of path.now }
@@ -157,6 +221,9 @@ impl Routes {
         let Ok(path) = str::from_utf8(path) else {
             return None;
         };
-        self.place_at(path)
+        match self.router.at(path) {
+            Ok(found) => Some(*found.value),
+            Err(_) => None,
+        }
     }
 }

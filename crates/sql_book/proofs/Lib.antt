@@ -1,9 +1,6 @@
-pub mod BookWrites
 pub mod Openings
 pub mod OneSchema
 pub mod Moves
 pub mod Stops
-pub mod Answered
-pub mod Books
-pub mod Made
 pub mod Scripts
+pub mod Written

@@ -1,26 +1,22 @@
-// Writes a change of a matter: first its change to the head, then what the edit writes. Reads nothing.
+// The SQL statements that a change writes: of a matter, first those to the head, then what the edit writes.
 
-ghost use Rattle.std.specs.Prelude.{◌≡◌, ◌≢◌, ◌≤◌, ◌∷◌, ◌++◌, false, pos, None, map, IfOk};
-ghost use Rattle.std.specs.Option.{option_copied};
-ghost use Rattle.sqlite.specs.Held.{state};
+ghost use Rattle.std.specs.Prelude.{◌≡◌, ◌≤◌, ◌∷◌, ◌++◌, pos, None, map, IfOk};
 ghost use Rattle.matter_rows.specs.declared.limits.TheConstants.{MAX_TOTAL};
 ghost use Rattle.matter_parts.specs.declared.edit.Edit.TheVariants as edit;
+ghost use Rattle.firm_rows.specs.Firm.{own_movement};
 ghost use Rattle.firm_rows.specs.FirmChange.{OfMatter};
+ghost use Rattle.firm_rows.specs.FirmLines.{as_firm_line};
+ghost use Rattle.sql_tables.specs.Given.{firm_line_given, movement_given};
+ghost use Rattle.sql_rows.specs.Columns.{firm_line_columns, movement_columns};
+ghost use Rattle.sql_rows.specs.Scripts.{IsTyped, IsTypedEdit};
 ghost use Rattle.sql_rows.specs.Steps.{step_of, entry_steps, movement_steps, matter_steps};
-ghost use Rattle.sql_book.specs.Writes.{IsFirmWrite};
 
-use crate::script::write_script;
-use crate::typed::{edit_is_typed, matter_is_typed};
 use firm_rows::{Movement, Owner};
-use matter_parts::{Change, Edit, Left, Numbered};
-use sql_rows::laws::scripts_are_meant;
-use sql_rows::{
-    entry_columns, exception_columns, head_columns, movement_columns, seat_columns, totals_columns,
-};
-use sql_tables::{LeftColumns, MatterDay, SeatName, Statement};
-use sqlite::{Alter, Connection};
-use std::alloc::Global;
-use trust_base::{Day, Line, MatterNo, PersonId, StoreFault};
+use matter_parts::{Change, Edit, Left, Numbered, Opening};
+use sql_rows::{entry_columns, head_columns, movement_columns, seat_columns, totals_columns};
+use sql_tables::{FirmLineColumns, LeftColumns, MatterDay, MovementColumns, SeatName, Statement};
+use std::alloc::{AllocError, Global};
+use trust_base::{Day, Line, MatterNo, PersonId};
 
 // The column of a matter's number.
 fn matter_column(matter: MatterNo) -> i64
@@ -73,7 +69,7 @@ fn entry_script<'a>(
     change: &Change,
     totals: Statement<'a>,
     written: &'a Numbered,
-) -> Result<Vec<Statement<'a>>, StoreFault>
+) -> Result<Vec<Statement<'a>>, AllocError>
     ensures { IfOk result (λ script. map step_of script.items ≡ step_of totals.entry
         ∷ (entry_steps matter written.now change.now.moves ++ movement_steps matter change.now.movement)) }
 {
@@ -97,36 +93,56 @@ fn entry_script<'a>(
     Ok(script)
 }
 
-// The script of a change by its edit. Of a purged matter's rows only the head stays.
-fn edit_script<'a>(
+#[tactic(auto, unfolding(trust_values::specs::Limits::IsDay))]
+fn day_is_typed(day: Day)
+    ensures { 1 ≤ day }
+{}
+
+fn opening_is_typed(opening: &Opening)
+    ensures { IsTypedEdit (edit.Open opening.now) }
+{
+    match opening.head.closed {
+        None => {}
+        Some(day) => day_is_typed(day),
+    }
+}
+
+/// The script of a change by its edit, and what the types of its days and number say. Of a purged matter's rows only
+/// the head stays.
+pub(crate) fn edit_script<'a>(
     alloc: Global,
     matter: MatterNo,
     change: &'a Change,
-) -> Result<Vec<Statement<'a>>, StoreFault>
-    ensures { IfOk result (λ script. map step_of script.items ≡ matter_steps matter change.now change.now.edit) }
+) -> Result<Vec<Statement<'a>>, AllocError>
+    ensures steps { IfOk result (λ script.
+        map step_of script.items ≡ matter_steps matter change.now change.now.edit) }
+    ensures typed { IfOk result (λ _. IsTyped (OfMatter matter None change.now)) }
 {
     let figures = change.moves().figures;
     let totals = Statement::Totals(totals_columns(matter, change.last(), figures));
     match change.edit() {
-        Edit::Nothing => Ok(Vec::from_slice(alloc, &[])?),
+        Edit::Nothing => Vec::from_slice(alloc, &[]),
         Edit::Open(opening) => {
+            opening_is_typed(opening);
             let head = Statement::Head(head_columns(matter, &opening.head, figures));
             let seat = Statement::Seat(seat_columns(matter, &opening.seat));
-            Ok(Vec::from_slice(alloc, &[head, seat])?)
+            Vec::from_slice(alloc, &[head, seat])
         }
         Edit::Seat(seat) => {
             let added = Statement::Seat(seat_columns(matter, seat));
-            Ok(Vec::from_slice(alloc, &[totals, added])?)
+            Vec::from_slice(alloc, &[totals, added])
         }
         Edit::Unseat(person) => {
             let gone = Statement::SeatGone(seat_name(matter, person));
-            Ok(Vec::from_slice(alloc, &[totals, gone])?)
+            Vec::from_slice(alloc, &[totals, gone])
         }
         Edit::Close(day) => {
+            day_is_typed(*day);
             let closed = Statement::Closed(day_columns(matter, *day));
-            Ok(Vec::from_slice(alloc, &[closed, totals])?)
+            Vec::from_slice(alloc, &[closed, totals])
         }
         Edit::Clear(day) => {
+            day_is_typed(*day);
             let script = [
                 Statement::Purged(day_columns(matter, *day)),
                 totals,
@@ -134,38 +150,32 @@ fn edit_script<'a>(
                 Statement::EntriesGone(matter_column(matter)),
                 Statement::MovementsGone(matter_column(matter)),
             ];
-            Ok(Vec::from_slice(alloc, &script)?)
+            Vec::from_slice(alloc, &script)
         }
         Edit::Append(written) => entry_script(alloc, matter, change, totals, written),
         Edit::Exchange(written) => entry_script(alloc, matter, change, totals, written),
     }
 }
 
-/// Writes a change of a matter. If a bank line made the change, the line is removed from the exceptions. An empty
-/// change writes only that, so it must have a line.
-///
-/// If the change does not fit the matter's rows as they are, for example because the matter was never opened, nothing
-/// is promised of the tables. Returns `Memory` if memory runs out, and `Store` for any other fault; a connection that
-/// is still open after an error has changed nothing.
-pub fn write_change<S: Alter>(
-    conn: &mut Connection<S>,
-    alloc: Global,
-    matter: MatterNo,
-    line: Option<&Line>,
-    change: &Change,
-) -> Result<(), StoreFault>
-    requires outside { conn.old.in_transaction ≡ false }
-    requires some { change.now.edit ≡ edit.Nothing → line ≢ None }
-    ensures mode { conn.new.in_transaction ≡ false }
-    ensures written { IsFirmWrite (OfMatter matter (option_copied line.entry) change.now) result
-        (state S.Store conn.old) (state S.Store conn.new) }
+/// The columns of a line in the firm's own ledger.
+pub(crate) fn kept_columns(line: &Line) -> FirmLineColumns<'_>
+    ensures { firm_line_given result ≡ firm_line_columns (as_firm_line line.now) }
 {
-    scripts_are_meant();
-    matter_is_typed(matter);
-    edit_is_typed(change.edit());
-    let mut script = edit_script(alloc, matter, change)?;
-    if let Some(line) = line {
-        script.push(Statement::ExceptionGone(exception_columns(line)))?;
+    FirmLineColumns {
+        day: line.date.get() as i64,
+        bank_ref: line.bank_ref.as_slice(),
+        amount: line.amount.get(),
+        text: line.text.as_slice(),
     }
-    write_script(conn, &script)
+}
+
+/// The columns of the movement of a line of the firm's own.
+pub(crate) fn moved_columns(line: &Line) -> MovementColumns
+    ensures { movement_given result ≡ movement_columns (own_movement (as_firm_line line.now)) }
+{
+    movement_columns(Movement {
+        owner: Owner::Firm,
+        day: line.date,
+        amount: line.amount.get(),
+    })
 }

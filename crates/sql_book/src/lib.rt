@@ -9,14 +9,8 @@
 
 mod book;
 mod changes;
-mod counting;
 pub mod laws;
-mod lines;
 mod opening;
-mod script;
-mod typed;
-mod verdicts;
-mod version;
 
 pub use book::SqlBook;
 pub use sql_making::OpenFault;

@@ -1,21 +1,27 @@
-// Makes a book in a database, takes one from it, and gives the connection back.
+// Makes a book in a database, takes one from it, tells its version, and gives the connection back.
 
-ghost use Rattle.std.specs.Prelude.{◌≡◌, ◌≢◌, false, IfOk, IfErr, IsTrue};
+ghost use Rattle.std.specs.Prelude.{◌≡◌, ◌≢◌, ◌∷◌, [], false, IfOk, IfErr, OnOk, IsTrue};
+ghost use Rattle.sqlite_value.specs.declared.value.Value.TheVariants.{Int};
 ghost use Rattle.sqlite.specs.Held.{state};
 ghost use Rattle.sqlite.specs.State.{HasCleanDisk, Survives};
-ghost use Rattle.sql_making.specs.Books.{no_schema, IsBook, AreNewBook};
+ghost use Rattle.sql_making.specs.Books.{no_schema, versions_in, IsBook, AreNewBook};
 ghost use Rattle.sql_making.specs.Then.{IsOldBook, AreMoved};
 ghost use Rattle.sql_schema.specs.declared.layout.Layout.{Layout};
+ghost use Rattle.sql_schema.specs.Schema.{book_schema};
+ghost use Rattle.trust_store.specs.Books.{counted};
 ghost use Rattle.sql_tables.specs.Reading.{IsKept};
+ghost use Rattle.sql_tables.specs.Script.{IsSettled};
 ghost use Rattle.sql_book.specs.Books.{at, IsSure};
 ghost use Rattle.sql_book.specs.Opening.{IsMade, IsTaken};
 
-use crate::book::SqlBook;
-use sql_making::OpenFault;
+use crate::book::{SqlBook, told};
+use sql_making::{OpenFault, version_of};
+use sql_reads::fault_of;
 use sql_rows::laws::empty_tables_stand;
 use sql_schema::Layout;
 use sqlite::{Alter, Connection};
 use std::alloc::Global;
+use trust_base::StoreFault;
 
 impl<S: Alter + Drop> SqlBook<S> {
     /// Makes a book without rows in an empty database, all or nothing, even after a crash. No transaction may be
@@ -84,6 +90,29 @@ impl<S: Alter + Drop> SqlBook<S> {
                 refused: 0,
             }),
             Err(fault) => Err((fault, conn)),
+        }
+    }
+
+    /// Returns the version that the book's tables hold: 2, for every book that was made or taken. Returns `Store` if
+    /// they hold none or more than one, if the store failed, or if the connection has a step limit. Writes nothing
+    /// and reads no row of a matter.
+    pub fn version(&mut self) -> Result<i64, StoreFault>
+        ensures same { self.new.layout ≡ self.old.layout }
+        ensures is { IsSure S.Store self.new → (at S.Store self.old).now.schema ≡ book_schema self.old.layout
+            → IfOk result (λ v. versions_in self.old.layout (at S.Store self.old).now.trees ≡ Int v ∷ []) }
+        ensures serves { IsSure S.Store self.new → OnOk result (IsTrue (at S.Store self.new).is_open) }
+        ensures kept { IsSure S.Store self.new → (at S.Store self.old).now.schema ≡ book_schema self.old.layout
+            → IsTrue (at S.Store self.new).is_open → IsKept (at S.Store self.old) (at S.Store self.new) }
+        ensures settled { IsSure S.Store self.new → (at S.Store self.old).now.schema ≡ book_schema self.old.layout
+            → OnOk result (IsSettled (at S.Store self.new)) }
+        ensures crash { (at S.Store self.old).now.schema ≡ book_schema self.old.layout
+            → Survives (at S.Store self.old) (at S.Store self.new) (λ _. ⊥) }
+        ensures count { self.new.refusals ≡ counted result self.old.refusals }
+    {
+        match version_of(&mut self.conn) {
+            Ok(Some(version)) => Ok(version),
+            Ok(None) => told(&mut self.refused, Err(StoreFault::Store)),
+            Err(error) => told(&mut self.refused, Err(fault_of(error))),
         }
     }
 

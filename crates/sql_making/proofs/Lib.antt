@@ -6,7 +6,6 @@ pub mod Whole
 pub mod VersionRead
 pub mod Endings
 pub mod NewBook
-pub mod Causes
 pub mod MovedCreates
 pub mod MovedParts
 pub mod MovedStages
@@ -16,5 +15,4 @@ pub mod Tables
 pub mod Version
 pub mod Steps
 pub mod MovedWhole
-pub mod OldVersion
 pub mod Ends

@@ -1,34 +1,47 @@
--- What the text that reads the version answers.
-use Rattle.std.proofs.Common.{◌≡◌, pos, negsuc, false, List, [], ◌∷◌, None, map, codes, refl, sym, ap, subst, ◌∙◌, IsPermutation}
+-- What the text that reads the versions answers under the schema of a book of either version, and why it fails.
+use Rattle.std.proofs.Common.{◌≡◌, ◌⊎◌, inl, inr, ℕ, ◌<◌, ◌≤◌, ℤ, pos, negsuc, true, false, List, [], ◌∷◌, length, get_or, None, Option, Result, Ok, Err, IsSome, map, codes, refl, sym, ap, subst, subst₂, ◌∙◌, arith, IsPermutation}
 use Rattle.std.proofs.lemmas.List.Concat.{flat_map_single}
 use Rattle.std.proofs.lemmas.List.Sorted.{IsPermutation-map, IsPermutation-sym}
 use Rattle.sqlite_value.specs.declared.value.Value.{Value}
 use Rattle.sqlite_value.specs.declared.value.Value.TheVariants.{Null, Int}
 use Rattle.sqlite_value.specs.declared.keys.Collation.TheVariants.{Binary}
 use Rattle.sqlite_value.specs.Order.{Row, column}
+use Rattle.sqlite_trees.specs.declared.error.StoreError.{StoreError}
+use Rattle.sqlite_trees.specs.declared.error.StoreError.TheVariants.{OutOfMemory, Io, Corrupt, Full, Broken, Unstorable}
 use Rattle.sqlite_trees.specs.Tree.{Trees}
 use Rattle.sqlite_sql.specs.Term.{lit, col}
 use Rattle.sqlite_sql.specs.Query.{Query, Output, inner, end, output, IsAnswer}
 use Rattle.sqlite_sql.specs.Program.{overlay}
+use Rattle.sqlite_typing.specs.Types.{accepts_program}
+use Rattle.sqlite_resolve.specs.declared.compiled.Compiled.{Compiled}
+use Rattle.sqlite_resolve.specs.declared.error.CompileError.{CompileError}
+use Rattle.sqlite_schema.specs.declared.schema.Schema.{Schema}
 use Rattle.sqlite_schema.specs.declared.command.Command.{Command}
 use Rattle.sqlite_schema.specs.declared.command.Command.TheVariants.{Select}
 use Rattle.sqlite_keyed.proofs.ListLemmas.{map-map}
 use Rattle.sqlite_tied.specs.Compute.{everything}
-use Rattle.sqlite.specs.Listing.{understood, reads_listing}
-use Rattle.sqlite.specs.State.{State, Shown}
+use Rattle.sqlite.specs.declared.error.ErrorCode.TheVariants as code
+use Rattle.sqlite.specs.declared.error.Error.{Error}
+use Rattle.sqlite.specs.declared.error.Error.TheVariants.{SqliteFailure}
+use Rattle.sqlite.specs.Clock.{timed}
+use Rattle.sqlite.specs.Effect.{Database, RefusesToRead}
+use Rattle.sqlite.specs.Listing.{understood, reads_listing, IsSourceOf}
+use Rattle.sqlite.specs.State.{State, Shown, Fails, FailsToQuery, FailsToShow, IsNotRun, IsNoStatement}
 use Rattle.sqlite.proofs.Callers.{IsPlain, command_of, reads_as, one_permutation}
 use Rattle.sql_schema.specs.declared.layout.Layout.{Layout}
 use Rattle.sql_schema.specs.declared.layout.Layout.TheVariants.{Made, Moved}
-use Rattle.sql_schema.specs.Schema.{book_schema, book_tree}
+use Rattle.sql_schema.specs.Old.{old_schema}
+use Rattle.sql_schema.specs.Schema.{book_schema}
 use Rattle.sql_tables.specs.Reading.{IsSelect}
-use Rattle.sql_making.specs.Books.{versions_in, version_text}
+use Rattle.sql_making.specs.Books.{HasFailed, version_text, versions_in}
+use Rattle.sql_making.specs.Then.{HasVersions, numbered_versions}
 
-abbrev pub query : Layout → Query
-query l = record {
-  from = inner (book_tree l) end;
+abbrev query : Query
+query = record {
+  from = inner 0 end;
   filter = [];
   group = None;
-  project = col 1 1 ∷ [];
+  project = col 1 0 ∷ col 1 1 ∷ [];
   distinct = false;
   collations = [];
   order = (col 1 0, record { collation = Binary; descending = false }) ∷ [];
@@ -36,56 +49,118 @@ query l = record {
   offset = lit (Int (pos 0));
 }
 
-abbrev pub command : Layout → Command
-command l = Select (record { lets = []; body = query l }) (codes "version" ∷ [])
+abbrev command : Command
+command = Select (record { lets = []; body = query }) (codes "rowid" ∷ codes "version" ∷ [])
 
-pub version_is : (l : Layout) → command_of (understood (book_schema l) version_text) ≡ command l
+-- the text is one statement without parameters
+abbrev IsAlone : Result Compiled CompileError → Type 0
+IsAlone (Ok c) = (length version_text ≡ c.tail) × (c.names ≡ []) × (c.formats ≡ []) × (c.returning ≡ None)
+IsAlone (Err e) = ⊥
+
+-- under this schema the text is that query
+record Asks (s : Schema) : Type 0 where
+  is : command_of (understood s version_text) ≡ command
+  plain : IsPlain (understood s version_text)
+  unlisted : reads_listing s version_text ≡ false
+  alone : IsAlone (understood s version_text)
+  accepted : accepts_program s [] query [] ≡ true
+
+asks_then : Asks old_schema
 unfolding understood everything
-version_is Made = refl
-version_is Moved = refl
+asks_then = record { is = refl; plain = (refl, refl); unlisted = refl; alone = (refl, refl, refl, refl); accepted = refl }
 
-pub version_plain : (l : Layout) → IsPlain (understood (book_schema l) version_text)
+asks_now : (l : Layout) → Asks (book_schema l)
 unfolding understood everything
-version_plain Made = (refl, refl)
-version_plain Moved = (refl, refl)
+asks_now Made = record { is = refl; plain = (refl, refl); unlisted = refl; alone = (refl, refl, refl, refl); accepted = refl }
+asks_now Moved = record { is = refl; plain = (refl, refl); unlisted = refl; alone = (refl, refl, refl, refl); accepted = refl }
 
-pub version_unlisted : (l : Layout) → reads_listing (book_schema l) version_text ≡ false
-unfolding everything
-version_unlisted Made = refl
-version_unlisted Moved = refl
+asks : (s : Schema) → HasVersions s → Asks s
+asks s (inl then) = subst Asks (sym then) asks_then
+asks s (inr (l, now)) = subst Asks (sym now) (asks_now l)
 
 pub version_selects : IsSelect version_text
 unfolding everything
 version_selects = refl
 
-shown : Row → Row
-shown r = column r 1 ∷ []
-
 -- an answer has one row for each of the table, in some order
-answered : (l : Layout) (db : Trees) (rows : List Row) → IsAnswer (query l) (overlay db []) [] rows → IsPermutation (map (λ (r : Row). column r 1 ∷ []) (db (book_tree l))) rows
-answered l db rows a =
+answered : (db : Trees) (rows : List Row) → IsAnswer query (overlay db []) [] rows → IsPermutation (map (λ (r : Row). column r 0 ∷ column r 1 ∷ []) (db 0)) rows
+answered db rows a =
     let env = λ (r : Row). [] ∷ r ∷ [] in
-    let staged : a.staged ≡ map env (db (book_tree l)) = a.grouped ∙ flat_map_single env (db (book_tree l)) in
-    let kept : a.kept ≡ map (λ r. output (query l) (env r)) (db (book_tree l)) = a.distinct ∙ ap (map (output (query l))) staged ∙ map-map (output (query l)) env (db (book_tree l)) in
+    let staged : a.staged ≡ map env (db 0) = a.grouped ∙ flat_map_single env (db 0) in
+    let kept : a.kept ≡ map (λ r. output query (env r)) (db 0) = a.distinct ∙ ap (map (output query)) staged ∙ map-map (output query) env (db 0) in
     let same = IsPermutation-map (λ (o : Output). o.1) _ a.ordered (subst (λ k. IsPermutation k a.ordered) kept a.same) in
-    subst (IsPermutation _) (sym a.shown) (subst (λ l. IsPermutation l (map (λ (o : Output). o.1) a.ordered)) (map-map (λ (o : Output). o.1) (λ r. output (query l) (env r)) (db (book_tree l))) same)
+    subst (IsPermutation _) (sym a.shown) (subst (λ l. IsPermutation l (map (λ (o : Output). o.1) a.ordered)) (map-map (λ (o : Output). o.1) (λ r. output query (env r)) (db 0)) same)
 
-rows_of : List Value → List Row
-rows_of = map (λ v. v ∷ [])
+pub version_shown : (old new : State) (rows : List Row) → HasVersions old.now.schema → Shown version_text [] old new rows → IsPermutation (numbered_versions old.now.trees) rows
+version_shown old new rows has h =
+    let a = asks old.now.schema has in
+    answered old.now.trees rows ((reads_as version_text [] old new old.now.schema refl command a.is a.plain a.unlisted rows h).answer Null)
 
-pub version_shown : (l : Layout) (old new : State) (rows : List Row) → old.now.schema ≡ book_schema l → Shown version_text [] old new rows → IsPermutation (map (λ v. v ∷ []) (versions_in l old.now.trees)) rows
-version_shown l old new rows has h =
-    let a = (reads_as version_text [] old new (book_schema l) has (command l) (version_is l) (version_plain l) (version_unlisted l) rows h).answer Null in
-    subst (λ l. IsPermutation l rows) (sym (map-map (λ v. v ∷ []) (λ (r : Row). column r 1) (old.now.trees (book_tree l)))) (answered l old.now.trees rows a)
+-- one row on either side is that row on the other
+pub one_stored : (stored rows : List Row) (r : Row) → IsPermutation stored rows → rows ≡ r ∷ [] → stored ≡ r ∷ []
+one_stored stored rows r same is = one_permutation r stored (IsPermutation-sym _ _ (subst (IsPermutation stored) is same))
 
-firsts : (vs : List Value) → map (λ (r : Row). column r 0) (map (λ v. v ∷ []) vs) ≡ vs
-firsts [] = refl
-firsts (v ∷ vs) = ap (λ l. v ∷ l) (firsts vs)
+pub one_read : (stored rows : List Row) (r : Row) → IsPermutation stored rows → stored ≡ r ∷ [] → rows ≡ r ∷ []
+one_read stored rows r same is = one_permutation r rows (subst (λ l. IsPermutation l rows) is same)
 
-pub one_version : (vs : List Value) (v : Value) (rows : List Row) → IsPermutation (map (λ v. v ∷ []) vs) rows → rows ≡ (v ∷ []) ∷ [] → vs ≡ v ∷ []
-one_version vs v rows same is =
-    let back : map (λ v. v ∷ []) vs ≡ (v ∷ []) ∷ [] = one_permutation (v ∷ []) _ (IsPermutation-sym _ _ (subst (IsPermutation (map (λ v. v ∷ []) vs)) is same)) in
-    sym (firsts vs) ∙ ap (map (λ (r : Row). column r 0)) back
+-- the versions that are shown beside the numbers
+pub versions_shown : (l : Layout) (db : Trees) → map (λ (r : Row). column r 1) (numbered_versions db) ≡ versions_in l db
+versions_shown l db = map-map (λ (r : Row). column r 1) (λ (r : Row). column r 0 ∷ column r 1 ∷ []) (db 0)
 
-pub one_shown : (vs : List Value) (v : Value) (rows : List Row) → IsPermutation (map (λ v. v ∷ []) vs) rows → vs ≡ v ∷ [] → rows ≡ (v ∷ []) ∷ []
-one_shown vs v rows same is = one_permutation (v ∷ []) rows (subst (λ l. IsPermutation (map (λ v. v ∷ []) l) rows) is same)
+-- one version has one number
+pub one_numbered : (rows : List Row) (v : Value) → map (λ (r : Row). column r 1) rows ≡ v ∷ [] → (id : Value) × (map (λ (r : Row). column r 0 ∷ column r 1 ∷ []) rows ≡ (id ∷ v ∷ []) ∷ [])
+one_numbered [] v h = absurd cc
+one_numbered (r ∷ []) v h = (column r 0, cc)
+one_numbered (r ∷ s ∷ more) v h = absurd cc
+
+-- one row of two columns, the second of which is a number
+pub one_row : (rows : List Row) (row : Row) (v : ℤ) → 1 ≤ length rows → length rows < 2 → row ≡ get_or rows 0 row → length row ≡ 2 → column row 1 ≡ Int v
+    → (id : Value) × (rows ≡ (id ∷ Int v ∷ []) ∷ [])
+one_row [] row v least below is two at = absurd (omega (arith, least))
+one_row (r ∷ s ∷ more) row v least below is two at = absurd (omega (arith, below))
+one_row (r ∷ []) [] v least below is two at = absurd (omega (arith, two))
+one_row (r ∷ []) (a ∷ []) v least below is two at = absurd (omega (arith, two))
+one_row (r ∷ []) (a ∷ b ∷ c ∷ more) v least below is two at = absurd (omega (arith, two))
+one_row (r ∷ []) (a ∷ b ∷ []) v least below is two at = (a, sym (ap (λ x. x ∷ []) is) ∙ ap (λ x. (a ∷ x ∷ []) ∷ []) at)
+
+-- ---- why it fails
+
+caused : (old new : State) (cause : StoreError) (e : Error) → Fails old new ⊥ e → (e ≡ SqliteFailure code.OutOfMemory) ⊎ HasFailed old new
+caused old new cause e (OutOfMemory, is, why, back, told) = inl is
+caused old new cause e (Io, is, why, back, told) = inr (inl why)
+caused old new cause e (Corrupt, is, why, back, told) = inr (inl why)
+caused old new cause e (Full, is, why, back, told) = inr (inl why)
+caused old new cause e (Broken, is, why, back, told) = inr (inr (inl why))
+caused old new cause e (Unstorable, is, why, back, told) = absurd why
+
+no_statement : (old : State) (e : Error) → Asks old.now.schema → ¬ IsNoStatement old version_text [] e
+no_statement old e a (inl h) = subst IsAlone h.1 a.alone
+no_statement old e a (inr h) =
+    let it = subst IsAlone h.1 a.alone in
+    elim h.2 [
+      | inl long ↦ long.0 (omega (arith, it.0))
+      | inr (inl given) ↦ given.0 (sym (ap length it.1))
+      | inr (inr clock) ↦ clock.0 it.2
+    ]
+
+-- the query itself is refused by a limit on steps alone
+limited : (limit : Option ℕ) (db : Database) (e : Error) → Asks db.schema → RefusesToRead limit command db [] e → IsSome limit
+limited limit db e a (inl kinds) = absurd (let wrong : accepts_program db.schema [] query [] ≡ false = kinds.1 in let clash = sym a.accepted ∙ wrong in cc)
+limited limit db e a (inr (inl (is, inl none))) = absurd none
+limited limit db e a (inr (inl (is, inr some))) = absurd some.4
+limited limit db e a (inr (inr steps)) = steps.1
+
+-- for want of memory, or since the store failed
+pub query_cause : (old new : State) (e : Error) → HasVersions old.now.schema → FailsToQuery version_text [] old new e → (e ≡ SqliteFailure code.OutOfMemory) ⊎ HasFailed old new
+unfolding FailsToQuery IsNotRun
+query_cause old new e has (inl (inl none)) = absurd (no_statement old e (asks old.now.schema has) none.0)
+query_cause old new e has (inl (inr failed)) = caused old new failed.0 e failed
+query_cause old new e has (inr h) =
+    let a = asks old.now.schema has in
+    let it = subst IsAlone h.1.is a.alone in
+    let shown = subst (FailsToShow old new version_text h.0 (timed [] h.0.formats h.1.now) e) it.3 h.2 in
+    let db : shown.0 ≡ old.now = subst (λ b. IsSourceOf b old.now shown.0) a.unlisted shown.1 in
+    let is : h.0.command ≡ command = ap command_of (sym h.1.is) ∙ a.is in
+    let refused : RefusesToRead old.step_limit command shown.0 [] e =
+    subst₂ (λ k p. RefusesToRead old.step_limit k shown.0 p e) is (ap (λ f. timed [] f h.1.now) it.2) shown.2 in
+    inr (inr (inr (limited old.step_limit shown.0 e (subst (λ (d : Database). Asks d.schema) (sym db) a) refused)))

@@ -19,9 +19,9 @@ no_schema = record { tables = []; indexes = []; views = [] }
 abbrev pub IsBlank : Database → Type 0
 IsBlank db = AllByRecursion (λ t. db.trees t.tree ≡ []) db.schema.tables
 
--- the SQL text that reads the version
+-- the SQL text that reads the versions, each with the number of its row
 abbrev pub version_text : List ℕ
-version_text = codes "SELECT version FROM book ORDER BY rowid"
+version_text = codes "SELECT rowid, version FROM book ORDER BY rowid"
 
 -- the tables of a book in a layout, whose first table has one row, with this version
 pub record IsBook (l : Layout) (db : Database) : Type 0 where

@@ -1,3 +1,4 @@
 pub mod Books
+pub mod Scripts
 pub mod Text
 pub mod Then

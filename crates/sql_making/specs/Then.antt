@@ -1,16 +1,24 @@
 -- What the tables of version 1 stand for, and what moving makes of them.
-use Rattle.std.specs.Prelude.{◌≡◌, ℕ, ℤ, pos, List, [], ◌∷◌, map, codes}
+use Rattle.std.specs.Prelude.{◌≡◌, ◌⊎◌, ℤ, pos, List, [], ◌∷◌, map, Result, IfErr, OnOk}
 use Rattle.sqlite_value.specs.declared.value.Value.TheVariants.{Null, Int, Text}
 use Rattle.sqlite_value.specs.Order.{Row, column, bytes}
 use Rattle.sqlite_trees.specs.Tree.{Trees}
 use Rattle.sqlite_rules.specs.Edit.{id_in}
+use Rattle.sqlite_schema.specs.declared.schema.Schema.{Schema}
+use Rattle.sqlite.specs.declared.error.ErrorCode.TheVariants.{OutOfMemory}
+use Rattle.sqlite.specs.declared.error.Error.{Error}
+use Rattle.sqlite.specs.declared.error.Error.TheVariants.{SqliteFailure}
 use Rattle.sqlite.specs.Effect.{Database, IsDatabase}
+use Rattle.sqlite.specs.State.{State}
+use Rattle.sql_schema.specs.declared.layout.Layout.{Layout}
 use Rattle.sql_schema.specs.declared.layout.Layout.TheVariants.{Moved}
 use Rattle.sql_schema.specs.Schema.{book_schema, book_tree, seat_tree, entry_tree, journal_tree, sequence_tree, firm_line_tree, exception_tree, balance_tree, old_matter_table, old_seat_table, old_entry_table}
 use Rattle.sql_tables.specs.Rows.{Head, seat_in, entry_in, movements_in, firm_lines_in, exceptions_in, balances_in}
 use Rattle.sql_tables.specs.Standing.{Holds, SeatsHold, EntriesHold, MovementsHold, FirmLinesHold, ExceptionsHold, BalancesHold, Stands}
 use Rattle.sql_tables.specs.Lists.{Lists, lists_in}
-use Rattle.sql_making.specs.Books.{IsBook}
+use Rattle.sql_tables.specs.Reading.{IsKept}
+use Rattle.sql_tables.specs.Script.{IsSettled}
+use Rattle.sql_making.specs.Books.{IsBook, HasFailed}
 use Rattle.sql_schema.specs.Old.{old_schema, version_then}
 
 -- a row of a version 1 head, which lacks the `purged` column
@@ -63,13 +71,18 @@ lists_then db = record {
   balances = balances_in Moved db;
 }
 
--- the SQL text that reads the version and the number of its row
-abbrev pub old_version_text : List ℕ
-old_version_text = codes "SELECT rowid, version FROM book ORDER BY rowid"
-
--- the row number and version that it shows of each row
+-- the number and the version of each row of the first table
 abbrev pub numbered_versions : Trees → List Row
 numbered_versions db = map (λ (r : Row). column r 0 ∷ column r 1 ∷ []) (db (book_tree Moved))
+
+-- the schema of a book of either version, whose first table has its versions
+abbrev pub HasVersions : Schema → Type 0
+HasVersions s = (s ≡ old_schema) ⊎ ((l : Layout) × (s ≡ book_schema l))
+
+-- a look at the versions leaves all as it was, and fails for want of memory or since the store failed
+pub record IsLook {T : Type 0} (result : Result T Error) (old new : State) : Type 0 where
+  pub settled : OnOk result (IsSettled new × IsKept old new)
+  pub told : IfErr result (λ e. (e ≡ SqliteFailure OutOfMemory) ⊎ HasFailed old new)
 
 -- the tables of version 1, whose first table has one numbered row, with version 1
 pub record IsOldBook (db : Database) : Type 0 where

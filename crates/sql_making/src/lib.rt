@@ -4,13 +4,11 @@
 
 mod copying;
 mod creating;
-pub mod making;
-pub mod moving;
-mod old_version;
-pub mod open_fault;
-pub mod taking;
+mod making;
+mod open_fault;
+mod scripts;
+mod taking;
 
 pub use making::make;
-pub use moving::{adopt, move_up};
 pub use open_fault::OpenFault;
-pub use taking::version_of;
+pub use taking::{adopt, version_of};

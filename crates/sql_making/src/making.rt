@@ -9,9 +9,9 @@ ghost use Rattle.sql_tables.specs.Reading.{IsKept};
 ghost use Rattle.sql_tables.specs.Script.{IsSettled};
 ghost use Rattle.sql_tables.specs.Standing.{Stands};
 
-use crate::creating::create;
 use crate::open_fault::{OpenFault, fault};
-use sqlite::{Alter, Connection, Error};
+use crate::scripts::{Script, run};
+use sqlite::{Alter, Connection};
 use sqlite_schema::schema::Schema;
 
 fn is_no_schema(schema: &Schema) -> bool
@@ -19,27 +19,6 @@ fn is_no_schema(schema: &Schema) -> bool
     ensures complete { schema.now ≡ no_schema → IsTrue result }
 {
     schema.tables.is_empty() && schema.indexes.is_empty() && schema.views.is_empty()
-}
-
-// Creates a book's tables in one transaction, all or none.
-fn build<S: Alter>(conn: &mut Connection<S>) -> Result<(), Error>
-    requires { conn.old.in_transaction ≡ false }
-    ensures mode { conn.new.in_transaction ≡ false }
-    ensures serves { HasCleanDisk (state S.Store conn.new) → OnOk result (IsTrue (state S.Store conn.new).is_open) }
-    ensures made { HasCleanDisk (state S.Store conn.new) → (state S.Store conn.old).now.schema ≡ no_schema
-        → OnOk result (IsNewBook (state S.Store conn.new).now) }
-    ensures was_open { HasCleanDisk (state S.Store conn.new) → OnOk result (IsTrue (state S.Store conn.old).is_open) }
-    ensures settled { HasCleanDisk (state S.Store conn.new) → OnOk result (IsSettled (state S.Store conn.new)) }
-    ensures neither { HasCleanDisk (state S.Store conn.new) → IsTrue (state S.Store conn.new).is_open
-        → OnErr result (IsKept (state S.Store conn.old) (state S.Store conn.new)) }
-    ensures crash { (state S.Store conn.old).now.schema ≡ no_schema
-        → Survives (state S.Store conn.old) (state S.Store conn.new) AreNewBook }
-{
-    // Outside a transaction, what is seen is what was committed, so going back to the commit changes nothing.
-    let _settled = conn.is_autocommit();
-    let mut tx = conn.transaction();
-    create(&mut tx)?;
-    tx.commit()
 }
 
 /// Creates the tables of this version in an empty database, in one transaction: all or none, even after a crash. No
@@ -68,7 +47,7 @@ pub fn make<S: Alter>(conn: &mut Connection<S>) -> Result<(), OpenFault>
     if !is_no_schema(conn.schema()) {
         return Err(OpenFault::NotABook);
     }
-    match build(conn) {
+    match run(conn, Script::Create) {
         Ok(()) => Ok(()),
         Err(error) => Err(fault(error)),
     }

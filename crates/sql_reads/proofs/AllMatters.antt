@@ -1,10 +1,8 @@
 -- The matters of the numbers of all heads are those for which the tables stand.
-use Rattle.std.proofs.Common.{◌≡◌, ℕ, ℤ, pos, nat_abs, ◌<ℤ◌, List, [], ◌∷◌, map, find, Option, Some, option_map, refl, ap, ap₂, ◌∙◌}
+use Rattle.std.proofs.Common.{◌≡◌, ℕ, ℤ, pos, nat_abs, ◌<ℤ◌, List, [], ◌∷◌, map, find, Some, option_map, refl, ap, ap₂, ◌∙◌}
 use Rattle.std.specs.List.{AllByRecursion}
 use Rattle.sqlite_keyed.specs.Keyed.{IsKeyedBy}
 use Rattle.sqlite_keyed.proofs.ListLemmas.{all_both}
-use Rattle.matter_rows.specs.declared.head.Head.{Head}
-use Rattle.matter_parts.specs.declared.figures.Figures.{Figures}
 use Rattle.sql_tables.specs.Lists.{Lists}
 use Rattle.sql_tables.specs.Rows as table
 use Rattle.sql_tables.specs.Rows.{is_head}

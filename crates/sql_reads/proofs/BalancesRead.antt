@@ -1,9 +1,7 @@
 -- The balance of a kind and day among the rows of its table.
-use Rattle.std.proofs.Common.{◌≡◌, inl, inr, ℕ, ℤ, pos, nat_abs, ◌≤◌, Bool, true, false, ◌==◌, ◌&&◌, List, [], ◌∷◌, map, filter, find, length, Option, Some, None, option_map, int_eq, Ordering, Less, Equal, nat_cmp, refl, sym, ap, ap₂, ◌∙◌, arith}
+use Rattle.std.proofs.Common.{◌≡◌, inl, inr, ℕ, ℤ, pos, nat_abs, ◌≤◌, Bool, true, false, ◌==◌, ◌&&◌, List, [], ◌∷◌, map, filter, find, length, Option, Some, None, option_map, int_eq, Less, Equal, nat_cmp, refl, sym, ap, ap₂, ◌∙◌, arith}
 use Rattle.std.specs.List.{AllByRecursion}
 use Rattle.std.specs.List.Sorted.{IsStrictlySortedBy}
-use Rattle.std.specs.Ordering.{ordering_then}
-use Rattle.std.proofs.lemmas.Int.{ints}
 use Rattle.std.proofs.lemmas.Bool.{cases_Bool, and_parts}
 use Rattle.std.proofs.lemmas.Bool.Decides.{nat_tests}
 use Rattle.std.proofs.lemmas.List.{length-map}
@@ -23,6 +21,7 @@ use Rattle.firm_rows.specs.FirmLines as own
 use Rattle.sql_tables.specs.Rows.{Balance, balance_cmp, balance_shown, is_balance_at}
 use Rattle.sql_rows.specs.Columns.{kind_column}
 use Rattle.sql_rows.specs.Meaning.{balance_from, IsWrittenBalance}
+use Rattle.sql_rows.proofs.KeyedRows.{int_eq-nat}
 use Rattle.sql_rows.proofs.RowOrder.{find-sort_by}
 
 table_total : IsTotalOrder balance_cmp
@@ -42,13 +41,6 @@ module _ {X : Type 0} (p q : X → Bool) where
     | inr b ↦ rw (all.0, b) (find_same xs all.1)
   ]
 
-  pub filter_same_on : (xs : List X) → AllByRecursion (λ x. p x ≡ q x) xs → filter p xs ≡ filter q xs
-  filter_same_on [] all = refl
-  filter_same_on (x ∷ xs) all = elim (cases_Bool (q x)) [
-    | inl b ↦ rw (all.0, b) (ap (λ l. x ∷ l) (filter_same_on xs all.1))
-    | inr b ↦ rw (all.0, b) (filter_same_on xs all.1)
-  ]
-
 -- The tests agree.
 
 same_kind : (a b : BalanceKind) → (place_of a == place_of b) ≡ int_eq (kind_column a) (kind_column b)
@@ -57,20 +49,14 @@ same_kind Opening Closing = refl
 same_kind Closing Opening = refl
 same_kind Closing Closing = refl
 
-same_number : (i n : ℕ) → (i == n) ≡ int_eq (pos i) (pos n)
-same_number i n = grind (arith, ints, nat_tests)
-
 same_test : (k : BalanceKind) (day : ℕ) (b : Balance) → IsWrittenBalance b → is_balance_on k day (balance_from b) ≡ is_balance_at (kind_column k) (pos day) b
 same_test k day b written =
     let kind : b.kind ≡ kind_column (balance_from b).kind = ap (λ (x : Balance). x.kind) written in
     let on : b.day ≡ pos (nat_abs b.day) = ap (λ (x : Balance). x.day) written in
     ap₂ ◌&&◌ (same_kind (balance_from b).kind k ∙ ap (λ z. int_eq z (kind_column k)) (sym kind))
-    (same_number (nat_abs b.day) day ∙ ap (λ z. int_eq z (pos day)) (sym on))
+    (sym (int_eq-nat (nat_abs b.day) day) ∙ ap (λ z. int_eq z (pos day)) (sym on))
 
 -- One row of a kind and day at most.
-
-equal_then : (o q : Ordering) → o ≡ Equal → q ≡ Equal → ordering_then o q ≡ Less → ⊥
-equal_then o q a b lt = (let f = lt in cc)
 
 not_less : (k : BalanceKind) (day : ℕ) (r x : StatementRow) → is_balance_on k day r ≡ true → is_balance_on k day x ≡ true → own.balance_cmp r x ≡ Less → ⊥
 not_less k day r x on also lt =

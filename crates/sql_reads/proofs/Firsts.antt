@@ -1,5 +1,5 @@
 -- The first row of an answer to a query by key.
-use Rattle.std.proofs.Common.{◌≡◌, Bool, List, [], ◌∷◌, map, filter, Option, Some, None, option_map, find, slice_get, Result, Ok, IfOk, refl, sym, ap, subst, ◌∙◌}
+use Rattle.std.proofs.Common.{◌≡◌, Bool, List, [], ◌∷◌, map, filter, Option, Some, None, option_map, find, slice_get, refl, sym, ap, ◌∙◌}
 use Rattle.sqlite_value.specs.Order.{Row}
 use Rattle.sqlite_keyed.proofs.ListLemmas.{slice_get-filter}
 
@@ -32,7 +32,3 @@ module _ {X : Type 0} (shown : X → Row) (p : X → Bool) (xs : List X) (rows :
   -- the first row shows what is found
   pub some_first : (r : Row) → slice_get rows 0 ≡ Some r → Finds shown (find p xs) r
   some_first r there = some_shown shown (find p xs) r (sym there ∙ first_is)
-
--- what holds of an answer holds of its rows
-pub of_answer : {T E : Type 0} (P : T → Type 0) (answer : Result T E) (rows : T) → answer ≡ Ok rows → IfOk answer P → P rows
-of_answer P answer rows is holds = subst (λ r. IfOk r P) is holds

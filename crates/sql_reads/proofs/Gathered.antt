@@ -1,6 +1,6 @@
 -- What a loop over rows has gathered so far.
-use Rattle.std.proofs.Common.{◌≡◌, zero, suc, add-one, ℕ, ◌+◌, ◌<◌, List, [], ◌∷◌, ◌++◌, map, length, get_or, take, ap, subst, ◌∙◌, arith}
-use Rattle.std.proofs.lemmas.List.{length-map}
+use Rattle.std.proofs.Common.{◌≡◌, zero, suc, add-one, ℕ, ◌+◌, ◌<◌, ◌≤◌, List, [], ◌∷◌, ◌++◌, map, length, get_or, take, ap, subst, ◌∙◌, arith}
+use Rattle.std.proofs.lemmas.List.{length-map, take_all}
 use Rattle.sqlite_value.specs.Order.{Row}
 
 module _ {X Y : Type 0} (shown : X → Row) (from : X → Y) (r : Row) (y : Y) (reads : (x : X) → r ≡ shown x → y ≡ from x) where
@@ -15,3 +15,7 @@ module _ {X Y : Type 0} (shown : X → Row) (from : X → Y) (r : Row) (y : Y) (
   one_more xs rows i now is within at so_far =
       ap (λ l. l ++ y ∷ []) so_far
       ∙ front_more xs i (subst (λ n. i < n) (ap length is ∙ length-map xs shown) within) (at ∙ ap (λ l. get_or l i r) is)
+
+-- behind the last row it is all of them
+pub all_taken : {X Y : Type 0} (shown : X → Row) (from : X → Y) (xs : List X) (rows : List Row) (i : ℕ) (now : List Y) → rows ≡ map shown xs → length rows ≤ i → now ≡ map from (take i xs) → now ≡ map from xs
+all_taken shown from xs rows i now is over so_far = so_far ∙ ap (map from) (take_all i xs (omega (arith, over, ap length is, length-map xs shown)))

@@ -1,5 +1,5 @@
 -- Calls that read, one behind another.
-use Rattle.std.proofs.Common.{◌≡◌, inl, Result, Ok, Err, refl, subst, ◌∙◌}
+use Rattle.std.proofs.Common.{◌≡◌, inl, Result, Ok, Err, refl, ◌∙◌}
 use Rattle.sqlite.specs.State.{State, HasCleanDisk}
 use Rattle.trust_base.specs.declared.refusal.StoreFault.{StoreFault}
 use Rattle.trust_base.specs.declared.refusal.StoreFault.TheVariants.{Store}
@@ -39,15 +39,3 @@ goes_then a b c r x is on left = record {
 
 abbrev pub AllLeft : State → State → Type 0
 AllLeft = LeavesAll {T = Unit {0}} {E = StoreFault} (Ok tt)
-
--- the first of them
-pub first_left : {T : Type 0} (a b : State) (r : Result T StoreFault) (x : T) → r ≡ Ok x → LeavesAll r a b → AllLeft a b
-first_left a b r x is left = leaves_on (Ok x) (Ok tt) a b (λ e. refl) (subst (λ q. LeavesAll q a b) is left)
-
--- one more, whatever it answers
-pub more_left : {T : Type 0} (a b c : State) (r : Result T StoreFault) → AllLeft a b → LeavesAll r b c → LeavesAll r a c
-more_left a b c r was left = leaves_then (Ok tt) r a b c was left
-
--- they see what the first of them saw
-pub still_seen : (a b : State) → AllLeft a b → HasCleanDisk b → b.now ≡ a.now
-still_seen a b left clean = (kept_by a b (Ok tt) tt refl left clean).now

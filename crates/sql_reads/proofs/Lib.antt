@@ -11,6 +11,7 @@ pub mod Answer
 pub mod Fed
 pub mod Going
 pub mod Handed
+pub mod MatterRows
 pub mod Shown
 pub mod RowLists
 pub mod Steps

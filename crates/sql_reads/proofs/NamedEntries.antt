@@ -1,6 +1,7 @@
 -- Some of the entries of a matter, and a part that keeps those that are named.
 use Rattle.std.proofs.Common.{◌≡◌, inl, inr, zero, suc, ℕ, ◌+◌, ◌≤◌, ◌==◌, ◌||◌, ltb, Bool, true, false, cond, List, [], ◌∷◌, ◌++◌, Option, Some, None, is_some, true≢false, refl, sym, ap, ap₂, subst, ◌∙◌, arith}
-use Rattle.std.specs.Option.{option_or}
+use denote.Ref.{Bor}
+use Rattle.std.specs.Option.{option_copied, option_or}
 use Rattle.std.proofs.lemmas.Bool.{cases_Bool}
 use Rattle.std.proofs.lemmas.Bool.Decides.{nat_tests}
 use Rattle.std.proofs.lemmas.List.Folds.{find-append}
@@ -108,6 +109,25 @@ pub also_behind : (all old new : List Kept) (number : ℕ) (k : Kept) → is_som
     → kept_in all number ≡ Some k → new ≡ old ++ k ∷ [] → KeepsAlso (λ n. n == number) all old new
 also_behind all old new number k none there is = λ has so_far.
     subst (KeepsOnly (λ n. has n || n == number) all) (sym is) (behind all old has so_far number k none there)
+
+-- whether there is an entry behind a reference
+pub held : {T : Type 0} (o : Option (Bor T)) (k : Option T) → option_copied o ≡ k → is_some o ≡ is_some k
+held None k is = ap is_some is
+held (Some x) k is = ap is_some is
+
+-- an entry that is kept already
+pub also_held : (all old : List Kept) (number : ℕ) → is_some (kept_in old number) ≡ true → KeepsAlso (λ n. n == number) all old old
+also_held all old number some = λ has so_far.
+    with_number all old has so_far number old (λ n other. refl) (own (has number) (so_far number))
+  where
+    own : (b : Bool) → kept_in old number ≡ cond b (kept_in all number) None → kept_in old number ≡ kept_in all number
+    own true is = is
+    own false is = absurd (true≢false (sym some ∙ ap is_some is))
+
+-- an entry that does not exist
+pub also_absent : (all old : List Kept) (number : ℕ) → kept_in all number ≡ None → KeepsAlso (λ n. n == number) all old old
+also_absent all old number none = λ has so_far.
+    with_number all old has so_far number old (λ n other. refl) (so_far number ∙ cond_none (has number) (kept_in all number) none)
 
 -- An entry and the one that it draws on.
 

@@ -135,9 +135,6 @@ module _ {S : Type 0} (g : Ghosts S) {K : Type 0} (step : K → Row → K) (Fits
         some = inr (gave.rows, begins_from sql params first (state g a) gave.rows gave.same (given_begin g sql params a gave.rows gave.gives), same ∙ gave.folded);
       }) r is
 
-  pub none_fed : {E : Type 0} (t : State) (last : K) (e : E) → last ≡ before → IsFed step Fits sql params first t (Err e) before last
-  none_fed t last e same = record { all = tt; some = inl same }
-
 -- a SELECT is at its start
 pub begun_select : {S : Type 0} (g : Ghosts S) (sql : List ℕ) (params : Row) (a b : Held S) → IsSelect sql → HasBegun g sql params a b → HasGiven g sql params b [] × IsUnchanged (state g a) (state g b)
 begun_select g sql params a b is (inl h) = h

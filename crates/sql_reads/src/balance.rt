@@ -11,12 +11,12 @@ ghost use Rattle.sql_schema.specs.declared.layout.Layout.{Layout};
 ghost use Rattle.sql_tables.specs.Reading.{LeavesAll};
 ghost use Rattle.sql_rows.specs.Standing.{StandsSound, firm_in};
 
-use crate::fault::answered;
-use crate::value::number_at;
+use crate::columns::number_at;
+use crate::query::rows_of;
 use firm_rows::BalanceKind;
 use sql_rows::kind_column;
-use sql_tables::reads::balance_rows;
 use sqlite::{Alter, Connection, Row};
+use sqlite_value::value::ValueRef;
 use trust_base::{BankAmount, Day, StoreFault};
 
 // Reads the amount of a row. Returns `Store` for an amount that no bank line can have.
@@ -44,7 +44,14 @@ pub fn balance_at<S: Alter>(
         → IfOk result (λ kept. kept ≡ kept_balance kind day (firm_in l (state S.Store conn.old).now.trees).balances) }
     ensures left { LeavesAll result (state S.Store conn.old) (state S.Store conn.new) }
 {
-    let rows = answered(balance_rows(conn, kind_column(kind), day.get() as i64))?;
+    let rows = rows_of(
+        conn,
+        "SELECT amount FROM balance WHERE kind = ?1 AND day = ?2 ORDER BY rowid",
+        &[
+            ValueRef::Int(kind_column(kind)),
+            ValueRef::Int(day.get() as i64),
+        ],
+    )?;
     match rows.first() {
         None => Ok(None),
         Some(row) => Ok(Some(amount_in(row)?)),

@@ -1,18 +1,43 @@
-// Reads the columns of a query's row. Returns `Store` if a value does not have its column's type.
+// Reads the columns of a query's row, one value or all. Returns `Store` if a value does not have its column's type.
 
-ghost use Rattle.std.specs.Prelude.{◌≡◌, ◌≢◌, ◌∷◌, pos, IfOk, IfErr};
-ghost use Rattle.sqlite_value.specs.declared.value.Value.TheVariants.{Int, Null};
+ghost use Rattle.std.specs.Prelude.{◌≡◌, ◌≢◌, ◌∷◌, ℤ, ℕ, pos, List, IfOk, IfErr};
+ghost use Rattle.sqlite_value.specs.declared.value.Value.TheVariants.{Int, Null, Text};
+ghost use Rattle.sqlite_value.specs.Order.{column};
 ghost use Rattle.sql_tables.specs.Rows as table;
 ghost use Rattle.sql_tables.specs.Given.{head_given, seat_given, entry_given, movement_given, firm_line_given};
 ghost use Rattle.sql_tables.specs.Given.{exception_given, balance_given};
 
-use crate::value::{number_at, text_at};
 use sql_tables::{
     BalanceColumns, EntryColumns, ExceptionColumns, FirmLineColumns, HeadColumns, MovementColumns,
     SeatColumns,
 };
 use sqlite::Row;
+use sqlite_value::value::ValueRef;
 use trust_base::StoreFault;
+
+/// Returns the number in a column of a row. Returns `Store` for any other value.
+pub(crate) fn number_at(row: &Row, at: usize) -> Result<i64, StoreFault>
+    ensures ok { IfOk result (λ n. column row.now at ≡ Int n) }
+    ensures store { IfErr result (λ e. e ≡ StoreFault.Store) }
+    ensures none { IfErr result (λ e. (n : ℤ) → column row.now at ≢ Int n) }
+{
+    match row.get_ref(at) {
+        Ok(ValueRef::Int(number)) => Ok(number),
+        _ => Err(StoreFault::Store),
+    }
+}
+
+/// Returns the bytes of the text in a column of a row. Returns `Store` for any other value.
+pub(crate) fn text_at(row: &Row, at: usize) -> Result<&[u8], StoreFault>
+    ensures ok { IfOk result (λ t. column row.now at ≡ Text t.now) }
+    ensures store { IfErr result (λ e. e ≡ StoreFault.Store) }
+    ensures none { IfErr result (λ e. (t : List ℕ) → column row.now at ≢ Text t) }
+{
+    match row.get_ref(at) {
+        Ok(ValueRef::Text(bytes)) => Ok(bytes),
+        _ => Err(StoreFault::Store),
+    }
+}
 
 /// Reads the columns of a seat of a matter, borrowing its text from the row.
 pub(crate) fn seat_in(matter: i64, row: &Row) -> Result<SeatColumns<'_>, StoreFault>
@@ -50,35 +75,8 @@ pub(crate) fn head_in(no: i64, row: &Row) -> Result<HeadColumns<'_>, StoreFault>
     })
 }
 
-/// Reads the columns of the entry of this matter and number, borrowing its texts from the row.
-pub(crate) fn entry_in(matter: i64, no: i64, row: &Row) -> Result<EntryColumns<'_>, StoreFault>
-    ensures ok { IfOk result (λ c. entry_given c ≡ table.entry_in (Int (pos 0) ∷ Int matter ∷ Int no ∷ row.now)) }
-    ensures store { IfErr result (λ e. e ≡ StoreFault.Store) }
-    ensures none { IfErr result (λ e. (e : table.Entry) → row.now ≢ table.entry_shown e) }
-{
-    Ok(EntryColumns {
-        matter,
-        no,
-        kind: number_at(row, 0)?,
-        day: number_at(row, 1)?,
-        amount: number_at(row, 2)?,
-        state: number_at(row, 3)?,
-        fund: number_at(row, 4)?,
-        of_no: number_at(row, 5)?,
-        text_a: text_at(row, 6)?,
-        text_b: text_at(row, 7)?,
-        text_c: text_at(row, 8)?,
-        day_done: number_at(row, 9)?,
-        day_undone: number_at(row, 10)?,
-        day_bank: number_at(row, 11)?,
-        bank_ref: text_at(row, 12)?,
-        part: number_at(row, 13)?,
-        left_now: number_at(row, 14)?,
-    })
-}
-
 /// Reads the columns of an entry of a matter, whose number comes first, borrowing its texts from the row.
-pub(crate) fn numbered_in(matter: i64, row: &Row) -> Result<EntryColumns<'_>, StoreFault>
+pub(crate) fn entry_in(matter: i64, row: &Row) -> Result<EntryColumns<'_>, StoreFault>
     ensures ok { IfOk result (λ c. entry_given c ≡ table.entry_in (Int (pos 0) ∷ Int matter ∷ row.now)) }
     ensures store { IfErr result (λ e. e ≡ StoreFault.Store) }
     ensures none { IfErr result (λ e. (e : table.Entry) → row.now ≢ table.numbered_shown e) }

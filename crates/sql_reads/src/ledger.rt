@@ -12,10 +12,9 @@ ghost use Rattle.sql_rows.specs.Standing.{StandsSound, firm_in};
 ghost use Rattle.sql_reads.specs.Shown.{firm_line_at};
 
 use crate::columns::firm_line_in;
-use crate::fault::answered;
+use crate::query::rows_of;
 use firm_rows::{FirmLedger, FirmLine, MAX_OWN};
 use sql_rows::firm_line_of;
-use sql_tables::reads::firm_line_rows;
 use sqlite::{Alter, Connection, Row};
 use std::alloc::Global;
 use trust_base::StoreFault;
@@ -69,6 +68,10 @@ pub fn firm_ledger<S: Alter>(
         → IfOk result (λ ledger. ledger ≡ (firm_in l (state S.Store conn.old).now.trees).firm_lines) }
     ensures left { LeavesAll result (state S.Store conn.old) (state S.Store conn.new) }
 {
-    let rows = answered(firm_line_rows(conn))?;
+    let rows = rows_of(
+        conn,
+        "SELECT day, bank_ref, amount, text FROM firm_line ORDER BY seq",
+        &[],
+    )?;
     ledger_of(alloc, &rows)
 }

@@ -8,23 +8,19 @@
 mod balance;
 mod columns;
 mod entries;
-mod fault;
 mod firm;
 pub mod laws;
 mod ledger;
 mod lists;
 mod matter;
 mod matters;
+mod query;
 mod row_lists;
-mod stream;
-mod value;
 
 pub use balance::balance_at;
-pub use entries::{entries_of, entry_at};
-pub use fault::{answered, fault_of};
 pub use firm::all_rows;
 pub use ledger::firm_ledger;
 pub use lists::{each_balance, each_exception, each_firm_line, each_movement};
-pub use matter::{HeadWithTotals, head_with_totals, matter_for, seats_of, whole_matter};
+pub use matter::{matter_for, whole_matter};
 pub use matters::each_row;
-pub use value::{number_at, text_at};
+pub use query::fault_of;

@@ -16,7 +16,7 @@ ghost use Rattle.sql_reads.specs.Shown.{balance_at, exception_at, movement_at};
 
 use crate::columns::{balance_in, exception_in, movement_in};
 use crate::ledger::line_of;
-use crate::stream::{RowTaking, hand_rows};
+use crate::query::{RowTaking, hand_rows};
 use firm_rows::{
     BalanceSink, ExceptionSink, FirmLineSink, Movement, MovementSink, Owner, StatementRow,
 };

@@ -1,6 +1,6 @@
 // The head and the seats of a matter, and the matter with all its entries, or with the named ones.
 
-ghost use Rattle.std.specs.Prelude.{◌≡◌, false, List, map, IfErr, IfOk};
+ghost use Rattle.std.specs.Prelude.{◌≡◌, false, IfErr, IfOk};
 ghost use Rattle.sqlite.specs.Held.{state};
 ghost use Rattle.sqlite.specs.State.{HasCleanDisk};
 ghost use Rattle.matter_parts.specs.Parts.{IsWhole, no_figures};
@@ -10,43 +10,31 @@ ghost use Rattle.trust_store.specs.Named.{IsPartFor};
 ghost use Rattle.sql_schema.specs.declared.layout.Layout.{Layout};
 ghost use Rattle.sql_tables.specs.Lists.{lists_in};
 ghost use Rattle.sql_tables.specs.Reading.{LeavesAll};
-ghost use Rattle.sql_tables.specs.Rows.{Head as HeadRow, Seat as SeatRow, head_shown, seat_shown};
 ghost use Rattle.sql_tables.specs.Standing.{Stands};
-ghost use Rattle.sql_rows.specs.Meaning.{seat_from};
 ghost use Rattle.sql_rows.specs.Standing.{StandsSound, firm_in};
-ghost use Rattle.sql_reads.specs.Parts.{part_at, part_of, with_totals_at, with_totals_from};
+ghost use Rattle.sql_reads.specs.Parts.{part_at, part_of, with_totals_at};
 ghost use Rattle.sql_reads.specs.Shown.{seat_at};
 
 use crate::columns::{head_in, seat_in};
-use crate::entries::{entries_of, named_entries};
-use crate::fault::answered;
+use crate::entries::{entries_of, keep_named};
+use crate::query::rows_of;
 use matter_parts::{Figures, Kept, Matter, is_sound_whole};
 use matter_rows::{Head, Seat};
 use sql_rows::{head_of, seat_of, totals_of};
-use sql_tables::reads::{head_rows, seat_rows};
 use sqlite::{Alter, Connection, Row};
+use sqlite_value::value::ValueRef;
 use std::alloc::Global;
 use trust_base::{EntryNo, MatterNo, StoreFault};
 
 /// The head of a matter, and its stored totals.
 #[derive(Drop)]
-pub struct HeadWithTotals {
-    pub head: Head,
-    pub figures: Figures,
-}
-
-// Reads the head and the totals from a row.
-fn opened_in(alloc: Global, matter: MatterNo, row: &Row) -> Result<HeadWithTotals, StoreFault>
-    ensures { IfOk result (λ h. (x : HeadRow) → row.now ≡ head_shown x → h ≡ with_totals_from x) }
-{
-    let columns = head_in(matter.get() as i64, row)?;
-    let figures = totals_of(columns)?;
-    let head = head_of(alloc, columns)?;
-    Ok(HeadWithTotals { head, figures })
+pub(crate) struct HeadWithTotals {
+    pub(crate) head: Head,
+    pub(crate) figures: Figures,
 }
 
 /// Returns the head of a matter with its totals, or `None` if it was never opened.
-pub fn head_with_totals<S: Alter>(
+pub(crate) fn head_with_totals<S: Alter>(
     conn: &mut Connection<S>,
     alloc: Global,
     matter: MatterNo,
@@ -57,11 +45,19 @@ pub fn head_with_totals<S: Alter>(
         → IfOk result (λ head. head ≡ with_totals_at matter (lists_in l (state S.Store conn.old).now.trees)) }
     ensures left { LeavesAll result (state S.Store conn.old) (state S.Store conn.new) }
 {
-    let rows = answered(head_rows(conn, matter.get() as i64))?;
-    match rows.first() {
-        None => Ok(None),
-        Some(row) => Ok(Some(opened_in(alloc, matter, row)?)),
-    }
+    let rows = rows_of(
+        conn,
+        "SELECT client, opened, closed, last, entries, held, available, disputed, fees, claims, \
+         pending, purged FROM matter_v2 WHERE no = ?1 ORDER BY rowid",
+        &[ValueRef::Int(matter.get() as i64)],
+    )?;
+    let Some(row) = rows.first() else {
+        return Ok(None);
+    };
+    let columns = head_in(matter.get() as i64, row)?;
+    let figures = totals_of(columns)?;
+    let head = head_of(alloc, columns)?;
+    Ok(Some(HeadWithTotals { head, figures }))
 }
 
 /// Reads a seat of a matter from a row.
@@ -72,21 +68,8 @@ pub(crate) fn read_seat(alloc: Global, matter: MatterNo, row: &Row) -> Result<Se
     seat_of(alloc, matter, columns)
 }
 
-// Reads the seats of a matter from their rows.
-fn all_taken(alloc: Global, matter: MatterNo, rows: &[Row]) -> Result<Vec<Seat>, StoreFault>
-    ensures { IfOk result (λ seats. (xs : List SeatRow) → rows.now ≡ map seat_shown xs
-        → seats.items ≡ map seat_from xs) }
-{
-    let mut seats = Vec::new(alloc);
-    'each: for row in rows {
-        let seat = read_seat(alloc, matter, row)?;
-        seats.push(seat)?;
-    }
-    Ok(seats)
-}
-
 /// Returns the seats of a matter, by person in byte order.
-pub fn seats_of<S: Alter>(
+pub(crate) fn seats_of<S: Alter>(
     conn: &mut Connection<S>,
     alloc: Global,
     matter: MatterNo,
@@ -98,8 +81,17 @@ pub fn seats_of<S: Alter>(
         ≡ (part_at matter (lists_in l (state S.Store conn.old).now.trees)).seats) }
     ensures left { LeavesAll result (state S.Store conn.old) (state S.Store conn.new) }
 {
-    let rows = answered(seat_rows(conn, matter.get() as i64))?;
-    all_taken(alloc, matter, &rows)
+    let rows = rows_of(
+        conn,
+        "SELECT person, role FROM seat_v2 WHERE matter = ?1 ORDER BY person, rowid",
+        &[ValueRef::Int(matter.get() as i64)],
+    )?;
+    let mut seats = Vec::new(alloc);
+    'each: for row in &rows {
+        let seat = read_seat(alloc, matter, row)?;
+        seats.push(seat)?;
+    }
+    Ok(seats)
 }
 
 // The totals of a matter without entries.
@@ -189,6 +181,8 @@ pub fn matter_for<S: Alter>(
         return Ok(Matter::unopened(alloc));
     };
     let seats = seats_of(conn, alloc, matter)?;
-    let kept = named_entries(conn, alloc, matter, entry, other)?;
+    let mut kept = Vec::new(alloc);
+    keep_named(conn, alloc, matter, entry, &mut kept)?;
+    keep_named(conn, alloc, matter, other, &mut kept)?;
     Matter::of_part(Some(opened.head), seats, opened.figures, kept)
 }

@@ -14,18 +14,15 @@ ghost use Rattle.sql_tables.specs.Rows.{Head as HeadRow, heads_in, is_past, no_s
 ghost use Rattle.sql_tables.specs.Standing.{Stands};
 ghost use Rattle.sql_rows.specs.Standing.{StandsSound, firm_in};
 ghost use Rattle.sql_reads.specs.Fed.{AreCounted};
-ghost use Rattle.sql_reads.specs.Shown.{AreNumbersOf, entry_rows, next_at, numbered_from, rows_at, seat_rows};
+ghost use Rattle.sql_reads.specs.Shown.{AreNumbersOf, numbered_from, rows_at};
 
-use crate::columns::head_in;
-use crate::entries::numbered_kept_in;
-use crate::fault::answered;
+use crate::columns::{head_in, number_at};
+use crate::entries::kept_in;
 use crate::matter::read_seat;
-use crate::stream::{RowTaking, hand_rows};
-use crate::value::number_at;
+use crate::query::{RowTaking, hand_rows, rows_of};
 use firm_rows::RowSink;
 use matter_rows::Head;
 use sql_rows::head_of;
-use sql_tables::reads::{head_number_rows, head_rows, next_head_rows};
 use sqlite::{Alter, Connection, Row};
 use sqlite_value::value::ValueRef;
 use std::alloc::Global;
@@ -49,16 +46,6 @@ fn matter_at(row: &Row, at: usize) -> Result<MatterNo, StoreFault>
     MatterNo::from_number(number as u32).ok_or(StoreFault::Store)
 }
 
-// Reads a head from a row that shows it before its number.
-fn numbered_in(alloc: Global, row: &Row) -> Result<NumberedHead, StoreFault>
-    ensures { IfOk result (λ n. n ≡ next_at row.now) }
-{
-    let matter = matter_at(row, 12)?;
-    let columns = head_in(matter.get() as i64, row)?;
-    let head = head_of(alloc, columns)?;
-    Ok(NumberedHead { matter, head })
-}
-
 // Returns the first head with a number greater than `after`, or `None` if there is none.
 fn next_head<S: Alter>(
     conn: &mut Connection<S>,
@@ -72,11 +59,19 @@ fn next_head<S: Alter>(
         ≡ option_map numbered_from (find (is_past after) (heads_in l (state S.Store conn.old).now.trees))) }
     ensures left { LeavesAll result (state S.Store conn.old) (state S.Store conn.new) }
 {
-    let rows = answered(next_head_rows(conn, after))?;
-    match rows.first() {
-        None => Ok(None),
-        Some(row) => Ok(Some(numbered_in(alloc, row)?)),
-    }
+    let rows = rows_of(
+        conn,
+        "SELECT client, opened, closed, last, entries, held, available, disputed, fees, claims, \
+         pending, purged, no FROM matter_v2 WHERE no > ?1 ORDER BY no LIMIT 1",
+        &[ValueRef::Int(after)],
+    )?;
+    let Some(row) = rows.first() else {
+        return Ok(None);
+    };
+    let matter = matter_at(row, 12)?;
+    let columns = head_in(matter.get() as i64, row)?;
+    let head = head_of(alloc, columns)?;
+    Ok(Some(NumberedHead { matter, head }))
 }
 
 // Reads the numbers of rows that have one each.
@@ -102,7 +97,7 @@ pub(crate) fn head_numbers<S: Alter>(
         → IfOk result (λ numbers. AreNumbersOf (heads_in l (state S.Store conn.old).now.trees) numbers.items) }
     ensures left { LeavesAll result (state S.Store conn.old) (state S.Store conn.new) }
 {
-    let rows = answered(head_number_rows(conn))?;
+    let rows = rows_of(conn, "SELECT no FROM matter_v2 ORDER BY no", &[])?;
     numbers_in(alloc, &rows)
 }
 
@@ -128,29 +123,6 @@ impl<K: RowSink> RowTaking<K> for SeatTaking {
     }
 }
 
-// Passes the seats of a matter to the sink, by person in byte order, and returns how many there are.
-fn hand_seats<S: Alter, K: RowSink>(
-    conn: &mut Connection<S>,
-    alloc: Global,
-    matter: MatterNo,
-    sink: &mut K,
-) -> Result<u64, StoreFault>
-    requires { conn.old.in_transaction ≡ false }
-    ensures mode { conn.new.in_transaction ≡ false }
-    ensures handed { (l : Layout) → HasCleanDisk (state S.Store conn.new) → Stands l (state S.Store conn.old).now
-        → AreCounted K.stepped (seat_rows (lists_in l (state S.Store conn.old).now.trees) matter)
-        result sink.old sink.new }
-    ensures left { LeavesAll result (state S.Store conn.old) (state S.Store conn.new) }
-{
-    hand_rows(
-        conn,
-        "SELECT person, role FROM seat_v2 WHERE matter = ?1 ORDER BY person, rowid",
-        &[ValueRef::Int(matter.get() as i64)],
-        &SeatTaking { alloc, matter },
-        sink,
-    )
-}
-
 // Takes the rows of a matter's entries.
 #[derive(Drop)]
 struct EntryTaking {
@@ -168,35 +140,10 @@ impl<K: RowSink> RowTaking<K> for EntryTaking {
     ghost fits = { λ _ _. Unit {0} };
 
     fn take(&self, row: &Row, sink: &mut K) -> Result<(), StoreFault> {
-        let kept = numbered_kept_in(self.alloc, self.matter, row)?;
+        let kept = kept_in(self.alloc, self.matter, row)?;
         sink.entry(self.matter, kept.number, &kept.entry)?;
         Ok(())
     }
-}
-
-// Passes the entries of a matter to the sink, by number, and returns how many there are.
-fn hand_entries<S: Alter, K: RowSink>(
-    conn: &mut Connection<S>,
-    alloc: Global,
-    matter: MatterNo,
-    sink: &mut K,
-) -> Result<u64, StoreFault>
-    requires { conn.old.in_transaction ≡ false }
-    ensures mode { conn.new.in_transaction ≡ false }
-    ensures handed { (l : Layout) → HasCleanDisk (state S.Store conn.new) → Stands l (state S.Store conn.old).now
-        → AreCounted K.stepped (entry_rows (lists_in l (state S.Store conn.old).now.trees) matter)
-        result sink.old sink.new }
-    ensures left { LeavesAll result (state S.Store conn.old) (state S.Store conn.new) }
-{
-    hand_rows(
-        conn,
-        "SELECT no, kind, day, amount, state, fund, of_no, text_a, text_b, text_c, day_done, \
-         day_undone, day_bank, bank_ref, part, left_now FROM entry_v2 WHERE matter = ?1 ORDER BY no, \
-         rowid",
-        &[ValueRef::Int(matter.get() as i64)],
-        &EntryTaking { alloc, matter },
-        sink,
-    )
 }
 
 // Returns how many rows a matter has: its head, its seats and its entries. Returns `Store` for 2^64 or more.
@@ -222,19 +169,24 @@ fn hand_matter<S: Alter, K: RowSink>(
     ensures left { LeavesAll result (state S.Store conn.old) (state S.Store conn.new) }
 {
     sink.head(next.matter, &next.head)?;
-    let seats = hand_seats(conn, alloc, next.matter, sink)?;
-    let entries = hand_entries(conn, alloc, next.matter, sink)?;
+    let matter = next.matter;
+    let seats = hand_rows(
+        conn,
+        "SELECT person, role FROM seat_v2 WHERE matter = ?1 ORDER BY person, rowid",
+        &[ValueRef::Int(matter.get() as i64)],
+        &SeatTaking { alloc, matter },
+        sink,
+    )?;
+    let entries = hand_rows(
+        conn,
+        "SELECT no, kind, day, amount, state, fund, of_no, text_a, text_b, text_c, day_done, \
+         day_undone, day_bank, bank_ref, part, left_now FROM entry_v2 WHERE matter = ?1 ORDER BY no, \
+         rowid",
+        &[ValueRef::Int(matter.get() as i64)],
+        &EntryTaking { alloc, matter },
+        sink,
+    )?;
     row_count(seats, entries)
-}
-
-// Whether a head has the least number. No matter can have it, and the walk over the heads starts after it.
-fn has_least_head<S: Alter>(conn: &mut Connection<S>) -> Result<bool, StoreFault>
-    requires { conn.old.in_transaction ≡ false }
-    ensures mode { conn.new.in_transaction ≡ false }
-    ensures left { LeavesAll result (state S.Store conn.old) (state S.Store conn.new) }
-{
-    let rows = answered(head_rows(conn, i64::MIN))?;
-    Ok(rows.first().is_some())
 }
 
 /// Passes each row of each matter to the sink: matters by number, and in each the head, the seats by person and the
@@ -252,8 +204,14 @@ pub fn each_row<S: Alter, K: RowSink>(
         result sink.old sink.new }
     ensures left { LeavesAll result (state S.Store conn.old) (state S.Store conn.new) }
 {
-    let least = has_least_head(conn)?;
-    if least {
+    // No matter has the least number, after which the walk over the heads starts.
+    let least = rows_of(
+        conn,
+        "SELECT client, opened, closed, last, entries, held, available, disputed, fees, claims, \
+         pending, purged FROM matter_v2 WHERE no = ?1 ORDER BY rowid",
+        &[ValueRef::Int(i64::MIN)],
+    )?;
+    if !least.is_empty() {
         return Err(StoreFault::Store);
     }
     let mut after = i64::MIN;

@@ -43,12 +43,9 @@ head_there : (rows : Rows) (e : Edit) (last : ℕ) → IsPlace rows e → (e ≡
     → (h : Head) × (head_after rows.head e last ≡ Some h)
 head_there rows edit.Nothing last place some = absurd (some refl)
 head_there rows (edit.Open o) last place some = (o.head, refl)
-head_there rows (edit.Seat s) last place some = seen_some rows.head last place.0
-head_there rows (edit.Unseat p) last place some = seen_some rows.head last place.0
 head_there rows (edit.Close day) last place some = closed_some rows.head day last place.0
 head_there rows (edit.Clear day) last place some = cleared_some rows.head day last place.0
-head_there rows (edit.Append x) last place some = seen_some rows.head last place.0
-head_there rows (edit.Exchange x) last place some = seen_some rows.head last place.0
+head_there rows _ last place some = seen_some rows.head last place.0
 
 -- The head among the steps.
 
@@ -146,8 +143,6 @@ module _ (m : ℕ) (c : MatterChange) (a mid : Lists) (up : IsKeyedBy key a.head
       let same : o.head ≡ h = cc in
       made.2 ∙ made.1
       ∙ ap (λ y. record a { heads = table.put_head (head_columns m y c.moves.figures) a.heads }) same
-  head_put (edit.Seat s) some is made = seen_put is made
-  head_put (edit.Unseat p) some is made = seen_put is made
   head_put (edit.Close day) some is made =
       by_row _ refl (λ o. closed_head o day c.last) refl is (λ x found own has after.
       let same : record (head_from x) { closed = Some day; last = c.last } ≡ h = cc in
@@ -156,8 +151,7 @@ module _ (m : ℕ) (c : MatterChange) (a mid : Lists) (up : IsKeyedBy key a.head
       by_row _ refl (λ o. cleared_head o day c.last) refl is (λ x found own has after.
       let same : record (head_from x) { holder = Purged day; last = c.last } ≡ h = cc in
       cleared_is_put m c a mid up x found own has h day same made)
-  head_put (edit.Append x) some is made = seen_put is made
-  head_put (edit.Exchange x) some is made = seen_put is made
+  head_put _ some is made = seen_put is made
 
 -- the head that is put in first, and the steps behind it
 pub record HeadFirst (m : ℕ) (c : MatterChange) (a b : Lists) : Type 0 where

@@ -180,12 +180,9 @@ days_after rows (edit.Open o) last typed sound days =
       holder = seated_held o.head.holder o.head.closed o.head.last o.seat rows.entries sound.bare;
       closed = typed;
     }
-days_after rows (edit.Seat s) last typed sound days = seen_days rows.head last days
-days_after rows (edit.Unseat p) last typed sound days = seen_days rows.head last days
 days_after rows (edit.Close day) last typed sound days = closed_has_days rows.head day last typed days
 days_after rows (edit.Clear day) last typed sound days = cleared_has_days rows.head day last typed days
-days_after rows (edit.Append x) last typed sound days = seen_days rows.head last days
-days_after rows (edit.Exchange x) last typed sound days = seen_days rows.head last days
+days_after rows _ last typed sound days = seen_days rows.head last days
 
 -- the head that is found has its days
 pub days_found : (a : Lists) (m : ℕ) → HasDaysIfSome (head_at m a)

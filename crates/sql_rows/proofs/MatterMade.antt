@@ -30,13 +30,9 @@ nothing_made m c a b none meant made =
 edit_kinds : (c : MatterChange) (e : Edit) → c.edit ≡ e
     → (c.edit ≡ edit.Nothing) ⊎ (WritesNoEntry c.edit ⊎ ((x : Numbered) × IsEntryChange c x))
 edit_kinds c edit.Nothing is = inl is
-edit_kinds c (edit.Open o) is = inr (inl (subst WritesNoEntry (sym is) tt))
-edit_kinds c (edit.Seat s) is = inr (inl (subst WritesNoEntry (sym is) tt))
-edit_kinds c (edit.Unseat p) is = inr (inl (subst WritesNoEntry (sym is) tt))
-edit_kinds c (edit.Close day) is = inr (inl (subst WritesNoEntry (sym is) tt))
-edit_kinds c (edit.Clear day) is = inr (inl (subst WritesNoEntry (sym is) tt))
 edit_kinds c (edit.Append x) is = inr (inr (x, inl is))
 edit_kinds c (edit.Exchange x) is = inr (inr (x, inr is))
+edit_kinds c _ is = inr (inl (subst WritesNoEntry (sym is) tt))
 
 -- so the steps of a change, whatever it is, make what it says
 pub matter_made : (m : ℕ) (c : MatterChange) (a b : Lists) → 1 ≤ m → AreKeyed a → AreMeant a → IsTypedEdit c.edit

@@ -35,44 +35,25 @@ use Rattle.sql_rows.proofs.Seats as seats
 -- the head is written, and no entry
 abbrev pub WritesNoEntry : Edit → Type 0
 WritesNoEntry edit.Nothing = ⊥
-WritesNoEntry (edit.Open o) = Unit {0}
-WritesNoEntry (edit.Seat s) = Unit {0}
-WritesNoEntry (edit.Unseat p) = Unit {0}
-WritesNoEntry (edit.Close day) = Unit {0}
-WritesNoEntry (edit.Clear day) = Unit {0}
 WritesNoEntry (edit.Append x) = ⊥
 WritesNoEntry (edit.Exchange x) = ⊥
+WritesNoEntry _ = Unit {0}
 
 -- the rows behind the head after such a change
 abbrev seats_by : ℕ → Edit → List table.Seat → List table.Seat
-seats_by m edit.Nothing ss = ss
 seats_by m (edit.Open o) ss = add_seat (seat_columns m o.seat) ss
 seats_by m (edit.Seat s) ss = add_seat (seat_columns m s) ss
 seats_by m (edit.Unseat p) ss = delete_where (is_seat (pos m) p) ss
-seats_by m (edit.Close day) ss = ss
 seats_by m (edit.Clear day) ss = delete_where (is_seat_of (pos m)) ss
-seats_by m (edit.Append x) ss = ss
-seats_by m (edit.Exchange x) ss = ss
+seats_by m _ ss = ss
 
 abbrev entries_by : ℕ → Edit → List table.Entry → List table.Entry
-entries_by m edit.Nothing es = es
-entries_by m (edit.Open o) es = es
-entries_by m (edit.Seat s) es = es
-entries_by m (edit.Unseat p) es = es
-entries_by m (edit.Close day) es = es
 entries_by m (edit.Clear day) es = delete_where (is_entry_of (pos m)) es
-entries_by m (edit.Append x) es = es
-entries_by m (edit.Exchange x) es = es
+entries_by m _ es = es
 
 abbrev movements_by : ℕ → Edit → List table.Movement → List table.Movement
-movements_by m edit.Nothing ms = ms
-movements_by m (edit.Open o) ms = ms
-movements_by m (edit.Seat s) ms = ms
-movements_by m (edit.Unseat p) ms = ms
-movements_by m (edit.Close day) ms = ms
 movements_by m (edit.Clear day) ms = delete_where (is_movement_of (pos m)) ms
-movements_by m (edit.Append x) ms = ms
-movements_by m (edit.Exchange x) ms = ms
+movements_by m _ ms = ms
 
 abbrev with_rest : ℕ → Edit → Lists → Lists
 with_rest m e l = record l {
@@ -84,7 +65,6 @@ with_rest m e l = record l {
 -- the steps behind the head make these
 rest_made : (m : ℕ) (c : MatterChange) (e : Edit) (l b : Lists) → WritesNoEntry e → AreMade (edit_steps m c e) l b
     → b ≡ with_rest m e l
-rest_made m c edit.Nothing l b w made = absurd w
 rest_made m c (edit.Open o) l b w made = made.2 ∙ made.1
 rest_made m c (edit.Seat s) l b w made = made.2 ∙ made.1
 rest_made m c (edit.Unseat p) l b w made = made.2 ∙ made.1
@@ -96,8 +76,7 @@ rest_made m c (edit.Clear day) l b w made =
       entries = delete_where (is_entry_of (pos m)) k.entries;
       movements = delete_where (is_movement_of (pos m)) k.movements;
     }) made.1
-rest_made m c (edit.Append x) l b w made = absurd w
-rest_made m c (edit.Exchange x) l b w made = absurd w
+rest_made m c _ l b w made = absurd w
 
 -- What the rows stand for.
 
@@ -109,7 +88,6 @@ unopened_seats (Some h) ss es none headed = absurd (cc)
 seats_shown : (m : ℕ) (e : Edit) (ss : List table.Seat) (rows : Rows) → WritesNoEntry e → IsKeyedBy seats.key ss
     → map seat_from (seats_of (pos m) ss) ≡ rows.seats → Sound rows → IsPlace rows e
     → map seat_from (seats_of (pos m) (seats_by m e ss)) ≡ seats_after rows.seats e
-seats_shown m edit.Nothing ss rows w up same sound place = absurd w
 seats_shown m (edit.Open o) ss rows w up same sound place =
     let none : map seat_from (seats_of (pos m) ss) ≡ [] =
     same ∙ unopened_seats rows.head rows.seats rows.entries place sound.headed in
@@ -122,21 +100,16 @@ seats_shown m (edit.Unseat p) ss rows w up same sound place =
     seats.seats_left m p ss up (subst AreInOrder (sym same) sound.seated) ∙ ap (λ l. seats_without l p) same
 seats_shown m (edit.Close day) ss rows w up same sound place = same
 seats_shown m (edit.Clear day) ss rows w up same sound place = ap (map seat_from) (seats.seats_gone (pos m) ss)
-seats_shown m (edit.Append x) ss rows w up same sound place = absurd w
-seats_shown m (edit.Exchange x) ss rows w up same sound place = absurd w
+seats_shown m _ ss rows w up same sound place = absurd w
 
 entries_shown : (m : ℕ) (e : Edit) (es : List table.Entry) (rows : Rows) → WritesNoEntry e
     → AreEntries (map kept_from (entries_of (pos m) es)) rows.entries
     → AreEntries (map kept_from (entries_of (pos m) (entries_by m e es))) (edited rows.entries e)
-entries_shown m edit.Nothing es rows w are = are
-entries_shown m (edit.Open o) es rows w are = are
-entries_shown m (edit.Seat s) es rows w are = are
-entries_shown m (edit.Unseat p) es rows w are = are
-entries_shown m (edit.Close day) es rows w are = are
 entries_shown m (edit.Clear day) es rows w are =
     subst (λ ks. AreEntries ks []) (sym (kept_gone (pos m) es)) no_entries
 entries_shown m (edit.Append x) es rows w are = absurd w
 entries_shown m (edit.Exchange x) es rows w are = absurd w
+entries_shown m _ es rows w are = are
 
 none_moved : (m : ℕ) (x : Option EntryMovement) (ms : List table.Movement) → x ≡ None
     → map movement_from ms ≡ map movement_from ms ++ joined_movement m x
@@ -147,14 +120,11 @@ movements_shown : (m : ℕ) (e : Edit) (x : Option EntryMovement) (rows : Rows) 
     → WritesNoEntry e → 1 ≤ m → AllByRecursion IsWrittenMovement ms → x ≡ movement_of rows.entries e
     → map movement_from (movements_by m e ms) ≡ kept_movements m e (map movement_from ms ++ joined_movement m x)
 movements_shown m edit.Nothing x rows ms w one all none = absurd w
-movements_shown m (edit.Open o) x rows ms w one all none = none_moved m x ms none
-movements_shown m (edit.Seat s) x rows ms w one all none = none_moved m x ms none
-movements_shown m (edit.Unseat p) x rows ms w one all none = none_moved m x ms none
-movements_shown m (edit.Close day) x rows ms w one all none = none_moved m x ms none
 movements_shown m (edit.Clear day) x rows ms w one all none =
     movements_gone m ms one all ∙ ap (moved_without m) (none_moved m x ms none)
 movements_shown m (edit.Append y) x rows ms w one all none = absurd w
 movements_shown m (edit.Exchange y) x rows ms w one all none = absurd w
+movements_shown m _ x rows ms w one all none = none_moved m x ms none
 
 -- Where the rows are.
 
@@ -208,14 +178,12 @@ placed_gone m a written = record {
 
 placed_by : (m : ℕ) (e : Edit) (a : Lists) → WritesNoEntry e → AreWritten a
     → ArePlaced m a (seats_by m e a.seats) (entries_by m e a.entries) (movements_by m e a.movements)
-placed_by m edit.Nothing a w written = absurd w
 placed_by m (edit.Open o) a w written = placed_added m o.seat a written
 placed_by m (edit.Seat s) a w written = placed_added m s a written
 placed_by m (edit.Unseat p) a w written = placed_left m p a written
 placed_by m (edit.Close day) a w written = placed_same m a written
 placed_by m (edit.Clear day) a w written = placed_gone m a written
-placed_by m (edit.Append x) a w written = absurd w
-placed_by m (edit.Exchange x) a w written = absurd w
+placed_by m _ a w written = absurd w
 
 -- The change.
 

@@ -1,16 +1,43 @@
-// The columns of an entry.
+// The columns of an entry: written, and read back.
 
-ghost use Rattle.std.specs.Prelude.{◌≡◌, ◌≤◌, pos, []};
+ghost use Rattle.std.specs.Prelude.{◌≡◌, ◌≤◌, ◌↔◌, pos, [], IsTrue, Ok, IfOk, IfErr};
+ghost use Rattle.trust_values.specs.Limits.{IsDay};
 ghost use Rattle.matter_rows.specs.declared.limits.TheConstants.{MAX_TOTAL};
 ghost use Rattle.sql_tables.specs.Given.{entry_given};
+ghost use Rattle.matter_rows.specs.declared.clearing.Clearing.{Clearing as Told};
+ghost use Rattle.matter_rows.specs.declared.deposit.Deposit.{Deposit as Received};
+ghost use Rattle.matter_rows.specs.declared.deposit.DepositState.{DepositState as ReceivedState};
+ghost use Rattle.matter_rows.specs.declared.deposit.ReturnedDeposit.{ReturnedDeposit as SentBack};
+ghost use Rattle.matter_rows.specs.declared.payment.ClearedPayment.{ClearedPayment as PaidCleared};
+ghost use Rattle.matter_rows.specs.declared.payment.Fund.{Fund as Source};
+ghost use Rattle.matter_rows.specs.declared.payment.Payment.{Payment as Paid};
+ghost use Rattle.matter_rows.specs.declared.payment.PaymentState.{PaymentState as PaidState};
+ghost use Rattle.matter_rows.specs.declared.payment.VoidedPayment.{VoidedPayment as PaidVoided};
+ghost use Rattle.matter_rows.specs.declared.claim.Against.{Against as On};
+ghost use Rattle.matter_rows.specs.declared.claim.Claim.{Claim as Claimed};
+ghost use Rattle.matter_rows.specs.declared.claim.ClaimState.{ClaimState as ClaimedState};
+ghost use Rattle.matter_rows.specs.declared.entry.Entry.{Entry as Made};
+ghost use Rattle.matter_parts.specs.declared.kept.Kept.{Kept as KeptEntry};
+ghost use Rattle.sql_rows.specs.Columns.{GivesBack};
+ghost use Rattle.sql_rows.specs.Entries.{IsClearing, IsReturn, IsDepositState, IsDeposit, IsFund};
+ghost use Rattle.sql_rows.specs.Entries.{IsPaymentState, IsPayment};
+ghost use Rattle.sql_rows.specs.Entries.{IsAgainst, IsClaimState, IsClaim, HasForm, IsKept};
+ghost use Rattle.sql_rows.specs.Entries.{HasClearing, HasReturn, HasDepositState, HasDeposit, HasFund};
+ghost use Rattle.sql_rows.specs.Entries.{HasPaymentState, HasPayment, HasAgainst, HasClaimState, HasClaim, HasEntry};
+ghost use Rattle.sql_rows.specs.Entries.{entry_columns, BeginsEntry};
+ghost use Rattle.sql_rows.specs.Entries.{HasSamePlace, HasSameMoney, HasSameDays, HasSameTexts};
 ghost use Rattle.sql_rows.specs.Entries.{deposit_parts, payment_parts, plain_parts, claim_on_parts, fund_kind};
-ghost use Rattle.sql_rows.specs.Entries.{fund_of, as_columns, entry_columns};
+ghost use Rattle.sql_rows.specs.Entries.{fund_of, as_columns};
 
+use crate::column::{amount_in, bank_text_in, entry_in, label_in, number_in, part_in, stored_day};
+use matter_parts::Kept;
 use matter_rows::{
-    Against, Claim, ClaimState, Deposit, DepositState, Entry, Fee, Fund, Payment, PaymentState,
+    Against, Claim, ClaimState, ClearedPayment, Clearing, Deposit, DepositState, Entry, Fee, Fund,
+    MAX_TOTAL, Payment, PaymentState, ReturnedDeposit, Settlement, VoidedPayment,
 };
 use sql_tables::EntryColumns;
-use trust_base::{EntryNo, MatterNo};
+use std::alloc::Global;
+use trust_base::{Cents, Day, EntryNo, MatterNo, StoreFault};
 
 /// Returns the columns of an entry of a matter, with its number and the cents left of it. A missing day or number is
 /// 0, a missing text is empty.
@@ -206,4 +233,298 @@ fn claim_columns<'a>(matter: MatterNo, no: EntryNo, c: &'a Claim, left: u64) -> 
         }
     }
     columns
+}
+
+// Reads the bank line that cleared an entry.
+fn clearing_in(alloc: Global, columns: EntryColumns<'_>) -> Result<Clearing, StoreFault>
+    ensures { (c : Told) → IsClearing c → HasClearing c columns.entry.day_bank columns.entry.bank_ref.now
+        → GivesBack c result }
+{
+    let bank_day = stored_day(columns.day_bank)?;
+    let bank_ref = bank_text_in(alloc, columns.bank_ref)?;
+    Ok(Clearing { bank_day, bank_ref })
+}
+
+// Reads the bank line that returned a deposit, from the columns `day_done` and `text_c`.
+fn returning_in(alloc: Global, columns: EntryColumns<'_>) -> Result<Clearing, StoreFault>
+    ensures { (c : Told) → IsClearing c → HasClearing c columns.entry.day_done columns.entry.text_c.now
+        → GivesBack c result }
+{
+    let bank_day = stored_day(columns.day_done)?;
+    let bank_ref = bank_text_in(alloc, columns.text_c)?;
+    Ok(Clearing { bank_day, bank_ref })
+}
+
+// Reads a deposit that the bank cleared and then returned.
+fn returned_in(alloc: Global, columns: EntryColumns<'_>) -> Result<ReturnedDeposit, StoreFault>
+    ensures { (r : SentBack) → IsReturn r → HasReturn r (entry_given columns.entry) → GivesBack r result }
+{
+    let undone = stored_day(columns.day_undone)?;
+    let clearing = clearing_in(alloc, columns)?;
+    let returning = returning_in(alloc, columns)?;
+    Ok(ReturnedDeposit {
+        clearing,
+        returning,
+        undone,
+    })
+}
+
+fn deposit_state_in(alloc: Global, columns: EntryColumns<'_>) -> Result<DepositState, StoreFault>
+    ensures { (s : ReceivedState) → IsDepositState s → HasDepositState s (entry_given columns.entry)
+        → GivesBack s result }
+{
+    match columns.state {
+        1 => Ok(DepositState::Held),
+        2 => {
+            let clearing = clearing_in(alloc, columns)?;
+            Ok(DepositState::Cleared(clearing))
+        }
+        3 => Ok(DepositState::Cancelled(stored_day(columns.day_undone)?)),
+        4 => Ok(DepositState::Returned(returned_in(alloc, columns)?)),
+        _ => Err(StoreFault::Store),
+    }
+}
+
+fn deposit_in(
+    alloc: Global,
+    book: Day,
+    amount: Cents,
+    columns: EntryColumns<'_>,
+) -> Result<Deposit, StoreFault>
+    ensures { (d : Received) → IsDeposit d → HasDeposit d book amount (entry_given columns.entry)
+        → GivesBack d result }
+{
+    let state = deposit_state_in(alloc, columns)?;
+    let source = label_in(alloc, columns.text_a)?;
+    let description = label_in(alloc, columns.text_b)?;
+    Ok(Deposit {
+        book,
+        amount,
+        source,
+        description,
+        state,
+    })
+}
+
+// Reads where a payment takes its money from.
+fn fund_in(fund: i64, of_no: i64) -> Result<Fund, StoreFault>
+    ensures back { (f : Source) → IsFund f → HasFund f fund of_no → result ≡ Ok f }
+    ensures store { IfErr result (λ e. e ≡ StoreFault.Store) }
+{
+    match fund {
+        0 => Ok(Fund::General),
+        1 => Ok(Fund::Fee(entry_in(of_no).ok_or(StoreFault::Store)?)),
+        2 => Ok(Fund::Claim(entry_in(of_no).ok_or(StoreFault::Store)?)),
+        _ => Err(StoreFault::Store),
+    }
+}
+
+// Reads a payment that the bank cleared.
+fn cleared_in(alloc: Global, columns: EntryColumns<'_>) -> Result<ClearedPayment, StoreFault>
+    ensures { (p : PaidCleared) → IsDay p.issued → IsClearing p.clearing → pos p.issued ≡ columns.entry.day_done
+        → HasClearing p.clearing columns.entry.day_bank columns.entry.bank_ref.now → GivesBack p result }
+{
+    let issued = stored_day(columns.day_done)?;
+    let clearing = clearing_in(alloc, columns)?;
+    Ok(ClearedPayment { issued, clearing })
+}
+
+// Reads a payment that was voided.
+fn voided_in(columns: EntryColumns<'_>) -> Result<VoidedPayment, StoreFault>
+    ensures back { (p : PaidVoided) → IsDay p.issued → IsDay p.undone → pos p.issued ≡ columns.entry.day_done
+        → pos p.undone ≡ columns.entry.day_undone → result ≡ Ok p }
+    ensures store { IfErr result (λ e. e ≡ StoreFault.Store) }
+{
+    let issued = stored_day(columns.day_done)?;
+    let undone = stored_day(columns.day_undone)?;
+    Ok(VoidedPayment { issued, undone })
+}
+
+fn payment_state_in(alloc: Global, columns: EntryColumns<'_>) -> Result<PaymentState, StoreFault>
+    ensures { (s : PaidState) → IsPaymentState s → HasPaymentState s (entry_given columns.entry)
+        → GivesBack s result }
+{
+    match columns.state {
+        1 => Ok(PaymentState::Proposed),
+        2 => Ok(PaymentState::Declined),
+        3 => Ok(PaymentState::Issued(stored_day(columns.day_done)?)),
+        4 => Ok(PaymentState::Cleared(cleared_in(alloc, columns)?)),
+        5 => Ok(PaymentState::Voided(voided_in(columns)?)),
+        _ => Err(StoreFault::Store),
+    }
+}
+
+fn payment_in(
+    alloc: Global,
+    book: Day,
+    amount: Cents,
+    columns: EntryColumns<'_>,
+) -> Result<Payment, StoreFault>
+    ensures { (p : Paid) → IsPayment p → HasPayment p book amount (entry_given columns.entry) → GivesBack p result }
+{
+    let fund = fund_in(columns.fund, columns.of_no)?;
+    let state = payment_state_in(alloc, columns)?;
+    let payee = label_in(alloc, columns.text_a)?;
+    let purpose = label_in(alloc, columns.text_b)?;
+    let instrument = label_in(alloc, columns.text_c)?;
+    Ok(Payment {
+        book,
+        amount,
+        fund,
+        payee,
+        purpose,
+        instrument,
+        state,
+    })
+}
+
+// Reads what a claim is made on: available money, by the named claimant, or a fee.
+fn against_in(alloc: Global, columns: EntryColumns<'_>) -> Result<Against, StoreFault>
+    ensures { (a : On) → IsAgainst a → HasAgainst a (entry_given columns.entry) → GivesBack a result }
+{
+    match columns.fund {
+        0 => Ok(Against::General(label_in(alloc, columns.text_a)?)),
+        1 => Ok(Against::Fee(entry_in(columns.of_no).ok_or(StoreFault::Store)?)),
+        _ => Err(StoreFault::Store),
+    }
+}
+
+fn claim_state_in(columns: EntryColumns<'_>) -> Result<ClaimState, StoreFault>
+    ensures back { (s : ClaimedState) → IsClaimState s → HasClaimState s (entry_given columns.entry)
+        → result ≡ Ok s }
+    ensures store { IfErr result (λ e. e ≡ StoreFault.Store) }
+{
+    match columns.state {
+        1 => Ok(ClaimState::Open),
+        2 => {
+            let part = part_in(columns.part).ok_or(StoreFault::Store)?;
+            Ok(ClaimState::Offered(part))
+        }
+        3 => {
+            let day = stored_day(columns.day_done)?;
+            let part = part_in(columns.part).ok_or(StoreFault::Store)?;
+            Ok(ClaimState::Settled(Settlement { day, part }))
+        }
+        _ => Err(StoreFault::Store),
+    }
+}
+
+fn claim_in(
+    alloc: Global,
+    book: Day,
+    amount: Cents,
+    columns: EntryColumns<'_>,
+) -> Result<Claim, StoreFault>
+    ensures { (c : Claimed) → IsClaim c → HasClaim c book amount (entry_given columns.entry) → GivesBack c result }
+{
+    let state = claim_state_in(columns)?;
+    let against = against_in(alloc, columns)?;
+    let reason = label_in(alloc, columns.text_b)?;
+    Ok(Claim {
+        book,
+        amount,
+        against,
+        reason,
+        state,
+    })
+}
+
+// Reads an entry of its kind, from the columns that its kind and state use. The other columns are not read.
+fn of_kind(
+    alloc: Global,
+    book: Day,
+    amount: Cents,
+    columns: EntryColumns<'_>,
+) -> Result<Entry, StoreFault>
+    ensures { (e : Made) → HasForm e → HasEntry e book amount (entry_given columns.entry) → GivesBack e result }
+{
+    match columns.kind {
+        1 => Ok(Entry::Deposit(deposit_in(alloc, book, amount, columns)?)),
+        2 => Ok(Entry::Payment(payment_in(alloc, book, amount, columns)?)),
+        3 => {
+            let description = label_in(alloc, columns.text_a)?;
+            Ok(Entry::Fee(Fee {
+                book,
+                amount,
+                description,
+            }))
+        }
+        4 => Ok(Entry::Claim(claim_in(alloc, book, amount, columns)?)),
+        _ => Err(StoreFault::Store),
+    }
+}
+
+// Whether both have the same matter, number, kind, state and amount left.
+fn have_same_place(a: EntryColumns<'_>, b: EntryColumns<'_>) -> bool
+    ensures { IsTrue result ↔ HasSamePlace (entry_given a.entry) (entry_given b.entry) }
+{
+    a.matter == b.matter
+        && a.no == b.no
+        && a.kind == b.kind
+        && a.state == b.state
+        && a.left_now == b.left_now
+}
+
+// Whether both have the same amount, part, fund and fund number.
+fn have_same_money(a: EntryColumns<'_>, b: EntryColumns<'_>) -> bool
+    ensures { IsTrue result ↔ HasSameMoney (entry_given a.entry) (entry_given b.entry) }
+{
+    a.amount == b.amount && a.part == b.part && a.fund == b.fund && a.of_no == b.of_no
+}
+
+// Whether both have the same days.
+fn have_same_days(a: EntryColumns<'_>, b: EntryColumns<'_>) -> bool
+    ensures { IsTrue result ↔ HasSameDays (entry_given a.entry) (entry_given b.entry) }
+{
+    a.day == b.day
+        && a.day_done == b.day_done
+        && a.day_undone == b.day_undone
+        && a.day_bank == b.day_bank
+}
+
+// Whether both have the same texts.
+fn have_same_texts(a: EntryColumns<'_>, b: EntryColumns<'_>) -> bool
+    ensures { IsTrue result ↔ HasSameTexts (entry_given a.entry) (entry_given b.entry) }
+{
+    a.text_a == b.text_a && a.text_b == b.text_b && a.text_c == b.text_c && a.bank_ref == b.bank_ref
+}
+
+// Whether all columns are the same.
+fn are_same(a: EntryColumns<'_>, b: EntryColumns<'_>) -> bool
+    ensures { IsTrue result ↔ (entry_given a.entry ≡ entry_given b.entry) }
+{
+    have_same_place(a, b) && have_same_money(a, b) && have_same_days(a, b) && have_same_texts(a, b)
+}
+
+/// Reads an entry of a matter from its columns, copying its texts, with its number and the cents left of it. Returns
+/// `Store` for columns of no entry, including a value in a column that the entry's kind and state leave empty.
+/// `Memory`, if memory runs out, is possible only if matter, number, day, amount and what is left are in range.
+pub fn entry_of(
+    alloc: Global,
+    matter: MatterNo,
+    columns: EntryColumns<'_>,
+) -> Result<Kept, StoreFault>
+    ensures ok { IfOk result (λ k. entry_columns matter k.number k.left k.entry ≡ entry_given columns.entry) }
+    ensures small { IfOk result (λ k. k.left ≤ MAX_TOTAL) }
+    ensures back { (k : KeptEntry) → IsKept k → entry_columns matter k.number k.left k.entry ≡ entry_given columns.entry
+        → GivesBack k result }
+    ensures memory { IfErr result (λ e. e ≡ StoreFault.Memory → BeginsEntry matter (entry_given columns.entry)) }
+{
+    if columns.matter != matter.get() as i64 {
+        return Err(StoreFault::Store);
+    }
+    let number = entry_in(columns.no).ok_or(StoreFault::Store)?;
+    let left = number_in(columns.left_now, MAX_TOTAL)?;
+    let book = stored_day(columns.day)?;
+    let amount = amount_in(columns.amount).ok_or(StoreFault::Store)?;
+    let entry = of_kind(alloc, book, amount, columns)?;
+    let written = entry_columns(matter, number, left, &entry);
+    if !are_same(written, columns) {
+        return Err(StoreFault::Store);
+    }
+    Ok(Kept {
+        number,
+        left,
+        entry,
+    })
 }

@@ -55,19 +55,20 @@ pub fn head_columns(matter: MatterNo, head: &Head, figures: Figures) -> HeadColu
     requires { AreSmall figures }
     ensures { head_given result ≡ head_columns matter head.now figures }
 {
+    let totals = totals_columns(matter, head.last, figures);
     HeadColumns {
-        no: matter.get() as i64,
+        no: totals.no,
         client: client_column(&head.holder),
         opened: head.opened.get() as i64,
         closed: closed_column(head.closed),
-        last: head.last.get() as i64,
-        entries: figures.entries as i64,
-        held: figures.held as i64,
-        available: figures.available as i64,
-        disputed: figures.disputed as i64,
-        fees: figures.fees as i64,
-        claims: figures.claims as i64,
-        pending: figures.pending as i64,
+        last: totals.last,
+        entries: totals.entries,
+        held: totals.held,
+        available: totals.available,
+        disputed: totals.disputed,
+        fees: totals.fees,
+        claims: totals.claims,
+        pending: totals.pending,
         purged: purged_column(&head.holder),
     }
 }

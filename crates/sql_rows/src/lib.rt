@@ -13,13 +13,11 @@ mod head;
 pub mod laws;
 mod movement;
 mod seat;
-mod stored_entry;
 
 pub use balance::{balance_columns, balance_of, kind_column};
-pub use entry::entry_columns;
+pub use entry::{entry_columns, entry_of};
 pub use exception::{exception_columns, exception_of};
 pub use firm_line::{firm_line_columns, firm_line_of};
 pub use head::{head_columns, head_of, totals_columns, totals_of};
 pub use movement::{movement_columns, movement_of};
 pub use seat::{seat_columns, seat_of};
-pub use stored_entry::entry_of;

@@ -1,11 +1,10 @@
 // The columns of a seat.
 
-ghost use Rattle.std.specs.Prelude.{◌≡◌, IfOk, IfErr, IfSome, IfNone};
-ghost use Rattle.matter_rows.specs.declared.seat.Role.{Role as SeatRole};
+ghost use Rattle.std.specs.Prelude.{◌≡◌, IfOk, IfErr};
 ghost use Rattle.matter_rows.specs.declared.seat.Seat.{Seat as Taken};
 ghost use Rattle.trust_base.specs.Names.{IsPerson};
 ghost use Rattle.sql_tables.specs.Given.{seat_given};
-ghost use Rattle.sql_rows.specs.Columns.{role_column, seat_columns, GivesBack, HasSeat};
+ghost use Rattle.sql_rows.specs.Columns.{seat_columns, GivesBack, HasSeat};
 
 use crate::column::person_in;
 use matter_rows::{Role, Seat};
@@ -13,34 +12,18 @@ use sql_tables::SeatColumns;
 use std::alloc::Global;
 use trust_base::{MatterNo, StoreFault};
 
-fn role_column(role: Role) -> i64
-    ensures { result ≡ role_column role }
-{
-    match role {
-        Role::Client => 1,
-        Role::Lawyer => 2,
-    }
-}
-
-fn role_in(column: i64) -> Option<Role>
-    ensures some { IfSome result (λ r. role_column r ≡ column) }
-    ensures none { IfNone result ((r : SeatRole) → ¬ (role_column r ≡ column)) }
-{
-    match column {
-        1 => Some(Role::Client),
-        2 => Some(Role::Lawyer),
-        _ => None,
-    }
-}
-
 /// Returns the columns of a seat of a matter: the person, and the role (1 for a client, 2 for a lawyer).
 pub fn seat_columns(matter: MatterNo, seat: &Seat) -> SeatColumns<'_>
     ensures { seat_given result ≡ seat_columns matter seat.now }
 {
+    let role = match seat.role {
+        Role::Client => 1,
+        Role::Lawyer => 2,
+    };
     SeatColumns {
         matter: matter.get() as i64,
         person: seat.person.as_slice(),
-        role: role_column(seat.role),
+        role,
     }
 }
 
@@ -59,7 +42,11 @@ pub fn seat_of(
     if columns.matter != matter.get() as i64 {
         return Err(StoreFault::Store);
     }
-    let role = role_in(columns.role).ok_or(StoreFault::Store)?;
+    let role = match columns.role {
+        1 => Role::Client,
+        2 => Role::Lawyer,
+        _ => return Err(StoreFault::Store),
+    };
     let person = person_in(alloc, columns.person)?;
     Ok(Seat { person, role })
 }

@@ -1,13 +1,12 @@
 -- The parts of a schema that the shapes in the code describe.
-use Rattle.std.specs.Prelude.{ℕ, Bool, true, false, [], ◌∷◌, List, map, if◌then◌else◌}
+use Rattle.std.specs.Prelude.{ℕ, Bool, true, [], ◌∷◌, List, map, if◌then◌else◌}
 use Rattle.sqlite_value.specs.declared.value.Value.TheVariants.{Null}
 use Rattle.sqlite_value.specs.declared.keys.Collation.TheVariants.{Binary}
 use Rattle.sqlite_value.specs.Keys.{plain}
-use Rattle.sqlite_schema.specs.declared.schema.Action.TheVariants.{NoAction}
 use Rattle.sqlite_schema.specs.declared.schema.Column.{Column}
-use Rattle.sqlite_schema.specs.declared.schema.Reference.{Reference}
 use Rattle.sqlite_schema.specs.declared.schema.Table.{Table}
 use Rattle.sqlite_schema.specs.declared.schema.Index.{Index}
+use Rattle.sqlite_schema.specs.declared.schema.Schema.{Schema}
 use Rattle.sql_schema.specs.declared.shapes.ColumnShape.{ColumnShape}
 use Rattle.sql_schema.specs.declared.shapes.TableShape.{TableShape}
 use Rattle.sql_schema.specs.declared.shapes.IndexShape.{IndexShape}
@@ -26,17 +25,6 @@ column_of s = record {
 -- a list of the item if the condition holds, or an empty list
 abbrev pub one_if : {T : Type 0} → Bool → T → List T
 one_if b x = if b then x ∷ [] else []
-
--- a foreign key from the first column to one column of another table
-abbrev pub reference_by : List ℕ → List ℕ → Reference
-reference_by parent key = record {
-  columns = 1 ∷ [];
-  parent = parent;
-  parent_columns = key ∷ [];
-  on_delete = NoAction;
-  on_update = NoAction;
-  is_deferred = false;
-}
 
 abbrev pub table_of : TableShape → Table
 table_of s = record {
@@ -64,3 +52,7 @@ index_of s = record {
   order = plain;
   is_unique = true;
 }
+
+-- the schema of tables and indexes of these shapes, and nothing else
+abbrev pub schema_of : List TableShape → List IndexShape → Schema
+schema_of tables indexes = record { tables = map table_of tables; indexes = map index_of indexes; views = [] }

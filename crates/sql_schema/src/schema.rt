@@ -1,32 +1,22 @@
 //! Checks whether a schema is a book's.
 
 ghost use Rattle.std.specs.Prelude.{◌≡◌, ◌↔◌, Some, IsTrue};
-ghost use Rattle.sql_schema.specs.declared.layout.Layout.TheVariants.{Made, Moved};
 ghost use Rattle.sql_schema.specs.Old.{old_schema};
 ghost use Rattle.sql_schema.specs.Schema.{book_schema};
+ghost use Rattle.sql_schema.specs.Shapes.{schema_of};
 
 use crate::layout::Layout;
-use crate::tables::{
-    has_made_indexes, has_made_tables, has_moved_indexes, has_moved_tables, has_old_indexes,
-    has_old_tables,
-};
+use crate::shapes::{IndexShape, TableShape, are_all};
+use crate::tables::{MADE_INDEXES, MADE_TABLES, MOVED_INDEXES, MOVED_TABLES};
 use sqlite_schema::schema::Schema;
 
-fn is_made(schema: &Schema) -> bool
-    ensures sound { IsTrue result → schema.now ≡ book_schema Made }
-    ensures complete { schema.now ≡ book_schema Made → IsTrue result }
+// Whether the schema has tables and indexes of these shapes, and nothing else.
+fn is_of(schema: &Schema, tables: &[TableShape<'_>], indexes: &[IndexShape<'_>]) -> bool
+    ensures sound { IsTrue result → schema.now ≡ schema_of tables.now indexes.now }
+    ensures complete { schema.now ≡ schema_of tables.now indexes.now → IsTrue result }
 {
-    has_made_tables(schema.tables.as_slice())
-        && has_made_indexes(schema.indexes.as_slice())
-        && schema.views.is_empty()
-}
-
-fn is_moved(schema: &Schema) -> bool
-    ensures sound { IsTrue result → schema.now ≡ book_schema Moved }
-    ensures complete { schema.now ≡ book_schema Moved → IsTrue result }
-{
-    has_moved_tables(schema.tables.as_slice())
-        && has_moved_indexes(schema.indexes.as_slice())
+    are_all(schema.tables.as_slice(), tables)
+        && are_all(schema.indexes.as_slice(), indexes)
         && schema.views.is_empty()
 }
 
@@ -37,8 +27,8 @@ pub fn is_book_schema(schema: &Schema, layout: Layout) -> bool
     ensures complete { schema.now ≡ book_schema layout → IsTrue result }
 {
     match layout {
-        Layout::Made => is_made(schema),
-        Layout::Moved => is_moved(schema),
+        Layout::Made => is_of(schema, MADE_TABLES, MADE_INDEXES),
+        Layout::Moved => is_of(schema, MOVED_TABLES, MOVED_INDEXES),
     }
 }
 
@@ -61,7 +51,6 @@ pub fn is_old_schema(schema: &Schema) -> bool
     ensures sound { IsTrue result → schema.now ≡ old_schema }
     ensures complete { schema.now ≡ old_schema → IsTrue result }
 {
-    has_old_tables(schema.tables.as_slice())
-        && has_old_indexes(schema.indexes.as_slice())
-        && schema.views.is_empty()
+    // A moved book has the same, and behind it the three tables that replaced the old ones.
+    is_of(schema, &MOVED_TABLES[..9], &MOVED_INDEXES[..4])
 }

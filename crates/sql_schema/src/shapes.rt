@@ -3,16 +3,39 @@
 ghost use Rattle.std.specs.Prelude.{◌≡◌, [], ◌∷◌, IsTrue, map};
 ghost use Rattle.sqlite_value.specs.Keys.{plain};
 ghost use Rattle.sql_schema.specs.Schema.{reference_to};
-ghost use Rattle.sql_schema.specs.Shapes.{column_of, table_of, index_of, one_if, reference_by};
+ghost use Rattle.sql_schema.specs.Shapes.{one_if};
 
 use sqlite_items::Items;
-use sqlite_schema::code::Terms;
 use sqlite_schema::schema::{Action, Column, Index, Kind, Reference, Stamps, Table};
 use sqlite_value::keys::{Collation, Order};
 use sqlite_value::value::{Bytes, Value};
 
-// A shape describes a table without what is the same in every table. A `Table` owns its names, so the code cannot
-// have one as a literal; comparing with a shape does not allocate.
+/// What a part of a schema is compared with: the part without what is the same in each of its kind. A `Table` owns its
+/// names, so the code cannot have one as a literal; comparing with a shape does not allocate.
+pub(crate) trait Shape {
+    /// What it is the shape of.
+    type Part;
+
+    /// The part that has this shape.
+    ghost shaped: { Self → Self.Part };
+
+    /// Whether the part has this shape.
+    fn is(&self, part: &Self::Part) -> bool
+        ensures sound { IsTrue result → part.now ≡ shaped self.now }
+        ensures complete { part.now ≡ shaped self.now → IsTrue result };
+}
+
+// Whether the parts have these shapes, one each and in order.
+pub(crate) fn are_all<S: Shape>(parts: &[S::Part], shapes: &[S]) -> bool
+    ensures sound { IsTrue result → parts.now ≡ map S.shaped shapes.now }
+    ensures complete { parts.now ≡ map S.shaped shapes.now → IsTrue result }
+{
+    match (parts, shapes) {
+        ([], []) => true,
+        ([part, parts @ ..], [shape, shapes @ ..]) => shape.is(part) && are_all(parts, shapes),
+        _ => false,
+    }
+}
 
 /// What differs from column to column.
 #[derive(Clone, Copy)]
@@ -49,37 +72,11 @@ pub struct IndexShape<'a> {
     pub columns: &'a [usize],
 }
 
-fn is_null(value: &Value) -> bool
-    ensures sound { IsTrue result → value.now ≡ Value.Null }
-    ensures complete { value.now ≡ Value.Null → IsTrue result }
+fn is_name(name: &Bytes, wanted: &[u8]) -> bool
+    ensures sound { IsTrue result → name.now ≡ wanted.now }
+    ensures complete { name.now ≡ wanted.now → IsTrue result }
 {
-    match value {
-        Value::Null => true,
-        _ => false,
-    }
-}
-
-fn is_column(c: &Column, shape: &ColumnShape<'_>) -> bool
-    ensures sound { IsTrue result → c.now ≡ column_of shape.now }
-    ensures complete { c.now ≡ column_of shape.now → IsTrue result }
-{
-    is_name(&c.name, shape.name)
-        && c.kind == shape.kind
-        && c.is_strict == shape.is_strict
-        && c.not_null == shape.not_null
-        && c.collation == Collation::Binary
-        && is_null(&c.default)
-}
-
-fn are_columns(columns: &[Column], shapes: &[ColumnShape<'_>]) -> bool
-    ensures sound { IsTrue result → columns.now ≡ map column_of shapes.now }
-    ensures complete { columns.now ≡ map column_of shapes.now → IsTrue result }
-{
-    match (columns, shapes) {
-        ([], []) => true,
-        ([c, columns @ ..], [s, shapes @ ..]) => is_column(c, s) && are_columns(columns, shapes),
-        _ => false,
-    }
+    name.as_slice() == wanted
 }
 
 fn are_places(places: &Items<usize>, wanted: &[usize]) -> bool
@@ -111,20 +108,6 @@ fn are_orders(orders: &Items<Order>, is_indexed: bool) -> bool
     }
 }
 
-fn is_no_term(terms: &Terms) -> bool
-    ensures sound { IsTrue result → terms.now ≡ [] }
-    ensures complete { terms.now ≡ [] → IsTrue result }
-{
-    terms.roots.is_empty()
-}
-
-fn is_name(name: &Bytes, wanted: &[u8]) -> bool
-    ensures sound { IsTrue result → name.now ≡ wanted.now }
-    ensures complete { name.now ≡ wanted.now → IsTrue result }
-{
-    name.as_slice() == wanted
-}
-
 fn is_one_name(names: &Items<Bytes>, wanted: &[u8]) -> bool
     ensures sound { IsTrue result → names.now ≡ wanted.now ∷ [] }
     ensures complete { names.now ≡ wanted.now ∷ [] → IsTrue result }
@@ -135,23 +118,16 @@ fn is_one_name(names: &Items<Bytes>, wanted: &[u8]) -> bool
     }
 }
 
-fn is_reference(r: &Reference, parent: &[u8], key: &[u8]) -> bool
-    ensures sound { IsTrue result → r.now ≡ reference_by parent.now key.now }
-    ensures complete { r.now ≡ reference_by parent.now key.now → IsTrue result }
-{
-    are_places(&r.columns, &[1])
-        && is_name(&r.parent, parent)
-        && is_one_name(&r.parent_columns, key)
-        && r.on_delete == Action::NoAction
-        && r.on_update == Action::NoAction
-        && !r.is_deferred
-}
-
 fn is_reference_to(r: &Reference, parent: &[u8]) -> bool
     ensures sound { IsTrue result → r.now ≡ reference_to parent.now }
     ensures complete { r.now ≡ reference_to parent.now → IsTrue result }
 {
-    is_reference(r, parent, b"no")
+    are_places(&r.columns, &[1])
+        && is_name(&r.parent, parent)
+        && is_one_name(&r.parent_columns, b"no")
+        && r.on_delete == Action::NoAction
+        && r.on_update == Action::NoAction
+        && !r.is_deferred
 }
 
 fn are_references(references: &Items<Reference>, has_parent: bool, parent: &[u8]) -> bool
@@ -169,57 +145,62 @@ fn is_no_stamp(stamps: &Stamps) -> bool
     ensures sound { IsTrue result → stamps.now ≡ record { places = []; terms = []; formats = [] } }
     ensures complete { stamps.now ≡ record { places = []; terms = []; formats = [] } → IsTrue result }
 {
-    stamps.places.is_empty() && is_no_term(&stamps.terms) && stamps.formats.is_empty()
+    stamps.places.is_empty() && stamps.terms.roots.is_empty() && stamps.formats.is_empty()
 }
 
-fn is_table(t: &Table, shape: &TableShape<'_>) -> bool
-    ensures sound { IsTrue result → t.now ≡ table_of shape.now }
-    ensures complete { t.now ≡ table_of shape.now → IsTrue result }
-{
-    is_name(&t.name, shape.name)
-        && t.tree == shape.tree
-        && are_columns(t.columns.as_slice(), shape.columns)
-        && t.key == shape.key
-        && are_places(&t.primary, shape.primary)
-        && are_uniques(&t.uniques, shape.primary, shape.is_indexed)
-        && are_orders(&t.orders, shape.is_indexed)
-        && is_no_term(&t.checks)
-        && are_references(&t.references, shape.has_parent, shape.parent)
-        && t.computed.is_empty()
-        && is_no_stamp(&t.stamps)
-        && t.is_counted == shape.is_counted
-}
+impl Shape for ColumnShape<'_> {
+    ghost use Rattle.sql_schema.specs.Shapes.{column_of};
 
-pub(crate) fn are_tables(tables: &[Table], shapes: &[TableShape<'_>]) -> bool
-    ensures sound { IsTrue result → tables.now ≡ map table_of shapes.now }
-    ensures complete { tables.now ≡ map table_of shapes.now → IsTrue result }
-{
-    match (tables, shapes) {
-        ([], []) => true,
-        ([t, tables @ ..], [s, shapes @ ..]) => is_table(t, s) && are_tables(tables, shapes),
-        _ => false,
+    type Part = Column;
+
+    ghost shaped = { column_of };
+
+    fn is(&self, column: &Column) -> bool {
+        is_name(&column.name, self.name)
+            && column.kind == self.kind
+            && column.is_strict == self.is_strict
+            && column.not_null == self.not_null
+            && column.collation == Collation::Binary
+            && matches!(column.default, Value::Null)
     }
 }
 
-fn is_index(i: &Index, shape: &IndexShape<'_>) -> bool
-    ensures sound { IsTrue result → i.now ≡ index_of shape.now }
-    ensures complete { i.now ≡ index_of shape.now → IsTrue result }
-{
-    is_name(&i.name, shape.name)
-        && i.tree == shape.tree
-        && i.table == shape.table
-        && are_places(&i.columns, shape.columns)
-        && i.order.digits == 0
-        && i.is_unique
+impl Shape for TableShape<'_> {
+    ghost use Rattle.sql_schema.specs.Shapes.{table_of};
+
+    type Part = Table;
+
+    ghost shaped = { table_of };
+
+    fn is(&self, table: &Table) -> bool {
+        is_name(&table.name, self.name)
+            && table.tree == self.tree
+            && are_all(table.columns.as_slice(), self.columns)
+            && table.key == self.key
+            && are_places(&table.primary, self.primary)
+            && are_uniques(&table.uniques, self.primary, self.is_indexed)
+            && are_orders(&table.orders, self.is_indexed)
+            && table.checks.roots.is_empty()
+            && are_references(&table.references, self.has_parent, self.parent)
+            && table.computed.is_empty()
+            && is_no_stamp(&table.stamps)
+            && table.is_counted == self.is_counted
+    }
 }
 
-pub(crate) fn are_indexes(indexes: &[Index], shapes: &[IndexShape<'_>]) -> bool
-    ensures sound { IsTrue result → indexes.now ≡ map index_of shapes.now }
-    ensures complete { indexes.now ≡ map index_of shapes.now → IsTrue result }
-{
-    match (indexes, shapes) {
-        ([], []) => true,
-        ([i, indexes @ ..], [s, shapes @ ..]) => is_index(i, s) && are_indexes(indexes, shapes),
-        _ => false,
+impl Shape for IndexShape<'_> {
+    ghost use Rattle.sql_schema.specs.Shapes.{index_of};
+
+    type Part = Index;
+
+    ghost shaped = { index_of };
+
+    fn is(&self, index: &Index) -> bool {
+        is_name(&index.name, self.name)
+            && index.tree == self.tree
+            && index.table == self.table
+            && are_places(&index.columns, self.columns)
+            && index.order.digits == 0
+            && index.is_unique
     }
 }

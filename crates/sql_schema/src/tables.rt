@@ -1,512 +1,197 @@
-//! The expected shapes of a book's tables. Written by tools/book-tables.
+//! The shapes of a book's tables. Written by tools/book-tables.
 
-ghost use Rattle.std.specs.Prelude.{◌≡◌, IsTrue};
-ghost use Rattle.sql_schema.specs.Old.{old_tables, old_indexes};
-ghost use Rattle.sql_schema.specs.Schema.{made_tables, made_indexes, moved_tables, moved_indexes};
+use crate::shapes::{ColumnShape, IndexShape, TableShape};
+use sqlite_schema::schema::Kind;
 
-use crate::shapes::{ColumnShape, IndexShape, TableShape, are_indexes, are_tables};
-use sqlite_schema::schema::{Index, Kind, Table};
-
-macro_rules! integer {
-    ($name:expr) => {
-        ColumnShape {
+// A table like another, but for its tree, its name and its columns.
+macro_rules! table {
+    ($like:expr, $tree:literal, $name:literal: $($kind:ident $column:literal),*) => {
+        TableShape {
             name: $name,
-            kind: Kind::Integer,
-            is_strict: true,
-            not_null: true,
+            tree: $tree,
+            columns: &[$(ColumnShape {
+                name: $column,
+                kind: Kind::$kind,
+                is_strict: true,
+                not_null: true,
+            }),*],
+            ..$like
         }
     };
 }
 
-macro_rules! text {
-    ($name:expr) => {
-        ColumnShape {
+// The index of a table's primary key, which is made right after the table.
+macro_rules! index {
+    ($name:literal, $table:expr, $columns:expr) => {
+        IndexShape {
             name: $name,
-            kind: Kind::Text,
-            is_strict: true,
-            not_null: true,
+            tree: $table.tree + 1,
+            table: $table.tree,
+            columns: $columns,
         }
     };
 }
 
-// A column of sqlite_sequence, the database's own table of AUTOINCREMENT counts.
-macro_rules! loose {
-    ($name:expr) => {
+// No key.
+const PLAIN: TableShape<'static> = TableShape {
+    name: b"",
+    tree: 0,
+    columns: &[],
+    key: None,
+    primary: &[],
+    is_indexed: false,
+    has_parent: false,
+    parent: b"",
+    is_counted: false,
+};
+
+// The first column numbers the rows.
+const NUMBERED: TableShape<'static> = TableShape {
+    key: Some(0),
+    primary: &[0],
+    ..PLAIN
+};
+
+// The same, with AUTOINCREMENT.
+const COUNTED: TableShape<'static> = TableShape {
+    is_counted: true,
+    ..NUMBERED
+};
+
+// A primary key of the first two columns.
+const KEYED: TableShape<'static> = TableShape {
+    primary: &[1, 2],
+    is_indexed: true,
+    ..PLAIN
+};
+
+// A column of the database's own table of AUTOINCREMENT counts.
+const LOOSE: ColumnShape<'static> = ColumnShape {
+    name: b"",
+    kind: Kind::Any,
+    is_strict: false,
+    not_null: false,
+};
+
+const BOOK: TableShape<'static> = table![
+    PLAIN, 0, b"book": Integer b"version"
+];
+
+const OLD_MATTER: TableShape<'static> = table![
+    NUMBERED, 1, b"matter": Integer b"no", Text b"client", Integer b"opened", Integer b"closed", Integer b"last",
+    Integer b"entries", Integer b"held", Integer b"available", Integer b"disputed", Integer b"fees",
+    Integer b"claims", Integer b"pending"
+];
+
+const OLD_SEAT: TableShape<'static> = TableShape {
+    has_parent: true,
+    parent: b"matter",
+    ..table![
+        KEYED, 2, b"seat": Integer b"matter", Text b"person", Integer b"role"
+    ]
+};
+
+const OLD_ENTRY: TableShape<'static> = TableShape {
+    has_parent: true,
+    parent: b"matter",
+    ..table![
+        KEYED, 4, b"entry": Integer b"matter", Integer b"no", Integer b"kind", Integer b"day", Integer b"amount",
+        Integer b"state", Integer b"fund", Integer b"of_no", Text b"text_a", Text b"text_b", Text b"text_c",
+        Integer b"day_done", Integer b"day_undone", Integer b"day_bank", Text b"bank_ref", Integer b"part",
+        Integer b"left_now"
+    ]
+};
+
+const MATTER: TableShape<'static> = table![
+    NUMBERED, 1, b"matter_v2": Integer b"no", Text b"client", Integer b"opened", Integer b"closed",
+    Integer b"last", Integer b"entries", Integer b"held", Integer b"available", Integer b"disputed",
+    Integer b"fees", Integer b"claims", Integer b"pending", Integer b"purged"
+];
+
+const SEAT: TableShape<'static> = TableShape {
+    name: b"seat_v2",
+    parent: b"matter_v2",
+    ..OLD_SEAT
+};
+
+const ENTRY: TableShape<'static> = TableShape {
+    name: b"entry_v2",
+    parent: b"matter_v2",
+    ..OLD_ENTRY
+};
+
+const JOURNAL: TableShape<'static> = table![
+    COUNTED, 6, b"journal": Integer b"seq", Integer b"matter", Integer b"entry", Integer b"day", Integer b"amount"
+];
+
+const FIRM_LINE: TableShape<'static> = table![
+    COUNTED, 8, b"firm_line": Integer b"seq", Integer b"day", Text b"bank_ref", Integer b"amount", Text b"text"
+];
+
+const EXCEPTION: TableShape<'static> = TableShape {
+    primary: &[1, 2, 3, 4, 5],
+    ..table![
+        KEYED, 9, b"exception": Integer b"day", Text b"reference", Text b"bank_ref", Integer b"amount", Text b"text"
+    ]
+};
+
+const BALANCE: TableShape<'static> = table![
+    KEYED, 11, b"balance": Integer b"kind", Integer b"day", Integer b"amount"
+];
+
+const SEQUENCE: TableShape<'static> = TableShape {
+    name: b"sqlite_sequence",
+    tree: 7,
+    columns: &[
         ColumnShape {
-            name: $name,
-            kind: Kind::Any,
-            is_strict: false,
-            not_null: false,
-        }
-    };
-}
+            name: b"name",
+            ..LOOSE
+        },
+        ColumnShape {
+            name: b"seq",
+            ..LOOSE
+        },
+    ],
+    ..PLAIN
+};
 
-macro_rules! book {
-    ($tree:expr) => {
-        TableShape {
-            name: b"book",
-            tree: $tree,
-            columns: &[
-                integer!(b"version"),
-            ],
-            key: None,
-            primary: &[],
-            is_indexed: false,
-            has_parent: false,
-            parent: b"",
-            is_counted: false,
-        }
-    };
-}
+pub(crate) const MADE_TABLES: &[TableShape<'static>] = &[
+    BOOK, MATTER, SEAT, ENTRY, JOURNAL, SEQUENCE, FIRM_LINE, EXCEPTION, BALANCE,
+];
 
-macro_rules! old_matter {
-    ($tree:expr) => {
-        TableShape {
-            name: b"matter",
-            tree: $tree,
-            columns: &[
-                integer!(b"no"),
-                text!(b"client"),
-                integer!(b"opened"),
-                integer!(b"closed"),
-                integer!(b"last"),
-                integer!(b"entries"),
-                integer!(b"held"),
-                integer!(b"available"),
-                integer!(b"disputed"),
-                integer!(b"fees"),
-                integer!(b"claims"),
-                integer!(b"pending"),
-            ],
-            key: Some(0),
-            primary: &[0],
-            is_indexed: false,
-            has_parent: false,
-            parent: b"",
-            is_counted: false,
-        }
-    };
-}
+pub(crate) const MADE_INDEXES: &[IndexShape<'static>] = &[
+    index!(b"sqlite_autoindex_seat_v2_1", SEAT, &[1, 2]),
+    index!(b"sqlite_autoindex_entry_v2_1", ENTRY, &[1, 2]),
+    index!(b"sqlite_autoindex_exception_1", EXCEPTION, &[1, 2, 3, 4, 5]),
+    index!(b"sqlite_autoindex_balance_1", BALANCE, &[1, 2]),
+];
 
-macro_rules! old_seat {
-    ($tree:expr) => {
-        TableShape {
-            name: b"seat",
-            tree: $tree,
-            columns: &[
-                integer!(b"matter"),
-                text!(b"person"),
-                integer!(b"role"),
-            ],
-            key: None,
-            primary: &[1, 2],
-            is_indexed: true,
-            has_parent: true,
-            parent: b"matter",
-            is_counted: false,
-        }
-    };
-}
+const MOVED_MATTER: TableShape<'static> = TableShape { tree: 13, ..MATTER };
 
-macro_rules! old_entry {
-    ($tree:expr) => {
-        TableShape {
-            name: b"entry",
-            tree: $tree,
-            columns: &[
-                integer!(b"matter"),
-                integer!(b"no"),
-                integer!(b"kind"),
-                integer!(b"day"),
-                integer!(b"amount"),
-                integer!(b"state"),
-                integer!(b"fund"),
-                integer!(b"of_no"),
-                text!(b"text_a"),
-                text!(b"text_b"),
-                text!(b"text_c"),
-                integer!(b"day_done"),
-                integer!(b"day_undone"),
-                integer!(b"day_bank"),
-                text!(b"bank_ref"),
-                integer!(b"part"),
-                integer!(b"left_now"),
-            ],
-            key: None,
-            primary: &[1, 2],
-            is_indexed: true,
-            has_parent: true,
-            parent: b"matter",
-            is_counted: false,
-        }
-    };
-}
+const MOVED_SEAT: TableShape<'static> = TableShape { tree: 14, ..SEAT };
 
-macro_rules! matter {
-    ($tree:expr) => {
-        TableShape {
-            name: b"matter_v2",
-            tree: $tree,
-            columns: &[
-                integer!(b"no"),
-                text!(b"client"),
-                integer!(b"opened"),
-                integer!(b"closed"),
-                integer!(b"last"),
-                integer!(b"entries"),
-                integer!(b"held"),
-                integer!(b"available"),
-                integer!(b"disputed"),
-                integer!(b"fees"),
-                integer!(b"claims"),
-                integer!(b"pending"),
-                integer!(b"purged"),
-            ],
-            key: Some(0),
-            primary: &[0],
-            is_indexed: false,
-            has_parent: false,
-            parent: b"",
-            is_counted: false,
-        }
-    };
-}
+const MOVED_ENTRY: TableShape<'static> = TableShape { tree: 16, ..ENTRY };
 
-macro_rules! seat {
-    ($tree:expr) => {
-        TableShape {
-            name: b"seat_v2",
-            tree: $tree,
-            columns: &[
-                integer!(b"matter"),
-                text!(b"person"),
-                integer!(b"role"),
-            ],
-            key: None,
-            primary: &[1, 2],
-            is_indexed: true,
-            has_parent: true,
-            parent: b"matter_v2",
-            is_counted: false,
-        }
-    };
-}
+pub(crate) const MOVED_TABLES: &[TableShape<'static>] = &[
+    BOOK,
+    OLD_MATTER,
+    OLD_SEAT,
+    OLD_ENTRY,
+    JOURNAL,
+    SEQUENCE,
+    FIRM_LINE,
+    EXCEPTION,
+    BALANCE,
+    MOVED_MATTER,
+    MOVED_SEAT,
+    MOVED_ENTRY,
+];
 
-macro_rules! entry {
-    ($tree:expr) => {
-        TableShape {
-            name: b"entry_v2",
-            tree: $tree,
-            columns: &[
-                integer!(b"matter"),
-                integer!(b"no"),
-                integer!(b"kind"),
-                integer!(b"day"),
-                integer!(b"amount"),
-                integer!(b"state"),
-                integer!(b"fund"),
-                integer!(b"of_no"),
-                text!(b"text_a"),
-                text!(b"text_b"),
-                text!(b"text_c"),
-                integer!(b"day_done"),
-                integer!(b"day_undone"),
-                integer!(b"day_bank"),
-                text!(b"bank_ref"),
-                integer!(b"part"),
-                integer!(b"left_now"),
-            ],
-            key: None,
-            primary: &[1, 2],
-            is_indexed: true,
-            has_parent: true,
-            parent: b"matter_v2",
-            is_counted: false,
-        }
-    };
-}
-
-macro_rules! journal {
-    ($tree:expr) => {
-        TableShape {
-            name: b"journal",
-            tree: $tree,
-            columns: &[
-                integer!(b"seq"),
-                integer!(b"matter"),
-                integer!(b"entry"),
-                integer!(b"day"),
-                integer!(b"amount"),
-            ],
-            key: Some(0),
-            primary: &[0],
-            is_indexed: false,
-            has_parent: false,
-            parent: b"",
-            is_counted: true,
-        }
-    };
-}
-
-macro_rules! firm_line {
-    ($tree:expr) => {
-        TableShape {
-            name: b"firm_line",
-            tree: $tree,
-            columns: &[
-                integer!(b"seq"),
-                integer!(b"day"),
-                text!(b"bank_ref"),
-                integer!(b"amount"),
-                text!(b"text"),
-            ],
-            key: Some(0),
-            primary: &[0],
-            is_indexed: false,
-            has_parent: false,
-            parent: b"",
-            is_counted: true,
-        }
-    };
-}
-
-macro_rules! exception {
-    ($tree:expr) => {
-        TableShape {
-            name: b"exception",
-            tree: $tree,
-            columns: &[
-                integer!(b"day"),
-                text!(b"reference"),
-                text!(b"bank_ref"),
-                integer!(b"amount"),
-                text!(b"text"),
-            ],
-            key: None,
-            primary: &[1, 2, 3, 4, 5],
-            is_indexed: true,
-            has_parent: false,
-            parent: b"",
-            is_counted: false,
-        }
-    };
-}
-
-macro_rules! balance {
-    ($tree:expr) => {
-        TableShape {
-            name: b"balance",
-            tree: $tree,
-            columns: &[
-                integer!(b"kind"),
-                integer!(b"day"),
-                integer!(b"amount"),
-            ],
-            key: None,
-            primary: &[1, 2],
-            is_indexed: true,
-            has_parent: false,
-            parent: b"",
-            is_counted: false,
-        }
-    };
-}
-
-macro_rules! sequence {
-    ($tree:expr) => {
-        TableShape {
-            name: b"sqlite_sequence",
-            tree: $tree,
-            columns: &[
-                loose!(b"name"),
-                loose!(b"seq"),
-            ],
-            key: None,
-            primary: &[],
-            is_indexed: false,
-            has_parent: false,
-            parent: b"",
-            is_counted: false,
-        }
-    };
-}
-
-pub(crate) fn has_made_tables(tables: &[Table]) -> bool
-    ensures sound { IsTrue result → tables.now ≡ made_tables }
-    ensures complete { tables.now ≡ made_tables → IsTrue result }
-{
-    are_tables(
-        tables,
-        &[
-            book!(0),
-            matter!(1),
-            seat!(2),
-            entry!(4),
-            journal!(6),
-            sequence!(7),
-            firm_line!(8),
-            exception!(9),
-            balance!(11),
-        ],
-    )
-}
-
-pub(crate) fn has_made_indexes(indexes: &[Index]) -> bool
-    ensures sound { IsTrue result → indexes.now ≡ made_indexes }
-    ensures complete { indexes.now ≡ made_indexes → IsTrue result }
-{
-    are_indexes(
-        indexes,
-        &[
-            IndexShape {
-                name: b"sqlite_autoindex_seat_v2_1",
-                tree: 3,
-                table: 2,
-                columns: &[1, 2],
-            },
-            IndexShape {
-                name: b"sqlite_autoindex_entry_v2_1",
-                tree: 5,
-                table: 4,
-                columns: &[1, 2],
-            },
-            IndexShape {
-                name: b"sqlite_autoindex_exception_1",
-                tree: 10,
-                table: 9,
-                columns: &[1, 2, 3, 4, 5],
-            },
-            IndexShape {
-                name: b"sqlite_autoindex_balance_1",
-                tree: 12,
-                table: 11,
-                columns: &[1, 2],
-            },
-        ],
-    )
-}
-
-pub(crate) fn has_moved_tables(tables: &[Table]) -> bool
-    ensures sound { IsTrue result → tables.now ≡ moved_tables }
-    ensures complete { tables.now ≡ moved_tables → IsTrue result }
-{
-    are_tables(
-        tables,
-        &[
-            book!(0),
-            old_matter!(1),
-            old_seat!(2),
-            old_entry!(4),
-            journal!(6),
-            sequence!(7),
-            firm_line!(8),
-            exception!(9),
-            balance!(11),
-            matter!(13),
-            seat!(14),
-            entry!(16),
-        ],
-    )
-}
-
-pub(crate) fn has_moved_indexes(indexes: &[Index]) -> bool
-    ensures sound { IsTrue result → indexes.now ≡ moved_indexes }
-    ensures complete { indexes.now ≡ moved_indexes → IsTrue result }
-{
-    are_indexes(
-        indexes,
-        &[
-            IndexShape {
-                name: b"sqlite_autoindex_seat_1",
-                tree: 3,
-                table: 2,
-                columns: &[1, 2],
-            },
-            IndexShape {
-                name: b"sqlite_autoindex_entry_1",
-                tree: 5,
-                table: 4,
-                columns: &[1, 2],
-            },
-            IndexShape {
-                name: b"sqlite_autoindex_exception_1",
-                tree: 10,
-                table: 9,
-                columns: &[1, 2, 3, 4, 5],
-            },
-            IndexShape {
-                name: b"sqlite_autoindex_balance_1",
-                tree: 12,
-                table: 11,
-                columns: &[1, 2],
-            },
-            IndexShape {
-                name: b"sqlite_autoindex_seat_v2_1",
-                tree: 15,
-                table: 14,
-                columns: &[1, 2],
-            },
-            IndexShape {
-                name: b"sqlite_autoindex_entry_v2_1",
-                tree: 17,
-                table: 16,
-                columns: &[1, 2],
-            },
-        ],
-    )
-}
-
-pub(crate) fn has_old_tables(tables: &[Table]) -> bool
-    ensures sound { IsTrue result → tables.now ≡ old_tables }
-    ensures complete { tables.now ≡ old_tables → IsTrue result }
-{
-    are_tables(
-        tables,
-        &[
-            book!(0),
-            old_matter!(1),
-            old_seat!(2),
-            old_entry!(4),
-            journal!(6),
-            sequence!(7),
-            firm_line!(8),
-            exception!(9),
-            balance!(11),
-        ],
-    )
-}
-
-pub(crate) fn has_old_indexes(indexes: &[Index]) -> bool
-    ensures sound { IsTrue result → indexes.now ≡ old_indexes }
-    ensures complete { indexes.now ≡ old_indexes → IsTrue result }
-{
-    are_indexes(
-        indexes,
-        &[
-            IndexShape {
-                name: b"sqlite_autoindex_seat_1",
-                tree: 3,
-                table: 2,
-                columns: &[1, 2],
-            },
-            IndexShape {
-                name: b"sqlite_autoindex_entry_1",
-                tree: 5,
-                table: 4,
-                columns: &[1, 2],
-            },
-            IndexShape {
-                name: b"sqlite_autoindex_exception_1",
-                tree: 10,
-                table: 9,
-                columns: &[1, 2, 3, 4, 5],
-            },
-            IndexShape {
-                name: b"sqlite_autoindex_balance_1",
-                tree: 12,
-                table: 11,
-                columns: &[1, 2],
-            },
-        ],
-    )
-}
+pub(crate) const MOVED_INDEXES: &[IndexShape<'static>] = &[
+    index!(b"sqlite_autoindex_seat_1", OLD_SEAT, &[1, 2]),
+    index!(b"sqlite_autoindex_entry_1", OLD_ENTRY, &[1, 2]),
+    index!(b"sqlite_autoindex_exception_1", EXCEPTION, &[1, 2, 3, 4, 5]),
+    index!(b"sqlite_autoindex_balance_1", BALANCE, &[1, 2]),
+    index!(b"sqlite_autoindex_seat_v2_1", MOVED_SEAT, &[1, 2]),
+    index!(b"sqlite_autoindex_entry_v2_1", MOVED_ENTRY, &[1, 2]),
+];

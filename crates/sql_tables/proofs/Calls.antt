@@ -1,25 +1,28 @@
 -- From what a call of `sqlite` says of a text to the meaning of a query that is written out.
-use Rattle.std.proofs.Common.{◌≡◌, ◌⊎◌, inl, inr, ℕ, Bool, true, false, cond, unwrap_or, refl, List, [], None, Result, Ok, Err, IfOk, IfErr, IsOk, OnOk, IsTrue, subst, sym, ◌∙◌}
+use Rattle.std.proofs.Common.{◌≡◌, ◌⊎◌, inl, inr, ℕ, Bool, true, false, cond, unwrap_or, refl, List, [], None, Result, Ok, Err, IfOk, IfErr, IsOk, OnOk, IsTrue, subst, sym, ◌∙◌, arith}
 use Rattle.sqlite_value.specs.declared.value.Value.TheVariants.{Null}
 use Rattle.sqlite_value.specs.Order.{Row}
 use Rattle.sqlite_trees.specs.Tree.{Trees}
 use Rattle.sqlite_sql.specs.Query.{Query, IsAnswer}
 use Rattle.sqlite_sql.specs.Program.{overlay}
 use Rattle.sqlite_schema.specs.declared.schema.Schema.{Schema}
+use Rattle.sqlite_schema.specs.declared.command.Command.{Command}
 use Rattle.sqlite_schema.specs.declared.command.Command.TheVariants.{Select}
 use Rattle.sqlite.specs.Clock.{timed}
 use Rattle.sqlite.specs.Listing.{understood, reads_listing}
 use Rattle.sqlite.specs.declared.error.Error.{Error}
-use Rattle.sqlite.specs.State.{State, Shown, ShowsRows, IsUnchanged, IsRolledBack, IsNotRun, FailsToQuery, FailsToShow}
-use Rattle.sql_schema.specs.declared.layout.Layout.{Layout}
-use Rattle.sql_schema.specs.Schema.{book_schema}
-use Rattle.sql_tables.specs.Standing.{Stands}
-use Rattle.sql_tables.specs.Reading.{IsKept, LeavesAll, IsSelect, IsAsked, IsRead}
-use Rattle.sql_tables.proofs.Selects.{ReturnsNothing, select_returns}
-use Rattle.std.proofs.lemmas.Result.{IfOk-weaker}
+use Rattle.sqlite.specs.State.{State, HasCleanDisk, Survives, CommitsShowing, Shown, ShowsRows, IsUnchanged, IsRolledBack, IsNotRun, FailsToQuery, FailsToShow}
+use Rattle.sql_tables.specs.Reading.{IsKept, LeavesAll, IsSelect}
+use Rattle.sql_tables.proofs.Selects.{ReturnsNothing, select_returns, select_commits}
+use Rattle.sqlite.proofs.StateLemmas.{survives_weaker}
 use Rattle.sqlite.proofs.Callers.{IsPlain, command_of, reads_as}
 
--- what is proved of the text of a query, by running its meaning
+-- what is proved of the text of a write, by running its meaning
+pub record IsCommand (schema : Schema) (sql : List ℕ) (command : Command) : Type 0 where
+  pub is : command_of (understood schema sql) ≡ command
+  pub plain : IsPlain (understood schema sql)
+
+-- what is proved of the text of a query
 pub record IsQuery (schema : Schema) (sql : List ℕ) (q : Query) (names : List (List ℕ)) : Type 0 where
   pub is : command_of (understood schema sql) ≡ Select (record { lets = []; body = q }) names
   pub plain : IsPlain (understood schema sql)
@@ -34,15 +37,6 @@ shown_unchanged sql params old new rows is h =
 module _ {schema : Schema} {sql : List ℕ} {q : Query} {names : List (List ℕ)} (it : IsQuery schema sql q names) (params : Row) (old new : State) (has : old.now.schema ≡ schema) where
   pub answers : (rows : List Row) → Shown sql params old new rows → IsAnswer q (overlay old.now.trees []) params rows
   answers rows h = (reads_as sql params old new schema has _ it.is it.plain it.unlisted rows h).answer Null
-
--- a text whose answers are known reads
-pub is_read : {T : Type 0} (items : T → List Row) {sql : List ℕ} {query : Layout → Query} {names : List (List ℕ)} (asks : (l : Layout) → IsQuery (book_schema l) sql (query l) names) → IsSelect sql → (rows : Layout → List Row) (params : Row)
-    (old new : State) (result : Result T Error) → ((l : Layout) → Stands l old.now → (found : List Row) → IsAnswer (query l) (overlay old.now.trees []) params found → found ≡ rows l)
-    → IsAsked result items sql params old new → IsRead result items rows old new
-is_read items asks selects rows params old new result answer asked = record {
-  found = λ l clean s. IfOk-weaker result _ _ (λ r shown. answer l s (items r) (answers (asks l) params old new s.schema (items r) shown)) (asked.ok clean);
-  left = asked.left selects;
-}
 
 given_none : {T : Type 0} (b : Bool) (x : T) → unwrap_or (cond b None None) x ≡ x
 given_none true x = refl
@@ -80,7 +74,7 @@ pub kept_either : (old new : State) → (IsTrue old.is_open → old.now ≡ old.
 kept_either old new settled still (inl h) = kept_unchanged old new h
 kept_either old new settled still (inr h) = kept_undone old new settled still h
 
-pub asked_kept : {T : Type 0} (rows_of : T → List Row) (sql : List ℕ) (params : Row) (old new : State) (r : Result T Error) → IsSelect sql → (IsTrue old.is_open → old.now ≡ old.committed) → IsTrue new.is_open
+asked_kept : {T : Type 0} (rows_of : T → List Row) (sql : List ℕ) (params : Row) (old new : State) (r : Result T Error) → IsSelect sql → (IsTrue old.is_open → old.now ≡ old.committed) → IsTrue new.is_open
     → IfOk r (λ rows. Shown sql params old new (rows_of rows)) → IfErr r (FailsToQuery sql params old new) → IsKept old new
 asked_kept rows_of sql params old new (Ok rows) is settled still shown fails = kept_unchanged old new (shown_unchanged sql params old new (rows_of rows) is shown)
 asked_kept rows_of sql params old new (Err e) is settled still shown fails = kept_either old new settled still (fails_kept sql params old new e is fails)
@@ -91,23 +85,20 @@ pub when_shown : {T : Type 0} (rows_of : T → List Row) (sql : List ℕ) (param
 when_shown rows_of sql params old new (Ok rows) is shown = (shown_unchanged sql params old new (rows_of rows) is shown).0.is_open
 when_shown rows_of sql params old new (Err e) is shown = tt
 
+-- a SELECT changes nothing
+pub asked_left : {T : Type 0} (rows_of : T → List Row) (sql : List ℕ) (params : Row) (old new : State) (r : Result T Error) → IsSelect sql → (IsTrue old.is_open → old.now ≡ old.committed) → Survives old new (CommitsShowing sql params old)
+    → (HasCleanDisk new → IfOk r (λ rows. Shown sql params old new (rows_of rows))) → (HasCleanDisk new → IfErr r (FailsToQuery sql params old new)) → LeavesAll r old new
+asked_left rows_of sql params old new r is settled survives shown fails = record {
+  same = λ clean still. asked_kept rows_of sql params old new r is settled still (shown clean) (fails clean);
+  serves = λ clean. when_shown rows_of sql params old new r is (shown clean);
+  was_clean = λ clean. omega (arith, clean, survives.clean);
+  crash = λ clean. (survives_weaker old new _ (λ _. ⊥) (λ _ db. select_commits sql params old db is) survives).crash clean;
+}
+
 -- Calls that read, one after the other.
 
 kept_then : (a b c : State) → IsKept a b → IsKept b c → IsKept a c
 kept_then a b c p q = record { was_open = p.was_open; now = q.now ∙ p.now; committed = q.committed ∙ p.committed }
-
--- a call that asks nothing of the store leaves all, where the connection is open
-pub leaves_none : {T E : Type 0} (r : Result T E) (s : State) → IsTrue s.is_open → LeavesAll r s s
-leaves_none r s opened = record {
-  same = λ clean still. record { was_open = still; now = refl; committed = refl };
-  serves = λ clean. on_ok r opened;
-  was_clean = λ clean. clean;
-  crash = λ clean db may. inl may;
-}
-  where
-    on_ok : {T E P : Type 0} (r : Result T E) → P → OnOk r P
-    on_ok (Ok x) p = p
-    on_ok (Err e) p = tt
 
 -- what is told of a call that reads does not matter, but where a call answers
 pub leaves_on : {T U E F : Type 0} (r : Result T E) (q : Result U F) (a b : State) → (IsOk q → IsOk r) → LeavesAll r a b → LeavesAll q a b

@@ -14,7 +14,7 @@ use Rattle.sqlite.specs.Effect.{Database}
 use Rattle.sql_schema.specs.declared.layout.Layout.{Layout}
 use Rattle.sql_schema.specs.Schema.{matter_tree, seat_tree, entry_tree, journal_tree, firm_line_tree, exception_tree, balance_tree}
 use Rattle.sql_tables.specs.Texts.{head_read_query, next_head_query, head_scan_query, seats_read_query, entry_read_query, entries_read_query, balance_read_query, journal_scan_query, firm_scan_query, exception_scan_query, balance_scan_query}
-use Rattle.sql_tables.specs.Rows.{text_cmp, Head, head_row, head_shown, next_shown, no_shown, heads_in, is_head, is_past, Seat, seat_row, seat_cmp, seat_shown, seats_in, seats_of, is_seat_of, Entry, entry_row, entry_cmp, entry_shown, numbered_shown, entries_in, entries_of, is_entry_of, is_entry_at, Movement, movement_row, movement_values, movements_in, FirmLine, firm_line_row, firm_line_values, firm_lines_in, Exception, exception_row, exception_cmp, exception_values, exceptions_in, Balance, balance_row, balance_cmp, balance_shown, balance_values, balances_in, is_balance_at}
+use Rattle.sql_tables.specs.Rows.{text_cmp, Head, head_row, head_shown, next_shown, no_shown, heads_in, is_head, is_past, Seat, seat_row, seat_cmp, seat_shown, seats_in, seats_of, is_seat_of, Entry, entry_row, entry_cmp, numbered_shown, entries_in, entries_of, is_entry_of, is_entry_at, Movement, movement_row, movement_values, movements_in, FirmLine, firm_line_row, firm_line_values, firm_lines_in, Exception, exception_row, exception_cmp, exception_values, exceptions_in, Balance, balance_row, balance_cmp, balance_shown, balance_values, balances_in, is_balance_at}
 use Rattle.sql_tables.specs.Standing.{Stands}
 use Rattle.sql_tables.proofs.Calls.{no_lets}
 
@@ -32,12 +32,12 @@ next_head_answer l now n s rows answer =
     let source = last_table (overlay db []) (matter_tree l) head_row (λ (x : Head). x.no) xs (no_lets db _ ∙ s.heads.stored) s.heads.rise (at_end (overlay db [])) in
     sym (map-id rows) ∙ answer_by_keys (next_head_query l) (overlay db []) (Int n ∷ []) source (is_past n) (λ x. last_term (at_ints false Gt x.no n)) (λ (r : Row). r) next_shown (λ x. refl) refl refl (λ a b. last_key (value_cmp-Int a.no b.no)) rows answer
 
-pub entry_read_answer : (l : Layout) (now : Database) (m : ℤ) (n : ℤ) → Stands l now → (rows : List Row) → IsAnswer (entry_read_query l) (overlay now.trees []) (Int m ∷ Int n ∷ []) rows → rows ≡ map entry_shown (filter (is_entry_at m n) (entries_in l now.trees))
+pub entry_read_answer : (l : Layout) (now : Database) (m : ℤ) (n : ℤ) → Stands l now → (rows : List Row) → IsAnswer (entry_read_query l) (overlay now.trees []) (Int m ∷ Int n ∷ []) rows → rows ≡ map numbered_shown (filter (is_entry_at m n) (entries_in l now.trees))
 entry_read_answer l now m n s rows answer =
     let db = now.trees in
     let xs = entries_in l db in
     let source = last_table (overlay db []) (entry_tree l) entry_row (λ (x : Entry). x.id) xs (no_lets db _ ∙ s.entries.stored) s.entries.rise (at_end (overlay db [])) in
-    sym (map-id rows) ∙ answer_by_keys (entry_read_query l) (overlay db []) (Int m ∷ Int n ∷ []) source (is_entry_at m n) (λ x. then_term (at_ints false Eq x.matter m) (last_term (at_ints false Eq x.no n))) (λ (r : Row). r) entry_shown (λ x. refl) refl refl (λ a b. last_key (value_cmp-Int a.id b.id)) rows answer
+    sym (map-id rows) ∙ answer_by_keys (entry_read_query l) (overlay db []) (Int m ∷ Int n ∷ []) source (is_entry_at m n) (λ x. then_term (at_ints false Eq x.matter m) (last_term (at_ints false Eq x.no n))) (λ (r : Row). r) numbered_shown (λ x. refl) refl refl (λ a b. last_key (value_cmp-Int a.id b.id)) rows answer
 
 pub balance_read_answer : (l : Layout) (now : Database) (k : ℤ) (d : ℤ) → Stands l now → (rows : List Row) → IsAnswer (balance_read_query l) (overlay now.trees []) (Int k ∷ Int d ∷ []) rows → rows ≡ map balance_shown (filter (is_balance_at k d) (balances_in l now.trees))
 balance_read_answer l now k d s rows answer =

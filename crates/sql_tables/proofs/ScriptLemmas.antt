@@ -1,5 +1,5 @@
 -- What a list of statements makes of tables that stand.
-use Rattle.std.proofs.Common.{◌≡◌, ◌≢◌, ℕ, ℤ, ◌+◌, ◌<◌, ◌<ℤ◌, Bool, true, false, cond, List, [], ◌∷◌, ◌++◌, length, map, take, get_or, Result, Ok, Err, OnOk, refl, sym, ap, subst, ◌∙◌}
+use Rattle.std.proofs.Common.{◌≡◌, ℕ, ℤ, ◌+◌, ◌<◌, ◌<ℤ◌, Bool, true, false, cond, List, [], ◌∷◌, ◌++◌, length, map, take, get_or, Result, Ok, IsTrue, refl, sym, ap, subst, ◌∙◌}
 use Rattle.std.specs.List.{AllByRecursion, list_any}
 use Rattle.std.proofs.lemmas.List.{take_more}
 use Rattle.sqlite_value.specs.Order.{Row}
@@ -10,7 +10,7 @@ use Rattle.sqlite_keyed.proofs.KeyedLemmas.{IsKeyedBy-insert_by, IsKeyedBy-updat
 use Rattle.sqlite_keyed.proofs.ListLemmas.{map_back}
 use Rattle.sqlite.specs.Effect.{Database, IsDatabase}
 use Rattle.sqlite.specs.declared.error.Error.{Error}
-use Rattle.sqlite.specs.State.{State, Executes, ExecutesInside}
+use Rattle.sqlite.specs.State.{State, HasCleanDisk, Survives, Executes, ExecutesInside}
 use Rattle.sqlite.specs.Held.{Held, state}
 use Rattle.sql_schema.specs.declared.layout.Layout.{Layout}
 use Rattle.sql_schema.specs.Schema.{matter_tree}
@@ -21,6 +21,7 @@ use Rattle.sql_tables.specs.Rows.{Head, head_row, head_in, heads_in, is_head, wi
 use Rattle.sql_tables.specs.Standing.{Holds, Stands, Changed}
 use Rattle.sql_tables.specs.Lists.{lists_in, IsStep}
 use Rattle.sql_tables.specs.Script.{Call, call_of, calls_of, RanInside, RanAll, Does, DoesAll, Written}
+use Rattle.sql_tables.specs.Performing.{IsPerformed}
 use Rattle.sql_tables.proofs.Casts.{below_next, rise_last}
 use Rattle.sql_tables.proofs.Tables.{head_written, totals_written, closing_written, purge_written, left_written, seat_added, seat_removed, entry_written, movement_added, firm_line_added, exception_noted, exception_removed, balance_added, seats_purged, entries_purged, movements_purged}
 use Rattle.sql_tables.proofs.Others.{stands_but_heads, stands_but_seats, stands_but_entries, stands_but_movements, stands_but_firm_lines, stands_but_exceptions, stands_but_balances, lists_but_heads, lists_but_seats, lists_but_entries, lists_but_movements, lists_but_firm_lines, lists_but_exceptions, lists_but_balances}
@@ -59,9 +60,12 @@ does l (statement.SeatsGone m) old new count stands ran = seats_purged l old new
 does l (statement.EntriesGone m) old new count stands ran = entries_purged l old new m count stands ran
 does l (statement.MovementsGone m) old new count stands ran = movements_purged l old new m count stands ran
 
-pub inside_does : (l : Layout) (s : Statement) (old new : State) (result : Result ℕ Error) → Stands l old.now → ExecutesInside 0 (call_of s).text (call_of s).params old new result → OnOk result (Does l s old.now new.now)
-inside_does l s old new (Ok count) stands ran = does l s old new count stands ran.0
-inside_does l s old new (Err e) stands ran = tt
+-- a statement that ran with its text and its values was performed
+pub performed : (s t : Statement) (params : Row) (result : Result ℕ Error) (old new : State) → t ≡ s → params ≡ (call_of s).params → (HasCleanDisk new → IsTrue old.in_transaction → ExecutesInside 0 (call_of s).text params old new result)
+    → Survives old new (λ _. ⊥) → IsPerformed (call_of t).text (call_of t).params result old new
+performed s t params result old new is same ran survives =
+    subst (λ t. IsPerformed (call_of t).text (call_of t).params result old new) (sym is)
+    (record { ok = λ clean inside. subst (λ p. ExecutesInside 0 (call_of s).text p old new result) same (ran clean inside); crash = survives })
 
 -- rows that stand for a list with rising keys
 now_holds : {X : Type 0} (to_row : X → Row) (of_row : Row → X) (key : X → ℤ) (back : (x : X) → of_row (to_row x) ≡ x) (rows : List Row) (xs : List X) → rows ≡ map to_row xs → IsKeyedBy key xs
@@ -140,22 +144,9 @@ module _ (l : Layout) (db next : Database) (stands : Stands l db) where
 
 -- what a statement wrote is listed
 listed_by : (l : Layout) (db next : Database) (s : Statement) → Does l s db next → IsDatabase next
-listed_by l db next (statement.Head h) w = w.listed
-listed_by l db next (statement.Totals t) w = w.listed
-listed_by l db next (statement.Closed c) w = w.listed
-listed_by l db next (statement.Purged c) w = w.listed
-listed_by l db next (statement.Seat s) w = w.listed
-listed_by l db next (statement.SeatGone s) w = w.listed
-listed_by l db next (statement.Entry e) w = w.listed
-listed_by l db next (statement.Left e) w = w.listed
 listed_by l db next (statement.Movement m) w = w.changed.listed
 listed_by l db next (statement.FirmLine f) w = w.changed.listed
-listed_by l db next (statement.Exception e) w = w.listed
-listed_by l db next (statement.ExceptionGone e) w = w.listed
-listed_by l db next (statement.Balance b) w = w.listed
-listed_by l db next (statement.SeatsGone m) w = w.listed
-listed_by l db next (statement.EntriesGone m) w = w.listed
-listed_by l db next (statement.MovementsGone m) w = w.listed
+listed_by l db next _ w = w.listed
 
 -- and what the last of several wrote
 listed_after : (l : Layout) (script : List Statement) (db next : Database) → IsDatabase db → DoesAll l script db next → IsDatabase next

@@ -38,7 +38,7 @@ use Rattle.sql_tables.proofs.KindLemmas.{Before, set, deleted, replaces, adds, a
 use Rattle.sql_schema.specs.Schema.{book_schema, matter_tree, matter_place, matter_table, seat_tree, seat_place, seat_table, entry_tree, entry_place, entry_table, journal_tree, journal_place, journal_table, firm_line_tree, firm_line_place, firm_line_table, exception_tree, exception_place, exception_table, balance_tree, balance_place, balance_table, sequence_table}
 use Rattle.sql_tables.specs.Rows.{same_text, Head, head_shown, head_values, head_row, heads_in, is_head, put_head, totals_values, with_totals, with_closing, with_purge, change_head, Seat, seat_values, seat_row, seats_in, is_seat_of, is_seat, add_seat, Entry, entry_values, entry_row, entries_in, is_entry_of, is_entry_at, is_entry, put_entry, with_left, put_left, Movement, movement_values, movement_row, movements_in, is_movement_of, FirmLine, firm_line_values, firm_line_row, firm_lines_in, Exception, exception_values, exception_row, exceptions_in, is_exception, note_exception, Balance, balance_values, balance_row, balances_in, add_balance}
 use Rattle.sql_tables.specs.Texts.{head_write_text, head_write_terms, totals_write_text, closed_write_text, purged_write_text, left_write_text, entry_write_text, entry_write_terms, seat_insert_text, seat_insert_terms, seat_delete_text, journal_insert_text, journal_insert_terms, firm_insert_text, firm_insert_terms, exception_insert_text, exception_insert_terms, exception_delete_text, balance_insert_text, balance_insert_terms, purge_seats_text, purge_entries_text, purge_journal_text}
-use Rattle.sql_tables.proofs.Means.{head_write_is, head_write_plain, totals_write_is, totals_write_plain, closed_write_is, closed_write_plain, purged_write_is, purged_write_plain, left_write_is, left_write_plain, entry_write_is, entry_write_plain, seat_insert_is, seat_insert_plain, seat_delete_is, seat_delete_plain, journal_insert_is, journal_insert_plain, firm_insert_is, firm_insert_plain, exception_insert_is, exception_insert_plain, exception_delete_is, exception_delete_plain, balance_insert_is, balance_insert_plain, purge_seats_is, purge_seats_plain, purge_entries_is, purge_entries_plain, purge_journal_is, purge_journal_plain}
+use Rattle.sql_tables.proofs.Means.{head_write_means, totals_write_means, closed_write_means, purged_write_means, left_write_means, entry_write_means, seat_insert_means, seat_delete_means, journal_insert_means, firm_insert_means, exception_insert_means, exception_delete_means, balance_insert_means, purge_seats_means, purge_entries_means, purge_journal_means}
 
 -- ---- no key acts, since each reference is refused and not followed
 
@@ -119,8 +119,8 @@ pub head_written : (l : Layout) (old new : State) (h : Head) (count : ℕ) → S
 head_written l old new n count s ran =
     let xs = heads_in l old.now.trees in
     let before : Before l (matter_place l) (matter_table l) (matter_at l) head_row (λ (x : Head). x.no) (λ x. refl) old xs = record { schema = s.schema; stored = s.heads.stored; rise = s.heads.rise } in
-    replaces l (matter_place l) (matter_table l) (matter_at l) head_row (λ (x : Head). x.no) (λ x. refl) refl refl old new xs before head_write_text (head_values n) (head_write_plain l) count ran
-    head_write_terms 14 (head_row n) refl (head_write_is l) refl (still l (matter_tree l)) (λ r olds. quiet l (matter_tree l) olds r) n (ap (with_rowid Chosen (old.now.trees (matter_tree l))) (head_kept l n)) (head_kept l n)
+    replaces l (matter_place l) (matter_table l) (matter_at l) head_row (λ (x : Head). x.no) (λ x. refl) refl refl old new xs before head_write_text (head_values n) (head_write_means l).plain count ran
+    head_write_terms 14 (head_row n) refl (head_write_means l).is refl (still l (matter_tree l)) (λ r olds. quiet l (matter_tree l) olds r) n (ap (with_rowid Chosen (old.now.trees (matter_tree l))) (head_kept l n)) (head_kept l n)
     (is_head n.no) (all_of _ (λ x. head_meets l n x) xs)
 
 -- the head of a number is changed, if there is one
@@ -136,15 +136,15 @@ module _ (l : Layout) (old new : State) (n : ℤ) (more : Row) (f : Head → Hea
 
 pub totals_written : (l : Layout) (old new : State) (t : TotalsColumns) (count : ℕ) → Stands l old.now → Executes totals_write_text (totals_values t) old new (Ok count)
     → Changed l (matter_tree l) head_row (change_head t.no (with_totals t) (heads_in l old.now.trees)) old.now new.now
-totals_written l old new t count s ran = head_set l old new t.no _ (with_totals t) (λ x. refl) totals_write_text (totals_write_plain l) count s ran _ (totals_write_is l) (λ x. refl)
+totals_written l old new t count s ran = head_set l old new t.no _ (with_totals t) (λ x. refl) totals_write_text (totals_write_means l).plain count s ran _ (totals_write_means l).is (λ x. refl)
 
 pub closing_written : (l : Layout) (old new : State) (matter day : ℤ) (count : ℕ) → Stands l old.now → Executes closed_write_text (Int matter ∷ Int day ∷ []) old new (Ok count)
     → Changed l (matter_tree l) head_row (change_head matter (with_closing day) (heads_in l old.now.trees)) old.now new.now
-closing_written l old new matter day count s ran = head_set l old new matter _ (with_closing day) (λ x. refl) closed_write_text (closed_write_plain l) count s ran _ (closed_write_is l) (λ x. refl)
+closing_written l old new matter day count s ran = head_set l old new matter _ (with_closing day) (λ x. refl) closed_write_text (closed_write_means l).plain count s ran _ (closed_write_means l).is (λ x. refl)
 
 pub purge_written : (l : Layout) (old new : State) (matter day : ℤ) (count : ℕ) → Stands l old.now → Executes purged_write_text (Int matter ∷ Int day ∷ []) old new (Ok count)
     → Changed l (matter_tree l) head_row (change_head matter (with_purge day) (heads_in l old.now.trees)) old.now new.now
-purge_written l old new matter day count s ran = head_set l old new matter _ (with_purge day) (λ x. refl) purged_write_text (purged_write_plain l) count s ran _ (purged_write_is l) (λ x. refl)
+purge_written l old new matter day count s ran = head_set l old new matter _ (with_purge day) (λ x. refl) purged_write_text (purged_write_means l).plain count s ran _ (purged_write_means l).is (λ x. refl)
 
 -- ---- entries
 
@@ -187,8 +187,8 @@ entry_written l old new e count s ran =
     let new_row : with_rowid Chosen (old.now.trees (entry_tree l)) (cast_row (entry_table l) (Null ∷ entry_values e)) ≡ entry_row n =
     ap (with_rowid Chosen (old.now.trees (entry_tree l))) (entry_kept l e) ∙ ap (λ rows. Int (next_rowid rows) ∷ entry_values e) s.entries.stored
     ∙ ap (λ k. Int k ∷ entry_values e) (next_is key entry_row (λ x. refl) xs (pos 1)) in
-    replaces l (entry_place l) (entry_table l) (entry_at l) entry_row key (λ x. refl) refl refl old new xs before entry_write_text (entry_values e) (entry_write_plain l) count ran
-    entry_write_terms 18 (Null ∷ entry_values e) refl (entry_write_is l) refl (still l (entry_tree l)) (λ r olds. quiet l (entry_tree l) olds r) n new_row (entry_again l n)
+    replaces l (entry_place l) (entry_table l) (entry_at l) entry_row key (λ x. refl) refl refl old new xs before entry_write_text (entry_values e) (entry_write_means l).plain count ran
+    entry_write_terms 18 (Null ∷ entry_values e) refl (entry_write_means l).is refl (still l (entry_tree l)) (λ r olds. quiet l (entry_tree l) olds r) n new_row (entry_again l n)
     (is_entry n) (weaker (λ x. x.id <ℤ n.id) (λ x. conflicts None (book_schema l).indexes (entry_table l) (entry_row n) (entry_row x) ≡ is_entry n x) (λ x low. entry_meets l n x low) xs (below_next key xs s.entries.rise))
 
 pub left_written : (l : Layout) (old new : State) (matter n left : ℤ) (count : ℕ) → Stands l old.now → Executes left_write_text (Int matter ∷ Int n ∷ Int left ∷ []) old new (Ok count)
@@ -196,8 +196,8 @@ pub left_written : (l : Layout) (old new : State) (matter n left : ℤ) (count :
 left_written l old new matter n left count s ran =
     let xs = entries_in l old.now.trees in
     let before : Before l (entry_place l) (entry_table l) (entry_at l) entry_row (λ (x : Entry). x.id) (λ x. refl) old xs = record { schema = s.schema; stored = s.entries.stored; rise = s.entries.rise } in
-    set l (entry_place l) (entry_table l) (entry_at l) entry_row (λ (x : Entry). x.id) (λ x. refl) refl refl old new xs before left_write_text (Int matter ∷ Int n ∷ Int left ∷ []) (left_write_plain l) count ran
-    _ _ (left_write_is l) (λ news olds. idle l (entry_tree l) olds news) (is_entry_at matter n) (λ x. then_term (at_ints false Eq x.matter matter) (last_term (at_ints false Eq x.no n)))
+    set l (entry_place l) (entry_table l) (entry_at l) entry_row (λ (x : Entry). x.id) (λ x. refl) refl refl old new xs before left_write_text (Int matter ∷ Int n ∷ Int left ∷ []) (left_write_means l).plain count ran
+    _ _ (left_write_means l).is (λ news olds. idle l (entry_tree l) olds news) (is_entry_at matter n) (λ x. then_term (at_ints false Eq x.matter matter) (last_term (at_ints false Eq x.no n)))
     (with_left left) (λ x. refl) (λ x. refl) (entry_again l)
 
 pub entries_purged : (l : Layout) (old new : State) (matter : ℤ) (count : ℕ) → Stands l old.now → Executes purge_entries_text (Int matter ∷ []) old new (Ok count)
@@ -205,8 +205,8 @@ pub entries_purged : (l : Layout) (old new : State) (matter : ℤ) (count : ℕ)
 entries_purged l old new matter count s ran =
     let xs = entries_in l old.now.trees in
     let before : Before l (entry_place l) (entry_table l) (entry_at l) entry_row (λ (x : Entry). x.id) (λ x. refl) old xs = record { schema = s.schema; stored = s.entries.stored; rise = s.entries.rise } in
-    deleted l (entry_place l) (entry_table l) (entry_at l) entry_row (λ (x : Entry). x.id) (λ x. refl) refl refl old new xs before purge_entries_text (Int matter ∷ []) (purge_entries_plain l) count ran
-    _ (purge_entries_is l) (still l (entry_tree l)) (is_entry_of matter) (λ x. last_term (at_ints false Eq x.matter matter))
+    deleted l (entry_place l) (entry_table l) (entry_at l) entry_row (λ (x : Entry). x.id) (λ x. refl) refl refl old new xs before purge_entries_text (Int matter ∷ []) (purge_entries_means l).plain count ran
+    _ (purge_entries_means l).is (still l (entry_tree l)) (is_entry_of matter) (λ x. last_term (at_ints false Eq x.matter matter))
 
 -- ---- seats
 
@@ -218,25 +218,25 @@ pub seat_added : (l : Layout) (old new : State) (seat : Seat) (count : ℕ) → 
 seat_added l old new seat count s ran =
     let xs = seats_in l old.now.trees in
     let before : Before l (seat_place l) (seat_table l) (seat_at l) seat_row (λ (x : Seat). x.id) (λ x. refl) old xs = record { schema = s.schema; stored = s.seats.stored; rise = s.seats.rise } in
-    adds l (seat_place l) (seat_table l) (seat_at l) seat_row (λ (x : Seat). x.id) (λ x. refl) refl refl old new xs before seat_insert_text (seat_values seat) (seat_insert_plain l) count ran
+    adds l (seat_place l) (seat_table l) (seat_at l) seat_row (λ (x : Seat). x.id) (λ x. refl) refl refl old new xs before seat_insert_text (seat_values seat) (seat_insert_means l).plain count ran
     seat_insert_terms 4 (Null ∷ seat_values seat) refl (seat_values seat) refl (seat_kept l seat) (λ k. record seat { id = k }) (λ k. refl) (λ k. refl)
-    (seat_insert_is l) refl (λ r olds. quiet l (seat_tree l) olds r)
+    (seat_insert_means l).is refl (λ r olds. quiet l (seat_tree l) olds r)
 
 pub seat_removed : (l : Layout) (old new : State) (matter : ℤ) (person : List ℕ) (count : ℕ) → Stands l old.now → Executes seat_delete_text (Int matter ∷ Text person ∷ []) old new (Ok count)
     → Changed l (seat_tree l) seat_row (delete_where (is_seat matter person) (seats_in l old.now.trees)) old.now new.now
 seat_removed l old new matter person count s ran =
     let xs = seats_in l old.now.trees in
     let before : Before l (seat_place l) (seat_table l) (seat_at l) seat_row (λ (x : Seat). x.id) (λ x. refl) old xs = record { schema = s.schema; stored = s.seats.stored; rise = s.seats.rise } in
-    deleted l (seat_place l) (seat_table l) (seat_at l) seat_row (λ (x : Seat). x.id) (λ x. refl) refl refl old new xs before seat_delete_text (Int matter ∷ Text person ∷ []) (seat_delete_plain l) count ran
-    _ (seat_delete_is l) (still l (seat_tree l)) (is_seat matter person) (λ x. then_term (at_ints false Eq x.matter matter) (last_term (at_texts false Eq x.person person)))
+    deleted l (seat_place l) (seat_table l) (seat_at l) seat_row (λ (x : Seat). x.id) (λ x. refl) refl refl old new xs before seat_delete_text (Int matter ∷ Text person ∷ []) (seat_delete_means l).plain count ran
+    _ (seat_delete_means l).is (still l (seat_tree l)) (is_seat matter person) (λ x. then_term (at_ints false Eq x.matter matter) (last_term (at_texts false Eq x.person person)))
 
 pub seats_purged : (l : Layout) (old new : State) (matter : ℤ) (count : ℕ) → Stands l old.now → Executes purge_seats_text (Int matter ∷ []) old new (Ok count)
     → Changed l (seat_tree l) seat_row (delete_where (is_seat_of matter) (seats_in l old.now.trees)) old.now new.now
 seats_purged l old new matter count s ran =
     let xs = seats_in l old.now.trees in
     let before : Before l (seat_place l) (seat_table l) (seat_at l) seat_row (λ (x : Seat). x.id) (λ x. refl) old xs = record { schema = s.schema; stored = s.seats.stored; rise = s.seats.rise } in
-    deleted l (seat_place l) (seat_table l) (seat_at l) seat_row (λ (x : Seat). x.id) (λ x. refl) refl refl old new xs before purge_seats_text (Int matter ∷ []) (purge_seats_plain l) count ran
-    _ (purge_seats_is l) (still l (seat_tree l)) (is_seat_of matter) (λ x. last_term (at_ints false Eq x.matter matter))
+    deleted l (seat_place l) (seat_table l) (seat_at l) seat_row (λ (x : Seat). x.id) (λ x. refl) refl refl old new xs before purge_seats_text (Int matter ∷ []) (purge_seats_means l).plain count ran
+    _ (purge_seats_means l).is (still l (seat_tree l)) (is_seat_of matter) (λ x. last_term (at_ints false Eq x.matter matter))
 
 -- ---- movements
 
@@ -248,17 +248,17 @@ pub movement_added : (l : Layout) (old new : State) (m : Movement) (count : ℕ)
 movement_added l old new m count s ran =
     let xs = movements_in l old.now.trees in
     let before : Before l (journal_place l) (journal_table l) (journal_at l) movement_row (λ (x : Movement). x.seq) (λ x. refl) old xs = record { schema = s.schema; stored = s.movements.stored; rise = s.movements.rise } in
-    counts l (journal_place l) (journal_table l) (journal_at l) movement_row (λ (x : Movement). x.seq) (λ x. refl) refl refl old new xs before journal_insert_text (movement_values m) (journal_insert_plain l) count ran
+    counts l (journal_place l) (journal_table l) (journal_at l) movement_row (λ (x : Movement). x.seq) (λ x. refl) refl refl old new xs before journal_insert_text (movement_values m) (journal_insert_means l).plain count ran
     journal_insert_terms 6 (Null ∷ Null ∷ movement_values m) refl (Null ∷ movement_values m) refl (movement_kept l m) (λ k. record m { seq = k }) (λ k. refl) (λ k. refl)
-    (journal_insert_is l) refl (listed l) (quiet l) (has_journal l) (λ e. omega (arith, e))
+    (journal_insert_means l).is refl (listed l) (quiet l) (has_journal l) (λ e. omega (arith, e))
 
 pub movements_purged : (l : Layout) (old new : State) (matter : ℤ) (count : ℕ) → Stands l old.now → Executes purge_journal_text (Int matter ∷ []) old new (Ok count)
     → Changed l (journal_tree l) movement_row (delete_where (is_movement_of matter) (movements_in l old.now.trees)) old.now new.now
 movements_purged l old new matter count s ran =
     let xs = movements_in l old.now.trees in
     let before : Before l (journal_place l) (journal_table l) (journal_at l) movement_row (λ (x : Movement). x.seq) (λ x. refl) old xs = record { schema = s.schema; stored = s.movements.stored; rise = s.movements.rise } in
-    deleted l (journal_place l) (journal_table l) (journal_at l) movement_row (λ (x : Movement). x.seq) (λ x. refl) refl refl old new xs before purge_journal_text (Int matter ∷ []) (purge_journal_plain l) count ran
-    _ (purge_journal_is l) (still l (journal_tree l)) (is_movement_of matter) (λ x. last_term (at_ints false Eq x.matter matter))
+    deleted l (journal_place l) (journal_table l) (journal_at l) movement_row (λ (x : Movement). x.seq) (λ x. refl) refl refl old new xs before purge_journal_text (Int matter ∷ []) (purge_journal_means l).plain count ran
+    _ (purge_journal_means l).is (still l (journal_tree l)) (is_movement_of matter) (λ x. last_term (at_ints false Eq x.matter matter))
 
 -- ---- lines of the firm
 
@@ -270,9 +270,9 @@ pub firm_line_added : (l : Layout) (old new : State) (f : FirmLine) (count : ℕ
 firm_line_added l old new f count s ran =
     let xs = firm_lines_in l old.now.trees in
     let before : Before l (firm_line_place l) (firm_line_table l) (firm_line_at l) firm_line_row (λ (x : FirmLine). x.seq) (λ x. refl) old xs = record { schema = s.schema; stored = s.firm_lines.stored; rise = s.firm_lines.rise } in
-    counts l (firm_line_place l) (firm_line_table l) (firm_line_at l) firm_line_row (λ (x : FirmLine). x.seq) (λ x. refl) refl refl old new xs before firm_insert_text (firm_line_values f) (firm_insert_plain l) count ran
+    counts l (firm_line_place l) (firm_line_table l) (firm_line_at l) firm_line_row (λ (x : FirmLine). x.seq) (λ x. refl) refl refl old new xs before firm_insert_text (firm_line_values f) (firm_insert_means l).plain count ran
     firm_insert_terms 6 (Null ∷ Null ∷ firm_line_values f) refl (Null ∷ firm_line_values f) refl (firm_line_kept l f) (λ k. record f { seq = k }) (λ k. refl) (λ k. refl)
-    (firm_insert_is l) refl (listed l) (quiet l) (has_firm_line l) (λ e. omega (arith, e))
+    (firm_insert_means l).is refl (listed l) (quiet l) (has_firm_line l) (λ e. omega (arith, e))
 
 -- ---- exceptions
 
@@ -319,9 +319,9 @@ exception_noted l old new e count s ran =
     let key = λ (x : Exception). x.id in
     let n : Exception = record e { id = next_key key xs } in
     let before : Before l (exception_place l) (exception_table l) (exception_at l) exception_row key (λ x. refl) old xs = record { schema = s.schema; stored = s.exceptions.stored; rise = s.exceptions.rise } in
-    adds_or_not l (exception_place l) (exception_table l) (exception_at l) exception_row key (λ x. refl) refl refl old new xs before exception_insert_text (exception_values e) (exception_insert_plain l) count ran
+    adds_or_not l (exception_place l) (exception_table l) (exception_at l) exception_row key (λ x. refl) refl refl old new xs before exception_insert_text (exception_values e) (exception_insert_means l).plain count ran
     exception_insert_terms 6 (Null ∷ exception_values e) refl (exception_values e) refl (exception_kept l e) (λ k. record e { id = k }) (λ k. refl) (λ k. refl)
-    (exception_insert_is l) refl (λ r olds. quiet l (exception_tree l) olds r) refl refl (exception_again l n)
+    (exception_insert_means l).is refl (λ r olds. quiet l (exception_tree l) olds r) refl refl (exception_again l n)
     (is_exception e) (weaker (λ x. x.id <ℤ n.id) (λ x. conflicts None (book_schema l).indexes (exception_table l) (exception_row n) (exception_row x) ≡ is_exception e x) (λ x low. exception_meets l n x low) xs (below_next key xs s.exceptions.rise))
 
 pub exception_removed : (l : Layout) (old new : State) (e : Exception) (count : ℕ) → Stands l old.now → Executes exception_delete_text (exception_values e) old new (Ok count)
@@ -329,8 +329,8 @@ pub exception_removed : (l : Layout) (old new : State) (e : Exception) (count : 
 exception_removed l old new e count s ran =
     let xs = exceptions_in l old.now.trees in
     let before : Before l (exception_place l) (exception_table l) (exception_at l) exception_row (λ (x : Exception). x.id) (λ x. refl) old xs = record { schema = s.schema; stored = s.exceptions.stored; rise = s.exceptions.rise } in
-    deleted l (exception_place l) (exception_table l) (exception_at l) exception_row (λ (x : Exception). x.id) (λ x. refl) refl refl old new xs before exception_delete_text (exception_values e) (exception_delete_plain l) count ran
-    _ (exception_delete_is l) (still l (exception_tree l)) (is_exception e)
+    deleted l (exception_place l) (exception_table l) (exception_at l) exception_row (λ (x : Exception). x.id) (λ x. refl) refl refl old new xs before exception_delete_text (exception_values e) (exception_delete_means l).plain count ran
+    _ (exception_delete_means l).is (still l (exception_tree l)) (is_exception e)
     (λ x. then_term (at_ints false Eq x.day e.day) (then_term (at_texts false Eq x.reference e.reference) (then_term (at_texts false Eq x.bank_ref e.bank_ref) (then_term (at_ints false Eq x.amount e.amount) (last_term (at_texts false Eq x.text e.text))))))
 
 -- ---- balances
@@ -343,6 +343,6 @@ pub balance_added : (l : Layout) (old new : State) (b : Balance) (count : ℕ) �
 balance_added l old new b count s ran =
     let xs = balances_in l old.now.trees in
     let before : Before l (balance_place l) (balance_table l) (balance_at l) balance_row (λ (x : Balance). x.id) (λ x. refl) old xs = record { schema = s.schema; stored = s.balances.stored; rise = s.balances.rise } in
-    adds l (balance_place l) (balance_table l) (balance_at l) balance_row (λ (x : Balance). x.id) (λ x. refl) refl refl old new xs before balance_insert_text (balance_values b) (balance_insert_plain l) count ran
+    adds l (balance_place l) (balance_table l) (balance_at l) balance_row (λ (x : Balance). x.id) (λ x. refl) refl refl old new xs before balance_insert_text (balance_values b) (balance_insert_means l).plain count ran
     balance_insert_terms 4 (Null ∷ balance_values b) refl (balance_values b) refl (balance_kept l b) (λ k. record b { id = k }) (λ k. refl) (λ k. refl)
-    (balance_insert_is l) refl (λ r olds. quiet l (balance_tree l) olds r)
+    (balance_insert_means l).is refl (λ r olds. quiet l (balance_tree l) olds r)

@@ -27,7 +27,7 @@ use Rattle.sqlite_rules.specs.Keys.{AreConflicts}
 use Rattle.sqlite_rules.specs.Edit.{edit_of, without_all, with_rowid, taken_by, is_chosen, Applies}
 use Rattle.sqlite.specs.Effect.{Database, Answers, value_rows}
 use Rattle.sqlite.specs.Rows.{Written, Task, stamped, mended, Inserts, InsertsOr, Deletes, Updates, Tries, TriesEach, Judged, Clears, Puts, Edited, count_of, nothing, Counts, rowids_for}
-use Rattle.sqlite.specs.Does.{Tally, Concludes, OnRows, AtPlace}
+use Rattle.sqlite.specs.Does.{Tally, OnRows, AtPlace}
 use Rattle.sqlite.specs.State.{State, mode_of, Writes}
 use Rattle.sqlite.proofs.Callers.{one_step}
 

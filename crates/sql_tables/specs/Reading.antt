@@ -1,16 +1,12 @@
--- What a query returns, and the state in which a call leaves the connection.
-use Rattle.std.specs.Prelude.{◌≡◌, ◌⊎◌, ℕ, Bool, true, false, List, Result, Ok, Err, IfOk, OnOk, IsTrue}
-use Rattle.sqlite_value.specs.Order.{Row}
+-- The state in which a call leaves the connection, and which texts only read.
+use Rattle.std.specs.Prelude.{◌≡◌, ◌⊎◌, ℕ, Bool, true, false, List, Result, Ok, Err, OnOk, IsTrue}
 use Rattle.sqlite_trees.specs.Tree.{Trees}
 use Rattle.sqlite_ast.specs.declared.Statement.{Statement}
 use Rattle.sqlite_ast.specs.declared.Statement.TheVariants as written
 use Rattle.sqlite_syntax.specs.declared.statement.Parsed.{Parsed}
 use Rattle.sqlite_resolve.specs.Compile.{first}
 use Rattle.sqlite_resolve.specs.Lowering.{Checked}
-use Rattle.sqlite.specs.declared.error.Error.{Error}
-use Rattle.sqlite.specs.State.{State, HasCleanDisk, Shown}
-use Rattle.sql_schema.specs.declared.layout.Layout.{Layout}
-use Rattle.sql_tables.specs.Standing.{Stands}
+use Rattle.sqlite.specs.State.{State, HasCleanDisk}
 
 -- the connection was open, and sees and has committed the same as before
 pub record IsKept (old new : State) : Type 0 where
@@ -41,16 +37,3 @@ selects (Err e) = false
 -- the text begins with a SELECT
 abbrev pub IsSelect : List ℕ → Type 0
 IsSelect sql = selects (first sql) ≡ true
-
--- a query ran outside a transaction; a SELECT changes nothing
-pub record IsAsked {T : Type 0} (result : Result T Error) (items : T → List Row)
-    (sql : List ℕ) (params : Row) (old new : State) : Type 0 where
-  pub ok : HasCleanDisk new → IfOk result (λ rows. Shown sql params old new (items rows))
-  pub left : IsSelect sql → LeavesAll result old new
-
--- if the tables stand in a layout, the rows of that layout are returned; the call changes nothing, even if they do
--- not stand
-pub record IsRead {T : Type 0} (result : Result T Error) (items : T → List Row)
-    (rows : Layout → List Row) (old new : State) : Type 0 where
-  pub found : (l : Layout) → HasCleanDisk new → Stands l old.now → IfOk result (λ r. items r ≡ rows l)
-  pub left : LeavesAll result old new

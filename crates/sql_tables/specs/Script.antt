@@ -1,13 +1,12 @@
 -- SQL statements that ran in turn in one transaction, and how they change tables that stand.
-use Rattle.std.specs.Prelude.{◌≡◌, ◌≢◌, ℕ, true, List, [], ◌∷◌, map, Result, Ok, OnOk, IsTrue}
+use Rattle.std.specs.Prelude.{◌≡◌, ◌≢◌, ℕ, true, List, [], ◌∷◌, map, Ok}
 use Rattle.sqlite_value.specs.declared.value.Value.TheVariants.{Int, Text}
 use Rattle.sqlite_value.specs.Order.{Row}
 use Rattle.sqlite_trees.specs.Tree.{Trees}
 use Rattle.sqlite_trees.specs.declared.store.Store.{Ghosts}
 use Rattle.sqlite_keyed.specs.Lists.{delete_where}
 use Rattle.sqlite.specs.Effect.{Database, IsDatabase}
-use Rattle.sqlite.specs.declared.error.Error.{Error}
-use Rattle.sqlite.specs.State.{State, HasCleanDisk, Executes}
+use Rattle.sqlite.specs.State.{State, Executes}
 use Rattle.sqlite.specs.Held.{Held, state}
 use Rattle.sql_schema.specs.declared.layout.Layout.{Layout}
 use Rattle.sql_schema.specs.Schema.{matter_tree, seat_tree, entry_tree, journal_tree, firm_line_tree, exception_tree, balance_tree}
@@ -95,11 +94,6 @@ Does l (statement.EntriesGone m) db = Changed l (entry_tree l) entry_row
     (delete_where (is_entry_of m) (entries_in l db.trees)) db
 Does l (statement.MovementsGone m) db = Changed l (journal_tree l) movement_row
     (delete_where (is_movement_of m) (movements_in l db.trees)) db
-
--- if the tables stand in a layout, an SQL statement that succeeds in a transaction makes its change
-abbrev pub Changes : Statement → Result ℕ Error → State → State → Type 0
-Changes s result old new = (l : Layout) → HasCleanDisk new → IsTrue old.in_transaction → Stands l old.now
-    → OnOk result (Does l s old.now new.now)
 
 -- the SQL statements, one after the other
 abbrev pub DoesAll : Layout → List Statement → Database → Database → Type 0

@@ -9,7 +9,7 @@ use Rattle.sqlite_sql.specs.Term.{Term, col, lit, op2}
 use Rattle.sqlite_schema.specs.declared.command.Conflict.TheVariants.{Ignore, Replace}
 use Rattle.sqlite_schema.specs.declared.command.Source.TheVariants.{Values}
 use Rattle.sqlite_schema.specs.declared.command.Command.{Command}
-use Rattle.sqlite_schema.specs.declared.command.Command.TheVariants.{Select, Insert, InsertOr, Update, Delete}
+use Rattle.sqlite_schema.specs.declared.command.Command.TheVariants.{Insert, InsertOr, Update, Delete}
 use Rattle.sql_schema.specs.declared.layout.Layout.{Layout}
 use Rattle.sql_schema.specs.Schema.{matter_tree, matter_place, seat_tree, seat_place, entry_tree, entry_place, journal_tree, journal_place, firm_line_tree, firm_line_place, exception_tree, exception_place, balance_tree, balance_place}
 
@@ -34,9 +34,6 @@ abbrev pub head_read_names : List (List ℕ)
 head_read_names = codes "client" ∷ codes "opened" ∷ codes "closed" ∷ codes "last" ∷ codes "entries" ∷ codes "held" ∷
     codes "available" ∷ codes "disputed" ∷ codes "fees" ∷ codes "claims" ∷ codes "pending" ∷ codes "purged" ∷ []
 
-abbrev pub head_read_command : Layout → Command
-head_read_command l = Select (record { lets = []; body = head_read_query l }) head_read_names
-
 abbrev pub next_head_text : List ℕ
 next_head_text = codes "SELECT client, opened, closed, last, entries, held, available, disputed, fees, claims, pending, purged, no FROM matter_v2 WHERE no > ?1 ORDER BY no LIMIT 1"
 
@@ -59,9 +56,6 @@ next_head_names = codes "client" ∷ codes "opened" ∷ codes "closed" ∷ codes
     codes "available" ∷ codes "disputed" ∷ codes "fees" ∷ codes "claims" ∷ codes "pending" ∷ codes "purged" ∷
     codes "no" ∷ []
 
-abbrev pub next_head_command : Layout → Command
-next_head_command l = Select (record { lets = []; body = next_head_query l }) next_head_names
-
 abbrev pub head_scan_text : List ℕ
 head_scan_text = codes "SELECT no FROM matter_v2 ORDER BY no"
 
@@ -80,9 +74,6 @@ head_scan_query l = record {
 
 abbrev pub head_scan_names : List (List ℕ)
 head_scan_names = codes "no" ∷ []
-
-abbrev pub head_scan_command : Layout → Command
-head_scan_command l = Select (record { lets = []; body = head_scan_query l }) head_scan_names
 
 abbrev pub seats_read_text : List ℕ
 seats_read_text = codes "SELECT person, role FROM seat_v2 WHERE matter = ?1 ORDER BY person, rowid"
@@ -103,9 +94,6 @@ seats_read_query l = record {
 
 abbrev pub seats_read_names : List (List ℕ)
 seats_read_names = codes "person" ∷ codes "role" ∷ []
-
-abbrev pub seats_read_command : Layout → Command
-seats_read_command l = Select (record { lets = []; body = seats_read_query l }) seats_read_names
 
 abbrev pub entries_read_text : List ℕ
 entries_read_text = codes "SELECT no, kind, day, amount, state, fund, of_no, text_a, text_b, text_c, day_done, day_undone, day_bank, bank_ref, part, left_now FROM entry_v2 WHERE matter = ?1 ORDER BY no, rowid"
@@ -130,19 +118,16 @@ entries_read_names = codes "no" ∷ codes "kind" ∷ codes "day" ∷ codes "amou
     codes "of_no" ∷ codes "text_a" ∷ codes "text_b" ∷ codes "text_c" ∷ codes "day_done" ∷ codes "day_undone" ∷
     codes "day_bank" ∷ codes "bank_ref" ∷ codes "part" ∷ codes "left_now" ∷ []
 
-abbrev pub entries_read_command : Layout → Command
-entries_read_command l = Select (record { lets = []; body = entries_read_query l }) entries_read_names
-
 abbrev pub entry_read_text : List ℕ
-entry_read_text = codes "SELECT kind, day, amount, state, fund, of_no, text_a, text_b, text_c, day_done, day_undone, day_bank, bank_ref, part, left_now FROM entry_v2 WHERE matter = ?1 AND no = ?2 ORDER BY rowid"
+entry_read_text = codes "SELECT no, kind, day, amount, state, fund, of_no, text_a, text_b, text_c, day_done, day_undone, day_bank, bank_ref, part, left_now FROM entry_v2 WHERE matter = ?1 AND no = ?2 ORDER BY rowid"
 
 abbrev pub entry_read_query : Layout → Query
 entry_read_query l = record {
   from = inner (entry_tree l) end;
   filter = op2 (Compare Eq Binary) (col 1 1) (col 0 0) ∷ op2 (Compare Eq Binary) (col 1 2) (col 0 1) ∷ [];
   group = None;
-  project = col 1 3 ∷ col 1 4 ∷ col 1 5 ∷ col 1 6 ∷ col 1 7 ∷ col 1 8 ∷ col 1 9 ∷ col 1 10 ∷ col 1 11 ∷ col 1 12 ∷
-      col 1 13 ∷ col 1 14 ∷ col 1 15 ∷ col 1 16 ∷ col 1 17 ∷ [];
+  project = col 1 2 ∷ col 1 3 ∷ col 1 4 ∷ col 1 5 ∷ col 1 6 ∷ col 1 7 ∷ col 1 8 ∷ col 1 9 ∷ col 1 10 ∷ col 1 11 ∷
+      col 1 12 ∷ col 1 13 ∷ col 1 14 ∷ col 1 15 ∷ col 1 16 ∷ col 1 17 ∷ [];
   distinct = false;
   collations = [];
   order = (col 1 0, record { collation = Binary; descending = false }) ∷ [];
@@ -151,12 +136,9 @@ entry_read_query l = record {
 }
 
 abbrev pub entry_read_names : List (List ℕ)
-entry_read_names = codes "kind" ∷ codes "day" ∷ codes "amount" ∷ codes "state" ∷ codes "fund" ∷ codes "of_no" ∷
-    codes "text_a" ∷ codes "text_b" ∷ codes "text_c" ∷ codes "day_done" ∷ codes "day_undone" ∷ codes "day_bank" ∷
-    codes "bank_ref" ∷ codes "part" ∷ codes "left_now" ∷ []
-
-abbrev pub entry_read_command : Layout → Command
-entry_read_command l = Select (record { lets = []; body = entry_read_query l }) entry_read_names
+entry_read_names = codes "no" ∷ codes "kind" ∷ codes "day" ∷ codes "amount" ∷ codes "state" ∷ codes "fund" ∷
+    codes "of_no" ∷ codes "text_a" ∷ codes "text_b" ∷ codes "text_c" ∷ codes "day_done" ∷ codes "day_undone" ∷
+    codes "day_bank" ∷ codes "bank_ref" ∷ codes "part" ∷ codes "left_now" ∷ []
 
 abbrev pub balance_read_text : List ℕ
 balance_read_text = codes "SELECT amount FROM balance WHERE kind = ?1 AND day = ?2 ORDER BY rowid"
@@ -177,9 +159,6 @@ balance_read_query l = record {
 abbrev pub balance_read_names : List (List ℕ)
 balance_read_names = codes "amount" ∷ []
 
-abbrev pub balance_read_command : Layout → Command
-balance_read_command l = Select (record { lets = []; body = balance_read_query l }) balance_read_names
-
 abbrev pub journal_scan_text : List ℕ
 journal_scan_text = codes "SELECT matter, entry, day, amount FROM journal ORDER BY seq"
 
@@ -199,9 +178,6 @@ journal_scan_query l = record {
 abbrev pub journal_scan_names : List (List ℕ)
 journal_scan_names = codes "matter" ∷ codes "entry" ∷ codes "day" ∷ codes "amount" ∷ []
 
-abbrev pub journal_scan_command : Layout → Command
-journal_scan_command l = Select (record { lets = []; body = journal_scan_query l }) journal_scan_names
-
 abbrev pub firm_scan_text : List ℕ
 firm_scan_text = codes "SELECT day, bank_ref, amount, text FROM firm_line ORDER BY seq"
 
@@ -220,9 +196,6 @@ firm_scan_query l = record {
 
 abbrev pub firm_scan_names : List (List ℕ)
 firm_scan_names = codes "day" ∷ codes "bank_ref" ∷ codes "amount" ∷ codes "text" ∷ []
-
-abbrev pub firm_scan_command : Layout → Command
-firm_scan_command l = Select (record { lets = []; body = firm_scan_query l }) firm_scan_names
 
 abbrev pub exception_scan_text : List ℕ
 exception_scan_text = codes "SELECT day, reference, bank_ref, amount, text FROM exception ORDER BY day, reference, bank_ref, amount, text, rowid"
@@ -248,9 +221,6 @@ exception_scan_query l = record {
 abbrev pub exception_scan_names : List (List ℕ)
 exception_scan_names = codes "day" ∷ codes "reference" ∷ codes "bank_ref" ∷ codes "amount" ∷ codes "text" ∷ []
 
-abbrev pub exception_scan_command : Layout → Command
-exception_scan_command l = Select (record { lets = []; body = exception_scan_query l }) exception_scan_names
-
 abbrev pub balance_scan_text : List ℕ
 balance_scan_text = codes "SELECT kind, day, amount FROM balance ORDER BY kind, day, rowid"
 
@@ -271,9 +241,6 @@ balance_scan_query l = record {
 
 abbrev pub balance_scan_names : List (List ℕ)
 balance_scan_names = codes "kind" ∷ codes "day" ∷ codes "amount" ∷ []
-
-abbrev pub balance_scan_command : Layout → Command
-balance_scan_command l = Select (record { lets = []; body = balance_scan_query l }) balance_scan_names
 
 abbrev pub head_write_text : List ℕ
 head_write_text = codes "INSERT OR REPLACE INTO matter_v2 (no, client, opened, closed, last, entries, held, available, disputed, fees, claims, pending, purged) VALUES (?1, ?2, ?3, ?4, ?5, ?6, ?7, ?8, ?9, ?10, ?11, ?12, ?13)"

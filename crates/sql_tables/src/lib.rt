@@ -1,9 +1,8 @@
-//! The rows of a book's tables, as columns: writes them, all or nothing, and reads them. Nothing here knows what a
-//! column means.
+//! The rows of a book's tables, as columns: writes them, all or nothing. What queries show of them is in the
+//! definitions. Nothing here knows what a column means.
 #![tactic(auto)]
 
 pub mod columns;
-pub mod reads;
 pub mod statements;
 
 pub use columns::{

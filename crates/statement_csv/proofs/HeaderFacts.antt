@@ -1,10 +1,9 @@
 -- The fields of the header.
 use Rattle.std.proofs.Common.{◌≡◌, ◌==◌, ◌&&◌, ℕ, suc, Bool, true, false, List, [], ◌∷◌, refl, length, arith}
 use Rattle.std.proofs.lemmas.Bool.Decides.{nat_tests}
-use Rattle.std.specs.Prelude.{codes}
+use Rattle.std.specs.Prelude.{codes, get_or}
 use Rattle.std.specs.Str.{bytes_eq}
-use Rattle.csv.specs.Records.{field_at}
-use Rattle.statement_csv.specs.Headers.{is_header, is_name}
+use Rattle.statement_csv.specs.Headers.{is_header}
 
 -- five tests
 all_of : (p q r s t : Bool) → p && q && r && s && t ≡ p && (q && (r && (s && (t && true))))
@@ -42,10 +41,9 @@ not_five n = grind (arith, nat_tests)
 
 -- the test of each field in its place is that of all of them
 pub is_header-fields : (fields : List (List ℕ))
-    → (length fields == 5) && is_name (field_at fields 0) (codes "date") && is_name (field_at fields 1) (codes "reference") && is_name (field_at fields 2) (codes "bank_ref")
-    && is_name (field_at fields 3) (codes "amount") && is_name (field_at fields 4) (codes "text")
+    → (length fields == 5) && bytes_eq (get_or fields 0 []) (codes "date") && bytes_eq (get_or fields 1 []) (codes "reference") && bytes_eq (get_or fields 2 []) (codes "bank_ref")
+    && bytes_eq (get_or fields 3 []) (codes "amount") && bytes_eq (get_or fields 4 []) (codes "text")
     ≡ is_header fields
-unfolding field_at
 is_header-fields [] = refl
 is_header-fields (a ∷ []) = fails (bytes_eq a (codes "date"))
 is_header-fields (a ∷ b ∷ []) = fails2 (bytes_eq a (codes "date")) (bytes_eq b (codes "reference"))

@@ -7,8 +7,8 @@ use Rattle.statement_csv.specs.Lines.{line_of}
 use Rattle.statement_csv.specs.References.{entry_named, owner_of}
 use Rattle.statement_csv.specs.declared.item.Item.{Item}
 use Rattle.statement_csv.specs.declared.item.Item.TheVariants as item
-use Rattle.statement_csv.specs.declared.owner.LineOwner.{LineOwner}
-use Rattle.statement_csv.specs.declared.owner.LineOwner.TheVariants as owner
+use Rattle.statement_csv.specs.declared.item.LineOwner.{LineOwner}
+use Rattle.statement_csv.specs.declared.item.LineOwner.TheVariants as owner
 
 -- What stands behind the test of the bank's own reference.
 

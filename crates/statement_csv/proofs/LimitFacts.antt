@@ -1,9 +1,9 @@
 -- How a statement's bytes are given.
-use Rattle.std.proofs.Common.{◌≡◌, ◌≤◌, ◌<◌, ◌+◌, ℕ, List, [], ◌++◌, length, drop, Option, Some, None, refl, sym, ap, subst, ◌∙◌, add-zero, arith}
+use Rattle.std.proofs.Common.{◌≡◌, ◌≤◌, ◌+◌, ℕ, List, [], ◌++◌, length, drop, Option, Some, None, refl, sym, ap, subst, ◌∙◌, add-zero, arith}
 use Rattle.std.proofs.lemmas.List.{drop-drop, drop_at, length-append, length-drop}
 use Rattle.std.specs.Io.KnownBytes.{Consumes, IsAtEnd, prepend_known}
 use Rattle.trust_base.specs.declared.limits.TheConstants.{MAX_FILE_BYTES}
-use Rattle.statement_csv.specs.Limits.{IsAfter, IsHeldBack, IsReading, IsTooLong, IsWithin, beyond}
+use Rattle.statement_csv.specs.Limits.{IsAfter, IsHeldBack, IsReading, IsWithin, beyond}
 use Rattle.statement_csv.specs.declared.limited.Course.{Course}
 use Rattle.statement_csv.specs.declared.limited.Course.TheVariants as course
 
@@ -31,10 +31,6 @@ within-end whole rest given after most end bytes is = by rest (after bytes is).0
         let none : drop given bytes ≡ [] = cc in
         let size : length (drop given bytes) ≡ 0 = ap length none in
         omega (arith, length-drop given bytes)
-
--- a statement of which more was given is too long
-pub longer-after : (whole rest : Option (List ℕ)) (given : ℕ) → IsAfter whole rest given → MAX_FILE_BYTES < given → IsTooLong whole
-longer-after whole rest given after more bytes is = let most = (after bytes is).1 in omega arith
 
 -- nothing in front of known bytes
 pub front-none : (known : Option (List ℕ)) → prepend_known [] known ≡ known

@@ -5,8 +5,8 @@ use Rattle.trust_base.specs.declared.line.Line.{Line}
 use Rattle.statement_csv.specs.Headers.{is_header}
 use Rattle.statement_csv.specs.Lines.{line_of}
 use Rattle.statement_csv.specs.References.{owner_of}
-use Rattle.statement_csv.specs.declared.owner.LineOwner.{LineOwner}
-use Rattle.statement_csv.specs.declared.owner.LineOwner.TheVariants as owner
+use Rattle.statement_csv.specs.declared.item.LineOwner.{LineOwner}
+use Rattle.statement_csv.specs.declared.item.LineOwner.TheVariants as owner
 use Rattle.statement_csv.specs.declared.item.Item.{Item}
 use Rattle.statement_csv.specs.declared.item.Item.TheVariants as item
 

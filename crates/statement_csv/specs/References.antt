@@ -2,9 +2,9 @@
 use Rattle.std.specs.Prelude.{◌==◌, ◌&&◌, ℕ, List, ◌∷◌, ◌++◌, length, slice_index, slice_range, Option, Some, None, if◌then◌else◌, option_and_then, option_map, codes}
 use Rattle.std.specs.Str.{bytes_eq}
 use Rattle.trust_base.specs.Texts.{entry_of, entry_text, matter_of, matter_text}
-use Rattle.statement_csv.specs.declared.owner.NamedEntry.{NamedEntry}
-use Rattle.statement_csv.specs.declared.owner.LineOwner.{LineOwner}
-use Rattle.statement_csv.specs.declared.owner.LineOwner.TheVariants as owner
+use Rattle.statement_csv.specs.declared.item.NamedEntry.{NamedEntry}
+use Rattle.statement_csv.specs.declared.item.LineOwner.{LineOwner}
+use Rattle.statement_csv.specs.declared.item.LineOwner.TheVariants as owner
 
 -- an entry of a matter
 abbrev pub named : ℕ → ℕ → NamedEntry

@@ -1,14 +1,15 @@
 // The items of a statement.
 
-ghost use Rattle.std.specs.Prelude.{◌≡◌, IfOk};
+ghost use Rattle.std.specs.Prelude.{◌≡◌, ◌≢◌, ℕ, IfNone, IfOk, IfSome};
 ghost use Rattle.csv.specs.Records.{fields_of};
-ghost use Rattle.statement_csv.specs.Items.{item_of, item_of_line, line_in};
+ghost use Rattle.trust_base.specs.Limits.{IsEntryNo, IsMatterNo};
+ghost use Rattle.statement_csv.specs.Items.{item_of, line_in};
+ghost use Rattle.statement_csv.specs.References.{entry_named, owner_of, reference_text};
 
 use crate::line::read_line;
-use crate::owner::{LineOwner, NamedEntry, read_owner};
 use csv::ByteRecord;
 use std::alloc::{AllocError, Global};
-use trust_base::Line;
+use trust_base::{EntryNo, Line, MatterNo};
 use trust_matter::BankLine;
 
 /// What one record after the header of a statement means.
@@ -56,11 +57,71 @@ impl Item {
     }
 }
 
-// The item of a line in record `number`.
-fn item_by_owner(line: Line, number: u64) -> Item
-    ensures { result ≡ item_of_line number line }
+/// An entry of a matter.
+#[derive(Clone, Copy, PartialEq, Eq, Debug)]
+pub(crate) struct NamedEntry {
+    pub(crate) matter: MatterNo,
+    pub(crate) entry: EntryNo,
+}
+
+/// Who a line belongs to.
+#[derive(Clone, Copy, PartialEq, Eq, Debug)]
+pub(crate) enum LineOwner {
+    /// The balance at the start of a day.
+    Opening,
+    /// The balance at the end of a day.
+    Closing,
+    /// The firm's own money.
+    Firm,
+    /// An entry of a matter.
+    Entry(NamedEntry),
+    /// Nobody known here.
+    Nobody,
+}
+
+// The entry named by a reference: `M`, the six digits of the matter, `-`, the four digits of the entry.
+#[tactic(auto, unfolding(crate::specs::References::entry_named))]
+fn read_named(reference: &[u8]) -> Option<NamedEntry>
+    ensures value { result ≡ entry_named reference.now }
+    ensures some { IfSome result (λ named. reference_text named.matter named.entry ≡ reference.now) }
+    ensures none { IfNone result ((m e : ℕ) → IsMatterNo m → IsEntryNo e → reference_text m e ≢ reference.now) }
 {
-    match read_owner(line.reference.as_slice()) {
+    if reference.len() != 12 || reference[0] != b'M' || reference[7] != b'-' {
+        return None;
+    }
+    let matter = MatterNo::read(&reference[1..7])?;
+    let entry = EntryNo::read(&reference[8..12])?;
+    Some(NamedEntry { matter, entry })
+}
+
+// Who a line with this reference belongs to.
+#[tactic(auto, unfolding(crate::specs::References::owner_of))]
+fn read_owner(reference: &[u8]) -> LineOwner
+    ensures { result ≡ owner_of reference.now }
+{
+    if reference == b"OPEN".as_slice() {
+        LineOwner::Opening
+    } else if reference == b"CLOSE".as_slice() {
+        LineOwner::Closing
+    } else if reference == b"FIRM".as_slice() {
+        LineOwner::Firm
+    } else {
+        match read_named(reference) {
+            Some(named) => LineOwner::Entry(named),
+            None => LineOwner::Nobody,
+        }
+    }
+}
+
+/// The item of record `number`. The only error is out of memory.
+#[tactic(auto, unfolding(crate::specs::Items::item_of))]
+pub fn read_item(alloc: Global, row: &ByteRecord, number: u64) -> Result<Item, AllocError>
+    ensures { IfOk result (λ item. item ≡ item_of number (fields_of row.now)) }
+{
+    let Some(line) = read_line(alloc, row)? else {
+        return Ok(Item::Unreadable(number));
+    };
+    Ok(match read_owner(line.reference.as_slice()) {
         LineOwner::Opening => Item::Opening(line),
         LineOwner::Closing => Item::Closing(line),
         _ if line.bank_ref.as_slice().is_empty() => Item::Unreadable(number),
@@ -71,16 +132,5 @@ fn item_by_owner(line: Line, number: u64) -> Item
             line,
         }),
         LineOwner::Nobody => Item::Stray(line),
-    }
-}
-
-/// The item of record `number`. The only error is out of memory.
-#[tactic(auto, unfolding(crate::specs::Items::item_of))]
-pub fn read_item(alloc: Global, row: &ByteRecord, number: u64) -> Result<Item, AllocError>
-    ensures { IfOk result (λ item. item ≡ item_of number (fields_of row.now)) }
-{
-    match read_line(alloc, row)? {
-        Some(line) => Ok(item_by_owner(line, number)),
-        None => Ok(Item::Unreadable(number)),
-    }
+    })
 }

@@ -2,13 +2,11 @@
 #![tactic(auto)]
 
 mod fault;
-mod header;
 mod item;
 pub mod laws;
 mod limited;
 mod line;
 mod lines;
-mod owner;
 
 pub use fault::ReadFault;
 pub use item::{Item, read_item};

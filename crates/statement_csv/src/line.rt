@@ -8,8 +8,8 @@ use csv::ByteRecord;
 use std::alloc::{AllocError, Global};
 use trust_base::{BankAmount, BankText, Day, Line, LineText};
 
-// The field at this index; empty if there is none.
-fn field(row: &ByteRecord, place: usize) -> &[u8]
+/// The field at this index; empty if there is none.
+pub(crate) fn field(row: &ByteRecord, place: usize) -> &[u8]
     ensures { result.now ≡ get_or (fields_of row.now) place [] }
 {
     row.get(place).unwrap_or(&[])

@@ -5,13 +5,14 @@ ghost use Rattle.std.specs.Io.KnownBytes.{Keeps};
 ghost use Rattle.csv.specs.Records.{fields_of};
 ghost use Rattle.statement_csv.specs.declared.fault.ReadFault.{ReadFault};
 ghost use Rattle.statement_csv.specs.declared.fault.ReadFault.TheVariants.{BadHeader, Limit};
+ghost use Rattle.statement_csv.specs.Headers.{is_header};
 ghost use Rattle.statement_csv.specs.Limits.{IsTooLong, IsWithin};
 ghost use Rattle.statement_csv.specs.Reading.{Gives, GivesRecord, HasNoHeader, HasRead, IsLive, LacksHeader, PassesHeader, Stands, ToldBy, cause_at, items_left, records_left};
 
 use crate::fault::ReadFault;
-use crate::header::is_header;
 use crate::item::{Item, read_item};
 use crate::limited::{Limited, Whole};
+use crate::line::field;
 use csv::{ByteRecord, Reader, ReaderBuilder};
 use std::alloc::Global;
 use std::io::Read;
@@ -88,6 +89,18 @@ fn read_row<R: Read, K: Whole>(
         return Err(records.get_ref().cause());
     }
     Ok(found)
+}
+
+// Whether a record is the header of a statement.
+fn is_header(row: &ByteRecord) -> bool
+    ensures { result ≡ is_header (fields_of row.now) }
+{
+    (row.len() == 5)
+        & (field(row, 0) == b"date".as_slice())
+        & (field(row, 1) == b"reference".as_slice())
+        & (field(row, 2) == b"bank_ref".as_slice())
+        & (field(row, 3) == b"amount".as_slice())
+        & (field(row, 4) == b"text".as_slice())
 }
 
 // Reads the first record, which must be the header.

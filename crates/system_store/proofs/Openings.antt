@@ -1,5 +1,5 @@
 -- A book that was had from a connection.
-use Rattle.std.proofs.Common.{◌≡◌, ◌⊎◌, inl, inr, Result, Ok, Err, IfOk, IsTrue, ap, sym, subst, ◌∙◌}
+use Rattle.std.proofs.Common.{◌≡◌, ◌⊎◌, inr, IsTrue, ap, sym, subst, ◌∙◌}
 use Rattle.sqlite_disk.specs.declared.Disk as disk
 use Rattle.sqlite_disk.specs.declared.Files.{Files}
 use Rattle.sqlite_wal.specs.Reads.{AreClean}
@@ -18,26 +18,21 @@ use Rattle.sql_book.specs.Books.{HeldBook, IsSure}
 use Rattle.sql_book.specs.Opening.{IsMade, IsTaken}
 use Rattle.system_store.specs.Runs.{BookOf, IsFoundIn, IsPutBack}
 
--- what four clauses say of an Ok
-all_ok : {T E : Type 0} {P Q R S G : T → Type 0} (r : Result T E) → IfOk r P → IfOk r Q → IfOk r R → IfOk r S → ((x : T) → P x → Q x → R x → S x → G x) → IfOk r G
-all_ok (Ok x) p q r s f = f x p q r s
-all_ok (Err e) p q r s f = tt
-
 -- a book that was made behind a taking that found none was made where there was no table
-pub made_behind : {S E : Type 0} (g : Ghosts S) (first mid : Held S) (result : Result (HeldBook S) E)
-    → IfOk result (λ b. IsSure g b → IsMade g b) → IfOk result (λ b. (state g mid).now.schema ≡ no_schema) → IfOk result (λ b. IsSure g b → IsTrue (state g mid).is_open) → IfOk result (λ b. IsSure g b → HasCleanDisk (state g mid))
+pub made_behind : {S : Type 0} (g : Ghosts S) (first mid : Held S) (b : HeldBook S)
+    → (IsSure g b → IsMade g b) → (state g mid).now.schema ≡ no_schema → (IsSure g b → IsTrue (state g mid).is_open) → (IsSure g b → HasCleanDisk (state g mid))
     → (HasCleanDisk (state g mid) → IsTrue (state g mid).is_open → IsKept (state g first) (state g mid))
-    → IfOk result (λ b. IsSure g b → IsTaken g first b ⊎ (((state g first).now.schema ≡ no_schema) × IsMade g b))
-made_behind g first mid result made empty was_open clean kept =
-    all_ok result made empty was_open clean (λ b m e o s sure. inr (ap (λ (d : Database). d.schema) (sym (kept (s sure) (o sure)).now) ∙ e, m sure))
+    → IsSure g b → IsTaken g first b ⊎ (((state g first).now.schema ≡ no_schema) × IsMade g b)
+made_behind g first mid b made empty was_open clean kept sure =
+    inr (ap (λ (d : Database). d.schema) (sym (kept (clean sure) (was_open sure)).now) ∙ empty, made sure)
 
 -- a book that was had from a connection to files was found in what they held
-pub found_in : {D E : Type 0} {g : disk.Ghosts D} (image : Image) (conn : Held (FileStore D g)) (result : Result (BookOf g) E)
-    → IfOk result (λ b. IsSure over_files b → IsTaken over_files conn b ⊎ (((file_state conn).now.schema ≡ no_schema) × IsMade over_files b))
-    → IfOk result (λ b. IsSure over_files b → HasCleanDisk (file_state conn)) → (HasCleanDisk (file_state conn) → IsOpened conn) → (HasCleanDisk (file_state conn) → FindsIn image (file_state conn))
-    → IfOk result (λ b. IsSure over_files b → IsFoundIn image b)
-found_in image conn (Ok b) book clean opened found = λ sure. record { conn = conn; opened = opened (clean sure); found = found (clean sure); book = book sure }
-found_in image conn (Err e) book clean opened found = tt
+pub found_in : {D : Type 0} {g : disk.Ghosts D} (image : Image) (conn : Held (FileStore D g)) (b : BookOf g)
+    → (IsSure over_files b → IsTaken over_files conn b ⊎ (((file_state conn).now.schema ≡ no_schema) × IsMade over_files b))
+    → (IsSure over_files b → HasCleanDisk (file_state conn)) → (HasCleanDisk (file_state conn) → IsOpened conn) → (HasCleanDisk (file_state conn) → FindsIn image (file_state conn))
+    → IsSure over_files b → IsFoundIn image b
+found_in image conn b book clean opened found sure =
+    record { conn = conn; opened = opened (clean sure); found = found (clean sure); book = book sure }
 
 -- the files of a connection are those of the book that held it
 pub put_back : {D : Type 0} {g : disk.Ghosts D} (b : BookOf g) (conn : Held (FileStore D g)) (files : Files D) → conn ≡ b.conn → (AreClean g files.log files.db → IsCopied conn files)

@@ -1,5 +1,5 @@
 -- What was accepted before a stop is spent after it: the rows that are found are those that were left.
-use Rattle.std.proofs.Common.{◌≡◌, ◌++◌, List, [], ◌∷◌, sym, subst}
+use Rattle.std.proofs.Common.{◌++◌, List, [], ◌∷◌, subst}
 use Rattle.std.proofs.Math.Logic.{∥∥₁_map}
 use Rattle.sqlite_disk.specs.declared.Disk as disk
 use Rattle.sqlite.specs.Files.{over_files}

@@ -2,7 +2,6 @@
 #![tactic(auto)]
 
 pub mod laws;
-mod opening;
 mod system_stores;
 
 pub use system_stores::{FileWith, SystemFile, SystemStores, book_at, put};

@@ -1,18 +1,21 @@
 // The books at paths of the system.
 
-ghost use Rattle.std.specs.Prelude.{◌≡◌, false, true, IfOk, OnOk};
+ghost use Rattle.std.specs.Prelude.{◌≡◌, ◌↔◌, false, true, IfOk, OnOk, IsTrue};
+ghost use Rattle.sqlite.specs.Closing.{IsCopied};
+ghost use Rattle.sqlite.specs.Effect.{IsDatabase};
 ghost use Rattle.sqlite.specs.Files.{IsBlankAs, IsOpened, file_state, over_files};
 ghost use Rattle.sqlite.specs.Start.{FindsIn};
 ghost use Rattle.sqlite.specs.State.{HasCleanDisk};
 ghost use Rattle.sqlite_store.specs.FileStore.{view};
 ghost use Rattle.sqlite_wal.specs.Files.{image_at};
+ghost use Rattle.sqlite_wal.specs.Reads.{AreClean};
 ghost use Rattle.sql_book.specs.Books.{IsServing, IsSure};
 ghost use Rattle.system_store.specs.Runs.{IsFoundIn, IsPutBack, unknown_files};
 
-use crate::opening::{book_over, copied};
 use sql_book::{OpenFault, SqlBook};
 use sql_reads::fault_of;
-use sqlite::{Connection, Error, ErrorCode, FileFrom, FileStore, Start, Unknown};
+use sqlite::{Connection, Error, ErrorCode, FileFrom, FileStore, Files, Start, Unknown};
+use sqlite_disk::Disk;
 use std::alloc::Global;
 use trust_base::StoreFault;
 use trust_store::{NoBook, Stores};
@@ -58,6 +61,16 @@ fn connection_at<T: Start>(
     }
 }
 
+// A database that holds something else is a fault of the store, just like one that failed.
+fn fault_of_book(fault: OpenFault) -> StoreFault
+    ensures { result ≡ StoreFault.Memory ↔ fault ≡ OpenFault.Memory }
+{
+    match fault {
+        OpenFault::Memory => StoreFault::Memory,
+        OpenFault::Store | OpenFault::NotABook => StoreFault::Store,
+    }
+}
+
 /// Opens the book at a path whose files hold what `start` stands for: the book that they hold, or a new one without
 /// rows if they hold no table. Returns `Store` if they hold anything but a book of this version, or could not be
 /// opened, read or written, and `Memory` if memory runs out.
@@ -71,7 +84,30 @@ pub fn book_at<T: Start>(
     ensures serves { IfOk result (λ book. IsSure over_files book → IsServing over_files book) }
 {
     let conn = connection_at(rt, path, start)?;
-    book_over(alloc, conn)
+    match SqlBook::adopt(alloc, conn) {
+        Ok(book) => Ok(book),
+        Err((OpenFault::NotABook, conn)) => match SqlBook::make(alloc, conn) {
+            Ok(book) => Ok(book),
+            Err((fault, _)) => Err(fault_of_book(fault)),
+        },
+        Err((fault, _)) => Err(fault_of_book(fault)),
+    }
+}
+
+// Copies the log of a connection into its database file and gives the files back. No transaction may be open.
+fn copied<D: Disk + Drop>(conn: Connection<FileStore<D>>) -> Result<Files<D>, Error>
+    requires { conn.in_transaction ≡ false }
+    ensures copied { IfOk result (λ files. AreClean D.Disk files.log files.db → IsCopied conn files) }
+    ensures settled { IsTrue (file_state conn).is_open → (file_state conn).now ≡ (file_state conn).committed }
+    ensures listed { IsTrue (file_state conn).is_open → IsDatabase (file_state conn).now }
+{
+    // Outside a transaction, what is seen is what was committed, and the schema is the one that the trees list.
+    let _settled = conn.is_autocommit();
+    let _listed = conn.schema();
+    match conn.close_files() {
+        Ok(files) => Ok(files),
+        Err((error, _)) => Err(error),
+    }
 }
 
 /// Gives a book back to its files: on `Ok` it is in the database file alone. Returns `Store` if it could not be written

@@ -12,10 +12,9 @@ use Rattle.trust_store.specs.Books.{counted}
 use Rattle.trust_store.specs.Calls.{IsRead, IsWrite}
 use Rattle.trust_desk.specs.declared.requests.Body.{Body}
 use Rattle.trust_desk.specs.declared.requests.Body.TheVariants as body
-use Rattle.trust_desk.specs.declared.requests.Reply.{Reply}
 use Rattle.trust_desk.specs.Calls.{KeepsBook}
-use Rattle.trust_desk.specs.Counts.{counted_body, counted_refusal, counted_reply}
-use Rattle.trust_desk.specs.Replies.{is_fault_body, is_fault_reply}
+use Rattle.trust_desk.specs.Counts.{counted_body, counted_refusal}
+use Rattle.trust_desk.specs.Replies.{is_fault_body}
 
 pub read-kept : {B T : Type 0} {firm : B → Firm} {clean sure stands lasts : B → Type 0} {leaves : B → Firm → Type 0} {refusals : B → ℕ} {result : Result T StoreFault} {old new : B} → IsRead firm clean sure stands lasts leaves refusals result old new → KeepsBook clean sure stands lasts refusals (counted result) old new
 read-kept read = record { was_clean = read.was_clean; was_sure = read.was_sure; still_stands = read.still_stands; still_lasts = λ sure _ lasts. read.still_lasts sure lasts; cause = λ sure stands. read.count }
@@ -43,7 +42,7 @@ pub kept-still : {B : Type 0} {clean sure stands lasts : B → Type 0} {refusals
 kept-still b = record { was_clean = λ clean. clean; was_sure = λ sure. sure; still_stands = λ clean stands. stands; still_lasts = λ _ _ lasts. lasts; cause = λ sure stands. refl }
 
 -- a reply that tells of no fault counts none
-uncounted : (b : Body) → is_fault_body b ≡ false → (n : ℕ) → n ≡ counted_body b n
+pub uncounted : (b : Body) → is_fault_body b ≡ false → (n : ℕ) → n ≡ counted_body b n
 uncounted (body.Json text) plain n = refl
 uncounted (body.Text text) plain n = refl
 uncounted (body.Refused r) plain n = unfaulted r plain n
@@ -51,6 +50,3 @@ uncounted (body.Refused r) plain n = unfaulted r plain n
     unfaulted : (r : Refusal) → is_fault r ≡ false → (n : ℕ) → n ≡ counted_refusal r n
     unfaulted refusal.Store plain n = absurd (false≢true (sym plain))
     unfaulted r plain n = refl
-
-pub kept-plain : {B : Type 0} {clean sure stands lasts : B → Type 0} {refusals : B → ℕ} {old new : B} (reply : Reply) → is_fault_reply reply ≡ false → KeepsBook clean sure stands lasts refusals (λ n. n) old new → KeepsBook clean sure stands lasts refusals (counted_reply reply) old new
-kept-plain {refusals} {old} reply plain a = kept-as (λ sure stands. uncounted reply.body plain (refusals old)) a

@@ -1,14 +1,11 @@
 -- A line that is dismissed from the exceptions.
-use Rattle.std.proofs.Common.{◌≡◌, ◌⊎◌, inl, inr, Bool, true, false, cond, ℕ, List, [], ◌∷◌, Option, Some, None, refl, sym, ap, ◌∙◌, fold}
+use Rattle.std.proofs.Common.{◌≡◌, Bool, true, false, cond, List, [], ◌∷◌, Option, Some, None, refl, ap, ◌∙◌, fold}
 use Rattle.std.specs.Prelude.{not, ◌||◌}
-use Rattle.std.specs.List.{filter, list_any}
-use Rattle.std.proofs.lemmas.Bool.{false≢true}
 use Rattle.trust_base.specs.LineOrder.{is_same_line}
 use Rattle.trust_base.specs.declared.line.Line.{Line}
 use Rattle.trust_base.specs.declared.refusal.Refusal.{Refusal}
 use Rattle.trust_base.specs.declared.refusal.Refusal.TheVariants as refusals
 use Rattle.trust_base.specs.declared.refusal.Rule.TheVariants as rule
-use Rattle.trust_matter.specs.declared.ask.Caller.{Caller}
 use Rattle.trust_matter.specs.declared.ask.Caller.TheVariants.{Cashier}
 use Rattle.trust_matter.specs.Step.{first}
 use Rattle.firm_rows.specs.Firm.{Firm, without_line}

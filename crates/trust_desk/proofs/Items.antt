@@ -1,7 +1,5 @@
 -- What becomes of a line that was decided on by what was read of its matter.
-use Rattle.std.proofs.Common.{◌≡◌, ℕ, false, Ok, Err, refl, sym, ap, arith}
-use Rattle.std.specs.Prelude.{◌==◌}
-use Rattle.std.proofs.lemmas.Bool.Decides.{nat_tests}
+use Rattle.std.proofs.Common.{◌≡◌, ℕ, Ok, Err, refl, sym, ap}
 use Rattle.trust_base.specs.declared.refusal.StoreFault.{StoreFault}
 use Rattle.trust_base.specs.declared.refusal.StoreFault.TheVariants as faults
 use Rattle.trust_matter.specs.declared.bank_line.BankLine.{BankLine}
@@ -12,7 +10,6 @@ use Rattle.matter_rows.specs.Rows.{Rows}
 use Rattle.trust_matter.specs.LineStep.{LineDecides, line_on}
 use Rattle.firm_rows.specs.Firm.{Firm, of}
 use Rattle.firm_rows.specs.FirmChange.{after, by_line}
-use Rattle.firm_rows.proofs.Changed.{changes-no_other}
 use Rattle.trust_store.specs.Books.{counted_fault}
 use Rattle.trust_desk.specs.ItemStep.{after_told, counted_as, counted_verdict}
 
@@ -33,10 +30,3 @@ verdict-after firm l day (verdict.Unmatched r) d = sym (ap (λ (e : LineEffect).
 pub decision-uncounted : (rows : Rows) (l : BankLine) (day : ℕ) (fault : StoreFault) (n : ℕ) → LineDecides rows l day (Err fault) → counted_fault fault n ≡ n
 decision-uncounted rows l day faults.Memory n d = refl
 decision-uncounted rows l day faults.Store n d = absurd d
-
--- What is written of a line.
-
-pub other-after_line : (n : ℕ) (firm : Firm) (l : BankLine) (v : LineVerdict) → (l.matter == n) ≡ false → of n (after (by_line l v) firm) ≡ of n firm
-other-after_line n firm l (verdict.Applied c) apart = changes-no_other n l.matter c firm (λ same. absurd (grind (arith, nat_tests)))
-other-after_line n firm l verdict.Repeat apart = refl
-other-after_line n firm l (verdict.Unmatched r) apart = refl

@@ -2,6 +2,7 @@ pub mod Purging
 pub mod DismissedLines
 pub mod Refused
 pub mod Items
+pub mod ItemsApplied
 pub mod Calls
 pub mod Crashes
 pub mod MadeRows
@@ -10,6 +11,7 @@ pub mod ItemsRead
 pub mod OwnItems
 pub mod Own
 pub mod Steps
+pub mod Answered
 pub mod ImportSteps
 pub mod Runs
 pub mod LineFacts

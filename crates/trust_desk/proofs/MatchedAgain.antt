@@ -5,7 +5,7 @@ use Rattle.std.specs.Ordering.{int_eq}
 use Rattle.std.specs.Str.{bytes_eq}
 use Rattle.std.proofs.lemmas.Bool.{and_from, and_parts, eq-eqb, eqb-true, false≢true, or_cases}
 use Rattle.std.proofs.lemmas.Bool.Decides.{Decides-int_eq}
-use Rattle.std.proofs.lemmas.List.Elements.{Contains-append_left, Contains-append_right}
+use Rattle.std.proofs.lemmas.List.Elements.{Contains-append_left}
 use Rattle.std.proofs.lemmas.Slice.Eq.{bytes_eq-Decides}
 use Rattle.trust_base.specs.declared.line.Line.{Line}
 use Rattle.matter_rows.specs.declared.clearing.Clearing.{Clearing}
@@ -18,11 +18,10 @@ use Rattle.matter_rows.specs.declared.entry.Entry.TheVariants as entry
 use Rattle.matter_rows.specs.Rows.{entry_at, is_purged}
 use Rattle.matter_rows.specs.Clearings.{is_clearing_by, is_deposit_cleared_by, is_deposit_returned_by, is_line_again, is_payment_cleared_by}
 use Rattle.trust_matter.specs.declared.line_verdict.DatedEdit.{DatedEdit}
-use Rattle.trust_matter.specs.declared.line_verdict.LineEffect.{LineEffect}
 use Rattle.trust_matter.specs.declared.line_verdict.LineEffect.TheVariants as told
 use Rattle.trust_matter.specs.declared.line_verdict.Reason.{Reason}
 use Rattle.trust_matter.specs.Laws.{IsSameLine}
-use Rattle.trust_matter.specs.LineStep.{IsApplied, dated_by, first_reason, line_facts, line_on, matched, reasons, rows_after_line}
+use Rattle.trust_matter.specs.LineStep.{dated_by, first_reason, line_facts, line_on, matched, reasons, rows_after_line}
 use Rattle.firm_rows.specs.Firm.{EntryRow, Firm, HeadRow, Row, SeatRow, entries_among, of, rows_of}
 use Rattle.statement_csv.specs.Items.{item_of_line}
 use Rattle.statement_csv.specs.declared.item.Item.{Item}
@@ -36,14 +35,14 @@ use Rattle.statement_match.proofs.Again.{filled_is_booked}
 use Rattle.statement_match.proofs.Apart.{wait_apart}
 use Rattle.statement_match.proofs.Filling.{sure_of}
 use Rattle.statement_match.proofs.Fronts.{front_apart, has_filled}
-use Rattle.statement_match.proofs.Members.{later}
-use Rattle.trust_desk.specs.declared.importing.Counted.TheVariants as counted
+use Rattle.statement_match.proofs.Members.{flat_map_has, later}
 use Rattle.trust_desk.specs.Heard.{own_of_items}
-use Rattle.trust_desk.specs.ItemStep.{after_item, after_items, counted_as}
+use Rattle.trust_desk.specs.ItemStep.{after_item, after_items}
 use Rattle.trust_desk.specs.Matching.{FilledLinesAreInBook, items_of}
 use Rattle.trust_desk.specs.Solo.{solo_rows}
 use Rattle.trust_desk.proofs.Awaiting.{line_unpurged, stands_unpurged}
 use Rattle.trust_desk.proofs.LineFacts.{repeat-later}
+use Rattle.trust_desk.proofs.Once.{was-applied}
 use Rattle.trust_desk.proofs.FilledLines.{IsReady, filled_ready, item_keeps, ready_behind, ready_counted, ready_item, ready_line}
 use Rattle.trust_desk.proofs.OwnItems.{of-after_items, of-after_line}
 
@@ -146,15 +145,6 @@ from_filter : {A : Type 0} (p : A → Bool) (xs : List A) (y : A) → Contains (
 from_filter p [] y there = there
 from_filter p (x ∷ xs) y there = from_picked (p x) x y (filter p xs) xs (from_filter p xs y) there
 
-in_flat_map : {A B : Type 0} (f : A → List B) (xs : List A) (y : A) (z : B) → Contains xs y → Contains (f y) z
-    → Contains (flat_map f xs) z
-in_flat_map f [] y z (k, lt, is) there = absurd (omega arith)
-in_flat_map {A} f (x ∷ xs) y z (zero, lt, is) there =
-    let T = λ (v : A). Contains (f v) z in
-    Contains-append_left (f x) (flat_map f xs) z (subst T (sym is) there)
-in_flat_map f (x ∷ xs) y z (suc k, lt, is) there =
-    Contains-append_right (f x) (flat_map f xs) z (in_flat_map f xs y z (k, omega arith, is) there)
-
 firm_booked : (firm : Firm) (m n : ℕ) (e : Entry) (b : Booking) → entry_at (of m firm).entries n ≡ Some e
     → Contains (entry_bookings e) b → Contains (held_of firm).bookings b
 unfolding held_of
@@ -164,7 +154,7 @@ firm_booked firm m n e b at booked =
     let there = from_filter (λ (p : ℕ × Row). p.0 == m) firm.rows pair.0 pair.1 in
     let here : Contains (row_bookings pair.0) b =
     subst (λ (r : Row). Contains (row_bookings (pair.0.0, r)) b) (sym pair.2) booked in
-    Contains-append_left (flat_map row_bookings firm.rows) _ b (in_flat_map row_bookings firm.rows pair.0 b there here)
+    Contains-append_left (flat_map row_bookings firm.rows) _ b (flat_map_has row_bookings firm.rows pair.0 b there here)
 
 -- Behind the import.
 
@@ -183,11 +173,6 @@ items_unpurged m today firm (it ∷ items) kept =
     items_unpurged m today (after_item today firm it) items
     (item_keeps (λ rows. is_purged rows.head ≡ false) m today firm it
     (λ l is same. line_unpurged (of m firm) l today kept) kept)
-
-was_applied : (e : LineEffect) → counted_as e ≡ counted.Applied → IsApplied e
-was_applied (told.Applied e) is = tt
-was_applied told.Repeat is = absurd (cc)
-was_applied (told.Unmatched r) is = absurd (cc)
 
 was_again : (b : Bool) (r : Option Reason) (d : DatedEdit) → cond b told.Repeat (matched r d) ≡ told.Repeat → b ≡ true
 was_again true r d is = refl
@@ -215,7 +200,7 @@ ready_booked today firm x w items ready =
     ap (λ rs. is_purged rs.head) (of-after_line l today firm) ∙ line_unpurged (of m firm) l today open_now in
     let open_end : is_purged (solo_rows (rows_after_line (of m firm) l today) owns).head ≡ false =
     ap (λ rs. is_purged rs.head) (sym rows) ∙ items_unpurged m today one items open_one in
-    let applied = was_applied (line_on (of m firm) l today) (ready_counted today firm x w ready) in
+    let applied = was-applied (line_on (of m firm) l today) (ready_counted today firm x w ready) in
     let same : IsSameLine l l = record { entry = refl; date = refl; bank_ref = refl; amount = refl } in
     let repeat : line_on (of m end) l today ≡ told.Repeat =
     ap (λ rs. line_on rs l today) rows ∙ repeat-later (of m firm) l l today today owns applied same open_end in

@@ -1,102 +1,195 @@
 -- What is planned on what is kept is the step of the rows.
-use Rattle.std.proofs.Common.{◌≡◌, ℕ, ◌==◌, ◌||◌, Bool, true, false, cond, List, [], Option, Some, None, refl, sym, ap, ◌∙◌, subst, pos}
+use Rattle.std.proofs.Common.{◌≡◌, ℕ, ◌+◌, ◌==◌, Bool, true, false, cond, List, [], ◌∷◌, Option, Some, None, length, refl, sym, ap, ◌∙◌, subst, pos, arith}
+use Rattle.std.proofs.lemmas.Bool.{eq-eqb}
+use Rattle.std.proofs.lemmas.Bool.Decides.{nat_tests}
 use Rattle.matter_rows.specs.declared.entry.Entry.{Entry}
+use Rattle.matter_rows.specs.declared.entry.Entry.TheVariants as entry
+use Rattle.matter_rows.specs.declared.claim.ClaimState.{ClaimState}
+use Rattle.matter_rows.specs.declared.payment.PaymentState.{PaymentState}
 use Rattle.trust_matter.specs.declared.ask.Ask.{Ask}
 use Rattle.trust_matter.specs.declared.ask.Ask.TheVariants as ask
+use Rattle.trust_matter.specs.declared.ask.Caller.{Caller}
+use Rattle.matter_parts.specs.declared.change.TotalsAfter.{TotalsAfter}
+use Rattle.matter_parts.specs.declared.edit.Edit.{Edit}
 use Rattle.matter_parts.specs.declared.edit.Edit.TheVariants as edit
+use Rattle.matter_parts.specs.declared.edit.Numbered.{Numbered}
 use Rattle.matter_parts.specs.declared.kept.Kept.{Kept}
 use Rattle.matter_rows.specs.Rows.{Rows, entry_at}
 use Rattle.matter_rows.specs.Sound.{Sound}
-use Rattle.matter_rows.specs.Balances.{left_in}
-use Rattle.trust_matter.specs.Facts.{Asked, number_named, other_of, facts_of}
+use Rattle.matter_rows.specs.Balances.{left_in, left_of}
+use Rattle.matter_rows.proofs.Entries.{entry_at-append, entry_at-with}
+use Rattle.trust_matter.specs.Facts.{Asked, Facts, number_named, other_of, facts_of}
 use Rattle.trust_matter.specs.Conditions.{is_repeat}
-use Rattle.matter_parts.specs.Parts.{Part, IsPart, IsWhole, HoldsOn, kept_at, entry_in, left_kept, is_held, is_held_or_none}
+use Rattle.matter_parts.specs.Parts.{Part, IsPart, kept_at, kept_in, entry_in, left_kept, is_held_or_none}
 use Rattle.trust_matter.specs.KeptFacts.{holds_for}
-use Rattle.matter_parts.specs.Changes.{MatterChange, IsChange, changed, changed_by}
-use Rattle.trust_matter.specs.Step.{IsDecided, edit_of, edit_on, after, rows_after}
+use Rattle.matter_parts.specs.Changes.{AreLefts, IsPlace, MatterChange, changed, changed_by, edited}
+use Rattle.trust_matter.specs.Step.{IsDecided, cancelled, decided, edit_on, after, rows_after, with_claim, with_payment}
 use Rattle.matter_parts.proofs.Parts.{held-entry}
 use Rattle.trust_matter.proofs.Parts.{both}
 use Rattle.matter_bodies.specs.Bodies.{receipt_body, entry_body}
 use Rattle.trust_desk.specs.declared.requests.Body.{Body}
 use Rattle.trust_desk.specs.Replies.{made_text, shown_text, body_of, said, success_of, replied}
-use Rattle.trust_desk.specs.Plan.{is_nothing, success_by, IsBodyOf, IsTextOf, IsPlanned, IsWholeForCard}
+use Rattle.trust_desk.specs.Plan.{IsBodyAfter, IsPlanned, IsWholeForCard, entry_text, kept_after, made_kept, shown_kept, status_of_edit, written_or}
 
--- A body of what is kept.
+-- What is kept of an entry.
 
--- the kept entry, or none, with what is left of it
-abbrev pub made_kept : ℕ → ℕ → Option Kept → List ℕ
-made_kept number n None = []
-made_kept number n (Some k) = receipt_body number n k.entry
+abbrev pub IsNumbered : ℕ → Option Kept → Type 0
+IsNumbered n None = Unit {0}
+IsNumbered n (Some k) = k.number ≡ n
 
-abbrev pub shown_kept : ℕ → ℕ → Option Kept → List ℕ
-shown_kept number n None = []
-shown_kept number n (Some k) = entry_body number n k.entry (pos k.left)
+-- it is what the rows have of the entry
+pub record IsEntryKept (n : ℕ) (es : List Entry) (k : Option Kept) : Type 0 where
+  pub number : IsNumbered n k
+  pub entry : entry_in k ≡ entry_at es n
+  pub left : left_kept k ≡ left_in es n (entry_at es n)
 
-made-by : (number n : ℕ) (k : Option Kept) → made_kept number n k ≡ made_text number n (entry_in k)
-made-by number n None = refl
-made-by number n (Some k) = refl
+numbered-at : (n : ℕ) (k : Kept) (rest : Option Kept) (b : Bool) → (k.number == n) ≡ b → IsNumbered n rest → IsNumbered n (cond b (Some k) rest)
+numbered-at n k rest true is more = grind (arith, nat_tests)
+numbered-at n k rest false is more = more
 
-pub text-made : (number n : ℕ) (m : Part) (k : Option Kept) → k ≡ kept_at m n → IsTextOf m n (λ rows. made_text number n (entry_at rows.entries n)) (made_kept number n k)
-text-made number n m k at rows sound p held =
-    let is = held-entry m.kept m.figures.entries n rows.entries p.kept p.figures.entries held in
-    made-by number n k ∙ ap (made_text number n) (ap entry_in at ∙ is.0)
+numbered : (n : ℕ) (ks : List Kept) → IsNumbered n (kept_in ks n)
+numbered n [] = tt
+numbered n (k ∷ ks) = numbered-at n k (kept_in ks n) (k.number == n) refl (numbered n ks)
 
-shown-by : (number n : ℕ) (es : List Entry) (k : Option Kept) (o : Option Entry) → entry_in k ≡ o → left_kept k ≡ left_in es n o → shown_kept number n k ≡ shown_text number n es o
-shown-by number n es None o is left = subst (λ (x : Option Entry). shown_kept number n None ≡ shown_text number n es x) is refl
-shown-by number n es (Some k) o is left =
-    subst (λ (x : Option Entry). left_kept (Some k) ≡ left_in es n x → shown_kept number n (Some k) ≡ shown_text number n es x) is (λ l. ap (entry_body number n k.entry) l) left
+made-by : (m n : ℕ) (es : List Entry) (k : Option Kept) → IsEntryKept n es k → made_kept m k ≡ made_text m n (entry_at es n)
+made-by m n es None is = ap (made_text m n) is.entry
+made-by m n es (Some k) is = (λ i. receipt_body m (is.number i) k.entry) ∙ ap (made_text m n) is.entry
 
-pub text-shown : (number n : ℕ) (m : Part) (k : Option Kept) → k ≡ kept_at m n → IsTextOf m n (λ rows. shown_text number n rows.entries (entry_at rows.entries n)) (shown_kept number n k)
-text-shown number n m k at rows sound p held =
-    let is = held-entry m.kept m.figures.entries n rows.entries p.kept p.figures.entries held in
-    shown-by number n rows.entries k (entry_at rows.entries n) (ap entry_in at ∙ is.0) (ap left_kept at ∙ is.1)
+shown-by : (m n : ℕ) (es : List Entry) (k : Option Kept) → IsEntryKept n es k → shown_kept m k ≡ shown_text m n es (entry_at es n)
+shown-by m n es None is = ap (shown_text m n es) is.entry
+shown-by m n es (Some k) is =
+    (λ i. entry_body m (is.number i) k.entry (pos k.left))
+    ∙ subst (λ (o : Option Entry). pos k.left ≡ left_in es n o → entry_body m n k.entry (pos k.left) ≡ shown_text m n es o) is.entry
+    (λ left. ap (entry_body m n k.entry) left) is.left
+
+-- An ask that names an entry.
+
+-- all but the four that make an entry are told it as it is
+pub shown-text : (m : ℕ) (k : Option Kept) (a : Ask) → ((x : _) → a ≡ ask.Deposit x → ⊥) → ((x : _) → a ≡ ask.Propose x → ⊥) → ((x : _) → a ≡ ask.EarnFee x → ⊥) → ((x : _) → a ≡ ask.RaiseClaim x → ⊥) → entry_text m a k ≡ shown_kept m k
+shown-text m k (ask.Deposit x) deposit propose fee claim = absurd (deposit x refl)
+shown-text m k (ask.Propose x) deposit propose fee claim = absurd (propose x refl)
+shown-text m k (ask.EarnFee x) deposit propose fee claim = absurd (fee x refl)
+shown-text m k (ask.RaiseClaim x) deposit propose fee claim = absurd (claim x refl)
+shown-text m k _ deposit propose fee claim = refl
+
+-- What an ask edits.
+
+-- at most the entry with this number is written
+abbrev pub WritesAt : ℕ → Edit → Type 0
+WritesAt n edit.Nothing = Unit {0}
+WritesAt n (edit.Append x) = x.number ≡ n
+WritesAt n (edit.Exchange x) = x.number ≡ n
+WritesAt n _ = ⊥
+
+-- it writes there, and has this status
+pub record IsEditAt (n code : ℕ) (e : Edit) : Type 0 where
+  pub writes : WritesAt n e
+  pub status : status_of_edit e ≡ code
+
+cancelled-at : (n : ℕ) (e : Option Entry) (day : ℕ) → IsEditAt n 200 (cancelled n e day)
+cancelled-at n (Some (entry.Deposit d)) day = record { writes = refl; status = refl }
+cancelled-at n _ day = record { writes = tt; status = refl }
+
+payment-at : (n : ℕ) (e : Option Entry) (next : PaymentState → PaymentState) → IsEditAt n 200 (with_payment n e next)
+payment-at n (Some (entry.Payment p)) next = record { writes = refl; status = refl }
+payment-at n _ next = record { writes = tt; status = refl }
+
+claim-at : (n : ℕ) (e : Option Entry) (next : ClaimState) → IsEditAt n 200 (with_claim n e next)
+claim-at n (Some (entry.Claim c)) next = record { writes = refl; status = refl }
+claim-at n _ next = record { writes = tt; status = refl }
+
+append-at : (again : Bool) (x : Numbered) → IsEditAt x.number (cond again 200 201) (cond again edit.Nothing (edit.Append x))
+append-at true x = record { writes = tt; status = refl }
+append-at false x = record { writes = refl; status = refl }
+
+-- it is answered with the entry, and edits no other
+pub record IsOfEntry (a : Ask) : Type 0 where
+  pub text : (m : ℕ) (rows : Rows) (k : Option Kept) → IsEntryKept (number_named a) rows.entries k → entry_text m a k ≡ body_of m rows a
+  pub edits : (f : Facts) (caller : Caller) (day : ℕ) → IsEditAt (number_named a) (success_of a (is_repeat f (record { caller = caller; ask = a; day = day }))) (decided f (record { caller = caller; ask = a; day = day }))
+
+-- all asks but the seven that are answered with the matter
+pub of-entry : (a : Ask) → ((x : _) → a ≡ ask.OpenMatter x → ⊥) → ((x : _) → a ≡ ask.AddSeat x → ⊥) → ((x : _) → a ≡ ask.DropSeat x → ⊥) → (a ≡ ask.CloseMatter → ⊥) → (a ≡ ask.Purge → ⊥) → (a ≡ ask.Show → ⊥) → (a ≡ ask.Accounting → ⊥) → IsOfEntry a
+of-entry (ask.OpenMatter x) open_ add drop_ close purge show card = absurd (open_ x refl)
+of-entry (ask.AddSeat x) open_ add drop_ close purge show card = absurd (add x refl)
+of-entry (ask.DropSeat x) open_ add drop_ close purge show card = absurd (drop_ x refl)
+of-entry ask.CloseMatter open_ add drop_ close purge show card = absurd (close refl)
+of-entry ask.Purge open_ add drop_ close purge show card = absurd (purge refl)
+of-entry ask.Show open_ add drop_ close purge show card = absurd (show refl)
+of-entry ask.Accounting open_ add drop_ close purge show card = absurd (card refl)
+of-entry (ask.Deposit a) _ _ _ _ _ _ _ = record { text = λ m rows. made-by m a.number rows.entries; edits = λ f caller day. append-at (is_repeat f (record { caller = caller; ask = ask.Deposit a; day = day })) _ }
+of-entry (ask.Propose a) _ _ _ _ _ _ _ = record { text = λ m rows. made-by m a.number rows.entries; edits = λ f caller day. append-at (is_repeat f (record { caller = caller; ask = ask.Propose a; day = day })) _ }
+of-entry (ask.EarnFee a) _ _ _ _ _ _ _ = record { text = λ m rows. made-by m a.number rows.entries; edits = λ f caller day. append-at (is_repeat f (record { caller = caller; ask = ask.EarnFee a; day = day })) _ }
+of-entry (ask.RaiseClaim a) _ _ _ _ _ _ _ = record { text = λ m rows. made-by m a.number rows.entries; edits = λ f caller day. append-at (is_repeat f (record { caller = caller; ask = ask.RaiseClaim a; day = day })) _ }
+of-entry (ask.Offer a) _ _ _ _ _ _ _ = record { text = λ m rows. shown-by m a.number rows.entries; edits = λ f caller day. claim-at a.number f.entry _ }
+of-entry (ask.Accept a) _ _ _ _ _ _ _ = record { text = λ m rows. shown-by m a.number rows.entries; edits = λ f caller day. claim-at a.number f.entry _ }
+of-entry (ask.Award a) _ _ _ _ _ _ _ = record { text = λ m rows. shown-by m a.number rows.entries; edits = λ f caller day. claim-at a.number f.entry _ }
+of-entry (ask.CancelDeposit n) _ _ _ _ _ _ _ = record { text = λ m rows. shown-by m n rows.entries; edits = λ f caller day. cancelled-at n f.entry day }
+of-entry (ask.Approve n) _ _ _ _ _ _ _ = record { text = λ m rows. shown-by m n rows.entries; edits = λ f caller day. payment-at n f.entry _ }
+of-entry (ask.Decline n) _ _ _ _ _ _ _ = record { text = λ m rows. shown-by m n rows.entries; edits = λ f caller day. payment-at n f.entry _ }
+of-entry (ask.VoidPayment n) _ _ _ _ _ _ _ = record { text = λ m rows. shown-by m n rows.entries; edits = λ f caller day. payment-at n f.entry _ }
+of-entry (ask.ShowEntry n) _ _ _ _ _ _ _ = record { text = λ m rows. shown-by m n rows.entries; edits = λ f caller day. record { writes = tt; status = refl } }
+
+-- 201 where something is made
+status-same : (f : Facts) (caller : Caller) (day : ℕ) (a : Ask) → status_of_edit (decided f (record { caller = caller; ask = a; day = day })) ≡ success_of a (is_repeat f (record { caller = caller; ask = a; day = day }))
+status-same f caller day (ask.OpenMatter a) = refl
+status-same f caller day (ask.AddSeat s) = refl
+status-same f caller day (ask.DropSeat p) = refl
+status-same f caller day ask.CloseMatter = refl
+status-same f caller day ask.Purge = refl
+status-same f caller day ask.Show = refl
+status-same f caller day ask.Accounting = refl
+status-same f caller day a =
+    ((of-entry a (λ x is. absurd (cc)) (λ x is. absurd (cc)) (λ x is. absurd (cc)) (λ is. absurd (cc)) (λ is. absurd (cc)) (λ is. absurd (cc)) (λ is. absurd (cc))).edits f caller day).status
+
+pub other-status : (e : Edit) → ((x : _) → e ≡ edit.Open x → ⊥) → ((x : _) → e ≡ edit.Append x → ⊥) → status_of_edit e ≡ 200
+other-status (edit.Open x) open_ append = absurd (open_ x refl)
+other-status (edit.Append x) open_ append = absurd (append x refl)
+other-status _ open_ append = refl
+
+-- The entry after the change.
+
+written : (n : ℕ) (es : List Entry) (x : Numbered) (left : ℕ) → x.number ≡ n → entry_at es n ≡ Some x.entry → pos left ≡ left_of es x.number x.entry → IsEntryKept n es (Some (record { number = x.number; left = left; entry = x.entry }))
+written n es x left at there is = record {
+  number = at;
+  entry = sym there;
+  left = is ∙ (ap (λ m. left_of es m x.entry) at ∙ ap (left_in es n) (sym there));
+}
+
+kept-edited : (n : ℕ) (rows : Rows) (k : Option Kept) (v : TotalsAfter) (e : Edit) → WritesAt n e → IsPlace rows e → AreLefts (edited rows.entries e) e v → IsEntryKept n rows.entries k → IsEntryKept n (edited rows.entries e) (written_or k e v.left)
+kept-edited n rows k v edit.Nothing at place lefts is = is
+kept-edited n rows k v (edit.Append x) at place lefts is =
+    let es = rows.entries in
+    let there : entry_at (edited es (edit.Append x)) n ≡ Some x.entry =
+    entry_at-append es x.entry n ∙ ap (λ b. cond b (Some x.entry) (entry_at es n)) (eq-eqb n (length es + 1) (sym at ∙ place.1)) in
+    written n (edited es (edit.Append x)) x v.left at there lefts.0
+kept-edited n rows k v (edit.Exchange x) at place lefts is =
+    let es = rows.entries in
+    let there : entry_at (edited es (edit.Exchange x)) n ≡ Some x.entry =
+    entry_at-with es x.number place.1.0 x.entry n place.1.1.there ∙ ap (λ b. cond b (Some x.entry) (entry_at es n)) (eq-eqb n x.number (sym at)) in
+    written n (edited es (edit.Exchange x)) x v.left at there lefts.0
+kept-edited n rows k v _ at place lefts is = absurd at
+
+-- the text of the entry, with the change made
+pub text-after : (m : ℕ) (rows : Rows) (caller : Caller) (a : Ask) (day : ℕ) (c : MatterChange) (part : Part) → IsOfEntry a → IsPart part rows → holds_for part a ≡ true → IsDecided rows (record { caller = caller; ask = a; day = day }) c
+    → entry_text m a (kept_after (kept_at part (number_named a)) c) ≡ body_of m (changed c rows) a
+text-after m rows caller a day c part of p holds d =
+    let n = number_named a in
+    let held = both (is_held_or_none part n) (is_held_or_none part (other_of a (entry_in (kept_at part n)))) holds in
+    let now = held-entry part.kept part.figures.entries n rows.entries p.kept p.figures.entries held.0 in
+    let before : IsEntryKept n rows.entries (kept_at part n) = record { number = numbered n part.kept; entry = now.0; left = now.1 } in
+    let writes : WritesAt n c.edit = subst (WritesAt n) (sym d.edit) (of.edits (facts_of rows a) caller day).writes in
+    of.text m (changed c rows) (kept_after (kept_at part n) c)
+    (kept-edited n rows (kept_at part n) c.moves c.edit writes d.change.place d.change.lefts before)
 
 -- A plan.
 
-held-on : (m m' : Part) (n : ℕ) → HoldsOn m m' → is_held_or_none m n ≡ true → is_held_or_none m' n ≡ true
-held-on m m' n on held = cases (n == 0) held
-  where
-    cases : (b : Bool) → (b || is_held m n) ≡ true → (b || is_held m' n) ≡ true
-    cases true h = refl
-    cases false h = on n h
-
--- 201 where something is made
-status-same : (a : Ask) (again : Bool) (e : Option Entry) (day : ℕ) → success_of a (is_nothing (cond again edit.Nothing (edit_of a e day))) ≡ success_of a again
-status-same (ask.OpenMatter o) again e day = refl
-status-same (ask.AddSeat s) again e day = refl
-status-same (ask.DropSeat p) again e day = refl
-status-same (ask.Deposit d) true e day = refl
-status-same (ask.Deposit d) false e day = refl
-status-same (ask.CancelDeposit n) again e day = refl
-status-same (ask.Propose a) true e day = refl
-status-same (ask.Propose a) false e day = refl
-status-same (ask.Approve n) again e day = refl
-status-same (ask.Decline n) again e day = refl
-status-same (ask.VoidPayment n) again e day = refl
-status-same (ask.EarnFee a) true e day = refl
-status-same (ask.EarnFee a) false e day = refl
-status-same (ask.RaiseClaim a) true e day = refl
-status-same (ask.RaiseClaim a) false e day = refl
-status-same (ask.Offer a) again e day = refl
-status-same (ask.Accept a) again e day = refl
-status-same (ask.Award a) again e day = refl
-status-same ask.CloseMatter again e day = refl
-status-same ask.Purge again e day = refl
-status-same ask.Show again e day = refl
-status-same ask.Accounting again e day = refl
-status-same (ask.ShowEntry n) again e day = refl
-
-pub planned : (number : ℕ) (rows : Rows) (a : Asked) (c : MatterChange) (m m' : Part) (text : List ℕ) (body : Body) (status : ℕ) → Sound rows → IsPart m rows → holds_for m a.ask ≡ true → IsWholeForCard a.ask m rows → IsDecided rows a c
-    → ((rs : Rows) → Sound rs → IsPart m rs → IsChange rs c → IsPart m' (changed c rs))
-    → ((rs : Rows) → Sound rs → IsPart m rs → IsChange rs c → HoldsOn m m')
-    → (IsWhole m rows → IsChange rows c → IsWhole m' (changed c rows))
-    → IsBodyOf number a.ask m' text → body ≡ said a.ask text → status ≡ success_by a.ask c.edit
+pub planned : (number : ℕ) (rows : Rows) (a : Asked) (c : MatterChange) (m : Part) (text : List ℕ) (body : Body) (status : ℕ) → Sound rows → IsPart m rows → holds_for m a.ask ≡ true → IsWholeForCard a.ask m rows → IsDecided rows a c
+    → IsBodyAfter number a.ask m c text → body ≡ said a.ask text → status ≡ status_of_edit c.edit
     → IsPlanned number rows a (record { change = c; reply = record { status = status; body = body } })
-planned number rows a c m m' text body status sound p holds whole d part on keeps is says told =
-    let held = both (is_held_or_none m (number_named a.ask)) (is_held_or_none m (other_of a.ask (entry_in (kept_at m (number_named a.ask))))) holds in
-    let texts : text ≡ body_of number (changed c rows) a.ask = is (changed c rows) d.change.sound (part rows sound p d.change) (held-on m m' (number_named a.ask) (on rows sound p d.change) held.0) (λ card. keeps (whole card) d.change) in
+planned number rows a c m text body status sound p holds whole d is says told =
+    let texts : text ≡ body_of number (changed c rows) a.ask = is rows a.caller a.day sound p holds whole d in
     let left : changed c rows ≡ rows_after rows a = (λ i. changed_by (d.edit i) (d.last i) rows) ∙ sym (ap (λ o. after o (edit_on rows a) a.day rows) d.accepted) in
-    let statuses : status ≡ success_of a.ask (is_repeat (facts_of rows a.ask) a) = told ∙ (ap (success_by a.ask) d.edit ∙ status-same a.ask (is_repeat (facts_of rows a.ask) a) (facts_of rows a.ask).entry a.day) in
+    let statuses : status ≡ success_of a.ask (is_repeat (facts_of rows a.ask) a) = told ∙ (ap status_of_edit d.edit ∙ status-same (facts_of rows a.ask) a.caller a.day a.ask) in
     record {
       decided = d;
       reply = (λ i. record { status = statuses i; body = (says ∙ ap (said a.ask) (texts ∙ ap (λ rs. body_of number rs a.ask) left)) i }) ∙ sym (ap (λ o. replied o number rows a) d.accepted);

@@ -75,7 +75,7 @@ once-only m a again firm new between makes accepted runs same =
 
 -- A line.
 
-was-applied : (e : LineEffect) → counted_as e ≡ counted.Applied → IsApplied e
+pub was-applied : (e : LineEffect) → counted_as e ≡ counted.Applied → IsApplied e
 was-applied (told.Applied e) is = tt
 was-applied told.Repeat is = absurd (cc)
 was-applied (told.Unmatched r) is = absurd (cc)

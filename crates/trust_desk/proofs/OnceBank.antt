@@ -20,8 +20,8 @@ use Rattle.firm_rows.proofs.LinesStay.{edit-leaves, line-kept, lines-stay, balan
 use Rattle.statement_csv.specs.declared.item.Item.{Item}
 use Rattle.statement_csv.specs.declared.item.Item.TheVariants as item
 use Rattle.trust_desk.specs.declared.importing.Counted.TheVariants as counted
-use Rattle.trust_desk.specs.ItemStep.{after_item, after_items, after_balance, balance_on, counted_by, counted_of, firm_line_on}
-use Rattle.trust_desk.specs.OnceOnly.{DayRun, RunsOn, IsRepeated, IsUnmatched, IsSameFirmLine, FirmLineOnce, balance_item, IsBalanceOver, BalanceOnce}
+use Rattle.trust_desk.specs.ItemStep.{after_balance, after_item, after_items, balance_item, balance_on, counted_by, counted_of, firm_line_on}
+use Rattle.trust_desk.specs.OnceOnly.{DayRun, RunsOn, IsRepeated, IsUnmatched, IsSameFirmLine, FirmLineOnce, IsBalanceOver, BalanceOnce}
 use Rattle.trust_desk.proofs.OnceRuns.{all-keep, each-item, each-step}
 
 -- A line of the firm's own.
@@ -72,11 +72,11 @@ firm-line-once line again day later firm mid rest front between some same runs =
 
 -- A balance.
 
-counted-balance : (k : BalanceKind) (day : ℕ) (firm : Firm) (line : Line) → counted_of day firm (balance_item k line) ≡ counted_by (balance_on firm k line day)
+pub counted-balance : (k : BalanceKind) (day : ℕ) (firm : Firm) (line : Line) → counted_of day firm (balance_item k line) ≡ counted_by (balance_on firm k line day)
 counted-balance kind.Opening day firm line = refl
 counted-balance kind.Closing day firm line = refl
 
-after-balance : (k : BalanceKind) (day : ℕ) (firm : Firm) (line : Line) → after_item day firm (balance_item k line) ≡ after_balance k line day firm
+pub after-balance : (k : BalanceKind) (day : ℕ) (firm : Firm) (line : Line) → after_item day firm (balance_item k line) ≡ after_balance k line day firm
 after-balance kind.Opening day firm line = refl
 after-balance kind.Closing day firm line = refl
 

@@ -1,9 +1,8 @@
 -- What the items of a statement do to a matter is what its own machine does with the lines that name it.
-use Rattle.std.proofs.Common.{◌≡◌, ◌≢◌, ℕ, Bool, true, false, ◌||◌, List, [], ◌∷◌, ◌++◌, Result, Ok, Err, refl, sym, ap, ◌∙◌, subst, append_assoc, arith}
-use Rattle.std.specs.Prelude.{◌==◌, IfOk}
+use Rattle.std.proofs.Common.{◌≡◌, ◌≢◌, ℕ, Bool, true, false, ◌||◌, List, [], ◌∷◌, ◌++◌, refl, sym, ap, ◌∙◌, subst, append_assoc, arith}
+use Rattle.std.specs.Prelude.{◌==◌}
 use Rattle.std.specs.List.{list_any}
 use Rattle.std.proofs.lemmas.Bool.Decides.{nat_tests}
-use Rattle.trust_base.specs.declared.refusal.StoreFault.{StoreFault}
 use Rattle.trust_matter.specs.declared.bank_line.BankLine.{BankLine}
 use Rattle.trust_matter.specs.declared.line_verdict.LineEffect.{LineEffect}
 use Rattle.trust_matter.specs.declared.line_verdict.LineEffect.TheVariants as told
@@ -19,9 +18,7 @@ use Rattle.firm_rows.specs.FirmChange.{after, by_balance, by_firm_line}
 use Rattle.firm_rows.proofs.Changed.{of-after_edit, of_other-after_edit}
 use Rattle.statement_csv.specs.declared.item.Item.{Item}
 use Rattle.statement_csv.specs.declared.item.Item.TheVariants as item
-use Rattle.trust_desk.specs.declared.importing.Counted.{Counted}
-use Rattle.trust_desk.specs.ItemStep.{after_told, after_item, after_items, balance_on, counted_of, firm_line_on, names_item}
-use Rattle.trust_desk.specs.Imports.{LeavesOwnItem}
+use Rattle.trust_desk.specs.ItemStep.{after_told, after_item, after_items, balance_on, firm_line_on, names_item}
 use Rattle.trust_desk.specs.Heard.{Own, OwnLine, own_if, own_of_item, own_of_items}
 use Rattle.trust_desk.specs.Solo.{own_rows, own_reply, solo_rows, solo_replies}
 
@@ -59,7 +56,7 @@ of-balance m kind line own.Applied firm = refl
 of-balance m kind line own.Repeat firm = refl
 of-balance m kind line own.Unmatched firm = refl
 
-pub of-firm_line : (m : ℕ) (line : Line) (v : Verdict) (firm : Firm) → of m (after (by_firm_line line v) firm) ≡ of m firm
+of-firm_line : (m : ℕ) (line : Line) (v : Verdict) (firm : Firm) → of m (after (by_firm_line line v) firm) ≡ of m firm
 of-firm_line m line own.Applied firm = refl
 of-firm_line m line own.Repeat firm = refl
 of-firm_line m line own.Unmatched firm = refl
@@ -82,11 +79,6 @@ of-after_item m day firm (item.OfMatter l) = cases (l.matter == m) refl
 of-after_item m day firm (item.OfFirm line) = of-firm_line m line (firm_line_on firm line day) firm
 of-after_item m day firm (item.Stray line) = refl
 of-after_item m day firm (item.Unreadable number) = refl
-
--- an item that was applied leaves each matter what its own machine does
-pub own-item : (day : ℕ) (firm new : Firm) (it : Item) (r : Result Counted StoreFault) → IfOk r (λ c. (c ≡ counted_of day firm it) × (new ≡ after_item day firm it)) → IfOk r (λ _. LeavesOwnItem day firm it new)
-own-item day firm new it (Ok c) is = λ m. ap (of m) is.1 ∙ of-after_item m day firm it
-own-item day firm new it (Err fault) is = tt
 
 pub of-after_items : (m day : ℕ) (firm : Firm) (items : List Item) → of m (after_items day firm items) ≡ solo_rows (of m firm) (own_of_items m day items)
 of-after_items m day firm [] = refl

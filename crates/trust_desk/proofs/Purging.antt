@@ -1,5 +1,5 @@
 -- A purge that the firm's step does is a change that purges, so the figures' law speaks of it.
-use Rattle.std.proofs.Common.{◌≡◌, ℕ, false, [], Option, Some, None, refl}
+use Rattle.std.proofs.Common.{◌≡◌, ℕ, false, Option, Some, None, refl}
 use Rattle.trust_base.specs.declared.refusal.Refusal.{Refusal}
 use Rattle.matter_rows.specs.Rows.{Rows}
 use Rattle.matter_rows.proofs.Covered.{sound-covered}

@@ -11,8 +11,8 @@ use Rattle.trust_reports.specs.Reconciliations.{ReconciliationKept, Reconciliati
 use Rattle.trust_reports.proofs.ReconciliationRows.{reconciliation-kept}
 use Rattle.trust_desk.specs.Kept.{IsAnswer, IsKeptOf}
 use Rattle.trust_desk.specs.Reports.{IsReconciled, has_no_statement, reconciliation_report}
-use Rattle.trust_desk.specs.declared.reconciliation.Reconciled.{Reconciled}
-use Rattle.trust_desk.specs.declared.reconciliation.Reconciled.TheVariants as answer
+use Rattle.trust_desk.specs.declared.reporting.Reconciled.{Reconciled}
+use Rattle.trust_desk.specs.declared.reporting.Reconciled.TheVariants as answer
 
 none-map : {A C : Type 0} (f : A → C) (o : Option A) → is_none (option_map f o) ≡ is_none o
 none-map f None = refl

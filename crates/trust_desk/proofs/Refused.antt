@@ -59,12 +59,7 @@ pub fault-told : (fault : StoreFault) → is_fault (refused_by fault) ≡ true
 fault-told faults.Store = refl
 fault-told faults.Memory = refl
 
--- a fault of the book changes nothing
-pub fault-refused : (firm new : Firm) (m : ℕ) (a : Asked) (fault : StoreFault) (r : Refusal) → r ≡ refused_by fault → new ≡ firm → IsRefused firm m a r new
-fault-refused firm new m a faults.Store r is same = record { why = inl (ap is_fault is); leaves = same }
-fault-refused firm new m a faults.Memory r is same = record { why = inl (ap is_fault is); leaves = same }
-
--- and is counted as the book counts it
+-- a fault of the book is counted as the book counts it
 pub fault-counted : (fault : StoreFault) (r : Refusal) (n : ℕ) → r ≡ refused_by fault → counted_refusal r n ≡ counted_fault fault n
 fault-counted faults.Store r n is = ap (λ x. counted_refusal x n) is
 fault-counted faults.Memory r n is = ap (λ x. counted_refusal x n) is

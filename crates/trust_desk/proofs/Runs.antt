@@ -6,7 +6,7 @@ use Rattle.firm_rows.specs.FirmSound.{FirmSound}
 use Rattle.trust_desk.specs.declared.requests.Request.{Request}
 use Rattle.trust_desk.specs.declared.requests.Reply.{Reply}
 use Rattle.trust_desk.specs.Heard.{Heard, Asks, heard}
-use Rattle.trust_desk.specs.FirmStep.{Steps, Runs, RunsSoundly, SoundRunsAreRuns}
+use Rattle.trust_desk.specs.FirmStep.{Steps, RunsSoundly, SoundRunsAreRuns}
 use Rattle.trust_desk.specs.Counts.{counted_reply, counted_replies}
 
 pub sound-runs-are-runs : SoundRunsAreRuns
@@ -17,13 +17,6 @@ sound-runs-are-runs day firm new (h ∷ hs) (reply ∷ replies) run =
     (run.0, run.1, sound-runs-are-runs day run.0 new hs replies run.3)
 
 -- a run and one step more
-pub Runs-push : (day : ℕ) (f g h : Firm) (qs : List Heard) (q : Heard) (rs : List Reply) (r : Reply)
-    → Runs day f qs rs g → Steps day g q r h → Runs day f (qs ++ q ∷ []) (rs ++ r ∷ []) h
-Runs-push day f g h [] q [] r run step = (h, subst (λ (x : Firm). Steps day x q r h) run step, refl)
-Runs-push day f g h [] q (s ∷ rs) r run step = absurd run
-Runs-push day f g h (p ∷ qs) q [] r run step = absurd run
-Runs-push day f g h (p ∷ qs) q (s ∷ rs) r run step = (run.0, run.1, Runs-push day run.0 g h qs q rs r run.2 step)
-
 pub RunsSoundly-push : (day : ℕ) (f g h : Firm) (qs : List Heard) (q : Heard) (rs : List Reply) (r : Reply)
     → RunsSoundly day f qs rs g → Steps day g q r h → FirmSound h → RunsSoundly day f (qs ++ q ∷ []) (rs ++ r ∷ []) h
 RunsSoundly-push day f g h [] q [] r run step sound = (h, subst (λ (x : Firm). Steps day x q r h) run step, sound, refl)

@@ -7,8 +7,6 @@ use Rattle.trust_base.specs.declared.refusal.Refusal.TheVariants as refusal
 use Rattle.firm_rows.specs.Firm.{Firm, of}
 use Rattle.firm_rows.specs.FirmSound.{FirmSound}
 use Rattle.statement_csv.specs.Reading.{Gives}
-use Rattle.statement_csv.specs.declared.fault.ReadFault.{ReadFault}
-use Rattle.statement_csv.specs.declared.fault.ReadFault.TheVariants as fault
 use Rattle.statement_csv.specs.declared.item.Item.{Item}
 use Rattle.matter_bodies.specs.declared.bodies.ImportReply.{ImportReply}
 use Rattle.trust_desk.specs.declared.importing.Counted.{Counted}
@@ -17,7 +15,7 @@ use Rattle.trust_desk.specs.declared.importing.ImportStop.{ImportStop}
 use Rattle.trust_desk.specs.declared.importing.ImportStop.TheVariants as stop
 use Rattle.trust_desk.specs.Counts.{counted_refusal}
 use Rattle.trust_desk.specs.ItemStep.{after_item, after_items, counted_of, count_item, counts_after, names_item, none_counted}
-use Rattle.trust_desk.specs.Heard.{own_of_item, own_of_items}
+use Rattle.trust_desk.specs.Heard.{own_of_items}
 use Rattle.trust_desk.specs.Solo.{solo_rows}
 
 -- The items of a statement. Nothing is known if its reader does not say what its bytes are; otherwise it has no items
@@ -26,13 +24,6 @@ abbrev pub Told : Type 0
 Told = Option (Option (List Item))
 
 -- How it ends.
-
--- how an import ends after a read fault
-abbrev pub stop_of : ReadFault → ImportStop
-stop_of fault.BadHeader = stop.Refused (refusal.BadField field.Header)
-stop_of fault.Limit = stop.Limit
-stop_of fault.Reader = stop.ReadFault
-stop_of fault.Memory = stop.Refused refusal.Memory
 
 -- an import is only refused for its header, by the store or for lack of memory
 abbrev pub IsStop : ImportStop → Type 0
@@ -76,10 +67,6 @@ pub record Imports (day : ℕ) (firm : Firm) (told : Told) (result : ImportEnd) 
   pub counts : result.reply ≡ counts_after day firm front none_counted
   pub own : (m : ℕ) → of m new ≡ solo_rows (of m firm) (own_of_items m day front)
   pub sound : AlwaysSound day firm front
-
--- each matter's rows are those that its own machine makes with the item, if the item names it
-abbrev pub LeavesOwnItem : ℕ → Firm → Item → Firm → Type 0
-LeavesOwnItem day firm it new = (m : ℕ) → of m new ≡ solo_rows (of m firm) (own_of_item m day it)
 
 -- What it has not done.
 

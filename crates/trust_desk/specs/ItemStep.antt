@@ -1,11 +1,16 @@
 -- What the items of a statement do to the firm.
-use Rattle.std.specs.Prelude.{◌≡◌, ℕ, ◌+◌, ◌==◌, Bool, false, List, [], ◌∷◌, length, Option, Some, None}
+use Rattle.std.specs.Prelude.{◌≡◌, ℕ, ◌+◌, ◌==◌, Bool, false, List, [], ◌∷◌, length, Option, Some, None, Result}
 use Rattle.trust_matter.specs.declared.bank_line.BankLine.{BankLine}
 use Rattle.trust_matter.specs.declared.line_verdict.LineEffect.{LineEffect}
 use Rattle.trust_matter.specs.declared.line_verdict.LineEffect.TheVariants as told
 use Rattle.trust_matter.specs.declared.line_verdict.LineVerdict.{LineVerdict}
 use Rattle.trust_matter.specs.declared.line_verdict.LineVerdict.TheVariants as verdict
-use Rattle.trust_matter.specs.LineStep.{line_on}
+use Rattle.trust_matter.specs.LineStep.{LineDecides, line_on}
+use Rattle.matter_parts.specs.Parts.{Part}
+use Rattle.matter_rows.specs.Rows.{Rows}
+use Rattle.matter_rows.specs.Sound.{Sound}
+use Rattle.trust_base.specs.declared.refusal.StoreFault.{StoreFault}
+use Rattle.trust_store.specs.Named.{IsPartFor}
 use Rattle.trust_base.specs.declared.line.Line.{Line}
 use Rattle.firm_rows.specs.declared.ledger.BalanceKind.{BalanceKind}
 use Rattle.firm_rows.specs.declared.ledger.BalanceKind.TheVariants as kind
@@ -21,6 +26,11 @@ use Rattle.trust_desk.specs.declared.importing.Counted.{Counted}
 use Rattle.trust_desk.specs.declared.importing.Counted.TheVariants as counted
 
 -- One item.
+
+-- the item for a balance of a kind
+abbrev pub balance_item : BalanceKind → Line → Item
+balance_item kind.Opening line = item.Opening line
+balance_item kind.Closing line = item.Closing line
 
 -- the firm after a line that names an entry, according to its verdict
 abbrev pub after_told : BankLine → LineEffect → Firm → Firm
@@ -75,6 +85,11 @@ counted_verdict (verdict.Applied c) = counted.Applied
 counted_verdict verdict.Repeat = counted.Repeated
 counted_verdict (verdict.Unmatched r) = counted.Exception
 
+-- the verdict on a line is that of all sound rows of its matter of which this was read, or a fault
+abbrev pub DecidesLine : Part → BankLine → ℕ → Result LineVerdict StoreFault → Type 0
+DecidesLine part l day result =
+    (rows : Rows) → Sound rows → IsPartFor rows (Some l.entry) None part → LineDecides rows l day result
+
 -- How an item relates to a matter.
 
 -- the item is a line that names an entry of the matter
@@ -85,14 +100,6 @@ names_item m (item.OfMatter l) = l.matter == m
 names_item m (item.OfFirm line) = false
 names_item m (item.Stray line) = false
 names_item m (item.Unreadable number) = false
-
--- the rows of each matter that the item does not name are unchanged
-abbrev pub KeepsUnnamed : Firm → Item → Firm → Type 0
-KeepsUnnamed firm it new = (m : ℕ) → names_item m it ≡ false → of m new ≡ of m firm
-
--- the rows of all matters are unchanged
-abbrev pub KeepsAll : Firm → Firm → Type 0
-KeepsAll firm new = (m : ℕ) → of m new ≡ of m firm
 
 -- Items in sequence.
 

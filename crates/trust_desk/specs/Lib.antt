@@ -18,6 +18,8 @@ pub mod Plan
 pub mod Calls
 pub mod Checking
 pub mod Crashes
+pub mod Answered
+pub mod Applied
 pub mod Matching
 pub mod Kept
 pub mod Reports

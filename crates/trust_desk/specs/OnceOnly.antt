@@ -9,7 +9,6 @@ use Rattle.trust_matter.specs.Conditions.{is_repeat, number_made}
 use Rattle.trust_matter.specs.Step.{refusal}
 use Rattle.trust_matter.specs.Laws.{IsSameLine}
 use Rattle.firm_rows.specs.declared.ledger.BalanceKind.{BalanceKind}
-use Rattle.firm_rows.specs.declared.ledger.BalanceKind.TheVariants as kind
 use Rattle.firm_rows.specs.Firm.{Firm, of, after_match, after_stray}
 use Rattle.firm_rows.specs.FirmLines.{kept_balance}
 use Rattle.statement_csv.specs.declared.item.Item.{Item}
@@ -17,7 +16,7 @@ use Rattle.statement_csv.specs.declared.item.Item.TheVariants as item
 use Rattle.trust_desk.specs.declared.importing.Counted.TheVariants as counted
 use Rattle.trust_desk.specs.declared.requests.Reply.{Reply}
 use Rattle.trust_desk.specs.Heard.{Heard}
-use Rattle.trust_desk.specs.ItemStep.{after_item, after_items, counted_of}
+use Rattle.trust_desk.specs.ItemStep.{after_item, after_items, balance_item, counted_of}
 use Rattle.trust_desk.specs.FirmStep.{after_ask, Runs}
 
 -- what is heard on a day, and the replies
@@ -99,11 +98,6 @@ FirmLineOnce =
     → IsRepeated later (after_items later mid front) (item.OfFirm again) again
 
 -- A balance.
-
--- the item for a balance of a kind
-abbrev pub balance_item : BalanceKind → Line → Item
-balance_item kind.Opening line = item.Opening line
-balance_item kind.Closing line = item.Closing line
 
 -- the balance is on file for its kind and day with its amount; another of the same amount is a repeat, and one of
 -- another amount matches nothing

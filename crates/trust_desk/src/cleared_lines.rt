@@ -9,7 +9,7 @@ use std::alloc::{AllocError, Global};
 use std::cmp::Ordering;
 use std::marker::Model;
 use trust_base::{Day, EntryNo, MatterNo, StoreFault};
-use trust_matter::{Clearing, Deposit, DepositState, Entry, Head, PaymentState, Seat};
+use trust_matter::{Clearing, DepositState, Entry, Head, PaymentState, Seat};
 use trust_store::Book;
 
 /// Collects the bank lines that cleared entries, and the firm's own, dated between two days given by their numbers, and
@@ -46,34 +46,16 @@ impl ClearedLines {
         })?;
         Ok(())
     }
-
-    // Adds the lines that cleared a deposit and took it back.
-    fn keep_deposit(&mut self, owner: &Owner, deposit: &Deposit) -> Result<(), AllocError> {
-        let amount = deposit.amount.get() as i64;
-        match &deposit.state {
-            DepositState::Cleared(line) => self.keep(owner, line, amount),
-            DepositState::Returned(back) => {
-                self.keep(owner, &back.clearing, amount)?;
-                self.keep(owner, &back.returning, -amount)
-            }
-            DepositState::Held | DepositState::Cancelled(_) => Ok(()),
-        }
-    }
-
-    // Notes a day on which a matter was changed.
-    fn see(&mut self, day: Day) {
-        match self.last {
-            Some(last) if day.get() <= last.get() => {}
-            _ => self.last = Some(day),
-        }
-    }
 }
 
 impl RowSink for ClearedLines {
     ghost stepped = { λ lines row. lines };
 
     fn head(&mut self, _matter: MatterNo, head: &Head) -> Result<(), AllocError> {
-        self.see(head.last);
+        match self.last {
+            Some(last) if head.last.get() <= last.get() => {}
+            _ => self.last = Some(head.last),
+        }
         Ok(())
     }
 
@@ -92,7 +74,17 @@ impl RowSink for ClearedLines {
             entry: number,
         };
         match entry {
-            Entry::Deposit(deposit) => self.keep_deposit(&owner, deposit),
+            Entry::Deposit(deposit) => {
+                let amount = deposit.amount.get() as i64;
+                match &deposit.state {
+                    DepositState::Cleared(line) => self.keep(&owner, line, amount),
+                    DepositState::Returned(back) => {
+                        self.keep(&owner, &back.clearing, amount)?;
+                        self.keep(&owner, &back.returning, -amount)
+                    }
+                    DepositState::Held | DepositState::Cancelled(_) => Ok(()),
+                }
+            }
             Entry::Payment(payment) => match &payment.state {
                 PaymentState::Cleared(paid) => {
                     self.keep(&owner, &paid.clearing, -(payment.amount.get() as i64))
@@ -164,33 +156,6 @@ pub(crate) fn rows_of<B: Book>(
     Ok(found)
 }
 
-// Reports what the rows show.
-fn tell_of_rows<V: RowWatch>(rows: ClearedLines, watch: &V) -> Result<(), AllocError> {
-    let mut lines = rows.lines;
-    lines.sort_by(|one, other| order_of(one, other))?;
-    tell_of_same(&lines, watch);
-    if let Some(last) = rows.last {
-        watch.worked_on(last);
-    }
-    Ok(())
-}
-
-// Reports what the rows of a book show.
-fn tell_of_book<B: Book, V: RowWatch>(
-    alloc: Global,
-    book: &mut B,
-    day: Day,
-    watch: &V,
-) -> Result<(), StoreFault>
-    ensures { IsRead B.firm B.clean B.sure B.stands B.lasts B.leaves B.refusals result book.old book.new }
-{
-    let rows = rows_of(alloc, book, month_before(day), day.get())?;
-    match tell_of_rows(rows, watch) {
-        Ok(()) => Ok(()),
-        Err(_) => Err(StoreFault::Memory),
-    }
-}
-
 impl<B: Book> Desk<B> {
     /// Reports to `watch` what the rows of a book show that a reader of a day's report should know. These are the bank
     /// lines that cleared an entry, or are the firm's own, and have the same date, bank reference and amount as another
@@ -206,6 +171,13 @@ impl<B: Book> Desk<B> {
     ) -> Result<(), StoreFault>
         ensures read { IsRead B.firm B.clean B.sure B.stands B.lasts B.leaves B.refusals result self.old self.new }
     {
-        tell_of_book(alloc, &mut self.book, day, watch)
+        let rows = rows_of(alloc, &mut self.book, month_before(day), day.get())?;
+        let mut lines = rows.lines;
+        lines.sort_by(|one, other| order_of(one, other))?;
+        tell_of_same(&lines, watch);
+        if let Some(last) = rows.last {
+            watch.worked_on(last);
+        }
+        Ok(())
     }
 }

@@ -3,8 +3,8 @@
 ghost use Rattle.std.specs.Prelude.{◌≡◌, ℕ, List, IfOk, length, take, ◌<◌, ◌∷◌, [], false, is_none};
 ghost use Rattle.statement_csv.specs.Items.{items};
 ghost use Rattle.statement_csv.specs.declared.item.Item.{Item};
-ghost use Rattle.trust_desk.specs.Dismissing.{after_dismissing};
-ghost use Rattle.trust_desk.specs.Heard.{Asks, OnlyTold, asked_on, heard, kind_of};
+ghost use Rattle.trust_desk.specs.Answered.{IsAnswered};
+ghost use Rattle.trust_desk.specs.Heard.{Asks, Dismisses, Heard, OnlyTold, asked_on, heard, kind_of};
 ghost use Rattle.trust_desk.specs.Replies.{is_fault_reply, reply_for};
 ghost use Rattle.firm_rows.specs.Firm.{Firm};
 ghost use Rattle.trust_desk.specs.ImportStep.{EndsItems, IsAfterFront, items_in};
@@ -16,13 +16,12 @@ ghost use Rattle.trust_desk.specs.Crashes.{AreNoFaults, AreNoFaultsButLast, IsIm
 ghost use Rattle.trust_desk.specs.Plan.{Ends};
 ghost use Rattle.trust_desk.specs.ReportStep.{report_for};
 
-use crate::callers::is_not_of_firm;
 use crate::dismissing::dismiss;
 use crate::import_checks::check_import;
 use crate::importing::{ImportEnd, ImportStop};
 use crate::planning::{plan, read_for};
-use crate::reporting::{find_report, found_reply};
-use crate::requests::{Body, End, MatchText, Reply, Report, Request, RunEnd};
+use crate::reporting::{Reconciled, find_report};
+use crate::requests::{Body, End, MatchText, Reply, Report, Request, RunEnd, is_not_of_firm};
 use crate::watching::NoWatch;
 use matter_bodies::{ImportReply, import_body};
 use std::alloc::Global;
@@ -85,103 +84,69 @@ impl<B: Book> Desk<B> {
             (IsMade day (B.firm self.old) (Asks request.now)) (B.firm self.old)
             (firm_step day (B.firm self.old) (Asks request.now)).firm self.old self.new }
     {
-        match request {
+        let answered = match request {
             Request::Matter { no, caller, ask } => self.answer_ask(alloc, *no, caller, ask, day),
             Request::Import { caller, statement } => {
-                self.answer_import(alloc, caller, statement, day)
+                self.answer_import(alloc, caller, statement.as_slice(), day)
             }
-            Request::Dismiss { caller, line } => self.answer_dismiss(alloc, caller, line, day),
+            Request::Dismiss { caller, line } => self.answer_dismiss(alloc, caller, line),
             Request::Match { caller, statement } => {
-                self.answer_match(alloc, request, caller, statement, MatchText::Statement, day)
+                self.answer_match(alloc, caller, statement, MatchText::Statement, day)
             }
             Request::Unmatched { caller, statement } => {
-                self.answer_match(alloc, request, caller, statement, MatchText::Unmatched, day)
+                self.answer_match(alloc, caller, statement, MatchText::Unmatched, day)
             }
-            Request::Exceptions(caller) => {
-                self.answer_told(alloc, request, caller, Report::Exceptions, day)
-            }
-            Request::Trial(caller) => self.answer_told(alloc, request, caller, Report::Trial, day),
-            Request::Journal(caller) => {
-                self.answer_told(alloc, request, caller, Report::Journal, day)
-            }
+            Request::Exceptions(caller) => self.answer_told(alloc, caller, Report::Exceptions, day),
+            Request::Trial(caller) => self.answer_told(alloc, caller, Report::Trial, day),
+            Request::Journal(caller) => self.answer_told(alloc, caller, Report::Journal, day),
             Request::Reconcile(caller, as_of) => {
-                self.answer_told(alloc, request, caller, Report::Reconciliation(*as_of), day)
+                self.answer_told(alloc, caller, Report::Reconciliation(*as_of), day)
             }
-            Request::Retention(caller) => {
-                self.answer_told(alloc, request, caller, Report::Retention, day)
-            }
-            Request::OwnLedger(caller) => {
-                self.answer_told(alloc, request, caller, Report::OwnLedger, day)
-            }
-        }
+            Request::Retention(caller) => self.answer_told(alloc, caller, Report::Retention, day),
+            Request::OwnLedger(caller) => self.answer_told(alloc, caller, Report::OwnLedger, day),
+        };
+        answered.unwrap_or_else(Reply::refused)
     }
 
-    // Answers with a report of the firm, or says why it is refused. Nothing changes. The request is a parameter only
-    // for the contract.
+    // Answers with a report of the firm, or says why it is refused. Nothing changes.
     fn answer_told(
         &mut self,
         alloc: Global,
-        _request: &Request,
         caller: &Caller,
         report: Report,
         day: Day,
-    ) -> Reply
-        requires only_told { kind_of (Asks _request.now) ≡ OnlyTold (report_for caller.now report) }
-        ensures step { B.clean self.new → B.stands self.old
-            → Steps day (B.firm self.old) (Asks _request.now) result (B.firm self.new) }
-        ensures others { B.clean self.new → B.stands self.old
-            → KeepsOthers (B.firm self.old) (Asks _request.now) (B.firm self.new) }
-        ensures own { B.clean self.new → B.stands self.old → is_fault_reply result ≡ false
-            → (m : ℕ) → IsOwn m day (B.firm self.old) (Asks _request.now ∷ []) (result ∷ []) (B.firm self.new) }
-        ensures kept { KeepsBook B.clean B.sure B.stands B.lasts B.refusals (counted_reply result) self.old self.new }
-        ensures crash { B.sure self.new → B.stands self.old → MayLeave B.clean B.leaves
-            (is_fault_reply result ≡ false)
-            (IsMade day (B.firm self.old) (Asks _request.now)) (B.firm self.old)
-            (firm_step day (B.firm self.old) (Asks _request.now)).firm self.old self.new }
+    ) -> Result<Reply, Refusal>
+        ensures { (h : Heard) → kind_of h ≡ OnlyTold (report_for caller.now report)
+            → IsAnswered B.firm B.clean B.sure B.stands B.lasts B.leaves B.refusals day h result self.old self.new }
     {
         if is_not_of_firm(caller) {
-            return Reply::refused(Refusal::NotAllowed(Rule::Firm));
+            return Err(Refusal::NotAllowed(Rule::Firm));
         }
-        found_reply(find_report(alloc, &mut self.book, report, day))
-    }
-
-    // Dismisses a line from the exceptions. The day is a parameter only for the contract.
-    fn answer_dismiss(&mut self, alloc: Global, caller: &Caller, line: &Line, _day: Day) -> Reply
-        ensures step { B.clean self.new → B.stands self.old
-            → Steps _day (B.firm self.old) (Asks (Request.Dismiss caller.now line.now)) result (B.firm self.new) }
-        ensures kept { KeepsBook B.clean B.sure B.stands B.lasts B.refusals (counted_reply result) self.old self.new }
-        ensures crash { B.sure self.new → B.stands self.old → MayLeaveChange B.clean B.leaves
-            (is_fault_reply result ≡ false) (B.firm self.old)
-            (after_dismissing caller.now line.now (B.firm self.old)) self.old self.new }
-    {
-        match dismiss(alloc, &mut self.book, caller, line) {
-            Ok(reply) => reply,
-            Err(why) => Reply::refused(why),
+        match find_report(alloc, &mut self.book, report, day)? {
+            Reconciled::Text(text) => Ok(Reply {
+                status: 200,
+                body: Body::Text(OwnedBytes::new(text)),
+            }),
+            Reconciled::NoStatement => Err(Refusal::NoStatement),
+            Reconciled::PeriodPurged => Err(Refusal::PeriodPurged),
         }
     }
 
-    fn answer_import(
+    // Dismisses a line from the exceptions.
+    fn answer_dismiss(
         &mut self,
         alloc: Global,
         caller: &Caller,
-        statement: &OwnedBytes,
-        day: Day,
-    ) -> Reply
-        ensures step { B.clean self.new → B.stands self.old
-            → Steps day (B.firm self.old) (Asks (Request.Import caller.now statement.now)) result (B.firm self.new) }
-        ensures kept { KeepsBook B.clean B.sure B.stands B.lasts B.refusals (counted_reply result) self.old self.new }
-        ensures crash { B.sure self.new → B.clean self.old → B.stands self.old → MayLeave B.clean B.leaves
-            (is_fault_reply result ≡ false)
-            (IsMade day (B.firm self.old) (Asks (Request.Import caller.now statement.now)))
-            (B.firm self.old) (B.firm self.new) self.old self.new }
+        line: &Line,
+    ) -> Result<Reply, Refusal>
+        ensures { (day : ℕ) (h : Heard) → kind_of h ≡ Dismisses caller.now line.now
+            → IsAnswered B.firm B.clean B.sure B.stands B.lasts B.leaves B.refusals day h result self.old self.new }
     {
-        match self.try_import(alloc, caller, statement.as_slice(), day) {
-            Ok(counted) => counted,
-            Err(why) => Reply::refused(why),
-        }
+        dismiss(alloc, &mut self.book, caller, line)
     }
 
-    fn try_import(
+    // Imports a statement.
+    fn answer_import(
         &mut self,
         alloc: Global,
         caller: &Caller,
@@ -232,28 +197,8 @@ impl<B: Book> Desk<B> {
         }
     }
 
+    // Decides an ask of a caller about a matter, and writes its change.
     fn answer_ask(
-        &mut self,
-        alloc: Global,
-        no: MatterNo,
-        caller: &Caller,
-        ask: &Ask,
-        day: Day,
-    ) -> Reply
-        ensures step { B.clean self.new → B.stands self.old
-            → Steps day (B.firm self.old) (Asks (Request.Matter no caller.now ask.now)) result (B.firm self.new) }
-        ensures kept { KeepsBook B.clean B.sure B.stands B.lasts B.refusals (counted_reply result) self.old self.new }
-        ensures crash { B.sure self.new → B.stands self.old → MayLeaveChange B.clean B.leaves
-            (is_fault_reply result ≡ false) (B.firm self.old)
-            (after_ask no (asked_on day caller.now ask.now) (B.firm self.old)) self.old self.new }
-    {
-        match self.try_ask(alloc, no, caller, ask, day) {
-            Ok(reply) => reply,
-            Err(refusal) => Reply::refused(refusal),
-        }
-    }
-
-    fn try_ask(
         &mut self,
         alloc: Global,
         no: MatterNo,

@@ -9,8 +9,7 @@ ghost use Rattle.trust_desk.specs.Crashes.{MayLeaveChange, is_fault_end};
 ghost use Rattle.trust_desk.specs.Dismissing.{EndsDismiss, after_dismissing, is_exception};
 ghost use Rattle.trust_desk.specs.Replies.{is_fault_reply};
 
-use crate::callers::is_not_of_firm;
-use crate::requests::{Body, Reply};
+use crate::requests::{Body, Reply, is_not_of_firm};
 use firm_rows::ExceptionSink;
 use std::alloc::{AllocError, Global};
 use trust_base::{Line, OwnedBytes, Refusal, Rule, StoreFault};

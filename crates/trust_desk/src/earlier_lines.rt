@@ -5,7 +5,7 @@ ghost use Rattle.trust_store.specs.Calls.{IsRead};
 use crate::cleared_lines::{order_of, rows_of};
 use crate::desk::Desk;
 use crate::watching::ClearedLine;
-use std::alloc::{AllocError, Global};
+use std::alloc::Global;
 use std::cmp::Ordering;
 use trust_base::{Line, StoreFault};
 use trust_store::Book;
@@ -35,24 +35,6 @@ impl EarlierLines {
     }
 }
 
-// Sorts the lines for lookup.
-fn sorted(lines: Vec<ClearedLine>) -> Result<EarlierLines, AllocError> {
-    let mut lines = lines;
-    lines.sort_by(|one, other| order_of(one, other))?;
-    Ok(EarlierLines { lines })
-}
-
-// Reads the bank lines of a book.
-fn lines_of_book<B: Book>(alloc: Global, book: &mut B) -> Result<EarlierLines, StoreFault>
-    ensures { IsRead B.firm B.clean B.sure B.stands B.lasts B.leaves B.refusals result book.old book.new }
-{
-    let rows = rows_of(alloc, book, 0, u32::MAX)?;
-    match sorted(rows.lines) {
-        Ok(lines) => Ok(lines),
-        Err(_) => Err(StoreFault::Memory),
-    }
-}
-
 impl<B: Book> Desk<B> {
     /// Returns the bank lines that the book has, of any day, for reports on lines that are imported later. The book is
     /// unchanged.
@@ -61,6 +43,8 @@ impl<B: Book> Desk<B> {
     pub fn earlier_lines(&mut self, alloc: Global) -> Result<EarlierLines, StoreFault>
         ensures read { IsRead B.firm B.clean B.sure B.stands B.lasts B.leaves B.refusals result self.old self.new }
     {
-        lines_of_book(alloc, &mut self.book)
+        let mut lines = rows_of(alloc, &mut self.book, 0, u32::MAX)?.lines;
+        lines.sort_by(|one, other| order_of(one, other))?;
+        Ok(EarlierLines { lines })
     }
 }

@@ -5,8 +5,7 @@ ghost use Rattle.trust_store.specs.Calls.{IsRead};
 
 use crate::desk::Desk;
 use crate::importing::{
-    Counted, counted_by, counted_verdict, line_verdict, tell_of_balance, tell_of_firm_line,
-    tell_of_line,
+    Counted, counted_by, counted_line, line_verdict, tell_of_balance, tell_of_firm_line,
 };
 use crate::watching::{At, ItemWatch, NotApplied};
 use csv::ByteRecord;
@@ -15,7 +14,6 @@ use statement_csv::{Item, read_item};
 use std::alloc::{AllocError, Global};
 use std::marker::Model;
 use trust_base::{Day, Line, StoreFault, write_amount};
-use trust_matter::BankLine;
 use trust_store::Book;
 
 // Collects the exceptions that it receives.
@@ -44,17 +42,6 @@ impl ExceptionSink for ExceptionList {
     }
 }
 
-// Returns the exceptions of a book.
-fn exceptions_in<B: Book>(alloc: Global, book: &mut B) -> Result<Vec<Line>, StoreFault>
-    ensures { IsRead B.firm B.clean B.sure B.stands B.lasts B.leaves B.refusals result book.old book.new }
-{
-    let mut list = ExceptionList {
-        lines: Vec::new(alloc),
-    };
-    book.each_exception(&mut list)?;
-    Ok(list.lines)
-}
-
 // Reports an exception that an import would accept.
 fn tell_of_taken<V: ItemWatch>(at: &At<'_, V>, line: &Line, counted: Counted) {
     match counted {
@@ -62,33 +49,6 @@ fn tell_of_taken<V: ItemWatch>(at: &At<'_, V>, line: &Line, counted: Counted) {
         Counted::Repeated => at.tell(&NotApplied::WouldRepeat { line }),
         Counted::Exception | Counted::Unreadable => (),
     }
-}
-
-// Explains an exception that names an entry.
-fn explain_bank_line<B: Book, V: ItemWatch>(
-    alloc: Global,
-    book: &mut B,
-    line: &BankLine,
-    day: Day,
-    at: &At<'_, V>,
-) -> Result<(), StoreFault>
-    ensures { IsRead B.firm B.clean B.sure B.stands B.lasts B.leaves B.refusals result book.old book.new }
-{
-    let matter = book.matter_for(alloc, line.matter, Some(line.entry), None)?;
-    // The entry is loaded, so only memory can run out.
-    let Ok(verdict) = line_verdict(&matter, line, day) else {
-        return Err(StoreFault::Memory);
-    };
-    tell_of_line(at, line, &matter, &verdict);
-    tell_of_taken(at, &line.line, counted_verdict(&verdict));
-    Ok(())
-}
-
-// Explains an exception of the firm's own.
-fn explain_firm_line<V: ItemWatch>(line: &Line, ledger: &FirmLedger, day: Day, at: &At<'_, V>) {
-    let verdict = decide_firm_line(ledger, line, day);
-    tell_of_firm_line(at, line, ledger, verdict);
-    tell_of_taken(at, line, counted_by(verdict));
 }
 
 // Explains a balance that is an exception.
@@ -123,9 +83,20 @@ fn explain_item<B: Book, V: ItemWatch>(
     match item {
         Item::Opening(line) => explain_balance(book, BalanceKind::Opening, line, day, at),
         Item::Closing(line) => explain_balance(book, BalanceKind::Closing, line, day, at),
-        Item::OfMatter(line) => explain_bank_line(alloc, book, line, day, at),
+        Item::OfMatter(line) => {
+            let matter = book.matter_for(alloc, line.matter, Some(line.entry), None)?;
+            // The entry is loaded, so only memory can run out.
+            let Ok(verdict) = line_verdict(&matter, line, day) else {
+                return Err(StoreFault::Memory);
+            };
+            let counted = counted_line(at, line, &matter, &verdict);
+            tell_of_taken(at, &line.line, counted);
+            Ok(())
+        }
         Item::OfFirm(line) => {
-            explain_firm_line(line, ledger, day, at);
+            let verdict = decide_firm_line(ledger, line, day);
+            tell_of_firm_line(at, line, ledger, verdict);
+            tell_of_taken(at, line, counted_by(verdict));
             Ok(())
         }
         Item::Stray(line) => {
@@ -154,25 +125,8 @@ fn item_again(alloc: Global, line: &Line, number: u64) -> Result<Item, AllocErro
     read_item(alloc, &row, number)
 }
 
-// Explains an exception. If memory runs out before the book is asked, nothing is reported of it.
-fn explain_line<B: Book, V: ItemWatch>(
-    alloc: Global,
-    book: &mut B,
-    line: &Line,
-    ledger: &FirmLedger,
-    day: Day,
-    at: &At<'_, V>,
-) -> Result<(), StoreFault>
-    ensures { (B.sure book.old → B.clean book.old)
-        → IsRead B.firm B.clean B.sure B.stands B.lasts B.leaves B.refusals result book.old book.new }
-{
-    match item_again(alloc, line, at.number) {
-        Ok(item) => explain_item(alloc, book, &item, ledger, day, at),
-        Err(_) => Ok(()),
-    }
-}
-
-// Explains exceptions in order, given the ledger of the firm's own lines.
+// Explains exceptions in order, given the ledger of the firm's own lines. If memory runs out before the book is asked
+// about one, nothing is reported of it.
 fn explain_each<B: Book, V: ItemWatch>(
     alloc: Global,
     book: &mut B,
@@ -187,23 +141,11 @@ fn explain_each<B: Book, V: ItemWatch>(
     let mut number = 0u64;
     for line in lines {
         number = number.saturating_add(1);
-        explain_line(alloc, book, &line, ledger, day, &At { number, watch })?;
+        if let Ok(item) = item_again(alloc, &line, number) {
+            explain_item(alloc, book, &item, ledger, day, &At { number, watch })?;
+        }
     }
     Ok(())
-}
-
-// Reports what an import on a business day would do with each exception of a book.
-fn explain<B: Book, V: ItemWatch>(
-    alloc: Global,
-    book: &mut B,
-    day: Day,
-    watch: &V,
-) -> Result<(), StoreFault>
-    ensures { IsRead B.firm B.clean B.sure B.stands B.lasts B.leaves B.refusals result book.old book.new }
-{
-    let lines = exceptions_in(alloc, book)?;
-    let ledger = book.firm(alloc)?;
-    explain_each(alloc, book, lines, &ledger, day, watch)
 }
 
 impl<B: Book> Desk<B> {
@@ -221,6 +163,11 @@ impl<B: Book> Desk<B> {
     ) -> Result<(), StoreFault>
         ensures read { IsRead B.firm B.clean B.sure B.stands B.lasts B.leaves B.refusals result self.old self.new }
     {
-        explain(alloc, &mut self.book, day, watch)
+        let mut list = ExceptionList {
+            lines: Vec::new(alloc),
+        };
+        self.book.each_exception(&mut list)?;
+        let ledger = self.book.firm(alloc)?;
+        explain_each(alloc, &mut self.book, list.lines, &ledger, day, watch)
     }
 }

@@ -4,7 +4,7 @@ ghost use Rattle.std.specs.Prelude.{◌≡◌, IfOk, is_some};
 ghost use Rattle.statement_csv.specs.Items.{items};
 ghost use Rattle.trust_desk.specs.ImportStep.{IsChecked, import_refusal};
 
-use crate::callers::is_not_of_firm;
+use crate::requests::is_not_of_firm;
 use statement_csv::{Lines, ReadFault};
 use std::alloc::{AllocError, Global};
 use trust_base::{Field, MAX_FILE_BYTES, Refusal, Rule};

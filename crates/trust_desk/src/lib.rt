@@ -2,29 +2,22 @@
 //! any book, one row at a time.
 #![tactic(auto)]
 
-mod callers;
 mod checking;
 mod cleared_lines;
 mod desk;
 mod dismissing;
 mod earlier_lines;
-mod exceptions;
 mod exceptions_sink;
 mod explaining;
 mod import_checks;
 mod importing;
-mod journal;
 pub mod laws;
 mod matching;
 mod matters_seen;
-mod own_card;
 mod planning;
-mod reconciliation;
 mod reporting;
 mod requests;
-mod retention;
 mod rows_seen;
-mod trial;
 mod unread;
 mod watching;
 

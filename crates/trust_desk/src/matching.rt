@@ -1,18 +1,16 @@
 //! Matches statements whose references may be empty against the book.
 
-ghost use Rattle.std.specs.Prelude.{◌≡◌, ℕ, ◌∷◌, [], false};
+ghost use Rattle.std.specs.Prelude.{◌≡◌, false};
+ghost use Rattle.trust_desk.specs.Answered.{IsAnswered};
 ghost use Rattle.trust_desk.specs.Calls.{KeepsBook};
-ghost use Rattle.trust_desk.specs.Counts.{counted_end, counted_reply};
-ghost use Rattle.trust_desk.specs.Crashes.{IsMade, MayLeave, MayLeaveChange, is_fault_end};
-ghost use Rattle.trust_desk.specs.FirmStep.{Steps, firm_step};
-ghost use Rattle.trust_desk.specs.Heard.{Asks, OnlyTold, kind_of};
-ghost use Rattle.trust_desk.specs.Isolation.{IsOwn, KeepsOthers};
+ghost use Rattle.trust_desk.specs.Counts.{counted_end};
+ghost use Rattle.trust_desk.specs.Crashes.{MayLeaveChange, is_fault_end};
+ghost use Rattle.trust_desk.specs.Heard.{Heard, OnlyTold, kind_of};
 ghost use Rattle.trust_desk.specs.MatchStep.{IsMatched, match_text, text_in};
-ghost use Rattle.trust_desk.specs.Replies.{is_fault_reply};
 
 use crate::desk::Desk;
 use crate::import_checks::check_import;
-use crate::requests::{Body, MatchText, Reply, Request};
+use crate::requests::{Body, MatchText, Reply};
 use statement_match::{Matched, match_statement};
 use std::alloc::Global;
 use trust_base::{Day, OwnedBytes, Refusal};
@@ -63,36 +61,22 @@ impl<B: Book> Desk<B> {
         Ok(matched)
     }
 
-    /// Answers with one text of a matched statement, or says why it is refused. Nothing changes. The request is a
-    /// parameter only for the contract.
+    /// Answers with one text of a matched statement, or says why it is refused. Nothing changes.
     pub(crate) fn answer_match(
         &mut self,
         alloc: Global,
-        _request: &Request,
         caller: &Caller,
         statement: &OwnedBytes,
         text: MatchText,
         day: Day,
-    ) -> Reply
-        requires only_told { kind_of (Asks _request.now) ≡ OnlyTold (match_text text caller.now statement.now) }
-        ensures step { B.clean self.new → B.stands self.old
-            → Steps day (B.firm self.old) (Asks _request.now) result (B.firm self.new) }
-        ensures others { B.clean self.new → B.stands self.old
-            → KeepsOthers (B.firm self.old) (Asks _request.now) (B.firm self.new) }
-        ensures own { B.clean self.new → B.stands self.old → is_fault_reply result ≡ false
-            → (m : ℕ) → IsOwn m day (B.firm self.old) (Asks _request.now ∷ []) (result ∷ []) (B.firm self.new) }
-        ensures kept { KeepsBook B.clean B.sure B.stands B.lasts B.refusals (counted_reply result) self.old self.new }
-        ensures crash { B.sure self.new → B.stands self.old → MayLeave B.clean B.leaves
-            (is_fault_reply result ≡ false)
-            (IsMade day (B.firm self.old) (Asks _request.now)) (B.firm self.old)
-            (firm_step day (B.firm self.old) (Asks _request.now)).firm self.old self.new }
+    ) -> Result<Reply, Refusal>
+        ensures { (h : Heard) → kind_of h ≡ OnlyTold (match_text text caller.now statement.now)
+            → IsAnswered B.firm B.clean B.sure B.stands B.lasts B.leaves B.refusals day h result self.old self.new }
     {
-        match self.match_statement(alloc, caller, statement.as_slice(), day) {
-            Ok(matched) => Reply {
-                status: 200,
-                body: Body::Text(OwnedBytes::new(text_in(matched, text))),
-            },
-            Err(refusal) => Reply::refused(refusal),
-        }
+        let matched = self.match_statement(alloc, caller, statement.as_slice(), day)?;
+        Ok(Reply {
+            status: 200,
+            body: Body::Text(OwnedBytes::new(text_in(matched, text))),
+        })
     }
 }

@@ -2,20 +2,21 @@
 
 ghost use Rattle.std.specs.Prelude.{◌≡◌, IfOk, false, true};
 ghost use Rattle.firm_rows.specs.Firm.{of};
-ghost use Rattle.matter_rows.specs.Rows.{Rows, entry_at};
+ghost use Rattle.matter_rows.specs.Rows.{Rows};
 ghost use Rattle.matter_rows.specs.Sound.{Sound};
-ghost use Rattle.matter_parts.specs.Parts.{IsPart, IsWhole};
+ghost use Rattle.matter_parts.specs.Parts.{IsPart, IsWhole, kept_at};
+ghost use Rattle.trust_matter.specs.Facts.{number_named};
 ghost use Rattle.trust_matter.specs.KeptFacts.{holds_for};
 ghost use Rattle.trust_desk.specs.Heard.{asked_on};
-ghost use Rattle.trust_desk.specs.Replies.{is_fault_body, is_fault_reply, made_text, said, shown_text};
-ghost use Rattle.trust_desk.specs.Plan.{IsBodyOf, IsReadFor, IsTextOf, IsWholeForCard, Plans, is_nothing, success_by};
+ghost use Rattle.trust_desk.specs.Replies.{is_fault_reply};
+ghost use Rattle.trust_desk.specs.Plan.{IsBodyAfter, IsReadFor, IsWholeForCard, Plans, entry_text, kept_after};
 ghost use Rattle.trust_reports.specs.TextsOfLedgers.{ledger_card_of};
 ghost use Rattle.trust_store.specs.Calls.{IsRead};
 
 use crate::requests::{Body, Reply};
 use matter_bodies::{entry_body, matter_body, purge_body, receipt_body};
 use std::alloc::{AllocError, Global};
-use trust_base::{Day, EntryNo, MatterNo, OwnedBytes, Refusal, StoreFault};
+use trust_base::{Day, MatterNo, OwnedBytes, Refusal, StoreFault};
 use trust_matter::{Ask, Caller, Change, Edit, Matter, decide, holds_for};
 use trust_reports::ledger_card;
 use trust_store::Book;
@@ -45,36 +46,38 @@ pub(crate) fn read_for<B: Book>(
     }
 }
 
-// Writes the body of the entry as it was made; empty if it does not exist.
-fn made_body(
+// Writes the body of the entry that an ask names, with the change made; empty if it does not exist. An ask changes no
+// other entry.
+fn entry_after(
     alloc: Global,
     no: MatterNo,
     matter: &Matter,
-    number: EntryNo,
+    ask: &Ask,
+    change: &Change,
 ) -> Result<Vec<u8>, AllocError>
-    ensures { IfOk result (λ bytes.
-        IsTextOf matter.now number (λ rows. made_text no number (entry_at rows.entries number)) bytes.items) }
+    ensures { IfOk result (λ bytes. bytes.items
+        ≡ entry_text no ask.now (kept_after (kept_at matter.now (number_named ask.now)) change.now)) }
 {
-    match matter.find(number) {
-        Some(kept) => receipt_body(alloc, no, number, &kept.entry),
-        None => Ok(Vec::new(alloc)),
-    }
-}
-
-// Writes the body of the entry as it is now; empty if it does not exist.
-fn shown_body(
-    alloc: Global,
-    no: MatterNo,
-    matter: &Matter,
-    number: EntryNo,
-) -> Result<Vec<u8>, AllocError>
-    ensures { IfOk result (λ bytes.
-        IsTextOf matter.now number
-        (λ rows. shown_text no number rows.entries (entry_at rows.entries number)) bytes.items) }
-{
-    match matter.find(number) {
-        Some(kept) => entry_body(alloc, no, number, &kept.entry, kept.left),
-        None => Ok(Vec::new(alloc)),
+    let (number, entry, left) = match change.edit() {
+        Edit::Append(written) | Edit::Exchange(written) => {
+            (written.number, &written.entry, change.moves().left)
+        }
+        Edit::Nothing
+        | Edit::Open(_)
+        | Edit::Seat(_)
+        | Edit::Unseat(_)
+        | Edit::Close(_)
+        | Edit::Clear(_) => match matter.kept_under(ask.number()) {
+            Some(kept) => (kept.number, &kept.entry, kept.left),
+            None => return Ok(Vec::new(alloc)),
+        },
+    };
+    match ask {
+        // An ask that makes an entry is answered with it as it was made, also when it comes again.
+        Ask::Deposit(_) | Ask::Propose(_) | Ask::EarnFee(_) | Ask::RaiseClaim(_) => {
+            receipt_body(alloc, no, number, entry)
+        }
+        _ => entry_body(alloc, no, number, entry, left),
     }
 }
 
@@ -88,63 +91,27 @@ fn card_body(alloc: Global, no: MatterNo, matter: &Matter) -> Result<Vec<u8>, Al
     Ok(card)
 }
 
-// Writes the text of a matter for the reply after an ask.
+// Writes the text for the reply to an ask, with its change made.
 fn body_after(
     alloc: Global,
     no: MatterNo,
-    matter: &Matter,
+    mut matter: Matter,
     ask: &Ask,
+    change: &Change,
 ) -> Result<Vec<u8>, AllocError>
-    ensures { IfOk result (λ bytes. IsBodyOf no ask.now matter.now bytes.items) }
+    ensures { IfOk result (λ bytes. IsBodyAfter no ask.now matter change.now bytes.items) }
 {
     match ask {
-        Ask::Deposit(asked) => made_body(alloc, no, matter, asked.number),
-        Ask::Propose(asked) => made_body(alloc, no, matter, asked.number),
-        Ask::EarnFee(asked) => made_body(alloc, no, matter, asked.number),
-        Ask::RaiseClaim(asked) => made_body(alloc, no, matter, asked.number),
-        Ask::CancelDeposit(number)
-        | Ask::Approve(number)
-        | Ask::Decline(number)
-        | Ask::VoidPayment(number)
-        | Ask::ShowEntry(number) => shown_body(alloc, no, matter, *number),
-        Ask::Offer(asked) | Ask::Accept(asked) | Ask::Award(asked) => {
-            shown_body(alloc, no, matter, asked.number)
+        Ask::OpenMatter(_) | Ask::AddSeat(_) | Ask::DropSeat(_) | Ask::CloseMatter | Ask::Show => {
+            matter.apply(change)?;
+            matter_body(alloc, no, &matter)
         }
-        Ask::OpenMatter(_) | Ask::AddSeat(_) | Ask::DropSeat(_) | Ask::CloseMatter | Ask::Show =>
-            matter_body(alloc, no, matter),
-        Ask::Purge => purge_body(alloc, no, matter),
-        Ask::Accounting => card_body(alloc, no, matter),
-    }
-}
-
-// The text as a body: lines of text for a ledger card, otherwise JSON.
-fn said(ask: &Ask, text: Vec<u8>) -> Body
-    ensures text { result ≡ said ask.now text.items }
-    ensures plain { is_fault_body result ≡ false }
-{
-    if ask.is_accounting() {
-        Body::Text(OwnedBytes::new(text))
-    } else {
-        Body::Json(OwnedBytes::new(text))
-    }
-}
-
-// Whether the edit changes nothing.
-fn is_nothing(edit: &Edit) -> bool
-    ensures { result ≡ is_nothing edit.now }
-{
-    matches!(edit, Edit::Nothing)
-}
-
-// The status of an accepted ask: 201 if it makes something.
-fn success_of(ask: &Ask, edit: &Edit) -> u16
-    ensures { result ≡ success_by ask.now edit.now }
-{
-    match ask {
-        Ask::OpenMatter(_) => 201,
-        Ask::Deposit(_) | Ask::Propose(_) | Ask::EarnFee(_) | Ask::RaiseClaim(_)
-            if !is_nothing(edit) => { 201 }
-        _ => 200,
+        Ask::Purge => {
+            matter.apply(change)?;
+            purge_body(alloc, no, &matter)
+        }
+        Ask::Accounting => card_body(alloc, no, &matter),
+        _ => entry_after(alloc, no, &matter, ask, change),
     }
 }
 
@@ -153,7 +120,7 @@ fn success_of(ask: &Ask, edit: &Edit) -> u16
 pub(crate) fn plan(
     alloc: Global,
     no: MatterNo,
-    mut matter: Matter,
+    matter: Matter,
     caller: &Caller,
     ask: &Ask,
     day: Day,
@@ -168,11 +135,18 @@ pub(crate) fn plan(
         return Err(Refusal::Store);
     }
     let change = decide(&matter, caller, ask, day)?;
-    matter.apply(&change)?;
-    let text = body_after(alloc, no, &matter, ask)?;
+    let text = OwnedBytes::new(body_after(alloc, no, matter, ask, &change)?);
     let reply = Reply {
-        status: success_of(ask, change.edit()),
-        body: said(ask, text),
+        // 201 if something is made, which a repeat does not do.
+        status: match change.edit() {
+            Edit::Open(_) | Edit::Append(_) => 201,
+            _ => 200,
+        },
+        body: if ask.is_accounting() {
+            Body::Text(text)
+        } else {
+            Body::Json(text)
+        },
     };
     Ok(Planned { change, reply })
 }

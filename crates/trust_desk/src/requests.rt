@@ -1,6 +1,7 @@
 //! The requests that the desk takes, and its replies.
 
 ghost use Rattle.std.specs.Prelude.{◌≡◌};
+ghost use Rattle.trust_desk.specs.ImportStep.{is_not_of_firm};
 
 use trust_base::{Day, Line, MatterNo, OwnedBytes, Refusal};
 use trust_matter::{Ask, Caller};
@@ -79,6 +80,13 @@ impl Drop for Request {
             | Request::OwnLedger(_caller) => (),
         }
     }
+}
+
+/// Whether the caller may not ask for what concerns the whole firm. Only the cashier may, whatever matters others have.
+pub(crate) fn is_not_of_firm(caller: &Caller) -> bool
+    ensures { result ≡ is_not_of_firm caller.now }
+{
+    matches!(caller, Caller::Person(_))
 }
 
 /// A report on the whole firm.

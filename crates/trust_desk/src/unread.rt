@@ -115,54 +115,6 @@ fn unread_matter<B: Book>(
     Ok(None)
 }
 
-// Returns the movement that can't be read, if there is one.
-fn unread_movement<B: Book>(book: &mut B) -> Result<Option<Unread>, StoreFault>
-    ensures { AreReads B.firm B.clean B.sure B.stands B.lasts B.leaves book.old book.new }
-{
-    let mut seen = RowsSeen::new();
-    let read = book.each_movement(&mut seen);
-    if is_answered(read)? {
-        return Ok(None);
-    }
-    Ok(Some(Unread::Movement(seen.next())))
-}
-
-// Returns the line of the firm's own that can't be read, if there is one.
-fn unread_firm_line<B: Book>(book: &mut B) -> Result<Option<Unread>, StoreFault>
-    ensures { AreReads B.firm B.clean B.sure B.stands B.lasts B.leaves book.old book.new }
-{
-    let mut seen = RowsSeen::new();
-    let read = book.each_firm_line(&mut seen);
-    if is_answered(read)? {
-        return Ok(None);
-    }
-    Ok(Some(Unread::FirmLine(seen.next())))
-}
-
-// Returns the exception that can't be read, if there is one.
-fn unread_exception<B: Book>(book: &mut B) -> Result<Option<Unread>, StoreFault>
-    ensures { AreReads B.firm B.clean B.sure B.stands B.lasts B.leaves book.old book.new }
-{
-    let mut seen = RowsSeen::new();
-    let read = book.each_exception(&mut seen);
-    if is_answered(read)? {
-        return Ok(None);
-    }
-    Ok(Some(Unread::Exception(seen.next())))
-}
-
-// Returns the balance that can't be read, if there is one.
-fn unread_balance<B: Book>(book: &mut B) -> Result<Option<Unread>, StoreFault>
-    ensures { AreReads B.firm B.clean B.sure B.stands B.lasts B.leaves book.old book.new }
-{
-    let mut seen = RowsSeen::new();
-    let read = book.each_balance(&mut seen);
-    if is_answered(read)? {
-        return Ok(None);
-    }
-    Ok(Some(Unread::Balance(seen.next())))
-}
-
 // Returns which part of the matters can't be read, if any.
 fn unread_of_matters<B: Book>(alloc: Global, book: &mut B) -> Result<Option<Unread>, StoreFault>
     ensures { AreReads B.firm B.clean B.sure B.stands B.lasts B.leaves book.old book.new }
@@ -174,38 +126,37 @@ fn unread_of_matters<B: Book>(alloc: Global, book: &mut B) -> Result<Option<Unre
     unread_matter(alloc, book, &seen.matters)
 }
 
-// Returns which part of the journal and of the firm's own lines can't be read, if any.
-fn unread_of_firm<B: Book>(book: &mut B) -> Result<Option<Unread>, StoreFault>
+// Returns which row of the journal, of the firm's own lines, of the exceptions or of the balances can't be read.
+fn unread_of_firm<B: Book>(book: &mut B) -> Result<Unread, StoreFault>
     ensures { AreReads B.firm B.clean B.sure B.stands B.lasts B.leaves book.old book.new }
 {
-    if let Some(unread) = unread_movement(book)? {
-        return Ok(Some(unread));
+    let mut seen = RowsSeen::new();
+    if !is_answered(book.each_movement(&mut seen))? {
+        return Ok(Unread::Movement(seen.next()));
     }
-    unread_firm_line(book)
-}
-
-// Returns which exception or balance can't be read, if any.
-fn unread_of_bank<B: Book>(book: &mut B) -> Result<Option<Unread>, StoreFault>
-    ensures { AreReads B.firm B.clean B.sure B.stands B.lasts B.leaves book.old book.new }
-{
-    if let Some(unread) = unread_exception(book)? {
-        return Ok(Some(unread));
+    let mut seen = RowsSeen::new();
+    if !is_answered(book.each_firm_line(&mut seen))? {
+        return Ok(Unread::FirmLine(seen.next()));
     }
-    unread_balance(book)
+    let mut seen = RowsSeen::new();
+    if !is_answered(book.each_exception(&mut seen))? {
+        return Ok(Unread::Exception(seen.next()));
+    }
+    let mut seen = RowsSeen::new();
+    if !is_answered(book.each_balance(&mut seen))? {
+        return Ok(Unread::Balance(seen.next()));
+    }
+    Ok(Unread::Elsewhere)
 }
 
 // Returns which part of a book can't be read.
 fn unread_in<B: Book>(alloc: Global, book: &mut B) -> Result<Unread, StoreFault>
     ensures { AreReads B.firm B.clean B.sure B.stands B.lasts B.leaves book.old book.new }
 {
-    if let Some(unread) = unread_of_matters(alloc, book)? {
-        return Ok(unread);
+    match unread_of_matters(alloc, book)? {
+        Some(unread) => Ok(unread),
+        None => unread_of_firm(book),
     }
-    if let Some(unread) = unread_of_firm(book)? {
-        return Ok(unread);
-    }
-    let of_bank = unread_of_bank(book)?;
-    Ok(of_bank.unwrap_or(Unread::Elsewhere))
 }
 
 // Whether it is a balance.

@@ -36,7 +36,7 @@ use Rattle.trust_matter.specs.declared.claim.SplitAsk.{SplitAsk}
 use Rattle.trust_matter.specs.Conditions.{against_left, is_on_fee, is_no_fee, is_no_claim, is_claim_settled, is_claim_without_offer, is_offered_state, is_another_offer, exceeds_claim, differs_from_offer}
 use Rattle.trust_matter.specs.Facts.{facts_of, number_named, other_of}
 use Rattle.trust_matter.specs.Step.{HasAmount, edit_of, fee_of, claim_of, with_claim, settled}
-use Rattle.trust_matter.proofs.StepForms.{rows-append, rows-exchange, exchange-moves, next-is, not-false, asked, Stepped}
+use Rattle.trust_matter.proofs.StepForms.{step-append, step-exchange, exchange-moves, next-is, not-false, asked, Stepped}
 use Rattle.trust_matter.proofs.Table.{Passes}
 
 enough-of : (amount : ℕ) (left : ℤ) → exceeds amount left ≡ false → pos amount ≤ℤ left
@@ -69,14 +69,7 @@ step-fee h seats es c a day s amount unclosed later p =
     let x : Numbered = record { number = a.number; entry = fee_of a day } in
     let next = next-is (length es) a.number p.next in
     let may = fee-may es (record { book = day; amount = a.amount; description = a.description }) s.backed next.0 amount (enough-of a.amount (available es) p.enough) in
-    record {
-      place = (refl, next.1);
-      sound = rows-append h seats es x day s unclosed may later (fee-by a day) tt;
-      not_before = later;
-      seen = refl;
-      moves = fee-moves es a h.last day;
-      may = (next.1, may, inl refl);
-    }
+    step-append h seats es x _ _ day s unclosed may next.1 later later (fee-by a day) tt (fee-moves es a h.last day) (inl refl)
 
 -- A claim takes at most what is left of its fee, or what is available.
 
@@ -130,31 +123,21 @@ step-claim h seats es c a day s amount unclosed later p =
     let x : Numbered = record { number = a.number; entry = claim_of a day } in
     let next = next-is (length es) a.number p.next in
     let may = claim-may es day a.amount a.against a.reason s.backed next.0 amount p.there p.kind p.enough in
-    record {
-      place = (refl, next.1);
-      sound = rows-append h seats es x day s unclosed may later (claim-by a day) tt;
-      not_before = later;
-      seen = refl;
-      moves = claim-moves es a h.last day;
-      may = (next.1, may, inr refl);
-    }
+    step-append h seats es x _ _ day s unclosed may next.1 later later (claim-by a day) tt (claim-moves es a h.last day) (inr refl)
 
 -- An open claim: all of it is kept apart.
 
 open-client : (s : ClaimState) → has_settled s ≡ false → to_client s ≡ pos 0
-open-client claim.Open h = refl
-open-client (claim.Offered part) h = refl
 open-client (claim.Settled t) h = absurd (cc)
+open-client s h = refl
 
 open-claimant : (s : ClaimState) (amount : ℕ) → has_settled s ≡ false → to_claimant s amount ≡ pos amount
-open-claimant claim.Open amount h = refl
-open-claimant (claim.Offered part) amount h = refl
 open-claimant (claim.Settled t) amount h = absurd (cc)
+open-claimant s amount h = refl
 
 open-off : (s : ClaimState) (amount : ℕ) → has_settled s ≡ false → off_fee s amount ≡ pos amount
-open-off claim.Open amount h = omega (arith, ints)
-open-off (claim.Offered part) amount h = omega (arith, ints)
 open-off (claim.Settled t) amount h = absurd (cc)
+open-off s amount h = omega (arith, ints)
 
 open-unsettled : (on : Against) (s : ClaimState) → has_settled s ≡ false → (is_general on && has_settled s) ≡ false
 open-unsettled (against.General who) s h = h
@@ -164,23 +147,19 @@ open-unsettled (against.Fee k) s h = refl
 
 client-some : (s : ClaimState) → pos 0 ≤ℤ to_client s
 client-some claim.Open = omega (arith, ints)
-client-some (claim.Offered part) = omega (arith, ints)
-client-some (claim.Settled t) = omega (arith, ints)
+client-some s = omega (arith, ints)
 
 claimant-most : (s : ClaimState) (amount : ℕ) → to_claimant s amount ≤ℤ pos amount
 claimant-most claim.Open amount = omega (arith, ints)
-claimant-most (claim.Offered part) amount = omega (arith, ints)
-claimant-most (claim.Settled t) amount = omega (arith, ints)
+claimant-most s amount = omega (arith, ints)
 
 claimant-some : (s : ClaimState) (amount : ℕ) → part_of s ≤ amount → pos 0 ≤ℤ to_claimant s amount
-claimant-some claim.Open amount le = omega (arith, ints)
-claimant-some (claim.Offered part) amount le = omega (arith, ints)
 claimant-some (claim.Settled t) amount le = omega (arith, ints, le)
+claimant-some s amount le = omega (arith, ints)
 
 off-most : (s : ClaimState) (amount : ℕ) → part_of s ≤ amount → off_fee s amount ≤ℤ pos amount
-off-most claim.Open amount le = omega (arith, ints)
-off-most (claim.Offered part) amount le = omega (arith, ints)
 off-most (claim.Settled t) amount le = omega (arith, ints, le)
+off-most s amount le = omega (arith, ints)
 
 -- Another state of an open claim gives no less to what is available, and takes no more from its fee.
 
@@ -246,14 +225,7 @@ step-split h seats es c q n day d next number other at s unclosed later unsettle
     let may = restated-may es n d next s.backed at unsettled le in
     let made : d.book ≤ day = let b = made-before h es n (entry.Claim d) s.headed.0 at in omega (arith, b, later) in
     let ok = days d made in
-    record {
-      place = (refl, (entry.Claim d, record { there = at; same = refl }));
-      sound = rows-exchange h seats es x (entry.Claim d) day s unclosed may refl (λ was. absurd (false≢true (sym (open-unsettled d.against d.state unsettled) ∙ was))) later ok.0 ok.1;
-      not_before = later;
-      seen = refl;
-      moves = restating-moves es n h.last day d next at;
-      may = (entry.Claim d, may, inr (rw number (rw (other (entry_at es n)) (rw at refl))), sym number);
-    }
+    step-exchange h seats es x (entry.Claim d) _ _ day s unclosed may refl (λ was. absurd (false≢true (sym (open-unsettled d.against d.state unsettled) ∙ was))) later ok.0 ok.1 (restating-moves es n h.last day d next at) (inr (rw number (rw (other (entry_at es n)) (rw at refl)))) (sym number)
 
 not-over : (amount part : ℕ) → nat_lt amount part ≡ false → part ≤ amount
 not-over amount part h = grind (arith, nat_tests)
@@ -261,12 +233,9 @@ not-over amount part h = grind (arith, nat_tests)
 -- An offer.
 
 offer-made : (h : Head) (seats : List Seat) (es : List Entry) (c : Caller) (a : SplitAsk) (day : ℕ) (o : Option Entry) → entry_at es a.number ≡ o → Sound (rows-of (Some h) seats es) → h.closed ≡ None → h.last ≤ day → is_none o ≡ false → is_no_claim o ≡ false → is_claim_settled o ≡ false → exceeds_claim o a.to_client ≡ false → Stepped (Some h) seats es (asked c (ask.Offer a) day) (with_claim a.number o (claim.Offered a.to_client))
-offer-made h seats es c a day None at s unclosed later there kind state split = absurd (cc)
-offer-made h seats es c a day (Some (entry.Deposit d)) at s unclosed later there kind state split = absurd (cc)
-offer-made h seats es c a day (Some (entry.Payment d)) at s unclosed later there kind state split = absurd (cc)
-offer-made h seats es c a day (Some (entry.Fee d)) at s unclosed later there kind state split = absurd (cc)
 offer-made h seats es c a day (Some (entry.Claim d)) at s unclosed later there kind state split =
     step-split h seats es c (ask.Offer a) a.number day d (claim.Offered a.to_client) refl (λ e. refl) at s unclosed later state (not-over d.amount a.to_client split) (offered-days day a.to_client)
+offer-made h seats es c a day o at s unclosed later there kind state split = absurd (cc)
 
 pub step-offer : (h : Head) (seats : List Seat) (es : List Entry) (c : Caller) (a : SplitAsk) (day : ℕ) → Sound (rows-of (Some h) seats es) → h.closed ≡ None → h.last ≤ day → Passes (facts_of (rows-of (Some h) seats es) (ask.Offer a)) (asked c (ask.Offer a) day) → Stepped (Some h) seats es (asked c (ask.Offer a) day) (edit_of (ask.Offer a) (entry_at es a.number) day)
 step-offer h seats es c a day s unclosed later p = offer-made h seats es c a day (entry_at es a.number) refl s unclosed later p.there p.kind p.state p.split
@@ -274,23 +243,19 @@ step-offer h seats es c a day s unclosed later p = offer-made h seats es c a day
 -- An offer that is accepted: its part is that of the claim.
 
 offered-is : (s : ClaimState) (part : ℕ) → not (is_offered_state s) ≡ false → is_another_offer s part ≡ false → s ≡ claim.Offered part
-offered-is claim.Open part h g = absurd (cc)
 offered-is (claim.Offered offered) part h g =
     let yes : (offered == part) ≡ true = not-false (offered == part) g in
     let same : offered ≡ part = grind (arith, nat_tests) in rw same refl
-offered-is (claim.Settled t) part h g = absurd (cc)
+offered-is s part h g = absurd (cc)
 
 accept-made : (h : Head) (seats : List Seat) (es : List Entry) (c : Caller) (a : SplitAsk) (day : ℕ) (o : Option Entry) → entry_at es a.number ≡ o → Sound (rows-of (Some h) seats es) → h.closed ≡ None → h.last ≤ day → is_none o ≡ false → is_no_claim o ≡ false → is_claim_without_offer o ≡ false → differs_from_offer o a.to_client ≡ false → Stepped (Some h) seats es (asked c (ask.Accept a) day) (with_claim a.number o (settled day a.to_client))
-accept-made h seats es c a day None at s unclosed later there kind state split = absurd (cc)
-accept-made h seats es c a day (Some (entry.Deposit d)) at s unclosed later there kind state split = absurd (cc)
-accept-made h seats es c a day (Some (entry.Payment d)) at s unclosed later there kind state split = absurd (cc)
-accept-made h seats es c a day (Some (entry.Fee d)) at s unclosed later there kind state split = absurd (cc)
 accept-made h seats es c a day (Some (entry.Claim d)) at s unclosed later there kind state split =
     let is = offered-is d.state a.to_client state split in
     let P : ClaimState → Type 0 = λ v. part_of v ≤ d.amount in
     let le : a.to_client ≤ d.amount = subst P is (all-at IsRanged es a.number (entry.Claim d) s.backed.ranged at).part in
     let unsettled : has_settled d.state ≡ false = rw is refl in
     step-split h seats es c (ask.Accept a) a.number day d (settled day a.to_client) refl (λ e. refl) at s unclosed later unsettled le (settled-days day a.to_client)
+accept-made h seats es c a day o at s unclosed later there kind state split = absurd (cc)
 
 pub step-accept : (h : Head) (seats : List Seat) (es : List Entry) (c : Caller) (a : SplitAsk) (day : ℕ) → Sound (rows-of (Some h) seats es) → h.closed ≡ None → h.last ≤ day → Passes (facts_of (rows-of (Some h) seats es) (ask.Accept a)) (asked c (ask.Accept a) day) → Stepped (Some h) seats es (asked c (ask.Accept a) day) (edit_of (ask.Accept a) (entry_at es a.number) day)
 step-accept h seats es c a day s unclosed later p = accept-made h seats es c a day (entry_at es a.number) refl s unclosed later p.there p.kind p.state p.split
@@ -298,12 +263,9 @@ step-accept h seats es c a day s unclosed later p = accept-made h seats es c a d
 -- An award.
 
 award-made : (h : Head) (seats : List Seat) (es : List Entry) (c : Caller) (a : SplitAsk) (day : ℕ) (o : Option Entry) → entry_at es a.number ≡ o → Sound (rows-of (Some h) seats es) → h.closed ≡ None → h.last ≤ day → is_none o ≡ false → is_no_claim o ≡ false → is_claim_settled o ≡ false → exceeds_claim o a.to_client ≡ false → Stepped (Some h) seats es (asked c (ask.Award a) day) (with_claim a.number o (settled day a.to_client))
-award-made h seats es c a day None at s unclosed later there kind state split = absurd (cc)
-award-made h seats es c a day (Some (entry.Deposit d)) at s unclosed later there kind state split = absurd (cc)
-award-made h seats es c a day (Some (entry.Payment d)) at s unclosed later there kind state split = absurd (cc)
-award-made h seats es c a day (Some (entry.Fee d)) at s unclosed later there kind state split = absurd (cc)
 award-made h seats es c a day (Some (entry.Claim d)) at s unclosed later there kind state split =
     step-split h seats es c (ask.Award a) a.number day d (settled day a.to_client) refl (λ e. refl) at s unclosed later state (not-over d.amount a.to_client split) (settled-days day a.to_client)
+award-made h seats es c a day o at s unclosed later there kind state split = absurd (cc)
 
 pub step-award : (h : Head) (seats : List Seat) (es : List Entry) (c : Caller) (a : SplitAsk) (day : ℕ) → Sound (rows-of (Some h) seats es) → h.closed ≡ None → h.last ≤ day → Passes (facts_of (rows-of (Some h) seats es) (ask.Award a)) (asked c (ask.Award a) day) → Stepped (Some h) seats es (asked c (ask.Award a) day) (edit_of (ask.Award a) (entry_at es a.number) day)
 step-award h seats es c a day s unclosed later p = award-made h seats es c a day (entry_at es a.number) refl s unclosed later p.there p.kind p.state p.split

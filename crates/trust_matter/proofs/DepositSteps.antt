@@ -1,7 +1,7 @@
 -- Deposits, as steps.
 use Rattle.std.specs.Prelude.{is_none}
 use Rattle.std.specs.List.{AllByRecursion}
-use Rattle.std.proofs.Common.{◌≡◌, ℕ, ◌+◌, ◌<◌, ◌≤◌, false, List, [], ◌∷◌, ◌++◌, length, refl, ap, subst, arith, Option, Some, None, inl, pos, ◌≤ℤ◌}
+use Rattle.std.proofs.Common.{◌≡◌, ℕ, ◌+◌, ◌<◌, ◌≤◌, false, List, [], ◌∷◌, ◌++◌, length, refl, ap, subst, arith, Option, Some, None, inl, pos, ◌+ℤ◌, ◌-ℤ◌, ◌≤ℤ◌}
 use Rattle.std.proofs.lemmas.Int.{ints}
 use Rattle.matter_rows.specs.declared.deposit.Deposit.{Deposit}
 use Rattle.matter_rows.specs.declared.clearing.Clearing.{Clearing}
@@ -29,7 +29,7 @@ use Rattle.trust_matter.specs.declared.ask.Caller.{Caller}
 use Rattle.trust_matter.specs.declared.deposit.DepositAsk.{DepositAsk}
 use Rattle.trust_matter.specs.Conditions.{is_no_deposit, is_deposit_not_held}
 use Rattle.trust_matter.specs.Step.{HasAmount, deposit_of, cancelled}
-use Rattle.trust_matter.proofs.StepForms.{rows-append, rows-exchange, exchange-moves, held-is, asked, Stepped}
+use Rattle.trust_matter.proofs.StepForms.{step-append, step-exchange, exchange-moves, held-is, asked, Stepped}
 
 -- A deposit.
 
@@ -45,14 +45,7 @@ pub step-deposit : (h : Head) (seats : List Seat) (es : List Entry) (c : Caller)
 step-deposit h seats es c a day s amount unclosed later next =
     let x : Numbered = record { number = a.number; entry = deposit_of a day } in
     let may = deposit-may es (record { book = day; amount = a.amount; source = a.source; description = a.description; state = deposit.Held }) s.backed refl next.0 amount in
-    record {
-      place = (refl, next.1);
-      sound = rows-append h seats es x day s unclosed may later (deposit-by a day) (tt, tt);
-      not_before = later;
-      seen = refl;
-      moves = deposit-moves es a h.last day later;
-      may = (next.1, may, inl refl);
-    }
+    step-append h seats es x _ _ day s unclosed may next.1 later later (deposit-by a day) (tt, tt) (deposit-moves es a h.last day later) (inl refl)
 
 -- A deposit that was held.
 
@@ -61,14 +54,12 @@ with-state d state = entry.Deposit (record d { state = state })
 
 cleared-some : (s : DepositState) (amount : ℕ) → pos 0 ≤ℤ cleared_deposit s amount
 cleared-some deposit.Held amount = omega (arith, ints)
-cleared-some (deposit.Cleared c) amount = omega (arith, ints)
-cleared-some (deposit.Cancelled day) amount = omega (arith, ints)
-cleared-some (deposit.Returned r) amount = omega (arith, ints)
+cleared-some s amount = omega (arith, ints)
 
--- a held deposit may be cleared or cancelled
-pub restated-may : (es : List Entry) (n : ℕ) (d : Deposit) (state : DepositState) → AreBacked es → entry_at es n ≡ Some (entry.Deposit d) → d.state ≡ deposit.Held → MayTake es n (entry.Deposit d) (with-state d state)
+-- it may be in a state that leaves what is available above zero
+other-may : (es : List Entry) (n : ℕ) (d : Deposit) (state : DepositState) → AreBacked es → entry_at es n ≡ Some (entry.Deposit d) → pos 0 ≤ℤ ((available es -ℤ cleared_deposit d.state d.amount) +ℤ cleared_deposit state d.amount) → MayTake es n (entry.Deposit d) (with-state d state)
 unfolding names draw worth available_share
-restated-may es n d state s at held =
+other-may es n d state s at enough =
     let some = within es n (entry.Deposit d) at in
     let no-fee : of_kind is_fee (entry_at es n) ≡ false = rw at refl in
     let no-claim : of_kind is_settled (entry_at es n) ≡ false = rw at refl in
@@ -79,33 +70,20 @@ restated-may es n d state s at held =
       named = refl;
       fee = λ h. h;
       settled = λ h. h;
-      available = rw held (let a = s.available in let b = cleared-some state d.amount in omega (arith, ints, a, b));
+      available = enough;
       same_target = refl;
       apart = target-apart es n some.0 no-fee no-claim (with-state d state) refl;
       own = omega (arith, ints, all);
       left = λ k e h elsewhere. left-moved es (entry.Deposit d) (with-state d state) refl (λ e h. let l = s.left 0 e h in omega (arith, ints, l)) s.left k e h;
     }
 
+-- a held deposit may be cleared or cancelled
+pub restated-may : (es : List Entry) (n : ℕ) (d : Deposit) (state : DepositState) → AreBacked es → entry_at es n ≡ Some (entry.Deposit d) → d.state ≡ deposit.Held → MayTake es n (entry.Deposit d) (with-state d state)
+restated-may es n d state s at held = other-may es n d state s at (rw held (let a = s.available in let b = cleared-some state d.amount in omega (arith, ints, a, b)))
+
 -- a cleared deposit may be taken back, where what is available covers it
 pub returned-may : (es : List Entry) (n : ℕ) (d : Deposit) (c : Clearing) (r : ReturnedDeposit) → AreBacked es → entry_at es n ≡ Some (entry.Deposit d) → d.state ≡ deposit.Cleared c → pos d.amount ≤ℤ available es → MayTake es n (entry.Deposit d) (with-state d (deposit.Returned r))
-unfolding names draw worth available_share
-returned-may es n d c r s at cleared covered =
-    let some = within es n (entry.Deposit d) at in
-    let no-fee : of_kind is_fee (entry_at es n) ≡ false = rw at refl in
-    let no-claim : of_kind is_settled (entry_at es n) ≡ false = rw at refl in
-    let all = total-undrawn es n s.named some.0 no-fee no-claim in
-    record {
-      at = at;
-      ranged = record { amount = (all-at IsRanged es n (entry.Deposit d) s.ranged at).amount; part = tt };
-      named = refl;
-      fee = λ h. h;
-      settled = λ h. h;
-      available = rw cleared (omega (arith, ints, covered));
-      same_target = refl;
-      apart = target-apart es n some.0 no-fee no-claim (with-state d (deposit.Returned r)) refl;
-      own = omega (arith, ints, all);
-      left = λ k e h elsewhere. left-moved es (entry.Deposit d) (with-state d (deposit.Returned r)) refl (λ e h. let l = s.left 0 e h in omega (arith, ints, l)) s.left k e h;
-    }
+returned-may es n d c r s at cleared covered = other-may es n d (deposit.Returned r) s at (rw cleared (omega (arith, ints, covered)))
 
 -- a return takes the amount out again
 pub returning-moves : (es : List Entry) (n last : ℕ) (d : Deposit) (c : Clearing) (r : ReturnedDeposit) → entry_at es n ≡ Some (entry.Deposit d) → d.state ≡ deposit.Cleared c → last ≤ r.undone → MovesWithin es (edit.Exchange (record { number = n; entry = with-state d (deposit.Returned r) })) last r.undone
@@ -136,20 +114,10 @@ unfolding days_of
 cancelled-by d day made = (made, (omega arith, tt))
 
 pub step-cancel : (h : Head) (seats : List Seat) (es : List Entry) (c : Caller) (n day : ℕ) (o : Option Entry) → entry_at es n ≡ o → Sound (rows-of (Some h) seats es) → h.closed ≡ None → h.last ≤ day → is_none o ≡ false → is_no_deposit o ≡ false → is_deposit_not_held o ≡ false → Stepped (Some h) seats es (asked c (ask.CancelDeposit n) day) (cancelled n o day)
-step-cancel h seats es c n day None at s unclosed later there kind state = absurd (cc)
-step-cancel h seats es c n day (Some (entry.Payment p)) at s unclosed later there kind state = absurd (cc)
-step-cancel h seats es c n day (Some (entry.Fee f)) at s unclosed later there kind state = absurd (cc)
-step-cancel h seats es c n day (Some (entry.Claim f)) at s unclosed later there kind state = absurd (cc)
 step-cancel h seats es c n day (Some (entry.Deposit d)) at s unclosed later there kind state =
     let x : Numbered = record { number = n; entry = with-state d (deposit.Cancelled day) } in
     let held = held-is d.state state in
     let may = restated-may es n d (deposit.Cancelled day) s.backed at held in
     let made : d.book ≤ day = let b = made-before h es n (entry.Deposit d) s.headed.0 at in omega (arith, b, later) in
-    record {
-      place = (refl, (entry.Deposit d, record { there = at; same = refl }));
-      sound = rows-exchange h seats es x (entry.Deposit d) day s unclosed may refl (λ _. omega arith) later (cancelled-by d day made) ((made, tt), tt);
-      not_before = later;
-      seen = refl;
-      moves = cancelling-moves es n h.last day d at held later;
-      may = (entry.Deposit d, may, inl refl, refl);
-    }
+    step-exchange h seats es x (entry.Deposit d) _ _ day s unclosed may refl (λ _. omega arith) later (cancelled-by d day made) ((made, tt), tt) (cancelling-moves es n h.last day d at held later) (inl refl) (refl)
+step-cancel h seats es c n day o at s unclosed later there kind state = absurd (cc)

@@ -196,25 +196,16 @@ abbrev SeenOn : ℕ → Edit → Option Head → Type 0
 SeenOn day e head = last_of (head_after head e (last_after head e day)) ≡ day
 
 seen-deposit : (n day : ℕ) (o : Option Entry) → is_none o ≡ false → is_no_deposit o ≡ false → (h : Head) → SeenOn day (cancelled n o day) (Some h)
-seen-deposit n day None there kind h = absurd (cc)
 seen-deposit n day (Some (entry.Deposit d)) there kind h = refl
-seen-deposit n day (Some (entry.Payment p)) there kind h = absurd (cc)
-seen-deposit n day (Some (entry.Fee f)) there kind h = absurd (cc)
-seen-deposit n day (Some (entry.Claim c)) there kind h = absurd (cc)
+seen-deposit n day o there kind h = absurd (cc)
 
 seen-payment : (n day : ℕ) (next : PaymentState → PaymentState) (o : Option Entry) → is_none o ≡ false → is_no_payment o ≡ false → (h : Head) → SeenOn day (with_payment n o next) (Some h)
-seen-payment n day next None there kind h = absurd (cc)
-seen-payment n day next (Some (entry.Deposit d)) there kind h = absurd (cc)
 seen-payment n day next (Some (entry.Payment p)) there kind h = refl
-seen-payment n day next (Some (entry.Fee f)) there kind h = absurd (cc)
-seen-payment n day next (Some (entry.Claim c)) there kind h = absurd (cc)
+seen-payment n day next o there kind h = absurd (cc)
 
 seen-claim : (n day : ℕ) (next : ClaimState) (o : Option Entry) → is_none o ≡ false → is_no_claim o ≡ false → (h : Head) → SeenOn day (with_claim n o next) (Some h)
-seen-claim n day next None there kind h = absurd (cc)
-seen-claim n day next (Some (entry.Deposit d)) there kind h = absurd (cc)
-seen-claim n day next (Some (entry.Payment p)) there kind h = absurd (cc)
-seen-claim n day next (Some (entry.Fee f)) there kind h = absurd (cc)
 seen-claim n day next (Some (entry.Claim c)) there kind h = refl
+seen-claim n day next o there kind h = absurd (cc)
 
 seen-open : (head : Option Head) (o : OpenAsk) (day : ℕ) → SeenOn day (edit.Open (opening o day)) head
 seen-open None o day = refl
@@ -223,39 +214,25 @@ seen-open (Some h) o day = refl
 -- an ask that changes the matter writes something on its day
 seen-made : (head : Option Head) (seats : List Seat) (es : List Entry) (who : Caller) (q : Ask) (day : ℕ) → Sound (rows-of head seats es) → AcceptedOf head seats es who q day → is_changing q ≡ true → SeenOn day (edit_of q (entry_at es (number_named q)) day) head
 seen-made head seats es who (ask.OpenMatter o) day s p changing = seen-open head o day
-seen-made head seats es who (ask.AddSeat new) day s p changing =
-    with-head head seats es who (ask.AddSeat new) s.headed p.seat refl (SeenOn day (edit_of (ask.AddSeat new) (entry_at es (number_named (ask.AddSeat new))) day)) (λ h. refl)
-seen-made head seats es who (ask.DropSeat q) day s p changing =
-    with-head head seats es who (ask.DropSeat q) s.headed p.seat refl (SeenOn day (edit_of (ask.DropSeat q) (entry_at es (number_named (ask.DropSeat q))) day)) (λ h. refl)
-seen-made head seats es who (ask.Deposit d) day s p changing =
-    with-head head seats es who (ask.Deposit d) s.headed p.seat refl (SeenOn day (edit_of (ask.Deposit d) (entry_at es (number_named (ask.Deposit d))) day)) (λ h. refl)
 seen-made head seats es who (ask.CancelDeposit n) day s p changing =
     with-head head seats es who (ask.CancelDeposit n) s.headed p.seat refl (SeenOn day (edit_of (ask.CancelDeposit n) (entry_at es (number_named (ask.CancelDeposit n))) day)) (seen-deposit n day (entry_at es n) p.there p.kind)
-seen-made head seats es who (ask.Propose a) day s p changing =
-    with-head head seats es who (ask.Propose a) s.headed p.seat refl (SeenOn day (edit_of (ask.Propose a) (entry_at es (number_named (ask.Propose a))) day)) (λ h. refl)
 seen-made head seats es who (ask.Approve n) day s p changing =
     with-head head seats es who (ask.Approve n) s.headed p.seat refl (SeenOn day (edit_of (ask.Approve n) (entry_at es (number_named (ask.Approve n))) day)) (seen-payment n day (λ _. payment.Issued day) (entry_at es n) p.there p.kind)
 seen-made head seats es who (ask.Decline n) day s p changing =
     with-head head seats es who (ask.Decline n) s.headed p.seat refl (SeenOn day (edit_of (ask.Decline n) (entry_at es (number_named (ask.Decline n))) day)) (seen-payment n day (λ _. payment.Declined) (entry_at es n) p.there p.kind)
 seen-made head seats es who (ask.VoidPayment n) day s p changing =
     with-head head seats es who (ask.VoidPayment n) s.headed p.seat refl (SeenOn day (edit_of (ask.VoidPayment n) (entry_at es (number_named (ask.VoidPayment n))) day)) (seen-payment n day (voided day) (entry_at es n) p.there p.kind)
-seen-made head seats es who (ask.EarnFee a) day s p changing =
-    with-head head seats es who (ask.EarnFee a) s.headed p.seat refl (SeenOn day (edit_of (ask.EarnFee a) (entry_at es (number_named (ask.EarnFee a))) day)) (λ h. refl)
-seen-made head seats es who (ask.RaiseClaim a) day s p changing =
-    with-head head seats es who (ask.RaiseClaim a) s.headed p.seat refl (SeenOn day (edit_of (ask.RaiseClaim a) (entry_at es (number_named (ask.RaiseClaim a))) day)) (λ h. refl)
 seen-made head seats es who (ask.Offer a) day s p changing =
     with-head head seats es who (ask.Offer a) s.headed p.seat refl (SeenOn day (edit_of (ask.Offer a) (entry_at es (number_named (ask.Offer a))) day)) (seen-claim a.number day (claim.Offered a.to_client) (entry_at es a.number) p.there p.kind)
 seen-made head seats es who (ask.Accept a) day s p changing =
     with-head head seats es who (ask.Accept a) s.headed p.seat refl (SeenOn day (edit_of (ask.Accept a) (entry_at es (number_named (ask.Accept a))) day)) (seen-claim a.number day (settled day a.to_client) (entry_at es a.number) p.there p.kind)
 seen-made head seats es who (ask.Award a) day s p changing =
     with-head head seats es who (ask.Award a) s.headed p.seat refl (SeenOn day (edit_of (ask.Award a) (entry_at es (number_named (ask.Award a))) day)) (seen-claim a.number day (settled day a.to_client) (entry_at es a.number) p.there p.kind)
-seen-made head seats es who ask.CloseMatter day s p changing =
-    with-head head seats es who ask.CloseMatter s.headed p.seat refl (SeenOn day (edit_of ask.CloseMatter (entry_at es (number_named ask.CloseMatter)) day)) (λ h. refl)
-seen-made head seats es who ask.Purge day s p changing =
-    with-head head seats es who ask.Purge s.headed p.seat refl (SeenOn day (edit_of ask.Purge (entry_at es (number_named ask.Purge)) day)) (λ h. refl)
 seen-made head seats es who ask.Show day s p changing = absurd (false≢true changing)
 seen-made head seats es who ask.Accounting day s p changing = absurd (false≢true changing)
 seen-made head seats es who (ask.ShowEntry n) day s p changing = absurd (false≢true changing)
+seen-made head seats es who q day s p changing =
+    with-head head seats es who q s.headed p.seat refl (SeenOn day (edit_of q (entry_at es (number_named q)) day)) (λ h. refl)
 
 pub day-is_last : DayIsLast
 day-is_last rows a s none changing new =
@@ -274,25 +251,11 @@ claim-changes (against.General who) = refl
 claim-changes (against.Fee k) = refl
 
 read-nothing : (rows : Rows) (who : Caller) (q : Ask) (day : ℕ) → is_changing q ≡ false → rows_after rows (asked who q day) ≡ rows
-read-nothing rows who (ask.OpenMatter o) day reading = absurd (false≢true (sym reading))
-read-nothing rows who (ask.AddSeat new) day reading = absurd (false≢true (sym reading))
-read-nothing rows who (ask.DropSeat p) day reading = absurd (false≢true (sym reading))
-read-nothing rows who (ask.Deposit d) day reading = absurd (false≢true (sym reading))
-read-nothing rows who (ask.CancelDeposit n) day reading = absurd (false≢true (sym reading))
-read-nothing rows who (ask.Propose a) day reading = absurd (false≢true (sym reading))
-read-nothing rows who (ask.Approve n) day reading = absurd (false≢true (sym reading))
-read-nothing rows who (ask.Decline n) day reading = absurd (false≢true (sym reading))
-read-nothing rows who (ask.VoidPayment n) day reading = absurd (false≢true (sym reading))
-read-nothing rows who (ask.EarnFee a) day reading = absurd (false≢true (sym reading))
 read-nothing rows who (ask.RaiseClaim a) day reading = absurd (false≢true (sym reading ∙ claim-changes a.against))
-read-nothing rows who (ask.Offer a) day reading = absurd (false≢true (sym reading))
-read-nothing rows who (ask.Accept a) day reading = absurd (false≢true (sym reading))
-read-nothing rows who (ask.Award a) day reading = absurd (false≢true (sym reading))
-read-nothing rows who ask.CloseMatter day reading = absurd (false≢true (sym reading))
-read-nothing rows who ask.Purge day reading = absurd (false≢true (sym reading))
 read-nothing rows who ask.Show day reading = unchanged rows day (refusal rows (asked who ask.Show day))
 read-nothing rows who ask.Accounting day reading = unchanged rows day (refusal rows (asked who ask.Accounting day))
 read-nothing rows who (ask.ShowEntry n) day reading = unchanged rows day (refusal rows (asked who (ask.ShowEntry n) day))
+read-nothing rows who q day reading = absurd (false≢true (sym reading))
 
 pub reads-change_nothing : ReadsChangeNothing
 reads-change_nothing rows a reading = read-nothing rows a.caller a.ask a.day reading

@@ -1,6 +1,6 @@
 -- Behind the last number no entry is made.
 use Rattle.std.specs.Prelude.{is_some}
-use Rattle.std.proofs.Common.{◌≡◌, ℕ, ◌≤◌, Bool, true, false, cond, List, [], ◌∷◌, length, refl, sym, ◌∙◌, rules, Option, Some, None}
+use Rattle.std.proofs.Common.{◌≡◌, ℕ, Bool, true, false, cond, List, [], ◌∷◌, length, refl, sym, ◌∙◌, rules, Option, Some, None}
 use Rattle.std.proofs.lemmas.Bool.{false≢true}
 use Rattle.trust_base.specs.declared.refusal.Refusal.{Refusal}
 use Rattle.matter_rows.specs.Rows.{next_number}

@@ -1,41 +1,57 @@
--- An ask that comes through the early conditions is refused by the later ones alone.
-use Rattle.std.proofs.Common.{◌≡◌, ℕ, not, ap, sym, Bool, true, false, cond, List, [], ◌∷◌, Option, None, refl, subst, Result}
+-- What the early conditions and the later ones say of an ask together.
+use Rattle.std.proofs.Common.{◌≡◌, ℕ, ◌++◌, sym, Bool, true, false, cond, List, [], ◌∷◌, Option, Some, None, refl, subst, Result, Ok, Err}
+use Rattle.std.specs.Result.{IsErr, IsErrAnd}
 use Rattle.trust_base.specs.declared.refusal.Refusal.{Refusal}
 use Rattle.trust_base.specs.declared.refusal.Rule.{Rule}
 use Rattle.trust_base.specs.declared.refusal.Refusal.TheVariants as refusals
-use Rattle.matter_rows.specs.Rows.{is_purged}
 use Rattle.matter_parts.specs.declared.edit.Edit.{Edit}
 use Rattle.matter_parts.specs.Parts.{Part}
 use Rattle.trust_matter.specs.declared.ask.Ask.{Ask}
 use Rattle.trust_matter.specs.declared.ask.Caller.{Caller}
 use Rattle.trust_matter.specs.KeptFacts.{kept_facts}
-use Rattle.trust_matter.specs.Facts.{Facts, Asked}
-use Rattle.trust_matter.specs.Conditions.{is_unknown_to, has_no_seat, was_purged, is_not_allowed, is_repeat}
-use Rattle.trust_matter.specs.Policy.{rule_of, allows}
-use Rattle.trust_matter.specs.Step.{first, later_conditions, late_refusal, refusal_of, decided, Answers, AnswersBy, AnswersLateBy}
+use Rattle.trust_matter.specs.Conditions.{has_no_seat, was_purged, is_not_allowed, is_repeat}
+use Rattle.trust_matter.specs.Policy.{rule_of}
+use Rattle.trust_matter.specs.Step.{first, early_conditions, later_conditions, late_refusal, refusal_of, decided, Answers, AnswersBy, AnswersLateBy, HasAmount, MayRefuse}
+use Rattle.trust_matter.proofs.StepForms.{asked}
 
 abbrev none : Option Refusal
 none = None
 
-late-first : (b s g n : Bool) (x z y : Refusal) (ls : List (Bool × Refusal)) → s ≡ false → g ≡ false → n ≡ false → cond b none (first ls) ≡ first (cond b ((s, x) ∷ (g, z) ∷ (n, y) ∷ []) ((s, x) ∷ (g, z) ∷ (n, y) ∷ ls))
-late-first b true g n x z y ls h k i = absurd (cc)
-late-first b false true n x z y ls h k i = absurd (cc)
-late-first b false false true x z y ls h k i = absurd (cc)
-late-first true false false false x z y ls h k i = refl
-late-first false false false false x z y ls h k i = refl
+late-first : (b : Bool) (xs ys : List (Bool × Refusal)) → first xs ≡ None → cond b none (first ys) ≡ first (cond b xs (xs ++ ys))
+late-first true xs ys h = sym h
+late-first false [] ys h = refl
+late-first false ((true, r) ∷ xs) ys h = absurd (cc)
+late-first false ((false, r) ∷ xs) ys h = late-first false xs ys h
 
-pub late-same : (f : Facts) (a : Asked) → has_no_seat f a ≡ false → was_purged f a ≡ false → is_not_allowed f a ≡ false → late_refusal f a ≡ refusal_of f a
-late-same f a h k g = late-first (is_repeat f a) (has_no_seat f a) (was_purged f a) (is_not_allowed f a) refusals.NoMatter refusals.Purged (refusals.NotAllowed (rule_of a.ask)) (later_conditions f a) h k g
+-- what is decided of an ask that comes through the early conditions, and that its amount is one
+pub gives-asked : (m : Part) (c : Caller) (a b : Ask) (day : ℕ) (r made : Result Edit Refusal) → a ≡ b → r ≡ made → first (early_conditions (kept_facts m a) (asked c a 0)) ≡ None → HasAmount b → ((c' : Caller) → AnswersLateBy (kept_facts m b) (asked c' b day) made) → AnswersBy (kept_facts m a) (asked c a day) r × HasAmount a
+gives-asked m c a b day r made is by known amount late =
+    let f = kept_facts m a in
+    let q = asked c a day in
+    let same : late_refusal f q ≡ refusal_of f q = late-first (is_repeat f q) (early_conditions f q) (later_conditions f q) known in
+    let P : Ask → Type 0 = λ x. AnswersLateBy (kept_facts m x) (asked c x day) made in
+    let M : Result Edit Refusal → Type 0 = λ x. AnswersLateBy f q x in
+    let Q : Option Refusal → Type 0 = λ o. Answers o (decided f q) r in
+    (subst Q same (subst M (sym by) (subst P (sym is) (late c))), subst HasAmount (sym is) amount)
 
-pub gives : (f : Facts) (a : Asked) (r : Result Edit Refusal) → has_no_seat f a ≡ false → was_purged f a ≡ false → is_not_allowed f a ≡ false → AnswersLateBy f a r → AnswersBy f a r
-gives f a r h k g late = let P : Option Refusal → Type 0 = λ o. Answers o (decided f a) r in subst P (late-same f a h k g) late
+early-first : (s g n b : Bool) (rule : Rule) (ys : List (Bool × Refusal)) (r : Refusal) → first ((s, refusals.NoMatter) ∷ (g, refusals.Purged) ∷ (n, refusals.NotAllowed rule) ∷ []) ≡ Some r →
+    MayRefuse (first (cond b ((s, refusals.NoMatter) ∷ (g, refusals.Purged) ∷ (n, refusals.NotAllowed rule) ∷ []) ((s, refusals.NoMatter) ∷ (g, refusals.Purged) ∷ (n, refusals.NotAllowed rule) ∷ ys))) r
+early-first false false false b rule ys r h = absurd (cc)
+early-first true g n true rule ys r h = let P : Refusal → Type 0 = λ x. MayRefuse (Some refusals.NoMatter) x in let is : refusals.NoMatter ≡ r = cc in subst P is refl
+early-first true g n false rule ys r h = let P : Refusal → Type 0 = λ x. MayRefuse (Some refusals.NoMatter) x in let is : refusals.NoMatter ≡ r = cc in subst P is refl
+early-first false true n true rule ys r h = let P : Refusal → Type 0 = λ x. MayRefuse (Some refusals.Purged) x in let is : refusals.Purged ≡ r = cc in subst P is refl
+early-first false true n false rule ys r h = let P : Refusal → Type 0 = λ x. MayRefuse (Some refusals.Purged) x in let is : refusals.Purged ≡ r = cc in subst P is refl
+early-first false false true true rule ys r h = let P : Refusal → Type 0 = λ x. MayRefuse (Some (refusals.NotAllowed rule)) x in let is : refusals.NotAllowed rule ≡ r = cc in subst P is refl
+early-first false false true false rule ys r h = let P : Refusal → Type 0 = λ x. MayRefuse (Some (refusals.NotAllowed rule)) x in let is : refusals.NotAllowed rule ≡ r = cc in subst P is refl
 
-abbrev asked : Caller → Ask → ℕ → Asked
-asked c a day = record { caller = c; ask = a; day = day }
+-- what the early conditions refuse is refused
+pub early-refused : (m : Part) (c : Caller) (a : Ask) (day : ℕ) (r : Refusal) → first (early_conditions (kept_facts m a) (asked c a 0)) ≡ Some r → AnswersBy (kept_facts m a) (asked c a day) (Err r)
+early-refused m c a day r h =
+    let f = kept_facts m a in
+    let q = asked c a day in
+    early-first (has_no_seat f q) (was_purged f q) (is_not_allowed f q) (is_repeat f q) (rule_of a) (later_conditions f q) r h
 
--- the same of what is kept, where the ask is b
-pub gives-asked : (m : Part) (c : Caller) (a b : Ask) (day : ℕ) (rule : Rule) (r : Result Edit Refusal) → a ≡ b → is_unknown_to c m.head m.seats a ≡ false → is_purged m.head ≡ false → rule ≡ rule_of a → allows m.seats c rule ≡ true → ((c' : Caller) → AnswersLateBy (kept_facts m b) (asked c' b day) r) → AnswersBy (kept_facts m a) (asked c a day) r
-gives-asked m c a b day rule r is known there of allowed late =
-    let P : Rule → Type 0 = λ x. allows m.seats c x ≡ true in
-    let Q : Ask → Type 0 = λ x. AnswersLateBy (kept_facts m x) (asked c x day) r in
-    gives (kept_facts m a) (asked c a day) r known there (ap not (subst P of allowed)) (subst Q (sym is) (late c))
+-- what an error hands up
+pub handed-up : {T E : Type 0} (P : Result T E → Type 0) (r : Result T E) (x : E) → IsErr r → IsErrAnd r (λ y. y ≡ x) → P (Err x) → P r
+handed-up P (Ok v) x is same p = absurd (cc)
+handed-up P (Err e) x is same p = subst (λ y. P (Err y)) (sym same) p

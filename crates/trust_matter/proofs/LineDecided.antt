@@ -1,8 +1,9 @@
 -- What is decided of a line on what is kept is decided on the rows.
-use Rattle.std.proofs.Common.{◌≡◌, ℕ, ◌==◌, ◌||◌, Bool, true, false, refl, ap, sym, ◌∙◌, subst, Option, ℤ, pos}
+use Rattle.std.proofs.Common.{◌≡◌, ℕ, ◌==◌, ◌||◌, Bool, true, false, cond, Some, None, refl, ap, sym, ◌∙◌, subst, Option, ℤ, pos}
 use Rattle.matter_rows.specs.declared.head.Head.{Head}
 use Rattle.matter_rows.specs.declared.entry.Entry.{Entry}
 use Rattle.matter_rows.specs.Rows.{Rows, entry_at}
+use Rattle.matter_rows.specs.Clearings.{is_line_again}
 use Rattle.matter_rows.specs.Shares.{target_in}
 use Rattle.matter_rows.specs.Sound.{Sound}
 use Rattle.matter_parts.specs.declared.edit.Edit.{Edit}
@@ -16,9 +17,10 @@ use Rattle.matter_parts.proofs.Parts.{held-entry}
 use Rattle.matter_parts.proofs.StepForms.{IsStepOf}
 use Rattle.trust_matter.specs.declared.bank_line.BankLine.{BankLine}
 use Rattle.trust_matter.specs.declared.line_verdict.DatedEdit.{DatedEdit}
+use Rattle.trust_matter.specs.declared.line_verdict.Reason.{Reason}
 use Rattle.trust_matter.specs.declared.line_verdict.LineEffect.{LineEffect}
 use Rattle.trust_matter.specs.declared.line_verdict.LineEffect.TheVariants as told
-use Rattle.trust_matter.specs.LineStep.{LineFacts, line_effect, line_on, IsApplied, IsLineDecided}
+use Rattle.trust_matter.specs.LineStep.{LineFacts, line_effect, line_on, first_reason, reasons, matched, told_by, last_by, dated_by, IsApplied, IsLineDecided}
 use Rattle.trust_matter.specs.KeptFacts.{kept_line_facts, holds_for_line}
 use Rattle.trust_matter.proofs.LineSteps.{applied-step}
 use Rattle.trust_matter.proofs.Parts.{both}
@@ -76,6 +78,29 @@ line-no-store m l today d h is none rows s p =
     let P : Option Entry → Type 0 = λ w. is_held_or_none m (target_in w) ≡ true in
     let target = subst P (entry-same m rows l h p) (both (is_held m l.entry) (is_held_or_none m (target_in (entry_in (kept_at m l.entry)))) h).1 in
     never-store m rows (target_in (entry_at rows.entries l.entry)) l.entry d.edit s.backed p (applied-step rows l today d s on-rows).may target (held-or-none m l h) none
+
+-- a line that comes again is a repeat
+pub repeat-by : (m : Part) (l : BankLine) (today : ℕ) → is_line_again (entry_in (kept_at m l.entry)) l.line ≡ true → told.Repeat ≡ kept_edit m l today
+repeat-by m l today again =
+    let f = kept_line_facts m l today in
+    let P : Bool → Type 0 = λ b. told.Repeat ≡ cond b told.Repeat (matched (first_reason (reasons f)) (dated_by f)) in
+    subst P (sym again) refl
+
+-- a line that is no repeat is told the first reason
+pub unmatched-by : (m : Part) (l : BankLine) (today : ℕ) (r : Reason) → is_line_again (entry_in (kept_at m l.entry)) l.line ≡ false → first_reason (reasons (kept_line_facts m l today)) ≡ Some r → told.Unmatched r ≡ kept_edit m l today
+unmatched-by m l today r new holds =
+    let f = kept_line_facts m l today in
+    let P : Bool → Type 0 = λ b. told.Unmatched r ≡ cond b told.Repeat (matched (first_reason (reasons f)) (dated_by f)) in
+    let Q : Option Reason → Type 0 = λ o. told.Unmatched r ≡ matched o (dated_by f) in
+    subst P (sym new) (subst Q (sym holds) refl)
+
+-- a line that is no repeat, and against which no reason holds, is applied
+pub applied-by : (m : Part) (l : BankLine) (today : ℕ) (e : Edit) (last : ℕ) → is_line_again (entry_in (kept_at m l.entry)) l.line ≡ false → first_reason (reasons (kept_line_facts m l today)) ≡ None → e ≡ told_by l.entry (entry_in (kept_at m l.entry)) l.line today → last ≡ last_by (kept_line_facts m l today) → told.Applied (record { edit = e; last = last }) ≡ kept_edit m l today
+applied-by m l today e last new none edited dated =
+    let f = kept_line_facts m l today in
+    let P : Bool → Type 0 = λ b. told.Applied (record { edit = e; last = last }) ≡ cond b told.Repeat (matched (first_reason (reasons f)) (dated_by f)) in
+    let Q : Option Reason → Type 0 = λ o. told.Applied (record { edit = e; last = last }) ≡ matched o (dated_by f) in
+    subst P (sym new) (subst Q (sym none) cc)
 
 -- memory is wanting only where the line is applied
 pub line-memory : (m : Part) (l : BankLine) (today : ℕ) → holds_for_line m l.entry ≡ true → IsApplied (kept_edit m l today) → (rows : Rows) → Sound rows → IsPart m rows → IsApplied (line_on rows l today)

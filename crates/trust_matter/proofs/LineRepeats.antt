@@ -1,6 +1,6 @@
 -- What a line cleared stays cleared, so that a line that comes again is a repeat.
 use Rattle.std.specs.Str.{bytes_eq}
-use Rattle.std.proofs.Common.{◌≡◌, ℕ, ◌+◌, ◌==◌, ◌&&◌, ◌||◌, ◌<◌, ◌⊎◌, inl, inr, not, Bool, ℤ, true, false, cond, List, [], ◌∷◌, ◌++◌, length, refl, ap, sym, ◌∙◌, arith, subst, Option, Some, None, eqb}
+use Rattle.std.proofs.Common.{◌≡◌, ℕ, ◌+◌, ◌==◌, ◌&&◌, ◌||◌, ◌<◌, ◌⊎◌, inl, not, Bool, ℤ, true, false, cond, List, [], ◌∷◌, ◌++◌, length, refl, ap, sym, ◌∙◌, arith, subst, Option, Some, None, eqb}
 use Rattle.std.proofs.lemmas.Bool.{false≢true}
 use Rattle.std.proofs.lemmas.Bool.Decides.{nat_tests}
 use Rattle.std.proofs.lemmas.Slice.Eq.{bytes_eq-Decides}
@@ -34,7 +34,7 @@ use Rattle.trust_matter.specs.Laws.{Doing, AnAsk, ALine, after_doing}
 use Rattle.trust_matter.specs.LineStep.{line_facts, told_by, dated_by, line_on, after_line_effect, rows_after_line, matched, first_reason, reasons, IsApplied}
 use Rattle.trust_matter.specs.Step.{first, early_conditions, conditions, refusal, edit_on, edit_of, after, rows_after, cancelled, with_payment, with_claim}
 use Rattle.trust_matter.proofs.LineSteps.{IsMatched, applied-matched}
-use Rattle.trust_matter.proofs.Repeats.{purge-or-same}
+use Rattle.trust_matter.proofs.Repeats.{unless-purged}
 use Rattle.trust_matter.proofs.StepForms.{not-false}
 use Rattle.trust_matter.proofs.Table.{passes}
 
@@ -81,64 +81,41 @@ again-in d line s = (is_deposit_cleared_by s line && has_its_amount (entry.Depos
 
 held-not : (d : Deposit) (line : Line) (s : DepositState) (c : Bool) → not (is_held_state s) ≡ false → again-in d line s ≡ true → c ≡ true
 held-not d line deposit.Held c h g = absurd (false≢true g)
-held-not d line (deposit.Cleared x) c h g = absurd (false≢true (sym h))
-held-not d line (deposit.Cancelled day) c h g = absurd (false≢true (sym h))
-held-not d line (deposit.Returned r) c h g = absurd (false≢true (sym h))
+held-not d line s c h g = absurd (false≢true (sym h))
 
 proposed-not : (s : PaymentState) (line : Line) → not (is_proposed_state s) ≡ false → is_payment_cleared_by s line ≡ false
-proposed-not payment.Proposed line h = refl
-proposed-not payment.Declined line h = refl
-proposed-not (payment.Issued day) line h = refl
 proposed-not (payment.Cleared c) line h = absurd (false≢true (sym h))
-proposed-not (payment.Voided v) line h = refl
+proposed-not s line h = refl
 
 issued-not : (s : PaymentState) (line : Line) → not (is_issued_state s) ≡ false → is_payment_cleared_by s line ≡ false
-issued-not payment.Proposed line h = refl
-issued-not payment.Declined line h = refl
-issued-not (payment.Issued day) line h = refl
 issued-not (payment.Cleared c) line h = absurd (false≢true (sym h))
-issued-not (payment.Voided v) line h = refl
+issued-not s line h = refl
 
 -- Asks.
 
 cancel-keeps : (line : Line) (es : List Entry) (k day : ℕ) (o : Option Entry) → entry_at es k ≡ o → is_deposit_not_held o ≡ false → Keeps line es (cancelled k o day)
-cancel-keeps line es k day None at state = λ n h. h
-cancel-keeps line es k day (Some (entry.Payment p)) at state = λ n h. h
-cancel-keeps line es k day (Some (entry.Fee f)) at state = λ n h. h
-cancel-keeps line es k day (Some (entry.Claim c)) at state = λ n h. h
 cancel-keeps line es k day (Some (entry.Deposit d)) at state =
     with-keeps line es k (entry.Deposit d) (entry.Deposit (record d { state = deposit.Cancelled day })) at (held-not d line d.state (again-in d line (deposit.Cancelled day)) state)
+cancel-keeps line es k day o at state = λ n h. h
 
 payment-keeps : (line : Line) (es : List Entry) (k : ℕ) (next : PaymentState → PaymentState) (p : Payment) → entry_at es k ≡ Some (entry.Payment p) → is_payment_cleared_by p.state line ≡ false → Keeps line es (with_payment k (Some (entry.Payment p)) next)
 payment-keeps line es k next p at state =
     with-keeps line es k (entry.Payment p) (entry.Payment (record p { state = next p.state })) at (not-cleared (is_payment_cleared_by p.state line) (has_its_amount (entry.Payment p) line) (is_payment_cleared_by (next p.state) line && has_its_amount (entry.Payment p) line) state)
 
 proposed-keeps : (line : Line) (es : List Entry) (k : ℕ) (next : PaymentState → PaymentState) (o : Option Entry) → entry_at es k ≡ o → is_payment_not_proposed o ≡ false → Keeps line es (with_payment k o next)
-proposed-keeps line es k next None at state = λ n h. h
-proposed-keeps line es k next (Some (entry.Deposit d)) at state = λ n h. h
 proposed-keeps line es k next (Some (entry.Payment p)) at state = payment-keeps line es k next p at (proposed-not p.state line state)
-proposed-keeps line es k next (Some (entry.Fee f)) at state = λ n h. h
-proposed-keeps line es k next (Some (entry.Claim c)) at state = λ n h. h
+proposed-keeps line es k next o at state = λ n h. h
 
 issued-keeps : (line : Line) (es : List Entry) (k : ℕ) (next : PaymentState → PaymentState) (o : Option Entry) → entry_at es k ≡ o → is_payment_not_issued o ≡ false → Keeps line es (with_payment k o next)
-issued-keeps line es k next None at state = λ n h. h
-issued-keeps line es k next (Some (entry.Deposit d)) at state = λ n h. h
 issued-keeps line es k next (Some (entry.Payment p)) at state = payment-keeps line es k next p at (issued-not p.state line state)
-issued-keeps line es k next (Some (entry.Fee f)) at state = λ n h. h
-issued-keeps line es k next (Some (entry.Claim c)) at state = λ n h. h
+issued-keeps line es k next o at state = λ n h. h
 
 claim-keeps : (line : Line) (es : List Entry) (k : ℕ) (next : ClaimState) (o : Option Entry) → entry_at es k ≡ o → Keeps line es (with_claim k o next)
-claim-keeps line es k next None at = λ n h. h
-claim-keeps line es k next (Some (entry.Deposit d)) at = λ n h. h
-claim-keeps line es k next (Some (entry.Payment p)) at = λ n h. h
-claim-keeps line es k next (Some (entry.Fee f)) at = λ n h. h
 claim-keeps line es k next (Some (entry.Claim c)) at = with-keeps line es k (entry.Claim c) (entry.Claim (record c { state = next })) at (λ h. h)
+claim-keeps line es k next o at = λ n h. h
 
 -- an ask that finds its entry in the state that it needs
 ask-keeps : (line : Line) (es : List Entry) (a : Ask) (other : Option Entry) (day : ℕ) → is_purging a ≡ false → is_in_another_state_for a (entry_at es (number_named a)) other ≡ false → Keeps line es (edit_of a (entry_at es (number_named a)) day)
-ask-keeps line es (ask.OpenMatter o) other day stays state = λ n h. h
-ask-keeps line es (ask.AddSeat s) other day stays state = λ n h. h
-ask-keeps line es (ask.DropSeat p) other day stays state = λ n h. h
 ask-keeps line es (ask.Deposit a) other day stays state = append-keeps line es _
 ask-keeps line es (ask.CancelDeposit k) other day stays state = cancel-keeps line es k day (entry_at es k) refl state
 ask-keeps line es (ask.Propose a) other day stays state = append-keeps line es _
@@ -150,11 +127,8 @@ ask-keeps line es (ask.RaiseClaim a) other day stays state = append-keeps line e
 ask-keeps line es (ask.Offer a) other day stays state = claim-keeps line es a.number _ (entry_at es a.number) refl
 ask-keeps line es (ask.Accept a) other day stays state = claim-keeps line es a.number _ (entry_at es a.number) refl
 ask-keeps line es (ask.Award a) other day stays state = claim-keeps line es a.number _ (entry_at es a.number) refl
-ask-keeps line es ask.CloseMatter other day stays state = λ n h. h
 ask-keeps line es ask.Purge other day stays state = absurd (false≢true (sym stays))
-ask-keeps line es ask.Show other day stays state = λ n h. h
-ask-keeps line es ask.Accounting other day stays state = λ n h. h
-ask-keeps line es (ask.ShowEntry k) other day stays state = λ n h. h
+ask-keeps line es a other day stays state = λ n h. h
 
 or-second : (a b : Bool) → (a || b) ≡ false → b ≡ false
 or-second true b h = absurd (false≢true (sym h))
@@ -185,22 +159,16 @@ deposit-keeps : (line by : Line) (today : ℕ) (d : Deposit) (s : DepositState) 
 deposit-keeps line by today d deposit.Held h = absurd (false≢true h)
 deposit-keeps line by today d (deposit.Cleared c) h =
     or-kept (is_clearing_by c line && has_its_amount (entry.Deposit d) line) (is_clearing_by (clearing_by by) line && has_amount_back d line) h
-deposit-keeps line by today d (deposit.Cancelled day) h = h
-deposit-keeps line by today d (deposit.Returned r) h = h
+deposit-keeps line by today d s h = h
 
 paid-keeps : (line by : Line) (a : Bool) (s : PaymentState) → (is_payment_cleared_by s line && a) ≡ true → (is_payment_cleared_by (cleared_payment by s) line && a) ≡ true
-paid-keeps line by a payment.Proposed h = h
-paid-keeps line by a payment.Declined h = h
 paid-keeps line by a (payment.Issued day) h = absurd (false≢true h)
-paid-keeps line by a (payment.Cleared c) h = h
-paid-keeps line by a (payment.Voided v) h = h
+paid-keeps line by a s h = h
 
 told-keeps : (line : Line) (es : List Entry) (k : ℕ) (by : Line) (today : ℕ) (o : Option Entry) → entry_at es k ≡ o → Keeps line es (told_by k o by today)
-told-keeps line es k by today None at = λ n h. h
 told-keeps line es k by today (Some (entry.Deposit d)) at = with-keeps line es k (entry.Deposit d) _ at (deposit-keeps line by today d d.state)
 told-keeps line es k by today (Some (entry.Payment p)) at = with-keeps line es k (entry.Payment p) _ at (paid-keeps line by (has_its_amount (entry.Payment p) line) p.state)
-told-keeps line es k by today (Some (entry.Fee f)) at = λ n h. h
-told-keeps line es k by today (Some (entry.Claim c)) at = λ n h. h
+told-keeps line es k by today o at = λ n h. h
 
 line-stays : (line : Line) (rows : Rows) (l : BankLine) (today : ℕ) (e : LineEffect) → line_on rows l today ≡ e → Stays line rows (after_line_effect e rows)
 line-stays line rows l today (told.Applied d) is =
@@ -208,21 +176,12 @@ line-stays line rows l today (told.Applied d) is =
     let m = applied-matched f d is in
     let P : DatedEdit → Type 0 = λ x. Keeps line rows.entries x.edit in
     subst P m.1 (told-keeps line rows.entries l.entry l.line today f.entry refl)
-line-stays line rows l today told.Repeat is = λ n h. h
-line-stays line rows l today (told.Unmatched r) is = λ n h. h
+line-stays line rows l today e is = λ n h. h
 
 -- All that comes to a matter.
 
 ask-stays : (line : Line) (rows : Rows) (a : Asked) → Stays line rows (rows_after rows a) ⊎ (is_purged (rows_after rows a).head ≡ true)
-ask-stays line rows a = cases (is_purging a.ask) refl
-  where
-    same : (rows_after rows a ≡ rows) ⊎ (is_purged (rows_after rows a).head ≡ true) → Stays line rows (rows_after rows a) ⊎ (is_purged (rows_after rows a).head ≡ true)
-    same (inl is) = inl (subst (λ (r : Rows). Stays line rows r) (sym is) (λ n h. h))
-    same (inr is) = inr is
-
-    cases : (b : Bool) → is_purging a.ask ≡ b → Stays line rows (rows_after rows a) ⊎ (is_purged (rows_after rows a).head ≡ true)
-    cases false stays = inl (after-stays line rows a (refusal rows a) stays refl)
-    cases true is = same (purge-or-same rows a is)
+ask-stays line rows a = unless-purged rows a (λ r. Stays line rows r) (λ n h. h) (λ kept. after-stays line rows a (refusal rows a) kept refl)
 
 pub doing-stays : (line : Line) (rows : Rows) (d : Doing) → Stays line rows (after_doing rows d) ⊎ (is_purged (after_doing rows d).head ≡ true)
 doing-stays line rows (AnAsk a) = ask-stays line rows a
@@ -240,11 +199,8 @@ own-clearing : (line : Line) → is_clearing_by (clearing_by line) line ≡ true
 own-clearing line = rw (same-number line.date) (same-bytes line.bank_ref)
 
 own-payment : (line : Line) (s : PaymentState) → not (is_issued_state s) ≡ false → is_payment_cleared_by (cleared_payment line s) line ≡ true
-own-payment line payment.Proposed h = absurd (false≢true (sym h))
-own-payment line payment.Declined h = absurd (false≢true (sym h))
 own-payment line (payment.Issued day) h = own-clearing line
-own-payment line (payment.Cleared c) h = absurd (false≢true (sym h))
-own-payment line (payment.Voided v) h = absurd (false≢true (sym h))
+own-payment line s h = absurd (false≢true (sym h))
 
 both-true : (a b : Bool) → a ≡ true → b ≡ true → (a && b) ≡ true
 both-true true b x y = y
@@ -274,8 +230,7 @@ deposit-now line today d deposit.Held state amount =
 deposit-now line today d (deposit.Cleared c) state amount =
     let own = both-true (is_clearing_by (clearing_by line) line) (has_amount_back d line) (own-clearing line) (not-false (has_amount_back d line) state) in
     or-behind (is_clearing_by c line && has_its_amount (entry.Deposit d) line) (is_clearing_by (clearing_by line) line && has_amount_back d line) own
-deposit-now line today d (deposit.Cancelled day) state amount = absurd (false≢true (sym state))
-deposit-now line today d (deposit.Returned r) state amount = absurd (false≢true (sym state))
+deposit-now line today d s state amount = absurd (false≢true (sym state))
 
 -- the line is one of the entry's
 cleared-now : (head : Option Head) (es : List Entry) (k : ℕ) (a : ℤ) (today : ℕ) (line : Line) (o : Option Entry) → entry_at es k ≡ o → IsMatched (record { head = head; number = k; entry = o; available = a; line = line; today = today }) → is_line_again (entry_at (edited es (told_by k o line today)) k) line ≡ true
@@ -287,8 +242,7 @@ cleared-now head es k a today line (Some (entry.Payment p)) at m =
     let new : Entry = entry.Payment (record p { state = cleared_payment line p.state }) in
     ap (λ o. is_line_again o line) (here es k (entry.Payment p) new at)
     ∙ both-true (is_payment_cleared_by (cleared_payment line p.state) line) (has_its_amount new line) (own-payment line p.state m.state) (not-and (has_its_amount (entry.Payment p) line) true refl m.amount)
-cleared-now head es k a today line (Some (entry.Fee f)) at m = absurd (false≢true (sym m.kind))
-cleared-now head es k a today line (Some (entry.Claim c)) at m = absurd (false≢true (sym m.kind))
+cleared-now head es k a today line o at m = absurd (false≢true (sym m.kind))
 
 pub applied-now : (rows : Rows) (l : BankLine) (today : ℕ) (e : LineEffect) → line_on rows l today ≡ e → IsApplied e → is_line_again (entry_at (after_line_effect e rows).entries l.entry) l.line ≡ true
 applied-now rows l today (told.Applied d) is applied =
@@ -296,8 +250,7 @@ applied-now rows l today (told.Applied d) is applied =
     let m = applied-matched f d is in
     let P : DatedEdit → Type 0 = λ x. is_line_again (entry_at (edited rows.entries x.edit) l.entry) l.line ≡ true in
     subst P m.1 (cleared-now rows.head rows.entries l.entry f.available today l.line f.entry refl m.0)
-applied-now rows l today told.Repeat is applied = absurd applied
-applied-now rows l today (told.Unmatched r) is applied = absurd applied
+applied-now rows l today e is applied = absurd applied
 
 -- A line that comes again.
 

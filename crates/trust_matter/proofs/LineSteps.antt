@@ -17,20 +17,19 @@ use Rattle.matter_rows.specs.declared.payment.PaymentState.{PaymentState}
 use Rattle.matter_rows.specs.declared.payment.PaymentState.TheVariants as payment
 use Rattle.matter_rows.specs.declared.entry.Entry.{Entry}
 use Rattle.matter_rows.specs.declared.entry.Entry.TheVariants as entry
-use Rattle.matter_rows.specs.Balances.{available, names, is_fee, is_settled, passes as of_kind, exceeds}
+use Rattle.matter_rows.specs.Balances.{available, exceeds}
 use Rattle.matter_rows.specs.Rows.{is_held_state, is_issued_state, is_gone, Rows, entry_at}
 use Rattle.matter_rows.specs.Events.{events_of, events_in, payments}
-use Rattle.matter_rows.specs.Shares.{target_in, draw, worth, target, available_share, held_share, pending_share, paid, from_general, held_deposit, pending_payment}
+use Rattle.matter_rows.specs.Shares.{target_in, fund_no, held_share, pending_share, paid, from_general, held_deposit, pending_payment}
 use Rattle.matter_rows.specs.Clearings.{clearing_by, has_amount_back, is_cleared_state, is_line_again, deposit_by, cleared_payment}
 use Rattle.matter_rows.specs.Sound.{AreBacked, IsBy, IsRising, AreRising, IsRanged, IsAtRestIfClosed, Sound, days_of, payment_days, payment_bank}
 use Rattle.matter_rows.proofs.Covered.{sound-covered}
 use Rattle.matter_rows.proofs.Days.{made-before}
-use Rattle.matter_rows.proofs.Entries.{all-at, within}
-use Rattle.matter_rows.proofs.Keeping.{MayTake, target-apart, total-undrawn}
+use Rattle.matter_rows.proofs.Entries.{all-at}
+use Rattle.matter_rows.proofs.Keeping.{MayTake}
 use Rattle.matter_rows.proofs.Sums.{total-within}
 use Rattle.matter_parts.specs.declared.edit.Edit.TheVariants as edit
 use Rattle.matter_parts.specs.declared.edit.Numbered.{Numbered}
-use Rattle.matter_parts.proofs.Editing.{left-moved}
 use Rattle.matter_parts.proofs.StepForms.{rows-of, MovesWithin, IsStepOf}
 use Rattle.trust_matter.specs.declared.bank_line.BankLine.{BankLine}
 use Rattle.trust_matter.specs.declared.line_verdict.DatedEdit.{DatedEdit}
@@ -40,8 +39,8 @@ use Rattle.trust_matter.specs.declared.line_verdict.LineEffect.TheVariants as to
 use Rattle.trust_matter.specs.Laws.{LinesKeepSound, NoReasonHolds}
 use Rattle.trust_matter.specs.LineStep.{LineFacts, line_facts, has_no_line, awaits_no_line, is_of_another_amount, is_uncovered, reasons, first_reason, told_by, last_by, dated_by, matched, line_effect, line_on, after_line_effect}
 use Rattle.trust_matter.proofs.DepositSteps.{restated-may, returned-may, returning-moves, returned-by}
-use Rattle.trust_matter.proofs.StepForms.{rows-exchange, exchange-moves, not-false, not-before}
-use Rattle.trust_matter.proofs.PaymentSteps.{within-left}
+use Rattle.trust_matter.proofs.StepForms.{step-exchange, exchange-moves, not-false, not-before}
+use Rattle.trust_matter.proofs.PaymentSteps.{within-left, restated-may as payment-restated}
 
 -- A line that is applied.
 
@@ -115,11 +114,8 @@ unfolding pending_share
 issued-waits p h = inr (waiting p.state h)
   where
     waiting : (s : PaymentState) → is_issued_state s ≡ true → pos 1 ≤ℤ pending_payment s
-    waiting payment.Proposed h = absurd (false≢true h)
-    waiting payment.Declined h = absurd (false≢true h)
     waiting (payment.Issued day) h = omega (arith, ints)
-    waiting (payment.Cleared c) h = absurd (false≢true h)
-    waiting (payment.Voided v) h = absurd (false≢true h)
+    waiting s h = absurd (false≢true h)
 
 -- A payment that a line has cleared.
 
@@ -128,48 +124,24 @@ cleared-by-line line p = entry.Payment (record p { state = cleared_payment line 
 
 paid-same : (line : Line) (s : PaymentState) (a : ℕ) → paid (cleared_payment line s) a ≡ paid s a
 paid-same line payment.Proposed a = refl
-paid-same line payment.Declined a = refl
-paid-same line (payment.Issued day) a = refl
-paid-same line (payment.Cleared c) a = refl
-paid-same line (payment.Voided v) a = refl
+paid-same line s a = refl
 
 moved-same : (line : Line) (s : PaymentState) (a : ℕ) → payments (cleared_payment line s) a ≡ payments s a
 moved-same line payment.Proposed a = refl
-moved-same line payment.Declined a = refl
-moved-same line (payment.Issued day) a = refl
-moved-same line (payment.Cleared c) a = refl
-moved-same line (payment.Voided v) a = refl
+moved-same line s a = refl
 
 days-same : (line : Line) (s : PaymentState) → payment_days (cleared_payment line s) ≡ payment_days s
 days-same line payment.Proposed = refl
-days-same line payment.Declined = refl
-days-same line (payment.Issued day) = refl
-days-same line (payment.Cleared c) = refl
-days-same line (payment.Voided v) = refl
+days-same line s = refl
 
 -- a payment may be cleared
 payment-may : (es : List Entry) (n : ℕ) (line : Line) (p : Payment) → AreBacked es → entry_at es n ≡ Some (entry.Payment p) → MayTake es n (entry.Payment p) (cleared-by-line line p)
-unfolding names draw worth available_share
 payment-may es n line p s at =
-    let some = within es n (entry.Payment p) at in
-    let no-fee : of_kind is_fee (entry_at es n) ≡ false = rw at refl in
-    let no-claim : of_kind is_settled (entry_at es n) ≡ false = rw at refl in
-    let all = total-undrawn es n s.named some.0 no-fee no-claim in
-    let named = all-at (λ e. names es e ≡ true) es n (entry.Payment p) s.named at in
     let same = paid-same line p.state p.amount in
     let general = ap (from_general p.fund) same in
-    record {
-      at = at;
-      ranged = record { amount = (all-at IsRanged es n (entry.Payment p) s.ranged at).amount; part = tt };
-      named = named;
-      fee = λ h. h;
-      settled = λ h. h;
-      available = let a = s.available in omega (arith, ints, a, general);
-      same_target = refl;
-      apart = target-apart es n some.0 no-fee no-claim (cleared-by-line line p) named;
-      own = omega (arith, ints, all);
-      left = λ k e h elsewhere. left-moved es (entry.Payment p) (cleared-by-line line p) refl (λ e h. let l = s.left (target (entry.Payment p)) e h in omega (arith, ints, l, same)) s.left k e h;
-    }
+    payment-restated es n p (cleared_payment line p.state) s at
+    (let a = s.available in omega (arith, ints, a, general))
+    (λ e g. let l = s.left (fund_no p.fund) e g in omega (arith, ints, l, same))
 
 -- What is cleared by a line.
 
@@ -249,8 +221,6 @@ DepositMatched h es line today d s =
     × (((is_cleared_state s && has_amount_back d line) && (nat_lt today h.last || exceeds d.amount (available es))) ≡ false)
 
 deposit-step : (h : Head) (seats : List Seat) (es : List Entry) (l : BankLine) (today : ℕ) (d : Deposit) (state : DepositState) → d.state ≡ state → entry_at es l.entry ≡ Some (entry.Deposit d) → Sound (rows-of (Some h) seats es) → nat_lt today l.line.date ≡ false → DepositMatched h es l.line today d state → DepositStep h seats es l today d state
-deposit-step h seats es l today d (deposit.Cancelled day) is at s dated m = absurd (false≢true (sym m.0))
-deposit-step h seats es l today d (deposit.Returned r) is at s dated m = absurd (false≢true (sym m.0))
 deposit-step h seats es l today d deposit.Held held at s dated m =
     let new : Deposit = record d { state = deposit.Cleared (clearing_by l.line) } in
     let x : Numbered = record { number = l.entry; entry = entry.Deposit new } in
@@ -259,14 +229,7 @@ deposit-step h seats es l today d deposit.Held held at s dated m =
     let later = le-max_left h.last l.line.date in
     let seen = le-max_right h.last l.line.date in
     let made : d.book ≤ max h.last l.line.date = let b = made-before h es l.entry (entry.Deposit d) s.headed.0 at in omega (arith, b, later) in
-    record {
-      place = (refl, (entry.Deposit d, record { there = at; same = refl }));
-      sound = rows-exchange h seats es x (entry.Deposit d) (max h.last l.line.date) s unclosed may refl (λ _. omega arith) later (deposit-by l.line d (max h.last l.line.date) made seen) (tt, tt);
-      not_before = later;
-      seen = refl;
-      moves = clearing-moves es l.entry h.last (max h.last l.line.date) (entry.Deposit d) (entry.Deposit new) at (deposit-moved l.line d held);
-      may = (entry.Deposit d, may, inl refl, refl);
-    }
+    step-exchange h seats es x (entry.Deposit d) _ _ (max h.last l.line.date) s unclosed may refl (λ _. omega arith) later (deposit-by l.line d (max h.last l.line.date) made seen) (tt, tt) (clearing-moves es l.entry h.last (max h.last l.line.date) (entry.Deposit d) (entry.Deposit new) at (deposit-moved l.line d held)) (inl refl) (refl)
 deposit-step h seats es l today d (deposit.Cleared c) cleared at s dated m =
     let known = taken-back h es d l.line today (has_amount_back d l.line) refl m.0 m.1 in
     let r : ReturnedDeposit = record { clearing = c; returning = clearing_by l.line; undone = today } in
@@ -281,16 +244,11 @@ deposit-step h seats es l today d (deposit.Cleared c) cleared at s dated m =
     let back : l.line.date ≤ today = not-before today l.line.date dated in
     let by = all-at (IsBy h.last) es l.entry (entry.Deposit d) s.headed.0.by_last at in
     let made : d.book ≤ today = let b = made-before h es l.entry (entry.Deposit d) s.headed.0 at in omega (arith, b, later) in
-    let step : IsStepOf (rows-of (Some h) seats es) 0 l.entry (edit.Exchange x) today = record {
-      place = (refl, (entry.Deposit d, record { there = at; same = refl }));
-      sound = rows-exchange h seats es x (entry.Deposit d) today s unclosed may refl (λ _. omega arith) later (returned-by d c r h.last cleared refl by later back) ((made, tt), back);
-      not_before = later;
-      seen = refl;
-      moves = returning-moves es l.entry h.last d c r at cleared later;
-      may = (entry.Deposit d, may, inl refl, refl);
-    } in
+    let step : IsStepOf (rows-of (Some h) seats es) 0 l.entry (edit.Exchange x) today =
+    step-exchange h seats es x (entry.Deposit d) _ _ today s unclosed may refl (λ _. omega arith) later (returned-by d c r h.last cleared refl by later back) ((made, tt), back) (returning-moves es l.entry h.last d c r at cleared later) (inl refl) refl in
     let P : Bool → Type 0 = λ b. IsStepOf (rows-of (Some h) seats es) 0 l.entry (edit.Exchange x) (cond b today (max h.last l.line.date)) in
     subst P (sym known.back) step
+deposit-step h seats es l today d state is at s dated m = absurd (false≢true (sym m.0))
 
 -- the facts of a line
 abbrev facts-of : Option Head → List Entry → BankLine → ℕ → Option Entry → LineFacts
@@ -300,8 +258,6 @@ facts-of head es l today o = record { head = head; number = l.entry; entry = o; 
 pub line-step : (head : Option Head) (seats : List Seat) (es : List Entry) (l : BankLine) (today : ℕ) (o : Option Entry) → entry_at es l.entry ≡ o → Sound (rows-of head seats es) → IsMatched (facts-of head es l today o) → IsStepOf (rows-of head seats es) (target_in o) l.entry (told_by l.entry o l.line today) (last_by (facts-of head es l today o))
 line-step None seats es l today o at s m = absurd (false≢true (sym m.opened))
 line-step (Some h) seats es l today None at s m = absurd (false≢true (sym m.there))
-line-step (Some h) seats es l today (Some (entry.Fee f)) at s m = absurd (false≢true (sym m.kind))
-line-step (Some h) seats es l today (Some (entry.Claim c)) at s m = absurd (false≢true (sym m.kind))
 line-step (Some h) seats es l today (Some (entry.Deposit d)) at s m = deposit-step h seats es l today d d.state refl at s m.dated (m.state, m.covered)
 line-step (Some h) seats es l today (Some (entry.Payment p)) at s m =
     let x : Numbered = record { number = l.entry; entry = cleared-by-line l.line p } in
@@ -312,14 +268,8 @@ line-step (Some h) seats es l today (Some (entry.Payment p)) at s m =
     let seen = le-max_right h.last l.line.date in
     let by = all-at (IsBy h.last) es l.entry (entry.Payment p) s.headed.0.by_last at in
     let rising = all-at IsRising es l.entry (entry.Payment p) s.headed.0.changed at in
-    record {
-      place = (refl, (entry.Payment p, record { there = at; same = refl }));
-      sound = rows-exchange h seats es x (entry.Payment p) (max h.last l.line.date) s unclosed may refl (λ _. omega arith) later (payment-by l.line p h.last (max h.last l.line.date) later seen by) (payment-rising l.line p rising);
-      not_before = later;
-      seen = refl;
-      moves = clearing-moves es l.entry h.last (max h.last l.line.date) (entry.Payment p) (cleared-by-line l.line p) at (payment-moved l.line p);
-      may = (entry.Payment p, may, inr refl, refl);
-    }
+    step-exchange h seats es x (entry.Payment p) _ _ (max h.last l.line.date) s unclosed may refl (λ _. omega arith) later (payment-by l.line p h.last (max h.last l.line.date) later seen by) (payment-rising l.line p rising) (clearing-moves es l.entry h.last (max h.last l.line.date) (entry.Payment p) (cleared-by-line l.line p) at (payment-moved l.line p)) (inr refl) (refl)
+line-step (Some h) seats es l today o at s m = absurd (false≢true (sym m.kind))
 
 -- a line that is applied makes a step
 pub applied-step : (rows : Rows) (l : BankLine) (today : ℕ) (d : DatedEdit) → Sound rows → line_on rows l today ≡ told.Applied d → IsStepOf rows (target_in (entry_at rows.entries l.entry)) l.entry d.edit d.last
@@ -330,8 +280,7 @@ applied-step rows l today d s h =
 
 sound-after : (rows : Rows) (l : BankLine) (today : ℕ) (e : LineEffect) → line_on rows l today ≡ e → Sound rows → Sound (after_line_effect e rows)
 sound-after rows l today (told.Applied d) is s = (applied-step rows l today d s is).sound
-sound-after rows l today told.Repeat is s = s
-sound-after rows l today (told.Unmatched r) is s = s
+sound-after rows l today e is s = s
 
 -- sound rows stay sound at every line
 pub lines-sound : LinesKeepSound

@@ -32,7 +32,7 @@ use Rattle.trust_matter.specs.declared.payment.PaymentAsk.{PaymentAsk}
 use Rattle.trust_matter.specs.Conditions.{is_an_entry, is_no_fund, is_no_fund_yet, is_no_payment, is_payment_not_issued, is_payment_not_proposed, is_short_payment}
 use Rattle.trust_matter.specs.Facts.{facts_of}
 use Rattle.trust_matter.specs.Step.{HasAmount, edit_of, payment_of, voided, with_payment}
-use Rattle.trust_matter.proofs.StepForms.{rows-append, rows-exchange, AreWithin, exchange-moves, next-is, not-false, asked, Stepped}
+use Rattle.trust_matter.proofs.StepForms.{step-append, step-exchange, AreWithin, exchange-moves, next-is, not-false, asked, Stepped}
 use Rattle.trust_matter.proofs.Table.{Passes}
 
 -- what does not exceed is at most what is left
@@ -42,27 +42,21 @@ within-left a (negsuc n) h = absurd (cc)
 
 from-zero : (f : Fund) → from_general f (pos 0) ≡ pos 0
 from-zero fund.General = refl
-from-zero (fund.Fee k) = refl
-from-zero (fund.Claim k) = refl
+from-zero f = refl
 
 from-some : (f : Fund) (a : ℕ) → pos 0 ≤ℤ from_general f (pos a)
 from-some fund.General a = omega (arith, ints)
-from-some (fund.Fee k) a = omega (arith, ints)
-from-some (fund.Claim k) a = omega (arith, ints)
+from-some f a = omega (arith, ints)
 
 -- A proposal.
 
 -- the fund that passes the table is a fee, or a settled claim on the general fund
 funded : (es : List Entry) (f : Fund) (o : Option Entry) → entry_at es (fund_no f) ≡ o → (is_an_entry f && is_none o) ≡ false → is_no_fund f o ≡ false → is_no_fund_yet f o ≡ false → funds es f ≡ true
 funded es fund.General o at there kind state = refl
-funded es (fund.Fee k) None at there kind state = absurd (cc)
 funded es (fund.Fee k) (Some e) at there kind state = rw at (not-false (is_fee e) kind)
-funded es (fund.Claim k) None at there kind state = absurd (cc)
-funded es (fund.Claim k) (Some (entry.Deposit d)) at there kind state = absurd (cc)
-funded es (fund.Claim k) (Some (entry.Payment p)) at there kind state = absurd (cc)
-funded es (fund.Claim k) (Some (entry.Fee f)) at there kind state = absurd (cc)
 funded es (fund.Claim k) (Some (entry.Claim c)) at there kind state =
     rw at (rw (not-false (is_general c.against) kind) (not-false (has_settled c.state) state))
+funded es f o at there kind state = absurd (cc)
 
 -- it draws nothing yet
 proposed-may : (es : List Entry) (a : PaymentAsk) (day : ℕ) → AreBacked es → length es < 9_999 → IsAmount a.amount → funds es a.fund ≡ true → MayAdd es (payment_of a day)
@@ -89,14 +83,7 @@ step-propose h seats es c a day s amount unclosed later p =
     let x : Numbered = record { number = a.number; entry = payment_of a day } in
     let next = next-is (length es) a.number p.next in
     let may = proposed-may es a day s.backed next.0 amount (funded es a.fund (entry_at es (fund_no a.fund)) refl p.there p.kind p.state) in
-    record {
-      place = (refl, next.1);
-      sound = rows-append h seats es x day s unclosed may later (proposed-by a day) tt;
-      not_before = later;
-      seen = refl;
-      moves = proposal-moves es a h.last day;
-      may = (next.1, may, inr refl);
-    }
+    step-append h seats es x _ _ day s unclosed may next.1 later later (proposed-by a day) tt (proposal-moves es a h.last day) (inr refl)
 
 -- A payment in another state.
 
@@ -147,8 +134,7 @@ restating-moves es n last day p state more at is within =
 
 paid-general : (es : List Entry) (f : Fund) (a : ℕ) (left : ℤ) → exceeds a (fund_left f (available es) left) ≡ false → pos 0 ≤ℤ available es → pos 0 ≤ℤ (available es -ℤ from_general f (pos a))
 paid-general es fund.General a left h s = let w = within-left a (available es) h in omega (arith, ints, w)
-paid-general es (fund.Fee k) a left h s = omega (arith, ints, s)
-paid-general es (fund.Claim k) a left h s = omega (arith, ints, s)
+paid-general es f a left h s = omega (arith, ints, s)
 
 paid-left : (es : List Entry) (f : Fund) (a : ℕ) → exceeds a (fund_left f (available es) (left_in es (fund_no f) (entry_at es (fund_no f)))) ≡ false → (e : Entry) → entry_at es (fund_no f) ≡ Some e → pos a ≤ℤ left_of es (fund_no f) e
 paid-left es fund.General a h e g = absurd (let some = within es 0 e g in omega (arith, some))
@@ -172,29 +158,16 @@ approved-by p day made = (made, (omega arith, tt))
 
 proposed-is : (s : PaymentState) → not (is_proposed_state s) ≡ false → s ≡ payment.Proposed
 proposed-is payment.Proposed h = refl
-proposed-is payment.Declined h = absurd (cc)
-proposed-is (payment.Issued day) h = absurd (cc)
-proposed-is (payment.Cleared c) h = absurd (cc)
-proposed-is (payment.Voided v) h = absurd (cc)
+proposed-is s h = absurd (cc)
 
 approve-one : (h : Head) (seats : List Seat) (es : List Entry) (c : Caller) (n day : ℕ) (o : Option Entry) → entry_at es n ≡ o → Sound (rows-of (Some h) seats es) → h.closed ≡ None → h.last ≤ day → is_none o ≡ false → is_no_payment o ≡ false → is_payment_not_proposed o ≡ false → is_short_payment o (available es) (left_in es (target_in o) (entry_at es (target_in o))) ≡ false → Stepped (Some h) seats es (asked c (ask.Approve n) day) (with_payment n o (λ _. payment.Issued day))
-approve-one h seats es c n day None at s unclosed later there kind state enough = absurd (cc)
-approve-one h seats es c n day (Some (entry.Deposit d)) at s unclosed later there kind state enough = absurd (cc)
-approve-one h seats es c n day (Some (entry.Fee f)) at s unclosed later there kind state enough = absurd (cc)
-approve-one h seats es c n day (Some (entry.Claim d)) at s unclosed later there kind state enough = absurd (cc)
 approve-one h seats es c n day (Some (entry.Payment p)) at s unclosed later there kind state enough =
     let x : Numbered = record { number = n; entry = with-state p (payment.Issued day) } in
     let new = proposed-is p.state state in
     let may = approved-may es n day p s.backed at new enough in
     let made : p.book ≤ day = let b = made-before h es n (entry.Payment p) s.headed.0 at in omega (arith, b, later) in
-    record {
-      place = (refl, (entry.Payment p, record { there = at; same = refl }));
-      sound = rows-exchange h seats es x (entry.Payment p) day s unclosed may refl (λ _. omega arith) later (approved-by p day made) (made, tt);
-      not_before = later;
-      seen = refl;
-      moves = restating-moves es n h.last day p (payment.Issued day) (paid_out day p.amount ∷ []) at (rw new refl) (later, omega arith);
-      may = (entry.Payment p, may, inr (sym (ap target_in at)), refl);
-    }
+    step-exchange h seats es x (entry.Payment p) _ _ day s unclosed may refl (λ _. omega arith) later (approved-by p day made) (made, tt) (restating-moves es n h.last day p (payment.Issued day) (paid_out day p.amount ∷ []) at (rw new refl) (later, omega arith)) (inr (sym (ap target_in at))) (refl)
+approve-one h seats es c n day o at s unclosed later there kind state enough = absurd (cc)
 
 pub step-approve : (h : Head) (seats : List Seat) (es : List Entry) (c : Caller) (n : ℕ) (day : ℕ) → Sound (rows-of (Some h) seats es) → h.closed ≡ None → h.last ≤ day → Passes (facts_of (rows-of (Some h) seats es) (ask.Approve n)) (asked c (ask.Approve n) day) → Stepped (Some h) seats es (asked c (ask.Approve n) day) (edit_of (ask.Approve n) (entry_at es n) day)
 step-approve h seats es c n day s unclosed later p =
@@ -213,23 +186,13 @@ unfolding days_of
 declined-by p day made = (made, tt)
 
 decline-one : (h : Head) (seats : List Seat) (es : List Entry) (c : Caller) (n day : ℕ) (o : Option Entry) → entry_at es n ≡ o → Sound (rows-of (Some h) seats es) → h.closed ≡ None → h.last ≤ day → is_none o ≡ false → is_no_payment o ≡ false → is_payment_not_proposed o ≡ false → Stepped (Some h) seats es (asked c (ask.Decline n) day) (with_payment n o (λ _. payment.Declined))
-decline-one h seats es c n day None at s unclosed later there kind state = absurd (cc)
-decline-one h seats es c n day (Some (entry.Deposit d)) at s unclosed later there kind state = absurd (cc)
-decline-one h seats es c n day (Some (entry.Fee f)) at s unclosed later there kind state = absurd (cc)
-decline-one h seats es c n day (Some (entry.Claim d)) at s unclosed later there kind state = absurd (cc)
 decline-one h seats es c n day (Some (entry.Payment p)) at s unclosed later there kind state =
     let x : Numbered = record { number = n; entry = with-state p payment.Declined } in
     let new = proposed-is p.state state in
     let may = declined-may es n p s.backed at new in
     let made : p.book ≤ day = let b = made-before h es n (entry.Payment p) s.headed.0 at in omega (arith, b, later) in
-    record {
-      place = (refl, (entry.Payment p, record { there = at; same = refl }));
-      sound = rows-exchange h seats es x (entry.Payment p) day s unclosed may refl (λ _. omega arith) later (declined-by p day made) tt;
-      not_before = later;
-      seen = refl;
-      moves = restating-moves es n h.last day p payment.Declined [] at (rw new refl) tt;
-      may = (entry.Payment p, may, inr (sym (ap target_in at)), refl);
-    }
+    step-exchange h seats es x (entry.Payment p) _ _ day s unclosed may refl (λ _. omega arith) later (declined-by p day made) tt (restating-moves es n h.last day p payment.Declined [] at (rw new refl) tt) (inr (sym (ap target_in at))) (refl)
+decline-one h seats es c n day o at s unclosed later there kind state = absurd (cc)
 
 pub step-decline : (h : Head) (seats : List Seat) (es : List Entry) (c : Caller) (n : ℕ) (day : ℕ) → Sound (rows-of (Some h) seats es) → h.closed ≡ None → h.last ≤ day → Passes (facts_of (rows-of (Some h) seats es) (ask.Decline n)) (asked c (ask.Decline n) day) → Stepped (Some h) seats es (asked c (ask.Decline n) day) (edit_of (ask.Decline n) (entry_at es n) day)
 step-decline h seats es c n day s unclosed later p =
@@ -260,11 +223,8 @@ unfolding days_of
 voided-by p issued day made later = (omega (arith, made, later), (later, (omega arith, tt)))
 
 issued-is : (s : PaymentState) → not (is_issued_state s) ≡ false → (issued : ℕ) × (s ≡ payment.Issued issued)
-issued-is payment.Proposed h = absurd (cc)
-issued-is payment.Declined h = absurd (cc)
 issued-is (payment.Issued day) h = (day, refl)
-issued-is (payment.Cleared c) h = absurd (cc)
-issued-is (payment.Voided v) h = absurd (cc)
+issued-is s h = absurd (cc)
 
 void-issued : (h : Head) (seats : List Seat) (es : List Entry) (c : Caller) (n day issued : ℕ) (p : Payment) → entry_at es n ≡ Some (entry.Payment p) → Sound (rows-of (Some h) seats es) → h.closed ≡ None → h.last ≤ day → p.state ≡ payment.Issued issued → Stepped (Some h) seats es (asked c (ask.VoidPayment n) day) (edit.Exchange (record { number = n; entry = with-state p (taken-back issued day) }))
 void-issued h seats es c n day issued p at s unclosed later was =
@@ -273,24 +233,14 @@ void-issued h seats es c n day issued p at s unclosed later was =
     let dated : AreDated h es = s.headed.0 in
     let days = issued-within h p issued was (all-at (IsBy h.last) es n (entry.Payment p) dated.by_last at) (all-at IsRising es n (entry.Payment p) dated.changed at) in
     let on : issued ≤ day = let d = days.1 in omega (arith, d, later) in
-    record {
-      place = (refl, (entry.Payment p, record { there = at; same = refl }));
-      sound = rows-exchange h seats es x (entry.Payment p) day s unclosed may refl (λ _. omega arith) later (voided-by p issued day days.0 on) (days.0, (on, tt));
-      not_before = later;
-      seen = refl;
-      moves = restating-moves es n h.last day p (taken-back issued day) (received day p.amount ∷ []) at (rw was refl) (later, omega arith);
-      may = (entry.Payment p, may, inr (sym (ap target_in at)), refl);
-    }
+    step-exchange h seats es x (entry.Payment p) _ _ day s unclosed may refl (λ _. omega arith) later (voided-by p issued day days.0 on) (days.0, (on, tt)) (restating-moves es n h.last day p (taken-back issued day) (received day p.amount ∷ []) at (rw was refl) (later, omega arith)) (inr (sym (ap target_in at))) (refl)
 
 void-one : (h : Head) (seats : List Seat) (es : List Entry) (c : Caller) (n day : ℕ) (o : Option Entry) → entry_at es n ≡ o → Sound (rows-of (Some h) seats es) → h.closed ≡ None → h.last ≤ day → is_none o ≡ false → is_no_payment o ≡ false → is_payment_not_issued o ≡ false → Stepped (Some h) seats es (asked c (ask.VoidPayment n) day) (with_payment n o (voided day))
-void-one h seats es c n day None at s unclosed later there kind state = absurd (cc)
-void-one h seats es c n day (Some (entry.Deposit d)) at s unclosed later there kind state = absurd (cc)
-void-one h seats es c n day (Some (entry.Fee f)) at s unclosed later there kind state = absurd (cc)
-void-one h seats es c n day (Some (entry.Claim d)) at s unclosed later there kind state = absurd (cc)
 void-one h seats es c n day (Some (entry.Payment p)) at s unclosed later there kind state =
     let was = issued-is p.state state in
     let P : PaymentState → Type 0 = λ v. Stepped (Some h) seats es (asked c (ask.VoidPayment n) day) (edit.Exchange (record { number = n; entry = with-state p (voided day v) })) in
     subst P (sym was.1) (void-issued h seats es c n day was.0 p at s unclosed later was.1)
+void-one h seats es c n day o at s unclosed later there kind state = absurd (cc)
 
 pub step-void : (h : Head) (seats : List Seat) (es : List Entry) (c : Caller) (n : ℕ) (day : ℕ) → Sound (rows-of (Some h) seats es) → h.closed ≡ None → h.last ≤ day → Passes (facts_of (rows-of (Some h) seats es) (ask.VoidPayment n)) (asked c (ask.VoidPayment n) day) → Stepped (Some h) seats es (asked c (ask.VoidPayment n) day) (edit_of (ask.VoidPayment n) (entry_at es n) day)
 step-void h seats es c n day s unclosed later p =

@@ -1,6 +1,6 @@
 -- Nothing changes a purged matter, and so what was accepted or applied before changes nothing when it comes again.
 use Rattle.std.specs.Prelude.{is_some, is_none, nat_lt, IsSome}
-use Rattle.std.proofs.Common.{◌≡◌, ℕ, ◌≤◌, Bool, true, false, cond, List, [], ◌∷◌, Option, Some, None, refl, sym, ap, ◌∙◌, subst, ◌⊎◌, inl, inr}
+use Rattle.std.proofs.Common.{◌≡◌, ℕ, ◌≤◌, Bool, true, false, cond, List, [], ◌∷◌, Option, Some, None, refl, sym, ap, ◌∙◌, subst, ◌⊎◌, ⊎_elim, inl, inr}
 use Rattle.std.proofs.lemmas.Bool.{false≢true}
 use Rattle.trust_base.specs.declared.refusal.Refusal.{Refusal}
 use Rattle.trust_base.specs.declared.line.Line.{Line}
@@ -89,40 +89,25 @@ purged-later : (rows : Rows) (more : List Doing) → is_purged rows.head ≡ tru
 purged-later rows [] is = is
 purged-later rows (d ∷ more) is = purged-later (after_doing rows d) more (ap (λ (r : Rows). is_purged r.head) (purged-stays rows d is) ∙ is)
 
+-- what each step leaves, unless it purges the matter, all of them leave, unless one purges it
+or-goes : (T : Rows → Rows → Type 0) → ((a : Rows) → T a a) → ((a b c : Rows) → T a b → T b c → T a c) → ((a : Rows) (d : Doing) → T a (after_doing a d) ⊎ (is_purged (after_doing a d).head ≡ true)) → (rows : Rows) (between : List Doing) → T rows (all_after rows between) ⊎ (is_purged (all_after rows between).head ≡ true)
+or-goes T own on one rows [] = inl (own rows)
+or-goes T own on one rows (d ∷ more) =
+    let next = after_doing rows d in
+    let later = all_after next more in
+    ⊎_elim
+    (λ (g : T rows next). ⊎_elim (λ (h : T next later). inl (on rows next later g h)) (λ (gone : is_purged later.head ≡ true). inr gone) (or-goes T own on one next more))
+    (λ (gone : is_purged next.head ≡ true). inr (purged-later next more gone))
+    (one rows d)
+
 -- Asks.
 
-grows-or-goes : (rows : Rows) (between : List Doing) → Grows rows (all_after rows between) ⊎ (is_purged (all_after rows between).head ≡ true)
-grows-or-goes rows [] = inl (stays rows rows refl)
-grows-or-goes rows (d ∷ more) = first-step (doing-grows rows d) (grows-or-goes (after_doing rows d) more)
-  where
-    joined : Grows rows (after_doing rows d) → Grows (after_doing rows d) (all_after (after_doing rows d) more) ⊎ (is_purged (all_after (after_doing rows d) more).head ≡ true) → Grows rows (all_after (after_doing rows d) more) ⊎ (is_purged (all_after (after_doing rows d) more).head ≡ true)
-    joined g (inl h) = inl (further rows (after_doing rows d) (all_after (after_doing rows d) more) g h)
-    joined g (inr is) = inr is
-
-    first-step : Grows rows (after_doing rows d) ⊎ (is_purged (after_doing rows d).head ≡ true) → Grows (after_doing rows d) (all_after (after_doing rows d) more) ⊎ (is_purged (all_after (after_doing rows d) more).head ≡ true) → Grows rows (all_after (after_doing rows d) more) ⊎ (is_purged (all_after (after_doing rows d) more).head ≡ true)
-    first-step (inl g) rest = joined g rest
-    first-step (inr is) rest = inr (purged-later (after_doing rows d) more is)
-
 makes-of : (a : Ask) → is_some (number_made a) ≡ true → Makes a
-makes-of (ask.OpenMatter o) makes = absurd (false≢true makes)
-makes-of (ask.AddSeat s) makes = absurd (false≢true makes)
-makes-of (ask.DropSeat p) makes = absurd (false≢true makes)
-makes-of (ask.CancelDeposit n) makes = absurd (false≢true makes)
-makes-of (ask.Approve n) makes = absurd (false≢true makes)
-makes-of (ask.Decline n) makes = absurd (false≢true makes)
-makes-of (ask.VoidPayment n) makes = absurd (false≢true makes)
-makes-of (ask.Offer a) makes = absurd (false≢true makes)
-makes-of (ask.Accept a) makes = absurd (false≢true makes)
-makes-of (ask.Award a) makes = absurd (false≢true makes)
-makes-of ask.CloseMatter makes = absurd (false≢true makes)
-makes-of ask.Purge makes = absurd (false≢true makes)
-makes-of ask.Show makes = absurd (false≢true makes)
-makes-of ask.Accounting makes = absurd (false≢true makes)
-makes-of (ask.ShowEntry n) makes = absurd (false≢true makes)
 makes-of (ask.Deposit a) makes = makes-deposit a
 makes-of (ask.Propose a) makes = makes-payment a
 makes-of (ask.EarnFee a) makes = makes-fee a
 makes-of (ask.RaiseClaim a) makes = makes-claim a
+makes-of a makes = absurd (false≢true makes)
 
 -- in rows in which what was made is still there, the ask is spent
 spent-there : (q : Ask) → Makes q → (rows later : Rows) (a again : Asked) → a.ask ≡ q → again.ask ≡ q → refusal rows a ≡ None → Grows (rows_after rows a) later → IsSpent later again
@@ -137,7 +122,7 @@ spent-there q m rows later a again asked_is again_is none grows =
     subst P (sym again_is) (is-spent later (record { caller = again.caller; ask = q; day = again.day }) (asked-stays q m (rows_after rows first_time) later (number_named q) grown there))
 
 spent-or-gone : (rows : Rows) (a again : Asked) (between : List Doing) → is_some (number_made a.ask) ≡ true → refusal rows a ≡ None → again.ask ≡ a.ask → IsSpent (all_after (rows_after rows a) between) again ⊎ (is_purged (all_after (rows_after rows a) between).head ≡ true)
-spent-or-gone rows a again between makes none same = cases (grows-or-goes (rows_after rows a) between)
+spent-or-gone rows a again between makes none same = cases (or-goes Grows (λ x. stays x x refl) further doing-grows (rows_after rows a) between)
   where
     cases : Grows (rows_after rows a) (all_after (rows_after rows a) between) ⊎ (is_purged (all_after (rows_after rows a) between).head ≡ true) → IsSpent (all_after (rows_after rows a) between) again ⊎ (is_purged (all_after (rows_after rows a) between).head ≡ true)
     cases (inl g) = inl (spent-there a.ask (makes-of a.ask makes) rows (all_after (rows_after rows a) between) a again refl same none g)
@@ -160,16 +145,7 @@ ask-repeat rows a again between makes none same kept = cases (spent-or-gone rows
 -- Lines.
 
 stays-or-goes : (line : Line) (rows : Rows) (between : List Doing) → Stays line rows (all_after rows between) ⊎ (is_purged (all_after rows between).head ≡ true)
-stays-or-goes line rows [] = inl (λ n h. h)
-stays-or-goes line rows (d ∷ more) = first-step (doing-stays line rows d) (stays-or-goes line (after_doing rows d) more)
-  where
-    joined : Stays line rows (after_doing rows d) → Stays line (after_doing rows d) (all_after (after_doing rows d) more) ⊎ (is_purged (all_after (after_doing rows d) more).head ≡ true) → Stays line rows (all_after (after_doing rows d) more) ⊎ (is_purged (all_after (after_doing rows d) more).head ≡ true)
-    joined s (inl t) = inl (λ n h. t n (s n h))
-    joined s (inr is) = inr is
-
-    first-step : Stays line rows (after_doing rows d) ⊎ (is_purged (after_doing rows d).head ≡ true) → Stays line (after_doing rows d) (all_after (after_doing rows d) more) ⊎ (is_purged (all_after (after_doing rows d) more).head ≡ true) → Stays line rows (all_after (after_doing rows d) more) ⊎ (is_purged (all_after (after_doing rows d) more).head ≡ true)
-    first-step (inl s) rest = joined s rest
-    first-step (inr is) rest = inr (purged-later (after_doing rows d) more is)
+stays-or-goes line = or-goes (Stays line) (λ x n h. h) (λ x y z s t n h. t n (s n h)) (doing-stays line)
 
 module _ (rows : Rows) (l again : BankLine) (today later : ℕ) (between : List Doing) (applied : IsApplied (line_on rows l today)) (same : IsSameLine l again) where
   abbrev then : Rows

@@ -1,7 +1,7 @@
 -- What was made stays, so that an ask that comes again is a repeat.
 use Rattle.std.specs.Option.{option_map}
 use Rattle.std.specs.Str.{bytes_eq}
-use Rattle.std.proofs.Common.{◌≡◌, ℕ, ◌+◌, ◌-◌, ◌==◌, Bool, true, false, cond, ◌||◌, ◌⊎◌, inl, inr, List, [], ◌∷◌, ◌++◌, length, map, refl, ap, sym, ◌∙◌, arith, subst, Option, Some, None, eqb, append_assoc, append-nil}
+use Rattle.std.proofs.Common.{◌≡◌, ℕ, ◌+◌, ◌-◌, ◌==◌, Bool, true, false, cond, ◌||◌, ◌⊎◌, ⊎_elim, inl, inr, List, [], ◌∷◌, ◌++◌, length, map, refl, ap, sym, ◌∙◌, arith, subst, Option, Some, None, eqb, append_assoc, append-nil}
 use Rattle.std.proofs.lemmas.Bool.{false≢true}
 use Rattle.std.proofs.lemmas.Bool.Decides.{nat_tests}
 use Rattle.std.proofs.lemmas.List.{map-append}
@@ -66,34 +66,22 @@ nothing-grows : (rows : Rows) (last : ℕ) → Grows rows (changed_by edit.Nothi
 nothing-grows rows last = stays rows (changed_by edit.Nothing last rows) refl
 
 cancel-grows : (rows : Rows) (n day last : ℕ) (o : Option Entry) → entry_at rows.entries n ≡ o → Grows rows (changed_by (cancelled n o day) last rows)
-cancel-grows rows n day last None at = stays rows (changed_by edit.Nothing last rows) refl
-cancel-grows rows n day last (Some (entry.Payment p)) at = stays rows (changed_by edit.Nothing last rows) refl
-cancel-grows rows n day last (Some (entry.Fee f)) at = stays rows (changed_by edit.Nothing last rows) refl
-cancel-grows rows n day last (Some (entry.Claim c)) at = stays rows (changed_by edit.Nothing last rows) refl
 cancel-grows rows n day last (Some (entry.Deposit d)) at =
     exchange-grows rows (record { number = n; entry = entry.Deposit (record d { state = deposit.Cancelled day }) }) (entry.Deposit d) last (record { there = at; same = refl })
+cancel-grows rows n day last o at = stays rows (changed_by edit.Nothing last rows) refl
 
 payment-grows : (rows : Rows) (n last : ℕ) (o : Option Entry) (next : PaymentState → PaymentState) → entry_at rows.entries n ≡ o → Grows rows (changed_by (with_payment n o next) last rows)
-payment-grows rows n last None next at = stays rows (changed_by edit.Nothing last rows) refl
-payment-grows rows n last (Some (entry.Deposit d)) next at = stays rows (changed_by edit.Nothing last rows) refl
-payment-grows rows n last (Some (entry.Fee f)) next at = stays rows (changed_by edit.Nothing last rows) refl
-payment-grows rows n last (Some (entry.Claim c)) next at = stays rows (changed_by edit.Nothing last rows) refl
 payment-grows rows n last (Some (entry.Payment p)) next at =
     exchange-grows rows (record { number = n; entry = entry.Payment (record p { state = next p.state }) }) (entry.Payment p) last (record { there = at; same = refl })
+payment-grows rows n last o next at = stays rows (changed_by edit.Nothing last rows) refl
 
 claim-grows : (rows : Rows) (n last : ℕ) (o : Option Entry) (next : ClaimState) → entry_at rows.entries n ≡ o → Grows rows (changed_by (with_claim n o next) last rows)
-claim-grows rows n last None next at = stays rows (changed_by edit.Nothing last rows) refl
-claim-grows rows n last (Some (entry.Deposit d)) next at = stays rows (changed_by edit.Nothing last rows) refl
-claim-grows rows n last (Some (entry.Payment p)) next at = stays rows (changed_by edit.Nothing last rows) refl
-claim-grows rows n last (Some (entry.Fee f)) next at = stays rows (changed_by edit.Nothing last rows) refl
 claim-grows rows n last (Some (entry.Claim c)) next at =
     exchange-grows rows (record { number = n; entry = entry.Claim (record c { state = next }) }) (entry.Claim c) last (record { there = at; same = refl })
+claim-grows rows n last o next at = stays rows (changed_by edit.Nothing last rows) refl
 
 -- no ask but the purging takes an entry away
 edit-grows : (rows : Rows) (a : Ask) (day last : ℕ) → is_purging a ≡ false → Grows rows (changed_by (edit_of a (entry_at rows.entries (number_named a)) day) last rows)
-edit-grows rows (ask.OpenMatter o) day last kept = nothing-grows rows last
-edit-grows rows (ask.AddSeat s) day last kept = nothing-grows rows last
-edit-grows rows (ask.DropSeat p) day last kept = nothing-grows rows last
 edit-grows rows (ask.Deposit d) day last kept = append-grows rows (record { number = d.number; entry = deposit_of d day }) last
 edit-grows rows (ask.CancelDeposit n) day last kept = cancel-grows rows n day last (entry_at rows.entries n) refl
 edit-grows rows (ask.Propose a) day last kept = append-grows rows (record { number = a.number; entry = payment_of a day }) last
@@ -105,11 +93,8 @@ edit-grows rows (ask.RaiseClaim a) day last kept = append-grows rows (record { n
 edit-grows rows (ask.Offer a) day last kept = claim-grows rows a.number last (entry_at rows.entries a.number) (claim.Offered a.to_client) refl
 edit-grows rows (ask.Accept a) day last kept = claim-grows rows a.number last (entry_at rows.entries a.number) (settled day a.to_client) refl
 edit-grows rows (ask.Award a) day last kept = claim-grows rows a.number last (entry_at rows.entries a.number) (settled day a.to_client) refl
-edit-grows rows ask.CloseMatter day last kept = nothing-grows rows last
 edit-grows rows ask.Purge day last kept = absurd (false≢true (sym kept))
-edit-grows rows ask.Show day last kept = nothing-grows rows last
-edit-grows rows ask.Accounting day last kept = nothing-grows rows last
-edit-grows rows (ask.ShowEntry n) day last kept = nothing-grows rows last
+edit-grows rows a day last kept = nothing-grows rows last
 
 either-grows : (b : Bool) (rows : Rows) (e : Edit) (last : ℕ) → Grows rows (changed_by e last rows) → Grows rows (changed_by (cond b edit.Nothing e) last rows)
 either-grows true rows e last g = nothing-grows rows last
@@ -134,24 +119,7 @@ or-first false b h = refl
 purging-goes : (a : Ask) (e : Option Entry) (day last : ℕ) (o : Option Head) → is_purging a ≡ true → is_not_yet_closed_for a o ≡ false → is_purged (head_after o (edit_of a e day) last) ≡ true
 purging-goes ask.Purge e day last None is closed = absurd (false≢true (sym closed))
 purging-goes ask.Purge e day last (Some h) is closed = refl
-purging-goes (ask.OpenMatter o) e day last head is closed = absurd (false≢true is)
-purging-goes (ask.AddSeat s) e day last head is closed = absurd (false≢true is)
-purging-goes (ask.DropSeat p) e day last head is closed = absurd (false≢true is)
-purging-goes (ask.Deposit d) e day last head is closed = absurd (false≢true is)
-purging-goes (ask.CancelDeposit n) e day last head is closed = absurd (false≢true is)
-purging-goes (ask.Propose a) e day last head is closed = absurd (false≢true is)
-purging-goes (ask.Approve n) e day last head is closed = absurd (false≢true is)
-purging-goes (ask.Decline n) e day last head is closed = absurd (false≢true is)
-purging-goes (ask.VoidPayment n) e day last head is closed = absurd (false≢true is)
-purging-goes (ask.EarnFee a) e day last head is closed = absurd (false≢true is)
-purging-goes (ask.RaiseClaim a) e day last head is closed = absurd (false≢true is)
-purging-goes (ask.Offer a) e day last head is closed = absurd (false≢true is)
-purging-goes (ask.Accept a) e day last head is closed = absurd (false≢true is)
-purging-goes (ask.Award a) e day last head is closed = absurd (false≢true is)
-purging-goes ask.CloseMatter e day last head is closed = absurd (false≢true is)
-purging-goes ask.Show e day last head is closed = absurd (false≢true is)
-purging-goes ask.Accounting e day last head is closed = absurd (false≢true is)
-purging-goes (ask.ShowEntry n) e day last head is closed = absurd (false≢true is)
+purging-goes a e day last head is closed = absurd (false≢true is)
 
 either-goes : (b : Bool) (rows : Rows) (a : Asked) (last : ℕ) → is_purging a.ask ≡ true → first (cond b (early_conditions (facts_of rows a.ask) a) (conditions (facts_of rows a.ask) a)) ≡ None → (changed_by (cond b edit.Nothing (edit_of a.ask (entry_at rows.entries (number_named a.ask)) a.day)) last rows ≡ rows) ⊎ (is_purged (changed_by (cond b edit.Nothing (edit_of a.ask (entry_at rows.entries (number_named a.ask)) a.day)) last rows).head ≡ true)
 either-goes true rows a last is none = inl refl
@@ -164,36 +132,33 @@ after-goes rows a (Some r) none is = inl refl
 after-goes rows a None none is = either-goes (is_repeat (facts_of rows a.ask) a) rows a (last_after rows.head (edit_on rows a) a.day) is none
 
 -- what is to be purged stays as it is, or is purged
-pub purge-or-same : (rows : Rows) (a : Asked) → is_purging a.ask ≡ true → (rows_after rows a ≡ rows) ⊎ (is_purged (rows_after rows a).head ≡ true)
+purge-or-same : (rows : Rows) (a : Asked) → is_purging a.ask ≡ true → (rows_after rows a ≡ rows) ⊎ (is_purged (rows_after rows a).head ≡ true)
 purge-or-same rows a is = after-goes rows a (refusal rows a) refl is
 
-pub made-stays-or-goes : MadeStaysOrGoes
-made-stays-or-goes rows a = cases (is_purging a.ask) refl
-  where
-    same : (rows_after rows a ≡ rows) ⊎ (is_purged (rows_after rows a).head ≡ true) → Grows rows (rows_after rows a) ⊎ (is_purged (rows_after rows a).head ≡ true)
-    same (inl is) = inl (subst (λ (r : Rows). Grows rows r) (sym is) (stays rows rows refl))
-    same (inr is) = inr is
+-- what no ask but a purge changes stays, or the matter is purged
+pub unless-purged : (rows : Rows) (a : Asked) (T : Rows → Type 0) → T rows → (is_purging a.ask ≡ false → T (rows_after rows a)) → T (rows_after rows a) ⊎ (is_purged (rows_after rows a).head ≡ true)
+unless-purged rows a T own kept =
+    elim (is_purging a.ask) as (λ b. is_purging a.ask ≡ b → T (rows_after rows a) ⊎ (is_purged (rows_after rows a).head ≡ true)) [
+      | true ↦ λ is. ⊎_elim (λ (same : rows_after rows a ≡ rows). inl (subst T (sym same) own)) (λ (gone : is_purged (rows_after rows a).head ≡ true). inr gone) (purge-or-same rows a is)
+      | false ↦ λ stays. inl (kept stays)
+    ] refl
 
-    cases : (b : Bool) → is_purging a.ask ≡ b → Grows rows (rows_after rows a) ⊎ (is_purged (rows_after rows a).head ≡ true)
-    cases false kept = inl (made-stays rows a kept)
-    cases true is = same (purge-or-same rows a is)
+pub made-stays-or-goes : MadeStaysOrGoes
+made-stays-or-goes rows a = unless-purged rows a (λ r. Grows rows r) (stays rows rows refl) (made-stays rows a)
 
 told-grows : (rows : Rows) (n last : ℕ) (line : Line) (today : ℕ) (o : Option Entry) → entry_at rows.entries n ≡ o → Grows rows (changed_by (told_by n o line today) last rows)
-told-grows rows n last line today None at = stays rows (changed_by edit.Nothing last rows) refl
-told-grows rows n last line today (Some (entry.Fee f)) at = stays rows (changed_by edit.Nothing last rows) refl
-told-grows rows n last line today (Some (entry.Claim c)) at = stays rows (changed_by edit.Nothing last rows) refl
 told-grows rows n last line today (Some (entry.Deposit d)) at =
     exchange-grows rows (record { number = n; entry = entry.Deposit (record d { state = deposit_by line today d.state }) }) (entry.Deposit d) last (record { there = at; same = refl })
 told-grows rows n last line today (Some (entry.Payment p)) at =
     exchange-grows rows (record { number = n; entry = entry.Payment (record p { state = cleared_payment line p.state }) }) (entry.Payment p) last (record { there = at; same = refl })
+told-grows rows n last line today o at = stays rows (changed_by edit.Nothing last rows) refl
 
 after-line-grows : (rows : Rows) (l : BankLine) (today : ℕ) (e : LineEffect) → line_on rows l today ≡ e → Grows rows (after_line_effect e rows)
 after-line-grows rows l today (told.Applied d) is =
     let f = line_facts rows l today in
     let P : DatedEdit → Type 0 = λ x. Grows rows (changed_by x.edit x.last rows) in
     subst P (applied-matched f d is).1 (told-grows rows l.entry (last_by f) l.line today f.entry refl)
-after-line-grows rows l today told.Repeat is = stays rows rows refl
-after-line-grows rows l today (told.Unmatched r) is = stays rows rows refl
+after-line-grows rows l today e is = stays rows rows refl
 
 pub lines-leave-made : LinesLeaveMade
 lines-leave-made rows l today = after-line-grows rows l today (line_on rows l today) refl
@@ -275,27 +240,19 @@ same-against (against.Fee k) = same-amount k
 
 deposit-told : (a : DepositAsk) (e : Entry) → is_as_asked (Some (as_made e)) a ≡ is_as_asked (Some e) a
 deposit-told a (entry.Deposit d) = refl
-deposit-told a (entry.Payment p) = refl
-deposit-told a (entry.Fee f) = refl
-deposit-told a (entry.Claim c) = refl
+deposit-told a e = refl
 
 payment-told : (a : PaymentAsk) (e : Entry) → is_payment_asked (Some (as_made e)) a ≡ is_payment_asked (Some e) a
-payment-told a (entry.Deposit d) = refl
 payment-told a (entry.Payment p) = refl
-payment-told a (entry.Fee f) = refl
-payment-told a (entry.Claim c) = refl
+payment-told a e = refl
 
 fee-told : (a : FeeAsk) (e : Entry) → is_fee_asked (Some (as_made e)) a ≡ is_fee_asked (Some e) a
-fee-told a (entry.Deposit d) = refl
-fee-told a (entry.Payment p) = refl
 fee-told a (entry.Fee f) = refl
-fee-told a (entry.Claim c) = refl
+fee-told a e = refl
 
 claim-told : (a : ClaimAsk) (e : Entry) → is_claim_asked (Some (as_made e)) a ≡ is_claim_asked (Some e) a
-claim-told a (entry.Deposit d) = refl
-claim-told a (entry.Payment p) = refl
-claim-told a (entry.Fee f) = refl
 claim-told a (entry.Claim c) = refl
+claim-told a e = refl
 
 pub makes-deposit : (a : DepositAsk) → Makes (ask.Deposit a)
 makes-deposit a = record {

@@ -1,6 +1,6 @@
 -- Forms of a step: edits of sound rows, what they move, and what an accepted ask has passed.
 use Rattle.std.specs.Prelude.{IsSome, ◌||◌, nat_lt, is_some, is_none, slice_get}
-use Rattle.std.proofs.Common.{◌≡◌, ℕ, ◌+◌, ◌<◌, ◌≤◌, not, ◌&&◌, Bool, true, false, cond, ℤ, pos, negsuc, ap, List, [], ◌∷◌, ◌++◌, length, refl, sym, arith, subst, Option, Some, None, eqb}
+use Rattle.std.proofs.Common.{◌≡◌, ◌⊎◌, ℕ, ◌+◌, ◌<◌, ◌≤◌, not, ◌&&◌, Bool, true, false, cond, ℤ, pos, negsuc, ap, List, [], ◌∷◌, ◌++◌, length, refl, sym, arith, subst, Option, Some, None, eqb}
 use Rattle.std.proofs.lemmas.Bool.Decides.{nat_tests}
 use Rattle.matter_rows.specs.declared.deposit.DepositState.{DepositState}
 use Rattle.matter_rows.specs.declared.deposit.DepositState.TheVariants as deposit
@@ -11,6 +11,7 @@ use Rattle.matter_rows.specs.declared.seat.Seat.{Seat}
 use Rattle.matter_rows.specs.Events.{moved_beyond, Event, events_of, events_in}
 use Rattle.matter_rows.specs.Rows.{is_number, is_held_state, Rows, is_purged, entry_at, next_number, book_day, as_made, role_in}
 use Rattle.matter_rows.specs.Balances.{ledger, pending, is_settled}
+use Rattle.matter_rows.specs.Shares.{target}
 use Rattle.matter_rows.specs.Sound.{AreDated, IsBy, IsRising, IsHeaded, IsAtRestIfClosed, IsBare, Sound, settlement_day}
 use Rattle.matter_rows.proofs.Days.{dated-later, dated-append, dated-with, not-closed, not-bare, unclosed-bare}
 use Rattle.matter_rows.proofs.Funding.{funded-added, funded-exchanged}
@@ -179,9 +180,7 @@ next-is count n h =
 
 pub held-is : (s : DepositState) → not (is_held_state s) ≡ false → s ≡ deposit.Held
 held-is deposit.Held h = refl
-held-is (deposit.Cleared c) h = absurd (cc)
-held-is (deposit.Cancelled day) h = absurd (cc)
-held-is (deposit.Returned r) h = absurd (cc)
+held-is s h = absurd (cc)
 
 -- only the cashier may unclosed a matter; to others one without a head is unknown
 pub head-there : (head : Option Head) (seats : List Seat) (es : List Entry) (c : Caller) (a : Ask) → IsHeaded head seats es → is_unknown_to c head seats a ≡ false → is_opening a ≡ false → is_some head ≡ true
@@ -201,6 +200,28 @@ asked c a day = record { caller = c; ask = a; day = day }
 
 abbrev pub Stepped : Option Head → List Seat → List Entry → Asked → Edit → Type 0
 Stepped head seats es a e = IsStep (rows-of head seats es) a e (last_after head e a.day)
+
+-- an entry is added, as a step
+pub step-append : (h : Head) (seats : List Seat) (es : List Entry) (x : Numbered) (t n day : ℕ) → Sound (rows-of (Some h) seats es) → h.closed ≡ None → MayAdd es x.entry → x.number ≡ length es + 1 → h.last ≤ day → h.last ≤ book_day x.entry → IsBy day x.entry → IsRising x.entry → MovesWithin es (edit.Append x) h.last day → (target x.entry ≡ 0) ⊎ (target x.entry ≡ t) → IsStepOf (rows-of (Some h) seats es) t n (edit.Append x) day
+step-append h seats es x t n day s unclosed may next later from by rising moves drawn = record {
+  place = (refl, next);
+  sound = rows-append h seats es x day s unclosed may from by rising;
+  not_before = later;
+  seen = refl;
+  moves = moves;
+  may = (next, may, drawn);
+}
+
+-- an entry changes, as a step
+pub step-exchange : (h : Head) (seats : List Seat) (es : List Entry) (x : Numbered) (old : Entry) (t n day : ℕ) → Sound (rows-of (Some h) seats es) → h.closed ≡ None → MayTake es x.number old x.entry → as_made x.entry ≡ as_made old → (is_settled old ≡ true → settlement_day (Some x.entry) ≤ settlement_day (Some old)) → h.last ≤ day → IsBy day x.entry → IsRising x.entry → MovesWithin es (edit.Exchange x) h.last day → (target x.entry ≡ 0) ⊎ (target x.entry ≡ t) → x.number ≡ n → IsStepOf (rows-of (Some h) seats es) t n (edit.Exchange x) day
+step-exchange h seats es x old t n day s unclosed may same settled later by rising moves drawn number = record {
+  place = (refl, (old, record { there = may.at; same = same }));
+  sound = rows-exchange h seats es x old day s unclosed may same settled later by rising;
+  not_before = later;
+  seen = refl;
+  moves = moves;
+  may = (old, may, drawn, number);
+}
 
 pub step-nothing : (h : Head) (seats : List Seat) (es : List Entry) (a : Asked) → Sound (rows-of (Some h) seats es) → Stepped (Some h) seats es a edit.Nothing
 step-nothing h seats es a s = record { place = tt; sound = s; not_before = omega arith; seen = refl; moves = record { moved = refl; dated = tt }; may = tt }

@@ -42,24 +42,7 @@ claim-forwards (against.Fee k) back h = h
 -- what passes the table
 step-made : (head : Option Head) (seats : List Seat) (es : List Entry) (c : Caller) (a : Ask) (day : ℕ) → Sound (rows-of head seats es) → HasAmount a → Passes (facts_of (rows-of head seats es) a) (asked c a day) → Stepped head seats es (asked c a day) (edit_of a (entry_at es (number_named a)) day)
 step-made None seats es c (ask.OpenMatter o) day s amount p = step-unclosed seats es c o day s
-step-made None seats es c (ask.AddSeat new) day s amount p = absurd (let h = head-there None seats es c (ask.AddSeat new) s.headed p.seat refl in cc)
-step-made None seats es c (ask.DropSeat q) day s amount p = absurd (let h = head-there None seats es c (ask.DropSeat q) s.headed p.seat refl in cc)
-step-made None seats es c (ask.Deposit d) day s amount p = absurd (let h = head-there None seats es c (ask.Deposit d) s.headed p.seat refl in cc)
-step-made None seats es c (ask.CancelDeposit n) day s amount p = absurd (let h = head-there None seats es c (ask.CancelDeposit n) s.headed p.seat refl in cc)
-step-made None seats es c (ask.Propose a) day s amount p = absurd (let h = head-there None seats es c (ask.Propose a) s.headed p.seat refl in cc)
-step-made None seats es c (ask.Approve n) day s amount p = absurd (let h = head-there None seats es c (ask.Approve n) s.headed p.seat refl in cc)
-step-made None seats es c (ask.Decline n) day s amount p = absurd (let h = head-there None seats es c (ask.Decline n) s.headed p.seat refl in cc)
-step-made None seats es c (ask.VoidPayment n) day s amount p = absurd (let h = head-there None seats es c (ask.VoidPayment n) s.headed p.seat refl in cc)
-step-made None seats es c (ask.EarnFee a) day s amount p = absurd (let h = head-there None seats es c (ask.EarnFee a) s.headed p.seat refl in cc)
-step-made None seats es c (ask.RaiseClaim a) day s amount p = absurd (let h = head-there None seats es c (ask.RaiseClaim a) s.headed p.seat refl in cc)
-step-made None seats es c (ask.Offer a) day s amount p = absurd (let h = head-there None seats es c (ask.Offer a) s.headed p.seat refl in cc)
-step-made None seats es c (ask.Accept a) day s amount p = absurd (let h = head-there None seats es c (ask.Accept a) s.headed p.seat refl in cc)
-step-made None seats es c (ask.Award a) day s amount p = absurd (let h = head-there None seats es c (ask.Award a) s.headed p.seat refl in cc)
-step-made None seats es c ask.CloseMatter day s amount p = absurd (let h = head-there None seats es c ask.CloseMatter s.headed p.seat refl in cc)
-step-made None seats es c ask.Purge day s amount p = absurd (let h = head-there None seats es c ask.Purge s.headed p.seat refl in cc)
-step-made None seats es c ask.Show day s amount p = absurd (let h = head-there None seats es c ask.Show s.headed p.seat refl in cc)
-step-made None seats es c ask.Accounting day s amount p = absurd (let h = head-there None seats es c ask.Accounting s.headed p.seat refl in cc)
-step-made None seats es c (ask.ShowEntry n) day s amount p = absurd (let h = head-there None seats es c (ask.ShowEntry n) s.headed p.seat refl in cc)
+step-made None seats es c a day s amount p = absurd (let h = head-there None seats es c a s.headed p.seat refl in cc)
 step-made (Some h) seats es c (ask.OpenMatter o) day s amount p = absurd (let g = p.not_opened in false≢true (sym g))
 step-made (Some h) seats es c (ask.AddSeat new) day s amount p =
     step-seat h seats es c new day s (none-is h.closed p.not_closed) (not-before day h.last p.forwards) (none-is (role_in seats new.person) p.seat_free)
@@ -81,30 +64,11 @@ step-made (Some h) seats es c (ask.Accept a) day s amount p = step-accept h seat
 step-made (Some h) seats es c (ask.Award a) day s amount p = step-award h seats es c a day s (none-is h.closed p.not_closed) (not-before day h.last p.forwards) p
 step-made (Some h) seats es c ask.CloseMatter day s amount p = step-close h seats es c day s (none-is h.closed p.not_closed) (not-before day h.last p.forwards) p.empty
 step-made (Some h) seats es c ask.Purge day s amount p = step-purge h seats es c day s p.kept (not-before day h.last p.forwards) p.state
-step-made (Some h) seats es c ask.Show day s amount p = step-nothing h seats es (asked c ask.Show day) s
-step-made (Some h) seats es c ask.Accounting day s amount p = step-nothing h seats es (asked c ask.Accounting day) s
-step-made (Some h) seats es c (ask.ShowEntry n) day s amount p = step-nothing h seats es (asked c (ask.ShowEntry n) day) s
+step-made (Some h) seats es c a day s amount p = step-nothing h seats es (asked c a day) s
 
 again-other : (a : Ask) (e : Option Entry) → comes_again a e ≡ true → is_opening a ≡ false
 again-other (ask.OpenMatter o) e h = absurd (cc)
-again-other (ask.AddSeat s) e h = refl
-again-other (ask.DropSeat p) e h = refl
-again-other (ask.Deposit d) e h = refl
-again-other (ask.CancelDeposit n) e h = refl
-again-other (ask.Propose a) e h = refl
-again-other (ask.Approve n) e h = refl
-again-other (ask.Decline n) e h = refl
-again-other (ask.VoidPayment n) e h = refl
-again-other (ask.EarnFee a) e h = refl
-again-other (ask.RaiseClaim a) e h = refl
-again-other (ask.Offer a) e h = refl
-again-other (ask.Accept a) e h = refl
-again-other (ask.Award a) e h = refl
-again-other ask.CloseMatter e h = refl
-again-other ask.Purge e h = refl
-again-other ask.Show e h = refl
-again-other ask.Accounting e h = refl
-again-other (ask.ShowEntry n) e h = refl
+again-other a e h = refl
 
 step-again : (head : Option Head) (seats : List Seat) (es : List Entry) (a : Asked) → Sound (rows-of head seats es) → is_some head ≡ true → Stepped head seats es a edit.Nothing
 step-again None seats es a s there = absurd (cc)

@@ -1,5 +1,5 @@
 -- What is known about a matter and an ask or a line, from the totals and the loaded entries.
-use Rattle.std.specs.Prelude.{◌≡◌, ℕ, Bool, ◌&&◌, ◌||◌, ◌==◌, [], ◌∷◌, pos, ◌-ℤ◌, if◌then◌else◌, ◌+◌, ◌≤◌, ◌+ℤ◌, ◌≤ℤ◌}
+use Rattle.std.specs.Prelude.{ℕ, Bool, ◌&&◌, pos, ◌+◌}
 use Rattle.matter_rows.specs.Shares.{target_in}
 use Rattle.matter_parts.specs.Parts.{Part, kept_at, entry_in, is_held, is_held_or_none, left_kept, total_kept}
 use Rattle.trust_matter.specs.declared.bank_line.BankLine.{BankLine}

@@ -4,15 +4,13 @@ ghost use Rattle.std.specs.Prelude.{◌≡◌};
 ghost use Rattle.matter_rows.specs.Shares.{number_or_none};
 ghost use Rattle.trust_matter.specs.Conditions.{is_accounting};
 ghost use Rattle.trust_matter.specs.Facts.{fund_named, number_named};
-ghost use Rattle.trust_matter.specs.Policy.{rule_against, rule_of};
-ghost use Rattle.trust_matter.specs.Step.{HasAmount};
+ghost use Rattle.trust_matter.specs.Policy.{rule_of};
 
 use crate::claim::{ClaimAsk, SplitAsk};
 use crate::deposit::DepositAsk;
 use crate::fee::FeeAsk;
 use crate::payment::PaymentAsk;
-use crate::policy::rule_against;
-use matter_rows::{Deposit, Seat};
+use matter_rows::{Against, Seat};
 use trust_base::{EntryNo, Label, PersonId, Rule};
 
 /// The cashier of the firm, or a person by name.
@@ -85,7 +83,10 @@ impl Ask {
             | Ask::VoidPayment(_)
             | Ask::EarnFee(_)
             | Ask::Offer(_) => Rule::Sign,
-            Ask::RaiseClaim(asked) => rule_against(&asked.against),
+            Ask::RaiseClaim(asked) => match &asked.against {
+                Against::General(_) => Rule::Claim,
+                Against::Fee(_) => Rule::Dispute,
+            },
             Ask::Accept(_) => Rule::Dispute,
             Ask::OpenMatter(_)
             | Ask::AddSeat(_)
@@ -138,27 +139,6 @@ impl Ask {
             Ask::Propose(asked) => asked.fund.number(),
             Ask::RaiseClaim(asked) => asked.against.number(),
             _ => None,
-        }
-    }
-
-    // The amount in the ask, if any, is in range.
-    pub(crate) fn amount_is_one(&self)
-        ensures { HasAmount self.now }
-    {
-        match self {
-            Ask::Deposit(asked) => {
-                let _amount = asked.amount.get();
-            }
-            Ask::Propose(asked) => {
-                let _amount = asked.amount.get();
-            }
-            Ask::EarnFee(asked) => {
-                let _amount = asked.amount.get();
-            }
-            Ask::RaiseClaim(asked) => {
-                let _amount = asked.amount.get();
-            }
-            _ => {}
         }
     }
 }

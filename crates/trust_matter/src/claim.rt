@@ -2,17 +2,18 @@
 
 ghost use Rattle.std.specs.Prelude.{◌≡◌, IfOk, MatchResult, None, Some, pos};
 ghost use Rattle.std.specs.Option.{option_copied};
+ghost use Rattle.trust_base.specs.Limits.{IsAmount};
 ghost use Rattle.matter_rows.specs.Shares.{against_no};
 ghost use Rattle.matter_parts.specs.Parts.{kept_at, entry_in, left_kept};
 ghost use Rattle.trust_matter.specs.declared.ask.Caller.{Caller as AnyCaller};
 ghost use Rattle.trust_matter.specs.Conditions.{against_left, is_claim_asked};
 ghost use Rattle.trust_matter.specs.KeptFacts.{kept_facts};
 ghost use Rattle.trust_matter.specs.ClaimTables.{against_conditions, split_conditions};
-ghost use Rattle.trust_matter.specs.Step.{AnswersLateBy, claim_of, first, settled, with_claim};
+ghost use Rattle.trust_matter.specs.Step.{AnswersLateBy, first, settled, with_claim};
 
 use crate::ask::Ask;
-use crate::changing::{check_change, entry_under};
-use matter_parts::{Edit, Matter, Numbered};
+use crate::policy::check_change;
+use matter_parts::{Edit, Kept, Matter, Numbered};
 use matter_rows::{Against, Claim, ClaimState, Entry, Settlement};
 use std::alloc::AllocError;
 use trust_base::{Cents, CentsOrZero, Day, EntryNo, Label, Refusal};
@@ -24,23 +25,6 @@ pub struct ClaimAsk {
     pub amount: Cents,
     pub against: Against,
     pub reason: Label,
-}
-
-impl ClaimAsk {
-    // The open claim that the ask makes on a day.
-    fn open_on(&self, day: Day) -> Result<Claim, AllocError>
-        ensures { IfOk result (λ c. Entry.Claim c ≡ claim_of self.now day) }
-    {
-        let against = self.against.copied()?;
-        let reason = self.reason.copied()?;
-        Ok(Claim {
-            book: day,
-            amount: self.amount,
-            against,
-            reason,
-            state: ClaimState::Open,
-        })
-    }
 }
 
 /// Asks that a part of a claim go to the client, as an offer, an acceptance or an award.
@@ -63,11 +47,14 @@ impl SplitAsk {
 }
 
 // Whether the entry found is the claim asked for.
-fn is_claim_asked(found: Option<&Entry>, asked: &ClaimAsk) -> bool
-    ensures { result ≡ is_claim_asked (option_copied found.entry) asked.now }
+fn is_claim_asked(found: Option<&Kept>, asked: &ClaimAsk) -> bool
+    ensures { result ≡ is_claim_asked (entry_in (option_copied found.entry)) asked.now }
 {
-    match found {
-        Some(Entry::Claim(c)) => {
+    let Some(kept) = found else {
+        return false;
+    };
+    match &kept.entry {
+        Entry::Claim(c) => {
             c.amount.get() == asked.amount.get()
                 && c.against.is_same(&asked.against)
                 && c.reason.is_same(&asked.reason)
@@ -105,19 +92,29 @@ fn left_against(matter: &Matter, against: &Against) -> Result<u64, Refusal>
 
 // Decides to set a claim apart from its fee, or from what is available.
 pub(crate) fn decide_claim(matter: &Matter, asked: &ClaimAsk, day: Day) -> Result<Edit, Refusal>
-    ensures { (c : AnyCaller) → AnswersLateBy (kept_facts matter.now (Ask.RaiseClaim asked.now))
+    ensures amount { IsAmount asked.now.amount }
+    ensures answer { (c : AnyCaller) → AnswersLateBy (kept_facts matter.now (Ask.RaiseClaim asked.now))
         (record { caller = c; ask = Ask.RaiseClaim asked.now; day = day }) result }
 {
-    if is_claim_asked(entry_under(matter, Some(asked.number)), asked) {
+    let number = asked.number;
+    let amount = asked.amount.get();
+    if is_claim_asked(matter.find(number), asked) {
         return Ok(Edit::Nothing);
     }
-    check_change(matter, Some(asked.number), day)?;
+    check_change(matter, Some(number), day)?;
     let left = left_against(matter, &asked.against)?;
-    if left < asked.amount.get() {
+    if left < amount {
         return Err(Refusal::Short(left));
     }
-    let number = asked.number;
-    let entry = Entry::Claim(asked.open_on(day)?);
+    let against = asked.against.copied()?;
+    let reason = asked.reason.copied()?;
+    let entry = Entry::Claim(Claim {
+        book: day,
+        amount: asked.amount,
+        against,
+        reason,
+        state: ClaimState::Open,
+    });
     Ok(Edit::Append(Numbered { number, entry }))
 }
 
@@ -128,8 +125,8 @@ fn open_claim<'m>(matter: &'m Matter, asked: &SplitAsk) -> Result<&'m Claim, Ref
         × (entry_in (kept_at matter.now asked.now.number) ≡ Some (Entry.Claim claim.now)))
         (λ r. first (split_conditions (entry_in (kept_at matter.now asked.now.number)) asked.now.to_client) ≡ Some r) }
 {
-    let entry = entry_under(matter, Some(asked.number)).ok_or(Refusal::NoEntry)?;
-    let Entry::Claim(claim) = entry else {
+    let kept = matter.find(asked.number).ok_or(Refusal::NoEntry)?;
+    let Entry::Claim(claim) = &kept.entry else {
         return Err(Refusal::WrongKind);
     };
     if let ClaimState::Settled(_) = &claim.state {
@@ -166,8 +163,8 @@ pub(crate) fn decide_accept(matter: &Matter, asked: &SplitAsk, day: Day) -> Resu
         (record { caller = c; ask = Ask.Accept asked.now; day = day }) result }
 {
     check_change(matter, None, day)?;
-    let entry = entry_under(matter, Some(asked.number)).ok_or(Refusal::NoEntry)?;
-    let Entry::Claim(claim) = entry else {
+    let kept = matter.find(asked.number).ok_or(Refusal::NoEntry)?;
+    let Entry::Claim(claim) = &kept.entry else {
         return Err(Refusal::WrongKind);
     };
     let ClaimState::Offered(offered) = &claim.state else {

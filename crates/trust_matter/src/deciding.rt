@@ -1,54 +1,37 @@
 //! Decides an ask of a matter: returns the refusal, or the change of its rows.
 
 ghost use Rattle.std.specs.Prelude.{◌≡◌, true};
-ghost use Rattle.std.specs.Option.{option_copied};
 ghost use Rattle.matter_rows.specs.Rows.{Rows};
-ghost use Rattle.matter_rows.specs.Shares.{number_or_none};
 ghost use Rattle.matter_rows.specs.Sound.{Sound};
-ghost use Rattle.matter_parts.specs.Parts.{IsPart, kept_at, entry_in};
+ghost use Rattle.matter_parts.specs.Parts.{IsPart};
 ghost use Rattle.trust_matter.specs.declared.ask.Caller.{Caller as AnyCaller};
-ghost use Rattle.trust_matter.specs.Facts.{number_named, other_of};
 ghost use Rattle.trust_matter.specs.KeptFacts.{kept_facts, holds_for};
-ghost use Rattle.trust_matter.specs.Step.{Decides, AnswersBy, AnswersLateBy};
+ghost use Rattle.trust_matter.specs.Step.{Decides, AnswersLateBy};
 
 use crate::ask::{Ask, Caller};
 use crate::claim::{decide_accept, decide_award, decide_claim, decide_offer};
 use crate::deposit::{decide_cancel, decide_deposit};
 use crate::fee::decide_fee;
-use crate::head::{decide_close, decide_open, decide_purge};
+use crate::head::{decide_add_seat, decide_close, decide_drop_seat, decide_open, decide_purge};
 use crate::payment::{decide_approve, decide_decline, decide_propose, decide_void};
-use crate::policy::{allows, is_unknown_to};
-use crate::seat::{decide_add_seat, decide_drop_seat};
-use matter_parts::{Change, Edit, Kept, Matter, change_of};
+use crate::policy::check_caller;
+use matter_parts::{Change, Edit, Matter, change_of};
 use trust_base::{Day, EntryNo, Refusal};
-
-// The entry that the ask names, if it is loaded.
-fn named_by<'m>(matter: &'m Matter, ask: &Ask) -> Option<&'m Kept>
-    ensures { option_copied result ≡ kept_at matter.now (number_named ask.now) }
-{
-    matter.kept_under(ask.number())
-}
-
-// The number of the fee or claim named by the ask, or otherwise by its entry, if any.
-fn other_named(matter: &Matter, ask: &Ask) -> Option<EntryNo>
-    ensures { number_or_none result ≡ other_of ask.now (entry_in (kept_at matter.now (number_named ask.now))) }
-{
-    match ask {
-        Ask::Propose(asked) => asked.fund.number(),
-        Ask::RaiseClaim(asked) => asked.against.number(),
-        _ => match named_by(matter, ask) {
-            None => None,
-            Some(kept) => kept.entry.target(),
-        },
-    }
-}
 
 /// Whether enough is loaded to decide the ask: the entry that it names, and the fee or claim that it or that entry
 /// names, are loaded or do not exist. Allocates nothing.
 pub fn holds_for(matter: &Matter, ask: &Ask) -> bool
     ensures { result ≡ holds_for matter.now ask.now }
 {
-    matter.holds_or_none(ask.number()) && matter.holds_or_none(other_named(matter, ask))
+    let other = match ask {
+        Ask::Propose(asked) => asked.fund.number(),
+        Ask::RaiseClaim(asked) => asked.against.number(),
+        _ => match matter.kept_under(ask.number()) {
+            None => None,
+            Some(kept) => kept.entry.target(),
+        },
+    };
+    matter.holds_or_none(ask.number()) && matter.holds_or_none(other)
 }
 
 fn decide_show_entry(matter: &Matter, number: EntryNo, day: Day) -> Result<Edit, Refusal>
@@ -62,22 +45,18 @@ fn decide_show_entry(matter: &Matter, number: EntryNo, day: Day) -> Result<Edit,
     Ok(Edit::Nothing)
 }
 
-// What an ask changes, from what is loaded.
-fn decide_edit(matter: &Matter, caller: &Caller, ask: &Ask, day: Day) -> Result<Edit, Refusal>
-    ensures { AnswersBy (kept_facts matter.now ask.now)
-        (record { caller = caller.now; ask = ask.now; day = day }) result }
+/// Decides an ask of a caller on a business day. Returns the change that it makes, or the refusal with the least number
+/// whose condition holds. A repeat is a change that changes nothing. Allocates only if the ask is accepted. Never
+/// returns `Store` if the matter is part of sound rows.
+pub fn decide(matter: &Matter, caller: &Caller, ask: &Ask, day: Day) -> Result<Change, Refusal>
+    // The entry that the ask names, and the one that this names, are loaded or do not exist.
+    requires { holds_for matter.now ask.now ≡ true }
+    // The answer is right for all sound rows that the matter is part of.
+    ensures { (rows : Rows) → Sound rows → IsPart matter.now rows
+        → Decides rows (record { caller = caller.now; ask = ask.now; day = day }) result }
 {
-    if is_unknown_to(matter, caller, ask) {
-        return Err(Refusal::NoMatter);
-    }
-    if matter.is_purged() {
-        return Err(Refusal::Purged);
-    }
-    let rule = ask.rule();
-    if !allows(matter, caller, rule) {
-        return Err(Refusal::NotAllowed(rule));
-    }
-    match ask {
+    check_caller(matter, caller, ask)?;
+    let decided = match ask {
         Ask::OpenMatter(asked) => decide_open(matter, asked, day),
         Ask::AddSeat(asked) => decide_add_seat(matter, asked, day),
         Ask::DropSeat(person) => decide_drop_seat(matter, person, day),
@@ -94,27 +73,11 @@ fn decide_edit(matter: &Matter, caller: &Caller, ask: &Ask, day: Day) -> Result<
         Ask::Award(asked) => decide_award(matter, asked, day),
         Ask::CloseMatter => decide_close(matter, day),
         Ask::Purge => decide_purge(matter, day),
-        Ask::Show | Ask::Accounting => Ok(Edit::Nothing),
+        Ask::Show => Ok(Edit::Nothing),
+        Ask::Accounting => Ok(Edit::Nothing),
         Ask::ShowEntry(number) => decide_show_entry(matter, *number, day),
-    }
-}
-
-/// Decides an ask of a caller on a business day. Returns the change that it makes, or the refusal with the least number
-/// whose condition holds. A repeat is a change that changes nothing. Allocates only if the ask is accepted. Never
-/// returns `Store` if the matter is part of sound rows.
-pub fn decide(matter: &Matter, caller: &Caller, ask: &Ask, day: Day) -> Result<Change, Refusal>
-    // The entry that the ask names, and the one that this names, are loaded or do not exist.
-    requires { holds_for matter.now ask.now ≡ true }
-    // The answer is right for all sound rows that the matter is part of.
-    ensures { (rows : Rows) → Sound rows → IsPart matter.now rows
-        → Decides rows (record { caller = caller.now; ask = ask.now; day = day }) result }
-{
-    ask.amount_is_one();
-    match decide_edit(matter, caller, ask, day) {
-        Ok(edit) => {
-            let last = matter.last_after(&edit, day);
-            change_of(matter, edit, last)
-        }
-        Err(refusal) => Err(refusal),
-    }
+    };
+    let edit = decided?;
+    let last = matter.last_after(&edit, day);
+    change_of(matter, edit, last)
 }

@@ -5,18 +5,15 @@
 mod ask;
 mod bank_line;
 pub mod cases;
-mod changing;
 mod claim;
 mod deciding;
 mod deposit;
 mod fee;
 mod head;
 pub mod laws;
-mod line;
 mod line_verdict;
 mod payment;
 mod policy;
-mod seat;
 
 pub use ask::{Ask, Caller, OpenAsk};
 pub use bank_line::BankLine;
@@ -24,8 +21,7 @@ pub use claim::{ClaimAsk, SplitAsk};
 pub use deciding::{decide, holds_for};
 pub use deposit::DepositAsk;
 pub use fee::FeeAsk;
-pub use line::{decide_line, holds_for_line};
-pub use line_verdict::{LineVerdict, Reason};
+pub use line_verdict::{LineVerdict, Reason, decide_line, holds_for_line};
 pub use matter_parts::{
     Balances, Change, Edit, Figures, Kept, Left, Matter, Numbered, Opening, TotalsAfter, balances,
     claim_left, fee_left, whole_holds_all,

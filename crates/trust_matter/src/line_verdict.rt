@@ -1,7 +1,19 @@
-// Verdicts on bank lines that name an entry of a matter.
+//! What a bank line does to a matter.
 
-use matter_parts::{Change, Edit};
-use trust_base::Day;
+ghost use Rattle.std.specs.Prelude.{◌≡◌, true, IfOk, MatchResult, None, Some};
+ghost use Rattle.std.specs.Option.{option_copied};
+ghost use Rattle.matter_rows.specs.Rows.{Rows};
+ghost use Rattle.matter_rows.specs.Sound.{Sound};
+ghost use Rattle.matter_rows.specs.Clearings.{is_line_again, is_return};
+ghost use Rattle.matter_parts.specs.Parts.{IsPart, kept_at, entry_in};
+ghost use Rattle.trust_matter.specs.LineStep.{LineDecides, first_reason, last_by, reasons, told_by};
+ghost use Rattle.trust_matter.specs.KeptFacts.{kept_line_facts, holds_for_line};
+
+use crate::bank_line::BankLine;
+use matter_parts::{Change, Edit, Kept, Matter, Numbered, change_of};
+use matter_rows::{DepositState, Entry, PaymentState};
+use std::alloc::AllocError;
+use trust_base::{Day, EntryNo, Line, StoreFault};
 
 /// Why a bank line matches no entry. Reasons are tried in this order.
 #[derive(Clone, Copy, Debug, PartialEq, Eq)]
@@ -23,15 +35,15 @@ pub enum Reason {
     Uncovered,
 }
 
-/// An edit, and the matter's last day after it.
+/// An edit, and the matter's last day after it. Contracts speak of it.
 #[derive(Drop)]
 pub struct DatedEdit {
     pub edit: Edit,
     pub last: Day,
 }
 
-/// The verdict on a line: the edit that clears the entry or takes the deposit back, a repeat, or why the line matches
-/// no entry.
+/// What a line does, as contracts see it: the edit that clears the entry or takes the deposit back, nothing as it is a
+/// repeat, or nothing as it matches no entry.
 #[derive(Drop)]
 pub enum LineEffect {
     Applied(DatedEdit),
@@ -46,4 +58,129 @@ pub enum LineVerdict {
     Applied(Change),
     Repeat,
     Unmatched(Reason),
+}
+
+// The edit by which the line clears the entry or takes it back. No line clears a fee or a claim.
+fn told(entry: &Entry, number: EntryNo, line: &Line, today: Day) -> Result<Edit, AllocError>
+    ensures { IfOk result (λ e. e ≡ told_by number (Some entry.now) line.now today) }
+{
+    let entry = match entry {
+        Entry::Deposit(deposit) => {
+            let state = deposit.state.told(line, today)?;
+            Entry::Deposit(deposit.restated(state)?)
+        }
+        Entry::Payment(payment) => {
+            let state = payment.state.cleared(line)?;
+            Entry::Payment(payment.restated(state)?)
+        }
+        Entry::Fee(_) | Entry::Claim(_) => return Ok(Edit::Nothing),
+    };
+    Ok(Edit::Exchange(Numbered { number, entry }))
+}
+
+// Whether this line already cleared the entry or took the deposit back.
+fn is_again(kept: Option<&Kept>, line: &Line) -> bool
+    ensures { result ≡ is_line_again (entry_in (option_copied kept.entry)) line.now }
+{
+    let Some(kept) = kept else {
+        return false;
+    };
+    match &kept.entry {
+        Entry::Deposit(deposit) => deposit.is_again(line),
+        Entry::Payment(payment) => {
+            payment.state.is_cleared_by(line) && kept.entry.has_its_amount(line)
+        }
+        Entry::Fee(_) | Entry::Claim(_) => false,
+    }
+}
+
+// The entry that the line clears or takes back, or the first reason why there is none.
+fn entry_cleared<'m>(matter: &'m Matter, line: &BankLine, today: Day) -> Result<&'m Kept, Reason>
+    ensures { MatchResult result
+        (λ kept. (first_reason (reasons (kept_line_facts matter.now line.now today)) ≡ None)
+        × (kept_at matter.now line.now.entry ≡ Some kept.now))
+        (λ reason. first_reason (reasons (kept_line_facts matter.now line.now today)) ≡ Some reason) }
+{
+    if today.get() < line.line.date.get() {
+        return Err(Reason::Future);
+    }
+    if matter.is_gone() {
+        return Err(Reason::NoMatter);
+    }
+    let kept = matter.find(line.entry).ok_or(Reason::NoEntry)?;
+    let is_awaited = match &kept.entry {
+        Entry::Deposit(deposit) => matches!(deposit.state, DepositState::Held),
+        Entry::Payment(payment) => matches!(payment.state, PaymentState::Issued(_)),
+        Entry::Fee(_) | Entry::Claim(_) => return Err(Reason::WrongKind),
+    };
+    let is_return = kept.entry.is_return(&line.line);
+    if !is_awaited && !is_return {
+        return Err(Reason::WrongState);
+    }
+    if !kept.entry.has_its_amount(&line.line) && !is_return {
+        return Err(Reason::WrongAmount);
+    }
+    if is_return && (matter.last_behind(today).is_some() || !matter.covers(&kept.entry)) {
+        return Err(Reason::Uncovered);
+    }
+    Ok(kept)
+}
+
+// Whether the line takes back a cleared deposit.
+fn is_return(matter: &Matter, line: &BankLine) -> bool
+    ensures { result ≡ is_return (entry_in (kept_at matter.now line.now.entry)) line.now.line }
+{
+    match matter.find(line.entry) {
+        None => false,
+        Some(kept) => kept.entry.is_return(&line.line),
+    }
+}
+
+// The last day after an applied line.
+fn last_by(matter: &Matter, line: &BankLine, today: Day) -> Day
+    ensures { result ≡ last_by (kept_line_facts matter.now line.now today) }
+{
+    if is_return(matter, line) {
+        return today;
+    }
+    match matter.head() {
+        Some(head) if line.line.date.get() < head.last.get() => head.last,
+        _ => line.line.date,
+    }
+}
+
+/// Whether enough is loaded to decide a line: the entry that it names, and the fee or claim that this entry draws on,
+/// are loaded or do not exist. Allocates nothing.
+pub fn holds_for_line(matter: &Matter, line: &BankLine) -> bool
+    ensures { result ≡ holds_for_line matter.now line.now.entry }
+{
+    let target = match matter.find(line.entry) {
+        None => None,
+        Some(kept) => kept.entry.target(),
+    };
+    matter.holds(line.entry) && matter.holds_or_none(target)
+}
+
+/// Decides a bank line on a business day. The line clears the entry that it names or takes it back, already did so, or
+/// matches no entry, for the first reason that holds. Allocates only if the line is applied. Never returns `Store` if
+/// the matter is part of sound rows.
+pub fn decide_line(matter: &Matter, line: &BankLine, today: Day) -> Result<LineVerdict, StoreFault>
+    // The entry that the line names, and the one that this draws on, are loaded or do not exist.
+    requires { holds_for_line matter.now line.now.entry ≡ true }
+    // The answer is right for all sound rows that the matter is part of.
+    ensures { (rows : Rows) → Sound rows → IsPart matter.now rows → LineDecides rows line.now today result }
+{
+    if is_again(matter.find(line.entry), &line.line) {
+        return Ok(LineVerdict::Repeat);
+    }
+    let kept = match entry_cleared(matter, line, today) {
+        Ok(kept) => kept,
+        Err(reason) => return Ok(LineVerdict::Unmatched(reason)),
+    };
+    let last = last_by(matter, line, today);
+    let edit = told(&kept.entry, line.entry, &line.line, today)?;
+    match change_of(matter, edit, last) {
+        Ok(change) => Ok(LineVerdict::Applied(change)),
+        Err(_) => Err(StoreFault::Store),
+    }
 }

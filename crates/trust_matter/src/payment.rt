@@ -2,13 +2,16 @@
 
 ghost use Rattle.std.specs.Prelude.{◌≡◌, ◌&&◌, true, IfOk, is_none};
 ghost use Rattle.std.specs.Option.{option_copied};
+ghost use Rattle.trust_base.specs.Limits.{IsAmount};
+ghost use Rattle.matter_rows.specs.Shares.{number_or_none};
+ghost use Rattle.matter_parts.specs.Parts.{entry_in, kept_at};
 ghost use Rattle.trust_matter.specs.declared.ask.Caller.{Caller as AnyCaller};
 ghost use Rattle.trust_matter.specs.Conditions.{is_an_entry, is_claimant_of, is_no_fund, is_no_fund_yet, is_payment_asked, is_wrong_payee_of};
 ghost use Rattle.trust_matter.specs.KeptFacts.{kept_facts};
 ghost use Rattle.trust_matter.specs.Step.{AnswersLateBy, payment_of};
 
 use crate::ask::Ask;
-use crate::changing::{check_change, entry_under};
+use crate::policy::check_change;
 use matter_parts::{Edit, Matter, Numbered};
 use matter_rows::{Against, ClaimState, Entry, Fund, Payment, PaymentState, VoidedPayment};
 use std::alloc::AllocError;
@@ -43,6 +46,14 @@ impl PaymentAsk {
             state: PaymentState::Proposed,
         })
     }
+}
+
+// The entry with this number, if there is a number and the entry is loaded.
+fn entry_under(matter: &Matter, number: Option<EntryNo>) -> Option<&Entry>
+    ensures { option_copied result ≡ entry_in (kept_at matter.now (number_or_none number)) }
+{
+    let kept = matter.kept_under(number)?;
+    Some(&kept.entry)
 }
 
 // Whether the fund is an entry that does not exist.
@@ -115,9 +126,11 @@ fn is_payment_asked(found: Option<&Entry>, asked: &PaymentAsk) -> bool
 }
 
 pub(crate) fn decide_propose(matter: &Matter, asked: &PaymentAsk, day: Day) -> Result<Edit, Refusal>
-    ensures { (c : AnyCaller) → AnswersLateBy (kept_facts matter.now (Ask.Propose asked.now))
+    ensures amount { IsAmount asked.now.amount }
+    ensures answer { (c : AnyCaller) → AnswersLateBy (kept_facts matter.now (Ask.Propose asked.now))
         (record { caller = c; ask = Ask.Propose asked.now; day = day }) result }
 {
+    let _amount = asked.amount.get();
     if is_payment_asked(entry_under(matter, Some(asked.number)), asked) {
         return Ok(Edit::Nothing);
     }
@@ -148,8 +161,8 @@ pub(crate) fn decide_approve(matter: &Matter, number: EntryNo, day: Day) -> Resu
         (record { caller = c; ask = Ask.Approve number; day = day }) result }
 {
     check_change(matter, None, day)?;
-    let entry = entry_under(matter, Some(number)).ok_or(Refusal::NoEntry)?;
-    let Entry::Payment(payment) = entry else {
+    let kept = matter.find(number).ok_or(Refusal::NoEntry)?;
+    let Entry::Payment(payment) = &kept.entry else {
         return Err(Refusal::WrongKind);
     };
     let PaymentState::Proposed = &payment.state else {
@@ -168,8 +181,8 @@ pub(crate) fn decide_decline(matter: &Matter, number: EntryNo, day: Day) -> Resu
         (record { caller = c; ask = Ask.Decline number; day = day }) result }
 {
     check_change(matter, None, day)?;
-    let entry = entry_under(matter, Some(number)).ok_or(Refusal::NoEntry)?;
-    let Entry::Payment(payment) = entry else {
+    let kept = matter.find(number).ok_or(Refusal::NoEntry)?;
+    let Entry::Payment(payment) = &kept.entry else {
         return Err(Refusal::WrongKind);
     };
     let PaymentState::Proposed = &payment.state else {
@@ -184,8 +197,8 @@ pub(crate) fn decide_void(matter: &Matter, number: EntryNo, day: Day) -> Result<
         (record { caller = c; ask = Ask.VoidPayment number; day = day }) result }
 {
     check_change(matter, None, day)?;
-    let entry = entry_under(matter, Some(number)).ok_or(Refusal::NoEntry)?;
-    let Entry::Payment(payment) = entry else {
+    let kept = matter.find(number).ok_or(Refusal::NoEntry)?;
+    let Entry::Payment(payment) = &kept.entry else {
         return Err(Refusal::WrongKind);
     };
     let PaymentState::Issued(issued) = &payment.state else {

@@ -1,65 +1,64 @@
-//! The policy: who may ask.
+//! Who may ask, and when a matter may change.
 
-ghost use Rattle.std.specs.Prelude.{◌≡◌, ◌+◌, ◌<◌, ◌≤◌, ◌++◌, ◌∷◌, [], true, false, None};
-ghost use Rattle.trust_matter.specs.Policy.{allows, has, standing_in, Cashier, rule_against};
-ghost use Rattle.trust_matter.specs.Conditions.{is_unknown_to};
+ghost use Rattle.std.specs.Prelude.{◌≡◌, MatchResult, None, Some};
+ghost use Rattle.matter_rows.specs.Rows.{next_number};
+ghost use Rattle.trust_matter.specs.KeptFacts.{kept_facts};
+ghost use Rattle.trust_matter.specs.Step.{change_conditions, early_conditions, first};
 
 use crate::ask::{Ask, Caller};
 use matter_parts::Matter;
-use matter_rows::{Against, Role};
-use trust_base::Rule;
+use matter_rows::Role;
+use trust_base::{Day, EntryNo, Refusal, Rule};
 
-/// Whether the matter does not exist for the caller.
-pub(crate) fn is_unknown_to(matter: &Matter, caller: &Caller, ask: &Ask) -> bool
-    ensures { result ≡ is_unknown_to caller.now matter.now.head matter.now.seats ask.now }
+// Refuses a caller for whom the matter does not exist, any ask of a purged matter, and what the policy forbids.
+pub(crate) fn check_caller(matter: &Matter, caller: &Caller, ask: &Ask) -> Result<(), Refusal>
+    ensures { MatchResult result
+        (λ _. first (early_conditions (kept_facts matter.now ask.now)
+        (record { caller = caller.now; ask = ask.now; day = 0 })) ≡ None)
+        (λ r. first (early_conditions (kept_facts matter.now ask.now)
+        (record { caller = caller.now; ask = ask.now; day = 0 })) ≡ Some r) }
 {
-    match caller {
+    let is_unknown = match caller {
         Caller::Cashier => matter.head().is_none() && !matches!(ask, Ask::OpenMatter(_)),
         Caller::Person(person) => matter.role_of(person).is_none(),
+    };
+    if is_unknown {
+        return Err(Refusal::NoMatter);
     }
-}
-
-/// Whether the policy allows the caller to ask under this rule.
-pub(crate) fn allows(matter: &Matter, caller: &Caller, rule: Rule) -> bool
-    ensures { result ≡ allows matter.now.seats caller.now rule }
-{
-    match caller {
-        Caller::Cashier => cashier_may(rule),
-        Caller::Person(person) => match matter.role_of(person) {
-            None => false,
-            Some(role) => role_may(role, rule),
+    if matter.is_purged() {
+        return Err(Refusal::Purged);
+    }
+    let rule = ask.rule();
+    let is_allowed = match caller {
+        Caller::Cashier => !matches!(rule, Rule::Dispute | Rule::Sign),
+        Caller::Person(person) => match (matter.role_of(person), rule) {
+            (Some(_), Rule::Read) => true,
+            (Some(Role::Client), Rule::Dispute) => true,
+            (Some(Role::Lawyer), Rule::Claim | Rule::Propose | Rule::Sign) => true,
+            _ => false,
         },
+    };
+    if !is_allowed {
+        return Err(Refusal::NotAllowed(rule));
     }
+    Ok(())
 }
 
-/// Whether the cashier may ask under this rule.
-pub fn cashier_may(rule: Rule) -> bool
-    ensures { result ≡ has Cashier rule }
+// Refuses a change of a closed matter, one dated before its last day, and a new entry that does not have the next
+// number.
+pub(crate) fn check_change(matter: &Matter, made: Option<EntryNo>, day: Day) -> Result<(), Refusal>
+    ensures { MatchResult result
+        (λ _. first (change_conditions matter.now.head (next_number matter.now.figures.entries) made day) ≡ None)
+        (λ r. first (change_conditions matter.now.head (next_number matter.now.figures.entries) made day) ≡ Some r) }
 {
-    match rule {
-        Rule::Read | Rule::Claim | Rule::Propose | Rule::Office | Rule::Firm => true,
-        Rule::Dispute | Rule::Sign => false,
+    if matter.is_closed() {
+        return Err(Refusal::Closed);
     }
-}
-
-/// Whether a person with this role may ask under this rule.
-pub fn role_may(role: Role, rule: Rule) -> bool
-    ensures { result ≡ has (standing_in role) rule }
-{
-    match (role, rule) {
-        (_, Rule::Read) => true,
-        (Role::Client, Rule::Dispute) => true,
-        (Role::Lawyer, Rule::Claim | Rule::Propose | Rule::Sign) => true,
-        _ => false,
+    if let Some(last) = matter.last_behind(day) {
+        return Err(Refusal::DateBackwards(last));
     }
-}
-
-// The rule that a claim on it comes under.
-pub(crate) fn rule_against(against: &Against) -> Rule
-    ensures { result ≡ rule_against against.now }
-{
-    match against {
-        Against::General(_) => Rule::Claim,
-        Against::Fee(_) => Rule::Dispute,
+    match made {
+        Some(number) if !matter.is_next(number) => Err(Refusal::WrongNumber(matter.next_number())),
+        _ => Ok(()),
     }
 }

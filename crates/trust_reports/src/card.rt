@@ -1,22 +1,21 @@
 // The ledger card.
 
-ghost use Rattle.std.specs.Prelude.{◌≡◌, [], ◌∷◌, ◌++◌, OnOk, OnErr, codes, flat_map};
+ghost use Rattle.std.specs.Prelude.{◌≡◌, [], ◌∷◌, ◌++◌, OnOk, OnErr, codes};
 ghost use Rattle.std.specs.Option.{option_copied};
 ghost use Rattle.matter_rows.specs.Rows.{closed_on as closed_in};
 ghost use Rattle.matter_parts.specs.Parts.{AreSmall};
 ghost use Rattle.trust_reports.specs.Texts.{line};
 ghost use Rattle.trust_base.specs.Texts.{matter_text};
 ghost use Rattle.trust_reports.specs.Pieces.{text_of};
-ghost use Rattle.trust_reports.specs.TextsOfLedgers.{client_text, day_or_dash, kept_balances, kept_line, ledger_card, ledger_heading, opened_on as opened_in};
+ghost use Rattle.trust_reports.specs.TextsOfLedgers.{client_text, day_or_dash, kept_balances, ledger_card, ledger_heading, opened_on as opened_in};
 
-use crate::card_entries::push_kept;
 use crate::columns::push_columns;
-use crate::page::Page;
+use crate::page::{Page, Printed, append};
 use crate::piece::{Piece, push_line};
 use crate::sum::Sum;
 use std::alloc::AllocError;
 use trust_base::{Day, MatterNo};
-use trust_matter::{Figures, Head, Holder, Kept, Matter};
+use trust_matter::{Figures, Head, Holder, Matter};
 
 fn client(head: Option<&Head>) -> Piece<'_>
     ensures { text_of result ≡ client_text (option_copied head.entry) }
@@ -94,16 +93,6 @@ fn push_heading(page: &mut Page, number: MatterNo, head: Option<&Head>) -> Resul
     push_days(page, head)
 }
 
-fn push_all_kept(page: &mut Page, kept: &[Kept]) -> Result<(), AllocError>
-    ensures before { page.new.before ≡ page.old.before }
-    ensures text { OnOk result (page.new.text ≡ page.old.text ++ flat_map kept_line kept.now) }
-{
-    for one in kept {
-        push_kept(page, one)?;
-    }
-    Ok(())
-}
-
 fn push_balances(page: &mut Page, figures: &Figures) -> Result<(), AllocError>
     requires { AreSmall figures.now }
     ensures before { page.new.before ≡ page.old.before }
@@ -129,14 +118,21 @@ fn push_balances(page: &mut Page, figures: &Figures) -> Result<(), AllocError>
     )
 }
 
-fn push_card(page: &mut Page, number: MatterNo, matter: &Matter) -> Result<(), AllocError>
-    ensures before { page.new.before ≡ page.old.before }
-    ensures text { OnOk result (page.new.text ≡ page.old.text ++ ledger_card number matter.now) }
-{
-    let figures = matter.figures();
-    push_heading(page, number, matter.head())?;
-    push_all_kept(page, matter.kept())?;
-    push_balances(page, &figures)
+#[derive(Drop)]
+struct Card<'a> {
+    number: MatterNo,
+    matter: &'a Matter,
+}
+
+impl Printed for Card<'_> {
+    ghost printed = { λ c. ledger_card c.number c.matter.now };
+
+    fn push_to(&self, page: &mut Page) -> Result<(), AllocError> {
+        let figures = self.matter.figures();
+        push_heading(page, self.number, self.matter.head())?;
+        page.push_lines(self.matter.kept())?;
+        push_balances(page, &figures)
+    }
 }
 
 /// Appends the ledger card of a matter, the full accounting that a client may ask for (ABA Model Rule 1.15(d)): its
@@ -149,8 +145,5 @@ pub fn ledger_card(number: MatterNo, matter: &Matter, out: &mut Vec<u8>) -> Resu
     ensures ok { OnOk result (out.new.items ≡ out.old.items ++ ledger_card number matter.now) }
     ensures err { OnErr result (out.new.items ≡ out.old.items) }
 {
-    let mut page = Page::behind(out);
-    let written = push_card(&mut page, number, matter);
-    *out = page.ended(written.is_ok());
-    written
+    append(out, &Card { number, matter })
 }

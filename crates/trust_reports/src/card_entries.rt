@@ -5,7 +5,7 @@ ghost use Rattle.trust_base.specs.Texts.{amount_text, day_text, entry_text};
 ghost use Rattle.trust_reports.specs.Texts.{further};
 ghost use Rattle.trust_reports.specs.TextsOfLedgers.{against_fields, barred, claim_fields, claim_state, deposit_fields, deposit_state, entry_fields, fee_fields, fund_fields, kept_line, made, payment_fields, payment_state, told};
 
-use crate::page::Page;
+use crate::page::{Page, Printed};
 use crate::piece::{Piece, push_fields, push_word};
 use std::alloc::AllocError;
 use trust_base::{Cents, Day, EntryNo, Label};
@@ -245,12 +245,12 @@ fn push_entry(page: &mut Page, entry: &Entry, left: u64) -> Result<(), AllocErro
     }
 }
 
-/// Appends the line of an entry.
-pub(crate) fn push_kept(page: &mut Page, kept: &Kept) -> Result<(), AllocError>
-    ensures before { page.new.before ≡ page.old.before }
-    ensures text { OnOk result (page.new.text ≡ page.old.text ++ kept_line kept.now) }
-{
-    page.push(&kept.number.digits())?;
-    push_entry(page, &kept.entry, kept.left)?;
-    page.end_line()
+impl Printed for Kept {
+    ghost printed = { kept_line };
+
+    fn push_to(&self, page: &mut Page) -> Result<(), AllocError> {
+        page.push(&self.number.digits())?;
+        push_entry(page, &self.entry, self.left)?;
+        page.push(b"\n")
+    }
 }

@@ -1,31 +1,14 @@
 // Lines of a label and a figure, each padded to its width.
 
 ghost use Rattle.std.specs.Prelude.{◌≡◌, ◌++◌, OnOk, flat_map};
-ghost use Rattle.trust_reports.specs.Texts.{column, left_in, right_in};
+ghost use Rattle.trust_reports.specs.Texts.{column};
 ghost use Rattle.trust_reports.specs.Pieces.{row_text, sum_text};
 
 use crate::page::Page;
 use crate::sum::Sum;
 use std::alloc::AllocError;
 
-#[tactic(auto, unfolding(crate::specs::Texts::left_in))]
-fn push_left(page: &mut Page, places: usize, text: &[u8]) -> Result<(), AllocError>
-    ensures before { page.new.before ≡ page.old.before }
-    ensures text { OnOk result (page.new.text ≡ page.old.text ++ left_in places text.now) }
-{
-    page.push(text)?;
-    page.push_spaces(places.saturating_sub(text.len()))
-}
-
-#[tactic(auto, unfolding(crate::specs::Texts::right_in))]
-fn push_right(page: &mut Page, places: usize, text: &[u8]) -> Result<(), AllocError>
-    ensures before { page.new.before ≡ page.old.before }
-    ensures text { OnOk result (page.new.text ≡ page.old.text ++ right_in places text.now) }
-{
-    page.push_spaces(places.saturating_sub(text.len()))?;
-    page.push(text)
-}
-
+#[tactic(auto, unfolding(crate::specs::Texts::left_in, crate::specs::Texts::right_in))]
 /// Appends a line: a left-aligned label and a right-aligned figure, each in its own width.
 pub(crate) fn push_column(
     page: &mut Page,
@@ -38,9 +21,12 @@ pub(crate) fn push_column(
     ensures text { OnOk result (page.new.text ≡ page.old.text
         ++ column label_places figure_places label.now (sum_text figure)) }
 {
-    push_left(page, label_places, label)?;
-    push_right(page, figure_places, figure.text().as_slice())?;
-    page.end_line()
+    let text = figure.text();
+    page.push(label)?;
+    page.push_spaces(label_places.saturating_sub(label.len()))?;
+    page.push_spaces(figure_places.saturating_sub(text.len()))?;
+    page.push(text.as_slice())?;
+    page.push(b"\n")
 }
 
 /// Appends a line for each label and figure.

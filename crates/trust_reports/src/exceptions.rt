@@ -1,46 +1,28 @@
 // The exceptions.
 
-ghost use Rattle.std.specs.Prelude.{◌≡◌, ◌++◌, OnOk, OnErr, flat_map};
+ghost use Rattle.std.specs.Prelude.{◌≡◌, ◌++◌, OnOk, OnErr};
 ghost use Rattle.trust_reports.specs.TextsOfLists.{exception_line, exceptions_text};
 
-use crate::page::Page;
-use crate::piece::{Piece, push_heading, push_line};
+use crate::page::{Page, Printed, append};
+use crate::piece::{List, Piece, push_line};
 use std::alloc::AllocError;
 use trust_base::{Day, Line};
 
-/// Appends the line of an exception.
-pub(crate) fn push_exception(page: &mut Page, line: &Line) -> Result<(), AllocError>
-    ensures before { page.new.before ≡ page.old.before }
-    ensures text { OnOk result (page.new.text ≡ page.old.text ++ exception_line line.now) }
-{
-    push_line(
-        page,
-        &Piece::Day(line.date),
-        &[
-            Piece::OrDash(&line.reference),
-            Piece::OrDash(&line.bank_ref),
-            Piece::Bank(line.amount),
-            Piece::Words(&line.text),
-        ],
-    )
-}
+impl Printed for Line {
+    ghost printed = { exception_line };
 
-fn push_exception_lines(page: &mut Page, lines: &[Line]) -> Result<(), AllocError>
-    ensures before { page.new.before ≡ page.old.before }
-    ensures text { OnOk result (page.new.text ≡ page.old.text ++ flat_map exception_line lines.now) }
-{
-    for line in lines {
-        push_exception(page, line)?;
+    fn push_to(&self, page: &mut Page) -> Result<(), AllocError> {
+        push_line(
+            page,
+            &Piece::Day(self.date),
+            &[
+                Piece::OrDash(&self.reference),
+                Piece::OrDash(&self.bank_ref),
+                Piece::Bank(self.amount),
+                Piece::Words(&self.text),
+            ],
+        )
     }
-    Ok(())
-}
-
-fn push_exceptions(page: &mut Page, today: Day, lines: &[Line]) -> Result<(), AllocError>
-    ensures before { page.new.before ≡ page.old.before }
-    ensures text { OnOk result (page.new.text ≡ page.old.text ++ exceptions_text today lines.now) }
-{
-    push_heading(page, "EXCEPTIONS", today)?;
-    push_exception_lines(page, lines)
 }
 
 /// Appends the exceptions on a business day: the bank lines that matched nothing in the books. Each has its date, its
@@ -52,10 +34,8 @@ pub fn exceptions_text(today: Day, lines: &[Line], out: &mut Vec<u8>) -> Result<
     ensures ok { OnOk result (out.new.items ≡ out.old.items ++ exceptions_text today lines.now) }
     ensures err { OnErr result (out.new.items ≡ out.old.items) }
 {
-    let mut page = Page::behind(out);
-    let written = push_exceptions(&mut page, today, lines);
-    *out = page.ended(written.is_ok());
-    written
+    let name = "EXCEPTIONS";
+    append(out, &List { name, today, lines })
 }
 
 /// Appends the line of one exception, as it is in the report of all of them.
@@ -65,8 +45,5 @@ pub fn exception_line(line: &Line, out: &mut Vec<u8>) -> Result<(), AllocError>
     ensures ok { OnOk result (out.new.items ≡ out.old.items ++ exception_line line.now) }
     ensures err { OnErr result (out.new.items ≡ out.old.items) }
 {
-    let mut page = Page::behind(out);
-    let written = push_exception(&mut page, line);
-    *out = page.ended(written.is_ok());
-    written
+    append(out, line)
 }

@@ -1,46 +1,29 @@
 // The journal.
 
-ghost use Rattle.std.specs.Prelude.{◌≡◌, ◌++◌, OnOk, OnErr, flat_map};
+ghost use Rattle.std.specs.Prelude.{◌≡◌, ◌++◌, OnOk, OnErr};
 ghost use Rattle.trust_reports.specs.TextsOfLists.{journal_line, journal_text};
 
-use crate::page::Page;
-use crate::piece::{Piece, push_heading, push_line};
+use crate::page::{Page, Printed, append};
+use crate::piece::{List, Piece, push_line};
 use firm_figures::JournalLine;
 use std::alloc::AllocError;
 use trust_base::Day;
 
-fn push_journal_line(page: &mut Page, line: &JournalLine) -> Result<(), AllocError>
-    ensures before { page.new.before ≡ page.old.before }
-    ensures text { OnOk result (page.new.text ≡ page.old.text ++ journal_line line.now) }
-{
-    let amount = line.movement.amount as i128;
-    push_line(
-        page,
-        &Piece::Day(line.movement.day),
-        &[
-            Piece::Owner(line.movement.owner),
-            Piece::Sum(amount),
-            Piece::Sum(line.sum),
-        ],
-    )
-}
+impl Printed for JournalLine {
+    ghost printed = { journal_line };
 
-fn push_journal_lines(page: &mut Page, lines: &[JournalLine]) -> Result<(), AllocError>
-    ensures before { page.new.before ≡ page.old.before }
-    ensures text { OnOk result (page.new.text ≡ page.old.text ++ flat_map journal_line lines.now) }
-{
-    for line in lines {
-        push_journal_line(page, line)?;
+    fn push_to(&self, page: &mut Page) -> Result<(), AllocError> {
+        let amount = self.movement.amount as i128;
+        push_line(
+            page,
+            &Piece::Day(self.movement.day),
+            &[
+                Piece::Owner(self.movement.owner),
+                Piece::Sum(amount),
+                Piece::Sum(self.sum),
+            ],
+        )
     }
-    Ok(())
-}
-
-fn push_journal(page: &mut Page, today: Day, lines: &[JournalLine]) -> Result<(), AllocError>
-    ensures before { page.new.before ≡ page.old.before }
-    ensures text { OnOk result (page.new.text ≡ page.old.text ++ journal_text today lines.now) }
-{
-    push_heading(page, "JOURNAL", today)?;
-    push_journal_lines(page, lines)
 }
 
 /// Appends the journal of receipts and disbursements (ABA Model Rules for Client Trust Account Records) on a business
@@ -52,8 +35,6 @@ pub fn journal_text(today: Day, lines: &[JournalLine], out: &mut Vec<u8>) -> Res
     ensures ok { OnOk result (out.new.items ≡ out.old.items ++ journal_text today lines.now) }
     ensures err { OnErr result (out.new.items ≡ out.old.items) }
 {
-    let mut page = Page::behind(out);
-    let written = push_journal(&mut page, today, lines);
-    *out = page.ended(written.is_ok());
-    written
+    let name = "JOURNAL";
+    append(out, &List { name, today, lines })
 }

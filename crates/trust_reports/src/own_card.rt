@@ -1,39 +1,30 @@
 // The ledger card of the firm's own money.
 
-ghost use Rattle.std.specs.Prelude.{◌≡◌, ◌++◌, OnOk, OnErr, codes, flat_map};
+ghost use Rattle.std.specs.Prelude.{◌≡◌, ◌++◌, OnOk, OnErr, codes};
 ghost use Rattle.trust_reports.specs.TextsOfLedgers.{balance_line, own_card_text, own_line};
 
 use crate::columns::push_column;
-use crate::page::Page;
+use crate::page::{Page, Printed, append};
 use crate::piece::{Piece, push_heading, push_line};
 use crate::sum::Sum;
 use firm_rows::{FirmLedger, FirmLine};
 use std::alloc::AllocError;
 use trust_base::Day;
 
-fn push_own_line(page: &mut Page, line: &FirmLine) -> Result<(), AllocError>
-    ensures before { page.new.before ≡ page.old.before }
-    ensures text { OnOk result (page.new.text ≡ page.old.text ++ own_line line.now) }
-{
-    push_line(
-        page,
-        &Piece::Day(line.date),
-        &[
-            Piece::OrDash(&line.bank_ref),
-            Piece::Bank(line.amount),
-            Piece::Words(&line.text),
-        ],
-    )
-}
+impl Printed for FirmLine {
+    ghost printed = { own_line };
 
-fn push_own_lines(page: &mut Page, lines: &[FirmLine]) -> Result<(), AllocError>
-    ensures before { page.new.before ≡ page.old.before }
-    ensures text { OnOk result (page.new.text ≡ page.old.text ++ flat_map own_line lines.now) }
-{
-    for line in lines {
-        push_own_line(page, line)?;
+    fn push_to(&self, page: &mut Page) -> Result<(), AllocError> {
+        push_line(
+            page,
+            &Piece::Day(self.date),
+            &[
+                Piece::OrDash(&self.bank_ref),
+                Piece::Bank(self.amount),
+                Piece::Words(&self.text),
+            ],
+        )
     }
-    Ok(())
 }
 
 fn push_balance(page: &mut Page, balance: i64) -> Result<(), AllocError>
@@ -43,14 +34,21 @@ fn push_balance(page: &mut Page, balance: i64) -> Result<(), AllocError>
     push_column(page, 10, 18, b"TOTAL", Sum::Of(balance as i128))
 }
 
-fn push_own_card(page: &mut Page, today: Day, ledger: &FirmLedger) -> Result<(), AllocError>
-    ensures before { page.new.before ≡ page.old.before }
-    ensures text { OnOk result (page.new.text ≡ page.old.text ++ own_card_text today ledger.now) }
-{
-    push_heading(page, "LEDGER FIRM", today)?;
-    push_own_lines(page, ledger.lines())?;
-    push_balance(page, ledger.balance())?;
-    Ok(())
+#[derive(Drop)]
+struct OwnCard<'a> {
+    today: Day,
+    ledger: &'a FirmLedger,
+}
+
+impl Printed for OwnCard<'_> {
+    ghost printed = { λ c. own_card_text c.today c.ledger.now };
+
+    fn push_to(&self, page: &mut Page) -> Result<(), AllocError> {
+        push_heading(page, "LEDGER FIRM", self.today)?;
+        page.push_lines(self.ledger.lines())?;
+        push_balance(page, self.ledger.balance())?;
+        Ok(())
+    }
 }
 
 /// Appends the ledger card of the firm's own money in the trust account (ABA Model Rule 1.15(b)) on a business day.
@@ -63,8 +61,5 @@ pub fn own_card_text(today: Day, ledger: &FirmLedger, out: &mut Vec<u8>) -> Resu
     ensures ok { OnOk result (out.new.items ≡ out.old.items ++ own_card_text today ledger.now) }
     ensures err { OnErr result (out.new.items ≡ out.old.items) }
 {
-    let mut page = Page::behind(out);
-    let written = push_own_card(&mut page, today, ledger);
-    *out = page.ended(written.is_ok());
-    written
+    append(out, &OwnCard { today, ledger })
 }

@@ -1,13 +1,12 @@
 // A report appended to a vector.
 
-ghost use Rattle.std.specs.Prelude.{◌≡◌, [], ◌∷◌, ◌++◌, take, drop, replicate, OnOk};
-ghost use Rattle.trust_reports.specs.Pages.{ended};
+ghost use Rattle.std.specs.Prelude.{◌≡◌, ◌++◌, replicate, flat_map, OnOk, OnErr};
 
 use std::alloc::AllocError;
 use std::marker::Model;
 use std::mem;
 
-/// A report being appended to a vector. Until it is complete, the vector's earlier content can be restored.
+/// A report being appended to the content of a vector.
 ///
 /// Contracts see it as that content, and the report so far.
 #[derive(Drop)]
@@ -27,18 +26,20 @@ impl Model for Page {
     ghost invariant = { λ p. p.kept ≤ length p.bytes.items };
 }
 
-impl Page {
-    /// Starts a report after the content of a vector. The vector is empty until the page has ended.
-    pub(crate) fn behind(out: &mut Vec<u8>) -> Page
-        ensures before { result.before ≡ out.old.items }
-        ensures text { result.text ≡ [] }
-    {
-        let empty = Vec::new(*out.allocator());
-        let bytes = mem::replace(out, empty);
-        let kept = bytes.len();
-        Page { bytes, kept }
-    }
+/// What is printed in a report.
+pub(crate) trait Printed {
+    ghost use Rattle.std.specs.Prelude.{ℕ, List};
 
+    /// How it is printed.
+    ghost printed: { Self → List ℕ };
+
+    /// Appends it to a report.
+    fn push_to(&self, page: &mut Page) -> Result<(), AllocError>
+        ensures before { page.new.before ≡ page.old.before }
+        ensures text { OnOk result (page.new.text ≡ page.old.text ++ printed self.now) };
+}
+
+impl Page {
     /// Appends bytes.
     pub(crate) fn push(&mut self, bytes: &[u8]) -> Result<(), AllocError>
         ensures before { self.new.before ≡ self.old.before }
@@ -58,22 +59,31 @@ impl Page {
         Ok(())
     }
 
-    /// Ends the line.
-    pub(crate) fn end_line(&mut self) -> Result<(), AllocError>
+    /// Appends lines, one after the other.
+    pub(crate) fn push_lines<T: Printed>(&mut self, lines: &[T]) -> Result<(), AllocError>
         ensures before { self.new.before ≡ self.old.before }
-        ensures text { OnOk result (self.new.text ≡ self.old.text ++ 10 ∷ []) }
+        ensures text { OnOk result (self.new.text ≡ self.old.text ++ flat_map T.printed lines.now) }
     {
-        self.push(b"\n")
-    }
-
-    /// The vector afterwards: with the report if it is complete, otherwise without.
-    pub(crate) fn ended(self, whole: bool) -> Vec<u8>
-        ensures { result.items ≡ ended self whole }
-    {
-        let Page { mut bytes, kept } = self;
-        if !whole {
-            bytes.truncate(kept);
+        for line in lines {
+            line.push_to(self)?;
         }
-        bytes
+        Ok(())
     }
+}
+
+/// Appends a report to a vector. If memory runs out, the vector is unchanged.
+pub(crate) fn append<T: Printed>(out: &mut Vec<u8>, report: &T) -> Result<(), AllocError>
+    ensures ok { OnOk result (out.new.items ≡ out.old.items ++ T.printed report.now) }
+    ensures err { OnErr result (out.new.items ≡ out.old.items) }
+{
+    let empty = Vec::new(*out.allocator());
+    let bytes = mem::replace(out, empty);
+    let kept = bytes.len();
+    let mut page = Page { bytes, kept };
+    let written = report.push_to(&mut page);
+    *out = page.bytes;
+    if written.is_err() {
+        out.truncate(kept);
+    }
+    written
 }

@@ -2,10 +2,10 @@
 
 ghost use Rattle.std.specs.Prelude.{◌≡◌, [], ◌∷◌, ◌++◌, OnOk, flat_map, encode_utf8};
 ghost use Rattle.trust_base.specs.Texts.{amount_text, day_text, matter_text, signed_text};
-ghost use Rattle.trust_reports.specs.Texts.{further, heading, or_dash, owner_text, reference_text, shown, shown_text, words_shown};
+ghost use Rattle.trust_reports.specs.Texts.{further, heading, or_dash, reference_text, shown, shown_text, words_shown};
 ghost use Rattle.trust_reports.specs.Pieces.{further_piece, text_of};
 
-use crate::page::Page;
+use crate::page::{Page, Printed};
 use crate::sum::Sum;
 use firm_figures::Owner;
 use std::alloc::AllocError;
@@ -59,31 +59,14 @@ pub(crate) fn matter_digits(matter: MatterNo) -> [u8; 6]
     ]
 }
 
-fn push_matter(page: &mut Page, matter: MatterNo) -> Result<(), AllocError>
-    ensures before { page.new.before ≡ page.old.before }
-    ensures text { OnOk result (page.new.text ≡ page.old.text ++ matter_text matter) }
-{
-    page.push(&matter_digits(matter))
-}
-
 fn push_reference(page: &mut Page, matter: MatterNo, entry: EntryNo) -> Result<(), AllocError>
     ensures before { page.new.before ≡ page.old.before }
     ensures text { OnOk result (page.new.text ≡ page.old.text ++ reference_text matter entry) }
 {
     page.push(b"M")?;
-    push_matter(page, matter)?;
+    page.push(&matter_digits(matter))?;
     page.push(b"-")?;
     page.push(&entry.digits())
-}
-
-fn push_owner(page: &mut Page, owner: Owner) -> Result<(), AllocError>
-    ensures before { page.new.before ≡ page.old.before }
-    ensures text { OnOk result (page.new.text ≡ page.old.text ++ owner_text owner) }
-{
-    match owner {
-        Owner::Matter { matter, entry } => push_reference(page, matter, entry),
-        Owner::Firm => page.push(b"FIRM"),
-    }
 }
 
 fn push_or_dash(page: &mut Page, text: &[u8]) -> Result<(), AllocError>
@@ -162,13 +145,6 @@ fn push_sum(page: &mut Page, cents: i128) -> Result<(), AllocError>
     page.push(text.as_slice())
 }
 
-fn push_bank(page: &mut Page, amount: BankAmount) -> Result<(), AllocError>
-    ensures before { page.new.before ≡ page.old.before }
-    ensures text { OnOk result (page.new.text ≡ page.old.text ++ signed_text amount) }
-{
-    push_sum(page, amount.get() as i128)
-}
-
 fn push(page: &mut Page, piece: &Piece<'_>) -> Result<(), AllocError>
     ensures before { page.new.before ≡ page.old.before }
     ensures text { OnOk result (page.new.text ≡ page.old.text ++ text_of piece.now) }
@@ -185,20 +161,13 @@ fn push(page: &mut Page, piece: &Piece<'_>) -> Result<(), AllocError>
         Piece::Part(part) => push_cents(page, part.get()),
         Piece::Left(cents) => push_cents(page, *cents),
         Piece::Sum(cents) => push_sum(page, *cents),
-        Piece::Bank(amount) => push_bank(page, *amount),
-        Piece::Matter(matter) => push_matter(page, *matter),
+        Piece::Bank(amount) => push_sum(page, amount.get() as i128),
+        Piece::Matter(matter) => page.push(&matter_digits(*matter)),
         Piece::Entry(entry) => page.push(&entry.digits()),
         Piece::Reference(matter, entry) => push_reference(page, *matter, *entry),
-        Piece::Owner(owner) => push_owner(page, *owner),
+        Piece::Owner(Owner::Matter { matter, entry }) => push_reference(page, *matter, *entry),
+        Piece::Owner(Owner::Firm) => page.push(b"FIRM"),
     }
-}
-
-fn push_further(page: &mut Page, piece: &Piece<'_>) -> Result<(), AllocError>
-    ensures before { page.new.before ≡ page.old.before }
-    ensures text { OnOk result (page.new.text ≡ page.old.text ++ further_piece piece.now) }
-{
-    page.push(b" ")?;
-    push(page, piece)
 }
 
 /// Appends a word after another field.
@@ -216,23 +185,10 @@ pub(crate) fn push_fields(page: &mut Page, pieces: &[Piece<'_>]) -> Result<(), A
     ensures text { OnOk result (page.new.text ≡ page.old.text ++ flat_map further_piece pieces.now) }
 {
     for piece in pieces {
-        push_further(page, piece)?;
+        page.push(b" ")?;
+        push(page, piece)?;
     }
     Ok(())
-}
-
-/// Appends a field and others after it, without ending the line.
-pub(crate) fn push_open_line(
-    page: &mut Page,
-    first: &Piece<'_>,
-    others: &[Piece<'_>],
-) -> Result<(), AllocError>
-    ensures before { page.new.before ≡ page.old.before }
-    ensures text { OnOk result (page.new.text ≡ page.old.text
-        ++ (text_of first.now ++ flat_map further_piece others.now)) }
-{
-    push(page, first)?;
-    push_fields(page, others)
 }
 
 /// Appends a line of fields separated by single spaces.
@@ -245,8 +201,9 @@ pub(crate) fn push_line(
     ensures text { OnOk result (page.new.text ≡ page.old.text
         ++ (text_of first.now ++ (flat_map further_piece others.now ++ 10 ∷ []))) }
 {
-    push_open_line(page, first, others)?;
-    page.end_line()
+    push(page, first)?;
+    push_fields(page, others)?;
+    page.push(b"\n")
 }
 
 /// Appends the first line of a report: its name and its day.
@@ -256,4 +213,21 @@ pub(crate) fn push_heading(page: &mut Page, name: &str, day: Day) -> Result<(), 
     ensures text { OnOk result (page.new.text ≡ page.old.text ++ heading name.now day) }
 {
     push_line(page, &Piece::Word(name), &[Piece::Day(day)])
+}
+
+/// A report that is a list: its name, its day and its lines.
+#[derive(Drop)]
+pub(crate) struct List<'a, T> {
+    pub(crate) name: &'a str,
+    pub(crate) today: Day,
+    pub(crate) lines: &'a [T],
+}
+
+impl<T: Printed> Printed for List<'_, T> {
+    ghost printed = { λ l. heading l.name.now l.today ++ flat_map T.printed l.lines.now };
+
+    fn push_to(&self, page: &mut Page) -> Result<(), AllocError> {
+        push_heading(page, self.name, self.today)?;
+        page.push_lines(self.lines)
+    }
 }

@@ -6,8 +6,7 @@ ghost use Rattle.trust_reports.specs.Texts.{heading};
 ghost use Rattle.trust_reports.specs.TextsOfReconciliation.{bank_figures, book_figures, double_line, entry_line, listed_exception, opening_line, reconciliation_text};
 
 use crate::columns::push_columns;
-use crate::exceptions::push_exception;
-use crate::page::Page;
+use crate::page::{Page, Printed, append};
 use crate::piece::{Piece, push_heading, push_line};
 use crate::sum::Sum;
 use firm_figures::{EntryLine, Figures, Issued, OpeningLine, Reconciliation, ReconciliationLists};
@@ -53,38 +52,20 @@ fn push_book_figures(page: &mut Page, figures: &Figures) -> Result<(), AllocErro
     )
 }
 
-fn push_entry(page: &mut Page, word: &str, line: &EntryLine) -> Result<(), AllocError>
-    ensures before { page.new.before ≡ page.old.before }
-    ensures text { OnOk result (page.new.text ≡ page.old.text ++ entry_line word.now line.now) }
-{
-    let amount = line.amount as i128;
-    push_line(
-        page,
-        &Piece::Word(word),
-        &[
-            Piece::Reference(line.matter, line.entry),
-            Piece::Day(line.day),
-            Piece::Sum(amount),
-        ],
-    )
-}
-
 fn push_entries(page: &mut Page, word: &str, lines: &[EntryLine]) -> Result<(), AllocError>
     ensures before { page.new.before ≡ page.old.before }
     ensures text { OnOk result (page.new.text ≡ page.old.text ++ flat_map (entry_line word.now) lines.now) }
 {
     for line in lines {
-        push_entry(page, word, line)?;
+        let entry = Piece::Reference(line.matter, line.entry);
+        let amount = Piece::Sum(line.amount as i128);
+        push_line(
+            page,
+            &Piece::Word(word),
+            &[entry, Piece::Day(line.day), amount],
+        )?;
     }
     Ok(())
-}
-
-fn push_listed(page: &mut Page, line: &Line) -> Result<(), AllocError>
-    ensures before { page.new.before ≡ page.old.before }
-    ensures text { OnOk result (page.new.text ≡ page.old.text ++ listed_exception line.now) }
-{
-    page.push(b"EXCEPTION ")?;
-    push_exception(page, line)
 }
 
 fn push_exceptions(page: &mut Page, lines: &[Line]) -> Result<(), AllocError>
@@ -92,63 +73,46 @@ fn push_exceptions(page: &mut Page, lines: &[Line]) -> Result<(), AllocError>
     ensures text { OnOk result (page.new.text ≡ page.old.text ++ flat_map listed_exception lines.now) }
 {
     for line in lines {
-        push_listed(page, line)?;
+        page.push(b"EXCEPTION ")?;
+        line.push_to(page)?;
     }
     Ok(())
 }
 
-fn push_double(page: &mut Page, line: &Issued) -> Result<(), AllocError>
-    ensures before { page.new.before ≡ page.old.before }
-    ensures text { OnOk result (page.new.text ≡ page.old.text ++ double_line line.now) }
-{
-    let amount = line.amount as i128;
-    push_line(
-        page,
-        &Piece::Word("DOUBLE"),
-        &[
-            Piece::Reference(line.matter, line.entry),
-            Piece::Day(line.day),
-            Piece::Sum(amount),
-            Piece::Label(&line.instrument),
-        ],
-    )
-}
+impl Printed for Issued {
+    ghost printed = { double_line };
 
-fn push_doubles(page: &mut Page, lines: &[Issued]) -> Result<(), AllocError>
-    ensures before { page.new.before ≡ page.old.before }
-    ensures text { OnOk result (page.new.text ≡ page.old.text ++ flat_map double_line lines.now) }
-{
-    for line in lines {
-        push_double(page, line)?;
+    fn push_to(&self, page: &mut Page) -> Result<(), AllocError> {
+        let amount = self.amount as i128;
+        push_line(
+            page,
+            &Piece::Word("DOUBLE"),
+            &[
+                Piece::Reference(self.matter, self.entry),
+                Piece::Day(self.day),
+                Piece::Sum(amount),
+                Piece::Label(&self.instrument),
+            ],
+        )
     }
-    Ok(())
 }
 
-fn push_opening(page: &mut Page, line: &OpeningLine) -> Result<(), AllocError>
-    ensures before { page.new.before ≡ page.old.before }
-    ensures text { OnOk result (page.new.text ≡ page.old.text ++ opening_line line.now) }
-{
-    push_line(
-        page,
-        &Piece::Word("OPENING"),
-        &[
-            Piece::Day(line.day),
-            Piece::Bank(line.amount),
-            Piece::Word("AFTER"),
-            Piece::Day(line.after),
-            Piece::Bank(line.closing),
-        ],
-    )
-}
+impl Printed for OpeningLine {
+    ghost printed = { opening_line };
 
-fn push_openings(page: &mut Page, lines: &[OpeningLine]) -> Result<(), AllocError>
-    ensures before { page.new.before ≡ page.old.before }
-    ensures text { OnOk result (page.new.text ≡ page.old.text ++ flat_map opening_line lines.now) }
-{
-    for line in lines {
-        push_opening(page, line)?;
+    fn push_to(&self, page: &mut Page) -> Result<(), AllocError> {
+        push_line(
+            page,
+            &Piece::Word("OPENING"),
+            &[
+                Piece::Day(self.day),
+                Piece::Bank(self.amount),
+                Piece::Word("AFTER"),
+                Piece::Day(self.after),
+                Piece::Bank(self.closing),
+            ],
+        )
     }
-    Ok(())
 }
 
 fn push_figures(page: &mut Page, p: Day, figures: &Figures) -> Result<(), AllocError>
@@ -176,18 +140,21 @@ fn push_lists(page: &mut Page, lists: &ReconciliationLists) -> Result<(), AllocE
     push_entries(page, "EARLY", &lists.early)
 }
 
-fn push_reconciliation(
-    page: &mut Page,
+#[derive(Drop)]
+struct Reconciled<'a> {
     p: Day,
-    reconciliation: &Reconciliation,
-) -> Result<(), AllocError>
-    ensures before { page.new.before ≡ page.old.before }
-    ensures text { OnOk result (page.new.text ≡ page.old.text ++ reconciliation_text p (told reconciliation.now)) }
-{
-    push_figures(page, p, &reconciliation.figures)?;
-    push_lists(page, &reconciliation.lists)?;
-    push_doubles(page, &reconciliation.doubles)?;
-    push_openings(page, &reconciliation.openings)
+    reconciliation: &'a Reconciliation,
+}
+
+impl Printed for Reconciled<'_> {
+    ghost printed = { λ r. reconciliation_text r.p (told r.reconciliation.now) };
+
+    fn push_to(&self, page: &mut Page) -> Result<(), AllocError> {
+        push_figures(page, self.p, &self.reconciliation.figures)?;
+        push_lists(page, &self.reconciliation.lists)?;
+        page.push_lines(&self.reconciliation.doubles)?;
+        page.push_lines(&self.reconciliation.openings)
+    }
 }
 
 /// Appends the three-way reconciliation as of a day (ABA Model Rules for Client Trust Account Records). First come the
@@ -204,8 +171,5 @@ pub fn reconciliation_text(
     ensures ok { OnOk result (out.new.items ≡ out.old.items ++ reconciliation_text p (told reconciliation.now)) }
     ensures err { OnErr result (out.new.items ≡ out.old.items) }
 {
-    let mut page = Page::behind(out);
-    let written = push_reconciliation(&mut page, p, reconciliation);
-    *out = page.ended(written.is_ok());
-    written
+    append(out, &Reconciled { p, reconciliation })
 }

@@ -5,8 +5,8 @@ ghost use Rattle.trust_base.specs.Texts.{day_text, matter_text};
 ghost use Rattle.trust_reports.specs.Texts.{further};
 ghost use Rattle.trust_reports.specs.TextsOfLists.{purge_fields, retention_line, retention_text};
 
-use crate::page::Page;
-use crate::piece::{Piece, push_heading, push_open_line, push_word};
+use crate::page::{Page, Printed, append};
+use crate::piece::{List, Piece, matter_digits, push_fields, push_word};
 use firm_figures::RetentionLine;
 use std::alloc::AllocError;
 use trust_base::Day;
@@ -17,9 +17,9 @@ fn push_days(page: &mut Page, line: &RetentionLine) -> Result<(), AllocError>
         ++ flat_map further
         (codes "CLOSED" ∷ day_text line.now.closed ∷ codes "KEEP UNTIL" ∷ day_text line.now.until ∷ []))) }
 {
-    push_open_line(
+    page.push(&matter_digits(line.matter))?;
+    push_fields(
         page,
-        &Piece::Matter(line.matter),
         &[
             Piece::Word("CLOSED"),
             Piece::Day(line.closed),
@@ -39,32 +39,15 @@ fn push_may_purge(page: &mut Page, line: &RetentionLine) -> Result<(), AllocErro
     Ok(())
 }
 
-fn push_retention_line(page: &mut Page, line: &RetentionLine) -> Result<(), AllocError>
-    ensures before { page.new.before ≡ page.old.before }
-    ensures text { OnOk result (page.new.text ≡ page.old.text ++ retention_line line.now) }
-{
-    push_days(page, line)?;
-    push_may_purge(page, line)?;
-    page.end_line()?;
-    Ok(())
-}
+impl Printed for RetentionLine {
+    ghost printed = { retention_line };
 
-fn push_retention_lines(page: &mut Page, lines: &[RetentionLine]) -> Result<(), AllocError>
-    ensures before { page.new.before ≡ page.old.before }
-    ensures text { OnOk result (page.new.text ≡ page.old.text ++ flat_map retention_line lines.now) }
-{
-    for line in lines {
-        push_retention_line(page, line)?;
+    fn push_to(&self, page: &mut Page) -> Result<(), AllocError> {
+        push_days(page, self)?;
+        push_may_purge(page, self)?;
+        page.push(b"\n")?;
+        Ok(())
     }
-    Ok(())
-}
-
-fn push_retention(page: &mut Page, today: Day, lines: &[RetentionLine]) -> Result<(), AllocError>
-    ensures before { page.new.before ≡ page.old.before }
-    ensures text { OnOk result (page.new.text ≡ page.old.text ++ retention_text today lines.now) }
-{
-    push_heading(page, "RETENTION", today)?;
-    push_retention_lines(page, lines)
 }
 
 /// Appends the retention list on a business day. Each given closed matter has the day it was closed, the last day on
@@ -80,8 +63,6 @@ pub fn retention_text(
     ensures ok { OnOk result (out.new.items ≡ out.old.items ++ retention_text today lines.now) }
     ensures err { OnErr result (out.new.items ≡ out.old.items) }
 {
-    let mut page = Page::behind(out);
-    let written = push_retention(&mut page, today, lines);
-    *out = page.ended(written.is_ok());
-    written
+    let name = "RETENTION";
+    append(out, &List { name, today, lines })
 }

@@ -1,7 +1,6 @@
 // Sums of cents on the stack.
 
-ghost use Rattle.std.specs.Prelude.{◌≡◌, ◌≤◌, ◌+◌, ◌++◌, ◌∷◌, [], if◌then◌else◌};
-ghost use Rattle.arrayvec.specs.ArrayVec.{array_vec_len};
+ghost use Rattle.std.specs.Prelude.{◌≡◌, ◌∷◌, if◌then◌else◌};
 ghost use Rattle.trust_base.specs.Texts.{amount_text};
 ghost use Rattle.trust_reports.specs.Pieces.{sum_text};
 
@@ -19,21 +18,6 @@ pub(crate) enum Sum {
 /// A printed sum, at most 44 bytes, on the stack.
 pub(crate) type SumText = ArrayVec<u8, 44>;
 
-// Appends cents as dollars, a point and two digits.
-fn push_size(text: &mut SumText, cents: u128)
-    requires { array_vec_len text.old ≤ 1 }
-    ensures { text.new.items ≡ text.old.items ++ amount_text cents }
-{
-    let mut buffer = Buffer::new();
-    push_piece(text, buffer.format(cents / 100).as_bytes());
-    let end = [
-        b'.',
-        b'0' + (cents % 100 / 10) as u8,
-        b'0' + (cents % 100 % 10) as u8,
-    ];
-    push_piece(text, &end);
-}
-
 // An amount with a leading minus sign if the sum is negative.
 fn signed(below: bool, cents: u128) -> SumText
     ensures { result.items ≡ (if below then 45 ∷ amount_text cents else amount_text cents) }
@@ -42,7 +26,14 @@ fn signed(below: bool, cents: u128) -> SumText
     if below {
         push_piece(&mut text, b"-");
     }
-    push_size(&mut text, cents);
+    let mut buffer = Buffer::new();
+    push_piece(&mut text, buffer.format(cents / 100).as_bytes());
+    let end = [
+        b'.',
+        b'0' + (cents % 100 / 10) as u8,
+        b'0' + (cents % 100 % 10) as u8,
+    ];
+    push_piece(&mut text, &end);
     text
 }
 

@@ -1,66 +1,54 @@
 // The trial balance.
 
 ghost use Rattle.std.specs.Prelude.{◌≡◌, ◌++◌, OnOk, OnErr, codes, flat_map};
-ghost use Rattle.trust_reports.specs.TextsOfLists.{figure_line, trial_line, trial_text};
+ghost use Rattle.trust_reports.specs.Pieces.{sum_text};
+ghost use Rattle.trust_reports.specs.Texts.{column, heading};
+ghost use Rattle.trust_reports.specs.TextsOfLists.{trial_line, trial_text};
 
 use crate::columns::{push_column, push_columns};
-use crate::page::Page;
+use crate::page::{Page, Printed, append};
 use crate::piece::{matter_digits, push_heading};
 use crate::sum::Sum;
 use firm_figures::TrialLine;
 use std::alloc::AllocError;
 use trust_base::Day;
 
-fn push_trial_line(page: &mut Page, line: &TrialLine) -> Result<(), AllocError>
-    ensures before { page.new.before ≡ page.old.before }
-    ensures text { OnOk result (page.new.text ≡ page.old.text ++ trial_line line.now) }
-{
-    push_column(
-        page,
-        14,
-        24,
-        &matter_digits(line.matter),
-        Sum::Of(line.ledger),
-    )
-}
+impl Printed for TrialLine {
+    ghost printed = { trial_line };
 
-fn push_trial_lines(page: &mut Page, lines: &[TrialLine]) -> Result<(), AllocError>
-    ensures before { page.new.before ≡ page.old.before }
-    ensures text { OnOk result (page.new.text ≡ page.old.text ++ flat_map trial_line lines.now) }
-{
-    for line in lines {
-        push_trial_line(page, line)?;
+    fn push_to(&self, page: &mut Page) -> Result<(), AllocError> {
+        let matter = matter_digits(self.matter);
+        push_column(page, 14, 24, &matter, Sum::Of(self.ledger))
     }
-    Ok(())
 }
 
-fn push_sums(page: &mut Page, own: i128, total: i128) -> Result<(), AllocError>
+#[derive(Drop)]
+struct Trial<'a> {
+    today: Day,
+    lines: &'a [TrialLine],
+    own: Sum,
+    total: Sum,
+}
+
+impl Printed for Trial<'_> {
+    ghost printed = { λ t. heading (codes "TRIAL BALANCE") t.today
+        ++ (flat_map trial_line t.lines.now
+        ++ (column 14 24 (codes "FIRM") (sum_text t.own) ++ column 14 24 (codes "TOTAL") (sum_text t.total))) };
+
+    fn push_to(&self, page: &mut Page) -> Result<(), AllocError> {
+        push_heading(page, "TRIAL BALANCE", self.today)?;
+        page.push_lines(self.lines)?;
+        push_sums(page, self.own, self.total)?;
+        Ok(())
+    }
+}
+
+fn push_sums(page: &mut Page, own: Sum, total: Sum) -> Result<(), AllocError>
     ensures before { page.new.before ≡ page.old.before }
     ensures text { OnOk result (page.new.text ≡ page.old.text
-        ++ (figure_line (codes "FIRM") own ++ figure_line (codes "TOTAL") total)) }
+        ++ (column 14 24 (codes "FIRM") (sum_text own) ++ column 14 24 (codes "TOTAL") (sum_text total))) }
 {
-    push_columns(
-        page,
-        14,
-        24,
-        &[("FIRM", Sum::Of(own)), ("TOTAL", Sum::Of(total))],
-    )
-}
-
-fn push_trial(
-    page: &mut Page,
-    today: Day,
-    lines: &[TrialLine],
-    own: i128,
-    total: i128,
-) -> Result<(), AllocError>
-    ensures before { page.new.before ≡ page.old.before }
-    ensures text { OnOk result (page.new.text ≡ page.old.text ++ trial_text today lines.now own total) }
-{
-    push_heading(page, "TRIAL BALANCE", today)?;
-    push_trial_lines(page, lines)?;
-    push_sums(page, own, total)?;
-    Ok(())
+    push_columns(page, 14, 24, &[("FIRM", own), ("TOTAL", total)])
 }
 
 /// Appends the trial balance on a business day, the list of client ledgers required at each reconciliation (ABA Model
@@ -78,8 +66,15 @@ pub fn trial_text(
     ensures ok { OnOk result (out.new.items ≡ out.old.items ++ trial_text today lines.now own total) }
     ensures err { OnErr result (out.new.items ≡ out.old.items) }
 {
-    let mut page = Page::behind(out);
-    let written = push_trial(&mut page, today, lines, own, total);
-    *out = page.ended(written.is_ok());
-    written
+    let own = Sum::Of(own);
+    let total = Sum::Of(total);
+    append(
+        out,
+        &Trial {
+            today,
+            lines,
+            own,
+            total,
+        },
+    )
 }

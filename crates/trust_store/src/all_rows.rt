@@ -23,73 +23,41 @@ pub struct AllRows {
     pub balances: Vec<StatementRow>,
 }
 
-/// Copies of matters, with their numbers.
-pub(crate) fn matters_copied(
-    alloc: Global,
-    matters: &[KeptMatter],
-) -> Result<Vec<KeptMatter>, AllocError>
-    ensures { IfOk result (λ copies. copies.items ≡ matters.now) }
-{
-    let mut copies = Vec::new(alloc);
-    for kept in matters {
-        let matter: Matter = kept.matter.copied(alloc)?;
-        copies.push(KeptMatter {
-            number: kept.number,
+// A row that is copied where there is memory.
+pub(crate) trait CopiedRow {
+    fn copied_row(&self, alloc: Global) -> Result<Self, AllocError>
+        ensures { IfOk result (λ copy. copy ≡ self.now) };
+}
+
+impl CopiedRow for FirmLine {
+    fn copied_row(&self, _alloc: Global) -> Result<FirmLine, AllocError> {
+        self.copied()
+    }
+}
+
+impl CopiedRow for KeptMatter {
+    fn copied_row(&self, alloc: Global) -> Result<KeptMatter, AllocError> {
+        let matter: Matter = self.matter.copied(alloc)?;
+        Ok(KeptMatter {
+            number: self.number,
             matter,
-        })?;
+        })
     }
-    Ok(copies)
 }
 
-/// Copies of movements.
-pub(crate) fn movements_copied(
-    alloc: Global,
-    movements: &[Movement],
-) -> Result<Vec<Movement>, AllocError>
-    ensures { IfOk result (λ copies. copies.items ≡ movements.now) }
-{
-    let mut copies = Vec::new(alloc);
-    for movement in movements {
-        copies.push(*movement)?;
+impl CopiedRow for Line {
+    fn copied_row(&self, _alloc: Global) -> Result<Line, AllocError> {
+        self.copied()
     }
-    Ok(copies)
 }
 
-/// Copies of lines of the firm's own.
-pub(crate) fn firm_lines_copied(
-    alloc: Global,
-    lines: &[FirmLine],
-) -> Result<Vec<FirmLine>, AllocError>
-    ensures { IfOk result (λ copies. copies.items ≡ lines.now) }
+/// Copies of rows, in order.
+pub(crate) fn copies<T: CopiedRow + Drop>(alloc: Global, rows: &[T]) -> Result<Vec<T>, AllocError>
+    ensures { IfOk result (λ copies. copies.items ≡ rows.now) }
 {
     let mut copies = Vec::new(alloc);
-    for line in lines {
-        copies.push(line.copied()?)?;
-    }
-    Ok(copies)
-}
-
-/// Copies of bank lines.
-pub(crate) fn lines_copied(alloc: Global, lines: &[Line]) -> Result<Vec<Line>, AllocError>
-    ensures { IfOk result (λ copies. copies.items ≡ lines.now) }
-{
-    let mut copies = Vec::new(alloc);
-    for line in lines {
-        copies.push(line.copied()?)?;
-    }
-    Ok(copies)
-}
-
-/// Copies of balances.
-pub(crate) fn balances_copied(
-    alloc: Global,
-    balances: &[StatementRow],
-) -> Result<Vec<StatementRow>, AllocError>
-    ensures { IfOk result (λ copies. copies.items ≡ balances.now) }
-{
-    let mut copies = Vec::new(alloc);
-    for balance in balances {
-        copies.push(*balance)?;
+    for row in rows {
+        copies.push(row.copied_row(alloc)?)?;
     }
     Ok(copies)
 }

@@ -11,12 +11,10 @@ ghost use Rattle.firm_rows.specs.FirmSound.{FirmSound};
 ghost use Rattle.trust_store.specs.Books.{FoldsFront};
 ghost use Rattle.trust_store.specs.Calls.{AreHanded};
 ghost use Rattle.trust_store.specs.Named.{IsPartFor};
-ghost use Rattle.trust_store.specs.Kept.{firm_of_all, AreKeptWhole, IsKeptAs, joined, kept_pairs, rows_kept, rows_in, seek};
+ghost use Rattle.trust_store.specs.Kept.{Ascends, AreKeptWhole, IsKeptAs, joined, kept_pairs, rows_kept, rows_in, seek};
 
 use crate::Book;
-use crate::all_rows::{
-    AllRows, balances_copied, firm_lines_copied, lines_copied, matters_copied, movements_copied,
-};
+use crate::all_rows::{AllRows, copies};
 use crate::balances::{add_balance, balance_kept};
 use crate::exceptions::{add_line, remove_line};
 use crate::handing::{hand_balances, hand_firm_lines, hand_lines, hand_movements};
@@ -84,24 +82,6 @@ impl PlainBook {
         ensures { FirmSound self.now }
     {
         let _matters = &self.matters;
-    }
-
-    // A copy of all its rows.
-    fn copied(&self, alloc: Global) -> Result<AllRows, AllocError>
-        ensures { IfOk result (λ rows. firm_of_all rows ≡ self.now) }
-    {
-        let matters = matters_copied(alloc, &self.matters)?;
-        let movements = movements_copied(alloc, &self.movements)?;
-        let firm_lines = firm_lines_copied(alloc, self.own.lines())?;
-        let exceptions = lines_copied(alloc, &self.exceptions)?;
-        let balances = balances_copied(alloc, &self.balances)?;
-        Ok(AllRows {
-            matters,
-            movements,
-            firm_lines,
-            exceptions,
-            balances,
-        })
     }
 
     // Makes one change of a matter, or none on an error.
@@ -207,7 +187,13 @@ impl Book for PlainBook {
     }
 
     fn all_rows(&mut self, alloc: Global) -> Result<AllRows, StoreFault> {
-        Ok(self.copied(alloc)?)
+        Ok(AllRows {
+            matters: copies(alloc, &self.matters)?,
+            movements: Vec::from_slice(alloc, &self.movements)?,
+            firm_lines: copies(alloc, self.own.lines())?,
+            exceptions: copies(alloc, &self.exceptions)?,
+            balances: Vec::from_slice(alloc, &self.balances)?,
+        })
     }
 
     fn each_row<S: RowSink>(&mut self, sink: &mut S) -> Result<(), StoreFault> {
@@ -311,9 +297,9 @@ impl Book for PlainBook {
     }
 }
 
-// The index of a matter, or where it would be inserted.
-fn search(kept: &[KeptMatter], matter: MatterNo) -> Result<usize, usize>
-    requires { AreKeptWhole kept.now }
+/// The index of a matter in a list sorted by number, or where it would be inserted.
+pub fn matter_place(kept: &[KeptMatter], matter: MatterNo) -> Result<usize, usize>
+    requires { Ascends kept.now }
     ensures { result ≡ seek matter kept.now }
 {
     kept.binary_search_by_key(&matter.get(), |k| k.number.get())
@@ -324,7 +310,7 @@ fn matter_of(alloc: Global, kept: &[KeptMatter], matter: MatterNo) -> Result<Mat
     requires { AreKeptWhole kept.now }
     ensures { IfOk result (λ part. IsWhole part (rows_in matter kept.now)) }
 {
-    match search(kept, matter) {
+    match matter_place(kept, matter) {
         Ok(place) => kept[place].matter.copied(alloc),
         Err(_) => Ok(Matter::unopened(alloc)),
     }
@@ -341,7 +327,7 @@ fn part_of(
     requires { AreKeptWhole kept.now }
     ensures { IfOk result (λ part. IsPartFor (rows_in matter kept.now) entry other part) }
 {
-    match search(kept, matter) {
+    match matter_place(kept, matter) {
         Ok(place) => kept[place].matter.part(alloc, entry, other),
         Err(_) => Ok(Matter::unopened(alloc)),
     }
@@ -475,7 +461,7 @@ fn change_kept(
         (IsKeptAs matter (changed change.now (rows_in matter kept.old.items)) kept.old.items kept.new.items) }
     ensures err { OnErr result (kept.new.items ≡ kept.old.items) }
 {
-    match search(kept, matter) {
+    match matter_place(kept, matter) {
         Ok(place) => {
             let found = &mut kept[place];
             found.matter.apply(change)

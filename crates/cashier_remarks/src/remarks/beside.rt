@@ -8,7 +8,7 @@ use trust_base::{Day, Dollars, StoreFault};
 use trust_desk::{ClearedLine, RowWatch};
 
 /// Two bank lines with the same date, bank reference and amount.
-#[derive(Clone, Copy, PartialEq, Eq, Debug)]
+#[derive(Clone, Copy)]
 pub struct ClearedTwice<'a> {
     pub first: Owner,
     pub second: Owner,

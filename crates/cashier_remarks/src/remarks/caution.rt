@@ -1,14 +1,13 @@
 // Warnings about accepted records that may not mean what was intended.
 
-use crate::fields::field_bytes;
-use crate::record::{Verb, read_verb};
+use crate::record::{Verb, field_bytes, read_verb};
 use crate::remarks::excerpt::Excerpt;
 use crate::remarks::fields::text_at;
 use csv::ByteRecord;
 use std::fmt;
 
 /// How an accepted record may not mean what was intended.
-#[derive(Clone, Copy, PartialEq, Eq, Debug)]
+#[derive(Clone, Copy)]
 pub enum Caution<'a> {
     /// This payee of the general fund differs from the firm only in letter case or blanks.
     NotFirm(Excerpt<'a>),

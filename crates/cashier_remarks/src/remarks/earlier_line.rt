@@ -8,7 +8,7 @@ use trust_base::{BankAmount, Day, Line};
 use trust_desk::ClearedLine;
 
 /// A line that was applied and has the same date, bank reference and amount as one that an earlier import applied.
-#[derive(Clone, Copy, PartialEq, Eq, Debug)]
+#[derive(Clone, Copy)]
 pub struct EarlierLine<'a> {
     pub reference: Plain<'a>,
     pub bank_ref: Plain<'a>,

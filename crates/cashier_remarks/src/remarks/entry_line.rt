@@ -6,7 +6,7 @@ use trust_base::{BankAmount, Day, Dollars, EntryNo, MatterNo};
 use trust_matter::{BankLine, DepositState, Entry, Matter, PaymentState, Reason};
 
 /// Why a line does nothing to the entry that it names.
-#[derive(Clone, Copy, PartialEq, Eq, Debug)]
+#[derive(Clone, Copy)]
 pub enum EntryFault {
     /// The line is dated after this business day.
     AfterToday(Day),
@@ -39,7 +39,7 @@ pub enum EntryFault {
 }
 
 /// A line that does nothing to the entry that it names, and why.
-#[derive(Clone, Copy, PartialEq, Eq, Debug)]
+#[derive(Clone, Copy)]
 pub struct EntryLine<'a> {
     pub matter: MatterNo,
     pub entry: EntryNo,

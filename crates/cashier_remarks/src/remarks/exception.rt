@@ -8,7 +8,7 @@ use trust_base::{BankAmount, Day, Line, StoreFault};
 use trust_desk::{ImportStop, ItemWatch, NotApplied};
 
 /// An exception, without its text, and why it is one, or that an import would accept it.
-#[derive(Clone, Copy, PartialEq, Eq, Debug)]
+#[derive(Clone, Copy)]
 pub struct ExceptionRemark<'a> {
     pub date: Day,
     pub reference: Plain<'a>,

@@ -6,7 +6,7 @@ use std::fmt;
 const LONGEST: usize = 40;
 
 /// A field, or its first part, in double quotes.
-#[derive(Clone, Copy, PartialEq, Eq, Debug)]
+#[derive(Clone, Copy)]
 pub struct Excerpt<'a> {
     front: &'a str,
     is_cut: bool,

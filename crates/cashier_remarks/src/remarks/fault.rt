@@ -1,8 +1,6 @@
 // What is wrong with a record that can't be read.
 
-use crate::dismissal::is_dismissal;
-use crate::fields::field_bytes;
-use crate::record::{Verb, count_of, is_text, names_entry, read_verb};
+use crate::record::{Verb, count_of, field_bytes, is_dismissal, is_text, names_entry, read_verb};
 use crate::remarks::excerpt::Excerpt;
 use crate::remarks::fields::{form_of as form_of_field, noun_of, place_of, text_at};
 use crate::remarks::line_fault::{LineFault, fault_of_dismissed};
@@ -14,7 +12,7 @@ use std::fmt;
 use trust_base::{BankAmount, Field, MAX_AMOUNT};
 
 /// What is wrong with a record that can't be read.
-#[derive(Clone, Copy, PartialEq, Eq, Debug)]
+#[derive(Clone, Copy)]
 pub enum RecordFault<'a> {
     /// A field contains the end of a line, so the next line belongs to it.
     OpenQuote,

@@ -1,6 +1,6 @@
 // The fields of records, as remarks name them.
 
-use crate::fields::field_bytes;
+use crate::record::field_bytes;
 use csv::ByteRecord;
 use trust_base::Field;
 

@@ -1,8 +1,6 @@
 // Remarks about a statement with another header.
 
-use crate::dismissal::is_dismissal;
-use crate::fields::field_bytes;
-use crate::record::read_verb;
+use crate::record::{field_bytes, is_dismissal, read_verb};
 use crate::remarks::line_fault::HEADER;
 use crate::remarks::plain::Plain;
 use crate::remarks::rereading::Found;
@@ -10,7 +8,7 @@ use crate::remarks::verb_fault::is_no_text;
 use std::fmt;
 
 /// What is reported about a statement with another header.
-#[derive(Clone, Copy, PartialEq, Eq, Debug)]
+#[derive(Clone, Copy)]
 pub enum HeaderRemark<'a> {
     /// The first record, which begins on this line, is this.
     Other { line: u64, here: Plain<'a> },

@@ -11,7 +11,7 @@ use trust_base::{Day, StoreFault};
 use trust_desk::NotApplied;
 
 /// What is reported about a line of a statement as it is imported, or about an exception.
-#[derive(Clone, Copy, PartialEq, Eq, Debug)]
+#[derive(Clone, Copy)]
 pub enum LineRemark<'a> {
     /// It names an entry.
     OfMatter(EntryLine<'a>),

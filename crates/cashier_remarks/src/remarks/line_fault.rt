@@ -1,6 +1,6 @@
 // What is wrong with a record of a statement that is not a valid line.
 
-use crate::fields::field_bytes;
+use crate::record::field_bytes;
 use crate::remarks::day_meant::day_meant;
 use crate::remarks::excerpt::Excerpt;
 use crate::remarks::fault::{first_not_text, has_line_end};
@@ -14,7 +14,7 @@ use trust_base::{BankAmount, Day, MAX_BANK_TEXT, MAX_LINE_TEXT};
 pub const HEADER: &str = "date,reference,bank_ref,amount,text";
 
 /// What is wrong with a record of a statement that is not a valid line.
-#[derive(Clone, Copy, PartialEq, Eq, Debug)]
+#[derive(Clone, Copy)]
 pub enum LineFault<'a> {
     /// The record can't be read again.
     Unseen,

@@ -5,7 +5,7 @@ use std::fmt;
 use trust_base::{BankAmount, Day, Dollars, Line};
 
 /// A line of the firm's own, or a balance, that is not accepted, and why.
-#[derive(Clone, Copy, PartialEq, Eq, Debug)]
+#[derive(Clone, Copy)]
 pub enum OwnLine {
     /// A line of the firm's own that is dated after this business day.
     AfterToday(Day),

@@ -3,7 +3,7 @@
 use std::fmt;
 
 /// Where a record is in a statement.
-#[derive(Clone, Copy, PartialEq, Eq, Debug)]
+#[derive(Clone, Copy)]
 pub enum Place {
     /// It begins on this line, counted from 1.
     Line(u64),

@@ -5,7 +5,7 @@ use std::fmt;
 
 /// A text or its first part. It is unquoted if it is printable ASCII without spaces and quotes, and otherwise in double
 /// quotes.
-#[derive(Clone, Copy, PartialEq, Eq, Debug)]
+#[derive(Clone, Copy)]
 pub struct Plain<'a> {
     excerpt: Excerpt<'a>,
     is_plain: bool,

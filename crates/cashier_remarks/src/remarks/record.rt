@@ -9,7 +9,7 @@ use trust_base::{Refusal, StoreFault};
 use trust_desk::{Body, Reply};
 
 /// What is reported about a record.
-#[derive(Clone, Copy, PartialEq, Eq, Debug)]
+#[derive(Clone, Copy)]
 pub enum RecordRemark<'a> {
     /// It was accepted, but may not mean what was intended.
     Accepted(Caution<'a>),

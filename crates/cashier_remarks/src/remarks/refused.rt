@@ -1,15 +1,13 @@
 // Remarks about refused records, and what to do.
 
-use crate::dismissal::is_dismissal;
-use crate::fields::field_bytes;
-use crate::record::{Verb, read_verb};
+use crate::record::{Verb, field_bytes, is_dismissal, read_verb};
 use crate::remarks::fields::text_at;
 use csv::ByteRecord;
 use std::fmt;
 use trust_base::{Dollars, EntryNo, Refusal};
 
 /// A valid record that was refused.
-#[derive(Clone, Copy, PartialEq, Eq, Debug)]
+#[derive(Clone, Copy)]
 pub struct RefusedRecord<'a> {
     refusal: Refusal,
     verb: Option<Verb>,

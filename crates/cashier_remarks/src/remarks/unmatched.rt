@@ -4,7 +4,7 @@ use crate::remarks::{Remark, Remarks};
 use std::fmt;
 
 /// A line of the report on a statement's records, without its end. It is UTF-8.
-#[derive(Clone, Copy, PartialEq, Eq, Debug)]
+#[derive(Clone, Copy)]
 pub struct UnmatchedLine<'a> {
     line: &'a [u8],
 }

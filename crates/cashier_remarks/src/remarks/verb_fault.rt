@@ -1,6 +1,6 @@
 // What is wrong with a record whose first field names no verb.
 
-use crate::fields::field_bytes;
+use crate::record::field_bytes;
 use crate::remarks::excerpt::Excerpt;
 use crate::remarks::line_fault::is_of_statement;
 use crate::remarks::verbs::{Asker, VERBS, asker_of, verb_meant};
@@ -8,7 +8,7 @@ use csv::ByteRecord;
 use std::fmt;
 
 /// Returns what is wrong with a record whose first field is not a verb.
-#[derive(Clone, Copy, PartialEq, Eq, Debug)]
+#[derive(Clone, Copy)]
 pub enum VerbFault<'a> {
     /// It is not text, or not in UTF-8.
     NotText,

@@ -60,7 +60,7 @@ pub fn form_of(verb: Verb) -> &'static str {
 }
 
 /// Who makes, by a message, a request that no sheet makes.
-#[derive(Clone, Copy, PartialEq, Eq, Debug)]
+#[derive(Clone, Copy)]
 pub enum Asker {
     Client,
     Lawyer,

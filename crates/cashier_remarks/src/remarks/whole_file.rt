@@ -1,6 +1,6 @@
 // What only the file of a statement shows about its records.
 
-use crate::fields::field_bytes;
+use crate::record::field_bytes;
 use crate::remarks::line_fault::has_open_quote;
 use crate::remarks::rereading::{Found, Rereading};
 use crate::remarks::{Remark, Remarks};
@@ -9,7 +9,7 @@ use std::fmt;
 use trust_base::Day;
 
 /// What only the file of a statement shows about a record.
-#[derive(Clone, Copy, PartialEq, Eq, Debug)]
+#[derive(Clone, Copy)]
 pub enum FileRemark {
     /// It continues up to this line.
     GoesOn { last: u64 },

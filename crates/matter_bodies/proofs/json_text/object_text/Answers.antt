@@ -1,5 +1,5 @@
-use Rattle.std.proofs.Common.{◌≡◌, ◌∙◌, map, rules}
-use Rattle.json.specs.Print.{print}
+use Rattle.std.proofs.Common.{◌≡◌, ◌∙◌, [], arith, drop, map}
+use Rattle.std.proofs.lemmas.List.{drop_all}
 use Rattle.serde_json.proofs.Texts.{print-outline}
 use Rattle.matter_bodies.specs.Json.{object_of, value_tokens}
 use Rattle.matter_bodies.specs.Values.{member_of}
@@ -7,6 +7,9 @@ use Rattle.matter_bodies.proofs.json_text.object_text.Goals as goal
 
 pub returns : goal.returns
 returns c =
-    let object = object_of (map member_of c.args.members.now) in
-    let printed : c.into_inner.result.items ≡ print (value_tokens object) = search rules in
-    printed ∙ print-outline object
+    let members = c.args.members.now in
+    let object = object_of (map member_of members) in
+    let none : drop c.loop-member.member-index members ≡ [] = drop_all c.loop-member.member-index members (omega arith) in
+    let tokens : c.end_object.new.self.tokens ≡ value_tokens object = c.in_ok-end_object.ensures.ok ∙ (rw none at c.loop-member.invariant.tokens) in
+    let before : c.end_object.new.self.before ≡ [] = c.in_ok-end_object.ensures.room.0 ∙ c.loop-member.invariant.before in
+    (rw (before, tokens) at c.into_inner.ensures.items) ∙ print-outline object

@@ -6,30 +6,30 @@ use Rattle.matter_rows.proofs.Store.{left-balance}
 use Rattle.matter_parts.proofs.Collected.{no-total, left-is, kept-of}
 use Rattle.matter_parts.proofs.kept.kept_at.Goals as goal
 
-pub overflow_sub-worth : goal.overflow_sub-worth
-overflow_sub-worth c =
+pub moved-requires-clause-out : goal.moved-requires-clause-out
+moved-requires-clause-out c =
     let drawn = c.drawn_on.ensures.small in
-    let own = c.worth.ensures.small in
-    omega (arith, ints, drawn.low, drawn.high, own.low, own.high)
+    record { low = omega (arith, ints, drawn.low, drawn.high); high = omega (arith, ints, drawn.low, drawn.high) }
 
-pub returns-in_default-as_total-clause-err : goal.returns-in_default-as_total-clause-err
-returns-in_default-as_total-clause-err c = λ _ backed.
-    let es = c.args.entries.now in
-    let drawn = c.drawn_on.ensures.small in
+pub moved-requires-clause-share : goal.moved-requires-clause-share
+moved-requires-clause-share c =
     let own = c.worth.ensures.small in
+    record { low = omega (arith, ints, own.low, own.high); high = omega (arith, ints, own.low, own.high) }
+
+pub returns-in_default-moved-clause-err : goal.returns-in_default-moved-clause-err
+returns-in_default-moved-clause-err c = λ _ backed.
+    let es = c.args.entries.now in
     let number : c.in-Some.number ≡ c.args.place + 1 = omega (arith, c.in-Some.ensures.some.0) in
     let there = entry-at-place es c.args.place c.index-entries-place.result c.requires.there c.index-entries-place.is in
     let left = left-is es c.in-Some.number (c.args.place + 1) c.index-entries-place.result _ _ number c.worth.ensures.is c.drawn_on.ensures.is in
     no-total (left_of es (c.args.place + 1) c.index-entries-place.result) _ (left-balance es (c.args.place + 1) c.index-entries-place.result backed there)
-    (omega (arith, ints, left, drawn.low, drawn.high, own.low, own.high)) c.in_default-as_total.ensures.none
+    (omega (arith, ints, left)) c.in_default-moved.ensures.none
 
 pub returns-clause-own : goal.returns-clause-own
 returns-clause-own c =
     let es = c.args.entries.now in
-    let drawn = c.drawn_on.ensures.small in
-    let own = c.worth.ensures.small in
     let number : c.in-Some.number ≡ c.args.place + 1 = omega (arith, c.in-Some.ensures.some.0) in
     let there = entry-at-place es c.args.place c.index-entries-place.result c.requires.there c.index-entries-place.is in
     let left = left-is es c.in-Some.number (c.args.place + 1) c.index-entries-place.result _ _ number c.worth.ensures.is c.drawn_on.ensures.is in
-    kept-of es (c.args.place + 1) c.in-Some.number c.in-Some-as_total.left c.index-entries-place.result c.in_ok-entry.entry there c.in_ok-entry.ensures
-    (omega (arith, ints, c.in-Some-as_total.ensures.some.1, left, drawn.low, drawn.high, own.low, own.high))
+    kept-of es (c.args.place + 1) c.in-Some.number c.in-Some-moved.left c.index-entries-place.result c.in_ok-entry.entry there c.in_ok-entry.ensures
+    (omega (arith, ints, c.in-Some-moved.ensures.some.1, left))

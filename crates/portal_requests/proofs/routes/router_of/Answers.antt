@@ -5,9 +5,9 @@ use Rattle.std.proofs.lemmas.Result.{err_from_is_err_and}
 use Rattle.matchit.specs.Rows.{RowsOf}
 use Rattle.matchit.specs.Router.{RouteOf}
 use Rattle.matchit.specs.Route.{parse_route}
-use Rattle.portal_requests.specs.declared.place.Place.{Place}
-use Rattle.portal_requests.specs.declared.place.Place.TheVariants.{Matter}
-use Rattle.portal_requests.specs.declared.place.MatterPlace.TheVariants.{Show}
+use Rattle.portal_requests.specs.declared.routes.Place.{Place}
+use Rattle.portal_requests.specs.declared.routes.Place.TheVariants.{Matter}
+use Rattle.portal_requests.specs.declared.routes.MatterPlace.TheVariants.{Show}
 use Rattle.portal_requests.specs.Table.{AreTaken, IsTaken, row_in, route_rows, rows_of}
 use Rattle.portal_requests.proofs.routes.router_of.Goals as goal
 

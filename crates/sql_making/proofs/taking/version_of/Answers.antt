@@ -1,13 +1,20 @@
-use Rattle.std.proofs.Common.{◌∷◌, [], sym, subst, map, IsPermutation}
+use Rattle.std.proofs.Common.{◌≡◌, ◌∷◌, [], inr, sym, ap, ◌∙◌, subst, map, IsPermutation}
 use Rattle.sqlite_value.specs.declared.value.Value.TheVariants.{Int}
-use Rattle.sql_making.specs.Books.{versions_in}
-use Rattle.sql_making.proofs.VersionRead.{one_version, one_shown}
+use Rattle.sqlite_value.specs.Order.{Row, column}
+use Rattle.sql_making.specs.Then.{numbered_versions}
+use Rattle.sql_making.proofs.VersionRead.{one_stored, one_read, one_numbered, versions_shown}
 use Rattle.sql_making.proofs.taking.version_of.Goals as goal
 
 pub returns-clause-is : goal.returns-clause-is
 returns-clause-is g c l clean has v =
-    let versions = versions_in l (g.S.Store.view c.args.conn.now.store).trees in
+    let db = (g.S.Store.view c.args.conn.now.store).trees in
     let rows = c.as_slice.result.now in
-    let seen : IsPermutation (map (λ v. v ∷ []) versions) rows = subst (IsPermutation (map (λ v. v ∷ []) versions)) (sym c.as_slice.ensures.value) (c.in_ok-rows.ensures.rows l clean has) in
-    let number = c.one_number.ensures v in
-    (λ some. one_version versions (Int v) rows seen (number.0 some), λ is. number.1 (one_shown versions (Int v) rows seen is))
+    let seen : IsPermutation (numbered_versions db) rows = subst (IsPermutation (numbered_versions db)) (sym c.as_slice.ensures.value) (c.in_ok-rows.ensures.rows clean (inr (l, has))) in
+    let version = c.one_version.ensures v in (
+      λ some.
+          let it = version.0 some in
+          sym (versions_shown l db) ∙ ap (map (λ (r : Row). column r 1)) (one_stored (numbered_versions db) rows _ seen it.1),
+      λ is.
+          let it = one_numbered (db 0) (Int v) is in
+          version.1 (it.0, one_read (numbered_versions db) rows _ seen it.1),
+    )

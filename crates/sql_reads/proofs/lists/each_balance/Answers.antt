@@ -11,6 +11,9 @@ use Rattle.sql_reads.proofs.Handed.{all_left, handed}
 use Rattle.sql_reads.proofs.Shown.{balances_shown}
 use Rattle.sql_reads.proofs.lists.each_balance.Goals as goal
 
+pub hand_rows-requires-clause-select : goal.hand_rows-requires-clause-select
+hand_rows-requires-clause-select g c = balance_scan_selects
+
 pub returns-clause-handed : goal.returns-clause-handed
 returns-clause-handed g c l clean stands =
     let old = state g.S.Store c.args.conn.now in
@@ -18,10 +21,10 @@ returns-clause-handed g c l clean stands =
     handed (balance_scan_asks l) [] old (state g.S.Store c.hand_rows.new.conn) stands.schema
     (map balance_values balances) (λ found a. balance_scan_answer l old.now stands found a)
     g.K.BalanceSink.balanced balance_at IsBalanceInRange (map balance_from balances) (balances_shown balances)
-    c.hand_rows.result c.args.sink.now c.hand_rows.new.sink (c.hand_rows.ensures.handed clean balance_scan_selects)
+    c.hand_rows.result c.args.sink.now c.hand_rows.new.sink (c.hand_rows.ensures.handed clean)
     c.and.result c.and.ensures
 
 pub returns-clause-left : goal.returns-clause-left
 returns-clause-left g c =
     all_left (state g.S.Store c.args.conn.now) (state g.S.Store c.hand_rows.new.conn) c.hand_rows.result
-    (c.hand_rows.ensures.left balance_scan_selects) c.and.result c.and.ensures
+    c.hand_rows.ensures.left c.and.result c.and.ensures

@@ -1,22 +1,37 @@
-use Rattle.std.proofs.Common.{rules, ◌≡◌, pos, Some, find, option_map, option_copied, slice_get, sym, ap, ◌∙◌, to_z, w64}
+use Rattle.std.proofs.Common.{rules, ◌≡◌, pos, [], ◌∷◌, Some, find, option_map, option_copied, slice_get, sym, ap, ◌∙◌, to_z, w64}
+use Rattle.sqlite_value.specs.declared.value.Value.TheVariants.{Int}
 use Rattle.sqlite.specs.Held.{state}
+use Rattle.sql_tables.specs.Given.{head_given}
 use Rattle.sql_tables.specs.Rows.{head_shown, heads_in, is_head}
+use Rattle.sql_tables.proofs.Calls.{answers}
+use Rattle.sql_tables.proofs.Means.{head_read_asks, head_read_selects}
+use Rattle.sql_tables.proofs.ReadLemmas.{head_read_answer}
 use Rattle.sql_reads.specs.Parts.{with_totals_from}
-use Rattle.sql_reads.proofs.Firsts.{none_first, some_first, of_answer}
+use Rattle.sql_reads.proofs.Firsts.{none_first, some_first}
+use Rattle.sql_reads.proofs.HeadsRead.{totals_read}
 use Rattle.sql_reads.proofs.matter.head_with_totals.Goals as goal
 
-pub returns-in-None-clause-found : goal.returns-in-None-clause-found
-returns-in-None-clause-found g c l clean stands =
-    let hs = heads_in l (state g.S.Store c.args.conn.now).now.trees in
-    let own : to_z w64 c.get.result ≡ pos c.args.matter = search rules in
-    let is = of_answer _ c.head_rows.result c.in_ok-rows.rows c.in_ok-rows.ensures.ok (c.head_rows.ensures.read.found l clean stands) in
-    let none = none_first head_shown (is_head (to_z w64 c.get.result)) hs c.in_ok-rows.rows.items is (sym (ap (λ l. slice_get l 0) c.deref.ensures.value) ∙ sym c.first.ensures.value ∙ ap option_copied c.in-None.is) in
+pub rows_of-requires-clause-select : goal.rows_of-requires-clause-select
+rows_of-requires-clause-select g c = head_read_selects
+
+pub returns-in_default-clause-found : goal.returns-in_default-clause-found
+returns-in_default-clause-found g c l clean stands =
+    let s0 = state g.S.Store c.args.conn.now in
+    let hs = heads_in l s0.now.trees in
+    let z = to_z w64 c.get.result in
+    let own : z ≡ pos c.args.matter = search rules in
+    let is = head_read_answer l s0.now z stands _ (answers (head_read_asks l) (Int z ∷ []) s0 (state g.S.Store c.rows_of.new.conn) stands.schema _ (c.in_ok-rows.ensures.shown clean)) in
+    let none = none_first head_shown (is_head z) hs c.in_ok-rows.rows.items is (sym (ap (λ l. slice_get l 0) c.deref.ensures.value) ∙ sym c.first.ensures.value ∙ ap option_copied c.in_default.is) in
     sym (ap (option_map with_totals_from) (ap (λ z. find (is_head z) hs) (sym own) ∙ none))
 
 pub returns-clause-found : goal.returns-clause-found
 returns-clause-found g c l clean stands =
-    let hs = heads_in l (state g.S.Store c.args.conn.now).now.trees in
-    let own : to_z w64 c.get.result ≡ pos c.args.matter = search rules in
-    let is = of_answer _ c.head_rows.result c.in_ok-rows.rows c.in_ok-rows.ensures.ok (c.head_rows.ensures.read.found l clean stands) in
-    let one = some_first head_shown (is_head (to_z w64 c.get.result)) hs c.in_ok-rows.rows.items is c.in-Some.row.now (sym (ap (λ l. slice_get l 0) c.deref.ensures.value) ∙ sym c.first.ensures.value ∙ ap option_copied c.in-Some.is) in
-    ap Some (c.in_ok-opened_in-in-Some.ensures one.one one.shows) ∙ sym (ap (option_map with_totals_from) (ap (λ z. find (is_head z) hs) (sym own) ∙ one.found_one))
+    let s0 = state g.S.Store c.args.conn.now in
+    let hs = heads_in l s0.now.trees in
+    let z = to_z w64 c.get.result in
+    let own : z ≡ pos c.args.matter = search rules in
+    let is = head_read_answer l s0.now z stands _ (answers (head_read_asks l) (Int z ∷ []) s0 (state g.S.Store c.rows_of.new.conn) stands.schema _ (c.in_ok-rows.ensures.shown clean)) in
+    let row = c.in-Some.row.now in
+    let one = some_first head_shown (is_head z) hs c.in_ok-rows.rows.items is row (sym (ap (λ l. slice_get l 0) c.deref.ensures.value) ∙ sym c.first.ensures.value ∙ ap option_copied c.in-Some.is) in
+    let read = totals_read _ (head_given c.in_ok-columns.columns) row c.in_ok-head.head c.in_ok-figures.figures c.in_ok-columns.ensures.ok c.in_ok-head.ensures.ok c.in_ok-head.ensures.form c.in_ok-figures.ensures.ok one.one one.shows in
+    ap Some read ∙ sym (ap (option_map with_totals_from) (ap (λ z. find (is_head z) hs) (sym own) ∙ one.found_one))

@@ -4,19 +4,23 @@ use Rattle.sqlite.specs.Held.{state}
 use Rattle.trust_base.specs.declared.refusal.StoreFault.TheVariants.{Store}
 use Rattle.sql_tables.specs.Lists.{lists_in}
 use Rattle.sql_tables.specs.Standing.{Stands}
+use Rattle.sql_tables.proofs.Means.{head_read_selects}
 use Rattle.sql_reads.proofs.Calls.{kept_by}
 use Rattle.sql_reads.proofs.Going.{goes_from, goes_then}
 use Rattle.sql_reads.proofs.Steps.{all_done, broken_off, gone_on, not_done}
 use Rattle.sql_reads.proofs.Walk.{at_start}
 use Rattle.sql_reads.proofs.matters.each_row.Goals as goal
 
+pub rows_of-requires-clause-select : goal.rows_of-requires-clause-select
+rows_of-requires-clause-select g c = head_read_selects
+
 pub matters-init : goal.matters-init
 matters-init g c =
     let s0 = state g.S.Store c.args.conn.now in
-    let s1 = state g.S.Store c.has_least_head.new.conn in
+    let s1 = state g.S.Store c.rows_of.new.conn in
     record {
-      mode = c.has_least_head.ensures.mode;
-      on = goes_then s0 s0 s1 c.has_least_head.result c.in_ok-least.least c.in_ok-least.was (goes_from s0) c.has_least_head.ensures.left;
+      mode = c.rows_of.ensures.mode;
+      on = goes_then s0 s0 s1 c.rows_of.result c.in_ok-least.least c.in_ok-least.was (goes_from s0) c.rows_of.ensures.left;
       few = omega arith;
       reached = λ y clean stands.
           at_start g.K.RowSink.stepped (lists_in y s0.now.trees) stands.rows _ (omega (arith, ints)) c.args.sink.now;
@@ -30,8 +34,8 @@ returns-in_err-least-clause-handed g c l clean stands =
     (at_start step (lists_in l s0.now.trees) stands.rows (negsuc 0) (omega (arith, ints)) c.args.sink.now)
     c.from_residual.result c.from_residual.ensures.0
 
-pub returns-then-least-clause-handed : goal.returns-then-least-clause-handed
-returns-then-least-clause-handed g c l clean stands =
+pub returns-then-not-is_empty-clause-handed : goal.returns-then-not-is_empty-clause-handed
+returns-then-not-is_empty-clause-handed g c l clean stands =
     let step = g.K.RowSink.stepped in
     let s0 = state g.S.Store c.args.conn.now in
     not_done step l s0.now stands (negsuc 0) 0 c.args.sink.now c.args.sink.now

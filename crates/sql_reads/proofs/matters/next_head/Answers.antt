@@ -1,30 +1,42 @@
-use Rattle.std.proofs.Common.{rules, ◌≡◌, Some, find, option_copied, option_map, slice_get, sym, ap, ◌∙◌, to_z, of_z, w64}
+use Rattle.std.proofs.Common.{rules, ◌≡◌, pos, [], ◌∷◌, Some, find, option_copied, option_map, slice_get, sym, ap, ◌∙◌, to_z, of_z, w64}
+use Rattle.sqlite_value.specs.declared.value.Value.TheVariants.{Int, Null}
 use Rattle.sqlite.specs.Held.{state}
-use Rattle.sql_tables.specs.Rows.{heads_in, is_past}
-use Rattle.sql_reads.proofs.Firsts.{of_answer}
+use Rattle.sql_tables.specs.Given.{head_given}
+use Rattle.sql_tables.specs.Rows.{head_in, heads_in, is_past}
+use Rattle.sql_tables.proofs.Calls.{answers}
+use Rattle.sql_tables.proofs.Means.{next_head_asks, next_head_selects}
+use Rattle.sql_tables.proofs.ReadLemmas.{next_head_answer}
 use Rattle.sql_reads.specs.Shown.{numbered_from}
-use Rattle.sql_reads.proofs.Shown.{none_found, some_found}
+use Rattle.sql_reads.proofs.Shown.{none_found, numbered_back, some_found}
 use Rattle.sql_reads.proofs.matters.next_head.Goals as goal
 
-pub returns-in-None-clause-found : goal.returns-in-None-clause-found
-returns-in-None-clause-found g c l clean stands =
-    let hs = heads_in l (state g.S.Store c.args.conn.now).now.trees in
+pub rows_of-requires-clause-select : goal.rows_of-requires-clause-select
+rows_of-requires-clause-select g c = next_head_selects
+
+pub returns-in_default-clause-found : goal.returns-in_default-clause-found
+returns-in_default-clause-found g c l clean stands =
+    let s0 = state g.S.Store c.args.conn.now in
+    let hs = heads_in l s0.now.trees in
     let after = to_z w64 (of_z w64 c.args.after) in
     let same : after ≡ c.args.after = search rules in
-    let are = of_answer _ c.next_head_rows.result c.in_ok-rows.rows c.in_ok-rows.ensures.ok
-    (c.next_head_rows.ensures.read.found l clean stands) in
+    let are = next_head_answer l s0.now after stands _ (answers (next_head_asks l) (Int after ∷ []) s0 (state g.S.Store c.rows_of.new.conn) stands.schema _ (c.in_ok-rows.ensures.shown clean)) in
     none_found (is_past after) hs c.in_ok-rows.rows.items are
-    (sym (ap (λ l. slice_get l 0) c.deref.ensures.value) ∙ sym c.first.ensures.value ∙ ap option_copied c.in-None.is)
+    (sym (ap (λ l. slice_get l 0) c.deref.ensures.value) ∙ sym c.first.ensures.value ∙ ap option_copied c.in_default.is)
     ∙ ap (λ z. option_map numbered_from (find (is_past z) hs)) same
 
 pub returns-clause-found : goal.returns-clause-found
 returns-clause-found g c l clean stands =
-    let hs = heads_in l (state g.S.Store c.args.conn.now).now.trees in
+    let s0 = state g.S.Store c.args.conn.now in
+    let hs = heads_in l s0.now.trees in
     let after = to_z w64 (of_z w64 c.args.after) in
     let same : after ≡ c.args.after = search rules in
-    let are = of_answer _ c.next_head_rows.result c.in_ok-rows.rows c.in_ok-rows.ensures.ok
-    (c.next_head_rows.ensures.read.found l clean stands) in
-    ap Some c.in_ok-numbered_in-in-Some.ensures
-    ∙ some_found (is_past after) hs c.in_ok-rows.rows.items are c.in-Some.row.now
+    let are = next_head_answer l s0.now after stands _ (answers (next_head_asks l) (Int after ∷ []) s0 (state g.S.Store c.rows_of.new.conn) stands.schema _ (c.in_ok-rows.ensures.shown clean)) in
+    let row = c.in-Some.row.now in
+    let own : to_z w64 c.get.result ≡ pos c.in_ok-matter.matter = search rules in
+    let read = numbered_back row c.in_ok-matter.matter c.in_ok-head.head (head_given c.in_ok-columns.columns)
+    c.in_ok-matter.ensures (c.in_ok-columns.ensures.ok ∙ ap (λ n. head_in (Int n ∷ Null ∷ row)) own)
+    c.in_ok-head.ensures.form c.in_ok-head.ensures.ok in
+    ap Some read
+    ∙ some_found (is_past after) hs c.in_ok-rows.rows.items are row
     (sym (ap (λ l. slice_get l 0) c.deref.ensures.value) ∙ sym c.first.ensures.value ∙ ap option_copied c.in-Some.is)
     ∙ ap (λ z. option_map numbered_from (find (is_past z) hs)) same

@@ -1,45 +1,27 @@
-use Rattle.std.proofs.Common.{inl, inr, IfOk, sym, subst}
+use Rattle.std.proofs.Common.{◌≡◌, ◌∙◌, ap, sym, rules}
 use Rattle.std.proofs.lemmas.Result.{IfOk-weaker}
-use Rattle.trust_matter.specs.declared.ask.Ask.{Ask}
-use Rattle.trust_desk.specs.Plan.{IsBodyOf}
+use Rattle.matter_bodies.specs.Bodies.{matter_body}
+use Rattle.matter_parts.specs.Changes.{changed}
+use Rattle.trust_desk.specs.Replies.{body_of}
+use Rattle.trust_desk.proofs.OfRows.{of-entry, text-after}
 use Rattle.trust_desk.proofs.planning.body_after.Goals as goal
 
-pub returns-in-Deposit : goal.returns-in-Deposit
-returns-in-Deposit c =
-    let P : Ask → Type 0 = λ a. IfOk c.made_body.result (λ bytes. IsBodyOf c.args.no a c.args.matter.now bytes.items) in
-    subst P (sym c.in-Deposit.is) (IfOk-weaker c.made_body.result _ _ (λ bytes told rows sound part held whole. told rows sound part held) c.made_body.ensures)
+pub returns-in-OpenMatter : goal.returns-in-OpenMatter
+returns-in-OpenMatter c =
+    IfOk-weaker c.matter_body.result _ _ (λ bytes says rows caller day sound part held whole d.
+    let new = changed c.args.change.now rows in
+    let told : matter_body c.args.no new ≡ body_of c.args.no new c.args.ask.now = search rules in
+    says new d.change.sound (c.in_ok-apply-in-OpenMatter.ensures.ok rows sound part d.change) ∙ told) c.matter_body.ensures
 
-pub returns-in-Propose : goal.returns-in-Propose
-returns-in-Propose c =
-    let P : Ask → Type 0 = λ a. IfOk c.made_body-in-Propose.result (λ bytes. IsBodyOf c.args.no a c.args.matter.now bytes.items) in
-    subst P (sym c.in-Propose.is) (IfOk-weaker c.made_body-in-Propose.result _ _ (λ bytes told rows sound part held whole. told rows sound part held) c.made_body-in-Propose.ensures)
+pub returns-in-Purge : goal.returns-in-Purge
+returns-in-Purge c =
+    IfOk-weaker c.purge_body.result _ _ (λ bytes says rows caller day sound part held whole d.
+    let new = changed c.args.change.now rows in
+    says new (c.in_ok-apply-in-Purge.ensures.ok rows sound part d.change) ∙ sym (ap (body_of c.args.no new) c.in-Purge.is)) c.purge_body.ensures
 
-pub returns-in-EarnFee : goal.returns-in-EarnFee
-returns-in-EarnFee c =
-    let P : Ask → Type 0 = λ a. IfOk c.made_body-in-EarnFee.result (λ bytes. IsBodyOf c.args.no a c.args.matter.now bytes.items) in
-    subst P (sym c.in-EarnFee.is) (IfOk-weaker c.made_body-in-EarnFee.result _ _ (λ bytes told rows sound part held whole. told rows sound part held) c.made_body-in-EarnFee.ensures)
-
-pub returns-in-RaiseClaim : goal.returns-in-RaiseClaim
-returns-in-RaiseClaim c =
-    let P : Ask → Type 0 = λ a. IfOk c.made_body-in-RaiseClaim.result (λ bytes. IsBodyOf c.args.no a c.args.matter.now bytes.items) in
-    subst P (sym c.in-RaiseClaim.is) (IfOk-weaker c.made_body-in-RaiseClaim.result _ _ (λ bytes told rows sound part held whole. told rows sound part held) c.made_body-in-RaiseClaim.ensures)
-
-pub returns-in-CancelDeposit : goal.returns-in-CancelDeposit
-returns-in-CancelDeposit c =
-    let P : Ask → Type 0 = λ a. IfOk c.shown_body-in-CancelDeposit.result (λ bytes. IsBodyOf c.args.no a c.args.matter.now bytes.items) in
-    elim c.in-CancelDeposit.is [
-      | inl is ↦ subst P (sym is) (IfOk-weaker c.shown_body-in-CancelDeposit.result _ _ (λ bytes told rows sound part held whole. told rows sound part held) c.shown_body-in-CancelDeposit.ensures)
-      | inr (inl is) ↦ subst P (sym is) (IfOk-weaker c.shown_body-in-CancelDeposit.result _ _ (λ bytes told rows sound part held whole. told rows sound part held) c.shown_body-in-CancelDeposit.ensures)
-      | inr (inr (inl is)) ↦ subst P (sym is) (IfOk-weaker c.shown_body-in-CancelDeposit.result _ _ (λ bytes told rows sound part held whole. told rows sound part held) c.shown_body-in-CancelDeposit.ensures)
-      | inr (inr (inr (inl is))) ↦ subst P (sym is) (IfOk-weaker c.shown_body-in-CancelDeposit.result _ _ (λ bytes told rows sound part held whole. told rows sound part held) c.shown_body-in-CancelDeposit.ensures)
-      | inr (inr (inr (inr is))) ↦ subst P (sym is) (IfOk-weaker c.shown_body-in-CancelDeposit.result _ _ (λ bytes told rows sound part held whole. told rows sound part held) c.shown_body-in-CancelDeposit.ensures)
-    ]
-
-pub returns-in-Offer : goal.returns-in-Offer
-returns-in-Offer c =
-    let P : Ask → Type 0 = λ a. IfOk c.shown_body.result (λ bytes. IsBodyOf c.args.no a c.args.matter.now bytes.items) in
-    elim c.in-Offer.is [
-      | inl is ↦ subst P (sym is) (IfOk-weaker c.shown_body.result _ _ (λ bytes told rows sound part held whole. told rows sound part held) c.shown_body.ensures)
-      | inr (inl is) ↦ subst P (sym is) (IfOk-weaker c.shown_body.result _ _ (λ bytes told rows sound part held whole. told rows sound part held) c.shown_body.ensures)
-      | inr (inr is) ↦ subst P (sym is) (IfOk-weaker c.shown_body.result _ _ (λ bytes told rows sound part held whole. told rows sound part held) c.shown_body.ensures)
-    ]
+pub returns : goal.returns
+returns c =
+    let d = c.in_default in
+    let of = of-entry c.args.ask.now d.not-OpenMatter d.not-AddSeat d.not-DropSeat d.not-CloseMatter d.not-Purge d.not-Show d.not-Accounting in
+    IfOk-weaker c.entry_after.result _ _ (λ bytes is rows caller day sound part held whole decided.
+    is ∙ text-after c.args.no rows caller c.args.ask.now day c.args.change.now c.args.matter of part held decided) c.entry_after.ensures

@@ -1,12 +1,22 @@
-use Rattle.std.proofs.Common.{◌∙◌, ap}
-use Rattle.trust_desk.specs.Plan.{success_by}
-use Rattle.trust_desk.proofs.OfRows.{planned}
+use Rattle.std.proofs.Common.{◌≡◌, ◌∙◌, ap, rules, sym}
+use Rattle.trust_desk.specs.Plan.{status_of_edit}
+use Rattle.trust_desk.specs.Replies.{said}
+use Rattle.trust_desk.proofs.OfRows.{other-status, planned}
 use Rattle.trust_desk.proofs.planning.plan.Goals as goal
+use Rattle.trust_desk.proofs.planning.plan.Goals.{else-is_accounting, in-Open, in-Open-2, in_default, then-is_accounting}
 
 pub returns-clause-step : goal.returns-clause-step
 returns-clause-step c =
     λ rows sound part held whole.
-    planned c.args.no rows _ c.in_ok-change.change c.args.matter c.apply.new.self c.in_ok-text.text.items c.said.result c.success_of.result sound part held whole (c.in_ok-change.ensures rows sound part) c.in_ok-apply.ensures.ok c.in_ok-apply.ensures.held (c.in_ok-apply.ensures.whole rows sound) c.in_ok-text.ensures c.said.ensures.text (c.success_of.ensures ∙ ap (success_by c.args.ask.now) c.edit.ensures)
-
-pub returns-clause-plain : goal.returns-clause-plain
-returns-clause-plain c = c.said.ensures.plain
+    let text = c.in_ok-body_after.field-0.items in
+    let body : c.if-is_accounting.reply ≡ said c.args.ask.now text = elim c.if-is_accounting.branch [
+      | then-is_accounting w ↦ w.reply-is ∙ search rules
+      | else-is_accounting w ↦ w.reply-is ∙ search rules
+    ] in
+    let status : c.match-edit.reply ≡ status_of_edit c.edit.result.now = elim c.match-edit.branch [
+      | in-Open w ↦ search rules
+      | in-Open-2 w ↦ search rules
+      | in_default w ↦ w.reply-is ∙ sym (other-status c.edit.result.now w.in_default.not-Open w.in_default.not-Append)
+    ] in
+    planned c.args.no rows _ c.in_ok-change.change c.args.matter text c.if-is_accounting.reply c.match-edit.reply sound part held whole
+    (c.in_ok-change.ensures rows sound part) c.in_ok-body_after.ensures body (status ∙ ap status_of_edit c.edit.ensures)

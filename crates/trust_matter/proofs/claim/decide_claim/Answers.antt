@@ -10,5 +10,5 @@ changes : (on : Against) → changes_matter (rule_against on) ≡ true
 changes (against.General claimant) = refl
 changes (against.Fee k) = refl
 
-pub returns-in_err-check_change : goal.returns-in_err-check_change
-returns-in_err-check_change c = λ c'. rw (changes c.args.asked.now.against) (first_of (search rules, grind (arith, common_steps)))
+pub returns-in_err-check_change-clause-answer : goal.returns-in_err-check_change-clause-answer
+returns-in_err-check_change-clause-answer c = λ c'. rw (changes c.args.asked.now.against) (first_of (search rules, grind (arith, common_steps)))

@@ -1,4 +1,4 @@
-use Rattle.std.proofs.Common.{◌≤◌, length, arith, sym, subst}
+use Rattle.std.proofs.Common.{◌≤◌, length, arith}
 use Rattle.std.proofs.lemmas.Result.{on_ok_weaker}
 use Rattle.firm_rows.specs.Countable.{IsRowInRange, AreCountable, MOST_ROWS}
 use Rattle.trust_store.specs.Kept.{joined}

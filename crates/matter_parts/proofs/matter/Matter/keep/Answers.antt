@@ -10,6 +10,6 @@ invariant_of-self-2 c =
     let other = c.args.moves.other in
     record {
       figures = c.requires.figures;
-      lefts = subst P (sym (c.set_other.ensures ∙ ap (λ ks. other_written ks other) c.in_ok-put.ensures.ok))
+      lefts = subst P (sym (c.set_left.ensures ∙ ap (λ ks. other_written ks other) c.in_ok-put.ensures.ok))
           (small-after c.self.inside.kept _ other c.self.invariant.lefts c.requires.left c.requires.other);
     }

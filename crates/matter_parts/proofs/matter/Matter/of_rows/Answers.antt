@@ -25,12 +25,14 @@ returns-clause-sound c =
     let O : List Seat → Type 0 = AreInOrder in
     let form = subst P c.as_slice-2.ensures.value (c.are_in_form.ensures.0 c.if-not-are_in_form.false) in
     let order = subst O c.as_slice.ensures.value (c.are_in_order.ensures.0 c.if-not-are_in_order.false) in
-    let backed = backed-of c.args.head c.args.seats.items c.args.entries.now c.in-Some.figures c.in_ok-kept.kept c.if-entries.false form c.in-Some.ensures.available c.in_ok-kept.ensures.ok in
+    let kept = c.in_ok-kept.ensures.ok in
+    let backed = backed-of c.args.head c.args.seats.items c.args.entries.now c.in-Some.figures c.in_ok-kept.kept c.if-entries.false form c.in-Some.ensures.available kept.entries kept.numbered kept.own in
     sound-of c.args.head c.args.seats.items c.args.entries.now c.in-Some.figures order form backed (c.in-Some.ensures.some backed) (c.is_empty_if_closed.ensures.0 c.if-not-is_empty_if_closed.false)
 
 pub returns-clause-ok : goal.returns-clause-ok
 returns-clause-ok c =
     let P : List Seat → Type 0 = λ seats. AreInForm c.args.head seats c.args.entries.now in
     let form = subst P c.as_slice-2.ensures.value (c.are_in_form.ensures.0 c.if-not-are_in_form.false) in
-    let backed = backed-of c.args.head c.args.seats.items c.args.entries.now c.in-Some.figures c.in_ok-kept.kept c.if-entries.false form c.in-Some.ensures.available c.in_ok-kept.ensures.ok in
+    let kept = c.in_ok-kept.ensures.ok in
+    let backed = backed-of c.args.head c.args.seats.items c.args.entries.now c.in-Some.figures c.in_ok-kept.kept c.if-entries.false form c.in-Some.ensures.available kept.entries kept.numbered kept.own in
     made-whole c.made.result (rows-of c.args.head c.args.seats.items c.args.entries.now) c.in-Some.figures c.in_ok-kept.kept c.made.ensures (c.in-Some.ensures.some backed) c.in_ok-kept.ensures.ok

@@ -15,38 +15,16 @@ made-requires c =
       lefts = subst P (sym kept) (small-named m c.args.entry c.args.of (subst P own c.self.invariant.lefts));
     }
 
-pub returns-clause-is : goal.returns-clause-is
-returns-clause-is c =
+pub returns : goal.returns
+returns c =
     let m = c.args.self.now in
     let own : c.self.inside.kept ≡ m.kept = cc in
     let kept = named-kept m c.args.entry c.args.of c.named-named.result c.self.inside.kept c.in_ok-kept.kept c.named-named.ensures own c.in_ok-kept.ensures in
     let figures : c.self.inside.figures ≡ m.figures = cc in
     let e = named-made m c.made.result c.args.entry c.args.of c.in_ok-head.head c.in_ok-seats.seats.items c.self.inside.figures c.in_ok-kept.kept c.made.ensures (c.in_ok-head.ensures ∙ c.head.ensures) (c.in_ok-seats.ensures ∙ c.seats.ensures) figures kept in
-    e
-
-pub returns-clause-part : goal.returns-clause-part
-returns-clause-part c =
-    let m = c.args.self.now in
-    let own : c.self.inside.kept ≡ m.kept = cc in
-    let kept = named-kept m c.args.entry c.args.of c.named-named.result c.self.inside.kept c.in_ok-kept.kept c.named-named.ensures own c.in_ok-kept.ensures in
-    let figures : c.self.inside.figures ≡ m.figures = cc in
-    let e = named-made m c.made.result c.args.entry c.args.of c.in_ok-head.head c.in_ok-seats.seats.items c.self.inside.figures c.in_ok-kept.kept c.made.ensures (c.in_ok-head.ensures ∙ c.head.ensures) (c.in_ok-seats.ensures ∙ c.seats.ensures) figures kept in
-    λ rows p. part-named m c.made.result c.args.entry c.args.of rows e p
-
-pub returns-clause-held : goal.returns-clause-held
-returns-clause-held c =
-    let m = c.args.self.now in
-    let own : c.self.inside.kept ≡ m.kept = cc in
-    let kept = named-kept m c.args.entry c.args.of c.named-named.result c.self.inside.kept c.in_ok-kept.kept c.named-named.ensures own c.in_ok-kept.ensures in
-    let figures : c.self.inside.figures ≡ m.figures = cc in
-    let e = named-made m c.made.result c.args.entry c.args.of c.in_ok-head.head c.in_ok-seats.seats.items c.self.inside.figures c.in_ok-kept.kept c.made.ensures (c.in_ok-head.ensures ∙ c.head.ensures) (c.in_ok-seats.ensures ∙ c.seats.ensures) figures kept in
-    λ n named held. held-named m c.made.result c.args.entry c.args.of n e named held
-
-pub returns-clause-only : goal.returns-clause-only
-returns-clause-only c =
-    let m = c.args.self.now in
-    let own : c.self.inside.kept ≡ m.kept = cc in
-    let kept = named-kept m c.args.entry c.args.of c.named-named.result c.self.inside.kept c.in_ok-kept.kept c.named-named.ensures own c.in_ok-kept.ensures in
-    let figures : c.self.inside.figures ≡ m.figures = cc in
-    let e = named-made m c.made.result c.args.entry c.args.of c.in_ok-head.head c.in_ok-seats.seats.items c.self.inside.figures c.in_ok-kept.kept c.made.ensures (c.in_ok-head.ensures ∙ c.head.ensures) (c.in_ok-seats.ensures ∙ c.seats.ensures) figures kept in
-    λ n none. only-named m c.made.result c.args.entry c.args.of n e none
+    record {
+      is = e;
+      part = λ rows p. part-named m c.made.result c.args.entry c.args.of rows e p;
+      held = λ n named held. held-named m c.made.result c.args.entry c.args.of n e named held;
+      only = λ n none. only-named m c.made.result c.args.entry c.args.of n e none;
+    }

@@ -1,4 +1,4 @@
-use Rattle.std.proofs.Common.{◌≡◌, ◌≤◌, ◌-◌, ℕ, take, length, refl, arith}
+use Rattle.std.proofs.Common.{◌≤◌, ◌-◌, ℕ, take, length, refl, arith}
 use Rattle.std.proofs.lemmas.List.{length-take}
 use Rattle.trust_base.specs.declared.limits.TheConstants.{MAX_FILE_BYTES}
 use Rattle.statement_csv.proofs.LimitFacts.{given-end, given-more}

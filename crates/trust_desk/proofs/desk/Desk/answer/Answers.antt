@@ -1,40 +1,59 @@
-use Rattle.trust_desk.specs.Heard.{Asks}
-use Rattle.trust_desk.proofs.Own.{keeps-others, own-once}
-use Rattle.std.proofs.Common.{sym}
+use Rattle.std.proofs.Common.{◌≡◌, ◌∙◌, ap, refl, rules, subst, sym}
+use Rattle.trust_desk.specs.declared.requests.Reply.{Reply}
+use Rattle.trust_desk.specs.declared.requests.Request.{Request}
+use Rattle.trust_desk.specs.declared.requests.Request.TheVariants.{Import}
+use Rattle.trust_desk.specs.Answered.{IsAnswered}
+use Rattle.trust_desk.specs.Counts.{counted_reply}
+use Rattle.trust_desk.specs.FirmStep.{Steps}
+use Rattle.trust_desk.specs.Heard.{Asks, Heard, kind_of}
+use Rattle.trust_desk.specs.Replies.{is_fault_reply, reply_for}
+use Rattle.trust_desk.proofs.Answered.{answered-ask, answered-import, end-counted, end-fault}
+use Rattle.trust_desk.proofs.Calls.{kept-as}
 use Rattle.trust_desk.proofs.Crashes.{leave-as}
-use Rattle.trust_desk.proofs.MadeRows.{plain-step}
+use Rattle.trust_desk.proofs.Own.{keeps-others, own-once}
 use Rattle.trust_desk.proofs.desk.Desk.answer.Goals as goal
+use Rattle.trust_desk.proofs.desk.Desk.answer.Goals.{in-Dismiss, in-Exceptions, in-Import, in-Journal, in-Match, in-Matter, in-OwnLedger, in-Reconcile, in-Retention, in-Trial, in-Unmatched}
 
-pub returns-in-Matter-clause-step : goal.returns-in-Matter-clause-step
-returns-in-Matter-clause-step g c = λ clean stands. rw (c.in-Matter.is) (c.answer_ask.ensures.step clean stands)
+kind : {r s : Request} → r ≡ s → kind_of (Asks r) ≡ kind_of (Asks s)
+kind is = ap (λ (r : Request). kind_of (Asks r)) is
 
-pub returns-in-Matter-clause-others : goal.returns-in-Matter-clause-others
-returns-in-Matter-clause-others g c =
-    λ clean stands. keeps-others c.args.day (g.B.Book.firm c.args.self.now) (g.B.Book.firm c.answer_ask.new.self) (Asks c.args.request.now) c.answer_ask.result (rw (c.in-Matter.is) (c.answer_ask.ensures.step clean stands))
-
-pub returns-in-Matter-clause-own : goal.returns-in-Matter-clause-own
-returns-in-Matter-clause-own g c =
-    λ clean stands fine m. own-once m c.args.day (g.B.Book.firm c.args.self.now) (g.B.Book.firm c.answer_ask.new.self) (Asks c.args.request.now) c.answer_ask.result fine (rw (c.in-Matter.is) (c.answer_ask.ensures.step clean stands))
-
-pub returns-in-Import-clause-step : goal.returns-in-Import-clause-step
-returns-in-Import-clause-step g c = λ clean stands. rw (c.in-Import.is) (c.answer_import.ensures.step clean stands)
-
-pub returns-in-Import-clause-others : goal.returns-in-Import-clause-others
-returns-in-Import-clause-others g c =
-    λ clean stands. keeps-others c.args.day (g.B.Book.firm c.args.self.now) (g.B.Book.firm c.answer_import.new.self) (Asks c.args.request.now) c.answer_import.result (rw (c.in-Import.is) (c.answer_import.ensures.step clean stands))
-
-pub returns-in-Import-clause-own : goal.returns-in-Import-clause-own
-returns-in-Import-clause-own g c =
-    λ clean stands fine m. own-once m c.args.day (g.B.Book.firm c.args.self.now) (g.B.Book.firm c.answer_import.new.self) (Asks c.args.request.now) c.answer_import.result fine (rw (c.in-Import.is) (c.answer_import.ensures.step clean stands))
-
-pub returns-in-Matter-clause-crash : goal.returns-in-Matter-clause-crash
-returns-in-Matter-clause-crash g c = λ sure stands served. rw (c.in-Matter.is) (c.answer_ask.ensures.crash sure stands)
-
-pub returns-in-Import-clause-crash : goal.returns-in-Import-clause-crash
-returns-in-Import-clause-crash g c =
-    λ sure stands served.
-    let firm = g.B.Book.firm in
-    let clean = served (rw (c.in-Import.is) tt) in
-    let call = c.answer_import.ensures in
-    let made = call.crash sure clean stands in
-    rw (c.in-Import.is) (leave-as (λ fine. fine) (λ found is. is) (λ fine. sym (plain-step c.args.day (firm c.args.self.now) (firm c.answer_import.new.self) _ c.answer_import.result fine (call.step (made.serves clean fine) stands))) made)
+pub returns : goal.returns
+returns g c =
+    let B = g.B.Book in
+    let firm = B.firm in
+    let day = c.args.day in
+    let h = Asks c.args.request.now in
+    let old = c.args.self.now in
+    let new = c.match-request.self in
+    let answered = c.match-request.answered in
+    let is : IsAnswered B.firm B.clean B.sure B.stands B.lasts B.leaves B.refusals day h answered old new = elim c.match-request.branch [
+      | in-Matter w ↦
+          let call = w.answer_ask-answered.ensures in
+          rw (w.self-is, w.answered-is) (answered-ask day h _ _ _ w.answer_ask-answered.result (kind w.in-Matter.is) call.end call.ok call.kept call.crash)
+      | in-Import w ↦
+          let call = w.answer_import-answered.ensures in
+          let sent = Asks (Import w.in-Import.caller w.as_slice.result.now) in
+          let same : sent ≡ h = ap (λ bytes. Asks (Import w.in-Import.caller bytes)) w.as_slice.ensures ∙ sym (ap (λ (r : Request). Asks r) w.in-Import.is) in
+          rw (w.self-is, w.answered-is)
+          (subst (λ (x : Heard). IsAnswered B.firm B.clean B.sure B.stands B.lasts B.leaves B.refusals day x w.answer_import-answered.result old w.answer_import-answered.new.self) same
+          (answered-import day sent w.answer_import-answered.result tt call.step call.ok call.kept call.crash))
+      | in-Dismiss w ↦ rw (w.self-is, w.answered-is) (w.answer_dismiss-answered.ensures day h (kind w.in-Dismiss.is))
+      | in-Match w ↦ rw (w.self-is, w.answered-is) (w.answer_match-answered.ensures h (kind w.in-Match.is))
+      | in-Unmatched w ↦ rw (w.self-is, w.answered-is) (w.answer_match-answered-in-Unmatched.ensures h (kind w.in-Unmatched.is))
+      | in-Exceptions w ↦ rw (w.self-is, w.answered-is) (w.answer_told-answered.ensures h (kind w.in-Exceptions.is))
+      | in-Trial w ↦ rw (w.self-is, w.answered-is) (w.answer_told-answered-in-Trial.ensures h (kind w.in-Trial.is))
+      | in-Journal w ↦ rw (w.self-is, w.answered-is) (w.answer_told-answered-in-Journal.ensures h (kind w.in-Journal.is))
+      | in-Reconcile w ↦ rw (w.self-is, w.answered-is) (w.answer_told-answered-in-Reconcile.ensures h (kind w.in-Reconcile.is))
+      | in-Retention w ↦ rw (w.self-is, w.answered-is) (w.answer_told-answered-in-Retention.ensures h (kind w.in-Retention.is))
+      | in-OwnLedger w ↦ rw (w.self-is, w.answered-is) (w.answer_told-answered-in-OwnLedger.ensures h (kind w.in-OwnLedger.is))
+    ] in
+    let says : c.unwrap_or_else.result ≡ reply_for answered = search rules in
+    let step = λ (clean : B.clean new) (stands : B.stands old). subst (λ (reply : Reply). Steps day (firm old) h reply (firm new)) (sym says) (is.step clean stands) in
+    record {
+      step = step;
+      others = λ clean stands. keeps-others day (firm old) (firm new) h c.unwrap_or_else.result (step clean stands);
+      own = λ clean stands fine m. own-once m day (firm old) (firm new) h c.unwrap_or_else.result fine (step clean stands);
+      kept = kept-as (λ sure stands. end-counted answered is.plain (B.refusals old) ∙ ap (λ reply. counted_reply reply (B.refusals old)) (sym says)) is.kept;
+      crash = λ sure stands before.
+          leave-as (λ fine. end-fault answered (ap is_fault_reply (sym says) ∙ fine)) (λ found made. made) (λ fine. refl) (is.crash sure stands before);
+    }

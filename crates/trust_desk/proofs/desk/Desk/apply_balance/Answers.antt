@@ -1,14 +1,13 @@
-use Rattle.std.proofs.Common.{◌≡◌, ◌∙◌, ap, sym, subst, true}
+use Rattle.std.proofs.Common.{◌∙◌, Err, Ok, ap, sym, subst}
+use Rattle.std.proofs.lemmas.Result.{err_from_is_err_and}
 use Rattle.firm_rows.specs.declared.ledger.Verdict.{Verdict}
-use Rattle.firm_rows.specs.Firm.{Firm, of}
+use Rattle.firm_rows.specs.Firm.{Firm}
 use Rattle.firm_rows.specs.FirmChange.{after, by_balance}
 use Rattle.firm_rows.specs.FirmLines.{balance_verdict, kept_balance}
-use Rattle.trust_desk.specs.Calls.{KeepsBook}
-use Rattle.trust_desk.specs.ItemStep.{counted_by, balance_on, after_balance}
-use Rattle.trust_desk.proofs.Calls.{read-kept, write-kept, kept-then}
-use Rattle.trust_desk.proofs.OwnItems.{of-balance}
-use Rattle.trust_desk.specs.Crashes.{MayLeaveChange}
-use Rattle.trust_desk.proofs.Crashes.{written-leaves}
+use Rattle.trust_desk.specs.Applied.{IsItemApplied}
+use Rattle.trust_desk.specs.ItemStep.{balance_item, counted_by}
+use Rattle.trust_desk.proofs.ItemsApplied.{item-unwritten, item-written}
+use Rattle.trust_desk.proofs.OnceBank.{after-balance, counted-balance}
 use Rattle.trust_desk.proofs.desk.Desk.apply_balance.Goals as goal
 
 pub write_balance-requires : goal.write_balance-requires
@@ -18,48 +17,41 @@ write_balance-requires g c =
     let stood = found.read.stood clean stands in
     (c.args.day, (c.decide_balance-verdict.ensures ∙ ap (λ k. balance_verdict k c.args.line.now c.args.day) (found.found clean stood)) ∙ ap (λ (f : Firm). balance_verdict (kept_balance c.args.kind c.args.line.now.date f.balances) c.args.line.now c.args.day) (sym (found.read.same clean stood)))
 
-pub returns-clause-step : goal.returns-clause-step
-returns-clause-step g c =
-    λ clean stands.
+pub returns : goal.returns
+returns g c =
     let B = g.B.Book in
-    let firm = g.B.Book.firm in
-    let v = c.decide_balance-verdict.result in
-    let found = c.in_ok-kept.ensures in
-    let write = c.in_ok-write_balance.ensures.written in
-    let read = write.was_clean clean in
-    let book = ap firm c.self.view_is in
-    let stood = subst (B.stands) (sym c.self.view_is) stands in
-    let is : v ≡ balance_on (firm c.args.self.now) c.args.kind c.args.line.now c.args.day = (c.decide_balance-verdict.ensures ∙ ap (λ k. balance_verdict k c.args.line.now c.args.day) (found.found read stood)) ∙ ap (λ (f : Firm). balance_verdict (kept_balance c.args.kind c.args.line.now.date f.balances) c.args.line.now c.args.day) book in
-    let written = write.ok clean (found.read.still_stands read stood) ∙ ap (after (by_balance c.args.kind c.args.line.now v)) (found.read.same read stood ∙ book) in
-    (c.counted_by.ensures ∙ ap counted_by is, written ∙ ap (λ (x : Verdict). after (by_balance c.args.kind c.args.line.now x) (firm c.args.self.now)) is)
-
-pub returns-clause-others : goal.returns-clause-others
-returns-clause-others g c =
-    λ clean stands m.
-    let B = g.B.Book in
-    let firm = g.B.Book.firm in
-    let v = c.decide_balance-verdict.result in
-    let found = c.in_ok-kept.ensures in
-    let write = c.in_ok-write_balance.ensures.written in
-    let read = write.was_clean clean in
-    let stood = subst (B.stands) (sym c.self.view_is) stands in
-    let written = write.ok clean (found.read.still_stands read stood) ∙ ap (after (by_balance c.args.kind c.args.line.now v)) (found.read.same read stood ∙ ap firm c.self.view_is) in
-    ap (of m) written ∙ of-balance m c.args.kind c.args.line.now v (firm c.args.self.now)
-
-pub returns-clause-kept : goal.returns-clause-kept
-returns-clause-kept g c =
-    let B = g.B.Book in
-    subst (λ b. KeepsBook (B.clean) (B.sure) (B.stands) (B.lasts) (B.refusals) (λ n. n) b c.write_balance.new.self) c.self.view_is
-    (kept-then (read-kept c.in_ok-kept.ensures.read) (write-kept c.in_ok-write_balance.ensures.written))
-
-pub returns-clause-crash : goal.returns-clause-crash
-returns-clause-crash g c =
-    λ sure stands.
-    let B = g.B.Book in
-    let firm = g.B.Book.firm in
+    let firm = B.firm in
     let line = c.args.line.now in
+    let k = c.args.kind in
+    let day = c.args.day in
+    let book = c.self.inside.book in
+    let v = c.decide_balance-verdict.result in
     let found = c.in_ok-kept.ensures in
-    let stood = subst (B.stands) (sym c.self.view_is) stands in
-    let is = λ (served : B.clean c.balance.new.self). ap (λ (x : Verdict). after (by_balance c.args.kind line x) (firm c.self.inside.book)) (c.decide_balance-verdict.ensures ∙ ap (λ k. balance_verdict k line c.args.day) (found.found served stood)) in
-    subst (λ b. MayLeaveChange (B.clean) (B.leaves) (true ≡ true) (firm b) (after_balance c.args.kind line c.args.day (firm b)) b c.write_balance.new.self) c.self.view_is
-    (written-leaves found.read c.in_ok-write_balance.ensures.written is sure stood)
+    let is = λ (served : B.clean c.balance.new.self) (stood : B.stands book). c.decide_balance-verdict.ensures ∙ ap (λ x. balance_verdict x line day) (found.found served stood) in
+    subst (λ b. IsItemApplied B.firm B.clean B.sure B.stands B.lasts B.leaves B.refusals day (balance_item k line) (Ok c.counted_by.result) b c.write_balance.new.self) c.self.view_is
+    (item-written day (balance_item k line) c.counted_by.result found.read c.in_ok-write_balance.ensures.written
+    (λ served stood. (
+      c.counted_by.ensures ∙ (ap counted_by (is served stood) ∙ sym (counted-balance k day (firm book) line)),
+      ap (λ (x : Verdict). after (by_balance k line x) (firm book)) (is served stood) ∙ sym (after-balance k day (firm book) line),
+    )))
+
+pub returns-in_err-write_balance : goal.returns-in_err-write_balance
+returns-in_err-write_balance g c =
+    let B = g.B.Book in
+    let firm = B.firm in
+    let line = c.args.line.now in
+    let k = c.args.kind in
+    let day = c.args.day in
+    let book = c.self.inside.book in
+    let v = c.decide_balance-verdict.result in
+    let found = c.in_ok-kept.ensures in
+    let fault = c.in_err-write_balance.field-0.0 in
+    let is = λ (served : B.clean c.balance.new.self) (stood : B.stands book). c.decide_balance-verdict.ensures ∙ ap (λ x. balance_verdict x line day) (found.found served stood) in
+    let p = err_from_is_err_and c.from_residual-in_err-write_balance.result c.from_residual-in_err-write_balance.ensures.1 in
+    rw (p.1, p.2)
+    (subst (λ b. IsItemApplied B.firm B.clean B.sure B.stands B.lasts B.leaves B.refusals day (balance_item k line) (Err fault) b c.write_balance.new.self) c.self.view_is
+    (item-unwritten day (balance_item k line) (counted_by v) fault found.read c.in_err-write_balance.ensures.written
+    (λ served stood. (
+      ap counted_by (is served stood) ∙ sym (counted-balance k day (firm book) line),
+      ap (λ (x : Verdict). after (by_balance k line x) (firm book)) (is served stood) ∙ sym (after-balance k day (firm book) line),
+    ))))

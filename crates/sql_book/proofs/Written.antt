@@ -1,0 +1,170 @@
+-- What the call that writes a script leaves is a write of the book, if the change of the script fits.
+use Rattle.std.proofs.Common.{◌≡◌, ◌≢◌, ◌⊎◌, inl, inr, ℕ, List, [], map, Result, Ok, Err, OnOk, OnErr, IsTrue, refl, sym, ap, subst, ◌∙◌}
+use Rattle.std.proofs.lemmas.Result.{on_ok_weaker, on_err_weaker}
+use Rattle.sqlite_trees.specs.declared.store.Store.{Ghosts}
+use Rattle.sqlite_trees.specs.Tree.{Trees}
+use Rattle.sqlite.specs.Effect.{Database, IsDatabase}
+use Rattle.sqlite.specs.Held.{Held, state}
+use Rattle.sqlite.specs.State.{State, HasCleanDisk}
+use Rattle.trust_base.specs.declared.refusal.StoreFault.{StoreFault}
+use Rattle.firm_rows.specs.Firm.{Firm}
+use Rattle.firm_rows.specs.FirmChange.{FirmChange, FitsFirm, after}
+use Rattle.trust_store.specs.Books.{counted}
+use Rattle.trust_store.specs.Crashes.{LeavesAlone}
+use Rattle.sql_schema.specs.declared.layout.Layout.{Layout}
+use Rattle.sql_tables.specs.declared.statements.Statement.{Statement}
+use Rattle.sql_tables.specs.Lists.{lists_in}
+use Rattle.sql_tables.specs.Reading.{LeavesOnly}
+use Rattle.sql_tables.specs.Script.{IsSettled, Written}
+use Rattle.sql_tables.specs.Standing.{Stands}
+use Rattle.sql_rows.specs.Scripts.{IsTyped, IsScriptMeant}
+use Rattle.sql_rows.specs.Standing.{StandsSound, firm_in}
+use Rattle.sql_rows.specs.Steps.{step_of, steps_of, AreMade}
+use Rattle.sql_book.specs.Books.{HeldBook, firm_of, MayLeave}
+use Rattle.sql_book.specs.Writes.{IsBookWrite, FitsBook}
+use Rattle.sql_book.proofs.Scripts.{made_of_steps, keyed}
+
+both_ok : {T E P Q R : Type 0} (r : Result T E) → OnOk r P → OnOk r Q → (P → Q → R) → OnOk r R
+both_ok (Ok x) p q f = f p q
+both_ok (Err e) p q f = tt
+
+either_way : {T E P Q R : Type 0} (r : Result T E) → OnOk r P → OnErr r Q → (P → R) → (Q → R) → R
+either_way (Ok x) p q f g = f p
+either_way (Err e) p q f g = g q
+
+-- the second tables stand for the firm of the first after the change, and their database lists what it holds
+record StandsAfter (l : Layout) (change : FirmChange) (db next : Database) : Type 0 where
+  firm : firm_in l next.trees ≡ after change (firm_in l db.trees)
+  stands : StandsSound l next
+  listed : IsDatabase next
+
+-- what was written of a change that fits stands for the firm after it
+stands_after : (l : Layout) (change : FirmChange) (script : List Statement) (db next : Database)
+    → IsScriptMeant change → IsTyped change → map step_of script ≡ steps_of change
+    → StandsSound l db → FitsFirm (firm_in l db.trees) change → script ≢ [] → Written l script db next
+    → StandsAfter l change db next
+stands_after l change script db next meant typed is stands fits some written =
+    let a = lists_in l db.trees in
+    let b = lists_in l next.trees in
+    let steps = subst (λ s. AreMade s a b) is (made_of_steps script a b written.steps) in
+    let after = meant a b stands.rows (keyed l next written.stands) typed fits steps in
+    record {
+      firm = after.0;
+      stands = record { tables = written.stands; rows = after.1 };
+      listed = written.listed some;
+    }
+
+-- what the call that writes a script leaves
+pub record Wrote (script : List Statement) (result : Result Unit StoreFault) (old new : State) : Type 0 where
+  pub written : (l : Layout) → HasCleanDisk new → Stands l old.now → OnOk result (Written l script old.now new.now)
+  pub settled : HasCleanDisk new → OnOk result (IsSettled new)
+  pub serves : HasCleanDisk new → OnOk result (IsTrue new.is_open)
+  pub was_open : HasCleanDisk new → IsTrue new.is_open → IsTrue old.is_open
+  pub none : HasCleanDisk new → IsTrue new.is_open
+      → OnErr result ((new.now ≡ old.now) × (new.committed ≡ old.committed))
+  pub was_clean : HasCleanDisk new → HasCleanDisk old
+  pub opened : HasCleanDisk new → script ≢ [] → LeavesOnly old new (λ _. IsTrue old.is_open)
+  pub crash : (l : Layout) → HasCleanDisk new → Stands l old.now
+      → LeavesOnly old new (λ trees. (db : Database) × Written l script old.now db × (trees ≡ db.trees))
+
+-- a book that holds this
+abbrev pub holding : {S : Type 0} → Held S → Layout → ℕ → HeldBook S
+holding conn layout refusals = record { conn = conn; layout = layout; refusals = refusals }
+
+module _ {S : Type 0} (g : Ghosts S) (l : Layout) (before now : Held S) (few many : ℕ) (change : FirmChange)
+    (script : List Statement) (some : script ≢ []) (meant : IsScriptMeant change) (typed : IsTyped change)
+    (is : map step_of script ≡ steps_of change) (result : Result Unit StoreFault)
+    (w : Wrote script result (state g before) (state g now)) (count : many ≡ counted result few)
+    (fits : FitsBook g change (holding before l few)) where
+  abbrev s : State
+  s = state g before
+
+  abbrev t : State
+  t = state g now
+
+  left : HasCleanDisk t → StandsSound l s.now → IsTrue s.is_open → (db : Database) → Written l script s.now db
+      → StandsAfter l change s.now db
+  left clean stands served db written =
+      stands_after l change script s.now db meant typed is stands (fits (w.was_clean clean, served) stands) some written
+
+  -- a connection that answered served before
+  made : HasCleanDisk t → StandsSound l s.now → OnOk result (StandsAfter l change s.now t.now)
+  made clean stands =
+      both_ok result (on_ok_weaker result (w.was_open clean) (w.serves clean)) (w.written l clean stands.tables)
+      (λ served written. left clean stands served t.now written)
+
+  may_be : HasCleanDisk t → StandsSound l s.now → (trees : Trees) → t.may_leave trees
+      → s.may_leave trees ⊎ ((db : Database) × StandsAfter l change s.now db × (trees ≡ db.trees))
+  may_be clean stands trees may = elim (w.opened clean some trees may) [
+    | inl before ↦ inl before
+    | inr served ↦ elim (w.crash l clean stands.tables trees may) [
+      | inl before ↦ inl before
+      | inr it ↦ inr (it.0, left clean stands served it.0 it.1, it.2)
+    ]
+  ]
+
+  is_write : IsBookWrite g change result (holding before l few) (holding now l many)
+  is_write = record {
+    ok = λ serves stands. on_ok_weaker result (λ m. m.firm) (made serves.0 stands);
+    err = λ serves stands.
+        on_err_weaker result (λ same. ap (λ (db : Database). firm_in l db.trees) same.0) (w.none serves.0 serves.1);
+    was_clean = λ serves. (w.was_clean serves.0, w.was_open serves.0 serves.1);
+    was_sure = w.was_clean;
+    still_stands = λ serves stands.
+        either_way result (made serves.0 stands) (w.none serves.0 serves.1) (λ m. m.stands)
+        (λ same. subst (StandsSound l) (sym same.0) stands);
+    still_lasts = λ clean stands lasts trees may. elim (w.opened clean some trees may) [
+      | inl before ↦ lasts trees before
+      | inr served ↦ elim (may_be clean (stands (w.was_clean clean, served)) trees may) [
+        | inl before ↦ lasts trees before
+        | inr it ↦ record { db = it.0; left = it.2; listed = it.1.listed; stands = it.1.stands }
+      ]
+    ];
+    serves = λ clean _. on_ok_weaker result (λ served. (clean, served)) (w.serves clean);
+    crash = λ clean stands found left. elim (may_be clean stands left.0 left.1) [
+      | inl before ↦ inl (left.0, before, left.2)
+      | inr it ↦ inr (left.2 ∙ ap (firm_in l) it.2 ∙ it.1.firm)
+    ];
+    settled = λ clean stands.
+        both_ok result (w.settled clean) (made clean stands)
+        (λ alone m _ found left. left.2 ∙ ap (firm_in l) (alone.1 left.0 left.1) ∙ m.firm);
+    count = count;
+  }
+
+-- the same of a book that is seen to hold the connection
+pub wrote : {S : Type 0} (g : Ghosts S) (l : Layout) (before now : Held S) (few many : ℕ) (change : FirmChange)
+    (script : List Statement) → script ≢ [] → IsScriptMeant change → IsTyped change → map step_of script ≡ steps_of change
+    → (result : Result Unit StoreFault) → Wrote script result (state g before) (state g now) → many ≡ counted result few
+    → (old : HeldBook S) → holding before l few ≡ old → FitsBook g change old
+    → IsBookWrite g change result old (holding now l many)
+wrote g l before now few many change script some meant typed is result w count old held fits =
+    subst (λ b. FitsBook g change b → IsBookWrite g change result b (holding now l many)) held
+    (is_write g l before now few many change script some meant typed is result w count) fits
+
+-- What holds of every answer.
+
+ok_always : {T E P : Type 0} (r : Result T E) → P → OnOk r P
+ok_always (Ok x) p = p
+ok_always (Err e) p = tt
+
+err_always : {T E P : Type 0} (r : Result T E) → P → OnErr r P
+err_always (Ok x) p = tt
+err_always (Err e) p = p
+
+-- a book that was not written is as it was, if the call failed or its change leaves every firm as it is
+pub no_write : {S T : Type 0} (g : Ghosts S) (change : FirmChange) (r : Result T StoreFault) (b : HeldBook S)
+    → b.refusals ≡ counted r b.refusals → OnOk r ((firm : Firm) → after change firm ≡ firm)
+    → IsBookWrite g change r b b
+no_write g change r b count same = record {
+  ok = λ _ _. on_ok_weaker r (λ all. sym (all (firm_of g b))) same;
+  err = λ _ _. err_always r refl;
+  was_clean = λ clean. clean;
+  was_sure = λ sure. sure;
+  still_stands = λ _ stands. stands;
+  still_lasts = λ _ _ lasts. lasts;
+  serves = λ _ clean. ok_always r clean;
+  crash = λ _ _ found left. inl left;
+  settled = λ _ _.
+      on_ok_weaker r (λ all alone. subst (λ firm. LeavesAlone firm (MayLeave g b)) (sym (all (firm_of g b))) alone) same;
+  count = count;
+}

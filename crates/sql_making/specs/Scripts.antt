@@ -1,0 +1,17 @@
+-- What the scripts that make a book's tables make of a database.
+use Rattle.std.specs.Prelude.{◌≡◌}
+use Rattle.sqlite_trees.specs.Tree.{Trees}
+use Rattle.sqlite.specs.Effect.{Database}
+use Rattle.sql_making.specs.declared.scripts.Script.{Script}
+use Rattle.sql_making.specs.declared.scripts.Script.TheVariants.{Create, Move}
+use Rattle.sql_making.specs.Books.{no_schema, IsNewBook, AreNewBook}
+use Rattle.sql_making.specs.Then.{IsOldBook, IsMoved, AreMoved}
+
+abbrev pub Makes : Script → Database → Database → Type 0
+Makes Create old new = old.schema ≡ no_schema → IsNewBook new
+Makes Move old new = IsOldBook old → IsMoved old new
+
+-- the same for the trees alone, since what a crash may leave is given as trees
+abbrev pub MayMake : Script → Database → Trees → Type 0
+MayMake Create old trees = old.schema ≡ no_schema → AreNewBook trees
+MayMake Move old trees = IsOldBook old → AreMoved old trees

@@ -1,0 +1,38 @@
+-- The seats and the entries of one matter, as a sink was handed them.
+use Rattle.std.proofs.Common.{◌≡◌, ℕ, ℤ, pos, [], ◌∷◌, map, Result, ap, subst, ◌∙◌}
+use Rattle.sqlite_value.specs.declared.value.Value.TheVariants.{Int}
+use Rattle.sqlite.specs.State.{State}
+use Rattle.firm_rows.specs.Firm.{Row, SeatRow, EntryRow}
+use Rattle.sql_schema.specs.declared.layout.Layout.{Layout}
+use Rattle.sql_tables.specs.Lists.{lists_in}
+use Rattle.sql_tables.specs.Rows.{entries_in, entries_of, numbered_shown, seats_in, seats_of, seat_shown}
+use Rattle.sql_tables.specs.Standing.{Stands}
+use Rattle.sql_tables.specs.Texts.{entries_read_text, seats_read_text}
+use Rattle.sql_tables.proofs.Means.{entries_read_asks, seats_read_asks}
+use Rattle.sql_tables.proofs.ReadLemmas.{entries_read_answer, seats_read_answer}
+use Rattle.sql_reads.specs.Fed.{AreCounted, IsFed}
+use Rattle.sql_reads.specs.Shown.{entry_rows, kept_at, seat_at, seat_rows}
+use Rattle.sql_reads.proofs.Answer.{fed_counted}
+use Rattle.sql_reads.proofs.Fed.{counted_mapped}
+use Rattle.sql_reads.proofs.Shown.{entries_shown, seats_shown}
+
+module _ {K : Type 0} (step : K → ℕ × Row → K) (l : Layout) (old new : State) (stands : Stands l old.now) (m : ℕ) (z : ℤ) (own : z ≡ pos m) {E : Type 0} (r : Result ℕ E) (before after : K) where
+  pub seats_fed : IsFed (λ sink row. step sink (m, SeatRow (seat_at m row))) (λ _. Unit {0}) seats_read_text (Int z ∷ []) old new r before after
+      → AreCounted step (seat_rows (lists_in l old.now.trees) m) r before after
+  seats_fed fed =
+      let seats = seats_of (pos m) (seats_in l old.now.trees) in
+      let same = ap (λ (n : ℤ). map seat_shown (seats_of n (seats_in l old.now.trees))) own in
+      let counted = fed_counted (seats_read_asks l) (Int z ∷ []) old new stands.schema (map seat_shown seats)
+      (λ found a. seats_read_answer l old.now z stands found a ∙ same) _ _ r before after fed in
+      subst (λ rows. AreCounted step rows r before after) (seats_shown m seats)
+      (counted_mapped step (λ row. (m, SeatRow (seat_at m row))) (map seat_shown seats) r before after counted)
+
+  pub entries_fed : IsFed (λ sink row. step sink (m, EntryRow (kept_at m row).number (kept_at m row).entry)) (λ _. Unit {0}) entries_read_text (Int z ∷ []) old new r before after
+      → AreCounted step (entry_rows (lists_in l old.now.trees) m) r before after
+  entries_fed fed =
+      let entries = entries_of (pos m) (entries_in l old.now.trees) in
+      let same = ap (λ (n : ℤ). map numbered_shown (entries_of n (entries_in l old.now.trees))) own in
+      let counted = fed_counted (entries_read_asks l) (Int z ∷ []) old new stands.schema (map numbered_shown entries)
+      (λ found a. entries_read_answer l old.now z stands found a ∙ same) _ _ r before after fed in
+      subst (λ rows. AreCounted step rows r before after) (entries_shown m entries)
+      (counted_mapped step (λ row. (m, EntryRow (kept_at m row).number (kept_at m row).entry)) (map numbered_shown entries) r before after counted)

@@ -1,0 +1,17 @@
+use Rattle.std.proofs.Common.{[], ◌∙◌}
+use Rattle.std.proofs.lemmas.Result.{IfOk-weaker}
+use Rattle.sqlite.specs.Held.{state}
+use Rattle.sql_tables.specs.Rows.{firm_lines_in}
+use Rattle.sql_tables.proofs.Calls.{answers}
+use Rattle.sql_tables.proofs.Means.{firm_scan_asks, firm_scan_selects}
+use Rattle.sql_tables.proofs.ReadLemmas.{firm_scan_answer}
+use Rattle.sql_reads.proofs.ledger.firm_ledger.Goals as goal
+
+pub rows_of-requires-clause-select : goal.rows_of-requires-clause-select
+rows_of-requires-clause-select g c = firm_scan_selects
+
+pub returns-clause-found : goal.returns-clause-found
+returns-clause-found g c l clean stands =
+    let s0 = state g.S.Store c.args.conn.now in
+    let shown = firm_scan_answer l s0.now stands.tables _ (answers (firm_scan_asks l) [] s0 (state g.S.Store c.rows_of.new.conn) stands.tables.schema _ (c.in_ok-rows.ensures.shown clean)) in
+    IfOk-weaker c.ledger_of.result _ _ (λ ledger is. is (firm_lines_in l s0.now.trees) (c.deref.ensures.value ∙ shown)) c.ledger_of.ensures
