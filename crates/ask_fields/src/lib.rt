@@ -6,14 +6,9 @@
 //! accepts it. Fields that may be missing, such as `of` and `claimant`, are `Option`.
 #![tactic(auto)]
 
-mod claim;
-mod deposit;
-mod entry;
-mod payment;
-mod seat;
+mod asks;
 
-pub use claim::{ClaimTexts, read_claiming, read_earning, read_split};
-pub use deposit::read_depositing;
-pub use entry::{read_cancelling, read_showing};
-pub use payment::{PaymentTexts, read_proposing};
-pub use seat::{read_dropping, read_opening, read_seating};
+pub use asks::{
+    ClaimTexts, PaymentTexts, read_cancelling, read_claiming, read_depositing, read_dropping,
+    read_earning, read_opening, read_proposing, read_seating, read_showing, read_split,
+};

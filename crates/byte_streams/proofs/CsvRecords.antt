@@ -1,12 +1,7 @@
 -- The next record of those that a CSV reader has still to give.
-use Rattle.std.proofs.Common.{◌≡◌, ◌<◌, ◌+◌, ℕ, zero, suc, List, [], ◌∷◌, ◌++◌, length, Option, Some, None, refl, sym, ap, ◌∙◌, arith, inl, inr, ◌⊎◌, add-one}
-use Rattle.std.proofs.lemmas.Bool.{cases_Bool}
-use Rattle.csv.specs.Machine.{Read, ends_at_end, field_after, fields_after, is_end, next_record, step}
-use Rattle.csv.specs.Reading.{Reached, default_config, records_from, records_next}
-use Rattle.csv.specs.declared.parser.State.{State}
+use Rattle.byte_streams.proofs.Names.{◌≡◌, ◌<◌, ◌+◌, ℕ, zero, suc, List, [], ◌∷◌, ◌++◌, length, Option, Some, None, refl, sym, ap, ◌∙◌, arith, inl, inr, ◌⊎◌, add-one, cases_Bool, Read, ends_at_end, field_after, fields_after, is_end, next_record, step, Reached, default_config, records_from, records_next, State, rest_records}
 use Rattle.csv.specs.declared.parser.Config.{Config}
 use Rattle.csv.specs.declared.parser.State.TheVariants as st
-use Rattle.byte_streams.specs.CsvRecords.{rest_records}
 
 same_read : (q p : Read) → Some q ≡ Some p → q ≡ p
 same_read q p e = cc

@@ -1,12 +1,8 @@
 -- Numbers of a fixed count of digits.
-use Rattle.std.proofs.Common.{◌≡◌, ℕ, zero, suc, ◌≤◌, ◌<◌, ◌+◌, ◌*◌, ◌-◌, ◌/◌, ◌%◌, ◌^◌, List, [], ◌∷◌, ◌++◌, length, take, get_or, refl, sym, ap, ◌∙◌, arith, length-append, inl, inr, ◌⊎◌, add-zero, add-suc}
+use Rattle.byte_streams.proofs.Names.{◌≡◌, ℕ, zero, suc, ◌≤◌, ◌<◌, ◌+◌, ◌*◌, ◌-◌, ◌/◌, ◌%◌, ◌^◌, List, [], ◌∷◌, ◌++◌, length, take, get_or, refl, sym, ap, ◌∙◌, arith, length-append, inl, inr, ◌⊎◌, add-zero, add-suc, get_or-append_seam, take-append_seam, take-suc, pow-suc, cases_lt, fixed_digits}
 use Rattle.std.proofs.Math.ListN.{get_or-append}
-use Rattle.std.proofs.Math.Seq.{get_or-append_seam, take-append_seam, take-suc}
-use Rattle.std.proofs.Math.Nat.{pow-suc}
-use Rattle.std.proofs.lemmas.Bool.{cases_lt}
 use Rattle.std.specs.Fmt.{decimal}
 use Rattle.std.proofs.lemmas.Fmt.{decimal_digit}
-use Rattle.byte_streams.specs.Digits.{fixed_digits}
 
 pub length-fixed : (k n : ℕ) → length (fixed_digits k n) ≡ k
 unfolding fixed_digits

@@ -1,3 +1,4 @@
 pub mod CsvFronts
 pub mod CsvRecords
 pub mod FixedFacts
+mod Names

@@ -1,12 +1,6 @@
 -- What one run over a desk after another leaves of its book.
-use Rattle.std.proofs.Common.{◌≡◌, ◌≢◌, ℕ, List, inl, inr, refl}
-use Rattle.clap.specs.Words.{Text}
-use Rattle.portal_http.specs.ServedAll.{KeepsStanding}
+use Rattle.cashier.proofs.Names.{◌≡◌, ℕ, refl, KeepsStanding, IsSame, LeavesBook}
 use Rattle.trust_desk.specs.Calls.{KeepsBook}
-use Rattle.command_line.specs.Program.{MeansCheck}
-use Rattle.cashier.specs.Calls.{CountsStore, CountsStoreIn, IsAny, IsSame, LeavesBook}
-use Rattle.cashier.specs.declared.outcome.Outcome.{Outcome}
-use Rattle.cashier.specs.declared.outcome.Outcome.TheVariants as outcome
 
 -- a book of which nothing was asked
 pub book-alone : {B : Type 0} (clean sure stands lasts : B → Type 0) (refusals : B → ℕ) (b : B) → LeavesBook clean sure stands lasts refusals IsSame b b
@@ -17,35 +11,6 @@ book-alone clean sure stands lasts refusals b = record {
   still_lasts = λ _ _ lasts. lasts;
   cause = λ _ _. refl;
 }
-
--- the same said otherwise of the count
-pub book-as : {B : Type 0} {clean sure stands lasts : B → Type 0} {refusals : B → ℕ} {Goes Told : ℕ → ℕ → Type 0} {old new : B}
-    → ((before after : ℕ) → Goes before after → Told before after)
-    → LeavesBook clean sure stands lasts refusals Goes old new → LeavesBook clean sure stands lasts refusals Told old new
-book-as tells h = record {
-  was_clean = h.was_clean;
-  was_sure = h.was_sure;
-  still_stands = h.still_stands;
-  still_lasts = h.still_lasts;
-  cause = λ sure stands. tells _ _ (h.cause sure stands);
-}
-
--- a run of words that counts as its end tells
-pub kept-in : {B : Type 0} {clean sure stands lasts : B → Type 0} {refusals : B → ℕ} {old new : B} (words : List Text) (told : Outcome)
-    → LeavesBook clean sure stands lasts refusals (CountsStore outcome.StoreFault told) old new
-    → LeavesBook clean sure stands lasts refusals (CountsStoreIn words told) old new
-kept-in words told h = book-as (λ before after counts. inl counts) h
-
--- a check of words that mean it
-pub kept-check : {B : Type 0} {clean sure stands lasts : B → Type 0} {refusals : B → ℕ} {old new : B} (words : List Text) (told : Outcome)
-    → MeansCheck words → LeavesBook clean sure stands lasts refusals IsAny old new
-    → LeavesBook clean sure stands lasts refusals (CountsStoreIn words told) old new
-kept-check words told means h = book-as (λ before after counts. inr means) h
-
--- words of which nothing was run
-pub kept-unasked : {B : Type 0} {clean sure stands lasts : B → Type 0} {refusals : B → ℕ} (words : List Text) (told : Outcome) (b : B)
-    → told ≢ outcome.StoreFault → LeavesBook clean sure stands lasts refusals (CountsStoreIn words told) b b
-kept-unasked words told b never = book-as (λ before after same. inl (λ is. absurd (never is))) (book-alone _ _ _ _ _ b)
 
 -- what a call of the desk leaves, by what its answer counts
 pub book-kept : {B : Type 0} {clean sure stands lasts : B → Type 0} {refusals : B → ℕ} {counted : ℕ → ℕ} {Told : ℕ → ℕ → Type 0} {old new : B}

@@ -1,16 +1,10 @@
 -- What a check that was printed says of the firm, and what its reads leave of the book.
-use Rattle.std.proofs.Common.{◌≡◌, ◌⊎◌, ℕ, List, Option, Result, Ok, Err, IfOk, OnOk, inl, inr, refl}
-use Rattle.std.specs.Io.KnownBytes.{Appends}
-use Rattle.trust_base.specs.declared.refusal.StoreFault.{StoreFault}
+use Rattle.cashier.proofs.Names.{◌≡◌, ◌⊎◌, ℕ, List, Option, Result, Err, IfOk, OnOk, inl, inr, StoreFault, Firm, IsAny, LeavesBook, Outcome}
 use Rattle.trust_base.specs.declared.refusal.StoreFault.TheVariants as faults
-use Rattle.firm_rows.specs.Firm.{Firm}
 use Rattle.trust_desk.specs.Checking.{AreReads}
-use Rattle.trust_desk.specs.declared.checking.RowCounts.{RowCounts}
-use Rattle.cashier.specs.Calls.{IsAny, LeavesBook}
 use Rattle.cashier.specs.Check.{CheckEnds, IsSaid, IsSaidSound, IsTrueOf, PrintsCheck}
 use Rattle.cashier.specs.declared.check.CheckFound.{CheckFound}
 use Rattle.cashier.specs.declared.check.CheckFound.TheVariants as found
-use Rattle.cashier.specs.declared.outcome.Outcome.{Outcome}
 
 -- what was found was printed, or that there was no memory for its text
 pub check-ends : (before after : Firm) (told : Result CheckFound StoreFault) (old new : Option (List ℕ)) (ended : Outcome) → after ≡ before

@@ -1,8 +1,5 @@
 -- The lines of one matter among those of others.
-use Rattle.std.proofs.Common.{◌≡◌, ◌∙◌, ◌&&◌, ℕ, Bool, true, false, cond, List, [], ◌∷◌, length, Option, Some, None, Result, Ok, Err, refl, sym, ap, arith}
-use Rattle.std.specs.Prelude.{◌==◌}
-use Rattle.std.proofs.lemmas.Bool.Decides.{nat_tests}
-use Rattle.std.specs.List.{filter}
+use Rattle.cashier.proofs.Names.{◌≡◌, ◌∙◌, ◌&&◌, ℕ, Bool, true, false, cond, List, [], ◌∷◌, length, Option, Some, None, Result, Ok, Err, refl, sym, ap, arith, ◌==◌, nat_tests, filter, Firm, of, concerns, is_the, names, ask_of, asked_of, by_cashier, dismissing, dismissing_in, heard_as, heard_of, is_dismissal, of_matter, of_verb, text_at, verb_in, OwnRecordsAlone, lines_at, lines_from, names_matter, record_step, reply_line}
 use Rattle.byte_streams.proofs.FixedFacts.{length-fixed}
 use Rattle.trust_base.proofs.ReadFacts.{number-none}
 use Rattle.trust_base.specs.Texts.{matter_of, matter_text}
@@ -11,11 +8,7 @@ use Rattle.trust_base.specs.declared.line.Line.{Line}
 use Rattle.trust_base.specs.declared.refusal.Field.{Field}
 use Rattle.trust_base.specs.declared.refusal.Field.TheVariants as field
 use Rattle.trust_matter.specs.declared.ask.Ask.{Ask}
-use Rattle.firm_rows.specs.Firm.{Firm, of}
-use Rattle.trust_desk.specs.Heard.{concerns, is_the, names}
 use Rattle.trust_desk.proofs.Own.{other-rows, same-reply, same-rows}
-use Rattle.cashier_remarks.specs.Records.{ask_of, asked_of, by_cashier, dismissing, dismissing_in, heard_as, heard_of, is_dismissal, of_matter, of_verb, text_at, verb_in}
-use Rattle.cashier.specs.Sheet.{OwnRecordsAlone, lines_at, lines_from, names_matter, record_step, reply_line}
 use Rattle.cashier_remarks.specs.declared.record.Verb.{Verb}
 
 -- ---- the matter of a record is that of what the desk hears

@@ -1,7 +1,6 @@
 pub mod CallFacts
 pub mod CheckFacts
 pub mod IsolationFacts
-pub mod MatchingFacts
 pub mod ReportFacts
 pub mod RunFacts
 pub mod ServingFacts
@@ -9,3 +8,4 @@ pub mod SheetFacts
 pub mod StatementFacts
 pub mod StreamFacts
 pub mod SheetKept
+mod Names

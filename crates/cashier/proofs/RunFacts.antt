@@ -1,19 +1,11 @@
 -- How the run of words over a book is told, by what became of it.
-use Rattle.std.proofs.Common.{◌≡◌, ◌≢◌, ◌⊎◌, ◌∙◌, ℕ, List, Option, Some, None, Result, Ok, Err, refl, sym, subst, inr}
-use Rattle.std.proofs.KnownBytes.{Appends-nil}
+use Rattle.cashier.proofs.Names.{◌≡◌, ◌≢◌, ◌⊎◌, ◌∙◌, ℕ, List, Option, Some, None, Result, Ok, Err, refl, sym, subst, inr, Appends-nil, Text, StoreFault, Firm, empty_firm, Ports, Means, MeansNothing, db_of, Ran, put_outcome, store_outcome, Outcome}
 use Rattle.std.proofs.lemmas.Option.{none-some, same_Some}
-use Rattle.clap.specs.Words.{Text}
-use Rattle.trust_base.specs.declared.refusal.StoreFault.{StoreFault}
 use Rattle.trust_base.specs.declared.refusal.StoreFault.TheVariants as faults
-use Rattle.firm_rows.specs.Firm.{Firm, empty_firm}
 use Rattle.firm_rows.specs.FirmSound.{FirmSound}
 use Rattle.firm_rows.proofs.Kept.{empty-sound}
-use Rattle.portal_http.specs.Clients.{Ports}
-use Rattle.command_line.specs.Program.{Means, MeansNothing, db_of}
 use Rattle.command_line.specs.declared.command.Task.{Task}
-use Rattle.cashier.specs.Outcome.{Ran, put_outcome, store_outcome}
 use Rattle.cashier.specs.Runs.{HadNoBook, HasRun, RanAtPath, RanInMemory}
-use Rattle.cashier.specs.declared.outcome.Outcome.{Outcome}
 use Rattle.cashier.specs.declared.outcome.Outcome.TheVariants as outcome
 
 -- a fault of the store is none of the command line

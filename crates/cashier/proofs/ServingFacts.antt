@@ -1,9 +1,5 @@
 -- What the end of serving clients says of the firm, and of the program's end.
-use Rattle.std.proofs.Common.{◌≡◌, ℕ, suc, List, [], ◌∷◌, Option, inl, inr, ap, sym, subst}
-use Rattle.firm_rows.specs.Firm.{Firm}
-use Rattle.portal_http.specs.declared.stream.StreamEnd.{StreamEnd}
-use Rattle.portal_http.specs.Clients.{Comes}
-use Rattle.portal_http.specs.ServedAll.{AreServedInTurn, IsClientServed}
+use Rattle.cashier.proofs.Names.{◌≡◌, ℕ, suc, List, [], ◌∷◌, Option, inl, inr, ap, sym, subst, Firm, StreamEnd, Comes, AreServedInTurn, IsClientServed}
 use Rattle.portal_http.specs.declared.server.ServeEnd.{ServeEnd}
 use Rattle.portal_http.specs.declared.server.ServeEnd.TheVariants as serving
 use Rattle.cashier.specs.Serving.{AreMetInTurn, IsMet, serving_outcome}

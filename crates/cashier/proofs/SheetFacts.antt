@@ -1,30 +1,10 @@
 -- What the lines of a sheet are, record after record.
-use Rattle.std.proofs.Common.{◌≡◌, ◌≢◌, ◌∙◌, ◌<◌, ◌≤◌, ◌+◌, ◌++◌, nat_lt, IfSome, ◌∷◌, ◌&&◌, ◌||◌, not, cond, ℕ, Bool, true, false, List, [], length, take, Option, Some, None, Result, Ok, Err, inl, inr, refl, sym, ap, arith, append_assoc, length-append}
+use Rattle.cashier.proofs.Names.{◌≡◌, ◌⊎◌, ◌∙◌, ◌<◌, ◌≤◌, ◌+◌, ◌++◌, nat_lt, IfSome, ◌∷◌, ◌&&◌, ◌||◌, not, cond, ℕ, Bool, true, false, List, [], length, take, Option, Some, None, Result, Ok, Err, inl, inr, refl, sym, ap, arith, append_assoc, length-append, Appends-trans, nat_tests, append-nil, take-append-le, Appends, concat, Refusal, Store, Memory, Firm, Steps, firm_step, Heard, is_fault_body, is_fault_reply, refused, Body, Json, Refused, Reply, heard_of, Cut, CutsLine, Ends, LargeEnds, Leaves, RunEnds, sheet_records, all_accepted, body_line, end_of, firm_from, is_accepting, lines_from, ran_by, ran_refused, record_step, refusal_line, reply_line, RecordEnds, SheetEnd, MAX_FILE_BYTES}
 use Rattle.std.proofs.Math.Seq.{take-append-add, take-append_seam}
-use Rattle.std.proofs.KnownBytes.{Appends-trans}
-use Rattle.std.proofs.lemmas.Bool.Decides.{nat_tests}
-use Rattle.std.proofs.lemmas.List.{append-nil, take-append-le}
-use Rattle.std.specs.Io.KnownBytes.{Appends}
-use Rattle.std.specs.List.{concat}
 use Rattle.trust_base.specs.Refusals.{is_fault}
-use Rattle.trust_base.specs.declared.refusal.Refusal.{Refusal}
-use Rattle.trust_base.specs.declared.refusal.Refusal.TheVariants.{Store, Memory}
-use Rattle.firm_rows.specs.Firm.{Firm}
-use Rattle.trust_desk.specs.Counts.{counted_body, counted_refusal}
-use Rattle.trust_desk.specs.FirmStep.{Steps, firm_step}
-use Rattle.trust_desk.specs.Heard.{Heard}
-use Rattle.trust_desk.specs.Replies.{is_fault_body, is_fault_reply, refused}
-use Rattle.trust_desk.specs.declared.requests.Body.{Body}
-use Rattle.trust_desk.specs.declared.requests.Body.TheVariants.{Json, Refused, Text}
-use Rattle.trust_desk.specs.declared.requests.Reply.{Reply}
-use Rattle.cashier_remarks.specs.Records.{heard_of}
+use Rattle.trust_desk.specs.declared.requests.Body.TheVariants.{Text}
 use Rattle.cashier_remarks.proofs.RecordFacts.{steps-fault}
-use Rattle.cashier.specs.Sheet.{Cut, CutsLine, Ends, LargeEnds, Leaves, RunEnds, sheet_records, all_accepted, body_line, body_kind, end_of, firm_from, is_accepting, lines_from, ran_by, record_step, refusal_kind, refusal_line, reply_kind, reply_line, IsCounted, RecordEnds}
-use Rattle.cashier.specs.declared.sheet.SheetEnd.{SheetEnd}
 use Rattle.cashier.specs.declared.sheet.SheetEnd.TheVariants as end
-use Rattle.cashier.specs.declared.reply_kind.ReplyKind.{ReplyKind}
-use Rattle.cashier.specs.declared.reply_kind.ReplyKind.TheVariants as kind
-use Rattle.trust_base.specs.declared.limits.TheConstants.{MAX_FILE_BYTES}
 
 -- ---- parts of a text that is written piece after piece
 
@@ -93,57 +73,33 @@ steps-plain day firm after h reply e steps = rw e at steps
 abbrev stopped_by : SheetEnd → Result Bool SheetEnd
 stopped_by e = Err e
 
-err-same : (x y : SheetEnd) → stopped_by x ≡ stopped_by y → x ≡ y
+pub err-same : (x y : SheetEnd) → stopped_by x ≡ stopped_by y → x ≡ y
 err-same x y e = cc
 
 -- a record that lets the run go on tells of no fault, and says whether it was accepted
-goes-refused : (r : Refusal) (accepted : Bool) → Ok accepted ≡ ran_by (refusal_kind r) → (is_fault r ≡ false) × (false ≡ accepted)
+goes-refused : (r : Refusal) (accepted : Bool) → Ok accepted ≡ ran_refused r → (is_fault r ≡ false) × (false ≡ accepted)
 goes-refused Store accepted e = cc
 goes-refused Memory accepted e = cc
 goes-refused _ accepted e = (refl, cc)
 
-pub goes-body : (b : Body) (accepted : Bool) → Ok accepted ≡ ran_by (body_kind b) → (is_fault_body b ≡ false) × (is_accepting b ≡ accepted)
+pub goes-body : (b : Body) (accepted : Bool) → Ok accepted ≡ ran_by b → (is_fault_body b ≡ false) × (is_accepting b ≡ accepted)
 goes-body (Json text) accepted e = (refl, cc)
 goes-body (Text text) accepted e = (refl, cc)
 goes-body (Refused r) accepted e = goes-refused r accepted e
 
-store-refused : (r : Refusal) → Err end.Store ≡ ran_by (refusal_kind r) → r ≡ Store
-store-refused Store e = refl
-store-refused Memory e = cc
-store-refused _ e = cc
+-- a reply that ends the run is the refusal of a fault
+abbrev pub IsStop : SheetEnd → Body → Type 0
+IsStop e b = ((e ≡ end.Store) × (b ≡ Refused Store)) ⊎ ((e ≡ end.NoMemory) × (b ≡ Refused Memory))
 
-store-body : (b : Body) → Err end.Store ≡ ran_by (body_kind b) → b ≡ Refused Store
-store-body (Json text) e = cc
-store-body (Text text) e = cc
-store-body (Refused r) e = ap Refused (store-refused r e)
+stop-refused : (r : Refusal) (e : SheetEnd) → Err e ≡ ran_refused r → IsStop e (Refused r)
+stop-refused Store e same = inl (err-same e end.Store same, refl)
+stop-refused Memory e same = inr (err-same e end.NoMemory same, refl)
+stop-refused _ e same = cc
 
-memory-refused : (r : Refusal) → Err end.NoMemory ≡ ran_by (refusal_kind r) → r ≡ Memory
-memory-refused Store e = cc
-memory-refused Memory e = refl
-memory-refused _ e = cc
-
-memory-body : (b : Body) → Err end.NoMemory ≡ ran_by (body_kind b) → b ≡ Refused Memory
-memory-body (Json text) e = cc
-memory-body (Text text) e = cc
-memory-body (Refused r) e = ap Refused (memory-refused r e)
-
--- no other end comes of a reply
-pub ends-other : (k : ReplyKind) (e : SheetEnd) → Err e ≡ ran_by k → (e ≢ end.Store) → (e ≢ end.NoMemory) → ⊥
-ends-other kind.Accepted e same s m = cc
-ends-other kind.Refused e same s m = cc
-ends-other kind.Store e same s m = s (err-same e end.Store same)
-ends-other kind.Memory e same s m = m (err-same e end.NoMemory same)
-
--- what the reply to a record adds to the count of the book's faults
-counted-refused : (r : Refusal) (before after : ℕ) → after ≡ counted_refusal r before → IsCounted (ran_by (refusal_kind r)) before after
-counted-refused Store before after e = e
-counted-refused Memory before after e = tt
-counted-refused _ before after e = e
-
-pub counted-ran : (b : Body) (before after : ℕ) → after ≡ counted_body b before → IsCounted (ran_by (body_kind b)) before after
-counted-ran (Json text) before after e = e
-counted-ran (Text text) before after e = e
-counted-ran (Refused r) before after e = counted-refused r before after e
+pub stop-body : (b : Body) (e : SheetEnd) → Err e ≡ ran_by b → IsStop e b
+stop-body (Json text) e same = cc
+stop-body (Text text) e same = cc
+stop-body (Refused r) e same = stop-refused r e same
 
 -- ---- one more record
 
@@ -208,18 +164,12 @@ record-goes day before firm after past r old mid new off accepted so (inr (e, cu
 -- how it ended, where that record ended it
 pub record-stops : (day : ℕ) (before firm after : Firm) (all past left rest : List (List (List ℕ))) (r : List (List ℕ)) (old mid new : Option (List ℕ)) (off : Bool) (e : SheetEnd)
     → past ++ left ≡ all → left ≡ r ∷ rest → SoFar day before past firm old mid off → RecordEnds day firm r after mid new (Err e) → RunEnds day before all after old new e
-record-stops day before firm after all past left rest r old mid new off end.Store parts first so (inl w) =
-    (cut-at all past left rest r parts first, stops day before firm after past r old mid new w.reply off Store so w.steps (store-body w.reply.body w.goes) refl w.written)
-record-stops day before firm after all past left rest r old mid new off end.NoMemory parts first so (inl w) =
-    inr (cut-at all past left rest r parts first, stops day before firm after past r old mid new w.reply off Memory so w.steps (memory-body w.reply.body w.goes) refl w.written)
-record-stops day before firm after all past left rest r old mid new off end.Done parts first so (inl w) =
-    absurd (ends-other (reply_kind w.reply) end.Done w.goes (λ s. cc) (λ m. cc))
-record-stops day before firm after all past left rest r old mid new off end.Refused parts first so (inl w) =
-    absurd (ends-other (reply_kind w.reply) end.Refused w.goes (λ s. cc) (λ m. cc))
-record-stops day before firm after all past left rest r old mid new off end.ReadFault parts first so (inl w) =
-    absurd (ends-other (reply_kind w.reply) end.ReadFault w.goes (λ s. cc) (λ m. cc))
-record-stops day before firm after all past left rest r old mid new off end.WriteFault parts first so (inl w) =
-    absurd (ends-other (reply_kind w.reply) end.WriteFault w.goes (λ s. cc) (λ m. cc))
+record-stops day before firm after all past left rest r old mid new off e parts first so (inl w) =
+    let cut = cut-at all past left rest r parts first in
+    elim (stop-body w.reply.body e w.goes) [
+      | inl by ↦ rw by.0 (cut, stops day before firm after past r old mid new w.reply off Store so w.steps by.1 refl w.written)
+      | inr by ↦ rw by.0 (inr (cut, stops day before firm after past r old mid new w.reply off Memory so w.steps by.1 refl w.written))
+    ]
 record-stops day before firm after all past left rest r old mid new off e parts first so (inr (is, cut)) =
     rw (← err-same end.WriteFault e (sym is)) (cut-at all past left rest r parts first, cuts-line day before firm after past r old mid new cut.reply off so cut.steps (cut.count, cut.proper, cut.written))
 

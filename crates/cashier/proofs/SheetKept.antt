@@ -1,41 +1,20 @@
 -- What a crash leaves of a sheet.
-use Rattle.std.proofs.Common.{◌≡◌, ◌∙◌, ◌<◌, ◌≤◌, ◌++◌, ◌∷◌, ◌⊎◌, nat_lt, ℕ, Bool, true, false, List, [], length, take, Option, Some, None, Result, Ok, Err, IfSome, inl, inr, refl, sym, ap, subst, arith}
-use Rattle.std.specs.Prelude.{IsOk}
-use Rattle.std.proofs.KnownBytes.{Appends-nil, Appends-trans}
-use Rattle.std.proofs.lemmas.Bool.Decides.{nat_tests}
-use Rattle.std.proofs.lemmas.List.{append-nil}
-use Rattle.std.specs.Io.KnownBytes.{Appends}
-use Rattle.std.specs.List.{concat}
-use Rattle.trust_base.specs.declared.limits.TheConstants.{MAX_FILE_BYTES}
-use Rattle.trust_base.specs.declared.refusal.Refusal.{Refusal}
-use Rattle.trust_base.specs.declared.refusal.Refusal.TheVariants.{TooLarge}
-use Rattle.firm_rows.specs.Firm.{Firm}
-use Rattle.trust_store.specs.Crashes.{LeavesAlone}
-use Rattle.trust_desk.specs.Crashes.{IsMade, MayLeave}
-use Rattle.trust_desk.specs.FirmStep.{Steps, firm_step}
-use Rattle.trust_desk.specs.Heard.{Heard}
-use Rattle.trust_desk.specs.Replies.{is_fault_body, is_fault_reply}
-use Rattle.trust_desk.specs.declared.requests.Body.{Body}
-use Rattle.trust_desk.specs.declared.requests.Body.TheVariants.{Json, Refused, Text}
-use Rattle.trust_desk.specs.declared.requests.Reply.{Reply}
-use Rattle.trust_desk.proofs.Crashes.{leave-as}
+use Rattle.cashier.proofs.Names.{◌≡◌, ◌∙◌, ◌<◌, ◌≤◌, ◌++◌, ◌∷◌, ◌⊎◌, nat_lt, ℕ, Bool, true, false, List, [], length, take, Option, Some, None, Result, Ok, Err, IfSome, inl, inr, refl, sym, ap, subst, arith, IsOk, Appends-nil, Appends-trans, nat_tests, append-nil, Appends, concat, MAX_FILE_BYTES, Refusal, TooLarge, Firm, LeavesAlone, IsMade, MayLeave, Steps, firm_step, Heard, is_fault_body, is_fault_reply, Body, Json, Refused, Reply, leave-as, heard_of, IsBehindLines, IsWhole, LargeEnds, LinesAreKept, TellsLine, body_line, firm_from, lines_from, ran_by, record_step, records_run, refusal_line, reply_line, sheet_records, SheetEnd}
+use Rattle.trust_desk.specs.declared.requests.Body.TheVariants.{Text}
 use Rattle.trust_desk.proofs.MadeRows.{plain-step}
-use Rattle.cashier_remarks.specs.Records.{heard_of}
 use Rattle.cashier.specs.Sent.{IsSent}
-use Rattle.cashier.specs.Sheet.{IsBehindLines, IsWhole, LargeEnds, LinesAreKept, TellsLine, body_kind, body_line, firm_from, lines_from, ran_by, record_step, records_run, refusal_line, reply_kind, reply_line, sheet_records}
-use Rattle.cashier.specs.declared.sheet.SheetEnd.{SheetEnd}
 use Rattle.cashier.specs.declared.sheet.SheetEnd.TheVariants as end
-use Rattle.cashier.proofs.SheetFacts.{SoFar, ends-other, goes-body, steps-plain}
+use Rattle.cashier.proofs.SheetFacts.{SoFar, err-same, goes-body, steps-plain, stop-body}
 
 -- One record.
 
 -- a record that lets the run go on was answered by no fault
-pub goes-plain : (reply : Reply) (ran : Result Bool SheetEnd) → ran ≡ ran_by (reply_kind reply) → IsOk ran → is_fault_reply reply ≡ false
+pub goes-plain : (reply : Reply) (ran : Result Bool SheetEnd) → ran ≡ ran_by reply.body → IsOk ran → is_fault_reply reply ≡ false
 goes-plain reply (Ok accepted) goes ok = (goes-body reply.body accepted goes).0
 goes-plain reply (Err e) goes ok = absurd (cc)
 
 -- what is told of a record that lets the run go on
-pub told-as : {B : Type 0} {clean : B → Type 0} {leaves : B → Firm → Type 0} (day : ℕ) (first last : Firm) (old new : B) (h : Heard) (reply : Reply) (ran : Result Bool SheetEnd) → ran ≡ ran_by (reply_kind reply)
+pub told-as : {B : Type 0} {clean : B → Type 0} {leaves : B → Firm → Type 0} (day : ℕ) (first last : Firm) (old new : B) (h : Heard) (reply : Reply) (ran : Result Bool SheetEnd) → ran ≡ ran_by reply.body
     → clean old → (clean new → Steps day first h reply last)
     → MayLeave clean leaves (is_fault_reply reply ≡ false) (IsMade day first h) first (firm_step day first h).firm old new
     → MayLeave clean leaves (IsOk ran) (IsMade day first h) first last old new
@@ -46,7 +25,7 @@ told-as day first last old new h reply ran goes served step may =
 -- What stands behind whole lines.
 
 -- a reply that ends a run is a refusal's
-ends-refused : (reply : Reply) (b : Body) (e : SheetEnd) → reply.body ≡ b → Err e ≡ ran_by (body_kind b) → (r : Refusal) × (reply_line reply ≡ refusal_line r)
+ends-refused : (reply : Reply) (b : Body) (e : SheetEnd) → reply.body ≡ b → Err e ≡ ran_by b → (r : Refusal) × (reply_line reply ≡ refusal_line r)
 ends-refused reply (Json text) e is ended = cc
 ends-refused reply (Text text) e is ended = cc
 ends-refused reply (Refused r) e is ended = (r, ap (body_line reply.status) is)
@@ -68,7 +47,7 @@ behind-of day firm here rest old new e told = sent told.reply told.says told.sen
         inr (inl (r, inr (n, subst (λ (text : List ℕ). n < length text) line less, ap (take n) line)))
     cut reply n less (inr is) = inr (inr (n, subst (λ (x : Reply). n < length (reply_line x)) is less, ap (λ (x : Reply). take n (reply_line x)) is))
 
-    sent : (reply : Reply) → (is_fault_reply reply ≡ true) ⊎ (reply ≡ (record_step day firm here).reply) → IsSent (reply_line reply) (ran_by (reply_kind reply)) (Err end.WriteFault) old new (Err e)
+    sent : (reply : Reply) → (is_fault_reply reply ≡ true) ⊎ (reply ≡ (record_step day firm here).reply) → IsSent (reply_line reply) (ran_by reply.body) (Err end.WriteFault) old new (Err e)
         → (more : List ℕ) × IsBehindLines day firm (here ∷ rest) more × Appends old new more
     sent reply says (inl (ended, wrote)) =
         let (r, line) = ends-refused reply reply.body e refl ended in
@@ -76,15 +55,12 @@ behind-of day firm here rest old new e told = sent told.reply told.says told.sen
     sent reply says (inr (failed, (n, less, wrote))) = (take n (reply_line reply), cut reply n less says, wrote)
 
 -- a record that ends a run was not the last of a whole one
-not-whole : (reply : Reply) (old new : Option (List ℕ)) (e : SheetEnd) → IsSent (reply_line reply) (ran_by (reply_kind reply)) (Err end.WriteFault) old new (Err e) → IsWhole e → ⊥
-not-whole reply old new end.Done (inl (ended, wrote)) w = ends-other (reply_kind reply) end.Done ended (λ s. cc) (λ m. cc)
-not-whole reply old new end.Done (inr (failed, wrote)) w = cc
-not-whole reply old new end.Refused (inl (ended, wrote)) w = ends-other (reply_kind reply) end.Refused ended (λ s. cc) (λ m. cc)
-not-whole reply old new end.Refused (inr (failed, wrote)) w = cc
-not-whole reply old new end.ReadFault sent w = w
-not-whole reply old new end.WriteFault sent w = w
-not-whole reply old new end.Store sent w = w
-not-whole reply old new end.NoMemory sent w = w
+not-whole : (reply : Reply) (old new : Option (List ℕ)) (e : SheetEnd) → IsSent (reply_line reply) (ran_by reply.body) (Err end.WriteFault) old new (Err e) → IsWhole e → ⊥
+not-whole reply old new e (inl (ended, wrote)) w = elim (stop-body reply.body e ended) [
+  | inl by ↦ subst IsWhole by.0 w
+  | inr by ↦ subst IsWhole by.0 w
+]
+not-whole reply old new e (inr (failed, wrote)) w = subst IsWhole (err-same e end.WriteFault failed) w
 
 -- the reply to a record is that of the firm's step, or tells of a fault
 pub reply-says : {B : Type 0} {clean : B → Type 0} {leaves : B → Firm → Type 0} {Makes : Firm → Type 0} (day : ℕ) (first last : Firm) (old new : B) (h : Heard) (reply : Reply)

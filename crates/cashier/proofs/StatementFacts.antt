@@ -1,9 +1,6 @@
 -- What the import of a statement says of its bytes, where less is known of them.
-use Rattle.std.proofs.Common.{◌⊎◌, inl, inr, ℕ, Bool, true, false, List, Option, Some, None, MatchBool, option_map}
-use Rattle.std.specs.Io.KnownBytes.{Keeps}
+use Rattle.cashier.proofs.Names.{inl, inr, ℕ, Bool, true, false, List, Option, Some, None, MatchBool, option_map, Keeps, Firm, IsAfterFirst, MayLeave}
 use Rattle.statement_csv.specs.Items.{items}
-use Rattle.firm_rows.specs.Firm.{Firm}
-use Rattle.trust_desk.specs.Crashes.{IsAfterFirst, MayLeave}
 use Rattle.trust_desk.specs.Imports.{Imports}
 use Rattle.trust_desk.specs.declared.importing.ImportEnd.{ImportEnd}
 use Rattle.cashier.specs.Statement.{Imported, Large, Run, StatementEnds, is_told_longer}

@@ -1,10 +1,7 @@
 -- What the end of a stream says of the firm, and of the program's end.
-use Rattle.std.proofs.Common.{◌≡◌, ℕ, List, Option}
-use Rattle.firm_rows.specs.Firm.{Firm}
+use Rattle.cashier.proofs.Names.{◌≡◌, ℕ, List, Option, Firm, StreamEnd, stream_outcome}
 use Rattle.portal_http.specs.Served.{Served}
-use Rattle.portal_http.specs.declared.stream.StreamEnd.{StreamEnd}
 use Rattle.portal_http.specs.declared.stream.StreamEnd.TheVariants as stream
-use Rattle.cashier.specs.Outcome.{stream_outcome}
 use Rattle.cashier.specs.Stream.{StreamEnds}
 use Rattle.cashier.specs.declared.outcome.Outcome.TheVariants as outcome
 

@@ -13,42 +13,25 @@ use Rattle.trust_desk.specs.Checking.{AreCountsOf}
 use Rattle.trust_desk.specs.declared.checking.RowCounts.{RowCounts}
 use Rattle.trust_desk.specs.declared.unread.Unread.{Unread}
 use Rattle.trust_desk.specs.declared.unread.Unread.TheVariants as unread
-use Rattle.cashier.specs.Report.{reply_outcome}
+use Rattle.cashier.specs.Report.{refused_outcome}
 use Rattle.cashier.specs.Sent.{IsSent}
-use Rattle.cashier.specs.Sheet.{refusal_kind, refusal_line}
+use Rattle.cashier.specs.Sheet.{refusal_line}
 use Rattle.cashier.specs.declared.check.CheckFound.{CheckFound}
-use Rattle.cashier.specs.declared.check.CountedRow.{CountedRow}
-use Rattle.cashier.specs.declared.check.CountedRow.TheVariants as counted
 use Rattle.cashier.specs.declared.check.CheckFound.TheVariants as found
 use Rattle.cashier.specs.declared.outcome.Outcome.{Outcome}
 use Rattle.cashier.specs.declared.outcome.Outcome.TheVariants as outcome
 
 -- ---- texts
 
--- the line for a count
-abbrev pub count_text : CountedRow → ℕ → List ℕ
-count_text counted.Matters n = codes "MATTERS " ++ (decimal n ++ codes "\n")
-count_text counted.Entries n = codes "ENTRIES " ++ (decimal n ++ codes "\n")
-count_text counted.Movements n = codes "MOVEMENTS " ++ (decimal n ++ codes "\n")
-count_text counted.FirmLines n = codes "FIRM LINES " ++ (decimal n ++ codes "\n")
-count_text counted.Exceptions n = codes "EXCEPTIONS " ++ (decimal n ++ codes "\n")
-count_text counted.Balances n = codes "BALANCES " ++ (decimal n ++ codes "\n")
-
--- the lines for the rows of matters and their movements
-abbrev pub matters_text : RowCounts → List ℕ
-matters_text c =
-    count_text counted.Matters c.matters
-    ++ (count_text counted.Entries c.entries ++ count_text counted.Movements c.movements)
-
--- the lines for the firm's own rows
-abbrev pub firm_rows_text : RowCounts → List ℕ
-firm_rows_text c =
-    count_text counted.FirmLines c.firm_lines
-    ++ (count_text counted.Exceptions c.exceptions ++ count_text counted.Balances c.balances)
-
 -- how many rows of each kind there are, one line each
 abbrev pub counts_text : RowCounts → List ℕ
-counts_text c = matters_text c ++ firm_rows_text c
+counts_text c =
+    codes "MATTERS " ++ (decimal c.matters
+    ++ (codes "\nENTRIES " ++ (decimal c.entries
+    ++ (codes "\nMOVEMENTS " ++ (decimal c.movements
+    ++ (codes "\nFIRM LINES " ++ (decimal c.firm_lines
+    ++ (codes "\nEXCEPTIONS " ++ (decimal c.exceptions
+    ++ (codes "\nBALANCES " ++ (decimal c.balances ++ codes "\n")))))))))))
 
 -- what is not sound
 abbrev pub flaw_text : Flaw → List ℕ
@@ -98,7 +81,7 @@ found_outcome (found.Unreadable row) = outcome.Refused
 -- the outcome of a check whose result was printed
 abbrev pub check_outcome : Result CheckFound StoreFault → Outcome
 check_outcome (Ok told) = found_outcome told
-check_outcome (Err fault) = reply_outcome (refusal_kind (refused_by fault))
+check_outcome (Err fault) = refused_outcome (refused_by fault)
 
 -- everything was printed, and the run ended accordingly; or a write failed, and only a prefix was printed
 abbrev pub PrintsCheck : Result CheckFound StoreFault → Option (List ℕ) → Option (List ℕ) → Outcome → Type 0

@@ -11,7 +11,7 @@ use Rattle.portal_http.specs.Served.{Served}
 use Rattle.portal_http.specs.ServedAll.{AreServedInTurn}
 use Rattle.portal_http.specs.declared.stream.StreamEnd.{StreamEnd}
 use Rattle.command_line.specs.Program.{Means}
-use Rattle.command_line.specs.declared.report_command.ReportCommand.{ReportCommand}
+use Rattle.command_line.specs.declared.command.ReportCommand.{ReportCommand}
 use Rattle.command_line.specs.declared.command.Task.TheVariants as task
 use Rattle.cashier.specs.Outcome.{sheet_outcome, statement_outcome, stream_outcome}
 use Rattle.cashier.specs.Sheet.{LinesAreKept, records_run}

@@ -8,9 +8,9 @@ use Rattle.trust_matter.specs.declared.ask.Caller.TheVariants.{Cashier}
 use Rattle.firm_rows.specs.Firm.{Firm}
 use Rattle.statement_match.specs.Matched.{MatchedTexts}
 use Rattle.trust_desk.specs.MatchStep.{IsMatched}
-use Rattle.cashier.specs.Report.{reply_outcome}
+use Rattle.cashier.specs.Report.{refused_outcome}
 use Rattle.cashier.specs.Sent.{IsSent}
-use Rattle.cashier.specs.Sheet.{refusal_kind, refusal_line}
+use Rattle.cashier.specs.Sheet.{refusal_line}
 use Rattle.cashier.specs.Statement.{is_told_longer}
 use Rattle.cashier.specs.declared.outcome.Outcome.{Outcome}
 use Rattle.cashier.specs.declared.outcome.Outcome.TheVariants as outcome
@@ -32,7 +32,7 @@ left_outcome false = outcome.Done
 -- the outcome after that was printed: according to whether a record has to be looked at, or to the refusal
 abbrev pub found_outcome : Found → Outcome
 found_outcome (Ok texts) = left_outcome texts.is_left
-found_outcome (Err r) = reply_outcome (refusal_kind r)
+found_outcome (Err r) = refused_outcome r
 
 -- the result was printed completely, and the run ended accordingly; or a write failed, and only a prefix was printed
 abbrev pub PrintsFound : Found → Option (List ℕ) → Option (List ℕ) → Outcome → Type 0

@@ -15,7 +15,7 @@ use Rattle.cashier.specs.Serving.{PortEnds}
 use Rattle.cashier.specs.Sheet.{Ends}
 use Rattle.cashier.specs.Statement.{StatementEnds}
 use Rattle.cashier.specs.Stream.{StreamEnds}
-use Rattle.command_line.specs.declared.report_command.ReportCommand.{ReportCommand}
+use Rattle.command_line.specs.declared.command.ReportCommand.{ReportCommand}
 use Rattle.command_line.specs.declared.command.Task.{Task}
 use Rattle.command_line.specs.declared.command.Task.TheVariants as task
 use Rattle.cashier.specs.declared.outcome.Outcome.{Outcome}

@@ -1,21 +1,23 @@
 -- What a command for a report asks, and what it writes.
 use Rattle.std.specs.Prelude.{ℕ, List, Option}
+use Rattle.trust_base.specs.declared.refusal.Refusal.{Refusal}
+use Rattle.trust_base.specs.declared.refusal.Refusal.TheVariants.{Memory, Store}
 use Rattle.trust_matter.specs.declared.ask.Ask.TheVariants.{Accounting}
 use Rattle.trust_matter.specs.declared.ask.Caller.TheVariants.{Cashier}
 use Rattle.firm_rows.specs.Firm.{Firm}
 use Rattle.trust_desk.specs.FirmStep.{Steps}
 use Rattle.trust_desk.specs.Heard.{Asks}
+use Rattle.trust_desk.specs.declared.requests.Body.{Body}
+use Rattle.trust_desk.specs.declared.requests.Body.TheVariants.{Json, Refused, Text}
 use Rattle.trust_desk.specs.declared.requests.Reply.{Reply}
 use Rattle.trust_desk.specs.declared.requests.Request.{Request}
 use Rattle.trust_desk.specs.declared.requests.Request.TheVariants as requests
-use Rattle.command_line.specs.declared.report_command.ReportCommand.{ReportCommand}
-use Rattle.command_line.specs.declared.report_command.ReportCommand.TheVariants as commands
+use Rattle.command_line.specs.declared.command.ReportCommand.{ReportCommand}
+use Rattle.command_line.specs.declared.command.ReportCommand.TheVariants as commands
 use Rattle.cashier.specs.Sent.{IsSent}
-use Rattle.cashier.specs.Sheet.{reply_kind, reply_line}
+use Rattle.cashier.specs.Sheet.{reply_line}
 use Rattle.cashier.specs.declared.outcome.Outcome.{Outcome}
 use Rattle.cashier.specs.declared.outcome.Outcome.TheVariants as outcome
-use Rattle.cashier.specs.declared.reply_kind.ReplyKind.{ReplyKind}
-use Rattle.cashier.specs.declared.reply_kind.ReplyKind.TheVariants as kind
 
 -- the cashier's request for a report: of the firm, or the accounting of a matter
 abbrev pub asked_for : ReportCommand → Request
@@ -27,18 +29,23 @@ asked_for commands.Exceptions = requests.Exceptions Cashier
 asked_for (commands.Ledger matter) = requests.Matter matter Cashier Accounting
 asked_for commands.OwnLedger = requests.OwnLedger Cashier
 
+-- the outcome of a run after the line of a refusal was written
+abbrev pub refused_outcome : Refusal → Outcome
+refused_outcome Store = outcome.StoreFault
+refused_outcome Memory = outcome.MemoryFault
+refused_outcome _ = outcome.Refused
+
 -- the outcome of a run according to the reply, after it was written
-abbrev pub reply_outcome : ReplyKind → Outcome
-reply_outcome kind.Accepted = outcome.Done
-reply_outcome kind.Refused = outcome.Refused
-reply_outcome kind.Store = outcome.StoreFault
-reply_outcome kind.Memory = outcome.MemoryFault
+abbrev pub reply_outcome : Body → Outcome
+reply_outcome (Json text) = outcome.Done
+reply_outcome (Text text) = outcome.Done
+reply_outcome (Refused r) = refused_outcome r
 
 -- a reply was written completely, as its text or its refusal's line, and decides the outcome; or a write failed, and
 -- only a prefix was written
 abbrev pub Prints : Reply → Option (List ℕ) → Option (List ℕ) → Outcome → Type 0
 Prints reply old new told =
-    IsSent (reply_line reply) (reply_outcome (reply_kind reply)) outcome.OutputFault old new told
+    IsSent (reply_line reply) (reply_outcome reply.body) outcome.OutputFault old new told
 
 -- the cashier asked for the report on a day, the firm's step gave the reply, and it was printed
 pub record PrintsReport (day : ℕ) (before : Firm) (command : ReportCommand) (after : Firm)

@@ -25,8 +25,6 @@ use Rattle.cashier_remarks.specs.Records.{heard_of, text_at}
 use Rattle.cashier.specs.Sent.{IsSent}
 use Rattle.cashier.specs.declared.sheet.SheetEnd.{SheetEnd}
 use Rattle.cashier.specs.declared.sheet.SheetEnd.TheVariants as end
-use Rattle.cashier.specs.declared.reply_kind.ReplyKind.{ReplyKind}
-use Rattle.cashier.specs.declared.reply_kind.ReplyKind.TheVariants as kind
 
 -- ---- one record
 
@@ -53,20 +51,6 @@ abbrev pub reply_line : Reply → List ℕ
 reply_line reply = body_line reply.status reply.body
 
 -- ---- what replies say
-
-abbrev pub refusal_kind : Refusal → ReplyKind
-refusal_kind Store = kind.Store
-refusal_kind Memory = kind.Memory
-refusal_kind _ = kind.Refused
-
-abbrev pub body_kind : Body → ReplyKind
-body_kind (Json text) = kind.Accepted
-body_kind (Text text) = kind.Accepted
-body_kind (Refused r) = refusal_kind r
-
--- the reply accepts, refuses or reports a fault
-abbrev pub reply_kind : Reply → ReplyKind
-reply_kind reply = body_kind reply.body
 
 abbrev pub is_accepting : Body → Bool
 is_accepting (Json text) = true
@@ -127,12 +111,17 @@ pub record CutsLine (day : ℕ) (before : Firm) (past : List (List (List ℕ))) 
   pub proper : count < length (reply_line reply)
   pub written : Appends old new (concat (lines_from day before past) ++ take count (reply_line reply))
 
+-- how a run continues after the line of a refusal was written: to the next record, or to its end by a fault
+abbrev pub ran_refused : Refusal → Result Bool SheetEnd
+ran_refused Store = Err end.Store
+ran_refused Memory = Err end.NoMemory
+ran_refused _ = Ok false
+
 -- how a run continues after the line of a record with this reply was written: whether it was accepted, or the run's end
-abbrev pub ran_by : ReplyKind → Result Bool SheetEnd
-ran_by kind.Accepted = Ok true
-ran_by kind.Refused = Ok false
-ran_by kind.Store = Err end.Store
-ran_by kind.Memory = Err end.NoMemory
+abbrev pub ran_by : Body → Result Bool SheetEnd
+ran_by (Json text) = Ok true
+ran_by (Text text) = Ok true
+ran_by (Refused r) = ran_refused r
 
 -- a record was run, its line was written, and its reply decides how the run continues
 pub record WritesLine (day : ℕ) (before : Firm) (here : List (List ℕ)) (after : Firm) (old new : Option (List ℕ))
@@ -140,7 +129,7 @@ pub record WritesLine (day : ℕ) (before : Firm) (here : List (List ℕ)) (afte
   pub reply : Reply
   pub steps : Steps day before (heard_of here) reply after
   pub written : Appends old new (reply_line reply)
-  pub goes : ran ≡ ran_by (reply_kind reply)
+  pub goes : ran ≡ ran_by reply.body
 
 -- how the run of one record ends: its line was written, or a write failed
 abbrev pub RecordEnds : ℕ → Firm → List (List ℕ) → Firm → Option (List ℕ) → Option (List ℕ) → Result Bool SheetEnd
@@ -217,7 +206,7 @@ pub record TellsLine (day : ℕ) (firm : Firm) (here : List (List ℕ)) (old new
     (ran : Result Bool SheetEnd) : Type 0 where
   pub reply : Reply
   pub says : (is_fault_reply reply ≡ true) ⊎ (reply ≡ (record_step day firm here).reply)
-  pub sent : IsSent (reply_line reply) (ran_by (reply_kind reply)) (Err end.WriteFault) old new ran
+  pub sent : IsSent (reply_line reply) (ran_by reply.body) (Err end.WriteFault) old new ran
 
 -- all records were run, and each line was written
 abbrev pub IsWhole : SheetEnd → Type 0

@@ -5,7 +5,8 @@ use Rattle.trust_base.specs.declared.limits.TheConstants.{MAX_FILE_BYTES}
 use Rattle.statement_csv.specs.Limits.{IsTooLong, IsWithin}
 use Rattle.statement_csv.specs.Reading.{LacksHeader}
 use Rattle.trust_base.specs.declared.refusal.Field.TheVariants as field
-use Rattle.trust_base.specs.declared.refusal.Refusal.TheVariants.{BadField, Memory, TooLarge}
+use Rattle.trust_base.specs.declared.refusal.Refusal.{Refusal}
+use Rattle.trust_base.specs.declared.refusal.Refusal.TheVariants.{BadField, Memory, Store, TooLarge}
 use Rattle.firm_rows.specs.Firm.{Firm}
 use Rattle.matter_bodies.specs.Bodies.{import_body}
 use Rattle.trust_desk.specs.Imports.{Imports, IsStop}
@@ -14,11 +15,9 @@ use Rattle.trust_desk.specs.declared.importing.ImportEnd.{ImportEnd}
 use Rattle.trust_desk.specs.declared.importing.ImportStop.{ImportStop}
 use Rattle.trust_desk.specs.declared.importing.ImportStop.TheVariants as stop
 use Rattle.cashier.specs.Sent.{IsSent}
-use Rattle.cashier.specs.Sheet.{line_of, refusal_line, refusal_kind}
+use Rattle.cashier.specs.Sheet.{line_of, refusal_line}
 use Rattle.cashier.specs.declared.statement.StatementEnd.{StatementEnd}
 use Rattle.cashier.specs.declared.statement.StatementEnd.TheVariants as end
-use Rattle.cashier.specs.declared.reply_kind.ReplyKind.{ReplyKind}
-use Rattle.cashier.specs.declared.reply_kind.ReplyKind.TheVariants as kind
 
 -- ---- what an import prints
 
@@ -34,16 +33,15 @@ stop_text counts stop.Limit = refusal_line TooLarge
 stop_text counts stop.ReadFault = []
 
 -- how its run ends after a refusal
-abbrev pub refused_end : ReplyKind → StatementEnd
-refused_end kind.Accepted = end.Done
-refused_end kind.Refused = end.Refused
-refused_end kind.Store = end.Store
-refused_end kind.Memory = end.NoMemory
+abbrev pub refused_end : Refusal → StatementEnd
+refused_end Store = end.Store
+refused_end Memory = end.NoMemory
+refused_end _ = end.Refused
 
 -- how its run ends, if all of that was written
 abbrev pub stop_end : ImportStop → StatementEnd
 stop_end stop.Done = end.Done
-stop_end (stop.Refused r) = refused_end (refusal_kind r)
+stop_end (stop.Refused r) = refused_end r
 stop_end stop.Limit = end.Refused
 stop_end stop.ReadFault = end.ReadFault
 

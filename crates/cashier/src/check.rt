@@ -3,17 +3,15 @@
 ghost use Rattle.std.specs.Prelude.{◌≡◌, ◌≢◌, ◌⊎◌, IfOk, OnOk, Ok, Err, None, Some};
 ghost use Rattle.std.specs.Io.KnownBytes.{Appends};
 ghost use Rattle.cashier.specs.Calls.{IsAny, LeavesBook};
-ghost use Rattle.cashier.specs.Check.{CheckEnds, IsSaid, IsSaidSound, IsTrueOf, PrintsCheck, check_text, count_text};
-ghost use Rattle.cashier.specs.Check.{firm_rows_text, flaw_text, found_outcome, matters_text, unread_text};
+ghost use Rattle.cashier.specs.Check.{CheckEnds, IsSaid, IsSaidSound, IsTrueOf, PrintsCheck, check_text};
+ghost use Rattle.cashier.specs.Check.{counts_text, flaw_text, found_outcome, unread_text};
 ghost use Rattle.firm_rows.specs.Firm.{Firm};
 ghost use Rattle.firm_rows.specs.FirmSound.{FirmSound};
 ghost use Rattle.trust_desk.specs.Checking.{AreCountsOf, AreReads};
 ghost use Rattle.trust_desk.specs.declared.checking.RowCounts.{RowCounts};
 ghost use Rattle.trust_store.specs.Crashes.{LeavesOr};
 
-use crate::outcome::{Outcome, outcome_of_reply};
-use crate::reply_kind::kind_of_refusal;
-use crate::reply_line::write_refusal;
+use crate::outcome::{Outcome, outcome_of_refusal, write_refusal};
 use cashier_remarks::{Remark, Remarks};
 use std::alloc::Global;
 use std::fmt;
@@ -23,7 +21,7 @@ use trust_desk::{Checked, Desk, Flaw, RowCounts, Unread};
 use trust_store::Book;
 
 /// The result of checking a book.
-#[derive(Clone, Copy, PartialEq, Eq, Debug)]
+#[derive(Clone, Copy)]
 pub enum CheckFound {
     /// The rows are those of a sound firm; these are their counts.
     Sound(RowCounts),
@@ -33,95 +31,24 @@ pub enum CheckFound {
     Unreadable(Unread),
 }
 
-// The line for a count.
+// The lines for how many rows of each kind there are.
 #[derive(Clone, Copy)]
-struct CountLine {
-    row: CountedRow,
-    count: u64,
-}
-
-// The kind of row that is counted.
-#[derive(Clone, Copy)]
-enum CountedRow {
-    Matters,
-    Entries,
-    Movements,
-    FirmLines,
-    Exceptions,
-    Balances,
-}
-
-impl fmt::Display for CountLine {
-    ghost output = { λ line. Some (count_text line.row line.count) };
-
-    fn fmt<W: fmt::Write>(&self, f: &mut fmt::Formatter<W>) -> fmt::Result {
-        let count = self.count;
-        match self.row {
-            CountedRow::Matters => write!(f, "MATTERS {count}\n"),
-            CountedRow::Entries => write!(f, "ENTRIES {count}\n"),
-            CountedRow::Movements => write!(f, "MOVEMENTS {count}\n"),
-            CountedRow::FirmLines => write!(f, "FIRM LINES {count}\n"),
-            CountedRow::Exceptions => write!(f, "EXCEPTIONS {count}\n"),
-            CountedRow::Balances => write!(f, "BALANCES {count}\n"),
-        }
-    }
-}
-
-// The lines for the rows of matters and their movements.
-#[derive(Clone, Copy)]
-struct MatterLines {
+struct CountLines {
     counts: RowCounts,
 }
 
-impl fmt::Display for MatterLines {
-    ghost output = { λ lines. Some (matters_text lines.counts) };
+impl fmt::Display for CountLines {
+    ghost output = { λ lines. Some (counts_text lines.counts) };
 
     fn fmt<W: fmt::Write>(&self, f: &mut fmt::Formatter<W>) -> fmt::Result {
-        let row = CountedRow::Matters;
-        let matters = CountLine {
-            row,
-            count: self.counts.matters,
-        };
-        let row = CountedRow::Entries;
-        let entries = CountLine {
-            row,
-            count: self.counts.entries,
-        };
-        let row = CountedRow::Movements;
-        let movements = CountLine {
-            row,
-            count: self.counts.movements,
-        };
-        write!(f, "{matters}{entries}{movements}")
-    }
-}
-
-// The lines for the firm's own rows.
-#[derive(Clone, Copy)]
-struct FirmRowLines {
-    counts: RowCounts,
-}
-
-impl fmt::Display for FirmRowLines {
-    ghost output = { λ lines. Some (firm_rows_text lines.counts) };
-
-    fn fmt<W: fmt::Write>(&self, f: &mut fmt::Formatter<W>) -> fmt::Result {
-        let row = CountedRow::FirmLines;
-        let firm_lines = CountLine {
-            row,
-            count: self.counts.firm_lines,
-        };
-        let row = CountedRow::Exceptions;
-        let exceptions = CountLine {
-            row,
-            count: self.counts.exceptions,
-        };
-        let row = CountedRow::Balances;
-        let balances = CountLine {
-            row,
-            count: self.counts.balances,
-        };
-        write!(f, "{firm_lines}{exceptions}{balances}")
+        let counts = self.counts;
+        let (matters, entries, movements) = (counts.matters, counts.entries, counts.movements);
+        let (own, exceptions, balances) = (counts.firm_lines, counts.exceptions, counts.balances);
+        write!(
+            f,
+            "MATTERS {matters}\nENTRIES {entries}\nMOVEMENTS {movements}\n\
+            FIRM LINES {own}\nEXCEPTIONS {exceptions}\nBALANCES {balances}\n"
+        )
     }
 }
 
@@ -186,9 +113,8 @@ impl fmt::Display for CheckFound {
     fn fmt<W: fmt::Write>(&self, f: &mut fmt::Formatter<W>) -> fmt::Result {
         match *self {
             CheckFound::Sound(counts) => {
-                let matters = MatterLines { counts };
-                let firm_rows = FirmRowLines { counts };
-                write!(f, "SOUND\n{matters}{firm_rows}")
+                let lines = CountLines { counts };
+                write!(f, "SOUND\n{lines}")
             }
             CheckFound::Flawed(flaw) => {
                 let name = FlawName { flaw };
@@ -253,7 +179,7 @@ fn print_fault<W: Write>(writer: &mut W, fault: StoreFault) -> Outcome
     let Ok(()) = write_refusal(writer, &refusal) else {
         return Outcome::OutputFault;
     };
-    outcome_of_reply(kind_of_refusal(&refusal))
+    outcome_of_refusal(&refusal)
 }
 
 // Prints the result, or that there was no memory for its text.
@@ -312,11 +238,11 @@ pub fn run_check<M: Remarks, W: Write, B: Book>(
     desk: &mut Desk<B>,
     today: Day,
 ) -> Outcome
+    ensures sound { B.clean desk.new → B.readable desk.old → result ≡ Outcome.Done
+        → IsSaidSound (B.firm desk.old) (W.contents writer.old) (W.contents writer.new) }
     ensures began { result ≢ Outcome.CommandLine }
     ensures ends { B.clean desk.new → B.stands desk.old
         → CheckEnds (B.firm desk.old) (B.firm desk.new) (W.contents writer.old) (W.contents writer.new) result }
-    ensures sound { B.clean desk.new → B.readable desk.old → result ≡ Outcome.Done
-        → IsSaidSound (B.firm desk.old) (W.contents writer.old) (W.contents writer.new) }
     ensures kept { LeavesBook B.clean B.sure B.stands B.lasts B.refusals IsAny desk.old desk.new }
     ensures serves { result ≡ Outcome.Done → B.sure desk.new → B.clean desk.new }
     ensures crash { B.clean desk.new → B.stands desk.old

@@ -5,18 +5,13 @@
 
 mod check;
 pub mod laws;
-mod lines_before;
 mod matching;
 mod notice;
 mod outcome;
 mod program;
-mod reply_kind;
-mod reply_line;
 mod report;
-mod serving;
 mod sheet;
 mod statement;
-mod surroundings;
 mod system;
 
 pub use cashier_remarks::{
@@ -30,10 +25,8 @@ pub use matching::run_match;
 pub use notice::{Notice, Source, bare_notice_of, notice_of};
 pub use outcome::{Outcome, exit_of};
 pub use portal_http::{AcceptFault, ClientListener, Connection, Network};
-pub use program::{run_over_stores, run_words};
+pub use program::{Surroundings, run_called, run_serve, run_words};
 pub use report::run_report;
-pub use serving::run_serve;
 pub use sheet::{SheetEnd, run_sheet};
 pub use statement::{StatementEnd, run_import};
-pub use surroundings::Surroundings;
 pub use system::run_on_system;

@@ -4,12 +4,10 @@ ghost use Rattle.std.specs.Prelude.{◌≡◌, ◌≢◌, Err, IfSome, Some};
 ghost use Rattle.trust_base.specs.declared.refusal.Refusal.TheVariants as refusals;
 ghost use Rattle.trust_store.specs.Crashes.{LeavesOr};
 ghost use Rattle.cashier.specs.Calls.{CountsStore, LeavesBook};
-ghost use Rattle.cashier.specs.Matching.{IsFound, MatchEnds, PrintsFound, left_outcome};
+ghost use Rattle.cashier.specs.Matching.{IsFound, MatchEnds, PrintsFound};
 ghost use Rattle.cashier.specs.Outcome.{MatchFileEnds};
 
-use crate::outcome::{Outcome, outcome_of_reply};
-use crate::reply_kind::kind_of_refusal;
-use crate::reply_line::write_refusal;
+use crate::outcome::{Outcome, outcome_of_refusal, write_refusal};
 use crate::statement::is_told_longer;
 use cashier_remarks::{Folder, Opened, Remarks, StatementTelling};
 use std::alloc::Global;
@@ -49,17 +47,6 @@ fn found_in<R: Read + Drop, B: Book>(
     }
 }
 
-// The outcome of a match, depending on whether a record has to be looked at.
-fn outcome_by(is_left: bool) -> Outcome
-    ensures { result ≡ left_outcome is_left }
-{
-    if is_left {
-        Outcome::Refused
-    } else {
-        Outcome::Done
-    }
-}
-
 // Prints the matched statement, and reports to a person what in it has to be looked at; or prints the line of its
 // refusal, and reports why.
 fn print_found<W: Write, F: Folder, M: Remarks>(
@@ -77,14 +64,18 @@ fn print_found<W: Write, F: Folder, M: Remarks>(
                 return Outcome::OutputFault;
             };
             telling.tell_matched(matched.unmatched.as_slice());
-            outcome_by(matched.is_left)
+            if matched.is_left {
+                Outcome::Refused
+            } else {
+                Outcome::Done
+            }
         }
         Err(refusal) => {
             let Ok(()) = write_refusal(writer, refusal) else {
                 return Outcome::OutputFault;
             };
             telling.tell_refused(refusal);
-            outcome_of_reply(kind_of_refusal(refusal))
+            outcome_of_refusal(refusal)
         }
     }
 }
@@ -93,10 +84,10 @@ fn print_found<W: Write, F: Folder, M: Remarks>(
 fn match_in<R: Read + Drop, F: Folder, M: Remarks, W: Write, B: Book>(
     alloc: Global,
     file: Opened<R>,
-    telling: &StatementTelling<'_, F, M>,
-    writer: &mut W,
-    desk: &mut Desk<B>,
     today: Day,
+    telling: &StatementTelling<'_, F, M>,
+    desk: &mut Desk<B>,
+    writer: &mut W,
 ) -> Outcome
     ensures began { result ≢ Outcome.CommandLine }
     ensures ends { B.clean desk.new → B.stands desk.old
@@ -147,5 +138,5 @@ pub fn run_match<'a, F: Folder, M: Remarks, W: Write, B: Book>(
     };
     let is_file = file.length.is_some();
     let telling = StatementTelling::new(alloc, folder, path, is_file, today, remarks, None);
-    match_in(alloc, file, &telling, writer, desk, today)
+    match_in(alloc, file, today, &telling, desk, writer)
 }

@@ -11,7 +11,7 @@ use std::alloc::Global;
 use std::fmt;
 
 /// What a run reads.
-#[derive(Clone, Copy, PartialEq, Eq, Debug)]
+#[derive(Clone, Copy)]
 pub enum Source<'a> {
     /// The file at this path.
     File(&'a str),
@@ -20,7 +20,7 @@ pub enum Source<'a> {
 }
 
 /// What standard error is told about a run that ended with a fault or with invalid words.
-#[derive(Clone, Copy, PartialEq, Eq, Debug)]
+#[derive(Clone, Copy)]
 pub enum Notice<'a> {
     /// The command line is invalid: the usage, an example, and what is wrong.
     CommandLine(Advice<'a>),

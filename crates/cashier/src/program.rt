@@ -5,37 +5,48 @@ ghost use Rattle.std.specs.String.{string_bytes};
 ghost use Rattle.clap.specs.Words.{Text};
 ghost use Rattle.cashier.specs.Calls.{CountsStore, CountsStoreIn, LeavesBook};
 ghost use Rattle.cashier.specs.Check.{IsSaidSound};
-ghost use Rattle.cashier.specs.Crashes.{LeavesItems, LeavesMessages, LeavesRun};
-ghost use Rattle.cashier.specs.Outcome.{FileEnds, HasBegun, IsServed, Ran, words_outcome};
+ghost use Rattle.cashier.specs.Crashes.{LeavesClients, LeavesItems, LeavesRun};
+ghost use Rattle.cashier.specs.Outcome.{FileEnds, HasBegun, Ran, words_outcome};
 ghost use Rattle.cashier.specs.Runs.{HadNoBook, HasRun, RanAtPath, RanInMemory};
+ghost use Rattle.cashier.specs.Serving.{PortEnds};
 ghost use Rattle.command_line.specs.Program.{Means, MeansCheck, MeansNothing, MeansSheet, MeansStream, words_of};
 ghost use Rattle.command_line.specs.declared.command.Task.{Task};
 ghost use Rattle.portal_http.specs.Clients.{ports_of};
 
 use crate::check::run_check;
-use crate::lines_before::lines_before;
 use crate::matching::run_match;
 use crate::outcome::{
-    Outcome, outcome_of_sheet, outcome_of_statement, outcome_of_store, outcome_of_stream,
-    outcome_of_words, outcome_put_back,
+    Outcome, outcome_of_serving, outcome_of_sheet, outcome_of_statement, outcome_of_store,
+    outcome_of_stream, outcome_of_words, outcome_put_back,
 };
 use crate::report::run_report;
-use crate::serving::run_serve;
 use crate::sheet::run_sheet;
 use crate::statement::run_import;
-use crate::surroundings::Surroundings;
 use cashier_remarks::{
-    AskedRemarks, Folder, Remarks, StatementTelling, is_past, tell_of_day, tell_of_loss,
-    tell_of_new_book, tell_of_no_book,
+    AskedRemarks, Folder, Presence, Remark, Remarks, StatementTelling, is_past, tell_of_day,
+    tell_of_loss, tell_of_new_book, tell_of_no_book,
 };
 use command_line::{CliFault, Plan, Task, command_of};
-use portal_http::{Network, serve_stream};
+use portal_http::{Network, serve_connections, serve_stream};
 use std::alloc::{AllocError, Global};
 use std::io::{ErrorKind, Read, Write};
 use std::rt::Clock;
 use trust_base::Day;
 use trust_desk::{Desk, EarlierLines};
 use trust_store::{Book, PlainBook, Stores};
+
+/// What a run can use in addition to its standard streams.
+#[derive(Drop)]
+pub struct Surroundings<'a, F, C, N, M> {
+    /// The files that a command line can name.
+    pub folder: &'a F,
+    /// The clock that times clients.
+    pub clock: &'a C,
+    /// The ports that a command line can name.
+    pub network: &'a N,
+    /// Receives the remarks, which say what a person needs to go on.
+    pub remarks: &'a M,
+}
 
 /// Returns the words as strings, in order.
 pub fn texts_of<'a>(alloc: Global, words: &'a [String]) -> Result<Vec<&'a str>, AllocError>
@@ -56,9 +67,9 @@ fn import_file<F: Folder, M: Remarks, W: Write, B: Book>(
     path: &str,
     remarks: &M,
     earlier: Option<&EarlierLines>,
-    writer: &mut W,
-    desk: &mut Desk<B>,
     today: Day,
+    desk: &mut Desk<B>,
+    writer: &mut W,
 ) -> Outcome
     ensures began { result ≢ Outcome.CommandLine }
     ensures ends { B.clean desk.new → B.stands desk.old
@@ -78,11 +89,18 @@ fn import_file<F: Folder, M: Remarks, W: Write, B: Book>(
     outcome_of_statement(run_import(alloc, file.reader, file.length, writer, desk, today, &told))
 }
 
-// Serves the messages of standard input. It never ends with `StoreFault`: a failure of the store was answered, and is
-// not part of how a stream ends.
-fn serve_input<R: Read, W: Write, B: Book>(
+/// Serves `count` clients of a port over a desk on a business day, one after the other, and writes a line for each, the
+/// name of its stream's end.
+///
+/// The outcome is `Done` if as many were served as requested, however their streams ended. It is `NetworkFault` if the
+/// port is not available, and then nothing is served or written, or if an accept was refused. It is `OutputFault` if a
+/// line could not be written, and then only a prefix of the lines was. It is never `StoreFault`, because a failure of
+/// the store was answered to its message.
+pub fn run_serve<F: Folder, C: Clock + Drop, N: Network, M: Remarks, W: Write, B: Book>(
     alloc: Global,
-    reader: &mut R,
+    around: Surroundings<'_, F, C, N, M>,
+    port: u16,
+    count: u32,
     writer: &mut W,
     desk: &mut Desk<B>,
     today: Day,
@@ -90,14 +108,29 @@ fn serve_input<R: Read, W: Write, B: Book>(
     ensures began { result ≢ Outcome.CommandLine }
     ensures store { result ≢ Outcome.StoreFault }
     ensures ends { B.clean desk.new → B.stands desk.old
-        → IsServed today (B.firm desk.old) (R.remaining reader.old) (B.firm desk.new)
+        → PortEnds today count (ports_of N.Listener.Writer.contents (N.comes around.entry.network.now)
+        (N.refuses around.entry.network.now)) port (B.firm desk.old) (B.firm desk.new)
         (W.contents writer.old) (W.contents writer.new) result }
     ensures kept { LeavesBook B.clean B.sure B.stands B.lasts B.refusals (CountsStore Outcome.StoreFault result)
         desk.old desk.new }
-    ensures crash { LeavesMessages B.clean B.sure B.stands B.lasts B.leaves B.firm B.refusals today
-        (R.remaining reader.old) desk.old (W.contents writer.old) (W.contents writer.new) result desk.new }
+
+    // For each client its answers, and what a crash leaves of its messages.
+    ensures crash { LeavesClients B.clean B.sure B.stands B.lasts B.leaves B.firm B.refusals today
+        (ports_of N.Listener.Writer.contents (N.comes around.entry.network.now)
+        (N.refuses around.entry.network.now)) port desk.old desk.new }
 {
-    outcome_of_stream(serve_stream(alloc, reader, writer, desk, today))
+    let Some(mut listener) = around.network.listen(port) else {
+        return Outcome::NetworkFault;
+    };
+    outcome_of_serving(serve_connections(
+        alloc,
+        around.clock,
+        &mut listener,
+        count,
+        writer,
+        desk,
+        today,
+    ))
 }
 
 // Runs a plan over a desk, whatever book the plan names. Before an import the book has these lines, if they were read.
@@ -147,13 +180,14 @@ fn run_plan<R: Read, F: Folder, C: Clock + Drop, N: Network, M: Remarks, W: Writ
                 path,
                 remarks,
                 earlier,
-                writer,
-                desk,
                 today,
+                desk,
+                writer,
             )
         }
         Task::Match(path) => run_match(alloc, around.folder, path, remarks, writer, desk, today),
-        Task::Stream => serve_input(alloc, reader, writer, desk, today),
+        // It never ends with `StoreFault`: a failure of the store was answered, and is not part of how a stream ends.
+        Task::Stream => outcome_of_stream(serve_stream(alloc, reader, writer, desk, today)),
         Task::Serve { port, count } => run_serve(alloc, around, port, count, writer, desk, today),
         Task::Report(command) => {
             let is_past = is_past(around.clock, today);
@@ -235,9 +269,9 @@ fn run_in_memory<R: Read, F: Folder, C: Clock + Drop, N: Network, M: Remarks, W:
     around: Surroundings<'_, F, C, N, M>,
     writer: &mut W,
 ) -> Outcome
-    ensures began { result ≢ Outcome.CommandLine }
     ensures input { (words : List Text) → Means words plan.now.today plan.now.task
         → MeansSheet words ⊎ (MeansStream words ⊎ (reader.new ≡ reader.old)) }
+    ensures began { result ≢ Outcome.CommandLine }
     ensures ran { (words : List Text) → Means words plan.now.today plan.now.task
         → RanInMemory (λ before after. Ran words (R.remaining reader.old)
         (F.known around.entry.folder.now) (F.opens around.entry.folder.now)
@@ -252,36 +286,44 @@ fn run_in_memory<R: Read, F: Folder, C: Clock + Drop, N: Network, M: Remarks, W:
     ended
 }
 
-// Runs a plan over a book of a store, and puts the book back. Before an import the book has these lines, if they were
-// read.
-fn run_over_book<R: Read, F: Folder, C: Clock + Drop, N: Network, M: Remarks, S: Stores, W: Write>(
+// Reads the bank lines that the book at a path has before a plan is run, if the plan imports a statement into an
+// existing book and somebody is told about them. `None` if they are not wanted, if the book is not available, which its
+// run then reports, or if they could not be read, which is reported.
+//
+// The book is put back at once, and the run opens it again. So a row that can't be read does not stop an import of
+// other rows.
+fn lines_before<M: Remarks, S: Stores>(
     alloc: Global,
+    remarks: &M,
     plan: &Plan<'_>,
-    reader: &mut R,
-    around: Surroundings<'_, F, C, N, M>,
     stores: &S,
-    book: S::AtPath,
-    earlier: Option<&EarlierLines>,
-    writer: &mut W,
-) -> Outcome
-    ensures began { result ≢ Outcome.CommandLine }
-    ensures input { (words : List Text) → Means words plan.now.today plan.now.task
-        → MeansSheet words ⊎ (MeansStream words ⊎ (reader.new ≡ reader.old)) }
-    ensures ran { (path : Text) → (S.AtPath.sure book → S.finds stores.now path book)
-        → (S.AtPath.sure book → S.AtPath.clean book) → (words : List Text) → Means words plan.now.today plan.now.task
-        → RanAtPath S.AtPath.clean S.AtPath.sure S.AtPath.stands S.AtPath.lasts S.AtPath.leaves S.AtPath.firm
-        S.AtPath.refusals (S.finds stores.now path) (S.puts stores.now) words (R.remaining reader.old)
-        (F.known around.entry.folder.now) (F.opens around.entry.folder.now)
-        (ports_of N.Listener.Writer.contents (N.comes around.entry.network.now)
-        (N.refuses around.entry.network.now)) (W.contents writer.old) (W.contents writer.new) result }
-{
+    path: &str,
+    found: Presence,
+) -> Option<EarlierLines> {
+    let is_wanted = matches!(plan.task, Task::Import(_))
+        && matches!(found, Presence::There)
+        && !plan.is_quiet
+        && remarks.are_told();
+    if !is_wanted {
+        return None;
+    }
+    let Ok(book) = stores.at(alloc, path) else {
+        return None;
+    };
     let mut desk = Desk::new(book);
-    let ended = run_plan(alloc, plan, reader, around, earlier, writer, &mut desk);
-    let put = stores.put_back(desk.into_book());
-    outcome_put_back(ended, put)
+    let lines = desk.earlier_lines(alloc);
+    // The book's contents are kept even if this fails.
+    let _ = stores.put_back(desk.into_book());
+    match lines {
+        Ok(lines) => Some(lines),
+        Err(fault) => {
+            remarks.tell(&Remark::EarlierEnd(fault));
+            None
+        }
+    }
 }
 
-// Runs a plan over the book at a path, if it is available.
+// Runs a plan over the book at a path, if it is available, and puts the book back.
 fn run_at_path<R: Read, F: Folder, C: Clock + Drop, N: Network, M: Remarks, S: Stores, W: Write>(
     alloc: Global,
     plan: &Plan<'_>,
@@ -304,87 +346,42 @@ fn run_at_path<R: Read, F: Folder, C: Clock + Drop, N: Network, M: Remarks, S: S
 {
     let found = around.folder.presence(path);
     let earlier = lines_before(alloc, around.remarks, plan, stores, path, found);
-    match stores.at(alloc, path) {
-        Ok(book) => {
-            tell_of_new_book(around.remarks, plan, path, found);
-            run_over_book(
-                alloc,
-                plan,
-                reader,
-                around,
-                stores,
-                book,
-                earlier.as_ref(),
-                writer,
-            )
-        }
+    let book = match stores.at(alloc, path) {
+        Ok(book) => book,
         Err(fault) => {
             tell_of_no_book(alloc, around.remarks, plan, stores, path, fault);
-            outcome_of_store(fault)
+            return outcome_of_store(fault);
         }
-    }
+    };
+    tell_of_new_book(around.remarks, plan, path, found);
+    let mut desk = Desk::new(book);
+    let ended = run_plan(
+        alloc,
+        plan,
+        reader,
+        around,
+        earlier.as_ref(),
+        writer,
+        &mut desk,
+    );
+    let put = stores.put_back(desk.into_book());
+    outcome_put_back(ended, put)
 }
 
-/// Runs what the program's words ask for over the book at the path of `--db`. If there is no `--db`, it uses a new,
-/// empty book in memory, which is dropped at the end.
+/// Runs what the words that the program was called with ask for, its name first among them, over the book at the path
+/// of `--db`. If there is no `--db`, it uses a new, empty book in memory, which is dropped at the end.
 ///
 /// Before a statement is imported, the book at the path is opened an extra time, read and put back, if somebody is told
 /// which of the statement's lines an earlier import put on another entry. Nothing else depends on that.
 ///
-/// If the command line is invalid, or memory runs out before it is parsed, nothing is read, run or written, and no book
-/// is opened. If the book can't be opened, nothing is read or written, and no other file and no port is opened; the
-/// outcome is `StoreFault`, or `MemoryFault` if memory ran out. Otherwise it is that of the task (`run_words`). Then
-/// the book is put back at its path. If that fails, and the task ended without a fault, the outcome is `StoreFault` or
-/// `MemoryFault`; what was accepted is kept even then.
+/// If the words can't be read or are invalid, or memory runs out before they are parsed, nothing is read, run or
+/// written, and no book is opened: the outcome is `MemoryFault` if memory ran out, and otherwise `CommandLine`. If the
+/// book can't be opened, nothing is read or written, and no other file and no port is opened; the outcome is
+/// `StoreFault`, or `MemoryFault` if memory ran out. Otherwise it is that of the task (`run_words`). Then the book is put
+/// back at its path. If that fails, and the task ended without a fault, the outcome is `StoreFault` or `MemoryFault`;
+/// what was accepted is kept even then.
 ///
 /// The firm that is left in memory is sound, as it is after each record, each line of a statement and each message.
-pub fn run_over_stores<
-    'a,
-    R: Read,
-    F: Folder,
-    C: Clock + Drop,
-    N: Network,
-    M: Remarks,
-    S: Stores,
-    W: Write,
->(
-    alloc: Global,
-    words: &'a [&'a str],
-    reader: &mut R,
-    around: Surroundings<'_, F, C, N, M>,
-    stores: &S,
-    writer: &mut W,
-) -> Outcome
-    ensures ran { HasRun S.AtPath.clean S.AtPath.sure S.AtPath.stands S.AtPath.lasts S.AtPath.leaves S.AtPath.firm
-        S.AtPath.refusals (S.finds stores.now) (S.puts stores.now)
-        ((reader.new ≡ reader.old) × (writer.new ≡ writer.old))
-        (words_of words.entry.now) (R.remaining reader.old) (F.known around.entry.folder.now)
-        (F.opens around.entry.folder.now)
-        (ports_of N.Listener.Writer.contents (N.comes around.entry.network.now)
-        (N.refuses around.entry.network.now)) (W.contents writer.old)
-        (W.contents writer.new) result }
-    ensures unread { result ≡ Outcome.CommandLine → reader.new ≡ reader.old }
-    ensures unwritten { result ≡ Outcome.CommandLine → writer.new ≡ writer.old }
-    ensures input { MeansSheet (words_of words.entry.now)
-        ⊎ (MeansStream (words_of words.entry.now) ⊎ (reader.new ≡ reader.old)) }
-{
-    match command_of(alloc, words) {
-        Ok(plan) => {
-            tell_of_day(around.clock, around.remarks, &plan);
-            match plan.db {
-                Some(path) => run_at_path(alloc, &plan, path, reader, around, stores, writer),
-                None => run_in_memory(alloc, &plan, reader, around, writer),
-            }
-        }
-        Err(CliFault::Line) => Outcome::CommandLine,
-        Err(CliFault::Memory) => Outcome::MemoryFault,
-    }
-}
-
-/// Runs the program on the words that it was called with, its name first among them, as `run_over_stores` does.
-///
-/// If the words can't be read, nothing is read, run or written: the outcome is `MemoryFault` if memory ran out, and
-/// `CommandLine` if a word is not text.
 pub fn run_called<R: Read, F: Folder, C: Clock + Drop, N: Network, M: Remarks, S: Stores, W: Write>(
     alloc: Global,
     called: &Result<Vec<String>, ErrorKind>,
@@ -419,5 +416,15 @@ pub fn run_called<R: Read, F: Folder, C: Clock + Drop, N: Network, M: Remarks, S
     let Ok(texts) = texts_of(alloc, words.as_slice()) else {
         return Outcome::MemoryFault;
     };
-    run_over_stores(alloc, texts.as_slice(), reader, around, stores, writer)
+    match command_of(alloc, texts.as_slice()) {
+        Ok(plan) => {
+            tell_of_day(around.clock, around.remarks, &plan);
+            match plan.db {
+                Some(path) => run_at_path(alloc, &plan, path, reader, around, stores, writer),
+                None => run_in_memory(alloc, &plan, reader, around, writer),
+            }
+        }
+        Err(CliFault::Line) => Outcome::CommandLine,
+        Err(CliFault::Memory) => Outcome::MemoryFault,
+    }
 }

@@ -1,15 +1,13 @@
 // Prints the reports that commands ask for.
 
-ghost use Rattle.std.specs.Prelude.{◌≡◌, ◌≢◌, Result, true};
+ghost use Rattle.std.specs.Prelude.{◌≡◌, ◌≢◌, Result};
 ghost use Rattle.trust_base.specs.declared.refusal.StoreFault.{StoreFault};
 ghost use Rattle.cashier.specs.Calls.{CountsStore, LeavesBook};
 ghost use Rattle.cashier.specs.Report.{PrintsReport, asked_for};
 ghost use Rattle.trust_store.specs.Calls.{IsRead};
 ghost use Rattle.trust_store.specs.Crashes.{LeavesOr};
 
-use crate::outcome::{Outcome, outcome_of_reply};
-use crate::reply_kind::kind_of_reply;
-use crate::reply_line::write_reply;
+use crate::outcome::{Outcome, outcome_of_reply, write_reply};
 use cashier_remarks::{ExceptionTelling, NowTelling, Remark, Remarks, TwiceTelling};
 use command_line::ReportCommand;
 use std::alloc::Global;
@@ -42,34 +40,27 @@ fn request_for(command: ReportCommand) -> Request
 fn print_report<W: Write, B: Book>(
     alloc: Global,
     command: ReportCommand,
-    writer: &mut W,
-    desk: &mut Desk<B>,
     today: Day,
+    desk: &mut Desk<B>,
+    writer: &mut W,
 ) -> Outcome
-    ensures began { result ≢ Outcome.CommandLine }
-    ensures ends { B.clean desk.new → B.stands desk.old
-        → PrintsReport today (B.firm desk.old) command (B.firm desk.new) (W.contents writer.old)
-        (W.contents writer.new) result }
     ensures kept { LeavesBook B.clean B.sure B.stands B.lasts B.refusals (CountsStore Outcome.StoreFault result)
         desk.old desk.new }
-    ensures crash { B.sure desk.new → B.clean desk.old → B.stands desk.old
-        → LeavesOr (B.firm desk.old) (B.leaves desk.old) (B.leaves desk.new) }
+    ensures began { result ≢ Outcome.CommandLine }
     // If the text was written, the store has met no fault.
     ensures serves { result ≡ Outcome.Done → B.sure desk.new → B.clean desk.old → B.stands desk.old
         → B.clean desk.new }
+    ensures ends { B.clean desk.new → B.stands desk.old
+        → PrintsReport today (B.firm desk.old) command (B.firm desk.new) (W.contents writer.old)
+        (W.contents writer.new) result }
+    ensures crash { B.sure desk.new → B.clean desk.old → B.stands desk.old
+        → LeavesOr (B.firm desk.old) (B.leaves desk.old) (B.leaves desk.new) }
 {
     let reply = desk.answer(alloc, &request_for(command), today);
     let Ok(()) = write_reply(writer, &reply) else {
         return Outcome::OutputFault;
     };
-    outcome_of_reply(kind_of_reply(&reply))
-}
-
-// Whether the text of a report was written.
-fn is_done(outcome: Outcome) -> bool
-    ensures { result ≡ true → outcome ≡ Outcome.Done }
-{
-    matches!(outcome, Outcome::Done)
+    outcome_of_reply(&reply)
 }
 
 // Reports what the rows of a desk's book show in addition to a report of a day, and which fault ended that, if any.
@@ -130,8 +121,11 @@ pub fn run_report<M: Remarks, W: Write, B: Book>(
     ensures crash { B.sure desk.new → B.clean desk.old → B.stands desk.old
         → LeavesOr (B.firm desk.old) (B.leaves desk.old) (B.leaves desk.new) }
 {
-    let outcome = print_report(alloc, command, writer, desk, today);
-    if !is_done(outcome) || !remarks.are_told() {
+    let outcome = print_report(alloc, command, today, desk, writer);
+    let Outcome::Done = outcome else {
+        return outcome;
+    };
+    if !remarks.are_told() {
         return outcome;
     }
     match &command {

@@ -10,18 +10,17 @@ ghost use Rattle.cashier.specs.Sheet.{end_of, ran_by, records_run, sheet_records
 ghost use Rattle.cashier_remarks.specs.Records.{heard_of};
 ghost use Rattle.trust_desk.specs.Crashes.{IsMade, MayLeave};
 
-use crate::reply_kind::{ReplyKind, kind_of_reply};
-use crate::reply_line::{write_refusal, write_reply};
+use crate::outcome::{write_refusal, write_reply};
 use cashier_remarks::{Remark, Remarks, Telling, answer_record};
 use csv::{ByteRecord, ReaderBuilder};
 use std::alloc::Global;
 use std::io::{Read, Write};
 use trust_base::{Day, InputFault, MAX_FILE_BYTES, Refusal, read_whole};
-use trust_desk::Desk;
+use trust_desk::{Body, Desk, Reply};
 use trust_store::Book;
 
 /// How a sheet ended.
-#[derive(Clone, Copy, PartialEq, Eq, Debug)]
+#[derive(Clone, Copy)]
 pub enum SheetEnd {
     /// Every record was accepted.
     Done,
@@ -40,15 +39,15 @@ pub enum SheetEnd {
 
 // How a run continues after the line of a record with this reply was written: whether the record was accepted, or the
 // end of the run.
-fn ran_of(kind: ReplyKind) -> Result<bool, SheetEnd>
-    ensures is { result ≡ ran_by kind }
+fn ran_of(reply: &Reply) -> Result<bool, SheetEnd>
+    ensures is { result ≡ ran_by reply.now.body }
     ensures read { IfErr result (λ end. end ≢ SheetEnd.ReadFault) }
 {
-    match kind {
-        ReplyKind::Accepted => Ok(true),
-        ReplyKind::Refused => Ok(false),
-        ReplyKind::Store => Err(SheetEnd::Store),
-        ReplyKind::Memory => Err(SheetEnd::NoMemory),
+    match &reply.body {
+        Body::Json(_) | Body::Text(_) => Ok(true),
+        Body::Refused(Refusal::Store) => Err(SheetEnd::Store),
+        Body::Refused(Refusal::Memory) => Err(SheetEnd::NoMemory),
+        Body::Refused(_) => Ok(false),
     }
 }
 
@@ -77,7 +76,7 @@ fn run_record<W: Write, B: Book, M: Remarks>(
         return Err(SheetEnd::WriteFault);
     };
     telling.tell(row, &reply);
-    ran_of(kind_of_reply(&reply))
+    ran_of(&reply)
 }
 
 // How a sheet ends after all records were run, depending on whether one was refused.

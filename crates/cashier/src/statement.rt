@@ -4,14 +4,13 @@ ghost use Rattle.std.specs.Prelude.{◌≡◌, ◌⊎◌, option_map};
 ghost use Rattle.std.specs.Io.KnownBytes.{Appends};
 ghost use Rattle.trust_base.specs.declared.refusal.Refusal.TheVariants as refusals;
 ghost use Rattle.cashier.specs.Calls.{CountsStore, LeavesBook};
-ghost use Rattle.cashier.specs.Sheet.{refusal_kind, refusal_line};
+ghost use Rattle.cashier.specs.Sheet.{refusal_line};
 ghost use Rattle.cashier.specs.Statement as spec;
 ghost use Rattle.cashier.specs.Statement.{Answers, EndsByNoFault, Sent, StatementEnds, counts_line, refused_end};
 ghost use Rattle.statement_csv.specs.Items.{items};
 ghost use Rattle.trust_desk.specs.Crashes.{IsAfterFirst, MayLeave};
 
-use crate::reply_kind::{ReplyKind, kind_of_refusal};
-use crate::reply_line::{write_answer_line, write_refusal};
+use crate::outcome::{write_answer_line, write_refusal};
 use std::alloc::Global;
 use std::io::{Read, Write};
 use trust_base::{Day, MAX_FILE_BYTES, Refusal};
@@ -19,7 +18,7 @@ use trust_desk::{Desk, ImportEnd, ImportReply, ImportStop, ItemWatch, import_bod
 use trust_store::Book;
 
 /// How the import of a statement ended.
-#[derive(Clone, Copy, PartialEq, Eq, Debug)]
+#[derive(Clone, Copy)]
 pub enum StatementEnd {
     /// Every item was handled, and the counts were written.
     Done,
@@ -46,48 +45,35 @@ pub fn is_told_longer(length: Option<u64>) -> bool
     }
 }
 
-// How a run ends after a refusal.
-fn end_of(refusal: &Refusal) -> StatementEnd
-    ensures { result ≡ refused_end (refusal_kind refusal.now) }
-{
-    match kind_of_refusal(refusal) {
-        ReplyKind::Accepted => StatementEnd::Done,
-        ReplyKind::Refused => StatementEnd::Refused,
-        ReplyKind::Store => StatementEnd::Store,
-        ReplyKind::Memory => StatementEnd::NoMemory,
-    }
-}
-
+// Writes the line of a refusal, which ends the run.
 fn refuse<W: Write>(writer: &mut W, refusal: &Refusal) -> StatementEnd
-    ensures { Sent (refusal_line refusal.now) (refused_end (refusal_kind refusal.now)) (W.contents writer.old)
+    ensures { Sent (refusal_line refusal.now) (refused_end refusal.now) (W.contents writer.old)
         (W.contents writer.new) result }
 {
     let Ok(()) = write_refusal(writer, refusal) else {
         return StatementEnd::WriteFault;
     };
-    end_of(refusal)
+    match refusal {
+        Refusal::Store => StatementEnd::Store,
+        Refusal::Memory => StatementEnd::NoMemory,
+        _ => StatementEnd::Refused,
+    }
 }
 
-fn accept<W: Write>(writer: &mut W, alloc: Global, counts: &ImportReply) -> StatementEnd
-    ensures { Sent (counts_line counts.now) StatementEnd.Done (W.contents writer.old) (W.contents writer.new) result
-        ⊎ Sent (refusal_line refusals.Memory) StatementEnd.NoMemory (W.contents writer.old)
-        (W.contents writer.new) result }
-{
-    let Ok(body) = import_body(alloc, counts) else {
-        return refuse(writer, &Refusal::Memory);
-    };
-    let Ok(()) = write_answer_line(writer, 200, body.as_slice()) else {
-        return StatementEnd::WriteFault;
-    };
-    StatementEnd::Done
-}
-
-// Writes the line of an import, if it has one.
+// Writes the line of an import, if it has one: its counts, or that there was no memory for their text, or its refusal.
 fn answer<W: Write>(writer: &mut W, alloc: Global, ran: &ImportEnd) -> StatementEnd
     ensures { Answers ran.now (W.contents writer.old) (W.contents writer.new) result }
 {
     match &ran.end {
-        ImportStop::Done => accept(writer, alloc, &ran.reply),
+        ImportStop::Done => {
+            let Ok(body) = import_body(alloc, &ran.reply) else {
+                return refuse(writer, &Refusal::Memory);
+            };
+            let Ok(()) = write_answer_line(writer, 200, body.as_slice()) else {
+                return StatementEnd::WriteFault;
+            };
+            StatementEnd::Done
+        }
         ImportStop::Refused(refusal) => refuse(writer, refusal),
         ImportStop::Limit => refuse(writer, &Refusal::TooLarge),
         ImportStop::ReadFault => StatementEnd::ReadFault,

@@ -4,8 +4,7 @@ ghost use Rattle.std.specs.Prelude.{None, ⊤};
 
 use crate::notice::{Notice, bare_notice_of, notice_of};
 use crate::outcome::{Outcome, exit_of};
-use crate::program::{run_called, texts_of};
-use crate::surroundings::Surroundings;
+use crate::program::{Surroundings, run_called, texts_of};
 use cashier_remarks::{Folder, Opened, Presence, Remark, Remarks};
 use portal_http::SystemNetwork;
 use std::fs::{self, OpenFile};
@@ -60,16 +59,6 @@ impl<R: Eprint> Remarks for SystemRemarks<'_, R> {
     }
 }
 
-// Returns the words that the program was called with, or why they can't be read.
-fn words(rt: &(impl Env + AllocGlobal)) -> Result<Vec<String>, ErrorKind> {
-    match std::env::args(rt) {
-        Ok(words) => words
-            .collect(rt.alloc())
-            .map_err(|_| ErrorKind::OutOfMemory),
-        Err(error) => Err(error.kind()),
-    }
-}
-
 // Prints a notice on standard error, if there is one.
 fn tell(rt: &impl Eprint, notice: Option<Notice<'_>>) {
     if let Some(notice) = notice {
@@ -108,7 +97,12 @@ pub fn run_on_system<S: Stores>(
         network: &SystemNetwork { rt },
         remarks: &SystemRemarks { rt },
     };
-    let called = words(rt);
+    let called: Result<Vec<String>, ErrorKind> = match std::env::args(rt) {
+        Ok(words) => words
+            .collect(rt.alloc())
+            .map_err(|_| ErrorKind::OutOfMemory),
+        Err(error) => Err(error.kind()),
+    };
     let outcome = run_called(
         rt.alloc(),
         &called,

@@ -1,5 +1,5 @@
 -- What a record of a sheet does to a firm.
-use Rattle.std.proofs.Common.{◌≡◌, cond, ℕ, Bool, true, false, List, Option, Some, None, Result, Ok, Err, refl, sym, ap, subst}
+use Rattle.cashier_remarks.proofs.Names.{◌≡◌, cond, ℕ, Bool, true, false, List, Option, Some, None, Result, Ok, Err, refl, sym, ap, subst}
 use Rattle.std.specs.Prelude.{⊤}
 use Rattle.trust_base.specs.Texts.{matter_of}
 use Rattle.statement_csv.specs.Lines.{line_of_texts}

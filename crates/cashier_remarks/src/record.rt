@@ -5,13 +5,13 @@ ghost use Rattle.std.specs.List.{list_all};
 ghost use Rattle.std.specs.Option.{option_copied};
 ghost use Rattle.std.specs.Str.{is_utf8};
 ghost use Rattle.csv.specs.Records.{field_at, fields_of};
+ghost use Rattle.cashier_remarks.specs.Records as spec;
 ghost use Rattle.ask_fields.specs.Fields.{Reads};
 ghost use Rattle.trust_desk.specs.Calls.{KeepsBook};
 ghost use Rattle.trust_desk.specs.Counts.{counted_reply};
 ghost use Rattle.trust_desk.specs.Crashes.{IsMade, MayLeave};
 ghost use Rattle.trust_desk.specs.FirmStep.{Steps, firm_step};
 ghost use Rattle.trust_desk.specs.Replies.{is_fault_reply};
-ghost use Rattle.cashier_remarks.specs.Records as spec;
 ghost use Rattle.cashier_remarks.specs.Records.{ask_of, asked_of, awarding_in, claiming_in, dismissing_in, has_dismissal_form, heard_of, proposing_in, text_given, verb_in, verb_of};
 
 use ask_fields::{

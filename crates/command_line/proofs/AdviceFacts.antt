@@ -1,34 +1,18 @@
 -- What is wrong with words, by the errors of the parser on them and on their fronts.
-use Rattle.std.proofs.Common.{◌≡◌, ◌≢◌, ◌∙◌, ◌+◌, ◌<◌, ◌||◌, inl, inr, ap, ap₂, sym, refl, subst, Bool, ℕ, List, [], Option, Some, None, IfNone, IfSome, codes, get_or, length, min, option_map, slice_get, take}
+use Rattle.command_line.proofs.Names.{◌≡◌, ◌≢◌, ◌∙◌, ◌+◌, ◌<◌, ◌||◌, inl, inr, ap, ap₂, sym, refl, subst, Bool, ℕ, List, [], Option, Some, None, IfNone, IfSome, codes, get_or, length, min, option_map, slice_get, take, slice_get-get_or, slice_get-map, list_any, option_or, Row, Text, fault_of, found_of, matches_of, rows_of, subcommand_of, subcommand_rows_of, ErrorKind, ArgMatches, Found, first_value, clap_on_literals, first_value-rows, Bor, day_of, matter_of, HasCommand, HasWrongValue, IsFront, IsRepeated, IsStrayed, IsStray, IsTakenSoFar, IsWrong, IsWrongOperand, IsWrongToday, IsWrongValue, LacksValue, LacksValueAt, Names, front_by, last_setting, names_day, setting_named, verb_name, IsCount, IsPort, FailsAs, IsParse, IsRefused, db_rule, operand_rule, options_app, program, quiet_rule, report_apps, run_apps, today_rule, words_of, Front}
 use Rattle.std.proofs.lemmas.List.{get_or-map, length-map, take-map, take_min}
 use Rattle.std.proofs.lemmas.List.Folds.{list_any_more}
 use Rattle.std.proofs.lemmas.List.Sums.{fold_more}
-use Rattle.std.proofs.lemmas.Option.{slice_get-get_or, slice_get-map}
-use Rattle.std.specs.List.{list_any}
-use Rattle.std.specs.Option.{option_or}
-use Rattle.clap.specs.Words.{Row, Text, fault_of, found_of, matches_of, rows_of, subcommand_of, subcommand_rows_of}
-use Rattle.clap.specs.declared.error.kind.ErrorKind.{ErrorKind}
 use Rattle.clap.specs.declared.error.kind.ErrorKind.TheVariants as kind
-use Rattle.clap.specs.declared.parser.matches.ArgMatches.{ArgMatches}
-use Rattle.clap.specs.declared.parser.matches.Found.{Found}
-use Rattle.clap.specs.Matches.{first_value}
-use Rattle.clap.proofs.OnLiterals.{clap_on_literals}
-use Rattle.clap.proofs.WalkLemmas.{first_value-rows}
-use Rattle.std.specs.Borrow.{Bor}
-use Rattle.trust_base.specs.Texts.{day_of, matter_of}
-use Rattle.command_line.specs.Advice.{HasCommand, HasWrongValue, IsFront, IsRepeated, IsStrayed, IsStray, IsTakenSoFar, IsWrong, IsWrongOperand, IsWrongToday, IsWrongValue, LacksValue, LacksValueAt, Names, front_by, last_setting, names_day, setting_named, verb_name}
-use Rattle.command_line.specs.Numerals.{IsCount, IsPort}
-use Rattle.command_line.specs.Program.{FailsAs, IsParse, IsRefused, check_app, db_rule, import_app, match_app, operand_app, operand_rule, options_app, program, quiet_rule, report_apps, run_apps, serve_app, sheet_app, stream_app, today_rule, words_of}
 use Rattle.command_line.specs.declared.advice.Setting.{Setting}
 use Rattle.command_line.specs.declared.advice.Verb.{Verb}
 use Rattle.command_line.specs.declared.advice.Wrong.{Wrong}
 use Rattle.command_line.specs.declared.advice.Wrong.TheVariants as wrong
-use Rattle.command_line.specs.declared.faults.Front.{Front}
 use Rattle.command_line.specs.declared.faults.Front.TheVariants as fronts
 
 -- without words a command is wanted
 pub none-taken : FailsAs [] kind.MissingSubcommand
-unfolding clap_on_literals program options_app today_rule db_rule quiet_rule sheet_app import_app match_app operand_app operand_rule stream_app serve_app check_app run_apps report_apps
+unfolding clap_on_literals program options_app today_rule db_rule quiet_rule operand_rule run_apps report_apps
 none-taken = inl refl
 
 -- a value of the day that is none

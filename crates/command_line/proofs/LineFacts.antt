@@ -1,32 +1,20 @@
 -- What a parse of the program's own command line says.
-use Rattle.std.proofs.Common.{◌≡◌, ◌≢◌, ◌∙◌, ◌⊎◌, inl, inr, ap, sym, refl, subst, Bool, false, true, ℕ, List, [], Option, Some, None, IfErr, IfNone, Result, Ok, Err, option_map, option_and_then, codes}
-use Rattle.clap.specs.Words.{App, Row, Text, fault_of, first_of, found_of, is_simple, is_simple_and_free, kind_of, matches_of, rows_of, subcommand_name_of, subcommand_of, subcommand_rows_of}
+use Rattle.command_line.proofs.Names.{◌≡◌, ◌≢◌, ◌≤◌, ◌∙◌, ◌⊎◌, if◌then◌else◌, lit≤, arith, inl, inr, ap, sym, refl, subst, Bool, false, true, ℕ, List, [], Option, Some, None, IfErr, IfNone, Result, Ok, Err, option_map, option_and_then, codes, App, Row, Text, fault_of, first_of, found_of, is_simple, is_simple_and_free, kind_of, matches_of, rows_of, subcommand_name_of, subcommand_of, subcommand_rows_of, ErrorKind, ArgMatches, first_value, Found, clap_on_literals, first_value-rows, Bor, bytes_eq, day_of, matter_of, Gives, IsParse, IsRefused, IsServing, IsTask, LeavesNoPlan, MeansSheet, MeansStream, MatchReadsNothing, MeetsTask, Means, MeansNothing, db_of, db_rule, fault_by, is_flag_set, operand_rule, options_app, quiet_of, quiet_rule, report_apps, ImportIsNoSheet, ImportIsNoStream, IsReportCommand, CheckReadsNothing, ReportReadsNothing, ServeReadsNothing, program, report_name, task_text, run_apps, today_rule, Task}
 use Rattle.clap.specs.Kinds.{HasKind, IsAmong, Kinds}
 use Rattle.clap.specs.declared.error.Error.{Error}
-use Rattle.clap.specs.declared.error.kind.ErrorKind.{ErrorKind}
 use Rattle.clap.specs.declared.error.kind.ErrorKind.TheVariants as kind
-use Rattle.clap.specs.declared.parser.matches.ArgMatches.{ArgMatches}
-use Rattle.clap.specs.Matches.{first_value}
-use Rattle.clap.specs.declared.parser.matches.Found.{Found}
-use Rattle.clap.proofs.OnLiterals.{clap_on_literals}
-use Rattle.clap.proofs.WalkLemmas.{first_value-rows}
-use Rattle.std.specs.Borrow.{Bor}
 use Rattle.std.specs.Result.{IsErrAnd}
-use Rattle.std.specs.Str.{bytes_eq}
-use Rattle.trust_base.specs.Texts.{day_of, matter_of}
-use Rattle.command_line.specs.Program.{Gives, IsParse, IsRefused, IsTask, LeavesNoPlan, MatchReadsNothing, MeetsTask, Means, MeansNothing, db_of, db_rule, fault_by, import_app, is_flag_set, match_app, operand_app, operand_rule, options_app, quiet_of, quiet_rule, report_apps, ImportIsNoSheet, ImportIsNoStream, IsReportCommand, CheckReadsNothing, ReportReadsNothing, ServeReadsNothing, check_app, program, report_name, run_apps, serve_app, sheet_app, stream_app, today_rule}
 use Rattle.command_line.specs.declared.command.CliFault.{CliFault}
-use Rattle.command_line.specs.declared.report_command.ReportCommand.{ReportCommand}
-use Rattle.command_line.specs.declared.report_command.ReportCommand.TheVariants as reports
-use Rattle.command_line.specs.declared.command.Task.{Task}
+use Rattle.command_line.specs.declared.command.ReportCommand.{ReportCommand}
+use Rattle.command_line.specs.declared.command.ReportCommand.TheVariants as reports
 use Rattle.command_line.specs.declared.command.Task.TheVariants as tasks
 
 pub is_simple_program : is_simple program ≡ true
-unfolding clap_on_literals program options_app today_rule db_rule quiet_rule sheet_app import_app match_app operand_app operand_rule stream_app serve_app check_app run_apps report_apps
+unfolding clap_on_literals program options_app today_rule db_rule quiet_rule operand_rule run_apps report_apps
 is_simple_program = refl
 
 pub is_free_program : is_simple_and_free program ≡ true
-unfolding clap_on_literals program options_app today_rule db_rule quiet_rule sheet_app import_app match_app operand_app operand_rule stream_app serve_app check_app run_apps report_apps
+unfolding clap_on_literals program options_app today_rule db_rule quiet_rule operand_rule run_apps report_apps
 is_free_program = refl
 
 pub parses : (a : App) (words : List Text) → a ≡ program → (is_simple_and_free a ≡ true → fault_of a words ≡ []) → fault_of program words ≡ []
@@ -127,213 +115,116 @@ pub leaves-by : {T : Type 0} (words : List Text) (k : ErrorKind) (r : Result T C
 leaves-by words k (Ok value) is e = tt
 leaves-by words k (Err fault) is e = leaves words k fault is e
 
--- what holds at any rate
-pub if_none : {X : Type 0} (o : Option X) (P : Type 0) → P → IfNone o P
-if_none None P p = p
-if_none (Some x) P p = tt
+-- the value of an argument, among the rows of a parse
+pub first-given : {o : Option Text} (f : Found) (id : Text) → o ≡ first_value f id → first_of id (rows_of f) ≡ o
+first-given f id is = sym (first_value-rows f id) ∙ sym is
 
--- the command with a path is the import of that path
-pub imports : (f : Found) (name : Text) (path : Bor (List ℕ)) → name ≡ codes "import" → first_value f (codes "FILE") ≡ Some path.now → IsTask name (rows_of f) (tasks.Import path)
-imports f name path n v = record { named = n; operands = sym (first_value-rows f (codes "FILE")) ∙ v }
+-- The names of commands.
 
--- and the command of a match with a path the match of that path
-pub matches : (f : Found) (name : Text) (path : Bor (List ℕ)) → name ≡ codes "match" → first_value f (codes "FILE") ≡ Some path.now → IsTask name (rows_of f) (tasks.Match path)
-matches f name path n v = record { named = n; operands = sym (first_value-rows f (codes "FILE")) ∙ v }
+-- the place of a command's name among all of them; reports come last
+abbrev pub place_of : Text → ℕ
+place_of name =
+    if bytes_eq name (codes "import") then 0
+    else if bytes_eq name (codes "match") then 1
+    else if bytes_eq name (codes "sheet") then 2
+    else if bytes_eq name (codes "stream") then 3
+    else if bytes_eq name (codes "serve") then 4
+    else if bytes_eq name (codes "check") then 5
+    else if bytes_eq name (codes "reconcile") then 6
+    else if bytes_eq name (codes "ledger") then 7
+    else 8
 
--- two names of commands that are not the same text
-differ : (a b : Text) → bytes_eq a b ≡ false → bytes_eq b b ≡ true → a ≡ b → ⊥
-differ a b apart same e = let clash = sym apart ∙ ap (λ (x : Text). bytes_eq x b) e ∙ same in cc
+pub report-place : (r : ReportCommand) → 6 ≤ place_of (report_name r)
+report-place (reports.Reconcile day) = lit≤ tt
+report-place reports.Trial = lit≤ tt
+report-place reports.Journal = lit≤ tt
+report-place reports.Retention = lit≤ tt
+report-place reports.Exceptions = lit≤ tt
+report-place (reports.Ledger m) = lit≤ tt
+report-place reports.OwnLedger = lit≤ tt
 
--- no report's command reads the file or standard input
-no_import_report : (r : ReportCommand) → codes "import" ≡ report_name r → ⊥
-no_import_report (reports.Reconcile day) = differ _ _ refl refl
-no_import_report reports.Trial = differ _ _ refl refl
-no_import_report reports.Journal = differ _ _ refl refl
-no_import_report reports.Retention = differ _ _ refl refl
-no_import_report reports.Exceptions = differ _ _ refl refl
-no_import_report (reports.Ledger m) = differ _ _ refl refl
-no_import_report reports.OwnLedger = differ _ _ refl refl
+-- a task whose command reads a file has its path
+file-of : (name : Text) (values : List Row) (task : Task) → place_of name ≤ 1 → IsTask name values task → (path : Text) × (first_of (codes "FILE") values ≡ Some path)
+file-of name values tasks.Sheet low is = let e : place_of name ≡ 2 = ap place_of is.named in absurd (omega arith)
+file-of name values (tasks.Import path) low is = (path.now, is.operands)
+file-of name values (tasks.Match path) low is = (path.now, is.operands)
+file-of name values tasks.Stream low is = let e : place_of name ≡ 3 = ap place_of is.named in absurd (omega arith)
+file-of name values (tasks.Serve port count) low is = let e : place_of name ≡ 4 = ap place_of is.named in absurd (omega arith)
+file-of name values (tasks.Report r) low is = let e : place_of name ≡ place_of (report_name r) = ap place_of is.named in absurd (omega (arith, report-place r))
+file-of name values tasks.Check low is = let e : place_of name ≡ 5 = ap place_of is.named in absurd (omega arith)
 
-no_sheet_report : (r : ReportCommand) → codes "sheet" ≡ report_name r → ⊥
-no_sheet_report (reports.Reconcile day) = differ _ _ refl refl
-no_sheet_report reports.Trial = differ _ _ refl refl
-no_sheet_report reports.Journal = differ _ _ refl refl
-no_sheet_report reports.Retention = differ _ _ refl refl
-no_sheet_report reports.Exceptions = differ _ _ refl refl
-no_sheet_report (reports.Ledger m) = differ _ _ refl refl
-no_sheet_report reports.OwnLedger = differ _ _ refl refl
+-- so without a path there is no task
+pub no-file : {X : Type 0} (o : Option X) (name : Text) (values : List Row) → place_of name ≤ 1 → first_of (codes "FILE") values ≡ None → IfNone o ((task : Task) → ¬ IsTask name values task)
+no-file (Some x) name values low none = tt
+no-file None name values low none = λ task is. let e = sym none ∙ (file-of name values task low is).1 in cc
 
-no_stream_report : (r : ReportCommand) → codes "stream" ≡ report_name r → ⊥
-no_stream_report (reports.Reconcile day) = differ _ _ refl refl
-no_stream_report reports.Trial = differ _ _ refl refl
-no_stream_report reports.Journal = differ _ _ refl refl
-no_stream_report reports.Retention = differ _ _ refl refl
-no_stream_report reports.Exceptions = differ _ _ refl refl
-no_stream_report (reports.Ledger m) = differ _ _ refl refl
-no_stream_report reports.OwnLedger = differ _ _ refl refl
+-- one that serves has a port and a count
+serving-of : (name : Text) (values : List Row) (task : Task) → place_of name ≡ 4 → IsTask name values task → (port : ℕ) × (count : ℕ) × IsServing values port count
+serving-of name values tasks.Sheet same is = let e : place_of name ≡ 2 = ap place_of is.named in absurd (omega arith)
+serving-of name values (tasks.Import path) same is = let e : place_of name ≡ 0 = ap place_of is.named in absurd (omega arith)
+serving-of name values (tasks.Match path) same is = let e : place_of name ≡ 1 = ap place_of is.named in absurd (omega arith)
+serving-of name values tasks.Stream same is = let e : place_of name ≡ 3 = ap place_of is.named in absurd (omega arith)
+serving-of name values (tasks.Serve port count) same is = (port, count, is.operands)
+serving-of name values (tasks.Report r) same is = let e : place_of name ≡ place_of (report_name r) = ap place_of is.named in absurd (omega (arith, report-place r))
+serving-of name values tasks.Check same is = let e : place_of name ≡ 5 = ap place_of is.named in absurd (omega arith)
 
-no_match_report : (r : ReportCommand) → codes "match" ≡ report_name r → ⊥
-no_match_report (reports.Reconcile day) = differ _ _ refl refl
-no_match_report reports.Trial = differ _ _ refl refl
-no_match_report reports.Journal = differ _ _ refl refl
-no_match_report reports.Retention = differ _ _ refl refl
-no_match_report reports.Exceptions = differ _ _ refl refl
-no_match_report (reports.Ledger m) = differ _ _ refl refl
-no_match_report reports.OwnLedger = differ _ _ refl refl
+pub no-serving : {X : Type 0} (o : Option X) (name : Text) (values : List Row) → place_of name ≡ 4 → ((port count : ℕ) → ¬ IsServing values port count) → IfNone o ((task : Task) → ¬ IsTask name values task)
+no-serving (Some x) name values same never = tt
+no-serving None name values same never = λ task is. let s = serving-of name values task same is in never s.0 s.1 s.2
 
-no_import_match : codes "import" ≡ codes "match" → ⊥
-no_import_match = differ _ _ refl refl
+-- a ledger card is that of a matter, or the firm's
+card-of : (name : Text) (values : List Row) (r : ReportCommand) → place_of name ≡ 7 → IsReportCommand name values r
+    → ((m : ℕ) × (option_and_then matter_of (first_of (codes "MATTER") values) ≡ Some m)) ⊎ (first_of (codes "MATTER") values ≡ Some (codes "FIRM"))
+card-of name values (reports.Reconcile day) same is = let e : place_of name ≡ 6 = ap place_of is.named in absurd (omega arith)
+card-of name values reports.Trial same is = let e : place_of name ≡ 8 = ap place_of is.named in absurd (omega arith)
+card-of name values reports.Journal same is = let e : place_of name ≡ 8 = ap place_of is.named in absurd (omega arith)
+card-of name values reports.Retention same is = let e : place_of name ≡ 8 = ap place_of is.named in absurd (omega arith)
+card-of name values reports.Exceptions same is = let e : place_of name ≡ 8 = ap place_of is.named in absurd (omega arith)
+card-of name values (reports.Ledger m) same is = inl (m, is.operands)
+card-of name values reports.OwnLedger same is = inr is.operands
 
-no_match_sheet : codes "match" ≡ codes "sheet" → ⊥
-no_match_sheet = differ _ _ refl refl
-
-no_match_stream : codes "match" ≡ codes "stream" → ⊥
-no_match_stream = differ _ _ refl refl
-
-no_match_serve : codes "match" ≡ codes "serve" → ⊥
-no_match_serve = differ _ _ refl refl
-
-no_import_stream : codes "import" ≡ codes "stream" → ⊥
-no_import_stream = differ _ _ refl refl
-
-no_import_serve : codes "import" ≡ codes "serve" → ⊥
-no_import_serve = differ _ _ refl refl
-
-no_sheet_serve : codes "sheet" ≡ codes "serve" → ⊥
-no_sheet_serve = differ _ _ refl refl
-
-no_import_check : codes "import" ≡ codes "check" → ⊥
-no_import_check = differ _ _ refl refl
-
-no_match_check : codes "match" ≡ codes "check" → ⊥
-no_match_check = differ _ _ refl refl
-
-no_sheet_check : codes "sheet" ≡ codes "check" → ⊥
-no_sheet_check = differ _ _ refl refl
-
-no_stream_check : codes "stream" ≡ codes "check" → ⊥
-no_stream_check = differ _ _ refl refl
-
-no_stream_serve : codes "stream" ≡ codes "serve" → ⊥
-no_stream_serve = differ _ _ refl refl
-
--- the command without a path is no task
-pub no_file : (f : Found) (name : Text) (task : Task) → name ≡ codes "import" → first_value f (codes "FILE") ≡ None → IsTask name (rows_of f) task → ⊥
-no_file f name tasks.Sheet n v is = let e = sym n ∙ is.named in cc
-no_file f name (tasks.Import path) n v is = let e = sym v ∙ first_value-rows f (codes "FILE") ∙ is.operands in cc
-no_file f name (tasks.Match path) n v is = no_import_match (sym n ∙ is.named)
-no_file f name tasks.Stream n v is = no_import_stream (sym n ∙ is.named)
-no_file f name (tasks.Serve port count) n v is = no_import_serve (sym n ∙ is.named)
-no_file f name (tasks.Report r) n v is = no_import_report r (sym n ∙ is.named)
-no_file f name tasks.Check n v is = no_import_check (sym n ∙ is.named)
-
-pub no_match_file : (f : Found) (name : Text) (task : Task) → name ≡ codes "match" → first_value f (codes "FILE") ≡ None → IsTask name (rows_of f) task → ⊥
-no_match_file f name tasks.Sheet n v is = no_match_sheet (sym n ∙ is.named)
-no_match_file f name (tasks.Import path) n v is = no_import_match (sym is.named ∙ n)
-no_match_file f name (tasks.Match path) n v is = let e = sym v ∙ first_value-rows f (codes "FILE") ∙ is.operands in cc
-no_match_file f name tasks.Stream n v is = no_match_stream (sym n ∙ is.named)
-no_match_file f name (tasks.Serve port count) n v is = no_match_serve (sym n ∙ is.named)
-no_match_file f name (tasks.Report r) n v is = no_match_report r (sym n ∙ is.named)
-no_match_file f name tasks.Check n v is = no_match_check (sym n ∙ is.named)
-
--- a reconciliation without a day is no report
-pub no_day_report : (name : Text) (values : List Row) (r : ReportCommand) → name ≡ codes "reconcile" → option_and_then day_of (first_of (codes "DAY") values) ≡ None
-    → IsReportCommand name values r → ⊥
-no_day_report name values (reports.Reconcile day) n v is = let e = sym v ∙ is.operands in cc
-no_day_report name values reports.Trial n v is = differ _ _ refl refl (sym n ∙ is.named)
-no_day_report name values reports.Journal n v is = differ _ _ refl refl (sym n ∙ is.named)
-no_day_report name values reports.Retention n v is = differ _ _ refl refl (sym n ∙ is.named)
-no_day_report name values reports.Exceptions n v is = differ _ _ refl refl (sym n ∙ is.named)
-no_day_report name values (reports.Ledger m) n v is = differ _ _ refl refl (sym n ∙ is.named)
-no_day_report name values reports.OwnLedger n v is = differ _ _ refl refl (sym n ∙ is.named)
-
--- nor is a ledger card without a matter and without the firm
-pub no_card : (values : List Row) (r : ReportCommand) → option_and_then matter_of (first_of (codes "MATTER") values) ≡ None → first_of (codes "MATTER") values ≢ Some (codes "FIRM")
-    → IsReportCommand (codes "ledger") values r → ⊥
-no_card values (reports.Reconcile day) none other is = differ _ _ refl refl is.named
-no_card values reports.Trial none other is = differ _ _ refl refl is.named
-no_card values reports.Journal none other is = differ _ _ refl refl is.named
-no_card values reports.Retention none other is = differ _ _ refl refl is.named
-no_card values reports.Exceptions none other is = differ _ _ refl refl is.named
-no_card values (reports.Ledger m) none other is = let e = sym none ∙ is.operands in cc
-no_card values reports.OwnLedger none other is = other is.operands
+pub no-card : {X : Type 0} (o : Option X) (name : Text) (values : List Row) → place_of name ≡ 7 → option_and_then matter_of (first_of (codes "MATTER") values) ≡ None → first_of (codes "MATTER") values ≢ Some (codes "FIRM")
+    → IfNone o ((r : ReportCommand) → ¬ IsReportCommand name values r)
+no-card (Some x) name values same none other = tt
+no-card None name values same none other = λ r is. elim (card-of name values r same is) [
+  | inl m ↦ let e = sym none ∙ m.1 in cc
+  | inr firm ↦ other firm
+]
 
 -- the command that was met, and the task that it is
 pub meets : (m : Option (Text × List Row)) (name : Text) (values : List Row) (task : Task) → m ≡ Some (name, values) → IsTask name values task → MeetsTask m task
 meets m name values task e h = rw e h
 
--- an import is no sheet
-import_or_sheet : (m : Option (Text × List Row)) (path : Bor (List ℕ)) → MeetsTask m (tasks.Import path) → MeetsTask m tasks.Sheet → ⊥
-import_or_sheet None path a b = a
-import_or_sheet (Some met) path a b = let e = sym a.named ∙ b.named in cc
+pub unmet : (m : Option (Text × List Row)) (task : Task) → None ≡ option_map (λ (q : Text × List Row). q.1) m → MeetsTask m task → ⊥
+unmet None task e h = h
+unmet (Some command) task e h = cc
+
+-- two tasks of one command have one name
+pub same-place : (m : Option (Text × List Row)) (a b : Task) → MeetsTask m a → MeetsTask m b → place_of (task_text a) ≡ place_of (task_text b)
+same-place None a b x y = absurd x
+same-place (Some command) a b x y = ap place_of (sym x.named ∙ y.named)
+
+-- so a task that is neither reads no standard input
+reads-nothing : (words : List Text) (today : ℕ) (task : Task) → place_of (task_text task) ≢ 2 → place_of (task_text task) ≢ 3 → Means words today task → (¬ MeansSheet words) × (¬ MeansStream words)
+reads-nothing words today task sheet stream a = (
+  λ (later, b). sheet (same-place (subcommand_of program words) task tasks.Sheet a.gives.meets b.gives.meets),
+  λ (later, b). stream (same-place (subcommand_of program words) task tasks.Stream a.gives.meets b.gives.meets),
+)
 
 pub import-no-sheet : ImportIsNoSheet
-import-no-sheet words (today, path, a) (later, b) = import_or_sheet (subcommand_of program words) path a.gives.meets b.gives.meets
-
--- and no stream
-import_or_stream : (m : Option (Text × List Row)) (path : Bor (List ℕ)) → MeetsTask m (tasks.Import path) → MeetsTask m tasks.Stream → ⊥
-import_or_stream None path a b = a
-import_or_stream (Some command) path a b = no_import_stream (sym a.named ∙ b.named)
+import-no-sheet words (today, path, a) = (reads-nothing words today (tasks.Import path) (λ e. cc) (λ e. cc) a).0
 
 pub import-no-stream : ImportIsNoStream
-import-no-stream words (today, path, a) (later, b) = import_or_stream (subcommand_of program words) path a.gives.meets b.gives.meets
-
--- a match is no sheet and no stream
-match_or_sheet : (m : Option (Text × List Row)) (path : Bor (List ℕ)) → MeetsTask m (tasks.Match path) → MeetsTask m tasks.Sheet → ⊥
-match_or_sheet None path a b = a
-match_or_sheet (Some command) path a b = no_match_sheet (sym a.named ∙ b.named)
-
-match_or_stream : (m : Option (Text × List Row)) (path : Bor (List ℕ)) → MeetsTask m (tasks.Match path) → MeetsTask m tasks.Stream → ⊥
-match_or_stream None path a b = a
-match_or_stream (Some command) path a b = no_match_stream (sym a.named ∙ b.named)
+import-no-stream words (today, path, a) = (reads-nothing words today (tasks.Import path) (λ e. cc) (λ e. cc) a).1
 
 pub match-reads-nothing : MatchReadsNothing
-match-reads-nothing words (today, path, a) = (
-  λ (later, b). match_or_sheet (subcommand_of program words) path a.gives.meets b.gives.meets,
-  λ (later, b). match_or_stream (subcommand_of program words) path a.gives.meets b.gives.meets,
-)
-
--- a report is no sheet and no stream
-report_or_sheet : (m : Option (Text × List Row)) (r : ReportCommand) → MeetsTask m (tasks.Report r) → MeetsTask m tasks.Sheet → ⊥
-report_or_sheet None r a b = a
-report_or_sheet (Some command) r a b = no_sheet_report r (sym b.named ∙ a.named)
-
-report_or_stream : (m : Option (Text × List Row)) (r : ReportCommand) → MeetsTask m (tasks.Report r) → MeetsTask m tasks.Stream → ⊥
-report_or_stream None r a b = a
-report_or_stream (Some command) r a b = no_stream_report r (sym b.named ∙ a.named)
+match-reads-nothing words (today, path, a) = reads-nothing words today (tasks.Match path) (λ e. cc) (λ e. cc) a
 
 pub report-reads-nothing : ReportReadsNothing
-report-reads-nothing words (today, r, a) = (
-  λ (later, b). report_or_sheet (subcommand_of program words) r a.gives.meets b.gives.meets,
-  λ (later, b). report_or_stream (subcommand_of program words) r a.gives.meets b.gives.meets,
-)
-
--- nor are connections that are served
-serve_or_sheet : (m : Option (Text × List Row)) (port count : ℕ) → MeetsTask m (tasks.Serve port count) → MeetsTask m tasks.Sheet → ⊥
-serve_or_sheet None port count a b = a
-serve_or_sheet (Some command) port count a b = no_sheet_serve (sym b.named ∙ a.named)
-
-serve_or_stream : (m : Option (Text × List Row)) (port count : ℕ) → MeetsTask m (tasks.Serve port count) → MeetsTask m tasks.Stream → ⊥
-serve_or_stream None port count a b = a
-serve_or_stream (Some command) port count a b = no_stream_serve (sym b.named ∙ a.named)
+report-reads-nothing words (today, r, a) = reads-nothing words today (tasks.Report r) (λ e. omega (arith, report-place r)) (λ e. omega (arith, report-place r)) a
 
 pub serve-reads-nothing : ServeReadsNothing
-serve-reads-nothing words (today, port, count, a) = (
-  λ (later, b). serve_or_sheet (subcommand_of program words) port count a.gives.meets b.gives.meets,
-  λ (later, b). serve_or_stream (subcommand_of program words) port count a.gives.meets b.gives.meets,
-)
-
--- nor is a check
-check_or_sheet : (m : Option (Text × List Row)) → MeetsTask m tasks.Check → MeetsTask m tasks.Sheet → ⊥
-check_or_sheet None a b = a
-check_or_sheet (Some command) a b = no_sheet_check (sym b.named ∙ a.named)
-
-check_or_stream : (m : Option (Text × List Row)) → MeetsTask m tasks.Check → MeetsTask m tasks.Stream → ⊥
-check_or_stream None a b = a
-check_or_stream (Some command) a b = no_stream_check (sym b.named ∙ a.named)
+serve-reads-nothing words (today, port, count, a) = reads-nothing words today (tasks.Serve port count) (λ e. cc) (λ e. cc) a
 
 pub check-reads-nothing : CheckReadsNothing
-check-reads-nothing words (today, a) = (
-  λ (later, b). check_or_sheet (subcommand_of program words) a.gives.meets b.gives.meets,
-  λ (later, b). check_or_stream (subcommand_of program words) a.gives.meets b.gives.meets,
-)
+check-reads-nothing words (today, a) = reads-nothing words today tasks.Check (λ e. cc) (λ e. cc) a

@@ -1,12 +1,9 @@
 -- Texts of numbers, read back, and numbers that are given by the text of an operand.
-use Rattle.std.proofs.Common.{◌≡◌, ◌∙◌, ◌<◌, ◌^◌, false, ℕ, List, Ok, Option, Some, None, IfNone, IfSome, Result, ap, subst, sym, arith}
+use Rattle.command_line.proofs.Names.{◌≡◌, ◌∙◌, ◌<◌, ◌^◌, false, ℕ, List, Ok, Option, Some, None, IfNone, IfSome, Result, ap, subst, sym, arith, bytes_eq, bytes_eq-Decides, IsNumberBetween}
 use Rattle.std.specs.Prelude.{IsSomeAnd}
 use Rattle.std.specs.Fmt.{decimal}
 use Rattle.std.proofs.lemmas.Fmt.{parse-decimal}
-use Rattle.std.specs.Str.{bytes_eq}
-use Rattle.std.proofs.lemmas.Slice.Eq.{bytes_eq-Decides}
 use Rattle.std.specs.Str.Parse.{ParsesUnsigned}
-use Rattle.command_line.specs.Numerals.{IsNumberBetween}
 
 -- a number's own digits are read as the number
 pub reads-back : {E : Type 0} (least most : ℕ) (text : List ℕ) (number : ℕ) (r : Result ℕ E) → most < 2 ^ 32 → IsNumberBetween least most text number
@@ -28,19 +25,3 @@ shows-text least most text shown number n is same digits = digits ∙ ap decimal
 -- a text is not unlike itself
 pub never-unlike : (shown text : List ℕ) → false ≡ bytes_eq shown text → shown ≡ text → ⊥
 never-unlike shown text unlike like = let e = unlike ∙ (bytes_eq-Decides shown text).1 like in cc
-
--- what is read from the text that was given
-pub given : {X Y : Type 0} (r : Option Y) (o : Option X) (text : X) (P : X → Y → Type 0) → o ≡ Some text → IfSome r (P text) → IfSome r (λ n. IsSomeAnd o (λ t. P t n))
-given None o text P e h = tt
-given (Some n) o text P e h = subst (λ x. IsSomeAnd x (λ t. P t n)) (sym e) h
-
--- nothing is, where its text gives nothing
-pub not-given : {X Y : Type 0} (r : Option Y) (o : Option X) (text : X) (P : X → Y → Type 0) → o ≡ Some text → IfNone r ((n : Y) → ¬ P text n)
-    → IfNone r ((n : Y) → ¬ IsSomeAnd o (λ t. P t n))
-not-given (Some n) o text P e h = tt
-not-given None o text P e h = λ n is. h n (subst (λ x. IsSomeAnd x (λ t. P t n)) e is)
-
--- nor where there is no text
-pub no-text : {X : Type 0} (o : Option X) (P : X → Type 0) → o ≡ None → IsSomeAnd o P → ⊥
-no-text None P e is = is
-no-text (Some x) P e is = cc

@@ -15,8 +15,8 @@ use Rattle.command_line.specs.declared.command.CliFault.{CliFault}
 use Rattle.command_line.specs.declared.command.CliFault.TheVariants as faults
 use Rattle.command_line.specs.declared.command.Task.{Task}
 use Rattle.command_line.specs.declared.command.Task.TheVariants as tasks
-use Rattle.command_line.specs.declared.report_command.ReportCommand.{ReportCommand}
-use Rattle.command_line.specs.declared.report_command.ReportCommand.TheVariants as reports
+use Rattle.command_line.specs.declared.command.ReportCommand.{ReportCommand}
+use Rattle.command_line.specs.declared.command.ReportCommand.TheVariants as reports
 
 -- `--today DAY`, required
 unfoldable pub today_rule : Rule
@@ -37,46 +37,31 @@ unfoldable pub options_app : App
 options_app =
     with_rule (with_rule (with_rule (new_app (codes "cashier_cli")) today_rule) db_rule) quiet_rule
 
-unfoldable pub sheet_app : App
-sheet_app = new_app (codes "sheet")
-
 -- a required operand
 unfoldable pub operand_rule : Text → Rule
 operand_rule operand = record (new_rule operand) { required = true; action = Some action.Set }
 
--- a command of this name with one operand
-unfoldable pub operand_app : Text → Text → App
-operand_app name operand = with_rule (new_app name) (operand_rule operand)
+-- a command with these required operands added after its own
+abbrev pub with_operands : App → List Text → App
+with_operands app [] = app
+with_operands app (operand ∷ rest) = with_operands (with_rule app (operand_rule operand)) rest
 
--- the command `import FILE`
-unfoldable pub import_app : App
-import_app = operand_app (codes "import") (codes "FILE")
-
--- the command `match FILE`
-unfoldable pub match_app : App
-match_app = operand_app (codes "match") (codes "FILE")
-
-unfoldable pub stream_app : App
-stream_app = new_app (codes "stream")
-
--- the command `serve PORT COUNT`
-unfoldable pub serve_app : App
-serve_app = with_rule (operand_app (codes "serve") (codes "PORT")) (operand_rule (codes "COUNT"))
-
-unfoldable pub check_app : App
-check_app = new_app (codes "check")
+-- a command of this name with these operands
+abbrev pub command_app : Text → List Text → App
+command_app name operands = with_operands (new_app name) operands
 
 -- the commands that are no reports: `sheet`, `import FILE`, `match FILE`, `stream`, `serve PORT COUNT`, `check`
 unfoldable pub run_apps : List App
-run_apps = sheet_app ∷ import_app ∷ match_app ∷ stream_app ∷ serve_app ∷ check_app ∷ []
+run_apps = command_app (codes "sheet") [] ∷ command_app (codes "import") (codes "FILE" ∷ [])
+    ∷ command_app (codes "match") (codes "FILE" ∷ []) ∷ command_app (codes "stream") []
+    ∷ command_app (codes "serve") (codes "PORT" ∷ codes "COUNT" ∷ []) ∷ command_app (codes "check") [] ∷ []
 
 -- the commands of reports: `reconcile DAY`, `trial`, `journal`, `retention`, `exceptions`, `ledger MATTER`; instead
 -- of a matter's number there may be the word FIRM
 unfoldable pub report_apps : List App
-report_apps =
-    operand_app (codes "reconcile") (codes "DAY") ∷ new_app (codes "trial") ∷ new_app (codes "journal")
-    ∷ new_app (codes "retention") ∷ new_app (codes "exceptions")
-    ∷ operand_app (codes "ledger") (codes "MATTER") ∷ []
+report_apps = command_app (codes "reconcile") (codes "DAY" ∷ []) ∷ command_app (codes "trial") []
+    ∷ command_app (codes "journal") [] ∷ command_app (codes "retention") [] ∷ command_app (codes "exceptions") []
+    ∷ command_app (codes "ledger") (codes "MATTER" ∷ []) ∷ []
 
 -- a command line with these commands added after its own
 abbrev pub with_commands : App → List App → App

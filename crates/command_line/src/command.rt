@@ -1,21 +1,39 @@
-// The plan of a run, given by the words of the command line.
+// The plan of a run, given by the words of the command line, and the command line as clap's parser takes it.
 
 ghost use Rattle.std.specs.Prelude.{◌≡◌, ℕ, IfErr, IfOk, IfSome, IfNone, codes, option_and_then, option_map};
 ghost use Rattle.std.specs.Str.{bytes_eq};
-ghost use Rattle.clap.specs.Words.{first_of, found_of, rows_of, subcommand_rows_of};
-ghost use Rattle.trust_base.specs.Texts.{day_of, matter_of};
+ghost use Rattle.clap.specs.Words.{app_of, first_of, found_of, rows_of, with_subcommand};
+ghost use Rattle.trust_base.specs.Texts.{day_of};
 ghost use Rattle.command_line.specs.Numerals.{IsCount, IsNumberBetween, IsPort};
-ghost use Rattle.command_line.specs.Program.{Gives, IsCountGiven, IsPortGiven, IsTask, LeavesNoPlan, Means};
-ghost use Rattle.command_line.specs.Program.{db_of, fault_by, is_flag_set, quiet_of, words_of};
+ghost use Rattle.command_line.specs.Program.{IsParse, IsRefused, IsReportCommand, IsTask, LeavesNoPlan, Means};
+ghost use Rattle.command_line.specs.Program.{command_app, db_of, fault_by, program, quiet_of, words_of};
+ghost use Rattle.command_line.specs.declared.command.ReportCommand.{ReportCommand};
 ghost use Rattle.command_line.specs.declared.command.Task.{Task};
 
-use crate::grammar::parse;
-use crate::report_command::{ReportCommand, report_command_of};
-use clap::ArgMatches;
 use clap::error::ErrorKind;
+use clap::{Arg, ArgAction, ArgMatches, Command};
 use itoa::Buffer;
-use std::alloc::Global;
+use std::alloc::{AllocError, Global};
 use trust_base::{Day, MatterNo};
+
+/// A report to print.
+#[derive(Clone, Copy, PartialEq, Eq, Debug)]
+pub enum ReportCommand {
+    /// The three-way reconciliation of this day.
+    Reconcile(Day),
+    /// The trial balance.
+    Trial,
+    /// The journal.
+    Journal,
+    /// The retention list.
+    Retention,
+    /// The list of exceptions.
+    Exceptions,
+    /// The ledger card of this matter.
+    Ledger(MatterNo),
+    /// The ledger card of the firm's own money.
+    OwnLedger,
+}
 
 /// What a run is to do.
 #[derive(Clone, Copy, PartialEq, Eq, Debug)]
@@ -119,19 +137,11 @@ pub fn count_of(text: &str) -> Option<u32>
     number_between(text, 1, MAX_COUNT)
 }
 
-/// Returns the day that is the first value of an argument; `None` without a value, or if it is not a day.
-pub(crate) fn day_operand(values: &ArgMatches, id: &str) -> Option<Day>
+// Returns the day that is the first value of an argument; `None` without a value, or if it is not a day.
+fn day_operand(values: &ArgMatches, id: &str) -> Option<Day>
     ensures { result ≡ option_and_then day_of (first_of id.now (rows_of (found_of values.now))) }
 {
     Day::read(values.get_str(id)?.as_bytes())
-}
-
-/// Returns the matter whose number is the first value of an argument; `None` without a value, or if it is not six
-/// digits of a matter.
-pub(crate) fn matter_operand(values: &ArgMatches, id: &str) -> Option<MatterNo>
-    ensures { result ≡ option_and_then matter_of (first_of id.now (rows_of (found_of values.now))) }
-{
-    MatterNo::read(values.get_str(id)?.as_bytes())
 }
 
 /// Whether a text is the word FIRM, which may be given instead of a matter's number.
@@ -141,31 +151,26 @@ pub fn is_firm(text: &str) -> bool
     text == "FIRM"
 }
 
-// Returns the port that is the first value of an argument; `None` without a value, or if it is not a port.
-fn port_operand(values: &ArgMatches, id: &str) -> Option<u16>
-    ensures some { IfSome result (IsPortGiven (first_of id.now (rows_of (found_of values.now)))) }
+// Returns the report of a command, given by its name and its values.
+fn report_command_of(name: &str, values: &ArgMatches) -> Option<ReportCommand>
+    ensures some { IfSome result (IsReportCommand name.now (rows_of (found_of values.now))) }
     ensures none { IfNone result
-        ((port : ℕ) → ¬ IsPortGiven (first_of id.now (rows_of (found_of values.now))) port) }
+        ((report : ReportCommand) → ¬ IsReportCommand name.now (rows_of (found_of values.now)) report) }
 {
-    port_of(values.get_str(id)?)
-}
-
-// Returns the count that is the first value of an argument; `None` without a value, or if it is not a count.
-fn count_operand(values: &ArgMatches, id: &str) -> Option<u32>
-    ensures some { IfSome result (IsCountGiven (first_of id.now (rows_of (found_of values.now)))) }
-    ensures none { IfNone result
-        ((count : ℕ) → ¬ IsCountGiven (first_of id.now (rows_of (found_of values.now))) count) }
-{
-    count_of(values.get_str(id)?)
-}
-
-// Whether a flag is given; false if no argument has this name.
-fn is_flag_set(values: &ArgMatches, id: &str) -> bool
-    ensures { result ≡ is_flag_set id.now (rows_of (found_of values.now)) }
-{
-    match values.get_str(id) {
-        Some(text) => text == "true",
-        None => false,
+    match name {
+        "reconcile" => Some(ReportCommand::Reconcile(day_operand(values, "DAY")?)),
+        "trial" => Some(ReportCommand::Trial),
+        "journal" => Some(ReportCommand::Journal),
+        "retention" => Some(ReportCommand::Retention),
+        "exceptions" => Some(ReportCommand::Exceptions),
+        "ledger" => {
+            let card = values.get_str("MATTER")?;
+            if is_firm(card) {
+                return Some(ReportCommand::OwnLedger);
+            }
+            Some(ReportCommand::Ledger(MatterNo::read(card.as_bytes())?))
+        }
+        _ => None,
     }
 }
 
@@ -180,40 +185,80 @@ fn task_of<'a>(name: &str, values: &ArgMatches<'a>) -> Option<Task<'a>>
         "match" => Some(Task::Match(values.get_str("FILE")?)),
         "stream" => Some(Task::Stream),
         "serve" => Some(Task::Serve {
-            port: port_operand(values, "PORT")?,
-            count: count_operand(values, "COUNT")?,
+            port: port_of(values.get_str("PORT")?)?,
+            count: count_of(values.get_str("COUNT")?)?,
         }),
         "check" => Some(Task::Check),
         _ => Some(Task::Report(report_command_of(name, values)?)),
     }
 }
 
-// Returns the plan of a parse, if its values give one.
-fn plan_of<'a>(matches: &ArgMatches<'a>) -> Option<Plan<'a>>
-    ensures some { IfSome result
-        (λ p. Gives (rows_of (found_of matches.now)) (subcommand_rows_of matches.now) p.today p.task) }
-    ensures none { IfNone result
-        ((today : ℕ) → (task : Task)
-        → ¬ Gives (rows_of (found_of matches.now)) (subcommand_rows_of matches.now) today task) }
-    ensures db { IfSome result
-        (λ p. option_map (λ s. s.now) p.db ≡ first_of (codes "db") (rows_of (found_of matches.now))) }
-    ensures quiet { IfSome result (λ p. p.is_quiet ≡ is_flag_set (codes "quiet") (rows_of (found_of matches.now))) }
+// Adds a command with required operands.
+fn with_command<'a>(
+    alloc: Global,
+    program: Command<'a>,
+    name: &'a str,
+    operands: &[&'a str],
+) -> Result<Command<'a>, AllocError>
+    ensures { IfOk result (λ c. app_of c
+        ≡ with_subcommand (app_of program.entry) (command_app name.now (words_of operands.now)).top) }
 {
-    let Some(today) = day_operand(matches, "today") else {
-        return None;
+    let mut command = Command::new(alloc, name);
+    for operand in operands {
+        let value = Arg::new(alloc, *operand)
+            .required(true)
+            .action(ArgAction::Set);
+        command = command.arg(value)?;
+    }
+    program.subcommand(command)
+}
+
+// Builds the command line: its options, the commands that print no report, and those that print one.
+fn program_command<'a>(alloc: Global) -> Result<Command<'a>, AllocError>
+    ensures { IfOk result (λ c. app_of c ≡ program) }
+{
+    let today = Arg::new(alloc, "today")
+        .long("today")
+        .required(true)
+        .action(ArgAction::Set);
+    let db = Arg::new(alloc, "db").long("db").action(ArgAction::Set);
+    let quiet = Arg::new(alloc, "quiet")
+        .long("quiet")
+        .action(ArgAction::SetTrue);
+    let with_day = Command::new(alloc, "cashier_cli").arg(today)?;
+    let with_db = with_day.arg(db)?;
+    let with_quiet = with_db.arg(quiet)?;
+    let with_sheet = with_command(alloc, with_quiet, "sheet", &[])?;
+    let with_import = with_command(alloc, with_sheet, "import", &["FILE"])?;
+    let with_match = with_command(alloc, with_import, "match", &["FILE"])?;
+    let with_stream = with_command(alloc, with_match, "stream", &[])?;
+    let with_serve = with_command(alloc, with_stream, "serve", &["PORT", "COUNT"])?;
+    let with_check = with_command(alloc, with_serve, "check", &[])?;
+    let with_reconcile = with_command(alloc, with_check, "reconcile", &["DAY"])?;
+    let with_trial = with_command(alloc, with_reconcile, "trial", &[])?;
+    let with_journal = with_command(alloc, with_trial, "journal", &[])?;
+    let with_retention = with_command(alloc, with_journal, "retention", &[])?;
+    let with_exceptions = with_command(alloc, with_retention, "exceptions", &[])?;
+    let with_ledger = with_command(alloc, with_exceptions, "ledger", &["MATTER"])?;
+    Ok(with_ledger.subcommand_required(true))
+}
+
+/// Parses words, the first of which is the program's name. Returns the kind of error with which the command line
+/// refuses them; asking for help is one too.
+///
+/// Returns `OutOfMemory` if memory runs out. The contract cannot say that it never does otherwise: by clap's
+/// contract, a parse of any words may end with it, and nothing shows whether memory really ran out.
+pub fn parse<'a>(alloc: Global, words: &'a [&'a str]) -> Result<ArgMatches<'a>, ErrorKind>
+    ensures ok { IfOk result (IsParse (words_of words.entry.now)) }
+    ensures err { IfErr result (IsRefused (words_of words.entry.now)) }
+{
+    let Ok(command) = program_command(alloc) else {
+        return Err(ErrorKind::OutOfMemory);
     };
-    let Some((name, values)) = matches.subcommand() else {
-        return None;
-    };
-    let Some(task) = task_of(name, values) else {
-        return None;
-    };
-    Some(Plan {
-        today,
-        db: matches.get_str("db"),
-        is_quiet: is_flag_set(matches, "quiet"),
-        task,
-    })
+    match command.try_get_matches_from(words) {
+        Ok(matches) => Ok(matches),
+        Err(error) => Err(error.kind()),
+    }
 }
 
 /// Returns the plan that words mean; the first word is the program's name. `db` is the value of `--db` if given,
@@ -230,8 +275,23 @@ pub fn command_of<'a>(alloc: Global, words: &'a [&'a str]) -> Result<Plan<'a>, C
     ensures quiet { IfOk result (λ p. p.is_quiet ≡ quiet_of (words_of words.entry.now)) }
 {
     let matches = parse(alloc, words)?;
-    match plan_of(&matches) {
-        Some(plan) => Ok(plan),
-        None => Err(CliFault::Line),
-    }
+    let Some(today) = day_operand(&matches, "today") else {
+        return Err(CliFault::Line);
+    };
+    let Some((name, values)) = matches.subcommand() else {
+        return Err(CliFault::Line);
+    };
+    let Some(task) = task_of(name, values) else {
+        return Err(CliFault::Line);
+    };
+    let is_quiet = match matches.get_str("quiet") {
+        Some(text) => text == "true",
+        None => false,
+    };
+    Ok(Plan {
+        today,
+        db: matches.get_str("db"),
+        is_quiet,
+        task,
+    })
 }

@@ -12,8 +12,7 @@ ghost use Rattle.command_line.specs.Numerals.{IsCount, IsPort};
 ghost use Rattle.command_line.specs.Program.{IsRefused, program, words_of};
 
 use crate::advice::{Advice, Setting, Verb, Wrong, verb_of};
-use crate::command::{count_of, is_firm, port_of};
-use crate::grammar::parse;
+use crate::command::{count_of, is_firm, parse, port_of};
 use clap::ArgMatches;
 use clap::error::ErrorKind;
 use std::alloc::Global;

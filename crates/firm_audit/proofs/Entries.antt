@@ -1,14 +1,5 @@
 -- An entry of a kept matter that a search finds.
-use Rattle.std.proofs.Common.{◌≡◌, ℕ, ◌<◌, ◌≤◌, true, List, length, get_or, Ok, refl, sym, ap, ◌∙◌, arith}
-use Rattle.std.specs.Prelude.{is_some}
-use Rattle.std.proofs.lemmas.List.{length-map}
-use Rattle.matter_rows.specs.Rows.{Rows, entry_at}
-use Rattle.matter_rows.proofs.Entries.{some-within}
-use Rattle.matter_parts.specs.declared.kept.Kept.{Kept}
-use Rattle.matter_parts.specs.Parts.{entries_kept}
-use Rattle.trust_store.specs.declared.plain.KeptMatter.{KeptMatter}
-use Rattle.trust_store.specs.Kept.{rows_in, seek}
-use Rattle.trust_store.proofs.KeptMatters.{found_read}
+use Rattle.firm_audit.proofs.Names.{◌≡◌, ℕ, ◌<◌, ◌≤◌, true, List, length, get_or, Ok, refl, sym, ap, ◌∙◌, arith, is_some, length-map, Rows, entry_at, some-within, Kept, entries_kept, KeptMatter, rows_in, seek, found_read}
 
 -- what is found has an entry of each number up to its count
 pub entry-there : (m n i : ℕ) (ks : List KeptMatter) (k : KeptMatter) (kept : List Kept) → Ok i ≡ seek m ks → k ≡ get_or ks i k → kept ≡ k.matter.kept → 0 < n → n ≤ length kept → is_some (entry_at (rows_in m ks).entries n) ≡ true

@@ -1,12 +1,6 @@
 -- A list that a loop goes along: what is wanted of the rest gives what is wanted of all.
-use Rattle.std.proofs.Common.{◌≡◌, ℕ, zero, suc, ◌+◌, ◌<◌, ◌≤◌, Bool, true, false, List, [], ◌∷◌, Some, None, map, length, drop, get_or, refl, sym, ap, ◌∙◌, subst, filter}
-use Rattle.std.specs.Prelude.{slice_get}
-use Rattle.std.proofs.lemmas.List.{drop_more}
+use Rattle.firm_audit.proofs.Names.{◌≡◌, ℕ, zero, suc, ◌+◌, ◌<◌, ◌≤◌, Bool, true, false, List, [], ◌∷◌, Some, None, map, length, drop, get_or, refl, sym, ap, ◌∙◌, subst, filter, slice_get, drop_more, option_map, Event, Movement, event_of}
 use Rattle.std.proofs.Math.ListN.{drop_of_length-le}
-use Rattle.std.specs.Option.{option_map}
-use Rattle.matter_rows.specs.Events.{Event}
-use Rattle.firm_rows.specs.declared.movement.Movement.{Movement}
-use Rattle.firm_rows.specs.Journal.{event_of}
 
 -- the next element is looked at
 pub next : {A : Type 0} (P : List A → Type 0) (Q : Type 0) (xs : List A) (i : ℕ) (x : A) → i < length xs → x ≡ get_or xs i x → (P (drop i xs) → Q) → P (x ∷ drop (i + 1) xs) → Q

@@ -1,26 +1,9 @@
 -- The journal of each matter, and that of the firm.
-use Rattle.std.proofs.Common.{◌≡◌, ℕ, zero, suc, ◌+◌, ◌-◌, ◌<◌, Bool, true, false, List, [], ◌∷◌, Option, Some, None, cond, map, take, refl, sym, ap, ◌∙◌, subst, arith, filter}
-use Rattle.std.specs.Prelude.{◌==◌, ◌&&◌, is_some, ℤ, pos, ◌≤ℤ◌}
-use Rattle.std.specs.List.{AllByRecursion}
-use Rattle.std.proofs.lemmas.Bool.{false≢true}
-use Rattle.std.proofs.lemmas.Bool.Decides.{nat_tests}
-use Rattle.std.proofs.lemmas.Int.{ints}
+use Rattle.firm_audit.proofs.Names.{◌≡◌, ℕ, zero, suc, ◌+◌, ◌-◌, ◌<◌, Bool, true, false, List, [], ◌∷◌, Option, Some, None, cond, map, take, refl, sym, ap, ◌∙◌, subst, arith, filter, ◌==◌, ◌&&◌, is_some, ℤ, pos, ◌≤ℤ◌, AllByRecursion, false≢true, nat_tests, ints, Rows, entry_at, last_of, unopened, events_of, events_in, within, Kept, AreNumbered, entries_kept, Movement, is_of_matter, is_of_entry, event_of, events_moved, moved_for, sum-filter, KeptMatter, rows_kept, IsKeptWhole, rows_in, moved_of, RiseWithin, moved_sum, AreCovered, AreMoved, IsJournal, IsOwned, IsJournalOf}
 use Rattle.matter_rows.specs.declared.entry.Entry.{Entry}
-use Rattle.matter_rows.specs.Rows.{Rows, entry_at, last_of, unopened}
 use Rattle.matter_rows.specs.Balances.{ledger}
-use Rattle.matter_rows.specs.Events.{events_of, events_in}
-use Rattle.matter_rows.proofs.Entries.{within}
-use Rattle.matter_parts.specs.declared.kept.Kept.{Kept}
-use Rattle.matter_parts.specs.Parts.{AreNumbered, entries_kept}
-use Rattle.firm_rows.specs.declared.movement.Movement.{Movement}
 use Rattle.firm_rows.specs.declared.movement.Owner.{Owner}
 use Rattle.firm_rows.specs.declared.movement.Owner.TheVariants as owner
-use Rattle.firm_rows.specs.Firm.{is_of_matter}
-use Rattle.firm_rows.specs.Journal.{is_of_entry, event_of, events_moved, moved_for}
-use Rattle.firm_rows.proofs.Sums.{sum-filter}
-use Rattle.trust_store.specs.declared.plain.KeptMatter.{KeptMatter}
-use Rattle.trust_store.specs.Kept.{rows_kept, IsKeptWhole, rows_in}
-use Rattle.firm_audit.specs.Audited.{moved_of, RiseWithin, moved_sum, AreCovered, AreMoved, IsJournal, IsOwned, IsJournalOf}
 use Rattle.firm_audit.proofs.KeptRows.{at-each}
 
 -- A matter's own movements.

@@ -1,17 +1,8 @@
 -- The rows of sound matters that are kept by number.
-use Rattle.std.proofs.Common.{◌≡◌, ◌≢◌, ℕ, ◌≤◌, Bool, true, false, List, [], ◌∷◌, ◌++◌, cond, refl, sym, ap, ◌∙◌, subst, arith}
-use Rattle.std.specs.Prelude.{nat_lt, ◌==◌}
-use Rattle.std.specs.List.{AllByRecursion}
-use Rattle.std.proofs.lemmas.Bool.Decides.{nat_tests}
-use Rattle.matter_rows.specs.Rows.{Rows, unopened}
-use Rattle.matter_rows.specs.Sound.{Sound}
-use Rattle.firm_rows.specs.Firm.{pairs, put}
+use Rattle.firm_audit.proofs.Names.{◌≡◌, ◌≢◌, ℕ, ◌≤◌, Bool, true, false, List, [], ◌∷◌, ◌++◌, cond, refl, sym, ap, ◌∙◌, subst, arith, nat_lt, ◌==◌, AllByRecursion, nat_tests, Rows, unopened, Sound, pairs, put, KeptMatter, rows_kept, joined, IsBefore, Ascends, IsKeptWhole, rows_in, joined_pass, joined_fail}
 use Rattle.firm_rows.proofs.Joined.{passing}
 use Rattle.firm_rows.proofs.Kept.{unopened-sound}
 use Rattle.firm_rows.proofs.Order.{put-again, put-other}
-use Rattle.trust_store.specs.declared.plain.KeptMatter.{KeptMatter}
-use Rattle.trust_store.specs.Kept.{rows_kept, joined, IsBefore, Ascends, IsKeptWhole, rows_in}
-use Rattle.trust_store.proofs.KeptMatters.{joined_pass, joined_fail}
 
 -- A matter by its number.
 

@@ -6,3 +6,4 @@ pub mod KeptRows
 pub mod Neighbours
 pub mod Sound
 pub mod Totals
+mod Names

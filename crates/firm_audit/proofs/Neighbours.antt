@@ -1,8 +1,5 @@
 -- Lists of which each element stands before the next.
-use Rattle.std.proofs.Common.{◌≡◌, ℕ, suc, ◌+◌, ◌-◌, ◌<◌, ◌≤◌, List, [], ◌∷◌, length, get_or, subst, ◌∙◌, ap, arith, ◌⊎◌, inl, inr}
-use Rattle.std.specs.List.{AllByRecursion}
-use Rattle.std.proofs.lemmas.List.{get_or_default}
-use Rattle.std.proofs.lemmas.Bool.{cases_lt}
+use Rattle.firm_audit.proofs.Names.{◌≡◌, ℕ, suc, ◌+◌, ◌-◌, ◌<◌, ◌≤◌, List, [], ◌∷◌, length, get_or, subst, ◌∙◌, ap, arith, ◌⊎◌, inl, inr, AllByRecursion, get_or_default, cases_lt, Follow}
 
 -- of the first elements of the list each stands before the next
 abbrev pub AreBefore : {A : Type 0} → (A → A → Type 0) → ℕ → List A → Type 0
@@ -33,10 +30,10 @@ module _ {A : Type 0} (R : A → A → Type 0) where
     further x y [] here all = tt
     further x y (z ∷ xs) here all = (trans x y z here all.0, further x y xs here all.1)
 
-    pub all-before : (n : ℕ) (xs : List A) → length xs ≤ n → AreBefore R n xs → AreAllBefore R xs
-    all-before n [] long is = tt
-    all-before n (x ∷ []) long is = (tt, tt)
-    all-before n (x ∷ y ∷ xs) long is =
-        let rest = all-before n (y ∷ xs) (omega arith) (λ j d few within. is (suc j) d (omega arith) (omega arith)) in
-        let first = is 0 x (omega arith) (omega arith) in
+    pub all-before : (xs : List A) → Follow R xs → AreAllBefore R xs
+    all-before [] is = tt
+    all-before (x ∷ []) is = (tt, tt)
+    all-before (x ∷ y ∷ xs) is =
+        let rest = all-before (y ∷ xs) (λ j d within. is (suc j) d (omega arith)) in
+        let first = is 0 x (omega arith) in
         ((first, further x y xs first rest.0), rest)

@@ -1,14 +1,7 @@
 -- Rows that pass are those of a sound firm.
-use Rattle.std.proofs.Common.{◌≡◌, ℕ, sym, ap, ◌∙◌, subst}
-use Rattle.matter_rows.specs.Rows.{Rows, entry_at}
-use Rattle.matter_rows.specs.Events.{events_in}
-use Rattle.matter_rows.specs.Sound.{Sound}
-use Rattle.firm_rows.specs.Firm.{Firm, of, put}
+use Rattle.firm_audit.proofs.Names.{◌≡◌, ℕ, sym, ap, ◌∙◌, subst, Rows, entry_at, events_in, Sound, Firm, of, put, joined, AreKeptWhole, rows_in, firm_of_all, rows_of-joined, IsJournalOf, IsOwnMoney, AreAscending}
 use Rattle.firm_rows.specs.FirmSound.{FirmSound}
 use Rattle.trust_store.specs.declared.all_rows.AllRows.{AllRows}
-use Rattle.trust_store.specs.Kept.{joined, AreKeptWhole, rows_in, firm_of_all}
-use Rattle.trust_store.proofs.KeptMatters.{rows_of-joined}
-use Rattle.firm_audit.specs.Audited.{IsJournalOf, IsOwnMoney, AreAscending}
 use Rattle.firm_audit.proofs.KeptRows.{sound_in, joined-in_order}
 use Rattle.firm_audit.proofs.Journals.{IsMovedAs, moved-in, events-in}
 

@@ -1,11 +1,6 @@
 -- Sums over the first elements of a list.
-use Rattle.std.proofs.Common.{◌≡◌, ℕ, ◌+◌, ◌<◌, ◌≤◌, List, [], ◌∷◌, ◌++◌, length, take, get_or, sym, ap, ◌∙◌, subst, arith, ◌⊎◌, inl, inr}
-use Rattle.std.specs.Prelude.{ℤ, ◌+ℤ◌}
-use Rattle.std.proofs.lemmas.Bool.{cases_lt}
-use Rattle.std.proofs.lemmas.Int.{ints}
-use Rattle.std.proofs.lemmas.List.{take_more, take_all}
+use Rattle.firm_audit.proofs.Names.{◌≡◌, ℕ, ◌+◌, ◌<◌, ◌≤◌, List, [], ◌∷◌, ◌++◌, length, take, get_or, sym, ap, ◌∙◌, subst, arith, ◌⊎◌, inl, inr, ℤ, ◌+ℤ◌, cases_lt, ints, take_more, sum-append}
 use Rattle.firm_rows.specs.Sums.{sum_of}
-use Rattle.firm_rows.proofs.Sums.{sum-append}
 
 -- with one element more
 pub sum-more : {A : Type 0} (f : A → ℤ) (xs : List A) (i : ℕ) (x : A) → i < length xs → x ≡ get_or xs i x → sum_of f (take (i + 1) xs) ≡ sum_of f (take i xs) +ℤ f x
@@ -20,15 +15,4 @@ module _ {A : Type 0} (P : ℤ → Type 0) (f : A → ℤ) (xs : List A) (i : �
     where
       cases : (i < k) ⊎ (k ≤ i) → P (sum_of f (take k xs))
       cases (inl past) = let at : i + 1 ≡ k = omega arith in subst (λ (n : ℕ). P (sum_of f (take n xs))) at here
-      cases (inr old) = all k old
-
-  -- up to the end it holds at each place whatever
-  pub each-all : length xs ≤ i → (k : ℕ) → P (sum_of f (take k xs))
-  each-all long k = cases (cases_lt i k)
-    where
-      cases : (i < k) ⊎ (k ≤ i) → P (sum_of f (take k xs))
-      cases (inl past) =
-          let over : length xs ≤ k = omega arith in
-          let same : take i xs ≡ take k xs = take_all i xs long ∙ sym (take_all k xs over) in
-          subst (λ (ys : List A). P (sum_of f ys)) same (all i (omega arith))
       cases (inr old) = all k old

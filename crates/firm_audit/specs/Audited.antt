@@ -1,5 +1,5 @@
 -- What the audit of a firm's rows checks, part by part.
-use Rattle.std.specs.Prelude.{◌≡◌, ℕ, ◌≤◌, true, List, map, take, ℤ, pos, ◌≤ℤ◌, is_some}
+use Rattle.std.specs.Prelude.{◌≡◌, ℕ, suc, ◌<◌, ◌≤◌, true, List, length, get_or, map, take, ℤ, pos, ◌≤ℤ◌, is_some}
 use Rattle.std.specs.List.{filter, AllByRecursion}
 use Rattle.std.specs.List.Sorted.{IsStrictlySortedBy}
 use Rattle.trust_base.specs.LineOrder.{line_cmp}
@@ -65,6 +65,10 @@ pub record IsJournalOf (ks : List KeptMatter) (movements : List Movement) : Type
   pub matters : AllByRecursion (λ k. IsJournal k (moved_of k.number movements)) ks
 
 -- The rest.
+
+-- each of a list stands before the next
+abbrev pub Follow : {A : Type 0} → (A → A → Type 0) → List A → Type 0
+Follow {A} R xs = (j : ℕ) (d : A) → suc j < length xs → R (get_or xs j d) (get_or xs (suc j) d)
 
 -- the movements of the firm's own money are the lines of its ledger, whose balance is always permitted
 pub record IsOwnMoney (movements : List Movement) (lines : List FirmLine) : Type 0 where

@@ -2,9 +2,10 @@
 
 ghost use Rattle.std.specs.Prelude.{◌≡◌, None, IfOk};
 ghost use Rattle.std.specs.List.{AllByRecursion};
-ghost use Rattle.trust_store.specs.Kept.{Ascends, IsKeptWhole, AreKeptWhole};
+ghost use Rattle.trust_store.specs.Kept.{IsKeptWhole, AreKeptWhole};
 
 use crate::Flaw;
+use crate::order::{Sorted, out_of_order};
 use matter_parts::is_sound_whole;
 use std::alloc::{AllocError, Global};
 use trust_base::MatterNo;
@@ -22,18 +23,14 @@ fn unsound(alloc: Global, matters: &[KeptMatter]) -> Result<Option<MatterNo>, Al
     Ok(None)
 }
 
-// The first matter whose number is not higher than the one before it.
-fn out_of_order(matters: &[KeptMatter]) -> Option<MatterNo>
-    ensures { result ≡ None → Ascends matters.now }
-{
-    for place in 1..matters.len() {
-        let before = &matters[place - 1];
-        let kept = &matters[place];
-        if kept.number.get() <= before.number.get() {
-            return Some(kept.number);
-        }
+impl Sorted for KeptMatter {
+    ghost use Rattle.std.specs.Prelude.{◌<◌};
+
+    ghost before = { λ a b. a.number < b.number };
+
+    fn is_before(&self, next: &KeptMatter) -> bool {
+        self.number.get() < next.number.get()
     }
-    None
 }
 
 /// The first flaw in the matters themselves.
@@ -43,8 +40,8 @@ pub(crate) fn matters_flaw(
 ) -> Result<Option<Flaw>, AllocError>
     ensures { IfOk result (λ found. found ≡ None → AreKeptWhole matters.now) }
 {
-    if let Some(number) = out_of_order(matters) {
-        return Ok(Some(Flaw::Matter(number)));
+    if let Some(place) = out_of_order(matters) {
+        return Ok(Some(Flaw::Matter(matters[place].number)));
     }
     if let Some(number) = unsound(alloc, matters)? {
         return Ok(Some(Flaw::Matter(number)));

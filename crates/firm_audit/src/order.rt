@@ -1,52 +1,52 @@
-// Whether the exceptions and the balances are sorted.
+// Whether rows are sorted.
 
-ghost use Rattle.std.specs.Prelude.{◌≡◌, None, IsTrue};
+ghost use Rattle.std.specs.Prelude.{◌≡◌, ◌<◌, None, length, IfSome};
 ghost use Rattle.std.specs.declared.cmp.Ordering.TheVariants.{Less};
-ghost use Rattle.std.specs.List.Sorted.{IsStrictlySortedBy};
 ghost use Rattle.trust_base.specs.LineOrder.{line_cmp};
 ghost use Rattle.firm_rows.specs.FirmLines.{balance_cmp};
-ghost use Rattle.firm_audit.specs.Audited.{AreAscending};
+ghost use Rattle.firm_audit.specs.Audited.{AreAscending, Follow};
 
 use crate::Flaw;
 use firm_rows::StatementRow;
 use std::cmp::Ordering;
 use trust_base::Line;
 
-fn is_line_before(line: &Line, next: &Line) -> bool
-    ensures { IsTrue result → line_cmp line.now next.now ≡ Less }
-{
-    matches!(line.compare(next), Ordering::Less)
+/// A row of a sorted list.
+pub(crate) trait Sorted {
+    ghost use Rattle.std.specs.Prelude.{IsTrue};
+
+    /// One stands before another.
+    ghost before: { Self → Self → Type 0 };
+
+    /// Whether it stands before the next.
+    fn is_before(&self, next: &Self) -> bool
+        ensures { IsTrue result → before self.now next.now };
 }
 
-fn is_balance_before(row: &StatementRow, next: &StatementRow) -> bool
-    ensures { IsTrue result → balance_cmp row.now next.now ≡ Less }
-{
-    matches!(row.compare(next), Ordering::Less)
-}
+impl Sorted for Line {
+    ghost before = { λ a b. line_cmp a b ≡ Less };
 
-// The position of the first line that does not sort after the one before it, counted from 1.
-fn line_out_of_order(lines: &[Line]) -> Option<u64>
-    ensures { result ≡ None → IsStrictlySortedBy line_cmp lines.now }
-{
-    for place in 1..lines.len() {
-        let before = &lines[place - 1];
-        let line = &lines[place];
-        if !is_line_before(before, line) {
-            return Some(place as u64 + 1);
-        }
+    fn is_before(&self, next: &Line) -> bool {
+        matches!(self.compare(next), Ordering::Less)
     }
-    None
 }
 
-// The position of the first balance that does not sort after the one before it, counted from 1.
-fn balance_out_of_order(rows: &[StatementRow]) -> Option<u64>
-    ensures { result ≡ None → IsStrictlySortedBy balance_cmp rows.now }
+impl Sorted for StatementRow {
+    ghost before = { λ a b. balance_cmp a b ≡ Less };
+
+    fn is_before(&self, next: &StatementRow) -> bool {
+        matches!(self.compare(next), Ordering::Less)
+    }
+}
+
+/// The index of the first row that does not stand after the one before it.
+pub(crate) fn out_of_order<T: Sorted>(rows: &[T]) -> Option<usize>
+    ensures within { IfSome result (λ i. i < length rows.now) }
+    ensures sorted { result ≡ None → Follow T.before rows.now }
 {
     for place in 1..rows.len() {
-        let before = &rows[place - 1];
-        let row = &rows[place];
-        if !is_balance_before(before, row) {
-            return Some(place as u64 + 1);
+        if !rows[place - 1].is_before(&rows[place]) {
+            return Some(place);
         }
     }
     None
@@ -56,9 +56,9 @@ fn balance_out_of_order(rows: &[StatementRow]) -> Option<u64>
 pub(crate) fn order_flaw(exceptions: &[Line], balances: &[StatementRow]) -> Option<Flaw>
     ensures { result ≡ None → AreAscending exceptions.now balances.now }
 {
-    if let Some(place) = line_out_of_order(exceptions) {
-        return Some(Flaw::Exception(place));
+    if let Some(place) = out_of_order(exceptions) {
+        return Some(Flaw::Exception(place as u64 + 1));
     }
-    let place = balance_out_of_order(balances)?;
-    Some(Flaw::Balance(place))
+    let place = out_of_order(balances)?;
+    Some(Flaw::Balance(place as u64 + 1))
 }

@@ -1,30 +1,8 @@
 -- The journal is the ledgers, and the difference is told.
-use Rattle.std.proofs.Common.{◌≡◌, ℕ, ◌≤◌, Bool, true, false, not, cond, List, [], ◌∷◌, Option, Some, None, refl, sym, ◌∙◌, subst, arith}
-use Rattle.std.specs.Prelude.{ℤ, pos, ◌+ℤ◌, ◌-ℤ◌, ◌&&◌, nat_le}
-use Rattle.std.specs.List.{filter, flat_map, AllByRecursion}
-use Rattle.std.proofs.lemmas.Int.{ints}
-use Rattle.std.proofs.lemmas.Bool.Decides.{nat_tests}
-use Rattle.matter_rows.specs.declared.head.Head.{Head}
-use Rattle.matter_rows.specs.declared.deposit.Deposit.{Deposit}
-use Rattle.matter_rows.specs.declared.deposit.DepositState.{DepositState}
+use Rattle.firm_figures.proofs.Names.{◌≡◌, ℕ, ◌≤◌, Bool, true, false, not, cond, List, [], ◌∷◌, Option, Some, None, refl, sym, ◌∙◌, subst, arith, ℤ, pos, ◌+ℤ◌, ◌-ℤ◌, ◌&&◌, nat_le, filter, flat_map, AllByRecursion, ints, nat_tests, Head, Deposit, DepositState, Payment, PaymentState, Entry, Rows, entry_amount, Event, events_of, AreRising, IsBackInTime, IsRising, deposit_days, payment_days, IsHeaded, Sound, Movement, FirmLine, sum_of, Row, Firm, of, FirmSound, entries_in, is_in_transit, is_outstanding, lines_of, is_event_by, is_moved_by, is_dated_by, is_matched_by, is_early, transit, outstanding, journal, ledgers, matched, early, AlwaysAgree, transit_share, outstanding_share, sum-filter, sum-flat, sum-agree, of_row, rows-entries, all-entries, agree}
 use Rattle.matter_rows.specs.declared.deposit.DepositState.TheVariants as deposit
-use Rattle.matter_rows.specs.declared.payment.Payment.{Payment}
-use Rattle.matter_rows.specs.declared.payment.PaymentState.{PaymentState}
 use Rattle.matter_rows.specs.declared.payment.PaymentState.TheVariants as payment
-use Rattle.matter_rows.specs.declared.entry.Entry.{Entry}
 use Rattle.matter_rows.specs.declared.entry.Entry.TheVariants as entry
-use Rattle.matter_rows.specs.Rows.{Rows, entry_amount}
-use Rattle.matter_rows.specs.Events.{Event, events_of}
-use Rattle.matter_rows.specs.Sound.{AreRising, IsBackInTime, IsRising, deposit_days, payment_days, IsHeaded, Sound}
-use Rattle.firm_rows.specs.declared.movement.Movement.{Movement}
-use Rattle.firm_rows.specs.declared.ledger.FirmLine.{FirmLine}
-use Rattle.firm_rows.specs.Sums.{sum_of}
-use Rattle.firm_rows.specs.Firm.{Row, Firm, of}
-use Rattle.firm_rows.specs.FirmSound.{FirmSound}
-use Rattle.firm_figures.specs.Figures.{entries_in, is_in_transit, is_outstanding, lines_of, is_event_by, is_moved_by, is_dated_by, is_matched_by, is_early, transit, outstanding, journal, ledgers, matched, early, AlwaysAgree}
-use Rattle.firm_figures.specs.Reconciling.{transit_share, outstanding_share}
-use Rattle.firm_rows.proofs.Sums.{sum-filter, sum-flat, sum-agree}
-use Rattle.firm_rows.proofs.Agree.{of_row, rows-entries, all-entries, agree}
 
 -- What each entry adds to a figure.
 module _ (p : ℕ) where

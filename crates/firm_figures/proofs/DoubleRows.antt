@@ -1,21 +1,10 @@
 -- Payments in order, and those of one instrument side by side.
-use Rattle.std.proofs.Common.{◌≡◌, ℕ, ◌+◌, ◌-◌, ◌<◌, true, false, List, [], ◌∷◌, ◌++◌, length, get_or, fold, refl, sym, ap, ◌∙◌, append-nil, append_assoc, arith}
-use Rattle.std.specs.Prelude.{nat_lt}
-use Rattle.std.specs.Cmp.{IsTotalOrder, IsStrictWeakOrder}
+use Rattle.firm_figures.proofs.Names.{◌≡◌, ℕ, ◌+◌, ◌-◌, ◌<◌, true, false, List, [], ◌∷◌, ◌++◌, length, get_or, refl, sym, ap, ◌∙◌, append-nil, append_assoc, arith, nat_lt, IsTotalOrder, IsStrictWeakOrder, filter, flat_map, IsSortedBy, Less, Equal, Greater, is_lt, is_eq, nat_cmp, ordering_then, ordering_reverse, nat_tests, filter_agree, ranks_by, Row, Issued, issued_cmp, is_before_issued, has_same_instrument, is_double_in, in_order, doubles_in, issued_in, IssuedKept, no_issued, with_row_issued, IssuedIsKept}
+use Rattle.std.proofs.Common.{fold}
 use Rattle.std.specs.Cmp.Lexicographic.{slice_cmp}
-use Rattle.std.specs.List.{filter, flat_map}
-use Rattle.std.specs.List.Sorted.{IsSortedBy}
 use Rattle.std.specs.declared.cmp.Ordering.{Ordering}
-use Rattle.std.specs.declared.cmp.Ordering.TheVariants.{Less, Equal, Greater}
-use Rattle.std.specs.Ordering.{is_lt, is_eq, nat_cmp, ordering_then, ordering_reverse}
 use Rattle.std.specs.Str.{bytes_eq}
-use Rattle.std.proofs.lemmas.Bool.Decides.{nat_tests}
 use Rattle.std.proofs.lemmas.Cmp.{on_total, then_total, nat_cmp_total, lists_total, nat_list_eq_equiv, same_from_slice_cmp}
-use Rattle.std.proofs.lemmas.List.Elements.{filter_agree}
-use Rattle.std.proofs.lemmas.List.Sorted.{ranks_by}
-use Rattle.firm_rows.specs.Firm.{Row}
-use Rattle.firm_figures.specs.declared.doubles.Issued.{Issued}
-use Rattle.firm_figures.specs.Doubles.{issued_cmp, is_before_issued, has_same_instrument, is_double_in, in_order, doubles_in, issued_in, IssuedKept, no_issued, with_row_issued, IssuedIsKept}
 use Rattle.firm_figures.proofs.Sorted.{alone, has-below, has-above, count-ordered}
 
 instrument_total : IsTotalOrder (slice_cmp nat_cmp)

@@ -1,9 +1,5 @@
 -- The last line of a list, with an amount added where it is of a matter.
-use Rattle.std.proofs.Common.{◌≡◌, ℕ, zero, suc, ◌-◌, ◌<◌, true, false, List, [], ◌∷◌, length, get_or, set, refl, sym, ap, arith}
-use Rattle.std.specs.Prelude.{ℤ, ◌==◌}
-use Rattle.firm_figures.specs.declared.trial_sink.TrialLine.{TrialLine}
-use Rattle.firm_figures.specs.Lists.{add_last}
-use Rattle.firm_figures.specs.Reconciling.{added}
+use Rattle.firm_figures.proofs.Names.{◌≡◌, ℕ, zero, suc, ◌-◌, ◌<◌, true, false, List, [], ◌∷◌, length, get_or, set, refl, sym, ap, arith, ℤ, ◌==◌, TrialLine, add_last, added}
 
 place-on : (m : ℕ) (z : ℤ) (ls : List TrialLine) (k : ℕ) (l : TrialLine) → length ls ≡ suc k → l ≡ get_or ls k l → (l.matter == m) ≡ true → set ls k (record { matter = l.matter; ledger = added l.ledger z }) ≡ add_last m z ls
 place-on m z [] k l long is on = absurd (omega (arith, long))

@@ -16,3 +16,4 @@ pub mod Retained
 pub mod Tidy
 pub mod Trial
 pub use Rattle.firm_figures.proofs.ReconciliationRows
+mod Names

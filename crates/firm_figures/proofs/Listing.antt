@@ -1,12 +1,5 @@
 -- What a lister keeps are the lists.
-use Rattle.std.proofs.Common.{◌≡◌, ℕ, Bool, true, false, cond, List, [], ◌∷◌, ◌++◌, sym, ap, ◌∙◌, append_assoc, append-nil}
-use Rattle.std.specs.Prelude.{nat_le, fold, if◌then◌else◌}
-use Rattle.std.specs.List.{filter, flat_map}
-use Rattle.trust_base.specs.declared.line.Line.{Line}
-use Rattle.firm_figures.specs.declared.lister.EntryLine.{EntryLine}
-use Rattle.firm_rows.specs.Firm.{Row}
-use Rattle.firm_figures.specs.Figures.{booked_on, is_in_transit, is_outstanding}
-use Rattle.firm_figures.specs.Listing.{line_where, early_lines, transit_list, out_list, early_list, Listed, none_listed, with_row_listed, with_exception_listed, ListsKept}
+use Rattle.firm_figures.proofs.Names.{◌≡◌, ℕ, Bool, true, false, cond, List, [], ◌∷◌, ◌++◌, sym, ap, ◌∙◌, append_assoc, append-nil, nat_le, fold, if◌then◌else◌, filter, flat_map, Line, EntryLine, Row, booked_on, is_in_transit, is_outstanding, line_where, early_lines, transit_list, out_list, early_list, Listed, none_listed, with_row_listed, with_exception_listed, ListsKept}
 
 -- the three lists with more at the end of each
 abbrev more : Listed → List EntryLine → List EntryLine → List EntryLine → Listed

@@ -1,31 +1,7 @@
 -- The journal's sums so far, and the trial balance.
-use Rattle.std.proofs.Common.{◌≡◌, ℕ, zero, suc, ◌+◌, ◌*◌, ◌≤◌, Bool, true, false, cond, List, [], ◌∷◌, ◌++◌, length, map, take, Option, Some, None, refl, sym, ap, ◌∙◌, subst, arith, append_assoc, append-nil}
-use Rattle.std.specs.Prelude.{ℤ, pos, negsuc, ◌+ℤ◌, ◌≤ℤ◌, ◌==◌, is_none, fold}
-use Rattle.std.specs.List.{AllByRecursion}
-use Rattle.std.specs.Int.{int_wrap, w64, w128}
-use Rattle.std.specs.Int.RustNames.{FitsSigned}
-use Rattle.std.proofs.lemmas.Int.{ints, int_wrap-add_left, int_wrap_fits}
-use Rattle.matter_rows.specs.declared.head.Head.{Head}
-use Rattle.matter_rows.specs.declared.seat.Seat.{Seat}
-use Rattle.matter_rows.specs.declared.entry.Entry.{Entry}
-use Rattle.matter_rows.specs.Rows.{Rows}
-use Rattle.matter_rows.specs.Balances.{ledger}
-use Rattle.matter_rows.specs.Sound.{IsAtRestIfClosed, IsHeaded, Sound}
-use Rattle.matter_rows.specs.Laws.{Covered}
-use Rattle.firm_rows.specs.Sums.{sum_of}
-use Rattle.firm_rows.specs.Firm.{Row, HeadRow, SeatRow, EntryRow, Firm, of, pairs, head_pairs, seat_pairs, entry_pairs}
-use Rattle.firm_rows.specs.FirmSound.{FirmSound}
-use Rattle.firm_rows.proofs.Sums.{at, sum-append, sum-same, sum-filter, sum-agree}
-use Rattle.firm_rows.proofs.Joined.{passing, own-put}
-use Rattle.firm_rows.proofs.Agree.{of_row, rows-entries}
-use Rattle.firm_rows.proofs.Solvent.{shares-ledger, row-share, sound-solvent}
-use Rattle.firm_rows.specs.declared.movement.Movement.{Movement}
+use Rattle.firm_figures.proofs.Names.{◌≡◌, ℕ, zero, suc, ◌+◌, ◌*◌, ◌≤◌, Bool, true, false, cond, List, [], ◌∷◌, ◌++◌, length, map, take, Option, Some, None, refl, sym, ap, ◌∙◌, subst, arith, append_assoc, append-nil, ℤ, pos, negsuc, ◌+ℤ◌, ◌≤ℤ◌, ◌==◌, is_none, fold, AllByRecursion, int_wrap, w128, FitsSigned, ints, int_wrap-add_left, int_wrap_fits, Head, Seat, Entry, Rows, ledger, IsAtRestIfClosed, IsHeaded, Sound, Covered, sum_of, Row, HeadRow, SeatRow, EntryRow, Firm, of, pairs, head_pairs, seat_pairs, entry_pairs, FirmSound, at, sum-append, sum-same, sum-filter, sum-agree, passing, own-put, of_row, rows-entries, shares-ledger, row-share, sound-solvent, Movement, TrialLine, ledger_share, row_share, ledger_sum, journal_sum, journal_from, last_sum, with_moved, JournalIsKept, open_matters, trial_lines, ListsAlwaysAgree, IsMovementInRange, added}
+use Rattle.std.specs.Int.{w64}
 use Rattle.firm_figures.specs.declared.journal_sink.JournalLine.{JournalLine}
-use Rattle.firm_figures.specs.declared.trial_sink.TrialLine.{TrialLine}
-use Rattle.firm_rows.specs.Journal.{ledger_share, row_share, ledger_sum, journal_sum}
-use Rattle.firm_figures.specs.Lists.{journal_from, last_sum, with_moved, JournalIsKept, open_matters, trial_lines, ListsAlwaysAgree}
-use Rattle.firm_rows.specs.Countable.{IsMovementInRange}
-use Rattle.firm_figures.specs.Reconciling.{added}
 use Rattle.firm_figures.proofs.Sizes.{IsWithin, wider, fits}
 
 -- The journal.

@@ -1,18 +1,5 @@
 -- The matters that the trial balance lists are open.
-use Rattle.std.proofs.Common.{◌≡◌, ℕ, ◌+◌, Bool, true, false, cond, List, [], ◌∷◌, ◌++◌, map, Option, Some, None, refl, sym, ap, ◌∙◌, arith}
-use Rattle.std.specs.Prelude.{◌==◌, ◌||◌, is_none}
-use Rattle.std.specs.List.{AllByRecursion}
-use Rattle.std.proofs.lemmas.Bool.Decides.{nat_tests}
-use Rattle.matter_rows.specs.declared.head.Head.{Head}
-use Rattle.matter_rows.specs.declared.seat.Seat.{Seat}
-use Rattle.matter_rows.specs.declared.entry.Entry.{Entry}
-use Rattle.matter_rows.specs.Rows.{Rows}
-use Rattle.matter_rows.specs.Balances.{ledger}
-use Rattle.firm_rows.specs.Firm.{Row, HeadRow, SeatRow, EntryRow, Firm, of, pairs, head_pairs, seat_pairs, entry_pairs}
-use Rattle.firm_rows.proofs.Joined.{passing, own-put}
-use Rattle.firm_rows.proofs.Ordered.{all-map}
-use Rattle.firm_figures.specs.declared.trial_sink.TrialLine.{TrialLine}
-use Rattle.firm_figures.specs.Lists.{open_matters, is_open, ListedAreOpen}
+use Rattle.firm_figures.proofs.Names.{◌≡◌, ℕ, ◌+◌, Bool, true, false, cond, List, [], ◌∷◌, ◌++◌, map, Option, Some, None, refl, sym, ap, ◌∙◌, arith, ◌==◌, ◌||◌, is_none, AllByRecursion, nat_tests, Head, Seat, Entry, Rows, ledger, Row, HeadRow, SeatRow, EntryRow, Firm, of, pairs, head_pairs, seat_pairs, entry_pairs, passing, own-put, all-map, TrialLine, open_matters, is_open, ListedAreOpen}
 
 -- one of the heads of a matter is open
 abbrev some_open : ℕ → List (ℕ × Row) → Bool

@@ -1,21 +1,10 @@
 -- The balances dated by a day have its openings, and the latest closing before a day is found by a search.
-use Rattle.std.proofs.Common.{◌≡◌, ℕ, zero, suc, ◌-◌, ◌<◌, ◌≤◌, Bool, true, false, cond, List, [], ◌∷◌, ◌++◌, length, get_or, fold, Option, Some, None, refl, sym, ap, ◌∙◌, subst, arith, append-nil, append_assoc}
-use Rattle.std.specs.Prelude.{not, ◌&&◌, nat_le, nat_lt, if◌then◌else◌}
-use Rattle.std.specs.List.{AllByRecursion, filter, flat_map}
-use Rattle.std.specs.List.Sorted.{IsNonDecreasingBy, IsStrictlySortedBy}
-use Rattle.std.proofs.lemmas.Bool.Decides.{nat_tests}
-use Rattle.std.specs.declared.cmp.Ordering.TheVariants.{Less, Equal, Greater}
-use Rattle.std.specs.Ordering.{nat_cmp, ordering_then}
-use Rattle.std.specs.Prelude.{◌==◌}
-use Rattle.std.proofs.lemmas.List.Elements.{All-from_recursion, recursion_from_All, filter_passes}
+use Rattle.firm_figures.proofs.Names.{◌≡◌, ℕ, zero, suc, ◌-◌, ◌<◌, ◌≤◌, Bool, true, false, cond, List, [], ◌∷◌, ◌++◌, length, get_or, Option, Some, None, refl, sym, ap, ◌∙◌, subst, arith, append-nil, append_assoc, ◌&&◌, nat_le, nat_lt, if◌then◌else◌, AllByRecursion, filter, flat_map, IsNonDecreasingBy, IsStrictlySortedBy, nat_tests, Less, Equal, Greater, nat_cmp, ordering_then, ◌==◌, All-from_recursion, recursion_from_All, filter_passes, StatementRow, balance_cmp, place_of, all-map, is_closing, is_closing_before, latest_before, after_closing, is_opening_by, opening_line, BalancesKept, no_balances, with_balance_kept, AreClosings, openings_after, openings_kept, OpeningsKept}
+use Rattle.std.proofs.Common.{fold}
+use Rattle.std.specs.Prelude.{not}
 use Rattle.std.proofs.lemmas.List.Kept.{IsStrictlySortedBy-filter}
-use Rattle.firm_rows.specs.declared.ledger.StatementRow.{StatementRow}
 use Rattle.firm_rows.specs.declared.ledger.BalanceKind.{BalanceKind}
 use Rattle.firm_rows.specs.declared.ledger.BalanceKind.TheVariants as kind
-use Rattle.firm_rows.specs.FirmLines.{balance_cmp, place_of}
-use Rattle.firm_rows.proofs.Ordered.{all-map}
-use Rattle.firm_figures.specs.Figures.{is_closing}
-use Rattle.firm_figures.specs.Openings.{is_closing_before, latest_before, after_closing, is_opening_by, opening_line, BalancesKept, no_balances, with_balance_kept, AreClosings, openings_after, openings_kept, OpeningsKept}
 
 abbrev is_closing_by : ℕ → StatementRow → Bool
 is_closing_by p r = is_closing r.kind && nat_le r.day p

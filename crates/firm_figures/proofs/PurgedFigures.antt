@@ -1,40 +1,11 @@
 -- Purging changes no figure of a day that is not before the close.
-use Rattle.std.proofs.Common.{◌≡◌, ℕ, ◌≤◌, true, List, [], ◌∷◌, Option, Some, None, refl, sym, ap, ◌∙◌, subst, arith}
-use Rattle.std.specs.Prelude.{ℤ, pos, ◌+ℤ◌, ◌-ℤ◌, ◌≤ℤ◌, nat_le}
-use Rattle.std.specs.List.{AllByRecursion}
-use Rattle.std.specs.Option.{option_map}
-use Rattle.std.proofs.lemmas.Int.{ints}
-use Rattle.std.proofs.lemmas.Bool.Decides.{nat_tests}
-use Rattle.matter_rows.specs.declared.head.Head.{Head}
-use Rattle.matter_rows.specs.declared.deposit.Deposit.{Deposit}
-use Rattle.matter_rows.specs.declared.deposit.DepositState.{DepositState}
+use Rattle.firm_figures.proofs.Names.{◌≡◌, ℕ, ◌≤◌, true, List, [], ◌∷◌, Option, Some, None, refl, sym, ap, ◌∙◌, subst, arith, ℤ, pos, ◌+ℤ◌, ◌-ℤ◌, ◌≤ℤ◌, nat_le, AllByRecursion, option_map, ints, nat_tests, Head, Deposit, DepositState, Payment, PaymentState, Entry, Rows, held_share, total_share, pending_share, pending_payment, held, total, ledger, pending, events_of, days_of, IsBy, IsHeaded, IsAtRest, IsAtRestIfClosed, Sound, Covered, sum_of, Row, Firm, of, FirmSound, entries_in, transit, outstanding, journal, own_by, ledgers, exceptions, matched, early, figures, figures_on, closing_on, Edit, changed_by, cleared_by, after_change, after_edit, IsClosedBy, PurgeChangesNoFigure, sum-agree, of_row, rows-entries, all-entries, transit_share, outstanding_share, IsClear, sound-cleared}
 use Rattle.matter_rows.specs.declared.deposit.DepositState.TheVariants as deposit
-use Rattle.matter_rows.specs.declared.payment.Payment.{Payment}
-use Rattle.matter_rows.specs.declared.payment.PaymentState.{PaymentState}
 use Rattle.matter_rows.specs.declared.payment.PaymentState.TheVariants as payment
-use Rattle.matter_rows.specs.declared.entry.Entry.{Entry}
 use Rattle.matter_rows.specs.declared.entry.Entry.TheVariants as entry
-use Rattle.matter_rows.specs.Rows.{Rows}
-use Rattle.matter_rows.specs.Shares.{held_share, total_share, pending_share, pending_payment}
-use Rattle.matter_rows.specs.Balances.{held, total, ledger, pending}
-use Rattle.matter_rows.specs.Events.{events_of}
-use Rattle.matter_rows.specs.Sound.{days_of, IsBy, IsHeaded, IsAtRest, IsAtRestIfClosed, Sound}
-use Rattle.matter_rows.specs.Laws.{Covered}
-use Rattle.firm_rows.specs.Sums.{sum_of}
-use Rattle.firm_rows.specs.Firm.{Row, Firm, of}
-use Rattle.firm_rows.specs.FirmSound.{FirmSound}
-use Rattle.firm_figures.specs.Figures.{entries_in, transit, outstanding, journal, own_by, ledgers, exceptions, matched, early, figures, figures_on, closing_on}
-use Rattle.trust_matter.specs.edit.Edit.{Edit}
 use Rattle.trust_matter.specs.edit.Edit.TheVariants as edit
-use Rattle.trust_matter.specs.Changes.{changed_by}
-use Rattle.firm_rows.specs.Firm.{cleared_by, after_change, after_edit}
-use Rattle.firm_figures.specs.Purged.{IsClosedBy, PurgeChangesNoFigure}
-use Rattle.firm_rows.proofs.Sums.{sum-agree}
-use Rattle.firm_rows.proofs.Agree.{of_row, rows-entries, all-entries}
-use Rattle.firm_figures.specs.Reconciling.{transit_share, outstanding_share}
 use Rattle.firm_figures.proofs.DifferenceTold.{ledger_by, matched_by, early_by, transit-shares, outstanding-shares, ledger-shares, matched-shares, early-shares, journal-ledgers}
 use Rattle.firm_rows.proofs.Changed.{each-matter, of-cleared_by, of_other-cleared_by}
-use Rattle.firm_rows.proofs.Clearing.{IsClear, sound-cleared}
 
 -- A sum over all entries where those of one matter add nothing, before and after.
 module _ (g : Entry → ℤ) (m : ℕ) (rows : Rows) (firm : Firm) (empty : rows.entries ≡ []) (nothing : sum_of g (of m firm).entries ≡ pos 0) where

@@ -1,35 +1,9 @@
 -- Purging changes none of the lists of entries as of a day that is not before the close.
-use Rattle.std.proofs.Common.{◌≡◌, ℕ, ◌+◌, ◌≤◌, Bool, false, List, [], ◌∷◌, ◌++◌, Option, Some, None, refl, sym, ap, ◌∙◌, subst, arith}
-use Rattle.std.specs.Prelude.{pos, ◌≤ℤ◌, nat_lt}
-use Rattle.std.specs.List.{AllByRecursion, filter, flat_map}
-use Rattle.std.proofs.lemmas.Int.{ints}
-use Rattle.std.proofs.lemmas.Grind.{flat_map-append}
-use Rattle.matter_rows.specs.declared.head.Head.{Head}
-use Rattle.matter_rows.specs.declared.seat.Seat.{Seat}
-use Rattle.matter_rows.specs.declared.deposit.Deposit.{Deposit}
-use Rattle.matter_rows.specs.declared.deposit.DepositState.{DepositState}
+use Rattle.firm_figures.proofs.Names.{◌≡◌, ℕ, ◌+◌, ◌≤◌, Bool, false, List, [], ◌∷◌, ◌++◌, Option, Some, None, refl, sym, ap, ◌∙◌, subst, arith, pos, ◌≤ℤ◌, nat_lt, AllByRecursion, filter, flat_map, ints, flat_map-append, Head, Seat, Deposit, DepositState, Payment, PaymentState, Entry, Rows, held_share, pending_share, held_deposit, held, pending, days_of, IsBy, IsRanged, IsHeaded, IsAtRest, IsAtRestIfClosed, Sound, Covered, EntryLine, Row, HeadRow, SeatRow, EntryRow, Firm, of, pairs, head_pairs, seat_pairs, entry_pairs, put, FirmSound, booked_on, is_in_transit, is_outstanding, is_banked_early, is_back_early, line_where, early_lines, Edit, changed_by, cleared_by, after_change, after_edit, IsClear, IsClosedBy, AreListsLeft, PurgeChangesNoList}
 use Rattle.matter_rows.specs.declared.deposit.DepositState.TheVariants as deposit
-use Rattle.matter_rows.specs.declared.payment.Payment.{Payment}
-use Rattle.matter_rows.specs.declared.payment.PaymentState.{PaymentState}
 use Rattle.matter_rows.specs.declared.payment.PaymentState.TheVariants as payment
-use Rattle.matter_rows.specs.declared.entry.Entry.{Entry}
 use Rattle.matter_rows.specs.declared.entry.Entry.TheVariants as entry
-use Rattle.matter_rows.specs.Rows.{Rows}
-use Rattle.matter_rows.specs.Shares.{held_share, pending_share, held_deposit}
-use Rattle.matter_rows.specs.Balances.{held, pending}
-use Rattle.matter_rows.specs.Sound.{days_of, IsBy, IsRanged, IsHeaded, IsAtRest, IsAtRestIfClosed, Sound}
-use Rattle.matter_rows.specs.Laws.{Covered}
-use Rattle.firm_figures.specs.declared.lister.EntryLine.{EntryLine}
-use Rattle.firm_rows.specs.Firm.{Row, HeadRow, SeatRow, EntryRow, Firm, of, pairs, head_pairs, seat_pairs, entry_pairs, put}
-use Rattle.firm_rows.specs.FirmSound.{FirmSound}
-use Rattle.firm_figures.specs.Figures.{booked_on, is_in_transit, is_outstanding, is_banked_early, is_back_early}
-use Rattle.firm_figures.specs.Listing.{line_where, early_lines}
-use Rattle.trust_matter.specs.edit.Edit.{Edit}
 use Rattle.trust_matter.specs.edit.Edit.TheVariants as edit
-use Rattle.trust_matter.specs.Changes.{changed_by}
-use Rattle.firm_rows.specs.Firm.{cleared_by, after_change, after_edit}
-use Rattle.firm_rows.proofs.Clearing.{IsClear}
-use Rattle.firm_figures.specs.Purged.{IsClosedBy, AreListsLeft, PurgeChangesNoList}
 use Rattle.firm_figures.proofs.PurgedFigures.{by, pending-least, all-pending-least, all-later}
 
 held-least : (e : Entry) → pos 0 ≤ℤ held_share e

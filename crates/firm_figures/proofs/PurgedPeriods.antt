@@ -1,18 +1,8 @@
 -- Days whose records are whole after a purge.
-use Rattle.std.proofs.Common.{◌≡◌, ℕ, ◌≤◌, Bool, true, false, List, ◌++◌, Option, Some, None, refl, sym, ap, ◌∙◌, subst, arith}
-use Rattle.std.specs.Prelude.{IsSome, ◌||◌, nat_lt}
-use Rattle.std.specs.List.{filter, list_any}
+use Rattle.firm_figures.proofs.Names.{◌≡◌, ℕ, ◌≤◌, Bool, true, false, List, ◌++◌, Option, Some, None, refl, sym, ap, ◌∙◌, subst, arith, IsSome, ◌||◌, nat_lt, filter, list_any, nat_tests, Head, Rows, cleared_head, closed_on, Covered, Edit, IsPlace, MatterChange, changed_by, Row, Firm, after_change, after_edit, cleared_by, entry_pairs, head_pairs, of, pairs, put, seat_pairs, IsClosedBy, IsPurge, PurgeChangesNoFigureLeft, PurgeChangesNoListLeft, is_day_after, is_period_purged, is_purged_after}
 use Rattle.std.proofs.lemmas.Bool.{false≢true}
-use Rattle.std.proofs.lemmas.Bool.Decides.{nat_tests}
 use Rattle.std.proofs.lemmas.List.Folds.{list_any-append}
-use Rattle.matter_rows.specs.declared.head.Head.{Head}
-use Rattle.matter_rows.specs.Rows.{Rows, cleared_head, closed_on}
-use Rattle.matter_rows.specs.Laws.{Covered}
-use Rattle.trust_matter.specs.edit.Edit.{Edit}
 use Rattle.trust_matter.specs.edit.Edit.TheVariants as edit
-use Rattle.trust_matter.specs.Changes.{IsPlace, MatterChange, changed_by}
-use Rattle.firm_rows.specs.Firm.{Row, Firm, after_change, after_edit, cleared_by, entry_pairs, head_pairs, of, pairs, put, seat_pairs}
-use Rattle.firm_figures.specs.Purged.{IsClosedBy, IsPurge, PurgeChangesNoFigureLeft, PurgeChangesNoListLeft, is_day_after, is_period_purged, is_purged_after}
 use Rattle.firm_figures.proofs.PurgedFigures.{purge-changes-no_figure}
 use Rattle.firm_figures.proofs.PurgedLists.{purge-changes-no_list}
 

@@ -1,29 +1,8 @@
 -- What a reconciler keeps of a firm's rows are its figures.
-use Rattle.std.proofs.Common.{◌≡◌, ℕ, Bool, true, false, not, cond, List, [], ◌∷◌, Option, Some, None, refl, sym, ap, ◌∙◌, arith}
-use Rattle.std.specs.Prelude.{ℤ, pos, ◌+ℤ◌, ◌-ℤ◌, ◌&&◌, ◌||◌, nat_le, fold, find}
-use Rattle.std.specs.List.{filter, flat_map}
-use Rattle.std.specs.Option.{option_map}
-use Rattle.std.specs.Int.{int_wrap, w128}
-use Rattle.std.proofs.lemmas.Int.{ints, int_wrap-add_left, int_wrap-add_right, int_wrap-sub_right, int_wrap_fits}
-use Rattle.trust_base.specs.declared.line.Line.{Line}
-use Rattle.matter_rows.specs.declared.deposit.Deposit.{Deposit}
-use Rattle.matter_rows.specs.declared.deposit.DepositState.{DepositState}
+use Rattle.firm_figures.proofs.Names.{◌≡◌, ℕ, Bool, true, false, not, cond, List, [], ◌∷◌, Option, Some, None, refl, sym, ap, ◌∙◌, arith, ℤ, pos, ◌+ℤ◌, ◌-ℤ◌, ◌&&◌, ◌||◌, nat_le, fold, find, filter, flat_map, option_map, int_wrap, w128, ints, int_wrap-add_left, int_wrap-add_right, int_wrap-sub_right, int_wrap_fits, Line, Deposit, DepositState, Payment, PaymentState, Entry, events_of, Movement, FirmLine, StatementRow, sum_of, Row, HeadRow, SeatRow, EntryRow, Firm, entries_in, is_event_by, is_moved_by, is_dated_by, is_counted, is_closing_of, transit, outstanding, journal, own_by, exceptions, matched, early, closing_on, figures, transit_share, outstanding_share, ledger_share_by, matched_share, early_share, added, less, Tallies, no_tallies, with_row, with_movement, with_own, with_exception, with_balance_told, first_of, figures_kept, finished, all_taken, AreInRange, FiguresKept, sum-same, sum-filter, of_row, all-entries}
 use Rattle.matter_rows.specs.declared.deposit.DepositState.TheVariants as deposit
-use Rattle.matter_rows.specs.declared.payment.Payment.{Payment}
-use Rattle.matter_rows.specs.declared.payment.PaymentState.{PaymentState}
 use Rattle.matter_rows.specs.declared.payment.PaymentState.TheVariants as payment
-use Rattle.matter_rows.specs.declared.entry.Entry.{Entry}
 use Rattle.matter_rows.specs.declared.entry.Entry.TheVariants as entry
-use Rattle.matter_rows.specs.Events.{events_of}
-use Rattle.firm_rows.specs.declared.movement.Movement.{Movement}
-use Rattle.firm_rows.specs.declared.ledger.FirmLine.{FirmLine}
-use Rattle.firm_rows.specs.declared.ledger.StatementRow.{StatementRow}
-use Rattle.firm_rows.specs.Sums.{sum_of}
-use Rattle.firm_rows.specs.Firm.{Row, HeadRow, SeatRow, EntryRow, Firm}
-use Rattle.firm_figures.specs.Figures.{entries_in, is_event_by, is_moved_by, is_dated_by, is_counted, is_closing_of, transit, outstanding, journal, own_by, exceptions, matched, early, closing_on, figures}
-use Rattle.firm_figures.specs.Reconciling.{transit_share, outstanding_share, ledger_share_by, matched_share, early_share, added, less, Tallies, no_tallies, with_row, with_movement, with_own, with_exception, with_balance_told, first_of, figures_kept, finished, all_taken, AreInRange, FiguresKept}
-use Rattle.firm_rows.proofs.Sums.{sum-same, sum-filter}
-use Rattle.firm_rows.proofs.Agree.{of_row, all-entries}
 use Rattle.firm_figures.proofs.DifferenceTold.{ledger_by, matched_by, early_by, transit-shares, outstanding-shares, ledger-shares, matched-shares, early-shares}
 
 -- An entry's shares are those of its events and lines.

@@ -1,26 +1,7 @@
 -- The figures of lists in memory fit 128 bits.
-use Rattle.std.proofs.Common.{◌≡◌, ℕ, ◌*◌, ◌≤◌, Bool, true, false, cond, List, [], ◌∷◌, length, Some, sym, ◌∙◌, subst, arith}
-use Rattle.std.specs.Prelude.{ℤ, pos, negsuc, ◌+ℤ◌, ◌-ℤ◌, ◌≤ℤ◌, ◌||◌, find}
-use Rattle.std.specs.List.{AllByRecursion}
-use Rattle.std.specs.Option.{option_map}
-use Rattle.std.specs.Int.{w128}
-use Rattle.std.specs.Int.RustNames.{FitsSigned}
-use Rattle.std.proofs.lemmas.Int.{ints, fits_signed_from_abs}
-use Rattle.trust_base.specs.Limits.{IsAmount, IsBankAmount}
-use Rattle.trust_base.specs.declared.line.Line.{Line}
-use Rattle.matter_rows.specs.declared.entry.Entry.{Entry}
+use Rattle.firm_figures.proofs.Names.{◌≡◌, ℕ, ◌*◌, ◌≤◌, Bool, true, false, cond, List, [], ◌∷◌, length, Some, sym, ◌∙◌, subst, arith, ℤ, pos, negsuc, ◌+ℤ◌, ◌-ℤ◌, ◌≤ℤ◌, ◌||◌, find, AllByRecursion, option_map, w128, FitsSigned, ints, fits_signed_from_abs, IsAmount, IsBankAmount, Line, Entry, entry_amount, FirmLine, StatementRow, sum_of, IsRowInRange, IsCountable, Row, HeadRow, SeatRow, EntryRow, Firm, entries_in, is_by, booked_on, undone_on, returned_on, banked_on, back_on, is_banked_early, is_back_early, is_in_transit, is_outstanding, is_dated_by, is_counted, own_by, exceptions, is_closing_of, closing_on, transit_share, outstanding_share, ledger_share_by, matched_share, early_share, FiguresFit, FiguresTold, sum-same, sum-filter, all-map}
 use Rattle.matter_rows.specs.declared.entry.Entry.TheVariants as entry
-use Rattle.matter_rows.specs.Rows.{entry_amount}
 use Rattle.matter_rows.specs.Clearings.{cleared_amount}
-use Rattle.firm_rows.specs.declared.ledger.FirmLine.{FirmLine}
-use Rattle.firm_rows.specs.declared.ledger.StatementRow.{StatementRow}
-use Rattle.firm_rows.specs.Sums.{sum_of}
-use Rattle.firm_rows.specs.Countable.{IsRowInRange, IsCountable}
-use Rattle.firm_rows.specs.Firm.{Row, HeadRow, SeatRow, EntryRow, Firm}
-use Rattle.firm_figures.specs.Figures.{entries_in, is_by, booked_on, undone_on, returned_on, banked_on, back_on, is_banked_early, is_back_early, is_in_transit, is_outstanding, is_dated_by, is_counted, own_by, exceptions, is_closing_of, closing_on}
-use Rattle.firm_figures.specs.Reconciling.{transit_share, outstanding_share, ledger_share_by, matched_share, early_share, FiguresFit, FiguresTold}
-use Rattle.firm_rows.proofs.Sums.{sum-same, sum-filter}
-use Rattle.firm_rows.proofs.Ordered.{all-map}
 use Rattle.firm_figures.proofs.DifferenceTold.{ledger_by, matched_by, early_by, transit-shares, outstanding-shares, ledger-shares, matched-shares, early-shares, journal-ledgers}
 use Rattle.firm_figures.proofs.Reconciling.{entry-ledger, entry-matched, entry-early, figures-kept}
 

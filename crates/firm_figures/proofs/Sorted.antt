@@ -1,15 +1,5 @@
 -- A stable sort gives the list in order, and counts of what passes a test.
-use Rattle.std.proofs.Common.{◌≡◌, ℕ, zero, suc, ◌+◌, ◌-◌, ◌<◌, ◌≤◌, Bool, true, false, not, cond, List, [], ◌∷◌, length, get_or, refl, sym, ap, ◌∙◌, subst, arith}
-use Rattle.std.specs.Prelude.{◌&&◌, nat_lt}
-use Rattle.std.proofs.lemmas.Bool.Decides.{nat_tests}
-use Rattle.std.proofs.lemmas.Grind.{common_steps}
-use Rattle.std.specs.Cmp.{IsStrictWeakOrder}
-use Rattle.std.specs.List.{AllByRecursion, filter}
-use Rattle.std.specs.List.Sorted.{IsSortedBy, IsStableBy, ties}
-use Rattle.std.proofs.lemmas.List.Elements.{recursion_from_All}
-use Rattle.std.proofs.lemmas.List.Sorted.{sorted_far}
-use Rattle.firm_rows.proofs.Ordered.{all-map}
-use Rattle.firm_figures.specs.Doubles.{put_in_order, in_order}
+use Rattle.firm_figures.proofs.Names.{◌≡◌, ℕ, zero, suc, ◌+◌, ◌-◌, ◌<◌, ◌≤◌, Bool, true, false, not, cond, List, [], ◌∷◌, length, get_or, refl, sym, ap, ◌∙◌, subst, arith, ◌&&◌, nat_lt, nat_tests, common_steps, IsStrictWeakOrder, AllByRecursion, filter, IsSortedBy, IsStableBy, ties, recursion_from_All, sorted_far, all-map, put_in_order, in_order}
 
 module _ {X : Type 0} (lt : X → X → Bool) (o : IsStrictWeakOrder lt) where
   abbrev Up : List X → Type 0

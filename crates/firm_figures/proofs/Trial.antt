@@ -1,39 +1,10 @@
 -- What the trial balance's sink keeps of rows in order.
-use Rattle.std.proofs.Common.{◌≡◌, ℕ, ◌*◌, ◌<◌, Bool, true, false, cond, List, [], ◌∷◌, ◌++◌, length, map, refl, sym, ap, ◌∙◌, subst, arith, append_assoc, append-nil}
-use Rattle.std.specs.Prelude.{ℤ, pos, ◌+ℤ◌, ◌-ℤ◌, ◌==◌, is_none, fold}
-use Rattle.std.specs.List.{AllByRecursion}
-use Rattle.std.specs.Int.{int_wrap, w128}
-use Rattle.std.specs.Int.RustNames.{FitsSigned}
-use Rattle.std.proofs.lemmas.Int.{ints, int_wrap-add_left, int_wrap_fits}
-use Rattle.std.proofs.lemmas.Bool.Decides.{nat_tests}
-use Rattle.std.proofs.lemmas.List.{map-append}
-use Rattle.matter_rows.specs.declared.head.Head.{Head}
-use Rattle.matter_rows.specs.Balances.{ledger}
-use Rattle.firm_figures.specs.declared.trial_sink.TrialLine.{TrialLine}
-use Rattle.firm_rows.specs.Sums.{sum_of}
-use Rattle.firm_rows.specs.Firm.{Row, HeadRow, SeatRow, EntryRow, Firm, of}
-use Rattle.firm_rows.specs.Journal.{ledger_share, row_share}
-use Rattle.firm_rows.specs.FirmSound.{IsInOrder}
-use Rattle.firm_rows.specs.FirmLines.{balance_of}
-use Rattle.firm_rows.specs.Countable.{AreCountable, IsRowInRange, IsFirmLineInRange}
-use Rattle.firm_rows.specs.declared.ledger.FirmLine.{FirmLine}
-use Rattle.trust_base.specs.Limits.{IsAmount}
-use Rattle.matter_rows.specs.declared.deposit.DepositState.{DepositState}
+use Rattle.firm_figures.proofs.Names.{◌≡◌, ℕ, ◌*◌, ◌<◌, Bool, true, false, cond, List, [], ◌∷◌, ◌++◌, length, map, refl, sym, ap, ◌∙◌, subst, arith, append_assoc, append-nil, ℤ, pos, ◌+ℤ◌, ◌-ℤ◌, ◌==◌, is_none, fold, AllByRecursion, int_wrap, w128, FitsSigned, ints, int_wrap-add_left, int_wrap_fits, nat_tests, map-append, Head, ledger, TrialLine, sum_of, Row, HeadRow, SeatRow, EntryRow, Firm, of, ledger_share, row_share, IsInOrder, balance_of, AreCountable, IsRowInRange, IsFirmLineInRange, FirmLine, IsAmount, DepositState, PaymentState, Entry, entry_amount, cleared_deposit, held_deposit, paid, total_share, held_share, added, all-map, open_matters, trial_lines, add_last, TrialKept, no_trial, with_trial_row, with_trial_own, trial_total, TrialIsKept, TotalIsKept, at, sum-same, of_row, rows-entries, shares-ledger, row-share}
 use Rattle.matter_rows.specs.declared.deposit.DepositState.TheVariants as deposit
-use Rattle.matter_rows.specs.declared.payment.PaymentState.{PaymentState}
 use Rattle.matter_rows.specs.declared.payment.PaymentState.TheVariants as payment
-use Rattle.matter_rows.specs.declared.entry.Entry.{Entry}
 use Rattle.matter_rows.specs.declared.entry.Entry.TheVariants as entry
-use Rattle.matter_rows.specs.Rows.{entry_amount}
-use Rattle.matter_rows.specs.Shares.{cleared_deposit, held_deposit, paid, total_share, held_share}
-use Rattle.firm_figures.specs.Reconciling.{added}
-use Rattle.firm_rows.proofs.Ordered.{all-map}
 use Rattle.firm_figures.proofs.Sizes.{IsWithin, MOST, CENTS, WHOLE, sum-within, wider, tested, bank-within, amount-within, out-within, none-within, fits, narrow}
 use Rattle.firm_figures.proofs.Lists.{trial-sum}
-use Rattle.firm_figures.specs.Lists.{open_matters, trial_lines, add_last, TrialKept, no_trial, with_trial_row, with_trial_own, trial_total, TrialIsKept, TotalIsKept}
-use Rattle.firm_rows.proofs.Sums.{at, sum-same}
-use Rattle.firm_rows.proofs.Agree.{of_row, rows-entries}
-use Rattle.firm_rows.proofs.Solvent.{shares-ledger, row-share}
 use Rattle.firm_figures.proofs.Tidy.{After, Tidy, ordered-tidy}
 
 -- The same step without 128 bits.

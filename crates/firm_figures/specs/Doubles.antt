@@ -1,7 +1,7 @@
 -- DOUBLE: payments with the same instrument as another payment.
 use Rattle.std.specs.Prelude.{◌≡◌, ℕ, Bool, not, ◌&&◌, nat_lt, cond, List, [], ◌∷◌, ◌++◌, length, Option, Some, None, fold}
 use Rattle.std.specs.List.{filter, flat_map}
-use Rattle.firm_figures.specs.declared.doubles.Issued.{Issued}
+use Rattle.firm_figures.specs.declared.day_lists.Issued.{Issued}
 use Rattle.std.specs.declared.cmp.Ordering.{Ordering}
 use Rattle.std.specs.Ordering.{is_lt, nat_cmp, ordering_then}
 use Rattle.std.specs.Cmp.Lexicographic.{slice_cmp}

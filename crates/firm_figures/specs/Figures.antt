@@ -17,7 +17,7 @@ use Rattle.firm_rows.specs.declared.ledger.FirmLine.{FirmLine}
 use Rattle.firm_rows.specs.declared.ledger.BalanceKind.{BalanceKind}
 use Rattle.firm_rows.specs.declared.ledger.BalanceKind.TheVariants as kind
 use Rattle.firm_rows.specs.declared.ledger.StatementRow.{StatementRow}
-use Rattle.firm_figures.specs.declared.reconciler.Figures.{Figures}
+use Rattle.firm_figures.specs.declared.figures.Figures.{Figures}
 use Rattle.firm_rows.specs.Sums.{sum_of}
 use Rattle.firm_rows.specs.Firm.{Row, Firm, entries_among}
 use Rattle.firm_rows.specs.FirmSound.{FirmSound}

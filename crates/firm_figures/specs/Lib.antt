@@ -9,10 +9,8 @@ pub mod Lists
 pub mod Retained
 pub use Rattle.firm_rows.specs.declared.movement
 pub use Rattle.firm_figures.specs.Reconciliations
-pub use Rattle.firm_figures.specs.declared.doubles
-pub use Rattle.firm_figures.specs.declared.lister
-pub use Rattle.firm_figures.specs.declared.openings
-pub use Rattle.firm_figures.specs.declared.reconciler
+pub use Rattle.firm_figures.specs.declared.day_lists
+pub use Rattle.firm_figures.specs.declared.figures
 pub use Rattle.firm_figures.specs.Figures
 pub use Rattle.firm_figures.specs.Openings
 pub use Rattle.firm_figures.specs.Purged

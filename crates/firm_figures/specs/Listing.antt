@@ -4,8 +4,8 @@ use Rattle.std.specs.List.{filter, flat_map}
 use Rattle.trust_base.specs.declared.line.Line.{Line}
 use Rattle.matter_rows.specs.declared.entry.Entry.{Entry}
 use Rattle.matter_rows.specs.Clearings.{cleared_amount}
-use Rattle.firm_figures.specs.declared.lister.EntryLine.{EntryLine}
-use Rattle.firm_figures.specs.declared.lister.ReconciliationLists.{ReconciliationLists}
+use Rattle.firm_figures.specs.declared.day_lists.EntryLine.{EntryLine}
+use Rattle.firm_figures.specs.declared.day_lists.ReconciliationLists.{ReconciliationLists}
 use Rattle.firm_rows.specs.Firm.{Row, HeadRow, SeatRow, EntryRow, Firm}
 use Rattle.firm_figures.specs.Figures.{booked_on, banked_on, back_on, is_banked_early, is_back_early, is_in_transit, is_outstanding}
 

@@ -5,7 +5,7 @@ use Rattle.std.specs.List.Sorted.{IsNonDecreasingBy, IsStrictlySortedBy}
 use Rattle.std.specs.Ordering.{int_eq}
 use Rattle.firm_rows.specs.declared.ledger.StatementRow.{StatementRow}
 use Rattle.firm_rows.specs.FirmLines.{balance_cmp}
-use Rattle.firm_figures.specs.declared.openings.OpeningLine.{OpeningLine}
+use Rattle.firm_figures.specs.declared.day_lists.OpeningLine.{OpeningLine}
 use Rattle.firm_figures.specs.Figures.{is_closing}
 
 -- a closing dated before this day

@@ -8,10 +8,10 @@ use Rattle.firm_rows.specs.declared.ledger.StatementRow.{StatementRow}
 use Rattle.firm_rows.specs.Countable.{IsCountable}
 use Rattle.firm_rows.specs.Firm.{Row, Firm}
 use Rattle.firm_rows.specs.FirmSound.{FirmSound}
-use Rattle.firm_figures.specs.declared.reconciler.Figures.{Figures}
-use Rattle.firm_figures.specs.declared.lister.EntryLine.{EntryLine}
-use Rattle.firm_figures.specs.declared.doubles.Issued.{Issued}
-use Rattle.firm_figures.specs.declared.openings.OpeningLine.{OpeningLine}
+use Rattle.firm_figures.specs.declared.figures.Figures.{Figures}
+use Rattle.firm_figures.specs.declared.day_lists.EntryLine.{EntryLine}
+use Rattle.firm_figures.specs.declared.day_lists.Issued.{Issued}
+use Rattle.firm_figures.specs.declared.day_lists.OpeningLine.{OpeningLine}
 use Rattle.firm_figures.specs.declared.reconciliation.Reconciliation.{Reconciliation}
 use Rattle.firm_figures.specs.Figures.{figures_on}
 use Rattle.firm_figures.specs.Listing.{transit_list, out_list, early_list, exception_list, Listed, none_listed, with_row_listed, with_exception_listed}

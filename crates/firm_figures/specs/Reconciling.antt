@@ -15,7 +15,7 @@ use Rattle.firm_rows.specs.Firm.{Row, HeadRow, SeatRow, EntryRow, Firm}
 use Rattle.firm_rows.specs.FirmSound.{FirmSound}
 use Rattle.firm_figures.specs.Figures.{is_by, booked_on, undone_on, returned_on, banked_on, back_on, is_banked_early, is_back_early, is_in_transit, is_outstanding, is_moved_by, is_dated_by, is_counted, is_closing_of, closing_on, figures, figures_on}
 use Rattle.firm_rows.specs.Countable.{IsCountable}
-use Rattle.firm_figures.specs.declared.reconciler.Figures.{Figures}
+use Rattle.firm_figures.specs.declared.figures.Figures.{Figures}
 
 -- What an entry adds to each figure.
 

@@ -4,7 +4,7 @@ ghost use Rattle.std.specs.Prelude.{◌≡◌};
 ghost use Rattle.firm_figures.specs.Lists.{JournalKept, no_journal, with_moved};
 ghost use Rattle.firm_figures.specs.declared.journal_sink.JournalLine.{JournalLine};
 
-use crate::reconciler::added;
+use crate::figures::added;
 use firm_rows::{Movement, MovementSink};
 use std::alloc::{AllocError, Global};
 use std::marker::Model;

@@ -9,11 +9,11 @@ ghost use Rattle.firm_figures.specs.Openings.{AreClosings};
 ghost use Rattle.firm_figures.specs.Reconciling.{figures_kept, less, with_entry_told};
 ghost use Rattle.firm_figures.specs.Reconciliations.{ReconciliationKept, nothing_kept, with_row_kept, with_movement_kept, with_own_kept, with_exception_kept, with_balance_noted, kept_told, told};
 
-use crate::doubles::{Issued, doubles_of, push_issued};
-use crate::entry_days::Shares;
-use crate::lister::{ReconciliationLists, push_early, push_waiting};
-use crate::openings::{OpeningLine, openings_after};
-use crate::reconciler::{Figures, Sums, added, less, together};
+use crate::day_lists::{
+    Issued, OpeningLine, ReconciliationLists, doubles_of, openings_after, push_early, push_issued,
+    push_waiting,
+};
+use crate::figures::{EntryDays, Figures, Sums, added, is_by, less, together, waiting_amounts};
 use firm_rows::{
     BalanceKind, BalanceSink, ExceptionSink, FirmLine, FirmLineSink, MatterRow, MatterRowSink,
     Movement, MovementSink, StatementRow,
@@ -135,12 +135,17 @@ impl ReconciliationSink {
     fn add_entry(&mut self, entry: &Entry)
         ensures { self.new ≡ record self.old { figures = with_entry_told self.old.figures entry.now } }
     {
-        let shares = Shares::of(entry, self.day);
-        self.sums.transit = added(self.sums.transit, shares.transit);
-        self.sums.outstanding = added(self.sums.outstanding, shares.outstanding);
-        self.sums.entries = added(self.sums.entries, shares.entries);
-        self.sums.matched = added(self.sums.matched, shares.matched);
-        self.sums.early = added(self.sums.early, shares.early);
+        let p = self.day;
+        let days = EntryDays::of(entry);
+        let (transit, outstanding) = waiting_amounts(entry, p);
+        let entries = days.amount_left(is_by(days.booked, p), days.is_taken_back(p));
+        let matched = days.amount_left(is_by(days.banked, p), is_by(days.back, p));
+        let early = days.amount_left(days.is_banked_early(p), days.is_back_early(p));
+        self.sums.transit = together(self.sums.transit, transit);
+        self.sums.outstanding = together(self.sums.outstanding, outstanding);
+        self.sums.entries = together(self.sums.entries, entries);
+        self.sums.matched = together(self.sums.matched, matched);
+        self.sums.early = together(self.sums.early, early);
     }
 
     /// Whether a matter that was closed after the day was purged. The day's records are then no longer complete.
@@ -249,8 +254,10 @@ impl FirmLineSink for ReconciliationSink {
     ghost lined = { with_own_kept };
 
     fn firm_line(&mut self, line: &FirmLine) -> Result<(), AllocError> {
-        let is_counted = line.date.get() <= self.day.get();
-        let amount = if is_counted { line.amount.get() } else { 0 };
+        let mut amount = 0;
+        if line.date.get() <= self.day.get() {
+            amount = line.amount.get();
+        }
         self.sums.own = added(self.sums.own, amount);
         Ok(())
     }

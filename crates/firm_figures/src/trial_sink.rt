@@ -6,7 +6,7 @@ ghost use Rattle.firm_figures.specs.Reconciling.{added};
 ghost use Rattle.firm_figures.specs.Lists.{TrialKept, no_trial, add_last, with_trial_row, with_trial_own, trial_sum};
 ghost use Rattle.firm_figures.specs.declared.trial_sink.TrialLine.{TrialLine};
 
-use crate::reconciler::{added, together};
+use crate::figures::{added, together};
 use firm_rows::{FirmLine, FirmLineSink, MatterRow, MatterRowSink};
 use std::alloc::{AllocError, Global};
 use std::marker::Model;
@@ -33,14 +33,14 @@ pub struct TrialBalance {
 /// Contracts see it as the lines and the firm's balance.
 #[derive(Drop)]
 pub struct TrialSink {
-    lines: Vec<TrialLine>,
     own: i128,
+    lines: Vec<TrialLine>,
 }
 
 impl Model for TrialSink {
     ghost Value = { TrialKept };
 
-    ghost view = { λ s. record { lines = s.lines.items; own = s.own } };
+    ghost view = { λ s. record { own = s.own; lines = s.lines.items } };
 }
 
 // What an entry adds to the ledger of its matter.

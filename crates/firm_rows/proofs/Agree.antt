@@ -1,20 +1,6 @@
 -- What the movements say and what the entries and the firm's own lines say agree, share by share.
-use Rattle.std.proofs.Common.{◌≡◌, ℕ, ◌+◌, ◌-◌, Bool, true, false, cond, List, [], ◌∷◌, map, Option, Some, None, refl, sym, ap, ◌∙◌, arith}
-use Rattle.std.specs.Prelude.{ℤ, pos, ◌+ℤ◌, ◌==◌, ◌&&◌}
-use Rattle.std.specs.List.{filter}
-use Rattle.std.proofs.lemmas.Int.{ints}
-use Rattle.std.proofs.lemmas.Bool.Decides.{nat_tests}
-use Rattle.trust_matter.specs.entry.Entry.{Entry}
-use Rattle.trust_matter.specs.Rows.{entry_at}
-use Rattle.trust_matter.specs.Events.{Event, events_of, events_in}
-use Rattle.firm_rows.specs.declared.movement.Movement.{Movement}
-use Rattle.firm_rows.specs.declared.movement.Owner.{Owner}
+use Rattle.firm_rows.proofs.Names.{◌≡◌, ℕ, ◌+◌, ◌-◌, Bool, true, false, cond, List, [], ◌∷◌, map, Option, Some, None, refl, sym, ap, ◌∙◌, arith, ℤ, pos, ◌+ℤ◌, ◌==◌, ◌&&◌, filter, ints, nat_tests, Entry, entry_at, Event, events_of, events_in, Movement, Owner, FirmLine, sum_of, is_of_matter, Row, HeadRow, SeatRow, EntryRow, Firm, of, among, rows_of, entries_among, event_of, line_event, is_of_entry, is_of_firm, events_moved, firm_events, FirmSound}
 use Rattle.firm_rows.specs.declared.movement.Owner.TheVariants as owner
-use Rattle.firm_rows.specs.declared.ledger.FirmLine.{FirmLine}
-use Rattle.firm_rows.specs.Sums.{sum_of}
-use Rattle.firm_rows.specs.Firm.{is_of_matter, Row, HeadRow, SeatRow, EntryRow, Firm, of, among, rows_of, entries_among}
-use Rattle.firm_rows.specs.Journal.{event_of, line_event, is_of_entry, is_of_firm, events_moved, firm_events}
-use Rattle.firm_rows.specs.FirmSound.{FirmSound}
 use Rattle.firm_rows.proofs.Sums.{at, sum-agree}
 
 -- The joined rows.

@@ -1,18 +1,6 @@
 -- The balances stay in order.
-use Rattle.std.proofs.Common.{◌≡◌, ◌≢◌, ℕ, zero, suc, ◌<◌, Bool, true, false, cond, List, [], ◌∷◌, length, get_or, Some, None, refl, sym, ◌∙◌, arith}
-use Rattle.std.specs.List.Sorted.{IsStrictlySortedBy}
-use Rattle.std.specs.Cmp.{IsTotalOrder}
-use Rattle.std.specs.declared.cmp.Ordering.{Ordering}
-use Rattle.std.specs.Prelude.{◌==◌, find}
-use Rattle.std.specs.Option.{option_map}
-use Rattle.std.specs.declared.cmp.Ordering.TheVariants.{Less, Equal, Greater}
-use Rattle.std.specs.Ordering.{nat_cmp, ordering_then}
-use Rattle.std.proofs.lemmas.Bool.{false≢true}
-use Rattle.std.proofs.lemmas.Bool.Decides.{nat_tests}
+use Rattle.firm_rows.proofs.Names.{◌≡◌, ◌≢◌, ℕ, zero, suc, ◌<◌, Bool, true, false, cond, List, [], ◌∷◌, length, get_or, Some, None, refl, sym, ◌∙◌, arith, IsStrictlySortedBy, IsTotalOrder, Ordering, ◌==◌, find, option_map, Less, Equal, Greater, nat_cmp, ordering_then, false≢true, nat_tests, on_total, then_total, nat_cmp_total, StatementRow, place_of, balance_cmp, with_balance, is_balance_on, kept_balance}
 use Rattle.std.proofs.lemmas.Map.Lookups.{exact_unsigned}
-use Rattle.std.proofs.lemmas.Cmp.{on_total, then_total, nat_cmp_total}
-use Rattle.firm_rows.specs.declared.ledger.StatementRow.{StatementRow}
-use Rattle.firm_rows.specs.FirmLines.{place_of, balance_cmp, with_balance, is_balance_on, kept_balance}
 use Rattle.firm_rows.proofs.Ordered.{with-sorted}
 
 pub balance_total : IsTotalOrder balance_cmp

@@ -1,12 +1,6 @@
 -- A change of a matter changes the rows of that matter alone.
-use Rattle.std.proofs.Common.{◌≡◌, ◌≢◌, ℕ, ◌⊎◌, inl, inr, ⊎_elim, refl, sym, ap, ◌∙◌, subst, ◌++◌, List, append-nil}
-use Rattle.std.proofs.lemmas.Bool.{cases_eq}
-use Rattle.trust_matter.specs.edit.Edit.{Edit}
+use Rattle.firm_rows.proofs.Names.{◌≡◌, ◌≢◌, ℕ, ◌⊎◌, inl, inr, ⊎_elim, refl, sym, ap, ◌∙◌, subst, ◌++◌, List, append-nil, cases_eq, Edit, Rows, MatterChange, changed, changed_by, Movement, Firm, of, among, rewritten_by, cleared_by, moved_by, moved_without, kept_movements, put, after_edit, after_change}
 use Rattle.trust_matter.specs.edit.Edit.TheVariants as edit
-use Rattle.trust_matter.specs.Rows.{Rows}
-use Rattle.trust_matter.specs.Changes.{MatterChange, changed, changed_by}
-use Rattle.firm_rows.specs.declared.movement.Movement.{Movement}
-use Rattle.firm_rows.specs.Firm.{Firm, of, among, rewritten_by, cleared_by, moved_by, moved_without, kept_movements, put, after_edit, after_change}
 use Rattle.firm_rows.proofs.Joined.{rows_of-put_same, rows_of-put_other}
 
 -- what is so of one matter, and of each other, is so of all

@@ -1,20 +1,6 @@
 -- A firm stays sound where a matter is left without an entry and its movements go.
-use Rattle.std.proofs.Common.{◌≡◌, ◌≢◌, ℕ, zero, suc, ◌≤◌, Bool, true, false, not, cond, List, [], ◌∷◌, map, take, refl, sym, ap, ◌∙◌, subst, arith}
-use Rattle.std.specs.Prelude.{◌==◌, pos, ◌+ℤ◌, ◌≤ℤ◌}
-use Rattle.std.specs.List.{filter, AllByRecursion}
-use Rattle.std.proofs.lemmas.Int.{ints}
-use Rattle.std.proofs.lemmas.Bool.Decides.{nat_tests}
-use Rattle.trust_matter.specs.entry.Entry.{Entry}
-use Rattle.trust_matter.specs.Rows.{Rows, entry_at, last_of}
-use Rattle.trust_matter.specs.Balances.{ledger}
-use Rattle.trust_matter.specs.Events.{events_in}
-use Rattle.trust_matter.specs.Sound.{Sound}
-use Rattle.firm_rows.specs.declared.movement.Movement.{Movement}
-use Rattle.firm_rows.specs.declared.movement.Owner.{Owner}
+use Rattle.firm_rows.proofs.Names.{◌≡◌, ◌≢◌, ℕ, zero, suc, ◌≤◌, Bool, true, false, not, cond, List, [], ◌∷◌, map, take, refl, sym, ap, ◌∙◌, subst, arith, ◌==◌, pos, ◌+ℤ◌, ◌≤ℤ◌, filter, AllByRecursion, ints, nat_tests, Entry, Rows, entry_at, last_of, ledger, events_in, Sound, Movement, Owner, Firm, of, is_of_matter, moved_without, cleared_by, event_of, is_of_entry, is_of_firm, events_moved, days_moved, amount_for, moved_for, AreMovedInTime, FirmSound, PurgedMovesNothing, PurgeLeavesOthers}
 use Rattle.firm_rows.specs.declared.movement.Owner.TheVariants as owner
-use Rattle.firm_rows.specs.Firm.{Firm, of, is_of_matter, moved_without, cleared_by}
-use Rattle.firm_rows.specs.Journal.{event_of, is_of_entry, is_of_firm, events_moved, days_moved, amount_for, moved_for}
-use Rattle.firm_rows.specs.FirmSound.{AreMovedInTime, FirmSound, PurgedMovesNothing, PurgeLeavesOthers}
 use Rattle.firm_rows.proofs.Changed.{each-matter, of-cleared_by, of_other-cleared_by}
 use Rattle.firm_rows.proofs.Order.{in_order-cleared_by}
 

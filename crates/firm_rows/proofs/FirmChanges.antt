@@ -1,15 +1,6 @@
 -- Each change of a firm's rows changes those of one matter at most, and leaves a sound firm sound.
-use Rattle.std.proofs.Common.{◌≡◌, ℕ, Bool, true, false, cond, Option, Some, None, refl, sym, ◌∙◌, subst, arith}
-use Rattle.std.specs.Prelude.{◌==◌}
-use Rattle.std.proofs.lemmas.Bool.Decides.{nat_tests}
-use Rattle.trust_base.specs.declared.line.Line.{Line}
+use Rattle.firm_rows.proofs.Names.{◌≡◌, ℕ, Bool, true, false, cond, Option, Some, None, refl, sym, ◌∙◌, subst, arith, ◌==◌, nat_tests, Line, Covered, changed, as_firm_line, balance_row, Firm, of, after_change, with_firm_line, with_statement, OfMatter, Repeated, Unmatched, OfFirm, OfBalance, matched_by, FirmSound, IsInOrder, ChangesOne, StaysSound, StaysInOrder, LineFits}
 use Rattle.trust_matter.specs.declared.line_verdict.LineVerdict.TheVariants as verdict
-use Rattle.trust_matter.specs.Laws.{Covered}
-use Rattle.trust_matter.specs.Changes.{changed}
-use Rattle.firm_rows.specs.FirmLines.{as_firm_line, balance_row}
-use Rattle.firm_rows.specs.Firm.{Firm, of, after_change, with_firm_line, with_statement}
-use Rattle.firm_rows.specs.FirmChange.{OfMatter, Repeated, Unmatched, OfFirm, OfBalance, matched_by}
-use Rattle.firm_rows.specs.FirmSound.{FirmSound, IsInOrder, ChangesOne, StaysSound, StaysInOrder, LineFits}
 use Rattle.firm_rows.proofs.Balances.{balances-sorted}
 use Rattle.firm_rows.proofs.Changed.{changes-own, changes-no_other}
 use Rattle.firm_rows.proofs.Kept.{stays-sound}

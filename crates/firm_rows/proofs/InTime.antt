@@ -1,17 +1,7 @@
 -- The movements of a matter follow one another in time, also after a change.
-use Rattle.std.proofs.Common.{◌≡◌, ◌≢◌, ℕ, ◌≤◌, true, false, List, [], ◌∷◌, ◌++◌, map, Option, Some, None, refl, sym, ap, ◌∙◌, subst, arith, append-nil}
-use Rattle.std.specs.Prelude.{◌==◌}
-use Rattle.std.specs.List.{AllByRecursion}
-use Rattle.std.proofs.lemmas.Bool.Decides.{nat_tests}
-use Rattle.std.proofs.lemmas.List.{map-append}
-use Rattle.std.proofs.lemmas.List.Elements.{filter-append}
+use Rattle.firm_rows.proofs.Names.{◌≡◌, ◌≢◌, ℕ, ◌≤◌, true, false, List, [], ◌∷◌, ◌++◌, map, Option, Some, None, refl, sym, ap, ◌∙◌, subst, arith, append-nil, ◌==◌, AllByRecursion, nat_tests, map-append, filter-append, AreRising, IsMovedWithin, Movement, is_of_matter, joined_movement, days_moved}
 use Rattle.trust_matter.specs.movement.EntryMovement as change
-use Rattle.trust_matter.specs.Sound.{AreRising}
-use Rattle.trust_matter.specs.Changes.{IsMovedWithin}
 use Rattle.trust_matter.proofs.Days.{up-to}
-use Rattle.firm_rows.specs.declared.movement.Movement.{Movement}
-use Rattle.firm_rows.specs.Firm.{is_of_matter, joined_movement}
-use Rattle.firm_rows.specs.Journal.{days_moved}
 
 -- days that rise, and then one that is not before them
 rising-append : (from day : ℕ) (days : List ℕ) → AreRising from days → AllByRecursion (λ d. d ≤ day) days → from ≤ day → AreRising from (days ++ day ∷ [])

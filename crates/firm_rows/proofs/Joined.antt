@@ -1,14 +1,8 @@
 -- The joined rows: what a filter by the matter keeps, and what is put there.
-use Rattle.std.proofs.Common.{◌≡◌, ◌≢◌, ℕ, ◌+◌, ◌<◌, ◌≤◌, Bool, true, false, List, [], ◌∷◌, ◌++◌, Option, Some, None, cond, map, refl, ap, ◌∙◌, arith, append-nil, ◌⊎◌, inl, inr}
-use Rattle.std.specs.Prelude.{filter, nat_lt, ◌==◌}
-use Rattle.std.proofs.lemmas.Bool.{cases_lt}
-use Rattle.std.proofs.lemmas.Bool.Decides.{nat_tests}
-use Rattle.std.proofs.lemmas.List.Elements.{filter-append}
-use Rattle.trust_matter.specs.Rows.{Rows}
-use Rattle.trust_matter.specs.entry.Entry.{Entry}
+use Rattle.firm_rows.proofs.Names.{◌≡◌, ◌≢◌, ℕ, ◌+◌, ◌<◌, ◌≤◌, Bool, true, false, List, [], ◌∷◌, ◌++◌, Option, Some, None, cond, map, refl, ap, ◌∙◌, arith, append-nil, ◌⊎◌, inl, inr, nat_lt, ◌==◌, cases_lt, nat_tests, filter-append, Rows, Entry, Row, SeatRow, EntryRow, pairs, head_pairs, seat_pairs, entry_pairs, put, rows_of, among}
+use Rattle.std.specs.Prelude.{filter}
 use Rattle.trust_matter.specs.head.Head.{Head}
 use Rattle.trust_matter.specs.seat.Seat.{Seat}
-use Rattle.firm_rows.specs.Firm.{Row, SeatRow, EntryRow, pairs, head_pairs, seat_pairs, entry_pairs, put, rows_of, among}
 
 -- the pairs of one matter pass a test on the matter together
 abbrev pub passing : (ℕ → Bool) → List (ℕ × Row) → List (ℕ × Row)

@@ -1,25 +1,7 @@
 -- A change of a sound firm leaves it sound.
-use Rattle.std.proofs.Common.{◌≡◌, ◌≢◌, ℕ, ◌+◌, ◌<◌, ◌≤◌, List, [], ◌∷◌, ◌++◌, length, map, take, Option, Some, None, refl, sym, ap, ◌∙◌, subst, arith, rules, append-nil, length-append, ◌⊎◌, inl, inr}
-use Rattle.std.specs.Prelude.{pos, ◌+ℤ◌, ◌≤ℤ◌}
-use Rattle.std.proofs.lemmas.Int.{ints}
-use Rattle.std.proofs.lemmas.Bool.{cases_lt}
+use Rattle.firm_rows.proofs.Names.{◌≡◌, ◌≢◌, ℕ, ◌+◌, ◌<◌, ◌≤◌, List, [], ◌∷◌, ◌++◌, length, map, take, Option, Some, None, refl, sym, ap, ◌∙◌, subst, arith, rules, append-nil, length-append, ◌⊎◌, inl, inr, pos, ◌+ℤ◌, ◌≤ℤ◌, ints, cases_lt, take-append-le, take_all, IsStrictlySortedBy, Edit, Rows, unopened, entry_at, last_of, ledger, events_in, Sound, Covered, MatterChange, IsChange, changed_by, movement_of, AreMoved, IsMovedWithin, IsPlace, Movement, Firm, empty_firm, of, joined_movement, moved_by, rewritten_by, after_edit, after_change, FirmLine, balance_of, IsOwnBalance, events_moved, firm_events, line_event, days_moved, amount_for, moved_for, AreMovedInTime, FirmSound}
 use Rattle.std.proofs.Math.Seq.{take-nil}
-use Rattle.std.proofs.lemmas.List.{take-append-le, take_all}
-use Rattle.std.specs.List.Sorted.{IsStrictlySortedBy}
-use Rattle.trust_matter.specs.edit.Edit.{Edit}
 use Rattle.trust_matter.specs.movement.EntryMovement as change
-use Rattle.trust_matter.specs.Rows.{Rows, unopened, entry_at, last_of}
-use Rattle.trust_matter.specs.Balances.{ledger}
-use Rattle.trust_matter.specs.Events.{events_in}
-use Rattle.trust_matter.specs.Sound.{Sound}
-use Rattle.trust_matter.specs.Laws.{Covered}
-use Rattle.trust_matter.specs.Changes.{MatterChange, IsChange, changed_by, movement_of, AreMoved, IsMovedWithin, IsPlace}
-use Rattle.firm_rows.specs.declared.movement.Movement.{Movement}
-use Rattle.firm_rows.specs.Firm.{Firm, empty_firm, of, joined_movement, moved_by, rewritten_by, after_edit, after_change}
-use Rattle.firm_rows.specs.declared.ledger.FirmLine.{FirmLine}
-use Rattle.firm_rows.specs.FirmLines.{balance_of, IsOwnBalance}
-use Rattle.firm_rows.specs.Journal.{events_moved, firm_events, line_event, days_moved, amount_for, moved_for}
-use Rattle.firm_rows.specs.FirmSound.{AreMovedInTime, FirmSound}
 use Rattle.firm_rows.proofs.Sums.{sum-append}
 use Rattle.firm_rows.proofs.InTime.{RiseTo, days-same, rise-own}
 use Rattle.firm_rows.proofs.Order.{in_order-rewritten_by}

@@ -14,3 +14,4 @@ pub mod Solvent
 pub mod Sums
 pub mod Told
 pub mod LinesStay
+mod Names

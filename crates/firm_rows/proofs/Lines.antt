@@ -1,10 +1,7 @@
 -- A line of the bank, the firm's rows and its exceptions.
-use Rattle.std.proofs.Common.{List}
+use Rattle.firm_rows.proofs.Names.{List, Line, Firm, after_match, after_stray, FirmSound, IsInOrder}
 use Rattle.trust_base.specs.LineOrder.{line_cmp}
-use Rattle.trust_base.specs.declared.line.Line.{Line}
 use Rattle.trust_base.proofs.LineFacts.{line_total, line_same}
-use Rattle.firm_rows.specs.Firm.{Firm, after_match, after_stray}
-use Rattle.firm_rows.specs.FirmSound.{FirmSound, IsInOrder}
 use Rattle.firm_rows.specs.Exceptions.{WithLineAdds, WithoutLineTakes, WithLineAgain}
 use Rattle.firm_rows.proofs.Ordered.{with-sorted, without-sorted, with-contains, without-contains, with-again}
 

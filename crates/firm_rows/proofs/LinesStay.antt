@@ -1,25 +1,11 @@
 -- What is kept of the firm's own lines and of the balances stays kept.
-use Rattle.std.proofs.Common.{◌≡◌, ℕ, Bool, true, false, cond, List, [], ◌∷◌, filter, Option, Some, None, refl, sym, ap, ◌∙◌}
-use Rattle.std.specs.Prelude.{ℤ, find, ◌||◌, ◌&&◌, ◌==◌}
-use Rattle.std.specs.List.{list_any}
-use Rattle.std.specs.Option.{option_map, option_or}
-use Rattle.std.specs.declared.cmp.Ordering.{Ordering}
-use Rattle.std.specs.declared.cmp.Ordering.TheVariants.{Less, Equal, Greater}
-use Rattle.std.specs.Ordering.{is_lt, nat_cmp, ordering_reverse, ordering_then}
+use Rattle.firm_rows.proofs.Names.{◌≡◌, ℕ, Bool, true, false, cond, List, [], ◌∷◌, Option, Some, None, refl, sym, ap, ◌∙◌, ℤ, find, ◌||◌, ◌&&◌, ◌==◌, list_any, option_map, option_or, Ordering, Less, Equal, Greater, is_lt, nat_cmp, ordering_reverse, ordering_then, false≢true, Decides-eqb, Decides-int_eq, tied_back, tied_itself, Line, Edit, StatementRow, is_kept_as, as_firm_line, place_of, balance_cmp, balance_row, is_balance_on, kept_balance, with_balance, Firm, after_edit, after_change, OfMatter, Repeated, Unmatched, OfFirm, OfBalance, matched_by}
+use Rattle.std.proofs.Common.{filter}
 use Rattle.std.proofs.Math.Bool.{or-true}
-use Rattle.std.proofs.lemmas.Bool.{false≢true}
-use Rattle.std.proofs.lemmas.Bool.Decides.{Decides-eqb, Decides-int_eq}
-use Rattle.std.proofs.lemmas.Cmp.{tied_back, tied_itself}
 use Rattle.std.proofs.lemmas.List.Folds.{find-append, list_any-append}
 use Rattle.std.proofs.lemmas.Slice.Eq.{bytes_eq-Decides}
-use Rattle.trust_base.specs.declared.line.Line.{Line}
-use Rattle.trust_matter.specs.edit.Edit.{Edit}
 use Rattle.trust_matter.specs.edit.Edit.TheVariants as edit
 use Rattle.firm_rows.specs.declared.ledger.BalanceKind.{BalanceKind}
-use Rattle.firm_rows.specs.declared.ledger.StatementRow.{StatementRow}
-use Rattle.firm_rows.specs.FirmLines.{is_kept_as, as_firm_line, place_of, balance_cmp, balance_row, is_balance_on, kept_balance, with_balance}
-use Rattle.firm_rows.specs.Firm.{Firm, after_edit, after_change}
-use Rattle.firm_rows.specs.FirmChange.{OfMatter, Repeated, Unmatched, OfFirm, OfBalance, matched_by}
 use Rattle.firm_rows.specs.LinesStay.{FirmLineIsKept, FirmLinesStay, BalanceIsKept, BalancesStay}
 use Rattle.firm_rows.proofs.Balances.{balance_total, tied-on}
 

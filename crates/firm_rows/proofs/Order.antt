@@ -1,13 +1,5 @@
 -- The rows of each matter stand together, also after a change.
-use Rattle.std.proofs.Common.{◌≡◌, ◌≢◌, ℕ, ◌<◌, ◌≤◌, Bool, true, List, [], ◌++◌, sym, ap, ◌∙◌, subst, arith, append_assoc, append-nil, ◌⊎◌, inl, inr}
-use Rattle.std.specs.Prelude.{nat_lt}
-use Rattle.std.proofs.lemmas.Bool.{cases_lt}
-use Rattle.std.proofs.lemmas.Bool.Decides.{nat_tests}
-use Rattle.trust_matter.specs.edit.Edit.{Edit}
-use Rattle.trust_matter.specs.Rows.{Rows}
-use Rattle.trust_matter.specs.Changes.{MatterChange, changed_by}
-use Rattle.firm_rows.specs.Firm.{Row, Firm, of, pairs, put, rewritten_by, cleared_by, after_change}
-use Rattle.firm_rows.specs.FirmSound.{IsInOrder}
+use Rattle.firm_rows.proofs.Names.{◌≡◌, ◌≢◌, ℕ, ◌<◌, ◌≤◌, Bool, true, List, [], ◌++◌, sym, ap, ◌∙◌, subst, arith, append_assoc, append-nil, ◌⊎◌, inl, inr, nat_lt, cases_lt, nat_tests, Edit, Rows, MatterChange, changed_by, Row, Firm, of, pairs, put, rewritten_by, cleared_by, after_change, IsInOrder}
 use Rattle.firm_rows.proofs.Joined.{passing, passing-append, passing_twice, passing_never, passing_swap, pairs_pass, pairs_fail}
 use Rattle.firm_rows.proofs.Changed.{each-matter, EditCases, edit-cases, of-cleared_by, of_other-cleared_by}
 

@@ -1,21 +1,8 @@
 -- A line of the firm's own, and a balance, leave a sound firm sound.
-use Rattle.std.proofs.Common.{◌≡◌, ℕ, Bool, true, false, List, [], ◌∷◌, ◌++◌, length, take, refl, sym, ap, ◌∙◌, subst, arith, append-nil, ◌⊎◌, inl, inr, Option, Some, None}
-use Rattle.std.specs.Prelude.{ℤ, pos, ◌+ℤ◌, ◌≤ℤ◌, ◌&&◌, not, nat_le, if◌then◌else◌}
-use Rattle.std.specs.Ordering.{int_eq}
-use Rattle.std.specs.List.{list_any}
-use Rattle.std.proofs.lemmas.Int.{ints}
-use Rattle.std.proofs.lemmas.List.{map-append, take_all}
-use Rattle.trust_matter.specs.Rows.{last_of}
-use Rattle.firm_rows.specs.declared.movement.Movement.{Movement}
-use Rattle.firm_rows.specs.declared.ledger.FirmLine.{FirmLine}
+use Rattle.firm_rows.proofs.Names.{◌≡◌, ℕ, Bool, true, false, List, [], ◌∷◌, ◌++◌, length, take, refl, sym, ap, ◌∙◌, subst, arith, append-nil, ◌⊎◌, inl, inr, Option, Some, None, ℤ, pos, ◌+ℤ◌, ◌≤ℤ◌, ◌&&◌, nat_le, if◌then◌else◌, int_eq, list_any, ints, map-append, take_all, last_of, Movement, FirmLine, StatementRow, balance_of, IsOwnBalance, is_own_balance, is_kept_as, is_bookable, kept_balance, balance_verdict, Firm, of, own_movement, with_firm_line, with_statement, FitsFirm, by_firm_line, by_balance, events_moved, line_event, days_moved, amount_for, moved_for, AreMovedInTime, FirmSound, FirmLineFits, BalanceFits}
+use Rattle.std.specs.Prelude.{not}
 use Rattle.firm_rows.specs.declared.ledger.Verdict.{Verdict}
 use Rattle.firm_rows.specs.declared.ledger.Verdict.TheVariants as told
-use Rattle.firm_rows.specs.declared.ledger.StatementRow.{StatementRow}
-use Rattle.firm_rows.specs.FirmLines.{balance_of, IsOwnBalance, is_own_balance, is_kept_as, is_bookable, kept_balance, balance_verdict}
-use Rattle.firm_rows.specs.Firm.{Firm, of, own_movement, with_firm_line, with_statement}
-use Rattle.firm_rows.specs.FirmChange.{FitsFirm, by_firm_line, by_balance}
-use Rattle.firm_rows.specs.Journal.{events_moved, line_event, days_moved, amount_for, moved_for}
-use Rattle.firm_rows.specs.FirmSound.{AreMovedInTime, FirmSound, FirmLineFits, BalanceFits}
 use Rattle.firm_rows.proofs.Sums.{sum-append}
 use Rattle.firm_rows.proofs.InTime.{RiseTo, days-append}
 use Rattle.firm_rows.proofs.Told.{events-append, firm-append}

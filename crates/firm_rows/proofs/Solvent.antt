@@ -1,18 +1,5 @@
 -- What holds of each matter, and of the firm's own money, holds of all together.
-use Rattle.std.proofs.Common.{◌≡◌, ℕ, zero, suc, Bool, true, false, cond, List, [], ◌∷◌, map, take, refl, sym, ap, ◌∙◌, subst, arith}
-use Rattle.std.specs.Prelude.{ℤ, pos, ◌+ℤ◌, ◌≤ℤ◌}
-use Rattle.std.specs.List.{filter}
-use Rattle.std.proofs.lemmas.Int.{ints}
-use Rattle.trust_matter.specs.entry.Entry.{Entry}
-use Rattle.trust_matter.specs.Balances.{ledger}
-use Rattle.trust_matter.specs.Events.{Event}
-use Rattle.trust_matter.specs.Laws.{Covered}
-use Rattle.firm_rows.specs.declared.movement.Movement.{Movement}
-use Rattle.firm_rows.specs.declared.ledger.FirmLine.{FirmLine}
-use Rattle.firm_rows.specs.Sums.{sum_of}
-use Rattle.firm_rows.specs.Firm.{Row, HeadRow, SeatRow, EntryRow, of}
-use Rattle.firm_rows.specs.Journal.{event_of, line_event, is_of_firm, firm_events, ledger_share, row_share}
-use Rattle.firm_rows.specs.FirmSound.{SoundIsSolvent}
+use Rattle.firm_rows.proofs.Names.{◌≡◌, ℕ, zero, suc, Bool, true, false, cond, List, [], ◌∷◌, map, take, refl, sym, ap, ◌∙◌, subst, arith, ℤ, pos, ◌+ℤ◌, ◌≤ℤ◌, filter, ints, Entry, ledger, Event, Covered, Movement, FirmLine, sum_of, Row, HeadRow, SeatRow, EntryRow, of, event_of, line_event, is_of_firm, firm_events, ledger_share, row_share, SoundIsSolvent}
 use Rattle.firm_rows.proofs.Sums.{sum-least, sum-same}
 use Rattle.firm_rows.proofs.Told.{share-events}
 use Rattle.firm_rows.proofs.Agree.{of_row, rows-entries, events_share, split, of_matters, matter_of, matter-at, own-part, own-lines, agree}

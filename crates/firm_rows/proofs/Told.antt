@@ -1,34 +1,19 @@
 -- What a change moves is what its entry's events say, and what the ledger gains.
-use Rattle.std.proofs.Common.{◌≡◌, ◌≢◌, ℕ, ◌+◌, Bool, true, false, cond, List, [], ◌∷◌, ◌++◌, length, Option, Some, None, refl, sym, ap, ◌∙◌, arith, append-nil, eqb, map}
-use Rattle.std.specs.Prelude.{pos, ◌+ℤ◌, ◌-ℤ◌, ◌==◌, slice_get, option_map}
-use Rattle.std.proofs.lemmas.Int.{ints}
-use Rattle.std.proofs.lemmas.Bool.Decides.{nat_tests}
-use Rattle.std.proofs.lemmas.List.{map-append}
-use Rattle.std.proofs.lemmas.List.Elements.{filter-append}
-use Rattle.trust_matter.specs.entry.Entry.{Entry}
+use Rattle.firm_rows.proofs.Names.{◌≡◌, ◌≢◌, ℕ, ◌+◌, Bool, true, false, cond, List, [], ◌∷◌, ◌++◌, length, Option, Some, None, refl, sym, ap, ◌∙◌, arith, append-nil, eqb, map, pos, ◌+ℤ◌, ◌-ℤ◌, ◌==◌, slice_get, ints, nat_tests, map-append, filter-append, Entry, Edit, Rows, entry_at, with_entry, ledger, Event, events_of, events_in, cancelling, payments, received, as_movement, edited, movement_of, events_by, AreMoved, IsPlace, Movement, joined_movement, sum_of, event_of, is_of_entry, is_of_firm, events_moved, firm_events, moved_for, ledger_share}
+use Rattle.std.specs.Prelude.{option_map}
 use Rattle.trust_matter.specs.entry.Entry.TheVariants as entry
 use Rattle.trust_matter.specs.deposit.DepositState.{DepositState}
 use Rattle.trust_matter.specs.deposit.DepositState.TheVariants as deposit
 use Rattle.trust_matter.specs.payment.PaymentState.{PaymentState}
 use Rattle.trust_matter.specs.payment.PaymentState.TheVariants as payment
 use Rattle.trust_matter.specs.edit.Numbered.{Numbered}
-use Rattle.trust_matter.specs.edit.Edit.{Edit}
 use Rattle.trust_matter.specs.edit.Edit.TheVariants as edit
 use Rattle.trust_matter.specs.movement.EntryMovement as change
-use Rattle.trust_matter.specs.Rows.{Rows, entry_at, with_entry}
 use Rattle.trust_matter.specs.Shares.{total_share, held_share, held_deposit, cleared_deposit, paid}
-use Rattle.trust_matter.specs.Balances.{ledger}
-use Rattle.trust_matter.specs.Events.{Event, events_of, events_in, cancelling, payments, received}
-use Rattle.trust_matter.specs.Events.{as_movement}
-use Rattle.trust_matter.specs.Changes.{edited, movement_of, events_by, AreMoved, IsPlace}
 use Rattle.trust_matter.specs.Changes as changes
 use Rattle.trust_matter.proofs.Entries.{entry_at-append, entry_at-with, none-past}
 use Rattle.trust_matter.proofs.Sums.{total-append, total-with}
-use Rattle.firm_rows.specs.declared.movement.Movement.{Movement}
 use Rattle.firm_rows.specs.declared.movement.Owner.TheVariants as owner
-use Rattle.firm_rows.specs.Firm.{joined_movement}
-use Rattle.firm_rows.specs.Sums.{sum_of}
-use Rattle.firm_rows.specs.Journal.{event_of, is_of_entry, is_of_firm, events_moved, firm_events, moved_for, ledger_share}
 use Rattle.firm_rows.proofs.Changed.{IsNoClear}
 use Rattle.firm_rows.proofs.Sums.{sum-append}
 

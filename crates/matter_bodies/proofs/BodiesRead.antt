@@ -1,8 +1,6 @@
 -- The bodies read back as their objects.
-use Rattle.std.proofs.Common.{ℕ, ℤ, List, [], ◌∷◌, map, length, refl, rules, arith}
+use Rattle.matter_bodies.proofs.Names.{ℕ, ℤ, List, [], ◌∷◌, map, length, refl, rules, arith, Data, string, Seat, array_of, seat_object, role_name}
 use Rattle.std.specs.Prelude.{codes}
-use Rattle.serde_json.specs.Data.{Data, string}
-use Rattle.matter_rows.specs.declared.seat.Seat.{Seat}
 use Rattle.matter_rows.specs.declared.head.Holder.{Holder}
 use Rattle.matter_rows.specs.declared.head.Holder.TheVariants as holder
 use Rattle.matter_rows.specs.declared.claim.Against.{Against}
@@ -10,8 +8,6 @@ use Rattle.matter_rows.specs.declared.claim.Against.TheVariants as against
 use Rattle.matter_rows.specs.declared.entry.Entry.TheVariants as entry
 use Rattle.matter_rows.specs.declared.head.Holder.{Holder}
 use Rattle.matter_rows.specs.declared.head.Holder.TheVariants as holder
-use Rattle.matter_bodies.specs.Json.{array_of}
-use Rattle.matter_bodies.specs.Values.{seat_object, role_name}
 use Rattle.matter_bodies.specs.Bodies.{holder_value, purged_on, purge_members, matter_members, sums_of, receipt_members, entry_members, import_members, claim_left_value}
 use Rattle.matter_bodies.specs.BodyLaws.{PurgeReadsBack, MatterReadsBack, ReceiptReadsBack, EntryReadsBack, ImportReadsBack}
 use Rattle.matter_bodies.proofs.ReadBack.{Reads, AllRead, AllValuesRead, read-compact_text, null-reads, string-reads, count-reads, or_null-reads, object-reads, array-reads}

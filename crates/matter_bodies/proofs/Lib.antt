@@ -2,3 +2,4 @@ pub mod TextFacts
 pub mod ObjectFacts
 pub mod ReadBack
 pub mod BodiesRead
+mod Names

@@ -1,13 +1,9 @@
 -- An object's tokens and its text.
-use Rattle.std.proofs.Common.{List, ℕ, map}
+use Rattle.matter_bodies.proofs.Names.{List, ℕ, map, items_outline, members_outline, Seat, items_of, members_of, seat_object, member_of}
 use Rattle.std.specs.Borrow.{Bor}
 use Rattle.json.specs.Token.{Token}
 use Rattle.json.specs.Tree.{items_tokens, members_tokens}
-use Rattle.serde_json.specs.Written.{items_outline, members_outline}
-use Rattle.matter_rows.specs.declared.seat.Seat.{Seat}
-use Rattle.matter_bodies.specs.declared.json_text.Value.{Value}
-use Rattle.matter_bodies.specs.Json.{items_of, members_of}
-use Rattle.matter_bodies.specs.Values.{seat_object, member_of}
+use Rattle.matter_bodies.specs.declared.bodies.Value.{Value}
 
 -- the tokens of these seats and of the end of their array
 abbrev pub seats_rest : List Seat → List Token

@@ -1,22 +1,16 @@
 -- An object's text reads back as the object, where its keys ascend.
-use Rattle.std.proofs.Common.{◌≡◌, ◌<◌, ◌≤◌, ◌^◌, ◌&&◌, ℕ, suc, List, [], ◌∷◌, ◌++◌, Bool, true, Option, Some, None, refl, ap, ◌∙◌, sym, append_assoc, append-nil, arith}
+use Rattle.matter_bodies.proofs.Names.{◌≡◌, ◌<◌, ◌≤◌, ◌^◌, ◌&&◌, ℕ, suc, List, [], ◌∷◌, ◌++◌, Bool, true, Option, Some, None, refl, ap, ◌∙◌, sym, append_assoc, append-nil, arith, Ordering, Less, Equal, Greater, and_parts, Data, null, number, string, put, item, array, member, object, compact_text, outline, items_outline, members_outline, print-outline, items_of, members_of, object_of, array_of, or_null, count_value}
 use Rattle.std.specs.Option.{option_map, option_and_then}
-use Rattle.std.proofs.Common.{Ordering, Less, Equal, Greater}
 use Rattle.std.specs.Ordering.{is_gt, nat_cmp, match_ordering}
 use Rattle.std.specs.Cmp.Lexicographic.{slice_cmp}
-use Rattle.std.proofs.lemmas.Bool.{and_parts}
 use Rattle.json.specs.Json as json
 use Rattle.json.specs.Lex.{tokens}
 use Rattle.json.specs.Tree as tree
 use Rattle.json.proofs.Printed.Trees.{value-json_tokens, ArePrintable-json_tokens}
 use Rattle.json.proofs.Printed.Tokens.{tokens-print}
 use Rattle.json.proofs.Printed.Decimals.{IsNumber-decimal}
-use Rattle.serde_json.specs.Data.{Data, null, number, string, put, item, array, member, object}
 use Rattle.serde_json.specs.Read.{read, max_depth, of_json, of_items, of_members}
-use Rattle.serde_json.specs.Written.{compact_text, outline, items_outline, members_outline}
 use Rattle.serde_json.proofs.Numbers.{number_of-decimal}
-use Rattle.serde_json.proofs.Texts.{print-outline}
-use Rattle.matter_bodies.specs.Json.{items_of, members_of, object_of, array_of, or_null, count_value}
 
 -- the value reads as itself, its numbers are numbers, and it nests no deeper
 pub record Reads (n : ℕ) (d : Data) : Type 0 where

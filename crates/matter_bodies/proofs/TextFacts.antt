@@ -1,8 +1,6 @@
 -- Persons, labels and references are UTF-8.
-use Rattle.std.proofs.Common.{◌≡◌, ℕ, zero, suc, List, [], ◌∷◌, Bool, true, ◌<◌, rules, arith}
-use Rattle.std.specs.Str.{IsUtf8, IsAscii, is_utf8}
+use Rattle.matter_bodies.proofs.Names.{◌≡◌, ℕ, zero, suc, List, [], ◌∷◌, Bool, true, ◌<◌, rules, arith, IsUtf8, IsAscii, is_utf8, and_parts}
 use Rattle.std.specs.List.{list_all}
-use Rattle.std.proofs.lemmas.Bool.{and_parts}
 use Rattle.std.proofs.lemmas.Bool.Decides.{nat_tests}
 use Rattle.std.proofs.lemmas.Str.{IsUtf8-from_is_utf8, IsUtf8-from_ascii}
 use Rattle.trust_base.specs.Names.{IsLabel, IsPerson, is_label_text, is_person_text, is_person_byte}

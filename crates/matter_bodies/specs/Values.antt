@@ -5,8 +5,8 @@ use Rattle.serde_json.specs.Data.{Data, null, string}
 use Rattle.matter_rows.specs.declared.seat.Role.{Role}
 use Rattle.matter_rows.specs.declared.seat.Role.TheVariants as role
 use Rattle.matter_rows.specs.declared.seat.Seat.{Seat}
-use Rattle.matter_bodies.specs.declared.json_text.Value.{Value}
-use Rattle.matter_bodies.specs.declared.json_text.Value.TheVariants as value
+use Rattle.matter_bodies.specs.declared.bodies.Value.{Value}
+use Rattle.matter_bodies.specs.declared.bodies.Value.TheVariants as value
 use Rattle.matter_bodies.specs.Json.{object_of, array_of, amount_value, day_value, matter_value, entry_value, count_value}
 
 abbrev pub role_name : Role → List ℕ

@@ -1,23 +1,492 @@
 //! The bodies of accepted answers: compact JSON objects, their keys sorted by their bytes.
 
-ghost use Rattle.std.specs.Prelude.{◌≡◌, IfOk, pos};
+ghost use Rattle.std.specs.Prelude.{◌≡◌, ◌++◌, map, IfOk, IfSome, OnOk, pos};
 ghost use Rattle.std.specs.Option.{option_copied};
+ghost use Rattle.serde_json.specs.Data.{string as text_data};
 ghost use Rattle.serde_json.specs.Written.{compact_text};
 ghost use Rattle.matter_parts.specs.Parts.{IsPart};
 ghost use Rattle.matter_rows.specs.Rows.{Rows, closed_on as closed_in};
 ghost use Rattle.matter_rows.specs.Sound.{Sound};
-ghost use Rattle.matter_bodies.specs.Bodies.{balance_sums, client_value, entry_body, import_body, matter_body, matter_members, opened_value, purge_body, purge_members, purged_on, receipt_body};
-ghost use Rattle.matter_bodies.specs.Json.{object_of};
-ghost use Rattle.matter_bodies.specs.Values.{data_of};
+ghost use Rattle.matter_rows.specs.declared.entry.Entry.TheVariants.{Claim as claim_entry, Deposit as deposit_entry, Fee as fee_entry, Payment as payment_entry};
+ghost use Rattle.matter_bodies.specs.Bodies.{against_entry as claimed_fee_in, against_name as ground_name_in, balance_sums, bank_day_value, bank_ref_value};
+ghost use Rattle.matter_bodies.specs.Bodies.{claim_left_value, claimant_of as claimant_in, client_value, entry_body, fund_entry as fund_entry_in};
+ghost use Rattle.matter_bodies.specs.Bodies.{fund_name as fund_name_in, import_body, matter_body, matter_members, opened_value, purge_body, purge_members};
+ghost use Rattle.matter_bodies.specs.Bodies.{purged_on, receipt_body};
+ghost use Rattle.matter_bodies.specs.Json.{amount_value, array_of, day_value, entry_value, object_of, or_null, value_tokens};
+ghost use Rattle.matter_bodies.specs.Values.{data_of, member_of, role_name as role_word, seat_object};
 
-use crate::entries::{
-    claim_body, claim_receipt, deposit_body, deposit_receipt, fee_body, fee_receipt, payment_body,
-    payment_receipt,
-};
-use crate::json_text::{Value, day_or_null, label, object_text};
+use json::Writer;
 use std::alloc::{AllocError, Global};
-use trust_base::{Day, EntryNo, MatterNo};
-use trust_matter::{Balances, Entry, Head, Holder, Matter, Seat, balances};
+use std::fmt;
+use trust_base::{BankText, CentsOrZero, Day, Dollars, EntryNo, Label, MatterNo};
+use trust_matter::{
+    Against, Balances, Claim, ClaimState, Clearing, Deposit, DepositState, Entry, Fee, Fund, Head,
+    Holder, Matter, Payment, PaymentState, Role, Seat, balances,
+};
+
+// A value of an answer's object.
+#[derive(Clone, Copy)]
+enum Value<'a> {
+    Null,
+    Text(&'a str),
+    Count(u64),
+    // An amount or a sum in cents.
+    Cents(u64),
+    Day(Day),
+    Entry(EntryNo),
+    Matter(MatterNo),
+    Seats(&'a [Seat]),
+}
+
+// A key and its value.
+type Member<'a> = (&'a str, Value<'a>);
+
+fn label(label: &Label) -> Value<'_>
+    ensures { data_of result ≡ text_data label.now }
+{
+    let Ok(text) = str::from_utf8(label.as_slice()) else {
+        unreachable!()
+    };
+    Value::Text(text)
+}
+
+fn label_or_null(found: Option<&Label>) -> Value<'_>
+    ensures { data_of result ≡ or_null text_data (option_copied found.entry) }
+{
+    match found {
+        Some(found) => label(found),
+        None => Value::Null,
+    }
+}
+
+fn reference(reference: &BankText) -> Value<'_>
+    ensures { data_of result ≡ text_data reference.now }
+{
+    let Ok(text) = str::from_utf8(reference.as_slice()) else {
+        unreachable!()
+    };
+    Value::Text(text)
+}
+
+fn day_or_null(day: Option<Day>) -> Value<'static>
+    ensures { data_of result ≡ or_null day_value day }
+{
+    match day {
+        Some(day) => Value::Day(day),
+        None => Value::Null,
+    }
+}
+
+fn entry_or_null(entry: Option<EntryNo>) -> Value<'static>
+    ensures { data_of result ≡ or_null entry_value entry }
+{
+    match entry {
+        Some(entry) => Value::Entry(entry),
+        None => Value::Null,
+    }
+}
+
+fn cents_or_null(cents: Option<CentsOrZero>) -> Value<'static>
+    ensures { data_of result ≡ or_null amount_value cents }
+{
+    match cents {
+        Some(cents) => Value::Cents(cents.get()),
+        None => Value::Null,
+    }
+}
+
+fn role_name(role: Role) -> &'static str
+    ensures { result.now ≡ role_word role }
+{
+    match role {
+        Role::Client => "client",
+        Role::Lawyer => "lawyer",
+    }
+}
+
+// Writes an object with a person and a role.
+fn write_seat(out: &mut Writer, seat: &Seat) -> Result<(), AllocError>
+    ensures before { out.new.before ≡ out.old.before }
+    ensures tokens { OnOk result (out.new.tokens ≡ out.old.tokens ++ value_tokens (seat_object seat.now)) }
+{
+    let Ok(person) = str::from_utf8(seat.person.as_slice()) else {
+        unreachable!()
+    };
+    out.begin_object()?;
+    out.key("person")?;
+    out.string(person)?;
+    out.key("role")?;
+    out.string(role_name(seat.role))?;
+    out.end_object()
+}
+
+// Writes an array of the seats, in their order.
+fn write_seats(out: &mut Writer, seats: &[Seat]) -> Result<(), AllocError>
+    ensures before { out.new.before ≡ out.old.before }
+    ensures tokens { OnOk result
+        (out.new.tokens ≡ out.old.tokens ++ value_tokens (array_of (map seat_object seats.now))) }
+{
+    out.begin_array()?;
+    for seat in seats {
+        write_seat(out, seat)?;
+    }
+    out.end_array()
+}
+
+// Writes the text that a value is shown as.
+fn write_shown<T: fmt::Display>(
+    alloc: Global,
+    out: &mut Writer,
+    shown: &T,
+) -> Result<(), AllocError>
+    ensures before { out.new.before ≡ out.old.before }
+    ensures tokens { OnOk result (IfSome (T.output shown.now)
+        (λ text. out.new.tokens ≡ out.old.tokens ++ value_tokens (text_data text))) }
+{
+    out.string(format!(in alloc; "{shown}")?.as_str())
+}
+
+fn write_value(alloc: Global, out: &mut Writer, value: &Value<'_>) -> Result<(), AllocError>
+    ensures before { out.new.before ≡ out.old.before }
+    ensures tokens { OnOk result (out.new.tokens ≡ out.old.tokens ++ value_tokens (data_of value.now)) }
+{
+    match value {
+        Value::Null => out.null(),
+        Value::Text(text) => out.string(text),
+        Value::Count(count) => out.u64(*count),
+        Value::Cents(cents) => write_shown(alloc, out, &Dollars(*cents as i128)),
+        Value::Day(day) => write_shown(alloc, out, day),
+        Value::Entry(entry) => write_shown(alloc, out, entry),
+        Value::Matter(matter) => write_shown(alloc, out, matter),
+        Value::Seats(seats) => write_seats(out, seats),
+    }
+}
+
+// The compact text of an object with these members, in their order. The only error is out of memory.
+fn object_text(alloc: Global, members: &[Member<'_>]) -> Result<Vec<u8>, AllocError>
+    ensures { IfOk result (λ bytes. bytes.items ≡ compact_text (object_of (map member_of members.now))) }
+{
+    let mut out = Writer::new(Vec::with_capacity(alloc, 256)?);
+    out.begin_object()?;
+    for member in members {
+        out.key(member.0)?;
+        write_value(alloc, &mut out, &member.1)?;
+    }
+    out.end_object()?;
+    Ok(out.into_inner())
+}
+
+// The word for what a payment is paid from.
+fn fund_name(fund: Fund) -> &'static str
+    ensures { result.now ≡ fund_name_in fund }
+{
+    match fund {
+        Fund::General => "general",
+        Fund::Fee(_) => "fee",
+        Fund::Claim(_) => "claim",
+    }
+}
+
+// The entry that a payment is paid from, if any.
+fn fund_entry(fund: Fund) -> Option<EntryNo>
+    ensures { result ≡ fund_entry_in fund }
+{
+    match fund {
+        Fund::General => None,
+        Fund::Fee(number) | Fund::Claim(number) => Some(number),
+    }
+}
+
+// The word for what a claim is on.
+fn ground_name(against: &Against) -> &'static str
+    ensures { result.now ≡ ground_name_in against.now }
+{
+    match against {
+        Against::General(_) => "general",
+        Against::Fee(_) => "fee",
+    }
+}
+
+// The fee that is claimed, if any.
+fn claimed_fee(against: &Against) -> Option<EntryNo>
+    ensures { result ≡ claimed_fee_in against.now }
+{
+    match against {
+        Against::General(_) => None,
+        Against::Fee(number) => Some(*number),
+    }
+}
+
+// Who claims what is available, if anyone.
+fn claimant(against: &Against) -> Option<&Label>
+    ensures { option_copied result ≡ claimant_in against.now }
+{
+    match against {
+        Against::General(claimant) => Some(claimant),
+        Against::Fee(_) => None,
+    }
+}
+
+fn deposit_receipt(
+    alloc: Global,
+    matter: MatterNo,
+    number: EntryNo,
+    deposit: &Deposit,
+) -> Result<Vec<u8>, AllocError>
+    ensures { IfOk result (λ bytes. bytes.items ≡ receipt_body matter number (deposit_entry deposit.now)) }
+{
+    object_text(
+        alloc,
+        &[
+            ("amount", Value::Cents(deposit.amount.get())),
+            ("day", Value::Day(deposit.book)),
+            ("description", label(&deposit.description)),
+            ("entry", Value::Entry(number)),
+            ("kind", Value::Text("deposit")),
+            ("matter", Value::Matter(matter)),
+            ("source", label(&deposit.source)),
+        ],
+    )
+}
+
+fn payment_receipt(
+    alloc: Global,
+    matter: MatterNo,
+    number: EntryNo,
+    payment: &Payment,
+) -> Result<Vec<u8>, AllocError>
+    ensures { IfOk result (λ bytes. bytes.items ≡ receipt_body matter number (payment_entry payment.now)) }
+{
+    object_text(
+        alloc,
+        &[
+            ("amount", Value::Cents(payment.amount.get())),
+            ("day", Value::Day(payment.book)),
+            ("entry", Value::Entry(number)),
+            ("from", Value::Text(fund_name(payment.fund))),
+            ("instrument", label(&payment.instrument)),
+            ("kind", Value::Text("payment")),
+            ("matter", Value::Matter(matter)),
+            ("of", entry_or_null(fund_entry(payment.fund))),
+            ("payee", label(&payment.payee)),
+            ("purpose", label(&payment.purpose)),
+        ],
+    )
+}
+
+fn fee_receipt(
+    alloc: Global,
+    matter: MatterNo,
+    number: EntryNo,
+    fee: &Fee,
+) -> Result<Vec<u8>, AllocError>
+    ensures { IfOk result (λ bytes. bytes.items ≡ receipt_body matter number (fee_entry fee.now)) }
+{
+    object_text(
+        alloc,
+        &[
+            ("amount", Value::Cents(fee.amount.get())),
+            ("day", Value::Day(fee.book)),
+            ("description", label(&fee.description)),
+            ("entry", Value::Entry(number)),
+            ("kind", Value::Text("fee")),
+            ("matter", Value::Matter(matter)),
+        ],
+    )
+}
+
+fn claim_receipt(
+    alloc: Global,
+    matter: MatterNo,
+    number: EntryNo,
+    claim: &Claim,
+) -> Result<Vec<u8>, AllocError>
+    ensures { IfOk result (λ bytes. bytes.items ≡ receipt_body matter number (claim_entry claim.now)) }
+{
+    object_text(
+        alloc,
+        &[
+            ("amount", Value::Cents(claim.amount.get())),
+            ("claimant", label_or_null(claimant(&claim.against))),
+            ("day", Value::Day(claim.book)),
+            ("entry", Value::Entry(number)),
+            ("kind", Value::Text("claim")),
+            ("matter", Value::Matter(matter)),
+            ("of", entry_or_null(claimed_fee(&claim.against))),
+            ("on", Value::Text(ground_name(&claim.against))),
+            ("reason", label(&claim.reason)),
+        ],
+    )
+}
+
+// The day of the bank line; null if there is no bank line.
+fn bank_day(clearing: Option<&Clearing>) -> Value<'static>
+    ensures { data_of result ≡ bank_day_value (option_copied clearing.entry) }
+{
+    match clearing {
+        Some(clearing) => Value::Day(clearing.bank_day),
+        None => Value::Null,
+    }
+}
+
+// The bank's reference; null if there is no bank line.
+fn bank_ref(clearing: Option<&Clearing>) -> Value<'_>
+    ensures { data_of result ≡ bank_ref_value (option_copied clearing.entry) }
+{
+    match clearing {
+        Some(clearing) => reference(&clearing.bank_ref),
+        None => Value::Null,
+    }
+}
+
+// What is left of a claim; null for a claim on a fee.
+fn claim_left(against: &Against, left: u64) -> Value<'static>
+    ensures { data_of result ≡ claim_left_value against.now (pos left) }
+{
+    match against {
+        Against::General(_) => Value::Cents(left),
+        Against::Fee(_) => Value::Null,
+    }
+}
+
+fn deposit_body(
+    alloc: Global,
+    matter: MatterNo,
+    number: EntryNo,
+    deposit: &Deposit,
+) -> Result<Vec<u8>, AllocError>
+    ensures { IfOk result (λ bytes. bytes.items ≡ entry_body matter number (deposit_entry deposit.now) (pos 0)) }
+{
+    let (state, clearing, returning, undone) = match &deposit.state {
+        DepositState::Held => ("held", None, None, None),
+        DepositState::Cleared(clearing) => ("cleared", Some(clearing), None, None),
+        DepositState::Cancelled(day) => ("cancelled", None, None, Some(*day)),
+        DepositState::Returned(back) => (
+            "returned",
+            Some(&back.clearing),
+            Some(&back.returning),
+            Some(back.undone),
+        ),
+    };
+    object_text(
+        alloc,
+        &[
+            ("amount", Value::Cents(deposit.amount.get())),
+            ("bank_day", bank_day(clearing)),
+            ("bank_ref", bank_ref(clearing)),
+            ("day", Value::Day(deposit.book)),
+            ("description", label(&deposit.description)),
+            ("entry", Value::Entry(number)),
+            ("kind", Value::Text("deposit")),
+            ("matter", Value::Matter(matter)),
+            ("return_day", bank_day(returning)),
+            ("return_ref", bank_ref(returning)),
+            ("source", label(&deposit.source)),
+            ("state", Value::Text(state)),
+            ("undone", day_or_null(undone)),
+        ],
+    )
+}
+
+fn payment_body(
+    alloc: Global,
+    matter: MatterNo,
+    number: EntryNo,
+    payment: &Payment,
+) -> Result<Vec<u8>, AllocError>
+    ensures { IfOk result (λ bytes. bytes.items ≡ entry_body matter number (payment_entry payment.now) (pos 0)) }
+{
+    let (state, issued, clearing, undone) = match &payment.state {
+        PaymentState::Proposed => ("proposed", None, None, None),
+        PaymentState::Declined => ("declined", None, None, None),
+        PaymentState::Issued(day) => ("issued", Some(*day), None, None),
+        PaymentState::Cleared(cleared) => (
+            "cleared",
+            Some(cleared.issued),
+            Some(&cleared.clearing),
+            None,
+        ),
+        PaymentState::Voided(voided) => ("voided", Some(voided.issued), None, Some(voided.undone)),
+    };
+    object_text(
+        alloc,
+        &[
+            ("amount", Value::Cents(payment.amount.get())),
+            ("bank_day", bank_day(clearing)),
+            ("bank_ref", bank_ref(clearing)),
+            ("day", Value::Day(payment.book)),
+            ("entry", Value::Entry(number)),
+            ("from", Value::Text(fund_name(payment.fund))),
+            ("instrument", label(&payment.instrument)),
+            ("issued", day_or_null(issued)),
+            ("kind", Value::Text("payment")),
+            ("matter", Value::Matter(matter)),
+            ("of", entry_or_null(fund_entry(payment.fund))),
+            ("payee", label(&payment.payee)),
+            ("purpose", label(&payment.purpose)),
+            ("state", Value::Text(state)),
+            ("undone", day_or_null(undone)),
+        ],
+    )
+}
+
+fn fee_body(
+    alloc: Global,
+    matter: MatterNo,
+    number: EntryNo,
+    fee: &Fee,
+    left: u64,
+) -> Result<Vec<u8>, AllocError>
+    ensures { IfOk result (λ bytes. bytes.items ≡ entry_body matter number (fee_entry fee.now) (pos left)) }
+{
+    object_text(
+        alloc,
+        &[
+            ("amount", Value::Cents(fee.amount.get())),
+            ("day", Value::Day(fee.book)),
+            ("description", label(&fee.description)),
+            ("entry", Value::Entry(number)),
+            ("kind", Value::Text("fee")),
+            ("left", Value::Cents(left)),
+            ("matter", Value::Matter(matter)),
+        ],
+    )
+}
+
+fn claim_body(
+    alloc: Global,
+    matter: MatterNo,
+    number: EntryNo,
+    claim: &Claim,
+    left: u64,
+) -> Result<Vec<u8>, AllocError>
+    ensures { IfOk result (λ bytes. bytes.items ≡ entry_body matter number (claim_entry claim.now) (pos left)) }
+{
+    // A claim with an offer is still open.
+    let (state, part, settled) = match claim.state {
+        ClaimState::Open => ("open", None, None),
+        ClaimState::Offered(part) => ("open", Some(part), None),
+        ClaimState::Settled(settlement) => ("settled", Some(settlement.part), Some(settlement.day)),
+    };
+    object_text(
+        alloc,
+        &[
+            ("amount", Value::Cents(claim.amount.get())),
+            ("claimant", label_or_null(claimant(&claim.against))),
+            ("day", Value::Day(claim.book)),
+            ("entry", Value::Entry(number)),
+            ("kind", Value::Text("claim")),
+            ("left", claim_left(&claim.against, left)),
+            ("matter", Value::Matter(matter)),
+            ("of", entry_or_null(claimed_fee(&claim.against))),
+            ("on", Value::Text(ground_name(&claim.against))),
+            ("reason", label(&claim.reason)),
+            ("settled", day_or_null(settled)),
+            ("state", Value::Text(state)),
+            ("to_client", cents_or_null(part)),
+        ],
+    )
+}
 
 fn client(head: Option<&Head>) -> Value<'_>
     ensures { data_of result ≡ client_value (option_copied head.entry) }

@@ -2,8 +2,6 @@
 #![tactic(auto)]
 
 mod bodies;
-mod entries;
-mod json_text;
 pub mod laws;
 
 pub use bodies::{ImportReply, entry_body, import_body, matter_body, purge_body, receipt_body};

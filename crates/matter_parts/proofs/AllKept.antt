@@ -1,14 +1,5 @@
 -- What a matter keeps that keeps all entries in the order of their numbers.
-use Rattle.std.proofs.Common.{◌≡◌, ◌≢◌, ℕ, ◌+◌, ◌-◌, ◌<◌, ◌≤◌, ◌||◌, ltb, Bool, true, false, cond, List, [], ◌∷◌, ◌++◌, length, refl, ap, sym, ◌∙◌, arith, Option, Some, None, eqb, is_some}
-use Rattle.std.proofs.lemmas.Bool.Decides.{nat_tests}
-use Rattle.std.proofs.lemmas.List.{length-map}
-use Rattle.matter_rows.specs.declared.entry.Entry.{Entry}
-use Rattle.matter_rows.specs.Rows.{Rows, entry_at, with_entry}
-use Rattle.matter_rows.proofs.Entries.{within}
-use Rattle.matter_parts.specs.declared.kept.Kept.{Kept}
-use Rattle.matter_parts.specs.declared.change.Left.{Left}
-use Rattle.matter_parts.specs.Parts.{Part, kept_in, entries_kept, AreNumbered, IsWhole, HoldsAll}
-use Rattle.matter_parts.specs.Applied.{entry_put, left_written, other_written}
+use Rattle.matter_parts.proofs.Names.{◌≡◌, ◌≢◌, ℕ, ◌+◌, ◌-◌, ◌<◌, ◌≤◌, ◌||◌, ltb, Bool, true, false, cond, List, [], ◌∷◌, ◌++◌, length, refl, ap, sym, ◌∙◌, arith, Option, Some, None, eqb, is_some, nat_tests, length-map, Entry, Rows, entry_at, with_entry, within, Kept, Left, Part, kept_in, entries_kept, AreNumbered, IsWhole, HoldsAll, entry_put, left_written, other_written}
 
 -- An entry behind the others.
 

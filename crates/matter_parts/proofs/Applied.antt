@@ -1,29 +1,8 @@
 -- What is kept after a change is a part of the rows after it.
-use Rattle.std.proofs.Common.{◌≡◌, ◌≢◌, ℕ, ◌+◌, ◌||◌, ltb, Bool, true, false, cond, List, [], ◌∷◌, ◌++◌, length, refl, ap, sym, ◌∙◌, arith, subst, Option, Some, None, eqb, is_some, pos, Result, Ok, Err, OnOk}
-use Rattle.std.proofs.lemmas.Int.{ints}
-use Rattle.std.proofs.lemmas.List.{length_push}
-use Rattle.std.proofs.lemmas.Bool.Decides.{nat_tests}
-use Rattle.matter_rows.specs.declared.entry.Entry.{Entry}
+use Rattle.matter_parts.proofs.Names.{◌≡◌, ◌≢◌, ℕ, ◌+◌, ◌||◌, ltb, Bool, true, false, cond, List, [], ◌∷◌, ◌++◌, length, refl, ap, sym, ◌∙◌, arith, subst, Option, Some, None, eqb, is_some, pos, Result, Ok, Err, OnOk, ints, length_push, nat_tests, Entry, Head, Seat, left_of, seen_on, closed_head, cleared_head, entry_at, with_entry, Rows, as_made, role_in, seats_with, seats_without, target, Sound, AreInOrder, IsHeaded, entry_at-append, entry_at-with, within, length-with, draw-apart, left-append, left-with, Numbered, Edit, Figures, Kept, Left, TotalsAfter, IsWritten, kept_as, entry_put, other_written, changed, changed_by, MatterChange, edited, head_after, seats_after, IsOther, AreLeft, IsPlace, IsExchange, IsChange, Part, no_figures, is_held, kept_in, AreFigures, IsPart, IsEntryOf, AreKept, HoldsOn, IsWhole, entries_kept, AreNumbered}
 use Rattle.matter_rows.specs.declared.entry.Entry.TheVariants as entry
-use Rattle.matter_rows.specs.declared.head.Head.{Head}
-use Rattle.matter_rows.specs.declared.seat.Seat.{Seat}
-use Rattle.matter_rows.specs.Balances.{left_of}
-use Rattle.matter_rows.specs.Rows.{seen_on, closed_head, cleared_head, entry_at, with_entry, Rows, as_made, role_in, seats_with, seats_without}
-use Rattle.matter_rows.specs.Shares.{target}
-use Rattle.matter_rows.specs.Sound.{Sound, AreInOrder, IsHeaded}
-use Rattle.matter_rows.proofs.Entries.{entry_at-append, entry_at-with, within, length-with}
-use Rattle.matter_rows.proofs.Keeping.{draw-apart, left-append, left-with}
-use Rattle.matter_parts.specs.declared.edit.Numbered.{Numbered}
 use Rattle.matter_parts.specs.declared.edit.Opening.{Opening}
-use Rattle.matter_parts.specs.declared.edit.Edit.{Edit}
 use Rattle.matter_parts.specs.declared.edit.Edit.TheVariants as edit
-use Rattle.matter_parts.specs.declared.figures.Figures.{Figures}
-use Rattle.matter_parts.specs.declared.kept.Kept.{Kept}
-use Rattle.matter_parts.specs.declared.change.Left.{Left}
-use Rattle.matter_parts.specs.declared.change.TotalsAfter.{TotalsAfter}
-use Rattle.matter_parts.specs.Applied.{IsWritten, kept_as, entry_put, other_written}
-use Rattle.matter_parts.specs.Changes.{changed, changed_by, MatterChange, edited, head_after, seats_after, IsOther, AreLeft, IsPlace, IsExchange, IsChange}
-use Rattle.matter_parts.specs.Parts.{Part, no_figures, is_held, kept_in, AreFigures, IsPart, IsEntryOf, AreKept, HoldsOn, IsWhole, entries_kept, AreNumbered}
 use Rattle.matter_parts.proofs.AllKept.{entries-end, numbered-end, entries-at, numbered-at, entries-other, numbered-other, length-kept}
 use Rattle.matter_parts.proofs.Keepers.{put_in, with_left, other_relieved, kept-with, kept-other}
 use Rattle.matter_parts.proofs.Moved.{figures-none}
@@ -56,30 +35,32 @@ stays-with es at old x n k here same elsewhere is =
       left = λ apart. omega (arith, ints, is.left, left-with es at old x n k.entry here, draw-apart n x apart, draw-apart n old (λ q. apart (sym same ∙ q)));
     }
 
-put-append : (ks : List Kept) (es : List Entry) (x : Numbered) (v : TotalsAfter) → AreKept ks es → x.number ≡ length es + 1 → pos v.left ≡ left_of (es ++ x.entry ∷ []) x.number x.entry → (n : ℕ) (k : Kept) → put_in ks (kept_as x v) n ≡ Some k → IsNearly (es ++ x.entry ∷ []) (target x.entry) n k
-put-append ks es x v kept place own n k h =
-    elim (eqb x.number n) as (λ b. eqb x.number n ≡ b → cond b (Some (kept_as x v)) (kept_in ks n) ≡ Some k → IsNearly (es ++ x.entry ∷ []) (target x.entry) n k) [
-      | true ↦ λ s g.
-          let same : x.number ≡ n = grind (arith, nat_tests) in
-          let end : eqb n (length es + 1) ≡ true = grind (arith, nat_tests) in
-          let is : kept_as x v ≡ k = cc in
-          let P : Kept → Type 0 = λ j. IsNearly (es ++ x.entry ∷ []) (target x.entry) n j in
-          let Q : ℕ → Type 0 = λ j. pos v.left ≡ left_of (es ++ x.entry ∷ []) j x.entry in
-          subst P is (record { there = rw (entry_at-append es x.entry n) (rw end refl); left = λ _. subst Q same own })
-      | false ↦ λ s g. stays-append es x.entry n k (λ q. let yes : eqb x.number n ≡ true = grind (arith, nat_tests) in cc) (kept n k g)
-    ] refl h
+-- the entry that is put is the one of its number, and what was kept of another stays
+record IsPut (es fs : List Entry) (x : Numbered) : Type 0 where
+  own : entry_at fs x.number ≡ Some x.entry
+  stays : (n : ℕ) (k : Kept) → n ≢ x.number → IsEntryOf es n k → IsNearly fs (target x.entry) n k
 
-put-with : (ks : List Kept) (es : List Entry) (old : Entry) (x : Numbered) (v : TotalsAfter) → AreKept ks es → entry_at es x.number ≡ Some old → target old ≡ target x.entry → pos v.left ≡ left_of (with_entry es x.number x.entry) x.number x.entry → (n : ℕ) (k : Kept) → put_in ks (kept_as x v) n ≡ Some k → IsNearly (with_entry es x.number x.entry) (target x.entry) n k
-put-with ks es old x v kept here same_target own n k h =
-    elim (eqb x.number n) as (λ b. eqb x.number n ≡ b → cond b (Some (kept_as x v)) (kept_in ks n) ≡ Some k → IsNearly (with_entry es x.number x.entry) (target x.entry) n k) [
+put-append : (es : List Entry) (x : Numbered) → x.number ≡ length es + 1 → IsPut es (es ++ x.entry ∷ []) x
+put-append es x place =
+    let end : eqb x.number (length es + 1) ≡ true = grind (arith, nat_tests) in
+    record { own = rw (entry_at-append es x.entry x.number) (rw end refl); stays = λ n k apart is. stays-append es x.entry n k (λ q. apart (q ∙ sym place)) is }
+
+put-with : (es : List Entry) (x : Numbered) (old : Entry) → entry_at es x.number ≡ Some old → target old ≡ target x.entry → IsPut es (with_entry es x.number x.entry) x
+put-with es x old here same =
+    let own : eqb x.number x.number ≡ true = grind (arith, nat_tests) in
+    record { own = rw (entry_at-with es x.number old x.entry x.number here) (rw own refl); stays = λ n k apart is. stays-with es x.number old x.entry n k here same apart is }
+
+put-kept : (ks : List Kept) (es fs : List Entry) (x : Numbered) (v : TotalsAfter) → AreKept ks es → IsPut es fs x → pos v.left ≡ left_of fs x.number x.entry → (n : ℕ) (k : Kept) → put_in ks (kept_as x v) n ≡ Some k → IsNearly fs (target x.entry) n k
+put-kept ks es fs x v kept put left n k h =
+    elim (eqb x.number n) as (λ b. eqb x.number n ≡ b → cond b (Some (kept_as x v)) (kept_in ks n) ≡ Some k → IsNearly fs (target x.entry) n k) [
       | true ↦ λ s g.
           let same : x.number ≡ n = grind (arith, nat_tests) in
-          let yes : eqb n x.number ≡ true = grind (arith, nat_tests) in
           let is : kept_as x v ≡ k = cc in
-          let P : Kept → Type 0 = λ j. IsNearly (with_entry es x.number x.entry) (target x.entry) n j in
-          let Q : ℕ → Type 0 = λ j. pos v.left ≡ left_of (with_entry es x.number x.entry) j x.entry in
-          subst P is (record { there = rw (entry_at-with es x.number old x.entry n here) (rw yes refl); left = λ _. subst Q same own })
-      | false ↦ λ s g. stays-with es x.number old x.entry n k here same_target (λ q. let yes : eqb x.number n ≡ true = grind (arith, nat_tests) in cc) (kept n k g)
+          let P : Kept → Type 0 = λ j. IsNearly fs (target x.entry) n j in
+          let Q : ℕ → Type 0 = λ j. entry_at fs j ≡ Some x.entry in
+          let R : ℕ → Type 0 = λ j. pos v.left ≡ left_of fs j x.entry in
+          subst P is (record { there = subst Q same put.own; left = λ _. subst R same left })
+      | false ↦ λ s g. put.stays n k (λ q. let yes : eqb x.number n ≡ true = grind (arith, nat_tests) in cc) (kept n k g)
     ] refl h
 
 -- with what is left of number t written, each is
@@ -110,13 +91,13 @@ applied-kept : (m m' : Part) (x : Numbered) (v : TotalsAfter) (day : ℕ) → Is
 applied-kept m m' x v day a n =
     ap (λ ks. kept_in ks n) a.kept ∙ kept-other (entry_put m.kept (kept_as x v)) v.other n ∙ ap (other_relieved v.other n) (kept-with m.kept (kept_as x v) n)
 
-pub applied-append : (m m' : Part) (rows : Rows) (x : Numbered) (v : TotalsAfter) (day : ℕ) → IsPart m rows → x.number ≡ length rows.entries + 1 → AreFigures v.figures (rows.entries ++ x.entry ∷ []) → AreLeft (rows.entries ++ x.entry ∷ []) x v → IsWritten m x v day m' → IsPart m' (changed_by (edit.Append x) day rows)
-applied-append m m' rows x v day p place figures lefts a = record {
+applied-written : (m m' : Part) (rows : Rows) (fs : List Entry) (x : Numbered) (v : TotalsAfter) (day : ℕ) → IsPart m rows → IsPut rows.entries fs x → AreFigures v.figures fs → AreLeft fs x v → IsWritten m x v day m' → IsPart m' (record { head = seen_on rows.head day; seats = rows.seats; entries = fs })
+applied-written m m' rows fs x v day p put figures lefts a = record {
   head = a.head ∙ ap (λ h. seen_on h day) p.head;
   seats = a.seats ∙ p.seats;
-  figures = let P : Figures → Type 0 = λ f. AreFigures f (rows.entries ++ x.entry ∷ []) in subst P (sym a.figures) figures;
-  kept = λ n k h. written (rows.entries ++ x.entry ∷ []) (target x.entry) v.other n (put_in m.kept (kept_as x v) n)
-      (put-append m.kept rows.entries x v p.kept place lefts.0 n) lefts.1 k (sym (applied-kept m m' x v day a n) ∙ h);
+  figures = let P : Figures → Type 0 = λ f. AreFigures f fs in subst P (sym a.figures) figures;
+  kept = λ n k h. written fs (target x.entry) v.other n (put_in m.kept (kept_as x v) n)
+      (put-kept m.kept rows.entries fs x v p.kept put lefts.0 n) lefts.1 k (sym (applied-kept m m' x v day a n) ∙ h);
 }
 
 -- an entry names what it named when it was made
@@ -126,16 +107,8 @@ target-made (entry.Payment p) = refl
 target-made (entry.Fee f) = refl
 target-made (entry.Claim c) = refl
 
-pub applied-exchange : (m m' : Part) (rows : Rows) (x : Numbered) (old : Entry) (v : TotalsAfter) (day : ℕ) → IsPart m rows → IsExchange rows.entries x old → AreFigures v.figures (with_entry rows.entries x.number x.entry) → AreLeft (with_entry rows.entries x.number x.entry) x v → IsWritten m x v day m' → IsPart m' (changed_by (edit.Exchange x) day rows)
-applied-exchange m m' rows x old v day p place figures lefts a =
-    let same : target old ≡ target x.entry = sym (target-made old) ∙ ap target (sym place.same) ∙ target-made x.entry in
-    record {
-      head = a.head ∙ ap (λ h. seen_on h day) p.head;
-      seats = a.seats ∙ p.seats;
-      figures = let P : Figures → Type 0 = λ f. AreFigures f (with_entry rows.entries x.number x.entry) in subst P (sym a.figures) figures;
-      kept = λ n k h. written (with_entry rows.entries x.number x.entry) (target x.entry) v.other n (put_in m.kept (kept_as x v) n)
-          (put-with m.kept rows.entries old x v p.kept place.there same lefts.0 n) lefts.1 k (sym (applied-kept m m' x v day a n) ∙ h);
-    }
+put-exchange : (es : List Entry) (x : Numbered) (old : Entry) → IsExchange es x old → IsPut es (with_entry es x.number x.entry) x
+put-exchange es x old is = put-with es x old is.there (sym (target-made old) ∙ ap target (sym is.same) ∙ target-made x.entry)
 
 -- What was held is held.
 
@@ -156,13 +129,13 @@ applied-held m m' x v day a past n h =
     held-or true b c f h = refl
     held-or false b c f h = f h
 
-pub held-append : (m m' : Part) (rows : Rows) (x : Numbered) (v : TotalsAfter) (day : ℕ) → IsPart m rows → x.number ≡ length rows.entries + 1 → AreFigures v.figures (rows.entries ++ x.entry ∷ []) → IsWritten m x v day m' → HoldsOn m m'
+held-append : (m m' : Part) (rows : Rows) (x : Numbered) (v : TotalsAfter) (day : ℕ) → IsPart m rows → x.number ≡ length rows.entries + 1 → AreFigures v.figures (rows.entries ++ x.entry ∷ []) → IsWritten m x v day m' → HoldsOn m m'
 held-append m m' rows x v day p place figures a =
     let was : m.figures.entries ≡ length rows.entries = p.figures.entries in
     let now : m'.figures.entries ≡ length rows.entries + 1 = ap (λ f. f.entries) a.figures ∙ figures.entries ∙ length_push rows.entries x.entry in
     applied-held m m' x v day a (λ n apart h. grind (arith, nat_tests))
 
-pub held-exchange : (m m' : Part) (rows : Rows) (x : Numbered) (v : TotalsAfter) (day : ℕ) → IsPart m rows → AreFigures v.figures (with_entry rows.entries x.number x.entry) → IsWritten m x v day m' → HoldsOn m m'
+held-exchange : (m m' : Part) (rows : Rows) (x : Numbered) (v : TotalsAfter) (day : ℕ) → IsPart m rows → AreFigures v.figures (with_entry rows.entries x.number x.entry) → IsWritten m x v day m' → HoldsOn m m'
 held-exchange m m' rows x v day p figures a =
     let same : m'.figures.entries ≡ m.figures.entries = ap (λ f. f.entries) a.figures ∙ figures.entries ∙ length-with rows.entries x.number x.entry ∙ sym p.figures.entries in
     applied-held m m' x v day a (λ n apart h. rw same h)
@@ -207,20 +180,20 @@ as-told m m' n c e v day is moves on made after =
 
 pub after-append : (m m' : Part) (c : MatterChange) (x : Numbered) (v : TotalsAfter) (day : ℕ) → c.edit ≡ edit.Append x → v ≡ c.moves → day ≡ c.last → IsWritten m x v day m' → IsAfter m c m'
 after-append m m' c x v day is moves on a = as-told m m' m' c (edit.Append x) v day is moves on refl (record {
-  part = λ rows s p ch. applied-append m m' rows x v day p ch.place.1 ch.figures ch.lefts a;
+  part = λ rows s p ch. applied-written m m' rows (rows.entries ++ x.entry ∷ []) x v day p (put-append rows.entries x ch.place.1) ch.figures ch.lefts a;
   held = λ rows s p ch. held-append m m' rows x v day p ch.place.1 ch.figures a;
   whole = λ rows s w ch.
       let kept = whole-append m m' rows x v day w ch.place.1 a in
-      record { part = applied-append m m' rows x v day w.part ch.place.1 ch.figures ch.lefts a; entries = kept.0; numbered = kept.1 };
+      record { part = applied-written m m' rows (rows.entries ++ x.entry ∷ []) x v day w.part (put-append rows.entries x ch.place.1) ch.figures ch.lefts a; entries = kept.0; numbered = kept.1 };
 })
 
 pub after-exchange : (m m' : Part) (c : MatterChange) (x : Numbered) (v : TotalsAfter) (day : ℕ) → c.edit ≡ edit.Exchange x → v ≡ c.moves → day ≡ c.last → IsWritten m x v day m' → IsAfter m c m'
 after-exchange m m' c x v day is moves on a = as-told m m' m' c (edit.Exchange x) v day is moves on refl (record {
-  part = λ rows s p ch. applied-exchange m m' rows x ch.place.1.0 v day p ch.place.1.1 ch.figures ch.lefts a;
+  part = λ rows s p ch. applied-written m m' rows (with_entry rows.entries x.number x.entry) x v day p (put-exchange rows.entries x ch.place.1.0 ch.place.1.1) ch.figures ch.lefts a;
   held = λ rows s p ch. held-exchange m m' rows x v day p ch.figures a;
   whole = λ rows s w ch.
       let kept = whole-exchange m m' rows x ch.place.1.0 v day w ch.place.1.1.there a in
-      record { part = applied-exchange m m' rows x ch.place.1.0 v day w.part ch.place.1.1 ch.figures ch.lefts a; entries = kept.0; numbered = kept.1 };
+      record { part = applied-written m m' rows (with_entry rows.entries x.number x.entry) x v day w.part (put-exchange rows.entries x ch.place.1.0 ch.place.1.1) ch.figures ch.lefts a; entries = kept.0; numbered = kept.1 };
 })
 
 -- a change of the head and the seats alone

@@ -1,17 +1,6 @@
 -- The whole of sound rows passes each test, and what passes each is that.
-use Rattle.std.proofs.Common.{◌≡◌, ◌≤◌, List, length, refl, sym, subst, arith, Option}
-use Rattle.std.proofs.lemmas.List.{length-map}
-use Rattle.matter_rows.specs.declared.head.Head.{Head}
-use Rattle.matter_rows.specs.declared.seat.Seat.{Seat}
-use Rattle.matter_rows.specs.declared.entry.Entry.{Entry}
-use Rattle.matter_rows.specs.Rows.{Rows, closed_on}
-use Rattle.matter_rows.specs.Sound.{AreInOrder, Sound}
-use Rattle.matter_rows.specs.SoundRows.{AreInForm}
-use Rattle.matter_parts.specs.declared.figures.Figures.{Figures}
-use Rattle.matter_parts.specs.declared.kept.Kept.{Kept}
-use Rattle.matter_parts.specs.Parts.{Part, IsWhole, AreEmptyIfClosed, AreFigures, entries_kept}
+use Rattle.matter_parts.proofs.Names.{◌≡◌, ◌≤◌, List, length, refl, sym, subst, arith, Option, length-map, Head, Seat, Entry, Rows, closed_on, AreInOrder, Sound, AreInForm, Figures, Kept, Part, IsWhole, AreEmptyIfClosed, AreFigures, entries_kept, AreInPlace, IsSoundWhole, WholeIsSound, rows_kept}
 use Rattle.matter_parts.proofs.WholeRows.{form-of, empty-of, backed-of, sound-of}
-use Rattle.matter_parts.specs.Audit.{AreInPlace, IsSoundWhole, WholeIsSound, rows_kept}
 use Rattle.matter_parts.proofs.InPlace.{in-place, kept-of, numbered-of}
 
 -- what is tested of a matter

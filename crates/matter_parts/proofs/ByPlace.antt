@@ -1,18 +1,8 @@
 -- Entries with the numbers 1, 2 and so on: each stands at the place of its number.
-use Rattle.std.specs.List.{filter, position, position_or_len, slice_get}
-use Rattle.std.proofs.Common.{zero, suc, ◌≡◌, ℕ, ◌+◌, ◌-◌, ◌<◌, ◌≤◌, not, ltb, Bool, true, false, cond, List, [], ◌∷◌, ◌++◌, take, length, get_or, refl, ap, sym, ◌∙◌, subst, arith, Some, None, eqb}
-use Rattle.std.proofs.Math.ListN.{set}
-use Rattle.std.proofs.lemmas.Bool.Decides.{nat_tests}
-use Rattle.std.proofs.lemmas.List.{append-nil, take_all}
-use Rattle.std.proofs.lemmas.List.Elements.{filter_more}
+use Rattle.matter_parts.proofs.Names.{filter, position, position_or_len, slice_get, zero, suc, ◌≡◌, ℕ, ◌+◌, ◌-◌, ◌<◌, ◌≤◌, not, ltb, Bool, true, false, cond, List, [], ◌∷◌, ◌++◌, take, length, get_or, refl, ap, sym, ◌∙◌, subst, arith, Some, None, eqb, set, nat_tests, append-nil, take_all, filter_more, place-none, place-some, Kept, IsNextPlace, entry_put, AreNumbered, kept_in}
 use Rattle.std.proofs.lemmas.List.Folds.{find_at}
 use Rattle.std.proofs.lemmas.List.Sums.{position_or_len_is}
 use Rattle.std.proofs.lemmas.Option.{slice_get_past, slice_get_read}
-use Rattle.matter_rows.proofs.Places.{place-none, place-some}
-use Rattle.matter_parts.specs.declared.kept.Kept.{Kept}
-use Rattle.matter_parts.specs.NamedEntries.{IsNextPlace}
-use Rattle.matter_parts.specs.Applied.{entry_put}
-use Rattle.matter_parts.specs.Parts.{AreNumbered, kept_in}
 use Rattle.matter_parts.proofs.AllKept.{numbered-left}
 use Rattle.matter_parts.proofs.Keepers.{is_number, left-set, with-set}
 

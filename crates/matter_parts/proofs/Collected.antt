@@ -1,19 +1,5 @@
 -- A matter that is made of whole rows, entry by entry.
-use Rattle.std.proofs.Common.{◌≡◌, ◌≢◌, ℕ, ◌+◌, ◌<◌, ◌≤◌, true, false, cond, List, [], ◌∷◌, ◌++◌, take, length, get_or, refl, ap, sym, ◌∙◌, arith, subst, Some, eqb, ℤ, pos, ◌-ℤ◌}
-use Rattle.std.proofs.lemmas.Int.{ints}
-use Rattle.std.proofs.lemmas.Bool.Decides.{nat_tests}
-use Rattle.std.proofs.lemmas.List.{take_more, take_all, length_push}
-use Rattle.matter_rows.specs.declared.entry.Entry.{Entry}
-use Rattle.matter_rows.specs.Rows.{Rows, entry_at}
-use Rattle.matter_rows.specs.Balances.{left_of, total_of}
-use Rattle.matter_rows.specs.Shares.{draw_on, worth}
-use Rattle.matter_rows.specs.declared.limits.TheConstants.{MAX_TOTAL}
-use Rattle.matter_rows.proofs.Store.{IsBalance, natural}
-use Rattle.matter_rows.proofs.Collected.{entry-at}
-use Rattle.matter_parts.specs.declared.kept.Kept.{Kept}
-use Rattle.matter_parts.specs.declared.figures.Figures.{Figures}
-use Rattle.matter_parts.specs.Applied.{entry_put}
-use Rattle.matter_parts.specs.Parts.{Part, IsWhole, AreFigures, kept_in, entries_kept, AreNumbered, AreKept, IsEntryOf, AreAllKept}
+use Rattle.matter_parts.proofs.Names.{◌≡◌, ◌≢◌, ℕ, ◌+◌, ◌<◌, ◌≤◌, true, false, cond, List, [], ◌∷◌, ◌++◌, take, length, get_or, refl, ap, sym, ◌∙◌, arith, subst, Some, eqb, ℤ, pos, ◌-ℤ◌, ints, nat_tests, take_more, take_all, length_push, Entry, Rows, entry_at, left_of, total_of, draw_on, worth, MAX_TOTAL, IsBalance, natural, entry-at, Kept, Figures, entry_put, Part, IsWhole, AreFigures, kept_in, entries_kept, AreNumbered, AreKept, IsEntryOf, AreAllKept}
 use Rattle.matter_parts.proofs.AllKept.{entries-end, numbered-end}
 use Rattle.matter_parts.proofs.Keepers.{AreSmallLefts, put_in, kept-with, small-with}
 

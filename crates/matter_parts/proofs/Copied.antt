@@ -1,9 +1,5 @@
 -- The entries of what is kept, copied one after the other.
-use Rattle.std.proofs.Common.{◌≡◌, ℕ, ◌+◌, ◌<◌, List, [], ◌∷◌, ◌++◌, take, length, get_or, ap, sym, ◌∙◌}
-use Rattle.std.proofs.lemmas.List.{map_more}
-use Rattle.matter_rows.specs.declared.entry.Entry.{Entry}
-use Rattle.matter_parts.specs.declared.kept.Kept.{Kept}
-use Rattle.matter_parts.specs.Parts.{entries_kept}
+use Rattle.matter_parts.proofs.Names.{◌≡◌, ℕ, ◌+◌, ◌<◌, List, [], ◌∷◌, ◌++◌, take, length, get_or, ap, sym, ◌∙◌, map_more, Entry, Kept, entries_kept}
 
 pub copied-more : (ks : List Kept) (i : ℕ) (k : Kept) (e : Entry) (now : List Entry) → now ≡ entries_kept (take i ks) → i < length ks → k ≡ get_or ks i k → e ≡ k.entry → now ++ e ∷ [] ≡ entries_kept (take (i + 1) ks)
 copied-more ks i k e now so inside at is =

@@ -1,13 +1,6 @@
 -- What is drawn on each entry, added up entry by entry.
-use Rattle.std.proofs.Common.{◌≡◌, ◌≢◌, ℕ, ◌+◌, ◌<◌, ◌≤◌, true, false, List, length, get_or, set, replicate, eqb, refl, sym, ap, subst, arith, ◌∙◌, ℤ, pos, ◌+ℤ◌}
-use Rattle.std.proofs.lemmas.Bool.Decides.{nat_tests}
-use Rattle.std.proofs.lemmas.Int.{ints}
-use Rattle.std.proofs.lemmas.List.{length-set, get_or-set_same, get_or-set_other, get_or-replicate, get_or_read, length-replicate}
-use Rattle.matter_rows.specs.declared.entry.Entry.{Entry}
-use Rattle.matter_rows.specs.Shares.{IsSmallShare, draw, draw_on, target}
-use Rattle.matter_rows.proofs.Adding.{IsSumTo, IsSumOf, more, small-sum, start, whole}
-use Rattle.matter_rows.proofs.Keeping.{draw-apart}
-use Rattle.matter_parts.specs.Audit.{AreDrawn, IsUntargeted}
+use Rattle.matter_parts.proofs.Names.{◌≡◌, ◌≢◌, ℕ, ◌+◌, ◌<◌, ◌≤◌, true, false, List, length, get_or, replicate, eqb, refl, sym, ap, subst, arith, ◌∙◌, ℤ, pos, ◌+ℤ◌, nat_tests, ints, length-set, get_or-set_same, get_or-set_other, get_or-replicate, get_or_read, length-replicate, Entry, IsSmallShare, draw, draw_on, target, IsSumTo, IsSumOf, more, small-sum, start, whole, draw-apart, AreDrawn, IsUntargeted}
+use Rattle.std.proofs.Common.{set}
 
 -- what the first i entries draw on each
 pub record AreDrawnTo (es : List Entry) (i : ℕ) (drawn : List ℤ) : Type 0 where

@@ -1,18 +1,9 @@
 -- Edits of backed entries that leave them backed.
-use Rattle.std.proofs.Common.{◌≡◌, ℕ, ◌+◌, ◌<◌, true, false, cond, List, [], length, refl, arith, rules, subst, Some, eqb, ◌⊎◌, pos, ◌+ℤ◌, ◌-ℤ◌, ◌≤ℤ◌}
-use Rattle.std.proofs.lemmas.Int.{ints}
-use Rattle.std.proofs.lemmas.Bool.Decides.{nat_tests}
+use Rattle.matter_parts.proofs.Names.{◌≡◌, ℕ, ◌+◌, ◌<◌, true, false, cond, List, [], length, refl, arith, rules, subst, Some, eqb, ◌⊎◌, pos, ◌+ℤ◌, ◌-ℤ◌, ◌≤ℤ◌, ints, nat_tests, Entry, entry_at, draw, draw_on, target, worth, available_share, left_of, names, AreBacked, MayAdd, MayTake, Edit}
 use Rattle.trust_base.specs.Limits.{IsAmount}
 use Rattle.matter_rows.specs.declared.deposit.Deposit.{Deposit}
 use Rattle.matter_rows.specs.declared.deposit.DepositState.TheVariants as deposit
-use Rattle.matter_rows.specs.declared.entry.Entry.{Entry}
 use Rattle.matter_rows.specs.declared.entry.Entry.TheVariants as entry
-use Rattle.matter_rows.specs.Rows.{entry_at}
-use Rattle.matter_rows.specs.Shares.{draw, draw_on, target, worth, available_share}
-use Rattle.matter_rows.specs.Balances.{left_of, names}
-use Rattle.matter_rows.specs.Sound.{AreBacked}
-use Rattle.matter_rows.proofs.Keeping.{MayAdd, MayTake}
-use Rattle.matter_parts.specs.declared.edit.Edit.{Edit}
 use Rattle.matter_parts.specs.declared.edit.Edit.TheVariants as edit
 
 pub left-drawn : (es : List Entry) (x : Entry) → ((e : Entry) → entry_at es (target x) ≡ Some e → pos 0 ≤ℤ (left_of es (target x) e -ℤ draw x)) → ((n : ℕ) (e : Entry) → entry_at es n ≡ Some e → pos 0 ≤ℤ left_of es n e) → (n : ℕ) (e : Entry) → entry_at es n ≡ Some e → pos 0 ≤ℤ (left_of es n e -ℤ draw_on n x)

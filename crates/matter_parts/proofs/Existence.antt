@@ -1,27 +1,5 @@
 -- For a part of sound rows there is always a change in range.
-use Rattle.std.proofs.Common.{◌≡◌, ℕ, ◌+◌, ◌≤◌, ◌==◌, ◌||◌, ltb, is_some, true, false, List, [], ◌∷◌, ◌++◌, length, refl, sym, ◌∙◌, arith, subst, Option, Some, None, IfSome, IfNone, eqb, pos, ◌+ℤ◌, ◌-ℤ◌, ◌⊎◌, inl, inr}
-use Rattle.std.proofs.lemmas.Int.{ints}
-use Rattle.std.proofs.lemmas.Bool.Decides.{nat_tests}
-use Rattle.matter_rows.specs.declared.entry.Entry.{Entry}
-use Rattle.matter_rows.specs.declared.shares.Shares.{Shares}
-use Rattle.matter_rows.specs.Balances.{total_of, left_of, held, available, disputed, fees, claims}
-use Rattle.matter_rows.specs.Shares.{target, worth, held_share, available_share, disputed_share, fee_share, claim_share, pending_share, no_shares, shares_of}
-use Rattle.matter_rows.specs.declared.limits.TheConstants.{MAX_TOTAL}
-use Rattle.matter_rows.specs.Rows.{entry_at, with_entry}
-use Rattle.matter_rows.specs.Sound.{AreBacked}
-use Rattle.matter_rows.proofs.Store.{natural, held-balance, pending-balance, disputed-balance, available-balance, fees-balance, claims-balance, left-balance}
-use Rattle.matter_rows.proofs.Sums.{total-append, total-with}
-use Rattle.matter_rows.proofs.Exchange.{fees-by_share, claims-by_share}
-use Rattle.matter_rows.proofs.Entries.{entry_at-append, entry_at-with, within}
-use Rattle.matter_rows.proofs.Keeping.{MayAdd, MayTake, draw-apart, left-append, left-with, sound-append, sound-with}
-use Rattle.matter_parts.specs.declared.edit.Numbered.{Numbered}
-use Rattle.matter_parts.specs.declared.figures.Figures.{Figures}
-use Rattle.matter_parts.specs.declared.kept.Kept.{Kept}
-use Rattle.matter_parts.specs.declared.change.Left.{Left}
-use Rattle.matter_parts.specs.declared.change.TotalsAfter.{TotalsAfter}
-use Rattle.matter_parts.specs.Changes.{AreSmallTotals, IsSmallOther}
-use Rattle.matter_parts.specs.TotalsAfter.{FiguresMoved, AppendMoved, ExchangeMoved}
-use Rattle.matter_parts.specs.Parts.{Part, AreSmall, no_figures, kept_at, AreFigures, AreKept, is_held_or_none}
+use Rattle.matter_parts.proofs.Names.{◌≡◌, ℕ, ◌+◌, ◌≤◌, ◌==◌, ◌||◌, ltb, is_some, true, false, List, [], ◌∷◌, ◌++◌, length, refl, sym, ◌∙◌, arith, subst, Option, Some, None, IfSome, IfNone, eqb, pos, ◌+ℤ◌, ◌-ℤ◌, ◌⊎◌, inl, inr, ints, nat_tests, Entry, Shares, total_of, left_of, held, available, disputed, fees, claims, target, worth, held_share, available_share, disputed_share, fee_share, claim_share, pending_share, no_shares, shares_of, MAX_TOTAL, entry_at, with_entry, AreBacked, natural, held-balance, pending-balance, disputed-balance, available-balance, fees-balance, claims-balance, left-balance, total-append, total-with, fees-by_share, claims-by_share, entry_at-append, entry_at-with, within, MayAdd, MayTake, draw-apart, left-append, left-with, sound-append, sound-with, Numbered, Figures, Kept, Left, TotalsAfter, AreSmallTotals, IsSmallOther, FiguresMoved, AppendMoved, ExchangeMoved, Part, AreSmall, no_figures, kept_at, AreFigures, AreKept, is_held_or_none}
 use Rattle.matter_parts.proofs.Moving.{moved-same}
 use Rattle.matter_parts.proofs.Moved.{append-apart, own-append, draw-here}
 

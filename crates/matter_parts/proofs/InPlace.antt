@@ -1,15 +1,6 @@
 -- Kept entries that have the numbers of their places, and what the entries leave of each.
-use Rattle.std.proofs.Common.{◌≡◌, ℕ, ◌+◌, ◌-◌, ◌<◌, ◌≤◌, ◌↔◌, cond, true, false, List, [], ◌∷◌, length, drop, get_or, eqb, sym, subst, arith, Some, refl, ap, ℤ, pos, ◌-ℤ◌}
-use Rattle.std.proofs.lemmas.Bool.Decides.{nat_tests}
-use Rattle.std.proofs.lemmas.Int.{ints}
-use Rattle.matter_rows.specs.declared.entry.Entry.{Entry}
-use Rattle.matter_rows.specs.Rows.{entry_at}
-use Rattle.matter_rows.specs.Balances.{left_of}
-use Rattle.matter_rows.specs.Shares.{worth}
+use Rattle.matter_parts.proofs.Names.{◌≡◌, ℕ, ◌+◌, ◌-◌, ◌<◌, ◌≤◌, ◌↔◌, cond, true, false, List, [], ◌∷◌, length, drop, get_or, eqb, sym, subst, arith, Some, refl, ap, ℤ, pos, ◌-ℤ◌, nat_tests, ints, Entry, entry_at, left_of, worth, Kept, AreKept, AreNumbered, entries_kept, kept_in, AreDrawn, AreInPlace, IsInPlace}
 use Rattle.matter_rows.proofs.Tested.{rest-at, rest-none}
-use Rattle.matter_parts.specs.declared.kept.Kept.{Kept}
-use Rattle.matter_parts.specs.Parts.{AreKept, AreNumbered, entries_kept, kept_in}
-use Rattle.matter_parts.specs.Audit.{AreDrawn, AreInPlace, IsInPlace}
 
 -- Tested one after the other.
 

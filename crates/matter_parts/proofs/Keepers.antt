@@ -1,15 +1,5 @@
 -- What is kept, after an entry is put or what is left of one is written.
-use Rattle.std.specs.List.{position, position_or_len}
-use Rattle.std.proofs.Common.{suc, ◌≡◌, ℕ, ◌+◌, ◌<◌, ◌≤◌, ◌==◌, not, Bool, true, false, cond, List, [], ◌∷◌, ◌++◌, length, refl, ap, sym, ◌∙◌, arith, subst, Option, Some, None, eqb, get_or}
-use Rattle.std.proofs.Math.ListN.{set}
-use Rattle.std.proofs.lemmas.Bool.Decides.{nat_tests}
-use Rattle.matter_rows.specs.declared.limits.TheConstants.{MAX_TOTAL}
-use Rattle.matter_rows.proofs.Places.{place-some, place-none}
-use Rattle.matter_parts.specs.declared.kept.Kept.{Kept}
-use Rattle.matter_parts.specs.declared.change.Left.{Left}
-use Rattle.matter_parts.specs.Applied.{entry_put, left_written, other_written}
-use Rattle.matter_parts.specs.Parts.{kept_in}
-use Rattle.matter_parts.specs.Changes.{IsSmallOther}
+use Rattle.matter_parts.proofs.Names.{position, position_or_len, suc, ◌≡◌, ℕ, ◌+◌, ◌<◌, ◌≤◌, ◌==◌, not, Bool, true, false, cond, List, [], ◌∷◌, ◌++◌, length, refl, ap, sym, ◌∙◌, arith, subst, Option, Some, None, eqb, get_or, set, nat_tests, MAX_TOTAL, place-some, place-none, Kept, Left, entry_put, left_written, other_written, kept_in, IsSmallOther}
 
 abbrev pub is_number : ℕ → Kept → Bool
 is_number n k = k.number == n

@@ -19,3 +19,4 @@ pub mod Audited
 pub mod Copied
 pub mod Drawn
 pub mod InPlace
+mod Names

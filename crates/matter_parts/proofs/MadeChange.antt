@@ -1,16 +1,8 @@
 -- The change that is made by what is kept is one of the rows.
-use Rattle.std.proofs.Common.{◌≡◌, ℕ, refl, ap, sym, ◌∙◌, subst, Option}
-use Rattle.matter_rows.specs.declared.entry.Entry.{Entry}
+use Rattle.matter_parts.proofs.Names.{◌≡◌, ℕ, refl, ap, sym, ◌∙◌, subst, Option, Entry, Rows, entry_at, last_of, Sound, Edit, TotalsAfter, Part, IsPart, kept_at, entry_in, MatterChange, IsChange, movement_of, AreMoved, IsMovedWithin, EditMoved, movement_kept}
 use Rattle.matter_rows.specs.declared.movement.EntryMovement.{EntryMovement}
-use Rattle.matter_rows.specs.Rows.{Rows, entry_at, last_of}
 use Rattle.matter_rows.specs.Events.{events_of, events_in, moved_beyond}
-use Rattle.matter_rows.specs.Sound.{Sound}
-use Rattle.matter_parts.specs.declared.edit.Edit.{Edit}
 use Rattle.matter_parts.specs.declared.edit.Edit.TheVariants as edit
-use Rattle.matter_parts.specs.declared.change.TotalsAfter.{TotalsAfter}
-use Rattle.matter_parts.specs.Parts.{Part, IsPart, kept_at, entry_in}
-use Rattle.matter_parts.specs.Changes.{MatterChange, IsChange, movement_of, AreMoved, IsMovedWithin}
-use Rattle.matter_parts.specs.TotalsAfter.{EditMoved, movement_kept}
 use Rattle.matter_parts.proofs.Moved.{changes-are}
 use Rattle.matter_parts.proofs.StepForms.{IsStepOf}
 

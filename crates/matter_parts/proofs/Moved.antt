@@ -1,24 +1,6 @@
 -- The figures that are kept, after a change.
-use Rattle.std.proofs.Common.{◌≡◌, ℕ, ◌+◌, ◌≢◌, true, false, List, [], ◌∷◌, ◌++◌, length, refl, sym, ◌∙◌, arith, subst, Option, Some, None, eqb, pos, ◌+ℤ◌, ◌-ℤ◌, length-append}
-use Rattle.std.proofs.lemmas.Int.{ints}
-use Rattle.std.proofs.lemmas.Bool.Decides.{nat_tests}
-use Rattle.matter_rows.specs.declared.entry.Entry.{Entry}
-use Rattle.matter_rows.specs.Balances.{left_of}
-use Rattle.matter_rows.specs.Rows.{entry_at, with_entry, Rows}
-use Rattle.matter_rows.specs.Shares.{draw, draw_on, target, worth, available_share, held_share, disputed_share, fee_share, claim_share, pending_share, no_shares, shares_of}
-use Rattle.matter_rows.specs.Sound.{AreBacked}
-use Rattle.matter_rows.proofs.Sums.{total-append, total-with}
-use Rattle.matter_rows.proofs.Exchange.{fees-by_share, claims-by_share}
-use Rattle.matter_rows.proofs.Entries.{entry_at-append, entry_at-with, length-with, none-past}
-use Rattle.matter_rows.proofs.Keeping.{MayAdd, MayTake, target-apart, draw-apart, total-undrawn, left-append, left-with, sound-append, sound-with}
-use Rattle.matter_parts.specs.declared.edit.Edit.{Edit}
+use Rattle.matter_parts.proofs.Names.{◌≡◌, ℕ, ◌+◌, ◌≢◌, true, false, List, [], ◌∷◌, ◌++◌, length, refl, sym, ◌∙◌, arith, subst, Option, Some, None, eqb, pos, ◌+ℤ◌, ◌-ℤ◌, length-append, ints, nat_tests, Entry, left_of, entry_at, with_entry, Rows, draw, draw_on, target, worth, available_share, held_share, disputed_share, fee_share, claim_share, pending_share, no_shares, shares_of, AreBacked, total-append, total-with, fees-by_share, claims-by_share, entry_at-append, entry_at-with, length-with, none-past, MayAdd, MayTake, target-apart, draw-apart, total-undrawn, left-append, left-with, sound-append, sound-with, Edit, Figures, Left, TotalsAfter, edited, IsOther, AreLefts, NoneLeft, FiguresMoved, OtherCases, EditMoved, NoneMoved, Part, no_figures, AreFigures, IsPart, AreKept}
 use Rattle.matter_parts.specs.declared.edit.Edit.TheVariants as edit
-use Rattle.matter_parts.specs.declared.figures.Figures.{Figures}
-use Rattle.matter_parts.specs.declared.change.Left.{Left}
-use Rattle.matter_parts.specs.declared.change.TotalsAfter.{TotalsAfter}
-use Rattle.matter_parts.specs.Changes.{edited, IsOther, AreLefts, NoneLeft}
-use Rattle.matter_parts.specs.TotalsAfter.{FiguresMoved, OtherCases, EditMoved, NoneMoved}
-use Rattle.matter_parts.specs.Parts.{Part, no_figures, AreFigures, IsPart, AreKept}
 use Rattle.matter_parts.proofs.Editing.{IsPlace, MayEdit}
 
 figures-append : (es : List Entry) (x : Entry) (f g : Figures) → AreBacked es → AreBacked (es ++ x ∷ []) → AreFigures f es → FiguresMoved f (f.entries + 1) no_shares (shares_of x) g → AreFigures g (es ++ x ∷ [])

@@ -1,17 +1,5 @@
 -- What moves when an entry is written, from what it counted for before.
-use Rattle.std.proofs.Common.{◌≡◌, ℕ, ◌+◌, arith, subst, sym, ℤ, pos, Option, Some}
-use Rattle.std.proofs.lemmas.Int.{ints}
-use Rattle.matter_rows.specs.declared.entry.Entry.{Entry}
-use Rattle.matter_rows.specs.declared.shares.Shares.{Shares}
-use Rattle.matter_rows.specs.Shares.{shares_of, no_shares, worth, draw, IsSmallShare, AreSmallShares, IsSmallSum, AreSmallSums}
-use Rattle.matter_parts.specs.declared.figures.Figures.{Figures}
-use Rattle.matter_parts.specs.declared.change.Before.{Before}
-use Rattle.matter_parts.specs.declared.change.Left.{Left}
-use Rattle.matter_parts.specs.declared.change.TotalsAfter.{TotalsAfter}
-use Rattle.matter_parts.specs.declared.edit.Numbered.{Numbered}
-use Rattle.matter_parts.specs.declared.kept.Kept.{Kept}
-use Rattle.matter_parts.specs.TotalsAfter.{FiguresMoved, OtherMoved, EntryMoved, AppendMoved, ExchangeMoved}
-use Rattle.matter_parts.specs.Parts.{kept_at, Part}
+use Rattle.matter_parts.proofs.Names.{◌≡◌, ℕ, ◌+◌, ◌≤◌, arith, refl, subst, sym, ℤ, pos, ◌+ℤ◌, ◌-ℤ◌, Option, Some, None, ints, Entry, Shares, shares_of, no_shares, worth, draw, IsSmallShare, AreSmallShares, IsSmallSum, AreSmallSums, Figures, Before, Left, TotalsAfter, Numbered, Kept, FiguresMoved, OtherMoved, EntryMoved, AppendMoved, ExchangeMoved, MAX_TOTAL, IsSmallOther, kept_at, Part}
 
 -- Shares and sums.
 
@@ -28,7 +16,7 @@ small_sums s a = record {
   pending = small_sum s.pending a.pending;
 }
 
--- The figures and the other entry, under equal numbers.
+-- The figures, under equal numbers, and the entry that is named.
 
 pub moved-same : (f f' : Figures) (n : ℕ) (a a' b b' : Shares) (g : Figures) → FiguresMoved f n a b g → f ≡ f' → a ≡ a' → b ≡ b' → FiguresMoved f' n a' b' g
 moved-same f f' n a a' b b' g h p q r =
@@ -37,12 +25,20 @@ moved-same f f' n a a' b b' g h p q r =
     let R : Shares → Type 0 = λ x. FiguresMoved f n a x g in
     subst P p (subst Q q (subst R r h))
 
-pub other-same : (m : Part) (t t' : ℕ) (a a' b b' : ℤ) (o : Option Left) → OtherMoved m t a b o → t ≡ t' → a ≡ a' → b ≡ b' → OtherMoved m t' a' b' o
-other-same m t t' a a' b b' o h p q r =
-    let P : ℕ → Type 0 = λ x. OtherMoved m x a' b' o in
-    let Q : ℤ → Type 0 = λ x. OtherMoved m t x b' o in
-    let R : ℤ → Type 0 = λ x. OtherMoved m t a x o in
-    subst P p (subst Q q (subst R r h))
+-- what is left of the named entry is within the range of a matter
+pub named-left : (m : Part) (t n : ℕ) (a b : ℤ) (o : Option Left) (k : Kept) → n ≡ t → 1 ≤ n → Some k ≡ kept_at m n → IsSmallOther o → OtherMoved m t a b o → (x : ℕ) × ((x ≤ MAX_TOTAL) × (pos x ≡ (pos k.left -ℤ b) +ℤ a))
+named-left m t n a b None k here some at small h = absurd (let none = h.cases in omega arith)
+named-left m t n a b (Some l) k here some at small h =
+    let there = h.cases.1.1 in
+    let P : ℕ → Type 0 = λ i. Some k ≡ kept_at m i in
+    let is = subst P here at in
+    let same : k ≡ h.cases.1.0 = cc in
+    (l.left, (small l refl, rw same h.cases.1.2))
+
+pub named-moved : (m : Part) (t n : ℕ) (a b : ℤ) (k : Kept) (x : ℕ) → n ≡ t → Some k ≡ kept_at m n → pos x ≡ (pos k.left -ℤ b) +ℤ a → OtherMoved m t a b (Some (record { number = n; left = x }))
+named-moved m t n a b k x here at left =
+    let P : ℕ → Type 0 = λ i. kept_at m i ≡ Some k in
+    record { cases = (here, (k, subst P here (sym at), left)) }
 
 -- An entry that is added or changed.
 
@@ -60,9 +56,6 @@ written-same m n n' b b' e v h p q =
 
 pub append-written : (m : Part) (x : Numbered) (v : TotalsAfter) → AppendMoved m x v → EntryMoved m (m.figures.entries + 1) uncounted x.entry v
 append-written m x v h = record { figures = h.figures; left = omega (arith, ints, h.left); other = h.other }
-
-pub written-append : (m : Part) (x : Numbered) (v : TotalsAfter) → x.number ≡ m.figures.entries + 1 → EntryMoved m (m.figures.entries + 1) uncounted x.entry v → AppendMoved m x v
-written-append m x v next h = record { number = next; figures = h.figures; left = omega (arith, ints, h.left); other = h.other }
 
 pub exchange-written : (m : Part) (x : Numbered) (k j : Kept) (v : TotalsAfter) → Some k ≡ kept_at m x.number → ExchangeMoved m x j v → EntryMoved m m.figures.entries (counted k) x.entry v
 exchange-written m x k j v is h =

@@ -1,16 +1,6 @@
 -- What is kept under a number, of what is named.
-use Rattle.std.specs.List.{filter}
-use Rattle.std.proofs.Common.{◌≡◌, ℕ, ◌==◌, ◌||◌, ltb, Bool, true, false, cond, List, [], ◌∷◌, refl, ap, sym, ◌∙◌, subst, arith, Option, Some, None, eqb, is_some}
-use Rattle.std.proofs.lemmas.Bool.Decides.{nat_tests}
-use Rattle.matter_rows.specs.declared.head.Head.{Head}
-use Rattle.matter_rows.specs.declared.seat.Seat.{Seat}
-use Rattle.matter_rows.specs.Shares.{number_or_none}
-use Rattle.matter_rows.specs.Rows.{Rows}
-use Rattle.matter_parts.specs.declared.kept.Kept.{Kept}
-use Rattle.matter_parts.specs.declared.figures.Figures.{Figures}
+use Rattle.matter_parts.proofs.Names.{filter, ◌≡◌, ℕ, ◌==◌, ◌||◌, ltb, Bool, true, false, cond, List, [], ◌∷◌, refl, ap, sym, ◌∙◌, subst, arith, Option, Some, None, eqb, is_some, nat_tests, Head, Seat, number_or_none, Rows, Kept, Figures, has_number, Part, IsPart, kept_in, kept_at, is_held, is_it, is_named, named_part, target_by}
 use Rattle.matter_parts.specs.declared.named_entries.NamedEntries.{NamedEntries}
-use Rattle.matter_parts.specs.NamedEntries.{has_number}
-use Rattle.matter_parts.specs.Parts.{Part, IsPart, kept_in, kept_at, is_held, is_it, is_named, named_part, target_by}
 use Rattle.matter_parts.proofs.Keepers.{AreSmallLefts}
 
 kept-filter : (test : ℕ → Bool) (ks : List Kept) (n : ℕ) → kept_in (filter (λ k. test k.number) ks) n ≡ cond (test n) (kept_in ks n) None

@@ -1,24 +1,11 @@
 -- Store is never answered for a part of backed rows.
-use Rattle.std.proofs.Common.{◌≡◌, ℕ, Bool, true, List, refl, sym, subst, Option, Some, None, ◌⊎◌, inl, inr, arith, length}
-use Rattle.std.proofs.lemmas.Int.{ints}
+use Rattle.matter_parts.proofs.Names.{◌≡◌, ℕ, Bool, true, List, refl, sym, subst, Option, Some, None, ◌⊎◌, inl, inr, arith, length, ints, Entry, passes, names, funds, is_against, is_fee, is_settled, Rows, entry_at, target, fund_no, against_no, AreBacked, held-balance, pending-balance, disputed-balance, available-balance, fees-balance, claims-balance, Figures, Edit, TotalsAfter, AreSmallTotals, EditMoved, Part, no_figures, AreSmall, IsPart, AreFigures, is_held_or_none}
 use Rattle.matter_rows.specs.declared.entry.Entry.TheVariants as entry
 use Rattle.matter_rows.specs.declared.payment.Fund.{Fund}
 use Rattle.matter_rows.specs.declared.payment.Fund.TheVariants as fund
 use Rattle.matter_rows.specs.declared.claim.Against.{Against}
 use Rattle.matter_rows.specs.declared.claim.Against.TheVariants as against
-use Rattle.matter_rows.specs.declared.entry.Entry.{Entry}
-use Rattle.matter_rows.specs.Balances.{passes, names, funds, is_against, is_fee, is_settled}
-use Rattle.matter_rows.specs.Rows.{Rows, entry_at}
-use Rattle.matter_rows.specs.Shares.{target, fund_no, against_no}
-use Rattle.matter_rows.specs.Sound.{AreBacked}
-use Rattle.matter_rows.proofs.Store.{held-balance, pending-balance, disputed-balance, available-balance, fees-balance, claims-balance}
 use Rattle.matter_parts.specs.declared.edit.Edit.TheVariants as edit
-use Rattle.matter_parts.specs.declared.figures.Figures.{Figures}
-use Rattle.matter_parts.specs.declared.edit.Edit.{Edit}
-use Rattle.matter_parts.specs.declared.change.TotalsAfter.{TotalsAfter}
-use Rattle.matter_parts.specs.Changes.{AreSmallTotals}
-use Rattle.matter_parts.specs.TotalsAfter.{EditMoved}
-use Rattle.matter_parts.specs.Parts.{Part, no_figures, AreSmall, IsPart, AreFigures, is_held_or_none}
 use Rattle.matter_parts.proofs.Existence.{IsKeptOrNone, small-none, exist-append, exist-exchange, held-kept}
 use Rattle.matter_parts.proofs.Editing.{MayEdit}
 

@@ -1,12 +1,5 @@
 -- What a part of rows is decided on is what the rows are.
-use Rattle.std.proofs.Common.{zero, suc, ◌≡◌, ℕ, ◌==◌, ◌||◌, ltb, true, List, [], ◌∷◌, length, refl, sym, arith, Some, None, pos, is_some}
-use Rattle.std.proofs.lemmas.Bool.Decides.{nat_tests}
-use Rattle.matter_rows.specs.declared.entry.Entry.{Entry}
-use Rattle.matter_rows.specs.Balances.{left_of, left_in}
-use Rattle.matter_rows.specs.Rows.{entry_at}
-use Rattle.matter_rows.proofs.Entries.{none-past}
-use Rattle.matter_parts.specs.declared.kept.Kept.{Kept}
-use Rattle.matter_parts.specs.Parts.{kept_in, IsEntryOf, AreKept, entry_in, left_kept}
+use Rattle.matter_parts.proofs.Names.{zero, suc, ◌≡◌, ℕ, ◌==◌, ◌||◌, ltb, true, List, [], ◌∷◌, length, refl, sym, arith, Some, None, pos, is_some, nat_tests, Entry, left_of, left_in, entry_at, none-past, Kept, kept_in, IsEntryOf, AreKept, entry_in, left_kept}
 
 -- no entry has number 0
 none-zero : (es : List Entry) → entry_at es 0 ≡ None

@@ -1,12 +1,5 @@
 -- Forms of a step: edits of sound rows, what they move, and what an accepted ask has passed.
-use Rattle.std.proofs.Common.{◌≡◌, ℕ, ◌≤◌, List, Option}
-use Rattle.matter_rows.specs.declared.entry.Entry.{Entry}
-use Rattle.matter_rows.specs.declared.head.Head.{Head}
-use Rattle.matter_rows.specs.declared.seat.Seat.{Seat}
-use Rattle.matter_rows.specs.Rows.{Rows, last_of}
-use Rattle.matter_rows.specs.Sound.{Sound}
-use Rattle.matter_parts.specs.declared.edit.Edit.{Edit}
-use Rattle.matter_parts.specs.Changes.{IsPlace, changed_by, movement_of, AreMoved, IsMovedWithin}
+use Rattle.matter_parts.proofs.Names.{◌≡◌, ℕ, ◌≤◌, List, Option, Entry, Head, Seat, Rows, last_of, Sound, Edit, IsPlace, changed_by, movement_of, AreMoved, IsMovedWithin}
 use Rattle.matter_parts.proofs.Editing.{MayEdit}
 
 -- Edits of sound rows, of any entry.

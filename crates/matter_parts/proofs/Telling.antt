@@ -1,14 +1,5 @@
 -- What a part tells of the balances and of what is left.
-use Rattle.std.proofs.Common.{◌≡◌, ℕ, ◌+◌, ◌==◌, ◌||◌, Bool, true, false, refl, sym, arith, subst, Option, Some, None}
-use Rattle.std.proofs.lemmas.Int.{ints}
-use Rattle.matter_rows.specs.declared.entry.Entry.{Entry}
-use Rattle.matter_rows.specs.Rows.{Rows, entry_at}
-use Rattle.matter_rows.specs.Balances.{left_at, left_in}
-use Rattle.matter_rows.specs.Sound.{Sound}
-use Rattle.matter_rows.proofs.Covered.{total-covered}
-use Rattle.matter_parts.specs.declared.figures.Figures.{Figures}
-use Rattle.matter_parts.specs.declared.kept.Kept.{Kept}
-use Rattle.matter_parts.specs.Parts.{Part, IsPart, AreBalances, is_held, kept_in, kept_at, entry_in, left_kept, left_if}
+use Rattle.matter_parts.proofs.Names.{◌≡◌, ℕ, ◌+◌, ◌==◌, ◌||◌, Bool, true, false, refl, sym, arith, subst, Option, Some, None, ints, Entry, Rows, entry_at, left_at, left_in, Sound, total-covered, Figures, Kept, Part, IsPart, AreBalances, is_held, kept_in, kept_at, entry_in, left_kept, left_if}
 use Rattle.matter_parts.proofs.Parts.{held-entry}
 
 or-right : (a b : Bool) → b ≡ true → (a || b) ≡ true

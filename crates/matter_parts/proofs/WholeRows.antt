@@ -1,23 +1,6 @@
 -- Whole rows are sound where each of their tests passes, and only there.
 use Rattle.std.specs.Prelude.{find, is_some}
-use Rattle.std.specs.List.{AllByRecursion}
-use Rattle.std.proofs.Common.{◌≡◌, ℕ, ◌≤◌, ◌==◌, eqb, cond, true, false, List, [], ◌∷◌, length, refl, sym, subst, arith, Option, Some, None, pos, ◌≤ℤ◌, All}
-use Rattle.std.proofs.lemmas.Int.{ints}
-use Rattle.std.proofs.lemmas.List.Elements.{All-head, All-tail}
-use Rattle.matter_rows.specs.declared.head.Head.{Head}
-use Rattle.matter_rows.specs.declared.seat.Seat.{Seat}
-use Rattle.matter_rows.specs.declared.entry.Entry.{Entry}
-use Rattle.matter_rows.specs.Rows.{entry_at, closed_on}
-use Rattle.matter_rows.specs.Balances.{available, left_of, names}
-use Rattle.matter_rows.specs.Sound.{AreBacked, AreInOrder, AreDated, IsAtRestIfClosed, IsRanged, IsBy, IsRising, IsFundedInTime, Sound}
-use Rattle.matter_rows.specs.SoundRows.{IsByIfClosed, IsSoundEntry, IsClosedWithin, IsSoundHead, AreInForm}
-use Rattle.matter_rows.specs.declared.limits.TheConstants.{MAX_TOTAL}
-use Rattle.matter_rows.proofs.Covered.{total-covered}
-use Rattle.matter_rows.proofs.Entries.{within}
-use Rattle.matter_rows.proofs.Exchange.{all-map}
-use Rattle.matter_parts.specs.declared.figures.Figures.{Figures}
-use Rattle.matter_parts.specs.declared.kept.Kept.{Kept}
-use Rattle.matter_parts.specs.Parts.{AreEmptyIfClosed, AreFigures, AreKept, AreNumbered, entries_kept, kept_in}
+use Rattle.matter_parts.proofs.Names.{AllByRecursion, ◌≡◌, ℕ, ◌≤◌, ◌==◌, eqb, cond, true, false, List, [], ◌∷◌, length, refl, sym, subst, arith, Option, Some, None, pos, ◌≤ℤ◌, All, ints, All-head, All-tail, Head, Seat, Entry, entry_at, closed_on, available, left_of, names, AreBacked, AreInOrder, AreDated, IsAtRestIfClosed, IsRanged, IsBy, IsRising, IsFundedInTime, Sound, IsByIfClosed, IsSoundEntry, IsClosedWithin, IsSoundHead, AreInForm, MAX_TOTAL, total-covered, within, all-map, Figures, Kept, AreEmptyIfClosed, AreFigures, AreKept, AreNumbered, entries_kept, kept_in}
 use Rattle.matter_parts.proofs.AllKept.{kept-numbered, length-kept}
 use Rattle.matter_parts.proofs.StepForms.{rows-of}
 

@@ -1,13 +1,13 @@
 //! A change of a matter: its edit, the totals after it, and its movement in the journal.
 
-ghost use Rattle.std.specs.Prelude.{◌≡◌, ◌≤◌, IfOk, IfErr, IfSome, IfNone, OnErr, Option, None};
-ghost use Rattle.matter_rows.specs.Shares.{IsSmallSum, number_or_none};
-ghost use Rattle.matter_parts.specs.declared.change.Left.{Left};
-ghost use Rattle.matter_parts.specs.Changes.{AreSmallTotals, IsSmallOther};
-ghost use Rattle.matter_parts.specs.TotalsAfter.{OtherMoved, IsSmallBefore, EntryMoved, EditMoved, IsMade, TheTotalsAfter, movement_kept};
+ghost use Rattle.std.specs.Prelude.{◌≡◌, ◌+◌, ◌-◌, ◌<◌, ◌≤◌, ◌≤ℤ◌, ◌-ℤ◌, ◌+ℤ◌, pos, IfOk, IfErr, IfSome, IfNone, OnErr, None};
+ghost use Rattle.matter_rows.specs.Shares.{AreSmallSums};
+ghost use Rattle.matter_parts.specs.Parts.{AreSmall};
+ghost use Rattle.matter_parts.specs.Changes.{AreSmallTotals};
+ghost use Rattle.matter_parts.specs.TotalsAfter.{FiguresMoved, IsSmallBefore, EntryMoved, EditMoved, IsMade, TheFigures, TheTotalsAfter, movement_kept};
 
 use crate::edit::Edit;
-use crate::figures::{Figures, figures_after};
+use crate::figures::Figures;
 use crate::matter::Matter;
 use matter_rows::{Entry, EntryMovement, Shares, moved, no_shares};
 use std::marker::Model;
@@ -27,19 +27,6 @@ pub struct TotalsAfter {
     pub figures: Figures,
     pub left: u64,
     pub other: Option<Left>,
-}
-
-impl TotalsAfter {
-    // These totals, if no entry is written.
-    fn unwritten(figures: Figures) -> TotalsAfter
-        ensures { result ≡ record { figures = figures; left = 0; other = None } }
-    {
-        TotalsAfter {
-            figures,
-            left: 0,
-            other: None,
-        }
-    }
 }
 
 /// A change of a matter: the edit, the matter's last day after it, the totals after it, and its movement in the
@@ -103,28 +90,31 @@ struct Before {
     draw: i64,
 }
 
-// Returns what is left of the named entry after what is drawn on it has changed.
-fn other_after(
-    matter: &Matter,
-    target: Option<EntryNo>,
-    out: i64,
-    draw: i64,
-) -> Option<Option<Left>>
-    requires out { IsSmallSum out }
-    requires draw { IsSmallSum draw }
-    ensures small { IfSome result (λ o. IsSmallOther o) }
-    ensures some { IfSome result (λ o. OtherMoved matter.now (number_or_none target) out draw o) }
+// Returns the figures with the shares `out` replaced by others; `None` if one of them would go out of range.
+pub(crate) fn figures_after(
+    figures: &Figures,
+    entries: u64,
+    out: &Shares,
+    shares: &Shares,
+) -> Option<Figures>
+    requires small { AreSmall figures.now }
+    requires entries { entries ≤ MAX_ENTRY }
+    requires out { AreSmallSums out.now }
+    requires shares { AreSmallSums shares.now }
+    ensures small { IfSome result (λ f. AreSmall f) }
+    ensures some { IfSome result (λ f. FiguresMoved figures.now entries out.now shares.now f) }
     ensures none { IfNone result
-        ((o : Option Left) → IsSmallOther o → OtherMoved matter.now (number_or_none target) out draw o → ⊥) }
+        ((f : TheFigures) → AreSmall f → FiguresMoved figures.now entries out.now shares.now f → ⊥) }
 {
-    match target {
-        None => Some(None),
-        Some(number) => {
-            let kept = matter.find(number)?;
-            let left = moved(kept.left, draw, out)?;
-            Some(Some(Left { number, left }))
-        }
-    }
+    Some(Figures {
+        entries,
+        pending: moved(figures.pending, out.pending, shares.pending)?,
+        held: moved(figures.held, out.held, shares.held)?,
+        available: moved(figures.available, out.available, shares.available)?,
+        disputed: moved(figures.disputed, out.disputed, shares.disputed)?,
+        fees: moved(figures.fees, out.fees, shares.fees)?,
+        claims: moved(figures.claims, out.claims, shares.claims)?,
+    })
 }
 
 // Returns the totals, and what is left, after an entry that counted for `before` is written as `new`.
@@ -139,12 +129,26 @@ fn written(matter: &Matter, entries: u64, before: &Before, new: &Entry) -> Optio
 {
     let figures = figures_after(&matter.figures(), entries, &before.shares, &new.shares())?;
     let left = moved(before.left, before.worth, new.worth())?;
-    let other = other_after(matter, new.target(), before.draw, new.draw())?;
-    Some(TotalsAfter {
-        figures,
-        left,
-        other,
-    })
+    match new.target() {
+        None => Some(TotalsAfter {
+            figures,
+            left,
+            other: None,
+        }),
+        Some(number) => {
+            let kept = matter.find(number)?;
+            let left_of_named = moved(kept.left, new.draw(), before.draw)?;
+            let other = Some(Left {
+                number,
+                left: left_of_named,
+            });
+            Some(TotalsAfter {
+                figures,
+                left,
+                other,
+            })
+        }
+    }
 }
 
 // Returns the totals and what is left after an edit, and its movement in the journal, if any.
@@ -182,9 +186,21 @@ fn edit_moves(matter: &Matter, edit: &Edit) -> Option<(TotalsAfter, Option<Entry
             let moves = written(matter, figures.entries, &before, &new.entry)?;
             Some((moves, new.entry.event(new.number, old.event_count())))
         }
-        Edit::Clear(_) => Some((TotalsAfter::unwritten(Figures::none()), None)),
+        Edit::Clear(_) => {
+            let cleared = TotalsAfter {
+                figures: Figures::none(),
+                left: 0,
+                other: None,
+            };
+            Some((cleared, None))
+        }
         Edit::Nothing | Edit::Open(_) | Edit::Seat(_) | Edit::Unseat(_) | Edit::Close(_) => {
-            Some((TotalsAfter::unwritten(figures), None))
+            let unwritten = TotalsAfter {
+                figures,
+                left: 0,
+                other: None,
+            };
+            Some((unwritten, None))
         }
     }
 }

@@ -7,7 +7,8 @@ ghost use Rattle.matter_rows.specs.Sound.{AreBacked};
 ghost use Rattle.matter_parts.specs.Parts.{AreSmall, no_figures, AreFigures};
 ghost use Rattle.matter_parts.specs.TotalsAfter.{FiguresMoved, TheFigures};
 
-use matter_rows::{Entry, MAX_TOTAL, Shares, moved, no_shares, sums_of};
+use crate::change::figures_after;
+use matter_rows::{Entry, MAX_TOTAL, no_shares, sums_of};
 use trust_base::MAX_ENTRY;
 
 /// The totals of a matter in cents, the number of its entries, and that of the payments proposed or issued.
@@ -54,33 +55,6 @@ pub struct Balances {
     pub disputed: u64,
     /// Cleared deposits less payments issued or cleared. The money of an issued payment may still be at the bank.
     pub total: u64,
-}
-
-// Returns the figures with the shares `out` replaced by others; `None` if one of them would go out of range.
-pub(crate) fn figures_after(
-    figures: &Figures,
-    entries: u64,
-    out: &Shares,
-    shares: &Shares,
-) -> Option<Figures>
-    requires small { AreSmall figures.now }
-    requires entries { entries ≤ MAX_ENTRY }
-    requires out { AreSmallSums out.now }
-    requires shares { AreSmallSums shares.now }
-    ensures small { IfSome result (λ f. AreSmall f) }
-    ensures some { IfSome result (λ f. FiguresMoved figures.now entries out.now shares.now f) }
-    ensures none { IfNone result
-        ((f : TheFigures) → AreSmall f → FiguresMoved figures.now entries out.now shares.now f → ⊥) }
-{
-    Some(Figures {
-        entries,
-        pending: moved(figures.pending, out.pending, shares.pending)?,
-        held: moved(figures.held, out.held, shares.held)?,
-        available: moved(figures.available, out.available, shares.available)?,
-        disputed: moved(figures.disputed, out.disputed, shares.disputed)?,
-        fees: moved(figures.fees, out.fees, shares.fees)?,
-        claims: moved(figures.claims, out.claims, shares.claims)?,
-    })
 }
 
 // Adds up the totals of all entries; `None` if one is out of range. The fees and claims are right if each entry names

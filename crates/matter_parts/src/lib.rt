@@ -4,14 +4,11 @@
 #![tactic(auto)]
 
 mod audit;
-mod audited_totals;
 mod change;
 mod edit;
-mod entries;
 mod figures;
 mod kept;
 pub mod laws;
-mod lefts;
 mod matter;
 mod named_entries;
 mod totals;

@@ -12,6 +12,7 @@ ghost use Rattle.matter_parts.specs.Parts.{Part, no_figures, IsPart, IsWhole, Ho
 ghost use Rattle.matter_parts.specs.Changes.{IsChange, AreSmallTotals, changed, last_after};
 ghost use Rattle.matter_parts.specs.Applied.{IsWritten};
 
+use crate::audit::is_empty_if_closed;
 use crate::change::{Change, TotalsAfter};
 use crate::edit::{Edit, Numbered, Opening};
 use crate::figures::{Figures, are_small, figures_of};
@@ -461,7 +462,10 @@ impl Matter {
     pub fn kept_under(&self, number: Option<EntryNo>) -> Option<&Kept>
         ensures { option_copied result ≡ kept_at self.now (number_or_none number) }
     {
-        found(&self.kept, number_or_zero(number))
+        match number {
+            None => found(&self.kept, 0),
+            Some(number) => found(&self.kept, number.get()),
+        }
     }
 
     /// Returns what is left of a fund, in cents.
@@ -496,28 +500,3 @@ impl Matter {
 pub fn whole_holds_all()
     ensures { WholeHoldsAll }
 {}
-
-// The number, or 0 for `None`.
-fn number_or_zero(number: Option<EntryNo>) -> u16
-    ensures { result ≡ number_or_none number }
-{
-    match number {
-        None => 0,
-        Some(number) => number.get(),
-    }
-}
-
-/// Whether a closed matter has no money left and nothing waiting. True of a matter that is not closed.
-pub(crate) fn is_empty_if_closed(head: &Option<Head>, figures: &Figures) -> bool
-    requires { AreSmall figures.now }
-    ensures { IsTrue result ↔ AreEmptyIfClosed (closed_on head.now) figures.now }
-{
-    let Some(head) = head else {
-        return true;
-    };
-    if head.closed.is_none() {
-        return true;
-    }
-    let total = figures.available + figures.disputed + figures.fees + figures.claims;
-    total + figures.held == 0 && figures.pending == 0
-}

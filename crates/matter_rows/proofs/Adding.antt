@@ -1,11 +1,6 @@
 -- Sums that are added up entry by entry, and stay in range.
-use Rattle.std.proofs.Common.{◌≡◌, ℕ, ◌+◌, ◌*◌, ◌<◌, ◌≤◌, List, [], ◌∷◌, ◌++◌, take, length, get_or, refl, ap, sym, ◌∙◌, arith, subst, ℤ, pos, ◌+ℤ◌, ◌≤ℤ◌, FitsSigned, w64, to_z, of_z}
-use Rattle.std.proofs.lemmas.Int.{ints}
-use Rattle.std.proofs.lemmas.List.{take_more, take_all}
-use Rattle.matter_rows.specs.declared.entry.Entry.{Entry}
+use Rattle.matter_rows.proofs.Names.{◌≡◌, ℕ, ◌+◌, ◌*◌, ◌<◌, ◌≤◌, List, [], ◌∷◌, ◌++◌, take, length, get_or, refl, ap, sym, ◌∙◌, arith, subst, ℤ, pos, ◌+ℤ◌, ◌≤ℤ◌, FitsSigned, w64, to_z, of_z, ints, take_more, take_all, Entry, IsSmallShare, held_share, available_share, disputed_share, fee_share, claim_share, pending_share, IsSmallSum, AreSmallSums, total_of}
 use Rattle.matter_rows.specs.declared.shares.Shares.{Shares}
-use Rattle.matter_rows.specs.Shares.{IsSmallShare, held_share, available_share, disputed_share, fee_share, claim_share, pending_share, IsSmallSum, AreSmallSums}
-use Rattle.matter_rows.specs.Balances.{total_of}
 use Rattle.matter_rows.proofs.Sums.{total-append}
 
 -- a sum of n small shares

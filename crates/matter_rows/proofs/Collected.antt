@@ -1,8 +1,5 @@
 -- A matter that is made of whole rows, entry by entry.
-use Rattle.std.proofs.Common.{zero, suc, ◌≡◌, ℕ, ◌+◌, ◌-◌, ◌<◌, false, List, [], ◌∷◌, length, get_or, refl, ap, sym, ◌∙◌, arith, Some, eqb}
-use Rattle.std.proofs.lemmas.Bool.Decides.{nat_tests}
-use Rattle.matter_rows.specs.declared.entry.Entry.{Entry}
-use Rattle.matter_rows.specs.Rows.{entry_at}
+use Rattle.matter_rows.proofs.Names.{zero, suc, ◌≡◌, ℕ, ◌+◌, ◌-◌, ◌<◌, false, List, [], ◌∷◌, length, get_or, refl, ap, sym, ◌∙◌, arith, Some, eqb, nat_tests, Entry, entry_at}
 
 -- entry i + 1 is that of place i
 pub entry-at : (es : List Entry) (i : ℕ) (d : Entry) → i < length es → entry_at es (i + 1) ≡ Some (get_or es i d)

@@ -1,16 +1,9 @@
 -- The equation of the balances, entry by entry.
-use Rattle.std.specs.List.{AllByRecursion}
-use Rattle.std.proofs.Common.{◌≡◌, List, [], ◌∷◌, true, arith, ℤ, pos, ◌+ℤ◌, ◌-ℤ◌}
-use Rattle.std.proofs.lemmas.Int.{ints}
-use Rattle.matter_rows.specs.declared.entry.Entry.{Entry}
+use Rattle.matter_rows.proofs.Names.{AllByRecursion, ◌≡◌, List, [], ◌∷◌, true, arith, ℤ, pos, ◌+ℤ◌, ◌-ℤ◌, ints, Entry, Fund, Against, names, total_of, available, disputed, fees, claims, total, total_share, available_share, disputed_share, fee_share, claim_share, from_general, from_fee, from_claim, on_fee, on_general, paid, apart, to_client, to_claimant}
 use Rattle.matter_rows.specs.declared.entry.Entry.TheVariants as entry
-use Rattle.matter_rows.specs.declared.payment.Fund.{Fund}
 use Rattle.matter_rows.specs.declared.payment.Fund.TheVariants as fund
-use Rattle.matter_rows.specs.declared.claim.Against.{Against}
 use Rattle.matter_rows.specs.declared.claim.Against.TheVariants as against
-use Rattle.matter_rows.specs.Balances.{names, total_of, available, disputed, fees, claims, total}
 use Rattle.matter_rows.specs.Laws.{Covered}
-use Rattle.matter_rows.specs.Shares.{total_share, available_share, disputed_share, fee_share, claim_share, from_general, from_fee, from_claim, on_fee, on_general, paid, apart, to_client, to_claimant}
 use Rattle.matter_rows.proofs.Exchange.{fees-by_share, claims-by_share}
 use Rattle.matter_rows.proofs.Store.{held-balance, disputed-balance, available-balance, fees-balance, claims-balance}
 

@@ -1,16 +1,10 @@
 -- The days of sound rows, after an entry is added or exchanged.
-use Rattle.std.specs.List.{AllByRecursion}
+use Rattle.matter_rows.proofs.Names.{AllByRecursion, ◌≡◌, ℕ, ◌-◌, ◌≤◌, true, false, cond, List, [], ◌∷◌, ◌++◌, map, refl, ap, sym, ◌∙◌, arith, subst, Option, Some, None, eqb, false≢true, Seat, Entry, entry_at, with_entry, book_day, as_made, days_of, IsBy, AreRising, IsRising, AreDated, IsAtRestIfClosed, IsBare}
 use Rattle.std.specs.Prelude.{is_some}
-use Rattle.std.proofs.Common.{◌≡◌, ℕ, ◌-◌, ◌≤◌, true, false, cond, List, [], ◌∷◌, ◌++◌, map, refl, ap, sym, ◌∙◌, arith, subst, Option, Some, None, eqb}
-use Rattle.std.proofs.lemmas.Bool.{false≢true}
 use Rattle.matter_rows.specs.declared.head.Head.{Head}
 use Rattle.matter_rows.specs.declared.head.Holder.{Holder}
 use Rattle.matter_rows.specs.declared.head.Holder.TheVariants as holder
-use Rattle.matter_rows.specs.declared.seat.Seat.{Seat}
-use Rattle.matter_rows.specs.declared.entry.Entry.{Entry}
 use Rattle.matter_rows.specs.declared.entry.Entry.TheVariants as entry
-use Rattle.matter_rows.specs.Rows.{entry_at, with_entry, book_day, as_made}
-use Rattle.matter_rows.specs.Sound.{days_of, IsBy, AreRising, IsRising, AreDated, IsAtRestIfClosed, IsBare}
 use Rattle.matter_rows.proofs.Entries.{all-at, all-append, all-with}
 use Rattle.matter_rows.proofs.Exchange.{all-map}
 

@@ -1,9 +1,5 @@
 -- Entries by number, after an entry is added or exchanged.
-use Rattle.std.specs.List.{AllByRecursion}
-use Rattle.std.proofs.Common.{suc, ◌≡◌, ℕ, ◌+◌, ◌-◌, ◌<◌, ◌≤◌, true, false, cond, List, [], ◌∷◌, ◌++◌, length, refl, ap, ◌∙◌, arith, Some, None, eqb, subst}
-use Rattle.std.proofs.lemmas.Bool.Decides.{nat_tests}
-use Rattle.matter_rows.specs.declared.entry.Entry.{Entry}
-use Rattle.matter_rows.specs.Rows.{entry_at, with_entry}
+use Rattle.matter_rows.proofs.Names.{AllByRecursion, suc, ◌≡◌, ℕ, ◌+◌, ◌-◌, ◌<◌, ◌≤◌, true, false, cond, List, [], ◌∷◌, ◌++◌, length, refl, ap, ◌∙◌, arith, Some, None, eqb, subst, nat_tests, Entry, entry_at, with_entry}
 
 pub entry_at-append : (es : List Entry) (x : Entry) (n : ℕ) → entry_at (es ++ x ∷ []) n ≡ cond (eqb n (length es + 1)) (Some x) (entry_at es n)
 entry_at-append [] x n = refl

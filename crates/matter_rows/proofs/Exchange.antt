@@ -1,17 +1,8 @@
 -- What is left of all fees (or claims) together is a sum of one share per entry.
-use Rattle.std.specs.List.{AllByRecursion}
-use Rattle.std.proofs.Common.{zero, suc, ◌≡◌, ℕ, ◌+◌, ◌-◌, ◌<◌, ◌≤◌, ◌==◌, Bool, true, false, cond, List, [], ◌∷◌, refl, ap, sym, ◌∙◌, arith, ℤ, pos, ◌+ℤ◌, ◌-ℤ◌, Option, Some, None, eqb, ◌&&◌}
-use Rattle.std.proofs.lemmas.Int.{ints}
-use Rattle.std.proofs.lemmas.Bool.Decides.{nat_tests}
-use Rattle.matter_rows.specs.declared.entry.Entry.{Entry}
+use Rattle.matter_rows.proofs.Names.{AllByRecursion, zero, suc, ◌≡◌, ℕ, ◌+◌, ◌-◌, ◌<◌, ◌≤◌, ◌==◌, Bool, true, false, cond, List, [], ◌∷◌, refl, ap, sym, ◌∙◌, arith, ℤ, pos, ◌+ℤ◌, ◌-ℤ◌, Option, Some, None, eqb, ◌&&◌, ints, nat_tests, Entry, Fund, Against, total_of, left_of, lefts_from, passes, names, funds, is_against, is_fee, is_settled, is_general_claim, is_general, fees, claims, entry_at, draw, draw_on, target, worth, fee_share, claim_share, has_settled, on_fee, off_fee, paid, fund_no, against_no, from_fee, from_claim, on_general, to_claimant}
 use Rattle.matter_rows.specs.declared.entry.Entry.TheVariants as entry
-use Rattle.matter_rows.specs.declared.payment.Fund.{Fund}
 use Rattle.matter_rows.specs.declared.payment.Fund.TheVariants as fund
-use Rattle.matter_rows.specs.declared.claim.Against.{Against}
 use Rattle.matter_rows.specs.declared.claim.Against.TheVariants as against
-use Rattle.matter_rows.specs.Balances.{total_of, left_of, lefts_from, passes, names, funds, is_against, is_fee, is_settled, is_general_claim, is_general, fees, claims}
-use Rattle.matter_rows.specs.Rows.{entry_at}
-use Rattle.matter_rows.specs.Shares.{draw, draw_on, target, worth, fee_share, claim_share, has_settled, on_fee, off_fee, paid, fund_no, against_no, from_fee, from_claim, on_general, to_claimant}
 use Rattle.matter_rows.proofs.Sums.{total-add, total-zero}
 
 -- is entry t, in the list from number n on, of this kind

@@ -1,17 +1,8 @@
 -- Payments from claims stay behind the settling, where an entry is added or exchanged.
-use Rattle.std.specs.List.{AllByRecursion}
-use Rattle.std.proofs.Common.{◌≡◌, ℕ, ◌+◌, ◌<◌, ◌≤◌, true, false, cond, List, [], ◌∷◌, ◌++◌, length, refl, sym, arith, subst, Option, Some, None, eqb}
-use Rattle.std.proofs.lemmas.Bool.{false≢true}
-use Rattle.std.proofs.lemmas.Bool.Decides.{nat_tests}
-use Rattle.matter_rows.specs.declared.claim.ClaimState.{ClaimState}
+use Rattle.matter_rows.proofs.Names.{AllByRecursion, ◌≡◌, ℕ, ◌+◌, ◌<◌, ◌≤◌, true, false, cond, List, [], ◌∷◌, ◌++◌, length, refl, sym, arith, subst, Option, Some, None, eqb, false≢true, nat_tests, ClaimState, Fund, Entry, funds, names, is_settled, passes, entry_at, with_entry, as_made, book_day, IsBy, IsFundedInTime, funded_from, settlement_day, day_settled, days_of, claim_days}
 use Rattle.matter_rows.specs.declared.claim.ClaimState.TheVariants as claim
-use Rattle.matter_rows.specs.declared.payment.Fund.{Fund}
 use Rattle.matter_rows.specs.declared.payment.Fund.TheVariants as fund
-use Rattle.matter_rows.specs.declared.entry.Entry.{Entry}
 use Rattle.matter_rows.specs.declared.entry.Entry.TheVariants as entry
-use Rattle.matter_rows.specs.Balances.{funds, names, is_settled, passes}
-use Rattle.matter_rows.specs.Rows.{entry_at, with_entry, as_made, book_day}
-use Rattle.matter_rows.specs.Sound.{IsBy, IsFundedInTime, funded_from, settlement_day, day_settled, days_of, claim_days}
 use Rattle.matter_rows.proofs.Entries.{entry_at-append, entry_at-with, none-past, all-at, all-append, all-with}
 
 -- a settled claim was settled by the last day

@@ -1,18 +1,8 @@
 -- Sound entries stay sound where an entry is added or exchanged.
-use Rattle.std.specs.List.{AllByRecursion}
-use Rattle.std.proofs.Common.{◌≡◌, ℕ, ◌+◌, ◌<◌, ◌≢◌, Bool, true, false, cond, List, [], ◌∷◌, ◌++◌, length, refl, ap, sym, ◌∙◌, arith, subst, Some, None, eqb, length-append, ℤ, pos, ◌+ℤ◌, ◌-ℤ◌, ◌≤ℤ◌}
-use Rattle.std.proofs.lemmas.Int.{ints}
-use Rattle.std.proofs.lemmas.Bool.Decides.{nat_tests}
-use Rattle.matter_rows.specs.declared.entry.Entry.{Entry}
+use Rattle.matter_rows.proofs.Names.{AllByRecursion, ◌≡◌, ℕ, ◌+◌, ◌<◌, ◌≢◌, Bool, true, false, cond, List, [], ◌∷◌, ◌++◌, length, refl, ap, sym, ◌∙◌, arith, subst, Some, None, eqb, length-append, ℤ, pos, ◌+ℤ◌, ◌-ℤ◌, ◌≤ℤ◌, ints, nat_tests, Entry, Fund, Against, total_of, left_of, passes, names, funds, is_against, is_fee, is_settled, available, entry_at, with_entry, draw_on, target, worth, available_share, fund_no, against_no, AreBacked, IsRanged}
 use Rattle.matter_rows.specs.declared.entry.Entry.TheVariants as entry
-use Rattle.matter_rows.specs.declared.payment.Fund.{Fund}
 use Rattle.matter_rows.specs.declared.payment.Fund.TheVariants as fund
-use Rattle.matter_rows.specs.declared.claim.Against.{Against}
 use Rattle.matter_rows.specs.declared.claim.Against.TheVariants as against
-use Rattle.matter_rows.specs.Balances.{total_of, left_of, passes, names, funds, is_against, is_fee, is_settled, available}
-use Rattle.matter_rows.specs.Rows.{entry_at, with_entry}
-use Rattle.matter_rows.specs.Shares.{draw_on, target, worth, available_share, fund_no, against_no}
-use Rattle.matter_rows.specs.Sound.{AreBacked, IsRanged}
 use Rattle.matter_rows.proofs.Sums.{total-append, total-with}
 use Rattle.matter_rows.proofs.Exchange.{all-map}
 use Rattle.matter_rows.proofs.Entries.{entry_at-append, entry_at-with, length-with, none-past, all-append, all-with}

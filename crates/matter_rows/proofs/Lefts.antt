@@ -1,24 +1,11 @@
 -- What is left of a fee or a claim, as sums over the entries.
-use Rattle.std.specs.List.{AllByRecursion, filter}
-use Rattle.std.proofs.Common.{◌≡◌, ℕ, ◌<◌, not, ◌&&◌, ◌==◌, Bool, true, false, cond, List, [], ◌∷◌, map, sum, refl, ap, sym, ◌∙◌, subst, arith, ℤ, pos, ◌+ℤ◌, ◌-ℤ◌, Some, None, eqb}
-use Rattle.std.proofs.lemmas.Int.{ints}
-use Rattle.std.proofs.lemmas.Bool.{false≢true}
+use Rattle.matter_rows.proofs.Names.{AllByRecursion, filter, ◌≡◌, ℕ, ◌<◌, not, ◌&&◌, ◌==◌, Bool, true, false, cond, List, [], ◌∷◌, map, sum, refl, ap, sym, ◌∙◌, subst, arith, ℤ, pos, ◌+ℤ◌, ◌-ℤ◌, Some, None, eqb, ints, false≢true, nat_tests, Fund, PaymentState, Against, ClaimState, Entry, entry_at, entry_amount, draw, draw_on, worth, has_settled, on_fee, on_general, off_fee, paid, fund_no, against_no, to_claimant, total_of, names, funds, is_against, is_fee, is_settled, is_general, passes, part_of}
 use Rattle.std.proofs.lemmas.List.Sums.{sum_by-cons}
-use Rattle.std.proofs.lemmas.Bool.Decides.{nat_tests}
-use Rattle.matter_rows.specs.declared.payment.Fund.{Fund}
 use Rattle.matter_rows.specs.declared.payment.Fund.TheVariants as fund
-use Rattle.matter_rows.specs.declared.payment.PaymentState.{PaymentState}
 use Rattle.matter_rows.specs.declared.payment.PaymentState.TheVariants as payment
-use Rattle.matter_rows.specs.declared.claim.Against.{Against}
 use Rattle.matter_rows.specs.declared.claim.Against.TheVariants as against
-use Rattle.matter_rows.specs.declared.claim.ClaimState.{ClaimState}
 use Rattle.matter_rows.specs.declared.claim.ClaimState.TheVariants as claim
-use Rattle.matter_rows.specs.declared.entry.Entry.{Entry}
 use Rattle.matter_rows.specs.declared.entry.Entry.TheVariants as entry
-use Rattle.matter_rows.specs.Rows.{entry_at, entry_amount}
-use Rattle.matter_rows.specs.Shares.{draw, draw_on, worth, has_settled, on_fee, on_general, off_fee, paid, fund_no, against_no, to_claimant}
-use Rattle.matter_rows.specs.Balances.{total_of, names, funds, is_against, is_fee, is_settled, is_general, passes}
-use Rattle.matter_rows.specs.Sound.{part_of}
 use Rattle.matter_rows.specs.LeftLaws.{is_paid, is_fee_no, is_claim_no, is_paid_from_fee, is_paid_from_claim, is_on_fee_no, is_open_on, is_settled_on, clients_part, amounts_of, parts_of, FeeLeft, claim_rest, ClaimLeft}
 use Rattle.matter_rows.proofs.Entries.{within}
 use Rattle.matter_rows.proofs.Exchange.{total-agree, all-map}

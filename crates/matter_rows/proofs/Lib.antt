@@ -13,3 +13,4 @@ pub mod Sums
 pub mod Tested
 pub mod Days
 pub mod SeatOrder
+mod Names

@@ -1,7 +1,5 @@
 -- Where a list has its first element of a kind.
-use Rattle.std.specs.List.{position, position_or_len}
-use Rattle.std.proofs.Common.{◌≡◌, ℕ, ◌<◌, ◌≤◌, Bool, true, false, cond, List, length, refl, arith, Some, None, ltb}
-use Rattle.std.proofs.lemmas.Bool.Decides.{nat_tests}
+use Rattle.matter_rows.proofs.Names.{position, position_or_len, ◌≡◌, ℕ, ◌<◌, ◌≤◌, Bool, true, false, cond, List, length, refl, arith, Some, None, ltb, nat_tests}
 
 pub place-some : {X : Type 0} (p : X → Bool) (xs : List X) (i : ℕ) → Some i ≡ position p xs → (i < length xs) × (i ≡ position_or_len p xs)
 place-some p xs i h =

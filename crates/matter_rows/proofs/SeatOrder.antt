@@ -1,9 +1,5 @@
 -- Seats stay in order where one is added or given up.
-use Rattle.std.specs.List.{AllByRecursion, filter}
-use Rattle.std.proofs.Common.{◌≡◌, ℕ, Bool, true, false, cond, List, [], ◌∷◌, ◌++◌, refl}
-use Rattle.matter_rows.specs.declared.seat.Seat.{Seat}
-use Rattle.matter_rows.specs.Rows.{comes_before, seats_with, seats_without}
-use Rattle.matter_rows.specs.Sound.{AreInOrder}
+use Rattle.matter_rows.proofs.Names.{AllByRecursion, filter, ◌≡◌, ℕ, Bool, true, false, cond, List, [], ◌∷◌, ◌++◌, refl, Seat, comes_before, seats_with, seats_without, AreInOrder}
 use Rattle.matter_rows.proofs.Seating.{after-more}
 
 -- what holds of all holds of those that are kept, which pass the test too

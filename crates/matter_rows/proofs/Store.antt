@@ -1,22 +1,12 @@
 -- For a part of sound rows there is always a change in range, so Store is never answered.
-use Rattle.std.specs.List.{AllByRecursion}
-use Rattle.std.proofs.Common.{zero, suc, ◌≡◌, ℕ, ◌+◌, ◌-◌, ◌*◌, ◌<◌, ◌≤◌, Bool, true, false, cond, List, [], ◌∷◌, length, refl, sym, arith, subst, Some, eqb, ℤ, pos, negsuc, ◌+ℤ◌, ◌-ℤ◌, ◌≤ℤ◌}
-use Rattle.std.proofs.lemmas.Int.{ints}
-use Rattle.std.proofs.lemmas.Bool.Decides.{nat_tests}
-use Rattle.matter_rows.specs.declared.entry.Entry.{Entry}
+use Rattle.matter_rows.proofs.Names.{AllByRecursion, zero, suc, ◌≡◌, ℕ, ◌+◌, ◌-◌, ◌*◌, ◌<◌, ◌≤◌, Bool, true, false, cond, List, [], ◌∷◌, length, refl, sym, arith, subst, Some, eqb, ℤ, pos, negsuc, ◌+ℤ◌, ◌-ℤ◌, ◌≤ℤ◌, ints, nat_tests, Entry, PaymentState, ClaimState, total_of, left_of, lefts_from, is_fee, is_general_claim, available, held, disputed, fees, claims, draw, draw_on, target, worth, available_share, held_share, disputed_share, fee_share, claim_share, pending_share, paid, apart, to_client, to_claimant, off_fee, on_fee, on_general, from_general, from_fee, from_claim, held_deposit, cleared_deposit, pending_payment, entry_at, AreBacked, IsRanged, part_of}
 use Rattle.matter_rows.specs.declared.entry.Entry.TheVariants as entry
 use Rattle.matter_rows.specs.declared.payment.Fund.TheVariants as fund
 use Rattle.matter_rows.specs.declared.claim.Against.TheVariants as against
 use Rattle.matter_rows.specs.declared.deposit.DepositState.TheVariants as deposit
-use Rattle.matter_rows.specs.declared.payment.PaymentState.{PaymentState}
 use Rattle.matter_rows.specs.declared.payment.PaymentState.TheVariants as payment
-use Rattle.matter_rows.specs.declared.claim.ClaimState.{ClaimState}
 use Rattle.matter_rows.specs.declared.claim.ClaimState.TheVariants as claim
-use Rattle.matter_rows.specs.Balances.{total_of, left_of, lefts_from, is_fee, is_general_claim, available, held, disputed, fees, claims}
-use Rattle.matter_rows.specs.Shares.{draw, draw_on, target, worth, available_share, held_share, disputed_share, fee_share, claim_share, pending_share, paid, apart, to_client, to_claimant, off_fee, on_fee, on_general, from_general, from_fee, from_claim, held_deposit, cleared_deposit, pending_payment}
 use Rattle.matter_rows.specs.declared.limits.TheConstants.{MAX_TOTAL}
-use Rattle.matter_rows.specs.Rows.{entry_at}
-use Rattle.matter_rows.specs.Sound.{AreBacked, IsRanged, part_of}
 use Rattle.matter_rows.proofs.Entries.{all-at}
 use Rattle.matter_rows.proofs.Exchange.{fees-by_share, claims-by_share}
 

@@ -1,9 +1,5 @@
 -- One law for all balances: a change of one entry moves a sum by that entry's share.
-use Rattle.std.proofs.Common.{◌≡◌, ℕ, ◌-◌, ◌*◌, ◌==◌, true, false, cond, List, [], ◌∷◌, ◌++◌, length, refl, ap, arith, ℤ, pos, ◌+ℤ◌, ◌≤ℤ◌, Some}
-use Rattle.std.proofs.lemmas.Int.{ints}
-use Rattle.matter_rows.specs.declared.entry.Entry.{Entry}
-use Rattle.matter_rows.specs.Balances.{total_of}
-use Rattle.matter_rows.specs.Rows.{entry_at, with_entry}
+use Rattle.matter_rows.proofs.Names.{◌≡◌, ℕ, ◌-◌, ◌*◌, ◌==◌, true, false, cond, List, [], ◌∷◌, ◌++◌, length, refl, ap, arith, ℤ, pos, ◌+ℤ◌, ◌≤ℤ◌, Some, ints, Entry, total_of, entry_at, with_entry}
 
 pub total-append : (f : Entry → ℤ) (es : List Entry) (e : Entry) → total_of f (es ++ e ∷ []) ≡ total_of f es +ℤ f e
 total-append f [] e = omega (arith, ints)

@@ -1,12 +1,6 @@
 -- Tests of whole rows, entry by entry.
-use Rattle.std.specs.List.{AllByRecursion}
-use Rattle.std.proofs.Common.{◌≡◌, ℕ, ◌+◌, ◌-◌, ◌<◌, ◌≤◌, ◌↔◌, true, List, [], ◌∷◌, map, length, drop, get_or, sym, ◌∙◌, ap, subst, arith, Some, None}
+use Rattle.matter_rows.proofs.Names.{AllByRecursion, ◌≡◌, ℕ, ◌+◌, ◌-◌, ◌<◌, ◌≤◌, ◌↔◌, true, List, [], ◌∷◌, map, length, drop, get_or, sym, ◌∙◌, ap, subst, arith, Some, None, drop_more, length-drop, Entry, Seat, entry_at, book_day, comes_before, AreRising, AreInOrder}
 use Rattle.std.proofs.Math.ListN.{drop_of_length-le}
-use Rattle.std.proofs.lemmas.List.{drop_more, length-drop}
-use Rattle.matter_rows.specs.declared.entry.Entry.{Entry}
-use Rattle.matter_rows.specs.declared.seat.Seat.{Seat}
-use Rattle.matter_rows.specs.Rows.{entry_at, book_day, comes_before}
-use Rattle.matter_rows.specs.Sound.{AreRising, AreInOrder}
 use Rattle.matter_rows.proofs.Collected.{entry-at-place}
 use Rattle.matter_rows.proofs.Entries.{none-past}
 use Rattle.matter_rows.proofs.Seating.{after-more}

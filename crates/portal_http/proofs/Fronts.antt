@@ -1,11 +1,5 @@
 -- A front of one text behind another.
-use Rattle.std.proofs.Common.{◌≡◌, ◌<◌, ◌+◌, ℕ, List, [], ◌∷◌, ◌++◌, Option, None, length, take, refl, sym, subst, arith, length-append}
-use Rattle.std.proofs.Math.Seq.{take-append-add}
-use Rattle.std.specs.Io.KnownBytes.{Appends}
-use Rattle.std.proofs.KnownBytes.{Appends-trans}
-use Rattle.trust_desk.specs.declared.requests.Reply.{Reply}
-use Rattle.portal_http.specs.Answers.{reply_bytes}
-use Rattle.portal_http.specs.Served.{IsCut, last_text}
+use Rattle.portal_http.proofs.Names.{◌≡◌, ◌<◌, ◌+◌, ℕ, List, [], ◌∷◌, ◌++◌, Option, None, length, take, refl, sym, subst, arith, length-append, take-append-add, Appends, Appends-trans, Reply, reply_bytes, IsCut, last_text}
 
 -- a front of the text was written
 abbrev pub WroteFront : Option (List ℕ) → Option (List ℕ) → List ℕ → Type 0

@@ -1,7 +1,6 @@
 -- The head of an answer, piece by piece.
-use Rattle.std.proofs.Common.{◌≡◌, ℕ, List, [], ◌∷◌, ◌++◌, append_assoc, codes, refl}
+use Rattle.portal_http.proofs.Names.{◌≡◌, ℕ, List, [], ◌∷◌, ◌++◌, append_assoc, codes, refl, head_text, line_end, phrase_of}
 use Rattle.std.specs.Fmt.{decimal}
-use Rattle.portal_http.specs.Answers.{head_text, line_end, phrase_of}
 
 -- the pieces in the order in which they are appended, and line by line
 by-lines : (a d s p e f k g n : List ℕ)

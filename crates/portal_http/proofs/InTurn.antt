@@ -1,16 +1,9 @@
 -- Clients that are served in turn.
-use Rattle.std.proofs.Common.{◌≡◌, ◌+◌, ◌<◌, ◌≤◌, ℕ, suc, List, [], ◌∷◌, ◌++◌, Option, take, inl, inr, length, refl, sym, ap, ◌∙◌, subst, arith, length-append}
-use Rattle.std.specs.Io.KnownBytes.{Appends}
-use Rattle.std.proofs.KnownBytes.{Appends-nil, Appends-trans}
-use Rattle.std.proofs.Math.Seq.{take-append-add}
+use Rattle.portal_http.proofs.Names.{◌≡◌, ◌+◌, ◌<◌, ◌≤◌, ℕ, suc, List, [], ◌∷◌, ◌++◌, Option, take, inl, inr, length, refl, sym, ap, ◌∙◌, subst, arith, length-append, Appends, Appends-nil, Appends-trans, take-append-add, append-nil, Firm, StreamEnd, AreServedInTurn, IsClientServed, KeepsStanding, ServedAll}
 use Rattle.std.proofs.lemmas.List.Concat.{flat_map-append}
-use Rattle.std.proofs.lemmas.List.{append-nil}
-use Rattle.firm_rows.specs.Firm.{Firm}
 use Rattle.portal_http.proofs.Calls.{kept-still, kept-then}
-use Rattle.portal_http.specs.declared.stream.StreamEnd.{StreamEnd}
 use Rattle.portal_http.specs.Clients.{Comes, Refused}
 use Rattle.portal_http.specs.EndLines.{end_line, end_lines}
-use Rattle.portal_http.specs.ServedAll.{AreServedInTurn, IsClientServed, KeepsStanding, ServedAll}
 use Rattle.portal_http.specs.declared.server.ServeEnd.TheVariants as serving
 
 -- the lines of one end more

@@ -4,3 +4,4 @@ pub mod Serve
 pub mod HeadTexts
 pub use Rattle.trust_desk.proofs.Calls
 pub mod InTurn
+mod Names

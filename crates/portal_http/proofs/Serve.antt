@@ -1,38 +1,13 @@
 -- A stream that is served.
-use Rattle.std.proofs.Common.{◌≡◌, ◌⊎◌, inl, inr, true, false, ◌<◌, ◌+◌, ℕ, List, [], ◌∷◌, ◌++◌, Option, Some, None, length, map, refl, sym, ap, ◌∙◌, subst, arith, length-append, append_assoc, IfSome}
-use Rattle.std.proofs.lemmas.List.{append-nil, map-append}
+use Rattle.portal_http.proofs.Names.{◌≡◌, ◌⊎◌, inl, inr, true, false, ◌<◌, ◌+◌, ℕ, List, [], ◌∷◌, ◌++◌, Option, Some, None, length, map, refl, sym, ap, ◌∙◌, subst, arith, length-append, append_assoc, IfSome, append-nil, map-append, Appends, Keeps, Appends-nil, Appends-trans, Refusal, Memory, Firm, Reply, KeepsBook, counted_reply, counted_replies, AreNoFaults, AreNoFaultsButLast, IsMade, IsMadeInRun, MayLeave, before_fault, IsUnstopped, RunsSoundly, Steps, firm_step, Heard, is_fault_reply, refused, runs-covered, kept-as, kept-still, kept-then, leave-as, leave-still, leave-then, fault-front, made-before, made-last, none-at_all, none-before, none-last, plain-step, each-own, RunsSoundly-push, counted-push, sound-runs-are-runs, Message, Began, IsNext, heard_of, replies_bytes, reply_bytes, AreBehind, AreFirst, IsCut, IsFrontRun, IsRead, IsTail, IsWritten, MayLeaveServed, Served, Serving, whole_text, StreamEnd}
 use Rattle.std.proofs.lemmas.Grind.{flat_map-append}
-use Rattle.std.specs.Io.KnownBytes.{Appends, Keeps}
-use Rattle.std.proofs.KnownBytes.{Appends-nil, Appends-trans}
-use Rattle.trust_base.specs.declared.refusal.Refusal.{Refusal}
-use Rattle.trust_base.specs.declared.refusal.Refusal.TheVariants.{Memory}
-use Rattle.firm_rows.specs.Firm.{Firm}
 use Rattle.firm_rows.specs.FirmSound.{FirmSound}
-use Rattle.trust_desk.specs.declared.requests.Reply.{Reply}
-use Rattle.trust_desk.specs.Calls.{KeepsBook}
-use Rattle.trust_desk.specs.Counts.{counted_reply, counted_replies}
-use Rattle.trust_desk.specs.Crashes.{AreNoFaults, AreNoFaultsButLast, IsMade, IsMadeInRun, MayLeave, before_fault}
-use Rattle.trust_desk.specs.FirmStep.{IsUnstopped, RunsSoundly, Steps, firm_step}
-use Rattle.trust_desk.specs.Heard.{Heard}
 use Rattle.trust_desk.specs.Isolation.{IsOwn}
 use Rattle.trust_desk.specs.NeverBelowZero.{CoveredRun}
-use Rattle.trust_desk.specs.Replies.{is_fault_reply, refused}
-use Rattle.trust_desk.proofs.AlwaysCovered.{runs-covered}
-use Rattle.trust_desk.proofs.Calls.{kept-as, kept-still, kept-then}
-use Rattle.trust_desk.proofs.Crashes.{leave-as, leave-still, leave-then}
-use Rattle.trust_desk.proofs.MadeRows.{fault-front, made-before, made-last, none-at_all, none-before, none-last, plain-step}
-use Rattle.trust_desk.proofs.Own.{each-own}
-use Rattle.trust_desk.proofs.Runs.{RunsSoundly-push, counted-push, sound-runs-are-runs}
-use Rattle.portal_messages.specs.declared.message.Message.{Message}
 use Rattle.portal_messages.specs.declared.input.Next.TheVariants as nexts
 use Rattle.portal_messages.specs.Messages.{AreMessages, BeginsWithAll, MESSAGE_LIMIT, is_framing}
 use Rattle.portal_messages.specs.Messages as messages
-use Rattle.portal_messages.specs.Inputs.{Began, IsNext}
 use Rattle.portal_messages.proofs.Readings.{begins-push}
-use Rattle.portal_requests.specs.Requests.{heard_of}
-use Rattle.portal_http.specs.Answers.{replies_bytes, reply_bytes}
-use Rattle.portal_http.specs.Served.{AreBehind, AreFirst, IsCut, IsFrontRun, IsRead, MayLeaveServed, Served, Serving, whole_text}
-use Rattle.portal_http.specs.declared.stream.StreamEnd.{StreamEnd}
 use Rattle.portal_http.specs.declared.stream.StreamEnd.TheVariants as ends
 use Rattle.portal_http.proofs.Fronts.{WroteFront, cut-behind, last-push}
 
@@ -237,70 +212,33 @@ module _ {B : Type 0} (clean sure stands lasts : B → Type 0) (leaves : B → F
     with-tail : (later : Option (List ℕ)) (r : Refusal) (reply : Reply) → reply ≡ refused r → Appends after later (reply_bytes reply) → Appends before later (whole_text s.replies (Some r))
     with-tail later r reply is wrote = Appends-trans before after later (replies_bytes s.replies) (reply_bytes (refused r)) s.written (subst (λ (x : Reply). Appends after later (reply_bytes x)) is wrote)
 
+    -- it was served, by how it ended
+    ends-as : (end : StreamEnd) (later : Option (List ℕ)) (tail : Option Refusal) → IfSome stream (λ bytes. IsRead end bytes s.messages tail) → IsTail end tail → IsWritten end s.replies tail before later → WasServed end later new
+    ends-as end later tail read behind written =
+        record { messages = s.messages; replies = s.replies; tail = tail; read = read; paired = s.paired; behind = behind; written = written; run = s.run; own = own; covered = covered; kept = s.kept; crash = s.crash; shut = s.shut; serves = serves }
+
     pub served-ended : (left : Option (List ℕ)) → n < MESSAGE_LIMIT → IsNext unread left nexts.Ended → WasServed ends.Ended after new
-    served-ended left lt y = record { messages = s.messages; replies = s.replies; tail = None; read = read-ended stream unread left s.messages (below lt) s.read y; paired = s.paired; behind = refl; written = no-tail; run = s.run; own = own; covered = covered; kept = s.kept; crash = s.crash; shut = s.shut; serves = serves }
+    served-ended left lt y = ends-as ends.Ended after None (read-ended stream unread left s.messages (below lt) s.read y) refl no-tail
 
     pub served-limit : n ≡ MESSAGE_LIMIT → WasServed ends.Limit after new
-    served-limit e = record { messages = s.messages; replies = s.replies; tail = None; read = read-limit stream unread s.messages (s.many ∙ e) s.read; paired = s.paired; behind = refl; written = no-tail; run = s.run; own = own; covered = covered; kept = s.kept; crash = s.crash; shut = s.shut; serves = serves }
+    served-limit e = ends-as ends.Limit after None (read-limit stream unread s.messages (s.many ∙ e) s.read) refl no-tail
 
     pub served-read_fault : WasServed ends.ReadFault after new
-    served-read_fault = record { messages = s.messages; replies = s.replies; tail = None; read = began-some stream unread s.messages s.read; paired = s.paired; behind = refl; written = no-tail; run = s.run; own = own; covered = covered; kept = s.kept; crash = s.crash; shut = s.shut; serves = serves }
+    served-read_fault = ends-as ends.ReadFault after None (began-some stream unread s.messages s.read) refl no-tail
 
     pub served-framing : (left later : Option (List ℕ)) (r : Refusal) (reply : Reply) → n < MESSAGE_LIMIT → IsNext unread left (nexts.Framing r) → is_framing r ≡ true → reply ≡ refused r → Appends after later (reply_bytes reply)
         → WasServed ends.BadFraming later new
-    served-framing left later r reply lt y framed is wrote = record {
-      messages = s.messages;
-      replies = s.replies;
-      tail = Some r;
-      read = read-fault stream unread left s.messages r (below lt) s.read y;
-      paired = s.paired;
-      behind = (r, framed, refl);
-      written = with-tail later r reply is wrote;
-      run = s.run;
-      own = own;
-      covered = covered;
-      kept = s.kept;
-      crash = s.crash;
-      shut = s.shut;
-      serves = serves;
-    }
+    served-framing left later r reply lt y framed is wrote =
+        ends-as ends.BadFraming later (Some r) (read-fault stream unread left s.messages r (below lt) s.read y) (r, framed, refl) (with-tail later r reply is wrote)
 
     pub served-no_memory : (later : Option (List ℕ)) (reply : Reply) → reply ≡ refused Memory → Appends after later (reply_bytes reply) → WasServed ends.NoMemory later new
-    served-no_memory later reply is wrote = record {
-      messages = s.messages;
-      replies = s.replies;
-      tail = Some Memory;
-      read = began-some stream unread s.messages s.read;
-      paired = s.paired;
-      behind = refl;
-      written = with-tail later Memory reply is wrote;
-      run = s.run;
-      own = own;
-      covered = covered;
-      kept = s.kept;
-      crash = s.crash;
-      shut = s.shut;
-      serves = serves;
-    }
+    served-no_memory later reply is wrote = ends-as ends.NoMemory later (Some Memory) (began-some stream unread s.messages s.read) refl (with-tail later Memory reply is wrote)
 
     -- a write failed in the refusal behind the replies
     tail-fault : (later : Option (List ℕ)) (r : Refusal) (reply : Reply) → IfSome stream (λ bytes. AreBehind bytes s.messages (Some r)) → (is_framing r ≡ true) ⊎ (r ≡ Memory) → reply ≡ refused r → WroteFront after later (reply_bytes reply) → WasServed ends.WriteFault later new
-    tail-fault later r reply why one is wrote = record {
-      messages = s.messages;
-      replies = s.replies;
-      tail = Some r;
-      read = why;
-      paired = s.paired;
-      behind = one;
-      written = cut-behind before after later (replies_bytes s.replies) (reply_bytes (refused r)) s.written (subst (λ (x : Reply). WroteFront after later (reply_bytes x)) is wrote);
-      run = s.run;
-      own = own;
-      covered = covered;
-      kept = s.kept;
-      crash = s.crash;
-      shut = s.shut;
-      serves = serves;
-    }
+    tail-fault later r reply why one is wrote =
+        ends-as ends.WriteFault later (Some r) why one
+        (cut-behind before after later (replies_bytes s.replies) (reply_bytes (refused r)) s.written (subst (λ (x : Reply). WroteFront after later (reply_bytes x)) is wrote))
 
     pub served-framing_fault : (left later : Option (List ℕ)) (r : Refusal) (reply : Reply) → n < MESSAGE_LIMIT → IsNext unread left (nexts.Framing r) → is_framing r ≡ true → reply ≡ refused r → WroteFront after later (reply_bytes reply) → WasServed ends.WriteFault later new
     served-framing_fault left later r reply lt y framed is wrote = tail-fault later r reply (fault-behind stream unread left s.messages r (below lt) s.read y) (inl framed) is wrote

@@ -1,29 +1,15 @@
 -- A message is answered by one step of the firm.
-use Rattle.std.proofs.Common.{◌≡◌, ◌⊎◌, inl, inr, ℕ, Bool, true, false, Ok, Err, refl, sym, ap, ◌∙◌, subst}
-use Rattle.std.specs.Prelude.{MatchBool, ⊤}
+use Rattle.portal_http.proofs.Names.{◌≡◌, ◌⊎◌, inl, inr, ℕ, Bool, true, false, Ok, Err, refl, sym, ap, ◌∙◌, subst, MatchBool, ⊤, Refusal, Memory, Store, Firm, Reply, Heard, Asks, KeepsBook, counted_refusal, counted_reply, is_fault_reply, refused, IsMade, MayLeave, Steps, firm_step, kept-as, kept-still, leave-as, leave-still, plain-step, Message, heard_of, request}
 use Rattle.trust_base.specs.Refusals.{is_fault}
-use Rattle.trust_base.specs.declared.refusal.Refusal.{Refusal}
-use Rattle.trust_base.specs.declared.refusal.Refusal.TheVariants.{Memory, Store}
-use Rattle.firm_rows.specs.Firm.{Firm}
 use Rattle.trust_desk.specs.declared.requests.Request.{Request}
-use Rattle.trust_desk.specs.declared.requests.Reply.{Reply}
-use Rattle.trust_desk.specs.Heard.{Heard, Asks}
-use Rattle.trust_desk.specs.Counts.{counted_refusal, counted_reply}
-use Rattle.trust_desk.specs.Replies.{is_fault_reply, refused}
-use Rattle.trust_desk.specs.Crashes.{IsMade, MayLeave}
-use Rattle.trust_desk.specs.FirmStep.{Steps, firm_step}
-use Rattle.trust_desk.proofs.Crashes.{leave-as, leave-still}
-use Rattle.trust_desk.proofs.MadeRows.{plain-step}
 use Rattle.trust_desk.proofs.Steps.{nothing-done}
-use Rattle.portal_messages.specs.declared.message.Message.{Message}
-use Rattle.portal_requests.specs.Requests.{heard_of, request}
 use Rattle.portal_requests.proofs.HeardFacts.{heard-asks, heard-unread}
 
-pub asked-step : (day : ℕ) (firm new : Firm) (m : Message) (r : Request) (reply : Reply) → request m ≡ Ok r → Steps day firm (Asks r) reply new → Steps day firm (heard_of m) reply new
+asked-step : (day : ℕ) (firm new : Firm) (m : Message) (r : Request) (reply : Reply) → request m ≡ Ok r → Steps day firm (Asks r) reply new → Steps day firm (heard_of m) reply new
 asked-step day firm new m r reply e step = subst (λ (h : Heard). Steps day firm h reply new) (sym (heard-asks m r e)) step
 
 -- a message that was refused before it became a request, or that could not be held
-pub refused-step : (day : ℕ) (firm : Firm) (m : Message) (why : Refusal) (reply : Reply) → (why ≡ Memory) ⊎ ((is_fault why ≡ false) × (request m ≡ Err why)) → reply ≡ refused why → Steps day firm (heard_of m) reply firm
+refused-step : (day : ℕ) (firm : Firm) (m : Message) (why : Refusal) (reply : Reply) → (why ≡ Memory) ⊎ ((is_fault why ≡ false) × (request m ≡ Err why)) → reply ≡ refused why → Steps day firm (heard_of m) reply firm
 refused-step day firm m why reply (inl e) is =
     subst (λ (x : Reply). Steps day firm (heard_of m) x firm) (sym (is ∙ ap refused e)) (record { says = inr refl; leaves = nothing-done day firm (heard_of m) })
 refused-step day firm m why reply (inr other) is =
@@ -36,22 +22,46 @@ refused-step day firm m why reply (inr other) is =
 
 -- What a crash may leave.
 
-pub asked-leaves : {B : Type 0} {clean : B → Type 0} {leaves : B → Firm → Type 0} (day : ℕ) (firm : Firm) (old new : B) (m : Message) (r : Request) (reply : Reply) → request m ≡ Ok r
+asked-leaves : {B : Type 0} {clean : B → Type 0} {leaves : B → Firm → Type 0} (day : ℕ) (firm : Firm) (old new : B) (m : Message) (r : Request) (reply : Reply) → request m ≡ Ok r
     → MayLeave clean leaves (is_fault_reply reply ≡ false) (IsMade day firm (Asks r)) firm (firm_step day firm (Asks r)).firm old new
     → MayLeave clean leaves (is_fault_reply reply ≡ false) (IsMade day firm (heard_of m)) firm (firm_step day firm (heard_of m)).firm old new
 asked-leaves {clean} {leaves} day firm old new m r reply e may =
     subst (λ (h : Heard). MayLeave clean leaves (is_fault_reply reply ≡ false) (IsMade day firm h) firm (firm_step day firm h).firm old new) (sym (heard-asks m r e)) may
 
-pub refused-leaves : {B : Type 0} {clean : B → Type 0} {leaves : B → Firm → Type 0} (day : ℕ) (firm : Firm) (b : B) (m : Message) (why : Refusal) (reply : Reply) → (why ≡ Memory) ⊎ ((is_fault why ≡ false) × (request m ≡ Err why)) → reply ≡ refused why
+refused-leaves : {B : Type 0} {clean : B → Type 0} {leaves : B → Firm → Type 0} (day : ℕ) (firm : Firm) (b : B) (m : Message) (why : Refusal) (reply : Reply) → (why ≡ Memory) ⊎ ((is_fault why ≡ false) × (request m ≡ Err why)) → reply ≡ refused why
     → MayLeave clean leaves (is_fault_reply reply ≡ false) (IsMade day firm (heard_of m)) firm (firm_step day firm (heard_of m)).firm b b
 refused-leaves day firm b m why reply unread is =
     leave-as {done = ⊤} (λ fine. tt) (λ found made. made) (λ fine. sym (plain-step day firm firm (heard_of m) reply fine (refused-step day firm m why reply unread is))) (leave-still firm b)
 
 -- such a message counts no fault of the store
-pub refused-counted : (m : Message) (why : Refusal) (reply : Reply) (n : ℕ) → (why ≡ Memory) ⊎ ((is_fault why ≡ false) × (request m ≡ Err why)) → reply ≡ refused why → n ≡ counted_reply reply n
+refused-counted : (m : Message) (why : Refusal) (reply : Reply) (n : ℕ) → (why ≡ Memory) ⊎ ((is_fault why ≡ false) × (request m ≡ Err why)) → reply ≡ refused why → n ≡ counted_reply reply n
 refused-counted m why reply n (inl e) is = ap (λ (x : Reply). counted_reply x n) (sym (is ∙ ap refused e))
 refused-counted m why reply n (inr other) is = cases why other.0 ∙ ap (λ (x : Reply). counted_reply x n) (sym is)
   where
     cases : (why : Refusal) → is_fault why ≡ false → n ≡ counted_refusal why n
     cases Store e = absurd (cc)
     cases _ e = refl
+
+-- A message was answered over a book.
+
+module _ {B : Type 0} (clean sure stands lasts : B → Type 0) (leaves : B → Firm → Type 0) (firm : B → Firm) (refusals : B → ℕ) (day : ℕ) where
+  pub record IsAnswered (m : Message) (reply : Reply) (old new : B) : Type 0 where
+    pub step : clean new → stands old → Steps day (firm old) (heard_of m) reply (firm new)
+    pub kept : KeepsBook clean sure stands lasts refusals (counted_reply reply) old new
+    pub crash : sure new → clean old → stands old → MayLeave clean leaves (is_fault_reply reply ≡ false) (IsMade day (firm old) (heard_of m)) (firm old) (firm_step day (firm old) (heard_of m)).firm old new
+
+  pub asked-answered : (m : Message) (r : Request) (reply : Reply) (old new : B) → request m ≡ Ok r → (clean new → stands old → Steps day (firm old) (Asks r) reply (firm new)) → KeepsBook clean sure stands lasts refusals (counted_reply reply) old new
+      → (sure new → clean old → stands old → MayLeave clean leaves (is_fault_reply reply ≡ false) (IsMade day (firm old) (Asks r)) (firm old) (firm_step day (firm old) (Asks r)).firm old new)
+      → IsAnswered m reply old new
+  asked-answered m r reply old new e step kept crash = record {
+    step = λ clean stands. asked-step day (firm old) (firm new) m r reply e (step clean stands);
+    kept = kept;
+    crash = λ sure clean stands. asked-leaves day (firm old) old new m r reply e (crash sure clean stands);
+  }
+
+  pub refused-answered : (m : Message) (why : Refusal) (reply : Reply) (b : B) → (why ≡ Memory) ⊎ ((is_fault why ≡ false) × (request m ≡ Err why)) → reply ≡ refused why → IsAnswered m reply b b
+  refused-answered m why reply b unread is = record {
+    step = λ clean stands. refused-step day (firm b) m why reply unread is;
+    kept = kept-as (λ clean stands. refused-counted m why reply (refusals b) unread is) (kept-still b);
+    crash = λ sure clean stands. refused-leaves day (firm b) b m why reply unread is;
+  }

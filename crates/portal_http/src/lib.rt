@@ -5,19 +5,16 @@
 //! message or to accept an answer, its connection is closed and the next client is served.
 #![tactic(auto)]
 
-mod answers;
 pub mod laws;
 mod listener;
-mod pace;
 mod server;
 mod stream;
-mod system;
 
-pub use answers::{bytes_of, write_reply};
-pub use listener::{AcceptFault, ClientListener, Connection, Network};
+pub use listener::{
+    AcceptFault, ClientListener, Connection, Network, SystemListener, SystemNetwork,
+};
 pub use portal_messages::{Input, Message, Next, Stop, read_message};
 pub use portal_requests::{Routes, request_of};
 pub use server::{Answered, ServeEnd, serve_connection, serve_connections};
-pub use stream::{StreamEnd, serve_stream};
-pub use system::{SystemListener, SystemNetwork};
+pub use stream::{StreamEnd, bytes_of, serve_stream, write_reply};
 pub use trust_desk::Desk;

@@ -1,10 +1,10 @@
-// Where clients come from.
+// Where clients come from, and the network of the system.
 
-ghost use Rattle.std.specs.Prelude.{◌+◌, ℕ, IfErr, IfNone, IfOk, IfSome};
+ghost use Rattle.std.specs.Prelude.{◌+◌, ℕ, IfErr, IfNone, IfOk, IfSome, ⊤};
 ghost use Rattle.portal_http.specs.Clients.{Client, Comes, comes_of};
 
-use std::io::{Read, Write};
-use std::net::OpenStream;
+use std::io::{ErrorKind, Read, Write};
+use std::net::{Ipv4Addr, Net, OpenListener, OpenStream, TcpListener};
 
 /// A connection that was accepted, in two halves.
 #[derive(Drop)]
@@ -66,4 +66,62 @@ pub trait Network {
         ensures some { IfSome result (λ listener. (k : ℕ) (c : Comes Self.Listener.Writer)
             → Self.Listener.comes listener k c → comes self.now port k c) }
         ensures none { IfNone result (refuses self.now port) };
+}
+
+/// The network of the system, whose behaviour is not known. Its ports are those of the loopback address.
+#[derive(Drop)]
+pub struct SystemNetwork<'a, R> {
+    /// The system.
+    pub rt: &'a R,
+}
+
+/// A listening port of the system.
+#[derive(Drop)]
+pub struct SystemListener<L> {
+    listener: L,
+}
+
+impl<R: Net> Network for SystemNetwork<'_, R> {
+    type Listener = SystemListener<R::Listener>;
+
+    ghost comes = { λ _ _ _ _. ⊤ };
+
+    ghost refuses = { λ _ _. ⊤ };
+
+    fn listen(&self, port: u16) -> Option<SystemListener<R::Listener>> {
+        match TcpListener::bind(self.rt, (Ipv4Addr::LOCALHOST, port)) {
+            Ok(listener) => Some(SystemListener { listener }),
+            Err(_) => None,
+        }
+    }
+}
+
+impl<L: OpenListener> ClientListener for SystemListener<L>
+where
+    L::Stream: Read + Write + OpenStream + Drop,
+{
+    type Reader = L::Stream;
+
+    type Writer = L::Stream;
+
+    ghost comes = { λ _ _ _. ⊤ };
+
+    fn accept(&mut self) -> Result<Connection<L::Stream, L::Stream>, AcceptFault> {
+        match self.listener.accept() {
+            Ok((reader, _)) => {
+                // An answer is two writes. Without this, the second would wait until the client acknowledges the
+                // first.
+                let _ = reader.set_nodelay(true);
+                match reader.try_clone() {
+                    Ok(writer) => Ok(Connection { reader, writer }),
+                    // This closes the connection, but the port still listens.
+                    Err(_) => Err(AcceptFault::Aborted),
+                }
+            }
+            Err(error) => match error.kind() {
+                ErrorKind::ConnectionAborted => Err(AcceptFault::Aborted),
+                _ => Err(AcceptFault::Network),
+            },
+        }
+    }
 }

@@ -1,22 +1,164 @@
-// Connections, one after the other.
+// Connections, one after the other, and how long each client may take.
 
+ghost use Rattle.std.specs.Prelude.{◌*◌, ◌≤◌, IfOk};
+ghost use Rattle.std.specs.Duration.{as_nanos};
 ghost use Rattle.portal_http.specs.Served.{Served};
 ghost use Rattle.portal_http.specs.ServedAll.{KeepsStanding, ServedAll};
 
 use crate::listener::{AcceptFault, ClientListener, Connection};
-use crate::pace::{Pace, PacedReader, PacedWriter, time_left};
 use crate::stream::{StreamEnd, line_of, serve_routes, serve_stream};
 use byte_streams::send;
 use portal_requests::Routes;
 use std::alloc::Global;
+use std::cell::Cell;
 use std::io;
-use std::io::{Read, Write};
+use std::io::{Error, ErrorKind, Read, Write};
 use std::net::{OpenStream, Shutdown};
 use std::rt::Clock;
 use std::time::{Duration, Instant};
 use trust_base::Day;
 use trust_desk::Desk;
 use trust_store::Book;
+
+// How many seconds a client may be silent between messages.
+const SILENCE_SECONDS: u64 = 10;
+
+// How many seconds the bytes of a message may take, from the first one.
+const MESSAGE_SECONDS: u64 = 60;
+
+// How many seconds the client may take for the head or the body of an answer, from the first byte offered.
+const TEXT_SECONDS: u64 = 60;
+
+// What a connection is doing.
+#[derive(Clone, Copy)]
+enum Phase {
+    // Everything was written, and no byte has come since.
+    Between,
+    // The first byte of a message was just read.
+    Begun,
+    // A message is being read, since this time.
+    Message(Instant),
+    // The head or body of an answer is being written, since this time.
+    Text(Instant),
+}
+
+// Returns what is left of a time span that began at `since`; `TimedOut` if nothing is left.
+fn time_left(clock: &impl Clock, since: Instant, span: Duration) -> io::Result<Duration>
+    ensures { IfOk result (λ left. as_nanos left ≤ as_nanos span) }
+{
+    let spent = since.elapsed(clock)?;
+    match span.checked_sub(spent) {
+        Some(left) if !left.is_zero() => Ok(left),
+        _ => Err(Error::from(ErrorKind::TimedOut)),
+    }
+}
+
+/// The pace of a connection, shared by its two halves: what it is doing, and since when.
+///
+/// The halves alone decide where a message or an answer ends. A read after a write starts the silence between two
+/// messages, a write after a read ends a message, and a write that was accepted whole ends the head or the body of an
+/// answer. So the time between two calls of the halves, in which the desk works, is not counted.
+#[derive(Drop)]
+pub struct Pace<C> {
+    clock: C,
+    phase: Cell<Phase>,
+}
+
+impl<C: Clock> Pace<C> {
+    /// The pace of a new connection.
+    pub fn new(clock: C) -> Pace<C> {
+        Pace {
+            clock,
+            phase: Cell::new(Phase::Between),
+        }
+    }
+
+    // Returns how long the next read may take; `TimedOut` if the time for its message is over. Also fails if the
+    // clock, which is asked after the first byte of a message, cannot be read.
+    fn time_to_read(&self) -> io::Result<Duration>
+        ensures { IfOk result (λ left. as_nanos left ≤ MESSAGE_SECONDS * 1_000_000_000) }
+    {
+        let whole = Duration::from_secs(MESSAGE_SECONDS);
+        match self.phase.get() {
+            Phase::Between | Phase::Text(_) => {
+                self.phase.set(Phase::Between);
+                Ok(Duration::from_secs(SILENCE_SECONDS))
+            }
+            Phase::Begun => {
+                self.phase.set(Phase::Message(Instant::now(&self.clock)?));
+                Ok(whole)
+            }
+            Phase::Message(since) => time_left(&self.clock, since, whole),
+        }
+    }
+
+    // Returns how long the next write may take; `TimedOut` if the time for its text is over. Also fails if the clock
+    // cannot be read.
+    fn time_to_write(&self) -> io::Result<Duration>
+        ensures { IfOk result (λ left. as_nanos left ≤ TEXT_SECONDS * 1_000_000_000) }
+    {
+        let whole = Duration::from_secs(TEXT_SECONDS);
+        match self.phase.get() {
+            Phase::Text(since) => time_left(&self.clock, since, whole),
+            Phase::Between | Phase::Begun | Phase::Message(_) => {
+                self.phase.set(Phase::Text(Instant::now(&self.clock)?));
+                Ok(whole)
+            }
+        }
+    }
+}
+
+/// The reading half of a connection. Each read may take what is left of the silence between messages, or of the
+/// message's time.
+#[derive(Drop)]
+pub struct PacedReader<'p, 'h, C, R> {
+    /// The pace of the connection.
+    pub pace: &'p Pace<C>,
+    /// What is read.
+    pub half: &'h mut R,
+}
+
+impl<C: Clock, R: Read + OpenStream> Read for PacedReader<'_, '_, C, R> {
+    ghost remaining = { λ reader. R.remaining reader.half.now };
+
+    fn read(&mut self, buf: &mut [u8]) -> io::Result<usize> {
+        let left = self.pace.time_to_read()?;
+        self.half.set_read_timeout(Some(left))?;
+        let count = self.half.read(buf)?;
+        if let Phase::Between = self.pace.phase.get() {
+            self.pace.phase.set(Phase::Begun);
+        }
+        Ok(count)
+    }
+}
+
+/// The writing half of a connection. Each write may take what is left of the time for the text being written. What a
+/// write leaves of a text has to be offered to the next write.
+#[derive(Drop)]
+pub struct PacedWriter<'p, C, W> {
+    /// The pace of the connection.
+    pub pace: &'p Pace<C>,
+    /// What is written.
+    pub half: W,
+}
+
+impl<C: Clock, W: Write + OpenStream> Write for PacedWriter<'_, C, W> {
+    ghost contents = { λ writer. W.contents writer.half };
+
+    fn write(&mut self, buf: &[u8]) -> io::Result<usize> {
+        let left = self.pace.time_to_write()?;
+        self.half.set_write_timeout(Some(left))?;
+        let taken = self.half.write(buf)?;
+        if taken == buf.len() {
+            self.pace.phase.set(Phase::Between);
+        }
+        Ok(taken)
+    }
+
+    fn flush(&mut self) -> io::Result<()> {
+        self.half.flush()
+    }
+}
 
 // How many unread bytes are read and dropped before a connection is closed.
 const MAX_DROPPED: usize = 4_194_304;
@@ -44,8 +186,14 @@ pub enum ServeEnd {
     WriteFault,
 }
 
-// Reads and drops what a client still sends, within the limits of a close.
-fn drop_rest<C: Clock, R: Read + OpenStream>(clock: &C, reader: &mut R) -> io::Result<()> {
+// Closes a connection on which an answer may stand before bytes that were not read. Closing a socket with unread
+// bytes resets the connection, and the client could lose the answer, so what it still sends is read and dropped first.
+fn close<C: Clock, R: Read + OpenStream, W: OpenStream>(
+    clock: &C,
+    reader: &mut R,
+    writer: &W,
+) -> io::Result<()> {
+    writer.shutdown(Shutdown::Write)?;
     let start = Instant::now(clock)?;
     let mut part = [0u8; 8_192];
     let mut room = MAX_DROPPED;
@@ -60,14 +208,6 @@ fn drop_rest<C: Clock, R: Read + OpenStream>(clock: &C, reader: &mut R) -> io::R
         room -= count;
     }
     Ok(())
-}
-
-// Closes a connection on which an answer may stand before bytes that were not read. Closing a socket with unread
-// bytes resets the connection, and the client could lose the answer, so they are read first.
-fn close<C: Clock, R: Read + OpenStream, W: OpenStream>(clock: &C, reader: &mut R, writer: &W) {
-    if writer.shutdown(Shutdown::Write).is_ok() {
-        let _ = drop_rest(clock, reader);
-    }
 }
 
 // Serves a stream at this pace, and returns its writer.
@@ -130,7 +270,7 @@ pub fn serve_connection<
     );
     match answered.end {
         StreamEnd::BadFraming | StreamEnd::Limit | StreamEnd::NoMemory => {
-            close(clock, &mut reader, &answered.writer);
+            let _ = close(clock, &mut reader, &answered.writer);
         }
         StreamEnd::Ended | StreamEnd::ReadFault | StreamEnd::WriteFault => (),
     }

@@ -1,11 +1,6 @@
 -- What is found in a buffer is what comes next in the stream.
-use Rattle.std.proofs.Common.{◌≡◌, ℕ, List, ◌++◌, Option, Some, None, sym, ap, ◌∙◌, subst, IfSome, true, false}
-use Rattle.std.proofs.lemmas.List.{append-nil}
-use Rattle.std.specs.Io.KnownBytes.{IsAtEnd, Keeps, prepend_known}
-use Rattle.httparse.specs.declared.spans.HeaderSpan.{HeaderSpan}
-use Rattle.portal_messages.specs.Heads.{HasNoHead, IsFound, is_ended}
-use Rattle.portal_messages.specs.Sources.{IsHeadNext}
-use Rattle.portal_messages.specs.declared.head.Found.TheVariants as found
+use Rattle.portal_messages.proofs.Names.{◌≡◌, ℕ, List, ◌++◌, Option, Some, None, sym, ap, ◌∙◌, subst, IfSome, true, false, append-nil, IsAtEnd, Keeps, prepend_known, HeaderSpan, HasNoHead, IsFound, is_ended, IsHeadNext}
+use Rattle.portal_messages.specs.declared.input.Found.TheVariants as found
 use Rattle.portal_messages.specs.declared.input.HeadNext.TheVariants as heads
 use Rattle.portal_messages.proofs.HeadFacts.{goes_on-append}
 

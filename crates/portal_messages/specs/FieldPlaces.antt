@@ -3,7 +3,7 @@ use Rattle.std.specs.Prelude.{◌≡◌, ◌≤◌, ℕ, List, ◌∷◌, length
 use Rattle.httparse.specs.Spans.{IsWithin, header_bytes, span_bytes}
 use Rattle.httparse.specs.declared.spans.HeaderSpan.{HeaderSpan}
 use Rattle.portal_messages.specs.Fields.{values_of}
-use Rattle.portal_messages.specs.declared.head.FieldAt.{FieldAt}
+use Rattle.portal_messages.specs.declared.input.FieldAt.{FieldAt}
 
 -- the names and values that the spans cover, from an index on
 abbrev pub pairs_from : List ℕ → List HeaderSpan → ℕ → List (List ℕ × List ℕ)

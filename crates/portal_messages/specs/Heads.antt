@@ -5,8 +5,8 @@ use Rattle.httparse.specs.Grammar.{ReadsRequest, RequestHead, print_request}
 use Rattle.httparse.specs.Spans.{IsRequestAt, IsRequestWithin}
 use Rattle.httparse.specs.declared.spans.HeaderSpan.{HeaderSpan}
 use Rattle.httparse.specs.declared.spans.RequestSpans.{RequestSpans}
-use Rattle.portal_messages.specs.declared.head.Found.{Found}
-use Rattle.portal_messages.specs.declared.head.Found.TheVariants.{Head, Blank, More, Bad}
+use Rattle.portal_messages.specs.declared.input.Found.{Found}
+use Rattle.portal_messages.specs.declared.input.Found.TheVariants.{Head, Blank, More, Bad}
 
 -- the most bytes of a head, including empty lines before it
 abbrev pub HEAD_LIMIT : ℕ

@@ -2,11 +2,9 @@
 //! a time, however the stream is cut into reads.
 #![tactic(auto)]
 
-mod head;
 mod input;
 pub mod laws;
 mod message;
 
-pub use head::path;
-pub use input::{Input, Next, Stop, read_message};
+pub use input::{Input, Next, Stop, path, read_message};
 pub use message::{Message, Texts};

@@ -1,11 +1,7 @@
 -- The object that a body is.
-use Rattle.std.proofs.Common.{◌≡◌, ℕ, Bool, true, false, cond, List, Option, Some, None, refl, sym, ap, ◌∙◌}
-use Rattle.std.specs.Prelude.{option_and_then}
-use Rattle.std.specs.Str.{IsUtf8, is_utf8}
-use Rattle.std.proofs.lemmas.Str.{IsUtf8-from_is_utf8, is_utf8-from_IsUtf8}
+use Rattle.portal_requests.proofs.Names.{◌≡◌, ℕ, Bool, true, false, cond, List, Option, Some, None, refl, sym, ap, ◌∙◌, option_and_then, IsUtf8, is_utf8, IsUtf8-from_is_utf8, is_utf8-from_IsUtf8, body_in, is_object, object_with, text_in}
 use Rattle.serde_json.specs.Data.{Data}
 use Rattle.serde_json.specs.Read.{read as read_text}
-use Rattle.portal_requests.specs.Bodies.{body_in, is_object, object_with, text_in}
 
 -- the object of a text that was read
 abbrev pub body_by : List (List ℕ) → Bool → Option Data → Option Data

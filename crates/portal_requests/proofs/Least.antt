@@ -1,31 +1,10 @@
 -- The refusal that is told of a message is the least.
-use Rattle.std.proofs.Common.{◌≡◌, ◌∙◌, ◌<◌, ℕ, Bool, true, false, cond, List, Option, Some, None, Result, Ok, Err, refl, sym, ap, subst, arith}
-use Rattle.std.specs.Str.{bytes_eq}
-use Rattle.trust_base.specs.Texts.{day_of}
+use Rattle.portal_requests.proofs.Names.{◌≡◌, ◌∙◌, ◌<◌, ℕ, Bool, true, false, cond, List, Option, Some, None, Result, Ok, Err, refl, sym, ap, subst, arith, bytes_eq, day_of, Line, Field, Refusal, BadField, BadMethod, NoCaller, NoRoute, Ask, Caller, Request, Message, path_of, ReportPlace, Place, entry_ask, matter_ask, body_in, caller_of, dismissing, line_in, line_keys, day_part, entry_part, named_in, method_of, as_of, asked_at, called, of_matter, reported, request, routed, place_of}
 use Rattle.trust_base.specs.Refusals.{number_of}
-use Rattle.trust_base.specs.declared.line.Line.{Line}
-use Rattle.trust_base.specs.declared.refusal.Field.{Field}
 use Rattle.trust_base.specs.declared.refusal.Field.TheVariants as field
-use Rattle.trust_base.specs.declared.refusal.Refusal.{Refusal}
-use Rattle.trust_base.specs.declared.refusal.Refusal.TheVariants.{BadField, BadMethod, NoCaller, NoRoute}
-use Rattle.trust_matter.specs.declared.ask.Ask.{Ask}
-use Rattle.trust_matter.specs.declared.ask.Caller.{Caller}
-use Rattle.trust_desk.specs.declared.requests.Request.{Request}
-use Rattle.portal_messages.specs.declared.message.Message.{Message}
-use Rattle.portal_messages.specs.Fields.{path_of}
-use Rattle.portal_requests.specs.declared.routes.ReportPlace.{ReportPlace}
 use Rattle.portal_requests.specs.declared.routes.ReportPlace.TheVariants as report
-use Rattle.portal_requests.specs.declared.routes.Place.{Place}
 use Rattle.portal_requests.specs.declared.routes.Place.TheVariants as place
-use Rattle.portal_requests.specs.Asked.{entry_ask, matter_ask}
-use Rattle.portal_requests.specs.Bodies.{body_in}
-use Rattle.portal_requests.specs.Callers.{caller_of}
-use Rattle.portal_requests.specs.Dismissals.{dismissing, line_in, line_keys}
 use Rattle.portal_requests.specs.LeastRefusal.{LeastRefusal, RefusesAt}
-use Rattle.portal_requests.specs.Paths.{day_part, entry_part, named_in}
-use Rattle.portal_requests.specs.Places.{method_of}
-use Rattle.portal_requests.specs.Requests.{as_of, asked_at, called, of_matter, reported, request, routed}
-use Rattle.portal_requests.specs.Routing.{place_of}
 
 -- What is asked at a place is refused for a field alone.
 

@@ -6,3 +6,4 @@ pub mod Literals
 pub mod PathFacts
 pub mod Least
 pub mod TableFacts
+mod Names

@@ -1,11 +1,7 @@
 -- Routes whose texts begin with the same bytes are those of paths that begin so.
-use Rattle.std.proofs.Common.{◌≡◌, ◌≤◌, ℕ, suc, zero, Bool, true, false, cond, List, [], ◌∷◌, Option, Some, None, refl, sym, ap, subst, arith, length}
-use Rattle.std.specs.Prelude.{◌==◌, ◌-◌, ltb, unwrap_or, ⊤}
+use Rattle.portal_requests.proofs.Names.{◌≡◌, ◌≤◌, ℕ, suc, zero, Bool, true, false, cond, List, [], ◌∷◌, Option, Some, None, refl, sym, ap, subst, arith, length, ◌==◌, ◌-◌, ltb, unwrap_or, ⊤, IsText, RowsOf, catch_all_token, comes_before, param_token, first, has_slash, longest_suffix, or_else, own, param_step, same_text, seek, segment, step, with_suffix}
 use Rattle.std.proofs.lemmas.Bool.Decides.{nat_tests}
-use Rattle.matchit.specs.Level.{IsText}
 use Rattle.matchit.specs.Order.{placed}
-use Rattle.matchit.specs.Rows.{RowsOf, catch_all_token, comes_before, param_token}
-use Rattle.matchit.specs.Seek.{first, has_slash, longest_suffix, or_else, own, param_step, same_text, seek, segment, step, with_suffix}
 
 some-same : {K : Type 0} (a b : K) → Some a ≡ Some b → a ≡ b
 some-same a b e = ap (λ o. unwrap_or o a) e

@@ -1,40 +1,12 @@
 -- Which matter a message names, by its path.
-use Rattle.std.proofs.Common.{◌≡◌, ◌∙◌, ℕ, Bool, true, false, cond, List, [], ◌∷◌, Option, Some, None, Result, Ok, Err, refl, sym, ap, subst, arith}
-use Rattle.std.specs.Prelude.{codes, drop, length, nat_le, option_map, take, unwrap_or, ⊤}
-use Rattle.std.specs.Str.{bytes_eq, is_utf8}
-use Rattle.matchit.specs.Level.{IsText}
-use Rattle.matchit.specs.Route.{Scan, parse_route}
-use Rattle.matchit.specs.Router.{RouteOf, route_from}
-use Rattle.matchit.specs.Rows.{RowsOf}
-use Rattle.matchit.specs.Seek.{first}
-use Rattle.matchit.specs.declared.error.InsertError.{InsertError}
-use Rattle.trust_base.specs.declared.line.Line.{Line}
-use Rattle.trust_base.specs.Texts.{day_of, matter_of}
-use Rattle.trust_base.specs.declared.refusal.Field.{Field}
-use Rattle.trust_base.specs.declared.refusal.Refusal.TheVariants.{BadMethod}
-use Rattle.trust_matter.specs.declared.ask.Ask.{Ask}
-use Rattle.trust_matter.specs.declared.ask.Caller.{Caller}
-use Rattle.trust_desk.specs.Heard.{is_the, names}
-use Rattle.portal_messages.specs.declared.message.Message.{Message}
-use Rattle.portal_messages.specs.Fields.{path_of}
-use Rattle.portal_requests.specs.declared.routes.ReportPlace.{ReportPlace}
+use Rattle.portal_requests.proofs.Names.{◌≡◌, ◌∙◌, ℕ, Bool, true, false, cond, List, [], ◌∷◌, Option, Some, None, Result, Ok, Err, refl, sym, ap, subst, arith, codes, nat_le, option_map, take, unwrap_or, ⊤, bytes_eq, is_utf8, IsText, Scan, parse_route, RouteOf, route_from, RowsOf, first, InsertError, Line, day_of, matter_of, Field, BadMethod, Ask, Caller, is_the, names, Message, path_of, ReportPlace, Place, entry_ask, matter_ask, body_in, caller_of, dismissing, dismissing_in, line_in, line_keys, day_part, entry_part, has_matter, named_in, method_of, as_of, asked_at, called, heard_as, heard_of, of_matter, placed, reported, request, routed, with_statement, place_of, TABLE, route_rows, row_in, the_routes, matchit_on_literals}
+use Rattle.std.specs.Prelude.{drop, length}
 use Rattle.portal_requests.specs.declared.routes.ReportPlace.TheVariants as report
 use Rattle.portal_requests.specs.declared.routes.StatementPlace.{StatementPlace}
 use Rattle.portal_requests.specs.declared.routes.StatementPlace.TheVariants as statement
-use Rattle.portal_requests.specs.declared.routes.Place.{Place}
 use Rattle.portal_requests.specs.declared.routes.Place.TheVariants as place
-use Rattle.portal_requests.specs.Asked.{entry_ask, matter_ask}
-use Rattle.portal_requests.specs.Bodies.{body_in}
-use Rattle.portal_requests.specs.Callers.{caller_of}
-use Rattle.portal_requests.specs.Dismissals.{dismissing, dismissing_in, line_in, line_keys}
 use Rattle.portal_requests.specs.NamedByPath.{NamedByPath}
-use Rattle.portal_requests.specs.Paths.{day_part, entry_part, has_matter, named_in}
-use Rattle.portal_requests.specs.Places.{method_of}
-use Rattle.portal_requests.specs.Requests.{as_of, asked_at, called, heard_as, heard_of, of_matter, placed, reported, request, routed, with_statement}
-use Rattle.portal_requests.specs.Routing.{place_of}
-use Rattle.portal_requests.specs.Table.{TABLE, route_rows, row_in, the_routes}
 use Rattle.portal_requests.proofs.Literals.{AllRows, Starts, first-starts, placed-rows}
-use Rattle.matchit.proofs.OnLiterals.{matchit_on_literals}
 
 -- Paths of the firm.
 

@@ -1,13 +1,6 @@
 -- The place of a path.
-use Rattle.std.proofs.Common.{◌≡◌, ℕ, Bool, cond, List, Option, None, ap, sym, ◌∙◌}
-use Rattle.std.specs.Prelude.{option_map}
-use Rattle.std.specs.Str.{IsUtf8}
-use Rattle.std.proofs.lemmas.Str.{is_utf8-from_IsUtf8}
+use Rattle.portal_requests.proofs.Names.{◌≡◌, ℕ, Bool, cond, List, Option, None, ap, sym, ◌∙◌, option_map, IsUtf8, is_utf8-from_IsUtf8, first, Place, the_routes, place_of}
 use Rattle.trust_base.proofs.NameFacts.{is_utf8-of_other}
-use Rattle.matchit.specs.Seek.{first}
-use Rattle.portal_requests.specs.declared.routes.Place.{Place}
-use Rattle.portal_requests.specs.Table.{the_routes}
-use Rattle.portal_requests.specs.Routing.{place_of}
 
 -- the place that the routes give a path
 abbrev pub placed_at : List ℕ → Option Place

@@ -1,7 +1,5 @@
 -- The table of routes.
-use Rattle.std.proofs.Common.{[], refl}
-use Rattle.portal_requests.specs.Table.{AreTaken, TABLE}
-use Rattle.matchit.proofs.OnLiterals.{matchit_on_literals}
+use Rattle.portal_requests.proofs.Names.{[], refl, AreTaken, TABLE, matchit_on_literals}
 
 -- each path is good, and no two of them conflict
 pub table-taken : AreTaken TABLE []

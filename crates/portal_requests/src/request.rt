@@ -1,22 +1,68 @@
-// The request of a message.
+// The request of a message: what its path names, and who sends it.
 
-ghost use Rattle.std.specs.Prelude.{◌≡◌, IfOk, Ok};
+ghost use Rattle.std.specs.Prelude.{◌≡◌, IfOk, Ok, drop};
 ghost use Rattle.portal_requests.specs.Answers.{Answers};
 ghost use Rattle.portal_requests.specs.Asked.{entry_ask, matter_ask};
 ghost use Rattle.portal_requests.specs.Callers.{caller_of};
-ghost use Rattle.portal_requests.specs.Paths.{entry_part, named_in};
+ghost use Rattle.portal_requests.specs.Paths.{behind_slash, entry_part, named_in, up_to_slash};
 ghost use Rattle.portal_requests.specs.Requests.{of_matter, reported, request, with_statement};
 
-use crate::dismissal::read_dismissal;
-use crate::entry_asks::read_entry_ask;
-use crate::matter_asks::read_matter_ask;
-use crate::named::{day_part, entry_part, named_matter};
+use crate::asks::{read_dismissal, read_entry_ask, read_matter_ask};
 use crate::routes::{EntryPlace, MatterPlace, Place, ReportPlace, Routes, StatementPlace, method};
 use portal_messages::{Message, path};
 use std::alloc::{AllocError, Global};
-use trust_base::{Day, Field, OwnedBytes, PersonId, Refusal};
+use trust_base::{Day, Field, MatterNo, OwnedBytes, PersonId, Refusal};
 use trust_desk::Request;
 use trust_matter::Caller;
+
+/// Returns the matter that a path names, whether or not it has a route: the path is `/matters/` and the six digits of
+/// the matter, and ends there or goes on with `/`.
+pub fn named_matter(path: &[u8]) -> Option<MatterNo>
+    ensures { result ≡ named_in path.now }
+{
+    if path.len() < 15 || &path[..9] != b"/matters/".as_slice() {
+        return None;
+    }
+    let (_, behind) = path.split_at(15);
+    if !behind.is_empty() && behind[0] != b'/' {
+        return None;
+    }
+    MatterNo::read(&path[9..15])
+}
+
+// The bytes before the first slash.
+fn up_to_slash(bytes: &[u8]) -> &[u8]
+    ensures { result.now ≡ up_to_slash bytes.now }
+{
+    for i in 0..bytes.len() {
+        if bytes[i] == b'/' {
+            return &bytes[..i];
+        }
+    }
+    bytes
+}
+
+// The bytes after the first slash.
+fn behind_slash(bytes: &[u8]) -> &[u8]
+    ensures { result.now ≡ behind_slash bytes.now }
+{
+    for i in 0..bytes.len() {
+        if bytes[i] == b'/' {
+            return bytes.split_at(i + 1).1;
+        }
+    }
+    &[]
+}
+
+// The bytes after the first `n`; empty if there are none.
+fn behind(bytes: &[u8], n: usize) -> &[u8]
+    ensures { result.now ≡ drop n bytes.now }
+{
+    if bytes.len() < n {
+        return &[];
+    }
+    bytes.split_at(n).1
+}
 
 // Returns the caller, if there is exactly one value and it names one. Fails if memory runs out.
 fn read_caller(alloc: Global, values: &[OwnedBytes]) -> Result<Option<Caller>, AllocError>
@@ -68,7 +114,9 @@ fn read_entry_at(
     let Some(no) = named_matter(path) else {
         return Err(Refusal::BadField(Field::Matter));
     };
-    match read_entry_ask(alloc, place, entry_part(path), body) {
+    // After `/matters/`, the matter and `/entries/`.
+    let entry = up_to_slash(behind_slash(behind_slash(behind(path, 9))));
+    match read_entry_ask(alloc, place, entry, body) {
         Ok(ask) => Ok(Request::Matter { no, caller, ask }),
         Err(why) => Err(why),
     }
@@ -82,7 +130,8 @@ fn read_report_at(place: ReportPlace, caller: Caller, path: &[u8]) -> Result<Req
         ReportPlace::Exceptions => Ok(Request::Exceptions(caller)),
         ReportPlace::TrialBalance => Ok(Request::Trial(caller)),
         ReportPlace::Journal => Ok(Request::Journal(caller)),
-        ReportPlace::Reconciliation => match Day::read(day_part(path)) {
+        // The day comes after `/firm/reconciliation/`.
+        ReportPlace::Reconciliation => match Day::read(behind(path, 21)) {
             Some(day) => Ok(Request::Reconcile(caller, day)),
             None => Err(Refusal::BadField(Field::Day)),
         },

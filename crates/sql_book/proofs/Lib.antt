@@ -4,3 +4,4 @@ pub mod Moves
 pub mod Stops
 pub mod Scripts
 pub mod Written
+mod Names

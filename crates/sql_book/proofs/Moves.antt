@@ -1,12 +1,5 @@
 -- Tables that were moved stand for the firm for which the tables of version 1 stood.
-use Rattle.std.proofs.Common.{◌≡◌, sym, ap, subst}
-use Rattle.sqlite.specs.Effect.{Database}
-use Rattle.sql_schema.specs.declared.layout.Layout.{Layout}
-use Rattle.sql_schema.specs.declared.layout.Layout.TheVariants.{Moved}
-use Rattle.sql_making.specs.Then.{Stood, IsMoved}
-use Rattle.sql_rows.specs.Meaning.{AreSound, firm_from}
-use Rattle.sql_rows.specs.Standing.{StandsSound, firm_in}
-use Rattle.sql_book.specs.Then.{firm_then, StoodSound}
+use Rattle.sql_book.proofs.Names.{◌≡◌, sym, ap, subst, Database, Layout, Moved, Stood, IsMoved, AreSound, firm_from, StandsSound, firm_in, firm_then, StoodSound}
 
 pub moved_stands : (db next : Database) → IsMoved db next → StoodSound db → StandsSound Moved next
 moved_stands db next m s = let it = m.same s.tables in record { tables = it.stands; rows = subst AreSound (sym it.lists) s.rows }

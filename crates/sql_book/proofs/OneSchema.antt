@@ -1,11 +1,8 @@
 -- The trees of a database fix its schema.
-use Rattle.std.proofs.Common.{◌≡◌, subst}
-use Rattle.sqlite_trees.specs.Tree.{Trees}
+use Rattle.sql_book.proofs.Names.{◌≡◌, subst, Trees, Schema, Database, IsDatabase}
 use Rattle.sqlite_trees.specs.Objects.{catalog_tree}
-use Rattle.sqlite_schema.specs.declared.schema.Schema.{Schema}
 use Rattle.sqlite_catalog.specs.Listing.{IsSound}
 use Rattle.sqlite_catalog.proofs.ReadLemmas.{lists_once}
-use Rattle.sqlite.specs.Effect.{Database, IsDatabase}
 
 -- the list of objects, which is one of the trees, lists one schema at most
 pub one_schema : (s t : Schema) (db : Trees) → IsSound s db → IsSound t db → s ≡ t

@@ -1,13 +1,6 @@
 -- What a script leaves, as the steps of its statements.
-use Rattle.std.proofs.Common.{List, [], ◌∷◌, map}
-use Rattle.sql_schema.specs.declared.layout.Layout.{Layout}
-use Rattle.sqlite.specs.Effect.{Database}
-use Rattle.sql_tables.specs.declared.statements.Statement.{Statement}
+use Rattle.sql_book.proofs.Names.{List, [], ◌∷◌, map, Layout, Database, Statement, Lists, lists_in, IsStep, AreSteps, Stands, AreKeyed, step_of, IsMade, AreMade}
 use Rattle.sql_tables.specs.declared.statements.Statement.TheVariants as statement
-use Rattle.sql_tables.specs.Lists.{Lists, lists_in, IsStep, AreSteps}
-use Rattle.sql_tables.specs.Standing.{Stands}
-use Rattle.sql_rows.specs.Meaning.{AreKeyed}
-use Rattle.sql_rows.specs.Steps.{step_of, IsMade, AreMade}
 
 made_of_step : (s : Statement) (a b : Lists) → IsStep s a b → IsMade (step_of s) a b
 made_of_step (statement.Head h) a b is = is

@@ -1,26 +1,9 @@
 -- What a stop leaves of a book is taken again.
-use Rattle.std.proofs.Common.{◌≡◌, inl, inr, map, length, sym, ap, subst, refl, ◌∙◌, arith}
-use Rattle.sqlite_schema.specs.declared.schema.Schema.{Schema}
-use Rattle.sqlite_trees.specs.Tree.{Trees}
-use Rattle.sqlite_trees.specs.declared.store.Store.{Ghosts}
-use Rattle.sqlite.specs.Effect.{Database, IsDatabase}
-use Rattle.sqlite.specs.Held.{Held, state}
-use Rattle.firm_rows.specs.Firm.{Firm}
-use Rattle.trust_store.specs.Crashes.{LeavesAlone}
-use Rattle.sql_schema.specs.declared.layout.Layout.{Layout}
-use Rattle.sql_schema.specs.declared.layout.Layout.TheVariants.{Made, Moved}
-use Rattle.sql_schema.specs.Schema.{book_schema}
-use Rattle.sql_tables.specs.Lists.{lists_in}
+use Rattle.sql_book.proofs.Names.{◌≡◌, inl, inr, map, length, sym, ap, subst, refl, ◌∙◌, arith, Schema, Trees, Ghosts, Database, IsDatabase, Held, state, Firm, LeavesAlone, Layout, Made, Moved, book_schema, lists_in, AreSound, firm_from, EmptyTablesStand, StandsSound, firm_in, no_lists, IsBook, IsNewBook, AreNewBook, IsOldBook, HeldBook, at, firm_of, IsStanding, IsLasting, MayLeave, firm_then, StoodSound}
 use Rattle.sql_tables.specs.Rows.{head_in, seat_in, entry_in, movement_in, firm_line_in, exception_in, balance_in}
-use Rattle.sql_rows.specs.Meaning.{AreSound, firm_from}
-use Rattle.sql_rows.specs.Standing.{EmptyTablesStand, StandsSound, firm_in, no_lists}
-use Rattle.sql_making.specs.Books.{IsBook, IsNewBook, AreNewBook}
 use Rattle.sql_making.proofs.NewBook.{is_book, new_book_stands}
-use Rattle.sql_making.specs.Then.{IsOldBook}
 use Rattle.sql_making.proofs.Ends.{never_both}
-use Rattle.sql_book.specs.Books.{HeldBook, at, firm_of, IsStanding, IsLasting, MayLeave}
 use Rattle.sql_book.specs.Opening.{IsKeptBook, IsMovedBook, IsTaken}
-use Rattle.sql_book.specs.Then.{firm_then, StoodSound}
 use Rattle.sql_book.specs.Stops.{IsOpenedOver, HoldsLeft, IsNext, HoldsNewBook, HoldsOldFirm, HoldsFirm, IsOfFirm, BooksAreTaken, StopsInMovingLeaveBooks}
 use Rattle.sql_book.proofs.OneSchema.{one_database}
 use Rattle.sql_book.proofs.Moves.{moved_stands, moved_firm}

@@ -1,27 +1,9 @@
 -- What the call that writes a script leaves is a write of the book, if the change of the script fits.
-use Rattle.std.proofs.Common.{◌≡◌, ◌≢◌, ◌⊎◌, inl, inr, ℕ, List, [], map, Result, Ok, Err, OnOk, OnErr, IsTrue, refl, sym, ap, subst, ◌∙◌}
+use Rattle.sql_book.proofs.Names.{◌≡◌, ◌≢◌, ◌⊎◌, inl, inr, ℕ, List, [], map, Result, Ok, Err, OnOk, OnErr, IsTrue, refl, sym, ap, subst, ◌∙◌, Ghosts, Trees, Database, IsDatabase, Held, state, State, HasCleanDisk, StoreFault, Firm, FirmChange, FitsFirm, after, LeavesAlone, Layout, Statement, lists_in, IsSettled, Written, Stands, StandsSound, firm_in, step_of, steps_of, AreMade, HeldBook, firm_of, MayLeave, IsBookWrite, IsBookWriteIf, FitsBook}
 use Rattle.std.proofs.lemmas.Result.{on_ok_weaker, on_err_weaker}
-use Rattle.sqlite_trees.specs.declared.store.Store.{Ghosts}
-use Rattle.sqlite_trees.specs.Tree.{Trees}
-use Rattle.sqlite.specs.Effect.{Database, IsDatabase}
-use Rattle.sqlite.specs.Held.{Held, state}
-use Rattle.sqlite.specs.State.{State, HasCleanDisk}
-use Rattle.trust_base.specs.declared.refusal.StoreFault.{StoreFault}
-use Rattle.firm_rows.specs.Firm.{Firm}
-use Rattle.firm_rows.specs.FirmChange.{FirmChange, FitsFirm, after}
 use Rattle.trust_store.specs.Books.{counted}
-use Rattle.trust_store.specs.Crashes.{LeavesAlone}
-use Rattle.sql_schema.specs.declared.layout.Layout.{Layout}
-use Rattle.sql_tables.specs.declared.statements.Statement.{Statement}
-use Rattle.sql_tables.specs.Lists.{lists_in}
 use Rattle.sql_tables.specs.Reading.{LeavesOnly}
-use Rattle.sql_tables.specs.Script.{IsSettled, Written}
-use Rattle.sql_tables.specs.Standing.{Stands}
 use Rattle.sql_rows.specs.Scripts.{IsTyped, IsScriptMeant}
-use Rattle.sql_rows.specs.Standing.{StandsSound, firm_in}
-use Rattle.sql_rows.specs.Steps.{step_of, steps_of, AreMade}
-use Rattle.sql_book.specs.Books.{HeldBook, firm_of, MayLeave}
-use Rattle.sql_book.specs.Writes.{IsBookWrite, FitsBook}
 use Rattle.sql_book.proofs.Scripts.{made_of_steps, keyed}
 
 both_ok : {T E P Q R : Type 0} (r : Result T E) → OnOk r P → OnOk r Q → (P → Q → R) → OnOk r R
@@ -74,59 +56,61 @@ holding conn layout refusals = record { conn = conn; layout = layout; refusals =
 module _ {S : Type 0} (g : Ghosts S) (l : Layout) (before now : Held S) (few many : ℕ) (change : FirmChange)
     (script : List Statement) (some : script ≢ []) (meant : IsScriptMeant change) (typed : IsTyped change)
     (is : map step_of script ≡ steps_of change) (result : Result Unit StoreFault)
-    (w : Wrote script result (state g before) (state g now)) (count : many ≡ counted result few)
-    (fits : FitsBook g change (holding before l few)) where
+    (w : Wrote script result (state g before) (state g now)) (count : many ≡ counted result few) where
+  abbrev Fits : Type 0
+  Fits = FitsBook g change (holding before l few)
+
   abbrev s : State
   s = state g before
 
   abbrev t : State
   t = state g now
 
-  left : HasCleanDisk t → StandsSound l s.now → IsTrue s.is_open → (db : Database) → Written l script s.now db
+  left : Fits → HasCleanDisk t → StandsSound l s.now → IsTrue s.is_open → (db : Database) → Written l script s.now db
       → StandsAfter l change s.now db
-  left clean stands served db written =
+  left fits clean stands served db written =
       stands_after l change script s.now db meant typed is stands (fits (w.was_clean clean, served) stands) some written
 
   -- a connection that answered served before
-  made : HasCleanDisk t → StandsSound l s.now → OnOk result (StandsAfter l change s.now t.now)
-  made clean stands =
+  made : Fits → HasCleanDisk t → StandsSound l s.now → OnOk result (StandsAfter l change s.now t.now)
+  made fits clean stands =
       both_ok result (on_ok_weaker result (w.was_open clean) (w.serves clean)) (w.written l clean stands.tables)
-      (λ served written. left clean stands served t.now written)
+      (λ served written. left fits clean stands served t.now written)
 
-  may_be : HasCleanDisk t → StandsSound l s.now → (trees : Trees) → t.may_leave trees
+  may_be : Fits → HasCleanDisk t → StandsSound l s.now → (trees : Trees) → t.may_leave trees
       → s.may_leave trees ⊎ ((db : Database) × StandsAfter l change s.now db × (trees ≡ db.trees))
-  may_be clean stands trees may = elim (w.opened clean some trees may) [
+  may_be fits clean stands trees may = elim (w.opened clean some trees may) [
     | inl before ↦ inl before
     | inr served ↦ elim (w.crash l clean stands.tables trees may) [
       | inl before ↦ inl before
-      | inr it ↦ inr (it.0, left clean stands served it.0 it.1, it.2)
+      | inr it ↦ inr (it.0, left fits clean stands served it.0 it.1, it.2)
     ]
   ]
 
-  is_write : IsBookWrite g change result (holding before l few) (holding now l many)
+  is_write : IsBookWriteIf g Fits change result (holding before l few) (holding now l many)
   is_write = record {
-    ok = λ serves stands. on_ok_weaker result (λ m. m.firm) (made serves.0 stands);
+    ok = λ serves stands fits. on_ok_weaker result (λ m. m.firm) (made fits serves.0 stands);
     err = λ serves stands.
         on_err_weaker result (λ same. ap (λ (db : Database). firm_in l db.trees) same.0) (w.none serves.0 serves.1);
     was_clean = λ serves. (w.was_clean serves.0, w.was_open serves.0 serves.1);
     was_sure = w.was_clean;
-    still_stands = λ serves stands.
-        either_way result (made serves.0 stands) (w.none serves.0 serves.1) (λ m. m.stands)
+    still_stands = λ serves stands fits.
+        either_way result (made fits serves.0 stands) (w.none serves.0 serves.1) (λ m. m.stands)
         (λ same. subst (StandsSound l) (sym same.0) stands);
-    still_lasts = λ clean stands lasts trees may. elim (w.opened clean some trees may) [
+    still_lasts = λ clean stands fits lasts trees may. elim (w.opened clean some trees may) [
       | inl before ↦ lasts trees before
-      | inr served ↦ elim (may_be clean (stands (w.was_clean clean, served)) trees may) [
+      | inr served ↦ elim (may_be fits clean (stands (w.was_clean clean, served)) trees may) [
         | inl before ↦ lasts trees before
         | inr it ↦ record { db = it.0; left = it.2; listed = it.1.listed; stands = it.1.stands }
       ]
     ];
     serves = λ clean _. on_ok_weaker result (λ served. (clean, served)) (w.serves clean);
-    crash = λ clean stands found left. elim (may_be clean stands left.0 left.1) [
+    crash = λ clean stands fits found left. elim (may_be fits clean stands left.0 left.1) [
       | inl before ↦ inl (left.0, before, left.2)
       | inr it ↦ inr (left.2 ∙ ap (firm_in l) it.2 ∙ it.1.firm)
     ];
-    settled = λ clean stands.
-        both_ok result (w.settled clean) (made clean stands)
+    settled = λ clean stands fits.
+        both_ok result (w.settled clean) (made fits clean stands)
         (λ alone m _ found left. left.2 ∙ ap (firm_in l) (alone.1 left.0 left.1) ∙ m.firm);
     count = count;
   }
@@ -135,11 +119,11 @@ module _ {S : Type 0} (g : Ghosts S) (l : Layout) (before now : Held S) (few man
 pub wrote : {S : Type 0} (g : Ghosts S) (l : Layout) (before now : Held S) (few many : ℕ) (change : FirmChange)
     (script : List Statement) → script ≢ [] → IsScriptMeant change → IsTyped change → map step_of script ≡ steps_of change
     → (result : Result Unit StoreFault) → Wrote script result (state g before) (state g now) → many ≡ counted result few
-    → (old : HeldBook S) → holding before l few ≡ old → FitsBook g change old
-    → IsBookWrite g change result old (holding now l many)
-wrote g l before now few many change script some meant typed is result w count old held fits =
-    subst (λ b. FitsBook g change b → IsBookWrite g change result b (holding now l many)) held
-    (is_write g l before now few many change script some meant typed is result w count) fits
+    → (old : HeldBook S) → holding before l few ≡ old
+    → IsBookWriteIf g (FitsBook g change old) change result old (holding now l many)
+wrote g l before now few many change script some meant typed is result w count old held =
+    subst (λ b. IsBookWriteIf g (FitsBook g change b) change result b (holding now l many)) held
+    (is_write g l before now few many change script some meant typed is result w count)
 
 -- What holds of every answer.
 

@@ -18,20 +18,13 @@ use sql_tables::{FirmLineColumns, LeftColumns, MatterDay, MovementColumns, SeatN
 use std::alloc::{AllocError, Global};
 use trust_base::{Day, Line, MatterNo, PersonId};
 
-// The column of a matter's number.
-fn matter_column(matter: MatterNo) -> i64
-    ensures { result ≡ pos matter }
-{
-    matter.get() as i64
-}
-
 // The seat of a person in a matter.
 fn seat_name(matter: MatterNo, person: &PersonId) -> SeatName<'_>
     ensures matter { result.matter ≡ pos matter }
     ensures person { result.person.now ≡ person.now }
 {
     SeatName {
-        matter: matter_column(matter),
+        matter: matter.get() as i64,
         person: person.as_slice(),
     }
 }
@@ -42,7 +35,7 @@ fn day_columns(matter: MatterNo, day: Day) -> MatterDay
     ensures day { result.day ≡ pos day }
 {
     MatterDay {
-        matter: matter_column(matter),
+        matter: matter.get() as i64,
         day: day.get() as i64,
     }
 }
@@ -55,7 +48,7 @@ fn left_columns(matter: MatterNo, named: Left) -> LeftColumns
     ensures left { result.left_now ≡ pos named.left }
 {
     LeftColumns {
-        matter: matter_column(matter),
+        matter: matter.get() as i64,
         no: named.number.get() as i64,
         left_now: named.left as i64,
     }
@@ -146,9 +139,9 @@ pub(crate) fn edit_script<'a>(
             let script = [
                 Statement::Purged(day_columns(matter, *day)),
                 totals,
-                Statement::SeatsGone(matter_column(matter)),
-                Statement::EntriesGone(matter_column(matter)),
-                Statement::MovementsGone(matter_column(matter)),
+                Statement::SeatsGone(matter.get() as i64),
+                Statement::EntriesGone(matter.get() as i64),
+                Statement::MovementsGone(matter.get() as i64),
             ];
             Vec::from_slice(alloc, &script)
         }

@@ -10,7 +10,6 @@
 mod book;
 mod changes;
 pub mod laws;
-mod opening;
 
 pub use book::SqlBook;
 pub use sql_making::OpenFault;

@@ -1,40 +1,10 @@
 -- What a statement of the batch that copies, empties or sets makes of one table. The schema is that of this version
 -- then.
-use Rattle.std.proofs.Common.{◌≡◌, ◌≢◌, ℕ, ℤ, ◌<ℤ◌, true, false, not, List, [], ◌∷◌, ◌++◌, map, filter, slice_get, Option, Some, Ok, refl, sym, ap, ap₂, subst, subst₂, ◌∙◌, append-nil}
-use Rattle.std.specs.List.{AllByRecursion}
+use Rattle.sql_making.proofs.Names.{◌≡◌, ◌≢◌, ℕ, ℤ, ◌<ℤ◌, true, false, not, List, [], ◌∷◌, ◌++◌, map, filter, slice_get, Option, Some, Ok, refl, sym, ap, ap₂, subst, subst₂, ◌∙◌, append-nil, AllByRecursion, IsPermutation-map, Null, Int, Row, Trees, rowid, put_row, Query, IsAnswer, Output, output, overlay, Table, Enforced, Program, Insert, Delete, Chosen, ids_of, cast_row, edit_of, taken_by, with_rowid, numbered, without_all, put_all, IsKeyedBy, map-map, map_same, at_end, last_table, matches_are, Database, understood, Written, Edited, stamped, count_of, rowids_for, Counts, Task, State, ExecutesIn, IsPlain, command_of, one_step, Moved, book_schema, no_lets, goes_last, row_put, rows_gone, idle, went, same_value, inserts, deletes, removed}
 use Rattle.std.specs.List.Sorted.{IsPermutation}
 use Rattle.std.proofs.lemmas.List.{append_assoc}
-use Rattle.std.proofs.lemmas.List.Sorted.{IsPermutation-map}
-use Rattle.sqlite_value.specs.declared.value.Value.TheVariants.{Null, Int}
-use Rattle.sqlite_value.specs.Order.{Row}
-use Rattle.sqlite_trees.specs.Tree.{Trees, rowid, put_row}
-use Rattle.sqlite_sql.specs.Query.{Query, IsAnswer, Output, output}
-use Rattle.sqlite_sql.specs.Program.{overlay}
-use Rattle.sqlite_schema.specs.declared.schema.Table.{Table}
-use Rattle.sqlite_schema.specs.declared.schema.Keys.TheVariants.{Enforced}
-use Rattle.sqlite_schema.specs.declared.program.Program.{Program}
 use Rattle.sqlite_schema.specs.declared.command.Source.TheVariants as source
-use Rattle.sqlite_schema.specs.declared.command.Command.TheVariants.{Insert, Delete}
-use Rattle.sqlite_rules.specs.declared.error.Rowids.TheVariants.{Chosen}
-use Rattle.sqlite_rules.specs.Calls.{ids_of}
-use Rattle.sqlite_rules.specs.Cast.{cast_row}
-use Rattle.sqlite_rules.specs.Edit.{edit_of, taken_by, with_rowid, numbered, without_all, put_all}
-use Rattle.sqlite_keyed.specs.Keyed.{IsKeyedBy}
-use Rattle.sqlite_keyed.proofs.ListLemmas.{map-map, map_same}
-use Rattle.sqlite_typed.proofs.AnswerLemmas.{at_end, last_table, matches_are}
-use Rattle.sqlite.specs.Effect.{Database}
-use Rattle.sqlite.specs.Listing.{understood}
-use Rattle.sqlite.specs.Rows.{Written, Edited, stamped, count_of, rowids_for, Counts, Task}
-use Rattle.sqlite.specs.State.{State, ExecutesIn}
-use Rattle.sqlite.proofs.Callers.{IsPlain, command_of, one_step}
-use Rattle.sql_schema.specs.declared.layout.Layout.TheVariants.{Moved}
-use Rattle.sql_schema.specs.Schema.{book_schema}
 use Rattle.sql_tables.specs.Picking.{picked}
-use Rattle.sql_tables.proofs.Calls.{no_lets}
-use Rattle.sql_tables.proofs.Casts.{goes_last}
-use Rattle.sql_tables.proofs.Kept.{row_put, rows_gone}
-use Rattle.sql_tables.proofs.Tables.{idle}
-use Rattle.sql_tables.proofs.Writes.{went, same_value, inserts, deletes, removed}
 use Rattle.sql_making.proofs.Creates.{runs_in_batch}
 
 -- the schema stays, and so do the rows of every other table
@@ -130,10 +100,6 @@ module _ (at : ℕ) (table : Table) (place : slice_get (book_schema Moved).table
 none_left : {X : Type 0} (xs : List X) → filter (λ _. not true) xs ≡ []
 none_left [] = refl
 none_left (x ∷ xs) = none_left xs
-
-pub all_kept : {X : Type 0} (xs : List X) → filter (λ _. true) xs ≡ xs
-all_kept [] = refl
-all_kept (x ∷ xs) = ap (λ l. x ∷ l) (all_kept xs)
 
 module _ (at : ℕ) (table : Table) (place : slice_get (book_schema Moved).tables at ≡ Some table) (no_terms : table.stamps.terms ≡ []) (no_formats : table.stamps.formats ≡ []) (part : List ℕ) (plain : IsPlain (understood (book_schema Moved) part))
     (old new : State) (count : ℕ) (has : old.now.schema ≡ book_schema Moved) (h : ExecutesIn true part [] old new (Ok count)) where

@@ -1,26 +1,6 @@
 -- What a CREATE TABLE makes of a database that has no row.
-use Rattle.std.proofs.Common.{◌≡◌, inl, inr, ℕ, Bool, true, false, List, [], ◌∷◌, ◌++◌, None, Ok, MatchBool, refl, sym, ap, subst, subst₂, ◌∙◌}
-use Rattle.std.specs.List.{AllByRecursion}
+use Rattle.sql_making.proofs.Names.{◌≡◌, inl, inr, ℕ, Bool, true, false, List, [], ◌∷◌, ◌++◌, None, Ok, MatchBool, refl, sym, ap, subst, subst₂, ◌∙◌, AllByRecursion, Trees, Table, Schema, Command, CreateTable, table_defined_by, created, next_tree, KeepsRows, everything, timed, Database, understood, Tally, MakesTable, MakesSequence, lacks_sequence, sequence_text, Gives, State, ExecutesIn, Runs, text_of, shows_rows, IsPlain, command_of, statement_of, Made, sequence_table, IsBlank, went, same_value}
 use Rattle.std.proofs.lemmas.Bool.{cases_Bool}
-use Rattle.sqlite_trees.specs.Tree.{Trees}
-use Rattle.sqlite_schema.specs.declared.schema.Table.{Table}
-use Rattle.sqlite_schema.specs.declared.schema.Schema.{Schema}
-use Rattle.sqlite_schema.specs.declared.command.Command.{Command}
-use Rattle.sqlite_schema.specs.declared.command.Command.TheVariants.{CreateTable}
-use Rattle.sqlite_resolve.specs.Compile.{table_defined_by}
-use Rattle.sqlite_catalog.specs.Change.{created, next_tree, KeepsRows}
-use Rattle.sqlite_tied.specs.Compute.{everything}
-use Rattle.sqlite.specs.Clock.{timed}
-use Rattle.sqlite.specs.Effect.{Database}
-use Rattle.sqlite.specs.Listing.{understood}
-use Rattle.sqlite.specs.Does.{Tally, MakesTable, MakesSequence, lacks_sequence, sequence_text}
-use Rattle.sqlite.specs.Rows.{Gives}
-use Rattle.sqlite.specs.State.{State, ExecutesIn, Runs, text_of, shows_rows}
-use Rattle.sqlite.proofs.Callers.{IsPlain, command_of, statement_of}
-use Rattle.sql_schema.specs.declared.layout.Layout.TheVariants.{Made}
-use Rattle.sql_schema.specs.Schema.{sequence_table}
-use Rattle.sql_making.specs.Books.{IsBlank}
-use Rattle.sql_tables.proofs.Writes.{went, same_value}
 
 -- a statement of a batch, as the command that its text means
 pub runs_in_batch : (sql : List ℕ) (old new : State) (schema : Schema) (has : old.now.schema ≡ schema) (command : Command) (is : command_of (understood schema sql) ≡ command)

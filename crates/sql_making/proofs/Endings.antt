@@ -1,7 +1,5 @@
 -- How calls of a connection end.
-use Rattle.std.proofs.Common.{◌≡◌, inl, inr, Result, Ok, Err, IfOk, IfErr, OnOk, IsTrue, sym, ◌∙◌}
-use Rattle.sqlite.specs.declared.error.Error.{Error}
-use Rattle.sqlite.specs.State.{State, KeepsCommit}
+use Rattle.sql_making.proofs.Names.{◌≡◌, inl, inr, Result, Ok, Err, IfOk, IfErr, OnOk, IsTrue, sym, ◌∙◌, Error, State, KeepsCommit}
 use Rattle.sqlite.specs.Steps.{FailsToCommit}
 
 pub if_ok : {T E P : Type 0} {Q : T → Type 0} (r : Result T E) → IfOk r Q → ((x : T) → Q x → P) → OnOk r P

@@ -16,3 +16,4 @@ pub mod Version
 pub mod Steps
 pub mod MovedWhole
 pub mod Ends
+mod Names

@@ -1,16 +1,5 @@
 -- What a CREATE TABLE makes of a database that has rows.
-use Rattle.std.proofs.Common.{◌≡◌, ℕ, true, false, List, [], Ok, sym, ap, subst, ◌∙◌}
-use Rattle.sqlite_schema.specs.declared.schema.Table.{Table}
-use Rattle.sqlite_schema.specs.declared.schema.Schema.{Schema}
-use Rattle.sqlite_schema.specs.declared.command.Command.TheVariants.{CreateTable}
-use Rattle.sqlite_resolve.specs.Compile.{table_defined_by}
-use Rattle.sqlite_catalog.specs.Change.{created, next_tree, KeepsRows}
-use Rattle.sqlite.specs.Effect.{Database}
-use Rattle.sqlite.specs.Listing.{understood}
-use Rattle.sqlite.specs.Does.{Tally, MakesTable, lacks_sequence}
-use Rattle.sqlite.specs.State.{State, ExecutesIn}
-use Rattle.sqlite.proofs.Callers.{IsPlain, command_of, statement_of}
-use Rattle.sql_tables.proofs.Writes.{went, same_value}
+use Rattle.sql_making.proofs.Names.{◌≡◌, ℕ, true, false, List, [], Ok, sym, ap, subst, ◌∙◌, Table, Schema, CreateTable, table_defined_by, created, next_tree, KeepsRows, Database, understood, Tally, MakesTable, lacks_sequence, State, ExecutesIn, IsPlain, command_of, statement_of, went, same_value}
 use Rattle.sql_making.proofs.Creates.{runs_in_batch}
 
 -- what is proved of the text of a CREATE TABLE, by running its meaning

@@ -1,31 +1,12 @@
 -- What the whole text makes of a database of version 1.
-use Rattle.std.proofs.Common.{◌≡◌, inl, inr, ℕ, ℤ, zero, suc, true, List, [], ◌∷◌, map, length, Some, Ok, refl, sym, ap, subst, ◌∙◌, arith}
-use Rattle.std.specs.List.{AllByRecursion}
-use Rattle.sqlite_value.specs.declared.value.Value.{Value}
-use Rattle.sqlite_value.specs.declared.value.Value.TheVariants.{Int}
-use Rattle.sqlite_value.specs.Order.{Row, column}
-use Rattle.sqlite_trees.specs.declared.store.Store.{Ghosts}
-use Rattle.sqlite_trees.specs.Tree.{Trees}
-use Rattle.sqlite_schema.specs.declared.schema.Schema.{Schema}
-use Rattle.sqlite_keyed.specs.Keyed.{IsKeyedBy}
-use Rattle.sqlite_keyed.proofs.ListLemmas.{map-map}
-use Rattle.sqlite.specs.Effect.{Database, IsDatabase}
-use Rattle.sqlite.specs.Batch.{Step, RunInTurn, ExecutesAllInside}
-use Rattle.sqlite.specs.Held.{Held, state}
-use Rattle.sqlite.specs.State.{State, ExecutesIn}
-use Rattle.sql_schema.specs.declared.layout.Layout.TheVariants.{Moved}
-use Rattle.sql_schema.specs.Schema.{book_schema, version_now}
-use Rattle.sql_tables.specs.Rows.{Head, head_row, head_in, Seat, seat_row, seat_in, Entry, entry_row, entry_in}
-use Rattle.sql_tables.specs.Standing.{Holds, SeatsHold, EntriesHold, MovementsHold, FirmLinesHold, ExceptionsHold, BalancesHold}
+use Rattle.sql_making.proofs.Names.{◌≡◌, ℕ, ℤ, true, List, [], ◌∷◌, map, length, Ok, refl, sym, ap, subst, ◌∙◌, AllByRecursion, Value, Int, Row, column, Ghosts, Trees, Schema, IsKeyedBy, map-map, Database, IsDatabase, ExecutesAllInside, Held, state, State, ExecutesIn, Moved, book_schema, version_now, Head, head_row, head_in, Seat, seat_row, seat_in, Entry, entry_row, entry_in, Holds, SeatsHold, EntriesHold, MovementsHold, FirmLinesHold, ExceptionsHold, BalancesHold, old_schema, version_then, move_text, version_set_part, after_entries_made, after_heads_emptied, old_head_row, old_head_in, Stood, numbered_versions, IsOldBook, SameRows, IsMoved}
 use Rattle.sql_making.proofs.Parts.{IsFirst}
-use Rattle.sql_schema.specs.Old.{old_schema, version_then}
-use Rattle.sql_making.specs.Text.{move_text, version_set_part, after_entries_made, after_heads_emptied}
-use Rattle.sql_making.specs.Then.{old_head_row, old_head_in, Stood, numbered_versions, IsOldBook, SameRows, IsMoved}
+use Rattle.sql_making.proofs.Whole.{Turns, turn}
 use Rattle.sql_making.proofs.MovedCreates.{Creates, HasCreated, creates}
 use Rattle.sql_making.proofs.MovedParts.{heads_made_first, seats_made_first, entries_made_first, heads_copied_first, seats_copied_first, entries_copied_first, entries_emptied_first, seats_emptied_first, heads_emptied_first, version_set_first}
 use Rattle.sql_making.proofs.MovedStages as stage
 use Rattle.sql_making.proofs.Changes.{IsElsewhere}
-use Rattle.sql_making.proofs.Tables.{Twelve, twelve, but_heads, but_seats, but_entries, but_old_entries, but_old_seats, but_old_heads, but_book}
+use Rattle.sql_making.proofs.Tables.{Twelve, twelve, others_kept}
 use Rattle.sql_making.proofs.Steps.{new_head_row, Fills, Clears, copies_heads, copies_seats, copies_entries, empties_entries, empties_seats, empties_heads}
 use Rattle.sql_making.proofs.Version.{sets_version, sets_listed}
 
@@ -34,26 +15,15 @@ abbrev start : Trees → Twelve
 start db = record (twelve db) { heads = []; seats = []; entries = [] }
 
 module _ {S : Type 0} (g : Ghosts S) (new : Held S) where
-  abbrev Turns : List ℕ → Held S → Type 0
-  Turns text old = (most : ℕ) × RunInTurn g (Some 0) most text old new (Ok tt)
-
-  -- the first statement ran, and then the others
-  turn : (text part rest : List ℕ) (old : Held S) → IsFirst text part rest → Turns text old → (mid : Held S) × (count : ℕ) × Step g part old mid (Ok count) × Turns rest mid
-  turn [] part rest old is (most, h) = absurd (omega (arith, is.some))
-  turn (b ∷ more) part rest old is (zero, h) = absurd h
-  turn (b ∷ more) part rest old is (suc most, inl failed) = absurd (let e = failed.1 in cc)
-  turn (b ∷ more) part rest old is (suc most, inr ran) =
-      (ran.0, ran.1, subst (λ p. Step g p old ran.0 (Ok ran.1)) is.front ran.2, (most, subst (λ r. RunInTurn g (Some 0) most r ran.0 new (Ok tt)) is.after ran.3))
-
   -- after a CREATE TABLE
   record Made (schema after : Schema) (rest : List ℕ) (old : Held S) : Type 0 where
     at : Held S
     created : HasCreated schema after (state g old).now (state g at).now
-    turns : Turns rest at
+    turns : Turns g new rest at
 
-  make : {text part rest : List ℕ} {schema after : Schema} → Creates schema part after → IsFirst text part rest → (old : Held S) → (state g old).now.schema ≡ schema → Turns text old → Made schema after rest old
+  make : {text part rest : List ℕ} {schema after : Schema} → Creates schema part after → IsFirst text part rest → (old : Held S) → (state g old).now.schema ≡ schema → Turns g new text old → Made schema after rest old
   make {text} {part} {rest} {schema} {after} it is old has turns =
-      let ran = turn text part rest old is turns in
+      let ran = turn g new text part rest old is turns in
       record { at = ran.0; created = creates schema part after it (state g old) (state g ran.0) ran.1 has ran.2.runs; turns = ran.3 }
 
   -- the text is left to run on a database with these rows in its tables
@@ -61,9 +31,9 @@ module _ {S : Type 0} (g : Ghosts S) (new : Held S) where
     at : Held S
     has : (state g at).now.schema ≡ book_schema Moved
     holds : twelve (state g at).now.trees ≡ rows
-    turns : Turns text at
+    turns : Turns g new text at
 
-  begins : (old : Held S) → (state g old).now.schema ≡ old_schema → Turns move_text old → Left after_entries_made (start (state g old).now.trees)
+  begins : (old : Held S) → (state g old).now.schema ≡ old_schema → Turns g new move_text old → Left after_entries_made (start (state g old).now.trees)
   begins old has turns =
       let one = make stage.heads_made heads_made_first old has turns in
       let two = make stage.seats_made seats_made_first one.at one.created.schema_is one.turns in
@@ -119,7 +89,7 @@ module _ {S : Type 0} (g : Ghosts S) (new : Held S) where
       → (Does : Trees → Trees → Type 0) → ((a b : State) (count : ℕ) → a.now.schema ≡ book_schema Moved → ExecutesIn true part [] a b (Ok count) → IsElsewhere tree a.now b.now × Does a.now.trees b.now.trees)
       → Left text rows → Next rest rows put tree Does
   next {text} {part} {rest} {rows} is tree put but Does does l =
-      let ran = turn text part rest l.at is l.turns in
+      let ran = turn g new text part rest l.at is l.turns in
       let a = state g l.at in
       let b = state g ran.0 in
       let did = does a b ran.1 l.has ran.2.runs in
@@ -134,7 +104,7 @@ module _ {S : Type 0} (g : Ghosts S) (new : Held S) where
   -- the last statement leaves a database that lists what it holds
   listed_last : {rows : Twelve} → Left after_heads_emptied rows → IsDatabase (state g new).now
   listed_last l =
-      let ran = turn after_heads_emptied version_set_part [] l.at version_set_first l.turns in
+      let ran = turn g new after_heads_emptied version_set_part [] l.at version_set_first l.turns in
       subst (λ (x : Held S). IsDatabase (state g x).now) (sym ran.3.1.1) (sets_listed (state g l.at) (state g ran.0) ran.1 l.has ran.2.runs)
 
   -- the new rows of each table that changed, and what is known of them
@@ -162,13 +132,13 @@ module _ {S : Type 0} (g : Ghosts S) (new : Held S) where
   moves old has h =
       let db = (state g old).now.trees in
       let zeroth = begins old has (length move_text, h) in
-      let a = next heads_copied_first 13 (λ t v. record t { heads = v }) but_heads (Fills (λ (x : Head). x.no) old_head_row new_head_row 1 13) copies_heads zeroth in
-      let b = next seats_copied_first 14 (λ t v. record t { seats = v }) but_seats (Fills (λ (x : Seat). x.id) seat_row seat_row 2 14) copies_seats a.left in
-      let c = next entries_copied_first 16 (λ t v. record t { entries = v }) but_entries (Fills (λ (x : Entry). x.id) entry_row entry_row 4 16) copies_entries b.left in
-      let d = next entries_emptied_first 4 (λ t v. record t { old_entries = v }) but_old_entries (Clears (λ (x : Entry). x.id) entry_row 4) empties_entries c.left in
-      let e = next seats_emptied_first 2 (λ t v. record t { old_seats = v }) but_old_seats (Clears (λ (x : Seat). x.id) seat_row 2) empties_seats d.left in
-      let f = next heads_emptied_first 1 (λ t v. record t { old_heads = v }) but_old_heads (Clears (λ (x : Head). x.no) old_head_row 1) empties_heads e.left in
-      let k = next version_set_first 0 (λ t v. record t { book = v }) but_book
+      let a = next heads_copied_first 13 (λ t v. record t { heads = v }) (others_kept 13) (Fills (λ (x : Head). x.no) old_head_row new_head_row 1 13) copies_heads zeroth in
+      let b = next seats_copied_first 14 (λ t v. record t { seats = v }) (others_kept 14) (Fills (λ (x : Seat). x.id) seat_row seat_row 2 14) copies_seats a.left in
+      let c = next entries_copied_first 16 (λ t v. record t { entries = v }) (others_kept 16) (Fills (λ (x : Entry). x.id) entry_row entry_row 4 16) copies_entries b.left in
+      let d = next entries_emptied_first 4 (λ t v. record t { old_entries = v }) (others_kept 4) (Clears (λ (x : Entry). x.id) entry_row 4) empties_entries c.left in
+      let e = next seats_emptied_first 2 (λ t v. record t { old_seats = v }) (others_kept 2) (Clears (λ (x : Seat). x.id) seat_row 2) empties_seats d.left in
+      let f = next heads_emptied_first 1 (λ t v. record t { old_heads = v }) (others_kept 1) (Clears (λ (x : Head). x.no) old_head_row 1) empties_heads e.left in
+      let k = next version_set_first 0 (λ t v. record t { book = v }) (others_kept 0)
       (λ x y. (id : ℤ) (v : Value) → numbered_versions x ≡ (Int id ∷ v ∷ []) ∷ [] → map (λ (r : Row). column r 1) (y 0) ≡ Int version_now ∷ []) sets_version f.left in
       let last : new ≡ k.left.at = k.left.turns.1.1 in
       record {

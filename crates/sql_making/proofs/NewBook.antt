@@ -1,11 +1,5 @@
 -- A book that was just made.
-use Rattle.std.proofs.Common.{◌≡◌, ℤ, List, [], map, refl, ap}
-use Rattle.sqlite_value.specs.Order.{Row, column}
-use Rattle.sqlite.specs.Effect.{Database}
-use Rattle.sql_schema.specs.declared.layout.Layout.TheVariants.{Made}
-use Rattle.sql_tables.specs.Rows.{Head, head_row, head_in, Seat, seat_row, seat_in, Entry, entry_row, entry_in, Movement, movement_row, movement_in, FirmLine, firm_line_row, firm_line_in, Exception, exception_row, exception_in, Balance, balance_row, balance_in}
-use Rattle.sql_tables.specs.Standing.{Holds, Stands}
-use Rattle.sql_making.specs.Books.{IsBook, IsNewBook}
+use Rattle.sql_making.proofs.Names.{◌≡◌, ℤ, List, [], map, refl, ap, Row, column, Database, Made, Head, head_row, head_in, Seat, seat_row, seat_in, Entry, entry_row, entry_in, Movement, movement_row, movement_in, FirmLine, firm_line_row, firm_line_in, Exception, exception_row, exception_in, Balance, balance_row, balance_in, Holds, Stands, IsBook, IsNewBook}
 
 -- it is one that may be taken
 pub is_book : (db : Database) → IsNewBook db → IsBook Made db

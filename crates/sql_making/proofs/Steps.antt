@@ -1,25 +1,8 @@
 -- What each statement that copies or empties makes of its table.
-use Rattle.std.proofs.Common.{◌≡◌, ℕ, ℤ, pos, true, List, [], ◌∷◌, map, Ok, refl, sym, ap, ap₂, ◌∙◌, map-id}
-use Rattle.sqlite_value.specs.declared.value.Value.TheVariants.{Null}
-use Rattle.sqlite_value.specs.Order.{Row}
-use Rattle.sqlite_value.proofs.OrderLemmas.{value_cmp-Int}
-use Rattle.sqlite_trees.specs.Tree.{Trees}
-use Rattle.sqlite_sql.specs.Query.{IsAnswer}
-use Rattle.sqlite_sql.specs.Program.{overlay}
-use Rattle.sqlite_rules.specs.Cast.{cast_row}
-use Rattle.sqlite_keyed.specs.Keyed.{IsKeyedBy}
-use Rattle.sqlite_typed.proofs.AnswerLemmas.{at_end, last_table, answer_by_keys}
+use Rattle.sql_making.proofs.Names.{◌≡◌, ℕ, ℤ, pos, true, List, [], ◌∷◌, map, Ok, refl, sym, ap, ap₂, ◌∙◌, map-id, Null, Row, value_cmp-Int, Trees, IsAnswer, overlay, cast_row, IsKeyedBy, at_end, last_table, answer_by_keys, State, ExecutesIn, Moved, book_schema, matter_place, matter_table, seat_place, seat_table, entry_place, entry_table, old_matter_table, old_seat_table, old_entry_table, Head, head_row, head_shown, Seat, seat_row, seat_values, Entry, entry_row, entry_values, no_lets, cast_int, cast_kept, all_kept, heads_copied_part, seats_copied_part, entries_copied_part, heads_emptied_part, seats_emptied_part, entries_emptied_part, old_head_row}
 use Rattle.sqlite_typed.proofs.TestLemmas.{last_key}
-use Rattle.sqlite.specs.State.{State, ExecutesIn}
-use Rattle.sql_schema.specs.declared.layout.Layout.TheVariants.{Moved}
-use Rattle.sql_schema.specs.Schema.{book_schema, matter_place, matter_table, seat_place, seat_table, entry_place, entry_table, old_matter_table, old_seat_table, old_entry_table}
-use Rattle.sql_tables.specs.Rows.{Head, head_row, head_shown, Seat, seat_row, seat_values, Entry, entry_row, entry_values}
-use Rattle.sql_tables.proofs.Calls.{no_lets}
-use Rattle.sql_tables.proofs.Casts.{cast_int, cast_kept}
-use Rattle.sql_making.specs.Text.{heads_copied_part, seats_copied_part, entries_copied_part, heads_emptied_part, seats_emptied_part, entries_emptied_part}
-use Rattle.sql_making.specs.Then.{old_head_row}
 use Rattle.sql_making.proofs.Means.{heads_copied_query, heads_copied_is, heads_copied_plain, seats_copied_query, seats_copied_is, seats_copied_plain, entries_copied_query, entries_copied_is, entries_copied_plain, heads_emptied_is, heads_emptied_plain, seats_emptied_is, seats_emptied_plain, entries_emptied_is, entries_emptied_plain}
-use Rattle.sql_making.proofs.Changes.{IsElsewhere, copies, filled, empties, emptied, all_kept}
+use Rattle.sql_making.proofs.Changes.{IsElsewhere, copies, filled, empties, emptied}
 
 -- a head with the column that was added
 abbrev pub new_head_row : Head → Row

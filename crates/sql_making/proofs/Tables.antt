@@ -1,5 +1,7 @@
 -- The rows of all tables of a database that rows were moved in. Written by tools/moving-tables.
-use Rattle.std.proofs.Common.{◌≡◌, List, arith}
+use Rattle.std.proofs.Common.{◌≡◌, ◌≢◌, inl, inr, ℕ, ◌==◌, true, false, List, cond, ap, arith}
+use Rattle.std.proofs.lemmas.Bool.{cases_Bool}
+use Rattle.std.proofs.lemmas.Bool.Decides.{nat_tests}
 use Rattle.sqlite_value.specs.Order.{Row}
 use Rattle.sqlite_trees.specs.Tree.{Trees}
 use Rattle.sqlite.specs.Effect.{Database}
@@ -35,114 +37,34 @@ twelve db = record {
   entries = db 16;
 }
 
-pub but_heads : (old new : Database) → IsElsewhere 13 old new → twelve new.trees ≡ record (twelve old.trees) { heads = new.trees 13 }
-but_heads old new it = λ i. record {
-  book = it.others.0 (λ e. omega (arith, e)) i;
-  old_heads = it.others.1.0 (λ e. omega (arith, e)) i;
-  old_seats = it.others.1.1.0 (λ e. omega (arith, e)) i;
-  old_entries = it.others.1.1.1.0 (λ e. omega (arith, e)) i;
-  movements = it.others.1.1.1.1.0 (λ e. omega (arith, e)) i;
-  counts = it.others.1.1.1.1.1.0 (λ e. omega (arith, e)) i;
-  firm_lines = it.others.1.1.1.1.1.1.0 (λ e. omega (arith, e)) i;
-  exceptions = it.others.1.1.1.1.1.1.1.0 (λ e. omega (arith, e)) i;
-  balances = it.others.1.1.1.1.1.1.1.1.0 (λ e. omega (arith, e)) i;
-  heads = new.trees 13;
-  seats = it.others.1.1.1.1.1.1.1.1.1.1.0 (λ e. omega (arith, e)) i;
-  entries = it.others.1.1.1.1.1.1.1.1.1.1.1.0 (λ e. omega (arith, e)) i;
-}
+-- the tables with the rows of one of them changed
+abbrev with_rows : Trees → ℕ → List Row → Trees
+with_rows db tree rows t = cond (t == tree) rows (db t)
 
-pub but_seats : (old new : Database) → IsElsewhere 14 old new → twelve new.trees ≡ record (twelve old.trees) { seats = new.trees 14 }
-but_seats old new it = λ i. record {
-  book = it.others.0 (λ e. omega (arith, e)) i;
-  old_heads = it.others.1.0 (λ e. omega (arith, e)) i;
-  old_seats = it.others.1.1.0 (λ e. omega (arith, e)) i;
-  old_entries = it.others.1.1.1.0 (λ e. omega (arith, e)) i;
-  movements = it.others.1.1.1.1.0 (λ e. omega (arith, e)) i;
-  counts = it.others.1.1.1.1.1.0 (λ e. omega (arith, e)) i;
-  firm_lines = it.others.1.1.1.1.1.1.0 (λ e. omega (arith, e)) i;
-  exceptions = it.others.1.1.1.1.1.1.1.0 (λ e. omega (arith, e)) i;
-  balances = it.others.1.1.1.1.1.1.1.1.0 (λ e. omega (arith, e)) i;
-  heads = it.others.1.1.1.1.1.1.1.1.1.0 (λ e. omega (arith, e)) i;
-  seats = new.trees 14;
-  entries = it.others.1.1.1.1.1.1.1.1.1.1.1.0 (λ e. omega (arith, e)) i;
-}
+same_table : (t tree : ℕ) → (t == tree) ≡ true → t ≡ tree
+same_table t tree is = grind (arith, nat_tests)
 
-pub but_entries : (old new : Database) → IsElsewhere 16 old new → twelve new.trees ≡ record (twelve old.trees) { entries = new.trees 16 }
-but_entries old new it = λ i. record {
-  book = it.others.0 (λ e. omega (arith, e)) i;
-  old_heads = it.others.1.0 (λ e. omega (arith, e)) i;
-  old_seats = it.others.1.1.0 (λ e. omega (arith, e)) i;
-  old_entries = it.others.1.1.1.0 (λ e. omega (arith, e)) i;
-  movements = it.others.1.1.1.1.0 (λ e. omega (arith, e)) i;
-  counts = it.others.1.1.1.1.1.0 (λ e. omega (arith, e)) i;
-  firm_lines = it.others.1.1.1.1.1.1.0 (λ e. omega (arith, e)) i;
-  exceptions = it.others.1.1.1.1.1.1.1.0 (λ e. omega (arith, e)) i;
-  balances = it.others.1.1.1.1.1.1.1.1.0 (λ e. omega (arith, e)) i;
-  heads = it.others.1.1.1.1.1.1.1.1.1.0 (λ e. omega (arith, e)) i;
-  seats = it.others.1.1.1.1.1.1.1.1.1.1.0 (λ e. omega (arith, e)) i;
-  entries = new.trees 16;
-}
+other_table : (t tree : ℕ) → (t == tree) ≡ false → t ≢ tree
+other_table t tree is = grind (arith, nat_tests)
 
-pub but_old_entries : (old new : Database) → IsElsewhere 4 old new → twelve new.trees ≡ record (twelve old.trees) { old_entries = new.trees 4 }
-but_old_entries old new it = λ i. record {
-  book = it.others.0 (λ e. omega (arith, e)) i;
-  old_heads = it.others.1.0 (λ e. omega (arith, e)) i;
-  old_seats = it.others.1.1.0 (λ e. omega (arith, e)) i;
-  old_entries = new.trees 4;
-  movements = it.others.1.1.1.1.0 (λ e. omega (arith, e)) i;
-  counts = it.others.1.1.1.1.1.0 (λ e. omega (arith, e)) i;
-  firm_lines = it.others.1.1.1.1.1.1.0 (λ e. omega (arith, e)) i;
-  exceptions = it.others.1.1.1.1.1.1.1.0 (λ e. omega (arith, e)) i;
-  balances = it.others.1.1.1.1.1.1.1.1.0 (λ e. omega (arith, e)) i;
-  heads = it.others.1.1.1.1.1.1.1.1.1.0 (λ e. omega (arith, e)) i;
-  seats = it.others.1.1.1.1.1.1.1.1.1.1.0 (λ e. omega (arith, e)) i;
-  entries = it.others.1.1.1.1.1.1.1.1.1.1.1.0 (λ e. omega (arith, e)) i;
-}
+kept : (t tree : ℕ) (db next : Trees) → (t ≢ tree → next t ≡ db t) → next t ≡ with_rows db tree (next tree) t
+kept t tree db next same = elim (cases_Bool (t == tree)) [
+  | inl b ↦ rw b (ap next (same_table t tree b))
+  | inr b ↦ rw b (same (other_table t tree b))
+]
 
-pub but_old_seats : (old new : Database) → IsElsewhere 2 old new → twelve new.trees ≡ record (twelve old.trees) { old_seats = new.trees 2 }
-but_old_seats old new it = λ i. record {
-  book = it.others.0 (λ e. omega (arith, e)) i;
-  old_heads = it.others.1.0 (λ e. omega (arith, e)) i;
-  old_seats = new.trees 2;
-  old_entries = it.others.1.1.1.0 (λ e. omega (arith, e)) i;
-  movements = it.others.1.1.1.1.0 (λ e. omega (arith, e)) i;
-  counts = it.others.1.1.1.1.1.0 (λ e. omega (arith, e)) i;
-  firm_lines = it.others.1.1.1.1.1.1.0 (λ e. omega (arith, e)) i;
-  exceptions = it.others.1.1.1.1.1.1.1.0 (λ e. omega (arith, e)) i;
-  balances = it.others.1.1.1.1.1.1.1.1.0 (λ e. omega (arith, e)) i;
-  heads = it.others.1.1.1.1.1.1.1.1.1.0 (λ e. omega (arith, e)) i;
-  seats = it.others.1.1.1.1.1.1.1.1.1.1.0 (λ e. omega (arith, e)) i;
-  entries = it.others.1.1.1.1.1.1.1.1.1.1.1.0 (λ e. omega (arith, e)) i;
-}
-
-pub but_old_heads : (old new : Database) → IsElsewhere 1 old new → twelve new.trees ≡ record (twelve old.trees) { old_heads = new.trees 1 }
-but_old_heads old new it = λ i. record {
-  book = it.others.0 (λ e. omega (arith, e)) i;
-  old_heads = new.trees 1;
-  old_seats = it.others.1.1.0 (λ e. omega (arith, e)) i;
-  old_entries = it.others.1.1.1.0 (λ e. omega (arith, e)) i;
-  movements = it.others.1.1.1.1.0 (λ e. omega (arith, e)) i;
-  counts = it.others.1.1.1.1.1.0 (λ e. omega (arith, e)) i;
-  firm_lines = it.others.1.1.1.1.1.1.0 (λ e. omega (arith, e)) i;
-  exceptions = it.others.1.1.1.1.1.1.1.0 (λ e. omega (arith, e)) i;
-  balances = it.others.1.1.1.1.1.1.1.1.0 (λ e. omega (arith, e)) i;
-  heads = it.others.1.1.1.1.1.1.1.1.1.0 (λ e. omega (arith, e)) i;
-  seats = it.others.1.1.1.1.1.1.1.1.1.1.0 (λ e. omega (arith, e)) i;
-  entries = it.others.1.1.1.1.1.1.1.1.1.1.1.0 (λ e. omega (arith, e)) i;
-}
-
-pub but_book : (old new : Database) → IsElsewhere 0 old new → twelve new.trees ≡ record (twelve old.trees) { book = new.trees 0 }
-but_book old new it = λ i. record {
-  book = new.trees 0;
-  old_heads = it.others.1.0 (λ e. omega (arith, e)) i;
-  old_seats = it.others.1.1.0 (λ e. omega (arith, e)) i;
-  old_entries = it.others.1.1.1.0 (λ e. omega (arith, e)) i;
-  movements = it.others.1.1.1.1.0 (λ e. omega (arith, e)) i;
-  counts = it.others.1.1.1.1.1.0 (λ e. omega (arith, e)) i;
-  firm_lines = it.others.1.1.1.1.1.1.0 (λ e. omega (arith, e)) i;
-  exceptions = it.others.1.1.1.1.1.1.1.0 (λ e. omega (arith, e)) i;
-  balances = it.others.1.1.1.1.1.1.1.1.0 (λ e. omega (arith, e)) i;
-  heads = it.others.1.1.1.1.1.1.1.1.1.0 (λ e. omega (arith, e)) i;
-  seats = it.others.1.1.1.1.1.1.1.1.1.1.0 (λ e. omega (arith, e)) i;
-  entries = it.others.1.1.1.1.1.1.1.1.1.1.1.0 (λ e. omega (arith, e)) i;
+pub others_kept : (tree : ℕ) (old new : Database) → IsElsewhere tree old new → twelve new.trees ≡ twelve (with_rows old.trees tree (new.trees tree))
+others_kept tree old new it = λ i. record {
+  book = kept 0 tree old.trees new.trees it.others.0 i;
+  old_heads = kept 1 tree old.trees new.trees it.others.1.0 i;
+  old_seats = kept 2 tree old.trees new.trees it.others.1.1.0 i;
+  old_entries = kept 4 tree old.trees new.trees it.others.1.1.1.0 i;
+  movements = kept 6 tree old.trees new.trees it.others.1.1.1.1.0 i;
+  counts = kept 7 tree old.trees new.trees it.others.1.1.1.1.1.0 i;
+  firm_lines = kept 8 tree old.trees new.trees it.others.1.1.1.1.1.1.0 i;
+  exceptions = kept 9 tree old.trees new.trees it.others.1.1.1.1.1.1.1.0 i;
+  balances = kept 11 tree old.trees new.trees it.others.1.1.1.1.1.1.1.1.0 i;
+  heads = kept 13 tree old.trees new.trees it.others.1.1.1.1.1.1.1.1.1.0 i;
+  seats = kept 14 tree old.trees new.trees it.others.1.1.1.1.1.1.1.1.1.1.0 i;
+  entries = kept 16 tree old.trees new.trees it.others.1.1.1.1.1.1.1.1.1.1.1.0 i;
 }

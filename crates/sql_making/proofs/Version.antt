@@ -1,33 +1,8 @@
 -- What UPDATE makes of the version.
-use Rattle.std.proofs.Common.{◌≡◌, ℕ, ℤ, true, List, [], ◌∷◌, map, Ok, refl, sym, ap, subst, ◌∙◌, arith, int_eq, IsPermutation}
+use Rattle.sql_making.proofs.Names.{◌≡◌, ℕ, ℤ, true, List, [], ◌∷◌, map, Ok, refl, sym, ap, subst, ◌∙◌, arith, int_eq, IsPermutation, flat_map_single, IsPermutation-map, Value, Null, Int, Row, column, value_cmp-Int, Trees, has_rowid, without_rowid, Output, output, IsAnswer, overlay, Program, Given, ids_of, edit_of, edited, map-map, Database, IsDatabase, State, ExecutesIn, one_permutation, Moved, book_schema, book_table, version_now, cast_int, updates, updated, versions_in, version_set_part, numbered_versions, idle}
 use Rattle.std.proofs.lemmas.Int.{ints}
-use Rattle.std.proofs.lemmas.List.Concat.{flat_map_single}
-use Rattle.std.proofs.lemmas.List.Sorted.{IsPermutation-map}
-use Rattle.sqlite_value.specs.declared.value.Value.{Value}
-use Rattle.sqlite_value.specs.declared.value.Value.TheVariants.{Null, Int}
-use Rattle.sqlite_value.specs.Order.{Row, column}
-use Rattle.sqlite_value.proofs.OrderLemmas.{value_cmp-Int}
-use Rattle.sqlite_trees.specs.Tree.{Trees, has_rowid, without_rowid}
-use Rattle.sqlite_sql.specs.Query.{Output, output, IsAnswer}
-use Rattle.sqlite_sql.specs.Program.{overlay}
-use Rattle.sqlite_schema.specs.declared.program.Program.{Program}
-use Rattle.sqlite_rules.specs.declared.error.Rowids.TheVariants.{Given}
-use Rattle.sqlite_rules.specs.Calls.{ids_of}
-use Rattle.sqlite_rules.specs.Edit.{edit_of, edited}
-use Rattle.sqlite_keyed.proofs.ListLemmas.{map-map}
-use Rattle.sqlite.specs.Effect.{Database, IsDatabase}
-use Rattle.sqlite.specs.State.{State, ExecutesIn}
-use Rattle.sqlite.proofs.Callers.{one_permutation}
-use Rattle.sql_schema.specs.declared.layout.Layout.TheVariants.{Moved}
-use Rattle.sql_schema.specs.Schema.{book_schema, book_table, version_now}
-use Rattle.sql_tables.proofs.Casts.{cast_int}
-use Rattle.sql_tables.proofs.Writes.{updates, updated}
 use Rattle.sql_making.proofs.Creates.{runs_in_batch}
-use Rattle.sql_making.specs.Books.{versions_in}
-use Rattle.sql_making.specs.Text.{version_set_part}
-use Rattle.sql_making.specs.Then.{numbered_versions}
 use Rattle.sql_making.proofs.Means.{version_set_query, version_set_is, version_set_plain}
-use Rattle.sql_tables.proofs.Tables.{idle}
 use Rattle.sql_making.proofs.Changes.{IsElsewhere, elsewhere}
 
 -- what the UPDATE shows of a row: its number, and the row in its place

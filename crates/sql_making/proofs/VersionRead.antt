@@ -1,40 +1,13 @@
 -- What the text that reads the versions answers under the schema of a book of either version, and why it fails.
-use Rattle.std.proofs.Common.{◌≡◌, ◌⊎◌, inl, inr, ℕ, ◌<◌, ◌≤◌, ℤ, pos, negsuc, true, false, List, [], ◌∷◌, length, get_or, None, Option, Result, Ok, Err, IsSome, map, codes, refl, sym, ap, subst, subst₂, ◌∙◌, arith, IsPermutation}
-use Rattle.std.proofs.lemmas.List.Concat.{flat_map_single}
-use Rattle.std.proofs.lemmas.List.Sorted.{IsPermutation-map, IsPermutation-sym}
-use Rattle.sqlite_value.specs.declared.value.Value.{Value}
-use Rattle.sqlite_value.specs.declared.value.Value.TheVariants.{Null, Int}
+use Rattle.sql_making.proofs.Names.{◌≡◌, ◌⊎◌, inl, inr, ℕ, ◌<◌, ◌≤◌, ℤ, pos, negsuc, true, false, List, [], ◌∷◌, length, get_or, None, Option, Result, Ok, Err, IsSome, map, codes, refl, sym, ap, subst, subst₂, ◌∙◌, arith, IsPermutation, flat_map_single, IsPermutation-map, IsPermutation-sym, Value, Null, Int, Row, column, Trees, lit, col, Query, Output, inner, end, output, IsAnswer, overlay, Schema, Command, Select, map-map, everything, Error, timed, Database, RefusesToRead, understood, reads_listing, IsSourceOf, State, Shown, Fails, FailsToQuery, FailsToShow, IsNotRun, IsNoStatement, IsPlain, command_of, reads_as, one_permutation, Layout, Made, Moved, old_schema, book_schema, IsSelect, HasFailed, version_text, versions_in, HasVersions, numbered_versions}
 use Rattle.sqlite_value.specs.declared.keys.Collation.TheVariants.{Binary}
-use Rattle.sqlite_value.specs.Order.{Row, column}
 use Rattle.sqlite_trees.specs.declared.error.StoreError.{StoreError}
 use Rattle.sqlite_trees.specs.declared.error.StoreError.TheVariants.{OutOfMemory, Io, Corrupt, Full, Broken, Unstorable}
-use Rattle.sqlite_trees.specs.Tree.{Trees}
-use Rattle.sqlite_sql.specs.Term.{lit, col}
-use Rattle.sqlite_sql.specs.Query.{Query, Output, inner, end, output, IsAnswer}
-use Rattle.sqlite_sql.specs.Program.{overlay}
 use Rattle.sqlite_typing.specs.Types.{accepts_program}
 use Rattle.sqlite_resolve.specs.declared.compiled.Compiled.{Compiled}
 use Rattle.sqlite_resolve.specs.declared.error.CompileError.{CompileError}
-use Rattle.sqlite_schema.specs.declared.schema.Schema.{Schema}
-use Rattle.sqlite_schema.specs.declared.command.Command.{Command}
-use Rattle.sqlite_schema.specs.declared.command.Command.TheVariants.{Select}
-use Rattle.sqlite_keyed.proofs.ListLemmas.{map-map}
-use Rattle.sqlite_tied.specs.Compute.{everything}
 use Rattle.sqlite.specs.declared.error.ErrorCode.TheVariants as code
-use Rattle.sqlite.specs.declared.error.Error.{Error}
 use Rattle.sqlite.specs.declared.error.Error.TheVariants.{SqliteFailure}
-use Rattle.sqlite.specs.Clock.{timed}
-use Rattle.sqlite.specs.Effect.{Database, RefusesToRead}
-use Rattle.sqlite.specs.Listing.{understood, reads_listing, IsSourceOf}
-use Rattle.sqlite.specs.State.{State, Shown, Fails, FailsToQuery, FailsToShow, IsNotRun, IsNoStatement}
-use Rattle.sqlite.proofs.Callers.{IsPlain, command_of, reads_as, one_permutation}
-use Rattle.sql_schema.specs.declared.layout.Layout.{Layout}
-use Rattle.sql_schema.specs.declared.layout.Layout.TheVariants.{Made, Moved}
-use Rattle.sql_schema.specs.Old.{old_schema}
-use Rattle.sql_schema.specs.Schema.{book_schema}
-use Rattle.sql_tables.specs.Reading.{IsSelect}
-use Rattle.sql_making.specs.Books.{HasFailed, version_text, versions_in}
-use Rattle.sql_making.specs.Then.{HasVersions, numbered_versions}
 
 abbrev query : Query
 query = record {

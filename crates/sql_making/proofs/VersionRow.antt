@@ -1,31 +1,7 @@
 -- What the last statement of the text makes of the tables.
-use Rattle.std.proofs.Common.{◌≡◌, ◌≢◌, ℕ, pos, true, List, [], ◌∷◌, drop, None, Ok, refl, sym, ap, subst, ◌∙◌, arith}
-use Rattle.std.specs.List.{AllByRecursion}
-use Rattle.sqlite_value.specs.declared.value.Value.TheVariants.{Null, Int}
-use Rattle.sqlite_value.specs.Order.{Row}
-use Rattle.sqlite_trees.specs.Tree.{Trees}
-use Rattle.sqlite_sql.specs.Term.{lit}
-use Rattle.sqlite_schema.specs.declared.schema.Table.{Table}
-use Rattle.sqlite_schema.specs.declared.command.Command.{Command}
-use Rattle.sqlite_schema.specs.declared.command.Command.TheVariants.{Insert}
+use Rattle.sql_making.proofs.Names.{◌≡◌, ◌≢◌, ℕ, pos, true, List, [], ◌∷◌, drop, None, Ok, refl, sym, ap, subst, ◌∙◌, arith, AllByRecursion, Null, Int, Row, Trees, lit, Table, Command, Insert, Chosen, Edit, edit_of, edited, taken_by, Enforced, everything, Database, understood, Tally, Does, Written, Edited, State, ExecutesIn, mode_of, IsPlain, command_of, statement_of, one_step, Made, book_schema, book_table, version_now, version_part, IsBlank, IsNewBook, went, same_value, cast_int, cast_null}
 use Rattle.sqlite_schema.specs.declared.command.Source.TheVariants.{Values}
-use Rattle.sqlite_rules.specs.declared.error.Rowids.TheVariants.{Chosen}
-use Rattle.sqlite_rules.specs.Edit.{Edit, edit_of, edited, taken_by}
 use Rattle.sqlite_rules.specs.Action.{works}
-use Rattle.sqlite_schema.specs.declared.schema.Keys.TheVariants.{Enforced}
-use Rattle.sqlite_tied.specs.Compute.{everything}
-use Rattle.sqlite.specs.Effect.{Database}
-use Rattle.sqlite.specs.Listing.{understood}
-use Rattle.sqlite.specs.Does.{Tally, Does}
-use Rattle.sqlite.specs.Rows.{Written, Edited}
-use Rattle.sqlite.specs.State.{State, ExecutesIn, mode_of}
-use Rattle.sqlite.proofs.Callers.{IsPlain, command_of, statement_of, one_step}
-use Rattle.sql_schema.specs.declared.layout.Layout.TheVariants.{Made}
-use Rattle.sql_schema.specs.Schema.{book_schema, book_table, version_now}
-use Rattle.sql_schema.specs.Making.{version_part}
-use Rattle.sql_making.specs.Books.{IsBlank, IsNewBook}
-use Rattle.sql_tables.proofs.Writes.{went, same_value}
-use Rattle.sql_tables.proofs.Casts.{cast_int, cast_null}
 use Rattle.sql_making.proofs.Creates.{runs_in_batch}
 
 abbrev command : Command

@@ -1,24 +1,16 @@
 -- What the whole text makes of an empty database.
-use Rattle.std.proofs.Common.{◌≡◌, inl, inr, ℕ, zero, suc, List, [], ◌∷◌, length, Some, Ok, sym, subst, arith}
-use Rattle.sqlite_trees.specs.declared.store.Store.{Ghosts}
-use Rattle.sqlite_schema.specs.declared.schema.Schema.{Schema}
-use Rattle.sqlite.specs.Batch.{Step, RunInTurn, ExecutesAllInside}
-use Rattle.sqlite.specs.Held.{Held, state}
-use Rattle.sql_schema.specs.declared.layout.Layout.TheVariants.{Made}
-use Rattle.sql_schema.specs.Schema.{book_schema}
-use Rattle.sql_schema.specs.Making.{schema_text, version_part, after_balance}
-use Rattle.sql_making.specs.Books.{no_schema, IsBlank, IsNewBook}
+use Rattle.sql_making.proofs.Names.{◌≡◌, inl, inr, ℕ, zero, suc, List, [], ◌∷◌, length, Some, Ok, sym, subst, arith, Ghosts, Schema, Step, RunInTurn, ExecutesAllInside, Held, state, Made, book_schema, schema_text, version_part, after_balance, no_schema, IsBlank, IsNewBook}
 use Rattle.sql_making.proofs.Creates.{Creates, creates}
 use Rattle.sql_making.proofs.Stages.{book_creates, matter_creates, seat_creates, entry_creates, journal_creates, firm_line_creates, exception_creates, balance_creates}
 use Rattle.sql_making.proofs.Parts.{IsFirst, book_first, matter_first, seat_first, entry_first, journal_first, firm_line_first, exception_first, balance_first, version_first}
 use Rattle.sql_making.proofs.VersionRow.{adds_version}
 
 module _ {S : Type 0} (g : Ghosts S) (new : Held S) where
-  abbrev Turns : List ℕ → Held S → Type 0
+  abbrev pub Turns : List ℕ → Held S → Type 0
   Turns text old = (most : ℕ) × RunInTurn g (Some 0) most text old new (Ok tt)
 
   -- the first statement ran, and then the others
-  turn : (text part rest : List ℕ) (old : Held S) → IsFirst text part rest → Turns text old → (mid : Held S) × (count : ℕ) × Step g part old mid (Ok count) × Turns rest mid
+  pub turn : (text part rest : List ℕ) (old : Held S) → IsFirst text part rest → Turns text old → (mid : Held S) × (count : ℕ) × Step g part old mid (Ok count) × Turns rest mid
   turn [] part rest old is (most, h) = absurd (omega (arith, is.some))
   turn (b ∷ more) part rest old is (zero, h) = absurd h
   turn (b ∷ more) part rest old is (suc most, inl failed) = absurd (let e = failed.1 in cc)

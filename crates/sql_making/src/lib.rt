@@ -5,10 +5,8 @@
 mod copying;
 mod creating;
 mod making;
-mod open_fault;
 mod scripts;
 mod taking;
 
 pub use making::make;
-pub use open_fault::OpenFault;
-pub use taking::{adopt, version_of};
+pub use taking::{OpenFault, adopt, version_of};

@@ -9,8 +9,8 @@ ghost use Rattle.sql_tables.specs.Reading.{IsKept};
 ghost use Rattle.sql_tables.specs.Script.{IsSettled};
 ghost use Rattle.sql_tables.specs.Standing.{Stands};
 
-use crate::open_fault::{OpenFault, fault};
 use crate::scripts::{Script, run};
+use crate::taking::{OpenFault, fault};
 use sqlite::{Alter, Connection};
 use sqlite_schema::schema::Schema;
 

@@ -1,6 +1,6 @@
 // Taking a database that holds a book.
 
-ghost use Rattle.std.specs.Prelude.{◌≡◌, ◌↔◌, ◌⊎◌, ℤ, false, [], ◌∷◌, Some, IfOk, IfErr, OnOk, OnErr, IsTrue};
+ghost use Rattle.std.specs.Prelude.{◌≡◌, ◌≢◌, ◌↔◌, ◌⊎◌, ℤ, false, [], ◌∷◌, Some, IfOk, IfErr, OnOk, OnErr, IsTrue};
 ghost use Rattle.std.specs.List.Sorted.{IsPermutation};
 ghost use Rattle.sqlite_value.specs.declared.value.Value.{Value};
 ghost use Rattle.sqlite_value.specs.declared.value.Value.TheVariants.{Int};
@@ -9,17 +9,37 @@ ghost use Rattle.sqlite.specs.Held.{state};
 ghost use Rattle.sqlite.specs.State.{HasCleanDisk, Survives};
 ghost use Rattle.sql_making.specs.Books.{versions_in, IsBook, HasFailed};
 ghost use Rattle.sql_making.specs.Then.{numbered_versions, HasVersions, IsLook, IsOldBook, IsMoved, AreMoved};
-ghost use Rattle.sql_schema.specs.Old.{version_then};
+ghost use Rattle.sql_schema.specs.Old.{old_schema, version_then};
 ghost use Rattle.sql_schema.specs.Schema.{book_schema};
 ghost use Rattle.sql_tables.specs.Reading.{IsKept};
 ghost use Rattle.sql_tables.specs.Script.{IsSettled};
 
 use crate::creating::VERSION;
-use crate::open_fault::{OpenFault, fault};
 use crate::scripts::{Script, run};
-use sql_schema::{Layout, is_old_schema, layout_of};
+use sql_schema::{BookTables, Layout, book_tables};
 use sqlite::{Alter, Connection, Error, ErrorCode, Row};
 use sqlite_value::value::ValueRef;
+
+/// Why a book cannot be made in a database, or taken from one.
+#[derive(Clone, Copy, Debug, PartialEq, Eq)]
+pub enum OpenFault {
+    /// The database failed.
+    Store,
+    /// Out of memory.
+    Memory,
+    /// The database is empty or holds something else.
+    NotABook,
+}
+
+pub(crate) fn fault(error: Error) -> OpenFault
+    ensures memory { (result ≡ OpenFault.Memory) ↔ (error ≡ Error.SqliteFailure ErrorCode.OutOfMemory) }
+    ensures book { result ≢ OpenFault.NotABook }
+{
+    match error {
+        Error::SqliteFailure(ErrorCode::OutOfMemory) => OpenFault::Memory,
+        _ => OpenFault::Store,
+    }
+}
 
 // Returns the version if the rows are a single one with a single number.
 fn one_version(rows: &[Row]) -> Option<i64>
@@ -72,14 +92,13 @@ fn version_rows<S: Alter>(conn: &mut Connection<S>) -> Result<Vec<Row>, Error>
     conn.query_all("SELECT rowid, version FROM book ORDER BY rowid", &[])
 }
 
-// Returns the number of the row that holds version 1, if it is the only one.
-fn old_row<S: Alter>(conn: &mut Connection<S>) -> Result<Option<i64>, Error>
+// Whether the database holds a book of version 1. The clause requires its schema.
+fn is_old_book<S: Alter>(conn: &mut Connection<S>) -> Result<bool, Error>
     requires { conn.old.in_transaction ≡ false }
     ensures mode { conn.new.in_transaction ≡ false }
     ensures serves { HasCleanDisk (state S.Store conn.new) → OnOk result (IsTrue (state S.Store conn.new).is_open) }
-    ensures is { HasCleanDisk (state S.Store conn.new) → HasVersions (state S.Store conn.old).now.schema
-        → IfOk result (λ o. (id : ℤ) → (o ≡ Some id)
-        ↔ (numbered_versions (state S.Store conn.old).now.trees ≡ (Int id ∷ Int version_then ∷ []) ∷ [])) }
+    ensures is { HasCleanDisk (state S.Store conn.new) → (state S.Store conn.old).now.schema ≡ old_schema
+        → IfOk result (λ b. IsTrue b ↔ IsOldBook (state S.Store conn.old).now) }
     ensures look { HasCleanDisk (state S.Store conn.new) → HasVersions (state S.Store conn.old).now.schema
         → IsLook result (state S.Store conn.old) (state S.Store conn.new) }
     ensures kept { HasCleanDisk (state S.Store conn.new) → IsTrue (state S.Store conn.new).is_open
@@ -87,7 +106,7 @@ fn old_row<S: Alter>(conn: &mut Connection<S>) -> Result<Option<i64>, Error>
     ensures crash { Survives (state S.Store conn.old) (state S.Store conn.new) (λ _. ⊥) }
 {
     let rows = version_rows(conn)?;
-    Ok(old_number(rows.as_slice()))
+    Ok(old_number(rows.as_slice()).is_some())
 }
 
 /// Returns the version, if the version table holds exactly one. Its clauses require a book's schema. Fails if memory
@@ -108,11 +127,9 @@ pub fn version_of<S: Alter>(conn: &mut Connection<S>) -> Result<Option<i64>, Err
         → (state S.Store conn.old).now.schema ≡ book_schema l
         → IfErr result (λ e. (e ≡ Error.SqliteFailure ErrorCode.OutOfMemory)
         ⊎ HasFailed (state S.Store conn.old) (state S.Store conn.new)) }
-    ensures kept { (l : Layout) → HasCleanDisk (state S.Store conn.new)
-        → (state S.Store conn.old).now.schema ≡ book_schema l
-        → IsTrue (state S.Store conn.new).is_open → IsKept (state S.Store conn.old) (state S.Store conn.new) }
-    ensures crash { (l : Layout) → (state S.Store conn.old).now.schema ≡ book_schema l
-        → Survives (state S.Store conn.old) (state S.Store conn.new) (λ _. ⊥) }
+    ensures kept { HasCleanDisk (state S.Store conn.new) → IsTrue (state S.Store conn.new).is_open
+        → IsKept (state S.Store conn.old) (state S.Store conn.new) }
+    ensures crash { Survives (state S.Store conn.old) (state S.Store conn.new) (λ _. ⊥) }
 {
     let rows = version_rows(conn)?;
     Ok(one_version(rows.as_slice()))
@@ -145,23 +162,21 @@ pub fn adopt<S: Alter>(conn: &mut Connection<S>) -> Result<Layout, OpenFault>
     ensures crash { Survives (state S.Store conn.old) (state S.Store conn.new)
         (λ trees. IsOldBook (state S.Store conn.old).now × AreMoved (state S.Store conn.old).now trees) }
 {
-    if is_old_schema(conn.schema()) {
-        return match old_row(conn) {
-            Ok(Some(_)) => match run(conn, Script::Move) {
+    match book_tables(conn.schema()) {
+        // The query has a meaning only under such a schema.
+        Some(BookTables::Now(layout)) => match version_of(conn) {
+            Ok(version) if version == Some(VERSION) => Ok(layout),
+            Ok(_) => Err(OpenFault::NotABook),
+            Err(error) => Err(fault(error)),
+        },
+        Some(BookTables::Old) => match is_old_book(conn) {
+            Ok(true) => match run(conn, Script::Move) {
                 Ok(()) => Ok(Layout::Moved),
                 Err(error) => Err(fault(error)),
             },
-            Ok(None) => Err(OpenFault::NotABook),
+            Ok(false) => Err(OpenFault::NotABook),
             Err(error) => Err(fault(error)),
-        };
-    }
-    // The query has a meaning only under such a schema.
-    let Some(layout) = layout_of(conn.schema()) else {
-        return Err(OpenFault::NotABook);
-    };
-    match version_of(conn) {
-        Ok(version) if version == Some(VERSION) => Ok(layout),
-        Ok(_) => Err(OpenFault::NotABook),
-        Err(error) => Err(fault(error)),
+        },
+        None => Err(OpenFault::NotABook),
     }
 }

@@ -1,16 +1,6 @@
 -- The matters of the numbers of all heads are those for which the tables stand.
-use Rattle.std.proofs.Common.{◌≡◌, ℕ, ℤ, pos, nat_abs, ◌<ℤ◌, List, [], ◌∷◌, map, find, Some, option_map, refl, ap, ap₂, ◌∙◌}
-use Rattle.std.specs.List.{AllByRecursion}
-use Rattle.sqlite_keyed.specs.Keyed.{IsKeyedBy}
-use Rattle.sqlite_keyed.proofs.ListLemmas.{all_both}
-use Rattle.sql_tables.specs.Lists.{Lists}
+use Rattle.sql_reads.proofs.Names.{◌≡◌, ℕ, ℤ, pos, nat_abs, ◌<ℤ◌, List, [], ◌∷◌, map, find, Some, option_map, refl, ap, ap₂, ◌∙◌, AllByRecursion, IsKeyedBy, all_both, Lists, is_head, figures_from, head_from, kept_from, matter_from, matters_from, seat_from, head_at, apart_below, int_eq-itself, figures_at, figures_found, numbered_at, AreNumbersOf}
 use Rattle.sql_tables.specs.Rows as table
-use Rattle.sql_tables.specs.Rows.{is_head}
-use Rattle.sql_rows.specs.Meaning.{figures_from, head_from, kept_from, matter_from, matters_from, seat_from}
-use Rattle.sql_rows.specs.Steps.{head_at}
-use Rattle.sql_rows.proofs.KeyedRows.{apart_below, int_eq-itself}
-use Rattle.sql_reads.specs.Parts.{figures_at, figures_found, numbered_at}
-use Rattle.sql_reads.specs.Shown.{AreNumbersOf}
 
 abbrev key : table.Head → ℤ
 key h = h.no

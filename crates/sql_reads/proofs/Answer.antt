@@ -1,16 +1,5 @@
 -- A query whose answer is known, and what a sink was handed of it.
-use Rattle.std.proofs.Common.{◌≡◌, inl, inr, ℕ, List, [], ◌++◌, fold, length, Result, Ok, Err, append-nil, sym, ap, subst, ◌∙◌}
-use Rattle.sqlite_value.specs.declared.value.Value.TheVariants.{Null}
-use Rattle.sqlite_value.specs.Order.{Row}
-use Rattle.sqlite_sql.specs.Query.{Query, IsAnswer}
-use Rattle.sqlite_sql.specs.Program.{overlay}
-use Rattle.sqlite_schema.specs.declared.schema.Schema.{Schema}
-use Rattle.sqlite.specs.State.{State, Begins}
-use Rattle.sqlite.proofs.Callers.{begins_as}
-use Rattle.trust_store.specs.Books.{HandedOver}
-use Rattle.trust_store.proofs.Sinks.{begun}
-use Rattle.sql_tables.proofs.Calls.{IsQuery, answers}
-use Rattle.sql_reads.specs.Fed.{AreCounted, IsFed}
+use Rattle.sql_reads.proofs.Names.{◌≡◌, inl, inr, ℕ, List, [], ◌++◌, fold, length, Result, Ok, Err, append-nil, sym, ap, subst, ◌∙◌, Null, Row, Query, IsAnswer, overlay, Schema, State, Begins, begins_as, HandedOver, begun, IsQuery, answers, AreCounted, IsFed}
 
 module _ {schema : Schema} {sql : List ℕ} {q : Query} {names : List (List ℕ)} (it : IsQuery schema sql q names)
     (params : Row) (old new : State) (has : old.now.schema ≡ schema) (rows : List Row)

@@ -1,28 +1,14 @@
 -- The balance of a kind and day among the rows of its table.
-use Rattle.std.proofs.Common.{◌≡◌, inl, inr, ℕ, ℤ, pos, nat_abs, ◌≤◌, Bool, true, false, ◌==◌, ◌&&◌, List, [], ◌∷◌, map, filter, find, length, Option, Some, None, option_map, int_eq, Less, Equal, nat_cmp, refl, sym, ap, ap₂, ◌∙◌, arith}
-use Rattle.std.specs.List.{AllByRecursion}
+use Rattle.sql_reads.proofs.Names.{◌≡◌, inl, inr, ℕ, ℤ, pos, nat_abs, ◌≤◌, Bool, true, false, ◌==◌, ◌&&◌, List, [], ◌∷◌, map, filter, find, length, Option, Some, None, option_map, int_eq, Less, Equal, nat_cmp, refl, sym, ap, ap₂, ◌∙◌, arith, AllByRecursion, cases_Bool, and_parts, nat_tests, length-map, Int, Row, column, sort_by, all_weaker, filter_none, filter-map, IsPermutation-filter, StatementRow, Balance, balance_cmp, balance_shown, is_balance_at, kind_column, balance_from, IsWrittenBalance, int_eq-nat, find-sort_by}
 use Rattle.std.specs.List.Sorted.{IsStrictlySortedBy}
-use Rattle.std.proofs.lemmas.Bool.{cases_Bool, and_parts}
-use Rattle.std.proofs.lemmas.Bool.Decides.{nat_tests}
-use Rattle.std.proofs.lemmas.List.{length-map}
 use Rattle.std.proofs.lemmas.List.Sorted.{length_permutation}
 use Rattle.std.proofs.lemmas.Cmp.{int_cmp_total, on_total, then_total}
 use Rattle.std.specs.Cmp.{IsTotalOrder}
-use Rattle.sqlite_value.specs.declared.value.Value.TheVariants.{Int}
-use Rattle.sqlite_value.specs.Order.{Row, column}
-use Rattle.sqlite_keyed.specs.Lists.{sort_by}
-use Rattle.sqlite_keyed.proofs.ListLemmas.{all_weaker, filter_none, filter-map, IsPermutation-filter}
 use Rattle.sqlite_keyed.proofs.SortLemmas.{IsPermutation-sort_by}
 use Rattle.firm_rows.specs.declared.ledger.BalanceKind.{BalanceKind}
 use Rattle.firm_rows.specs.declared.ledger.BalanceKind.TheVariants.{Opening, Closing}
-use Rattle.firm_rows.specs.declared.ledger.StatementRow.{StatementRow}
 use Rattle.firm_rows.specs.FirmLines.{place_of, is_balance_on, kept_balance}
 use Rattle.firm_rows.specs.FirmLines as own
-use Rattle.sql_tables.specs.Rows.{Balance, balance_cmp, balance_shown, is_balance_at}
-use Rattle.sql_rows.specs.Columns.{kind_column}
-use Rattle.sql_rows.specs.Meaning.{balance_from, IsWrittenBalance}
-use Rattle.sql_rows.proofs.KeyedRows.{int_eq-nat}
-use Rattle.sql_rows.proofs.RowOrder.{find-sort_by}
 
 table_total : IsTotalOrder balance_cmp
 table_total = then_total (on_total (λ (b : Balance). b.kind) int_cmp_total) (then_total (on_total (λ (b : Balance). b.day) int_cmp_total) (on_total (λ (b : Balance). b.id) int_cmp_total))

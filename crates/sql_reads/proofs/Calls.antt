@@ -1,7 +1,5 @@
 -- Calls that read, one behind another.
-use Rattle.std.proofs.Common.{◌≡◌, IsTrue, Result, Ok, OnOk, subst}
-use Rattle.sqlite.specs.State.{State, HasCleanDisk}
-use Rattle.sql_tables.specs.Reading.{IsKept, LeavesAll}
+use Rattle.sql_reads.proofs.Names.{◌≡◌, IsTrue, Result, Ok, OnOk, subst, State, HasCleanDisk, IsKept, LeavesAll}
 
 -- a call that answered kept all, so that the next begins at what it began at
 pub kept_by : {T E : Type 0} (old new : State) (r : Result T E) (x : T) → r ≡ Ok x → LeavesAll r old new → HasCleanDisk new → IsKept old new

@@ -1,12 +1,8 @@
 -- The entry of a number among the rows of its table.
-use Rattle.std.proofs.Common.{◌≡◌, ℕ, pos, find, option_map}
+use Rattle.sql_reads.proofs.Names.{◌≡◌, ℕ, pos, find, option_map, Lists, is_entry_at, AreSound, kept_from, part_at}
 use Rattle.matter_parts.specs.Parts.{kept_at}
-use Rattle.sql_tables.specs.Lists.{Lists}
-use Rattle.sql_tables.specs.Rows.{is_entry_at}
-use Rattle.sql_rows.specs.Meaning.{AreSound, kept_from}
 use Rattle.sql_rows.proofs.EntryFind as entries
 use Rattle.sql_rows.proofs.EntryOrder.{have_numbers}
-use Rattle.sql_reads.specs.Parts.{part_at}
 use Rattle.sql_reads.proofs.Parts.{parts_whole}
 
 -- the entry that a matter keeps under a number is that of the row of the number

@@ -1,10 +1,5 @@
 -- Rows that were handed over.
-use Rattle.std.proofs.Common.{◌≡◌, ℕ, ◌+◌, List, [], ◌∷◌, ◌++◌, map, fold, length, Result, Ok, Err, OnOk, IfOk, IsErr, refl, sym, ap, ◌∙◌, subst, append-nil, arith, length-append}
-use Rattle.std.proofs.lemmas.List.{length-map, map-append}
-use Rattle.std.proofs.lemmas.Result.{IfOk-weaker, on_ok_weaker}
-use Rattle.trust_store.specs.Books.{HandedOver, FoldsFront}
-use Rattle.trust_store.proofs.Sinks.{begun, one_more, all_more, some_more, ended}
-use Rattle.sql_reads.specs.Fed.{AreCounted}
+use Rattle.sql_reads.proofs.Names.{◌≡◌, ℕ, ◌+◌, List, [], ◌∷◌, ◌++◌, map, fold, length, Result, Ok, Err, OnOk, IfOk, IsErr, refl, sym, ap, ◌∙◌, subst, append-nil, arith, length-append, length-map, map-append, IfOk-weaker, on_ok_weaker, HandedOver, FoldsFront, begun, one_more, all_more, some_more, ended, AreCounted}
 
 module _ {S A B : Type 0} (step : S → A → S) (f : B → A) where
   fold_mapped : (s : S) (xs : List B) → fold (λ t x. step t (f x)) s xs ≡ fold step s (map f xs)

@@ -1,7 +1,5 @@
 -- The first row of an answer to a query by key.
-use Rattle.std.proofs.Common.{◌≡◌, Bool, List, [], ◌∷◌, map, filter, Option, Some, None, option_map, find, slice_get, refl, sym, ap, ◌∙◌}
-use Rattle.sqlite_value.specs.Order.{Row}
-use Rattle.sqlite_keyed.proofs.ListLemmas.{slice_get-filter}
+use Rattle.sql_reads.proofs.Names.{◌≡◌, Bool, List, [], ◌∷◌, map, filter, Option, Some, None, option_map, find, slice_get, refl, sym, ap, ◌∙◌, Row, slice_get-filter}
 
 first_shown : {X : Type 0} (shown : X → Row) (xs : List X) → slice_get (map shown xs) 0 ≡ option_map shown (slice_get xs 0)
 first_shown shown [] = refl

@@ -1,7 +1,5 @@
 -- What a loop over rows has gathered so far.
-use Rattle.std.proofs.Common.{◌≡◌, zero, suc, add-one, ℕ, ◌+◌, ◌<◌, ◌≤◌, List, [], ◌∷◌, ◌++◌, map, length, get_or, take, ap, subst, ◌∙◌, arith}
-use Rattle.std.proofs.lemmas.List.{length-map, take_all}
-use Rattle.sqlite_value.specs.Order.{Row}
+use Rattle.sql_reads.proofs.Names.{◌≡◌, zero, suc, add-one, ℕ, ◌+◌, ◌<◌, ◌≤◌, List, [], ◌∷◌, ◌++◌, map, length, get_or, take, ap, subst, ◌∙◌, arith, length-map, take_all, Row}
 
 module _ {X Y : Type 0} (shown : X → Row) (from : X → Y) (r : Row) (y : Y) (reads : (x : X) → r ≡ shown x → y ≡ from x) where
   front_more : (xs : List X) (i : ℕ) → i < length xs → r ≡ get_or (map shown xs) i r → map from (take i xs) ++ y ∷ [] ≡ map from (take (i + 1) xs)

@@ -1,10 +1,5 @@
 -- Calls that read, one behind another.
-use Rattle.std.proofs.Common.{◌≡◌, inl, Result, Ok, Err, refl, ◌∙◌}
-use Rattle.sqlite.specs.State.{State, HasCleanDisk}
-use Rattle.trust_base.specs.declared.refusal.StoreFault.{StoreFault}
-use Rattle.trust_base.specs.declared.refusal.StoreFault.TheVariants.{Store}
-use Rattle.sql_tables.specs.Reading.{LeavesAll}
-use Rattle.sql_tables.proofs.Calls.{leaves_on, leaves_then}
+use Rattle.sql_reads.proofs.Names.{◌≡◌, inl, Result, Ok, Err, refl, ◌∙◌, State, HasCleanDisk, StoreFault, Store, LeavesAll, leaves_on, leaves_then}
 use Rattle.sql_reads.proofs.Calls.{kept_by}
 
 -- reads so far left all as it was, whether the connection was open as they began or not

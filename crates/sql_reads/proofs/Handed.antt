@@ -1,19 +1,6 @@
 -- Rows of a query that a sink took, as what they stand for.
-use Rattle.std.proofs.Common.{◌≡◌, ℕ, ◌≤◌, List, [], ◌∷◌, map, Result, Ok, Err}
-use Rattle.std.proofs.Common.{refl, sym, subst}
-use Rattle.std.specs.List.{AllByRecursion}
+use Rattle.sql_reads.proofs.Names.{◌≡◌, ℕ, ◌≤◌, List, [], ◌∷◌, map, Result, Ok, Err, refl, sym, subst, AllByRecursion, length-map, Row, Query, IsAnswer, overlay, Schema, State, AreCountable, MOST_ROWS, AreHanded, LeavesAll, IsQuery, answers, leaves_on, IsFed}
 use Rattle.std.specs.Result.{result_and}
-use Rattle.std.proofs.lemmas.List.{length-map}
-use Rattle.sqlite_value.specs.Order.{Row}
-use Rattle.sqlite_sql.specs.Query.{Query, IsAnswer}
-use Rattle.sqlite_sql.specs.Program.{overlay}
-use Rattle.sqlite_schema.specs.declared.schema.Schema.{Schema}
-use Rattle.sqlite.specs.State.{State}
-use Rattle.firm_rows.specs.Countable.{AreCountable, MOST_ROWS}
-use Rattle.trust_store.specs.Calls.{AreHanded}
-use Rattle.sql_tables.specs.Reading.{LeavesAll}
-use Rattle.sql_tables.proofs.Calls.{IsQuery, answers, leaves_on}
-use Rattle.sql_reads.specs.Fed.{IsFed}
 use Rattle.sql_reads.proofs.Answer.{fed_counted}
 use Rattle.sql_reads.proofs.Fed.{counted_mapped}
 

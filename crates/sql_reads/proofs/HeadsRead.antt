@@ -1,17 +1,9 @@
 -- A head that is read back from its columns.
-use Rattle.std.proofs.Common.{◌≡◌, zero, suc, ℕ, ◌==◌, false, ℤ, nat_abs, cond, List, ◌∷◌, Option, Some, None, IfSome, refl, ap, subst, ◌∙◌, arith}
-use Rattle.std.proofs.lemmas.Bool.Decides.{nat_tests}
-use Rattle.sqlite_value.specs.declared.value.Value.TheVariants.{Int, Null}
-use Rattle.sqlite_value.specs.Order.{Row}
+use Rattle.sql_reads.proofs.Names.{◌≡◌, zero, suc, ℕ, ◌==◌, false, ℤ, nat_abs, cond, List, ◌∷◌, Option, Some, None, IfSome, refl, ap, subst, ◌∙◌, arith, nat_tests, Int, Null, Row, Head, head_in, head_shown, HasHead, HasTotals, IsHead, IsHolder, client_column, purged_column, closed_column, Figures, day_or_none, figures_from, head_from, with_totals_from}
 use Rattle.trust_base.specs.Limits.{IsDay}
 use Rattle.matter_rows.specs.declared.head.Head as kept
 use Rattle.matter_rows.specs.declared.head.Holder.{Holder}
 use Rattle.matter_rows.specs.declared.head.Holder.TheVariants.{Client, Purged}
-use Rattle.sql_tables.specs.Rows.{Head, head_in, head_shown}
-use Rattle.sql_rows.specs.Heads.{HasHead, HasTotals, IsHead, IsHolder, client_column, purged_column, closed_column}
-use Rattle.matter_parts.specs.declared.figures.Figures.{Figures}
-use Rattle.sql_rows.specs.Meaning.{day_or_none, figures_from, head_from}
-use Rattle.sql_reads.specs.Parts.{with_totals_from}
 
 -- no day of the calendar is 0
 day_some : (d : ℕ) → IsDay d → (d == 0) ≡ false

@@ -17,3 +17,4 @@ pub mod RowLists
 pub mod Steps
 pub mod Streams
 pub mod Walk
+mod Names

@@ -1,17 +1,7 @@
 -- The seats and the entries of one matter, as a sink was handed them.
-use Rattle.std.proofs.Common.{◌≡◌, ℕ, ℤ, pos, [], ◌∷◌, map, Result, ap, subst, ◌∙◌}
-use Rattle.sqlite_value.specs.declared.value.Value.TheVariants.{Int}
-use Rattle.sqlite.specs.State.{State}
-use Rattle.firm_rows.specs.Firm.{Row, SeatRow, EntryRow}
-use Rattle.sql_schema.specs.declared.layout.Layout.{Layout}
-use Rattle.sql_tables.specs.Lists.{lists_in}
-use Rattle.sql_tables.specs.Rows.{entries_in, entries_of, numbered_shown, seats_in, seats_of, seat_shown}
-use Rattle.sql_tables.specs.Standing.{Stands}
+use Rattle.sql_reads.proofs.Names.{◌≡◌, ℕ, ℤ, pos, [], ◌∷◌, map, Result, ap, subst, ◌∙◌, Int, State, SeatRow, EntryRow, Layout, lists_in, entries_in, entries_of, numbered_shown, seats_in, seats_of, seat_shown, Stands, entries_read_asks, seats_read_asks, entries_read_answer, seats_read_answer, AreCounted, IsFed, entry_rows, kept_at, seat_at, seat_rows}
+use Rattle.firm_rows.specs.Firm.{Row}
 use Rattle.sql_tables.specs.Texts.{entries_read_text, seats_read_text}
-use Rattle.sql_tables.proofs.Means.{entries_read_asks, seats_read_asks}
-use Rattle.sql_tables.proofs.ReadLemmas.{entries_read_answer, seats_read_answer}
-use Rattle.sql_reads.specs.Fed.{AreCounted, IsFed}
-use Rattle.sql_reads.specs.Shown.{entry_rows, kept_at, seat_at, seat_rows}
 use Rattle.sql_reads.proofs.Answer.{fed_counted}
 use Rattle.sql_reads.proofs.Fed.{counted_mapped}
 use Rattle.sql_reads.proofs.Shown.{entries_shown, seats_shown}

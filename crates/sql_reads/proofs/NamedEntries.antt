@@ -1,24 +1,11 @@
 -- Some of the entries of a matter, and a part that keeps those that are named.
-use Rattle.std.proofs.Common.{◌≡◌, inl, inr, zero, suc, ℕ, ◌+◌, ◌≤◌, ◌==◌, ◌||◌, ltb, Bool, true, false, cond, List, [], ◌∷◌, ◌++◌, Option, Some, None, is_some, true≢false, refl, sym, ap, ap₂, subst, ◌∙◌, arith}
+use Rattle.sql_reads.proofs.Names.{◌≡◌, inl, inr, zero, suc, ℕ, ◌+◌, ◌≤◌, ◌==◌, ◌||◌, ltb, Bool, true, false, cond, List, [], ◌∷◌, ◌++◌, Option, Some, None, is_some, true≢false, refl, sym, ap, ap₂, subst, ◌∙◌, arith, cases_Bool, nat_tests, Seat, Rows, unopened, number_or_none, target_in, Figures, Kept, AreFigures, AreNumbered, IsPart, IsWhole, Part, entry_in, is_held, is_it, is_named, kept_in, named_part, target_by, of, IsPartFor, Lists, AreSound, firm_from, HeadWithTotals, KeepsAlso, KeepsOnly, is_named_by, part_at, with_totals_at}
 use denote.Ref.{Bor}
 use Rattle.std.specs.Option.{option_copied, option_or}
-use Rattle.std.proofs.lemmas.Bool.{cases_Bool}
-use Rattle.std.proofs.lemmas.Bool.Decides.{nat_tests}
 use Rattle.std.proofs.lemmas.List.Folds.{find-append}
-use Rattle.matter_rows.specs.declared.seat.Seat.{Seat}
-use Rattle.matter_rows.specs.Rows.{Rows, unopened}
-use Rattle.matter_rows.specs.Shares.{number_or_none, target_in}
-use Rattle.matter_parts.specs.declared.figures.Figures.{Figures}
-use Rattle.matter_parts.specs.declared.kept.Kept.{Kept}
-use Rattle.matter_parts.specs.Parts.{AreFigures, AreNumbered, IsPart, IsWhole, Part, entry_in, is_held, is_it, is_named, kept_at, kept_in, named_part, target_by}
+use Rattle.matter_parts.specs.Parts.{kept_at}
 use Rattle.matter_parts.proofs.Naming.{held-named, kept-named, only-named, part-named}
-use Rattle.firm_rows.specs.Firm.{of}
-use Rattle.trust_store.specs.Named.{IsPartFor}
 use Rattle.trust_store.proofs.PartsFor.{part-for, unopened-for}
-use Rattle.sql_tables.specs.Lists.{Lists}
-use Rattle.sql_rows.specs.Meaning.{AreSound, firm_from}
-use Rattle.sql_reads.specs.declared.matter.HeadWithTotals.{HeadWithTotals}
-use Rattle.sql_reads.specs.Parts.{KeepsAlso, KeepsOnly, is_named_by, part_at, with_totals_at}
 use Rattle.sql_reads.proofs.Parts.{head_found, none_rows, parts_whole}
 
 or_false : (b : Bool) → (b || false) ≡ b

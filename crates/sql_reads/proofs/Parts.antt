@@ -1,21 +1,9 @@
 -- What the tables hold of a matter is all of it.
-use Rattle.std.proofs.Common.{◌≡◌, ℕ, pos, find, Option, Some, None, option_map, refl, sym, ap, subst, ◌∙◌, List}
-use Rattle.matter_rows.specs.declared.seat.Seat.{Seat}
-use Rattle.matter_rows.specs.Rows.{Rows, unopened}
-use Rattle.matter_parts.specs.declared.kept.Kept.{Kept}
-use Rattle.matter_parts.specs.Parts.{IsWhole}
-use Rattle.firm_rows.specs.Firm.{of}
-use Rattle.trust_store.specs.Kept.{rows_in}
-use Rattle.trust_store.proofs.KeptMatters.{firm_rows}
-use Rattle.sql_tables.specs.Lists.{Lists}
+use Rattle.sql_reads.proofs.Names.{◌≡◌, ℕ, pos, find, Option, Some, None, option_map, refl, sym, ap, subst, ◌∙◌, List, Seat, Rows, unopened, Kept, IsWhole, of, rows_in, firm_rows, Lists, AreSound, firm_from, head_from, matters_from, part_from, head_at, HeadWithTotals, PartsAreWhole, figures_found, part_at, part_of, totals_of, with_totals_at, with_totals_from}
 use Rattle.sql_tables.specs.Rows as table
-use Rattle.sql_rows.specs.Meaning.{AreSound, firm_from, head_from, matters_from, part_from}
 use Rattle.sql_rows.proofs.Becomes.{whole_at}
 use Rattle.sql_rows.proofs.HeadOrder.{rows_found}
 use Rattle.sql_rows.proofs.Heads.{rows_at}
-use Rattle.sql_rows.specs.Steps.{head_at}
-use Rattle.sql_reads.specs.declared.matter.HeadWithTotals.{HeadWithTotals}
-use Rattle.sql_reads.specs.Parts.{PartsAreWhole, figures_found, part_at, part_of, totals_of, with_totals_at, with_totals_from}
 
 module _ (m : ℕ) (a : Lists) (sound : AreSound a) where
   own_rows : rows_in m (matters_from a) ≡ of m (firm_from a)

@@ -1,12 +1,8 @@
 -- What lists of rows are once all rows were handed to them.
-use Rattle.std.proofs.Common.{◌≡◌, List, [], ◌∷◌, ◌++◌, fold, refl, sym, ap, ◌∙◌, append-nil, append_assoc}
+use Rattle.sql_reads.proofs.Names.{◌≡◌, List, [], ◌∷◌, ◌++◌, fold, refl, sym, ap, ◌∙◌, append-nil, append_assoc, StatementRow, Firm, empty_firm, firm_of, without_matters}
 use Rattle.trust_base.specs.declared.line.Line.{Line}
 use Rattle.firm_rows.specs.declared.movement.Movement.{Movement}
 use Rattle.firm_rows.specs.declared.ledger.FirmLine.{FirmLine}
-use Rattle.firm_rows.specs.declared.ledger.StatementRow.{StatementRow}
-use Rattle.firm_rows.specs.Firm.{Firm, empty_firm}
-use Rattle.trust_store.specs.Kept.{firm_of}
-use Rattle.sql_reads.specs.Parts.{without_matters}
 
 module _ {F A : Type 0} (step : F → A → F) (with : List A → F) (steps : (ys : List A) (x : A) → step (with ys) x ≡ with (ys ++ x ∷ [])) where
   gathered : (ys xs : List A) → fold step (with ys) xs ≡ with (ys ++ xs)

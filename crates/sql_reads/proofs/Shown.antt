@@ -1,20 +1,9 @@
 -- What a row shows is what it stands for.
-use Rattle.std.proofs.Common.{◌≡◌, ℕ, ℤ, pos, nat_abs, Bool, List, [], ◌∷◌, map, filter, find, take, slice_get, Option, Some, None, option_map, inl, inr, refl, sym, ap, ◌∙◌, rules, SFits, to_z, of_z, w64}
-use Rattle.std.proofs.lemmas.Bool.{cases_Bool}
+use Rattle.sql_reads.proofs.Names.{◌≡◌, ℕ, ℤ, pos, nat_abs, Bool, List, [], ◌∷◌, map, filter, find, take, slice_get, Option, Some, None, option_map, inl, inr, refl, sym, ap, ◌∙◌, rules, SFits, to_z, of_z, w64, cases_Bool, Int, Null, Text, Row, column, bytes, SeatRow, EntryRow, seat_pairs, kept_pairs, HasHead, IsHead, head_from, kept_from, seat_from, NumberedHead, kept_at, next_at, numbered_from, seat_at}
 use Rattle.sqlite_value.specs.declared.value.Value.{Value}
-use Rattle.sqlite_value.specs.declared.value.Value.TheVariants.{Int, Null, Text}
-use Rattle.sqlite_value.specs.Order.{Row, column, bytes}
 use Rattle.matter_rows.specs.declared.head.Head.{Head}
-use Rattle.firm_rows.specs.Firm.{SeatRow, EntryRow, seat_pairs}
-use Rattle.trust_store.specs.Kept.{kept_pairs}
-use Rattle.sql_rows.specs.Heads.{HasHead, IsHead}
 use Rattle.sql_tables.specs.Rows as table
-use Rattle.sql_rows.specs.Meaning.{head_from, kept_from, seat_from}
-use Rattle.sql_rows.specs.Meaning.{movement_from, firm_line_from, exception_from, balance_from}
 use Rattle.sql_reads.proofs.HeadsRead.{head_back}
-use Rattle.sql_reads.specs.declared.matters.NumberedHead.{NumberedHead}
-use Rattle.sql_reads.specs.Shown.{kept_at, next_at, numbered_from, seat_at}
-use Rattle.sql_reads.specs.Shown.{movement_at, firm_line_at, exception_at, balance_at}
 
 -- Single values.
 
@@ -84,25 +73,3 @@ pub entries_shown : (m : ℕ) (es : List table.Entry)
     ≡ kept_pairs m (map kept_from es)
 entries_shown m [] = refl
 entries_shown m (e ∷ es) = ap (λ l. (m, EntryRow (kept_from e).number (kept_from e).entry) ∷ l) (entries_shown m es)
-
--- The firm's own rows.
-
-pub movements_shown : (ms : List table.Movement)
-    → map movement_at (map table.movement_values ms) ≡ map movement_from ms
-movements_shown [] = refl
-movements_shown (m ∷ ms) = ap (λ l. movement_from m ∷ l) (movements_shown ms)
-
-pub firm_lines_shown : (ls : List table.FirmLine)
-    → map firm_line_at (map table.firm_line_values ls) ≡ map firm_line_from ls
-firm_lines_shown [] = refl
-firm_lines_shown (f ∷ ls) = ap (λ l. firm_line_from f ∷ l) (firm_lines_shown ls)
-
-pub exceptions_shown : (es : List table.Exception)
-    → map exception_at (map table.exception_values es) ≡ map exception_from es
-exceptions_shown [] = refl
-exceptions_shown (e ∷ es) = ap (λ l. exception_from e ∷ l) (exceptions_shown es)
-
-pub balances_shown : (bs : List table.Balance)
-    → map balance_at (map table.balance_values bs) ≡ map balance_from bs
-balances_shown [] = refl
-balances_shown (b ∷ bs) = ap (λ l. balance_from b ∷ l) (balances_shown bs)

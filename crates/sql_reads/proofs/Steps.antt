@@ -1,16 +1,6 @@
 -- One round of the loop over all matters.
-use Rattle.std.proofs.Common.{◌≡◌, ℕ, ℤ, pos, ◌+◌, ◌≤◌, List, find, fold, length, Option, Some, None, Result, Ok, IsErr, option_map, sym, ap, subst, ◌∙◌}
-use Rattle.sqlite.specs.Effect.{Database}
-use Rattle.firm_rows.specs.Countable.{IsRowInRange, MOST_ROWS}
+use Rattle.sql_reads.proofs.Names.{◌≡◌, ℕ, ℤ, pos, ◌+◌, ◌≤◌, List, find, fold, length, Option, Some, None, Result, Ok, IsErr, option_map, sym, ap, subst, ◌∙◌, Database, IsRowInRange, MOST_ROWS, Layout, FoldsFront, AreHanded, Lists, lists_in, heads_in, is_past, StandsSound, firm_in, NumberedHead, numbered_from, rows_at}
 use Rattle.firm_rows.specs.Firm.{Row}
-use Rattle.sql_schema.specs.declared.layout.Layout.{Layout}
-use Rattle.trust_store.specs.Books.{FoldsFront}
-use Rattle.trust_store.specs.Calls.{AreHanded}
-use Rattle.sql_tables.specs.Lists.{Lists, lists_in}
-use Rattle.sql_tables.specs.Rows.{heads_in, is_past}
-use Rattle.sql_rows.specs.Standing.{StandsSound, firm_in}
-use Rattle.sql_reads.specs.declared.matters.NumberedHead.{NumberedHead}
-use Rattle.sql_reads.specs.Shown.{numbered_from, rows_at}
 use Rattle.sql_reads.proofs.Shown.{none_left, some_left}
 use Rattle.sql_reads.proofs.Walk.{IsReached, at_end, reached, refused, stopped, stopped_within}
 

@@ -1,26 +1,15 @@
 -- What a sink was handed so far of a query.
-use Rattle.std.proofs.Common.{◌≡◌, ◌⊎◌, inl, inr, ℕ, ◌+◌, ◌≤◌, List, [], ◌∷◌, ◌++◌, length, fold, None, Some, Result, Ok, Err, OnOk, IsErr, IsTrue, length-append, sym, ap, subst, ◌∙◌, arith}
-use Rattle.std.specs.List.{AllByRecursion}
+use Rattle.sql_reads.proofs.Names.{◌≡◌, ◌⊎◌, inl, inr, ℕ, ◌+◌, ◌≤◌, List, [], ◌∷◌, ◌++◌, length, fold, None, Some, Result, Ok, Err, OnOk, IsErr, IsTrue, length-append, sym, ap, subst, ◌∙◌, arith, AllByRecursion, Row, Database, Held, state, State, HasCleanDisk, IsUnchanged, IsRolledBack, Fails, Survives, FailsToQuery, Shown, ShowsRows, Begins, CommitsShowing, survives_then, survives_weaker, unchanged_then, given_begin, MOST_ROWS, IsSelect, IsKept, LeavesAll, kept_unchanged, kept_either, fails_kept, IsFed}
 use Rattle.std.proofs.lemmas.List.Sums.{fold-append}
-use Rattle.sqlite_value.specs.Order.{Row}
 use Rattle.sqlite.specs.Store.{Ghosts}
-use Rattle.sqlite.specs.Effect.{Database}
 use Rattle.sqlite.specs.Clock.{timed}
 use Rattle.sqlite.specs.Listing.{understood, reads_listing, IsSourceOf}
 use Rattle.sqlite.specs.declared.error.Error.{Error}
 use Rattle.sqlite_resolve.specs.declared.compiled.Compiled.{Compiled}
 use Rattle.sqlite_resolve.specs.declared.error.CompileError.{CompileError}
-use Rattle.sqlite.specs.Held.{Held, state}
 use Rattle.sqlite.specs.Given.{HasGiven, HasBegun, Advances, Returns}
-use Rattle.sqlite.specs.State.{State, HasCleanDisk, IsUnchanged, IsRolledBack, Fails, Survives, FailsToQuery, Shown, ShowsRows, Begins, CommitsShowing}
-use Rattle.sqlite.proofs.StateLemmas.{survives_then, survives_weaker}
-use Rattle.sqlite.proofs.Callers.{unchanged_then, given_begin}
-use Rattle.firm_rows.specs.Countable.{MOST_ROWS}
 use Rattle.firm_rows.proofs.Ordered.{all-append}
-use Rattle.sql_tables.specs.Reading.{IsSelect, IsKept, LeavesAll}
 use Rattle.sql_tables.proofs.Selects.{ReturnsNothing, select_returns, select_commits}
-use Rattle.sql_tables.proofs.Calls.{kept_unchanged, kept_either, fails_kept}
-use Rattle.sql_reads.specs.Fed.{IsFed}
 use Rattle.sql_reads.proofs.Fed.{of_err}
 
 -- A SELECT.

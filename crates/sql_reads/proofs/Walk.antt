@@ -1,25 +1,8 @@
 -- The matters of a book, one behind another.
-use Rattle.std.proofs.Common.{◌≡◌, inl, inr, ℕ, ℤ, pos, nat_abs, ◌+◌, ◌≤◌, ◌<ℤ◌, int_lt, Bool, true, false, List, [], ◌∷◌, ◌++◌, map, filter, find, length, fold, Some, None, Result, Ok, IsErr, refl, sym, ap, ◌∙◌, subst, arith, length-append}
-use Rattle.std.specs.List.{AllByRecursion}
-use Rattle.std.proofs.lemmas.Int.{ints}
-use Rattle.std.proofs.lemmas.Bool.{cases_Bool}
-use Rattle.sqlite_keyed.specs.Keyed.{IsKeyedBy}
-use Rattle.sqlite_keyed.proofs.ListLemmas.{all_of, all_unmap, all_weaker}
-use Rattle.matter_parts.specs.Parts.{entries_kept}
-use Rattle.firm_rows.specs.Countable.{IsRowInRange, MOST_ROWS}
-use Rattle.firm_rows.specs.Firm.{Row, HeadRow, pairs, seat_pairs, entry_pairs}
+use Rattle.sql_reads.proofs.Names.{◌≡◌, inl, inr, ℕ, ℤ, pos, nat_abs, ◌+◌, ◌≤◌, ◌<ℤ◌, int_lt, Bool, true, false, List, [], ◌∷◌, ◌++◌, map, filter, find, length, fold, Some, None, Result, Ok, IsErr, refl, sym, ap, ◌∙◌, subst, arith, length-append, AllByRecursion, ints, cases_Bool, IsKeyedBy, all_of, all_unmap, all_weaker, entries_kept, IsRowInRange, MOST_ROWS, HeadRow, pairs, seat_pairs, entry_pairs, HandedOver, FoldsFront, AreHanded, IsKeptWhole, joined, kept_pairs, rows_kept, joined-ranged, begun, all_more, some_more, ended, kept-numbered, Lists, is_past, AreSound, IsWrittenHead, head_from, kept_from, matter_from, matters_from, part_from, seat_from, all-find, entry_rows, numbered_from, rows_at}
+use Rattle.firm_rows.specs.Firm.{Row}
 use Rattle.trust_store.specs.declared.plain.KeptMatter.{KeptMatter}
-use Rattle.trust_store.specs.Books.{HandedOver, FoldsFront}
-use Rattle.trust_store.specs.Calls.{AreHanded}
-use Rattle.trust_store.specs.Kept.{IsKeptWhole, joined, kept_pairs, rows_kept}
-use Rattle.trust_store.proofs.KeptMatters.{joined-ranged}
-use Rattle.trust_store.proofs.Sinks.{begun, all_more, some_more, ended, kept-numbered}
-use Rattle.sql_tables.specs.Lists.{Lists}
 use Rattle.sql_tables.specs.Rows as table
-use Rattle.sql_tables.specs.Rows.{is_past}
-use Rattle.sql_rows.specs.Meaning.{AreSound, IsWrittenHead, head_from, kept_from, matter_from, matters_from, part_from, seat_from}
-use Rattle.sql_rows.proofs.RowOrder.{all-find}
-use Rattle.sql_reads.specs.Shown.{entry_rows, numbered_from, rows_at}
 use Rattle.sql_reads.proofs.Fed.{of_err}
 
 -- Heads behind a number.

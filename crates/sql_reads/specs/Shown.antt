@@ -14,7 +14,7 @@ use Rattle.sql_tables.specs.Lists.{Lists}
 use Rattle.sql_tables.specs.Rows as table
 use Rattle.sql_rows.specs.Meaning.{head_from, kept_from, seat_from}
 use Rattle.sql_rows.specs.Meaning.{movement_from, firm_line_from, exception_from, balance_from}
-use Rattle.sql_reads.specs.declared.matters.NumberedHead.{NumberedHead}
+use Rattle.sql_reads.specs.declared.matter.NumberedHead.{NumberedHead}
 
 -- the seat that a row of a matter shows
 abbrev pub seat_at : ℕ → Row → Seat

@@ -1,8 +1,9 @@
 // All rows of a firm at once, sound or not.
 
-ghost use Rattle.std.specs.Prelude.{◌≡◌, false, IfOk};
+ghost use Rattle.std.specs.Prelude.{◌≡◌, ◌++◌, ◌∷◌, [], false, IfOk};
 ghost use Rattle.sqlite.specs.Held.{state};
 ghost use Rattle.sqlite.specs.State.{HasCleanDisk};
+ghost use Rattle.firm_rows.specs.Firm.{empty_firm};
 ghost use Rattle.sql_schema.specs.declared.layout.Layout.{Layout};
 ghost use Rattle.trust_store.specs.Kept.{firm_of_all};
 ghost use Rattle.sql_tables.specs.Lists.{lists_in};
@@ -13,12 +14,14 @@ ghost use Rattle.sql_rows.specs.Standing.{firm_in};
 ghost use Rattle.sql_reads.specs.Parts.{without_matters};
 
 use crate::lists::{each_balance, each_exception, each_firm_line, each_movement};
-use crate::matter::whole_matter;
-use crate::matters::head_numbers;
-use crate::row_lists::RowLists;
+use crate::matter::{head_numbers, whole_matter};
+use firm_rows::{
+    BalanceSink, ExceptionSink, FirmLine, FirmLineSink, Movement, MovementSink, Owner, StatementRow,
+};
 use sqlite::{Alter, Connection};
-use std::alloc::Global;
-use trust_base::StoreFault;
+use std::alloc::{AllocError, Global};
+use std::marker::Model;
+use trust_base::{Line, StoreFault};
 use trust_store::{AllRows, KeptMatter};
 
 // Reads each matter that has a head, by number. Returns `Store` if one is not whole or not sound.
@@ -42,6 +45,78 @@ fn all_matters<S: Alter>(
         })?;
     }
     Ok(matters)
+}
+
+// Keeps the movements, the lines of the firm's own, the exceptions and the balances that are passed to it.
+//
+// Contracts see it as the firm that has only these rows.
+#[derive(Drop)]
+struct RowLists {
+    movements: Vec<Movement>,
+    firm_lines: Vec<FirmLine>,
+    exceptions: Vec<Line>,
+    balances: Vec<StatementRow>,
+}
+
+impl Model for RowLists {
+    ghost use Rattle.std.specs.Prelude.{[]};
+    ghost use Rattle.firm_rows.specs.Firm.{Firm};
+    ghost use Rattle.trust_store.specs.Kept.{firm_of};
+
+    ghost Value = { Firm };
+
+    ghost view = { λ l. firm_of [] l.movements.items l.firm_lines.items l.exceptions.items l.balances.items };
+}
+
+impl RowLists {
+    // Creates empty lists. Does not allocate.
+    fn new(alloc: Global) -> RowLists
+        ensures { result ≡ empty_firm }
+    {
+        RowLists {
+            movements: Vec::new(alloc),
+            firm_lines: Vec::new(alloc),
+            exceptions: Vec::new(alloc),
+            balances: Vec::new(alloc),
+        }
+    }
+}
+
+impl MovementSink for RowLists {
+    ghost moved = { λ lists movement. record lists { movements = lists.movements ++ movement ∷ [] } };
+
+    fn movement(&mut self, movement: &Movement) -> Result<(), AllocError> {
+        let owner: Owner = movement.owner;
+        self.movements.push(Movement { owner, ..*movement })?;
+        Ok(())
+    }
+}
+
+impl ExceptionSink for RowLists {
+    ghost noted = { λ lists line. record lists { exceptions = lists.exceptions ++ line ∷ [] } };
+
+    fn exception(&mut self, line: &Line) -> Result<(), AllocError> {
+        self.exceptions.push(line.copied()?)?;
+        Ok(())
+    }
+}
+
+impl BalanceSink for RowLists {
+    ghost balanced = { λ lists row. record lists { balances = lists.balances ++ row ∷ [] } };
+
+    fn balance(&mut self, row: &StatementRow) -> Result<(), AllocError> {
+        self.balances.push(*row)?;
+        Ok(())
+    }
+}
+
+impl FirmLineSink for RowLists {
+    ghost lined = { λ lists line. record lists { firm_lines = lists.firm_lines ++ line ∷ [] } };
+
+    fn firm_line(&mut self, line: &FirmLine) -> Result<(), AllocError> {
+        self.firm_lines.push(line.copied()?)?;
+        Ok(())
+    }
 }
 
 // Reads the rows that belong to no matter.

@@ -1,29 +1,40 @@
-// The lists that belong to no matter, each passed to a sink one row at a time: the movements of the journal, the lines
-// of the firm's own ledger, the bank lines that matched nothing, and the balances that the bank reported.
+// The rows that belong to no matter: the movements of the journal, the lines of the firm's own ledger, the bank lines that
+// matched nothing, and the balances that the bank reported. Each is passed to a sink one row at a time; the ledger is
+// also read at once, and a single balance by its kind and day.
 
-ghost use Rattle.std.specs.Prelude.{◌≡◌, false, IfOk, FitsSigned};
+ghost use Rattle.std.specs.Prelude.{◌≡◌, ◌≢◌, ℤ, false, List, [], ◌∷◌, ◌++◌, map, IfOk, IfErr, OnOk, FitsSigned};
 ghost use Rattle.std.specs.Int.{w64};
+ghost use Rattle.sqlite_value.specs.declared.value.Value.TheVariants.{Int};
+ghost use Rattle.sqlite_value.specs.Order.{column};
 ghost use Rattle.sqlite.specs.Held.{state};
 ghost use Rattle.sqlite.specs.State.{HasCleanDisk};
+ghost use Rattle.trust_base.specs.Limits.{IsBankAmount};
 ghost use Rattle.firm_rows.specs.Countable.{IsBalanceInRange, IsFirmLineInRange, IsLineInRange, IsMovementInRange};
+ghost use Rattle.firm_rows.specs.FirmLines.{kept_balance};
 ghost use Rattle.trust_store.specs.Calls.{AreHanded};
 ghost use Rattle.sql_schema.specs.declared.layout.Layout.{Layout};
 ghost use Rattle.sql_tables.specs.Reading.{LeavesAll};
+ghost use Rattle.sql_tables.specs.Rows.{FirmLine as LineRow, firm_line_values};
 ghost use Rattle.sql_tables.specs.Standing.{Stands};
 ghost use Rattle.sql_rows.specs.Columns.{IsOwner};
-ghost use Rattle.sql_rows.specs.Standing.{firm_in};
-ghost use Rattle.sql_reads.specs.Shown.{balance_at, exception_at, movement_at};
+ghost use Rattle.sql_rows.specs.Meaning.{firm_line_from};
+ghost use Rattle.sql_rows.specs.Standing.{StandsSound, firm_in};
+ghost use Rattle.sql_reads.specs.Shown.{firm_line_at, movement_at};
 
-use crate::columns::{balance_in, exception_in, movement_in};
-use crate::ledger::line_of;
-use crate::query::{RowTaking, hand_rows};
+use crate::columns::{balance_in, exception_in, firm_line_in, movement_in, number_at};
+use crate::query::{RowTaking, hand_rows, rows_of};
 use firm_rows::{
-    BalanceSink, ExceptionSink, FirmLineSink, Movement, MovementSink, Owner, StatementRow,
+    BalanceKind, BalanceSink, ExceptionSink, FirmLedger, FirmLine, FirmLineSink, MAX_OWN, Movement,
+    MovementSink, Owner,
 };
-use sql_rows::{balance_of, exception_of, movement_of};
+use sql_rows::{balance_of, exception_of, firm_line_of, kind_column, movement_of};
 use sqlite::{Alter, Connection, Row};
+use sqlite_value::value::ValueRef;
 use std::alloc::Global;
-use trust_base::{Line, StoreFault};
+use trust_base::{BankAmount, Day, StoreFault};
+
+// The lines of the firm's own, in order of acceptance.
+const FIRM_LINES: &str = "SELECT day, bank_ref, amount, text FROM firm_line ORDER BY seq";
 
 // By their types, matters and entries are numbered from 1, so none of their movements is read as the firm's own.
 fn is_numbered(movement: &Movement)
@@ -95,6 +106,18 @@ pub fn each_movement<S: Alter, K: MovementSink>(
     .and(Ok(()))
 }
 
+// Reads a line of the firm from a row.
+fn line_of(alloc: Global, row: &Row) -> Result<FirmLine, StoreFault>
+    ensures is { IfOk result (λ v. v ≡ firm_line_at row.now) }
+    ensures fits { IfOk result IsFirmLineInRange }
+{
+    let columns = firm_line_in(row)?;
+    let line = firm_line_of(alloc, columns)?;
+    // An amount of this type is in range.
+    let _amount = line.amount.get();
+    Ok(line)
+}
+
 // Takes the rows of the firm's lines.
 #[derive(Drop)]
 struct FirmLineTaking {
@@ -131,26 +154,7 @@ pub fn each_firm_line<S: Alter, K: FirmLineSink>(
         result sink.old sink.new }
     ensures left { LeavesAll result (state S.Store conn.old) (state S.Store conn.new) }
 {
-    hand_rows(
-        conn,
-        "SELECT day, bank_ref, amount, text FROM firm_line ORDER BY seq",
-        &[],
-        &FirmLineTaking { alloc },
-        sink,
-    )
-    .and(Ok(()))
-}
-
-// Reads a line from a row.
-fn read_exception(alloc: Global, row: &Row) -> Result<Line, StoreFault>
-    ensures is { IfOk result (λ v. v ≡ exception_at row.now) }
-    ensures fits { IfOk result IsLineInRange }
-{
-    let columns = exception_in(row)?;
-    let line = exception_of(alloc, columns)?;
-    // An amount of this type is in range.
-    let _amount = line.amount.get();
-    Ok(line)
+    hand_rows(conn, FIRM_LINES, &[], &FirmLineTaking { alloc }, sink).and(Ok(()))
 }
 
 // Takes the rows of exceptions.
@@ -168,7 +172,9 @@ impl<K: ExceptionSink> RowTaking<K> for ExceptionTaking {
     ghost fits = { λ _ row. IsLineInRange (exception_at row) };
 
     fn take(&self, row: &Row, sink: &mut K) -> Result<(), StoreFault> {
-        let line = read_exception(self.alloc, row)?;
+        let line = exception_of(self.alloc, exception_in(row)?)?;
+        // An amount of this type is in range.
+        let _amount = line.amount.get();
         sink.exception(&line)?;
         Ok(())
     }
@@ -200,18 +206,6 @@ pub fn each_exception<S: Alter, K: ExceptionSink>(
     .and(Ok(()))
 }
 
-// Reads a balance from a row.
-fn read_balance(row: &Row) -> Result<StatementRow, StoreFault>
-    ensures is { IfOk result (λ v. v ≡ balance_at row.now) }
-    ensures fits { IfOk result IsBalanceInRange }
-{
-    let columns = balance_in(row)?;
-    let balance = balance_of(columns)?;
-    // An amount of this type is in range.
-    let _amount = balance.amount.get();
-    Ok(balance)
-}
-
 // Takes the rows of balances.
 #[derive(Drop)]
 struct BalanceTaking;
@@ -225,7 +219,9 @@ impl<K: BalanceSink> RowTaking<K> for BalanceTaking {
     ghost fits = { λ _ row. IsBalanceInRange (balance_at row) };
 
     fn take(&self, row: &Row, sink: &mut K) -> Result<(), StoreFault> {
-        let balance = read_balance(row)?;
+        let balance = balance_of(balance_in(row)?)?;
+        // An amount of this type is in range.
+        let _amount = balance.amount.get();
         sink.balance(&balance)?;
         Ok(())
     }
@@ -253,4 +249,84 @@ pub fn each_balance<S: Alter, K: BalanceSink>(
         sink,
     )
     .and(Ok(()))
+}
+
+// Adds a line. Returns `Store` if the lines would add up to a balance that the firm may not have.
+fn add_within(ledger: &mut FirmLedger, line: FirmLine) -> Result<(), StoreFault>
+    ensures { OnOk result (ledger.new ≡ ledger.old ++ line ∷ []) }
+{
+    let balance = ledger.balance() + line.amount.get();
+    if balance < 0 || balance > MAX_OWN as i64 {
+        return Err(StoreFault::Store);
+    }
+    ledger.add(line)?;
+    Ok(())
+}
+
+// Reads the ledger from its rows. Returns `Store` if they add up to a balance that the firm may not have.
+fn ledger_of(alloc: Global, rows: &[Row]) -> Result<FirmLedger, StoreFault>
+    ensures { IfOk result (λ ledger. (xs : List LineRow) → rows.now ≡ map firm_line_values xs
+        → ledger ≡ map firm_line_from xs) }
+{
+    let mut ledger = FirmLedger::new(alloc);
+    'each: for row in rows {
+        let line = line_of(alloc, row)?;
+        add_within(&mut ledger, line)?;
+    }
+    Ok(ledger)
+}
+
+/// Returns the firm's own ledger, its lines in order of acceptance. Returns `Store` if they add up to a balance that
+/// the firm may not have.
+pub fn firm_ledger<S: Alter>(
+    conn: &mut Connection<S>,
+    alloc: Global,
+) -> Result<FirmLedger, StoreFault>
+    requires { conn.old.in_transaction ≡ false }
+    ensures mode { conn.new.in_transaction ≡ false }
+    ensures found { (l : Layout) → HasCleanDisk (state S.Store conn.new) → StandsSound l (state S.Store conn.old).now
+        → IfOk result (λ ledger. ledger ≡ (firm_in l (state S.Store conn.old).now.trees).firm_lines) }
+    ensures left { LeavesAll result (state S.Store conn.old) (state S.Store conn.new) }
+{
+    let rows = rows_of(conn, FIRM_LINES, &[])?;
+    ledger_of(alloc, &rows)
+}
+
+// Reads the amount of a row. Returns `Store` for an amount that no bank line can have.
+fn amount_in(row: &Row) -> Result<i64, StoreFault>
+    ensures ok { IfOk result (λ n. (column row.now 0 ≡ Int n) × IsBankAmount n) }
+    ensures none { IfErr result (λ e. (n : ℤ) → IsBankAmount n → column row.now 0 ≢ Int n) }
+{
+    let cents = number_at(row, 0)?;
+    match BankAmount::from_number(cents) {
+        Some(amount) => Ok(amount.get()),
+        None => Err(StoreFault::Store),
+    }
+}
+
+/// Returns the balance of a kind and day in cents, or `None` if none is stored. Returns `Store` for an amount that no
+/// bank line can have.
+pub fn balance_at<S: Alter>(
+    conn: &mut Connection<S>,
+    kind: BalanceKind,
+    day: Day,
+) -> Result<Option<i64>, StoreFault>
+    requires { conn.old.in_transaction ≡ false }
+    ensures mode { conn.new.in_transaction ≡ false }
+    ensures found { (l : Layout) → HasCleanDisk (state S.Store conn.new) → StandsSound l (state S.Store conn.old).now
+        → IfOk result (λ kept. kept ≡ kept_balance kind day (firm_in l (state S.Store conn.old).now.trees).balances) }
+    ensures left { LeavesAll result (state S.Store conn.old) (state S.Store conn.new) }
+{
+    let rows = rows_of(
+        conn,
+        "SELECT amount FROM balance WHERE kind = ?1 AND day = ?2 ORDER BY rowid",
+        &[
+            ValueRef::Int(kind_column(kind)),
+            ValueRef::Int(day.get() as i64),
+        ],
+    )?;
+    match rows.first() {
+        None => Ok(None),
+        Some(row) => Ok(Some(amount_in(row)?)),
+    }
 }

@@ -1,40 +1,60 @@
-// The head and the seats of a matter, and the matter with all its entries, or with the named ones.
+// Matters: one with all its entries, or with the named ones; and all of them, one after the other, each with its rows.
 
-ghost use Rattle.std.specs.Prelude.{◌≡◌, false, IfErr, IfOk};
+ghost use Rattle.std.specs.Prelude.{◌≡◌, ◌+◌, ◌==◌, false, pos, List, find, map, option_map, IsTrue, IfOk, OnOk};
+ghost use Rattle.std.specs.Option.{option_copied};
+ghost use Rattle.sqlite_value.specs.declared.value.Value.TheVariants.{Int};
+ghost use Rattle.sqlite_value.specs.Order.{column};
 ghost use Rattle.sqlite.specs.Held.{state};
 ghost use Rattle.sqlite.specs.State.{HasCleanDisk};
-ghost use Rattle.matter_parts.specs.Parts.{IsWhole, no_figures};
+ghost use Rattle.matter_parts.specs.Parts.{IsWhole, kept_in};
 ghost use Rattle.matter_parts.specs.Audit.{IsSoundWhole};
+ghost use Rattle.firm_rows.specs.Countable.{IsRowInRange};
 ghost use Rattle.firm_rows.specs.Firm.{of};
+ghost use Rattle.trust_store.specs.Calls.{AreHanded};
 ghost use Rattle.trust_store.specs.Named.{IsPartFor};
 ghost use Rattle.sql_schema.specs.declared.layout.Layout.{Layout};
 ghost use Rattle.sql_tables.specs.Lists.{lists_in};
 ghost use Rattle.sql_tables.specs.Reading.{LeavesAll};
+ghost use Rattle.sql_tables.specs.Rows.{Head as HeadRow, heads_in, is_past, no_shown};
 ghost use Rattle.sql_tables.specs.Standing.{Stands};
 ghost use Rattle.sql_rows.specs.Standing.{StandsSound, firm_in};
-ghost use Rattle.sql_reads.specs.Parts.{part_at, part_of, with_totals_at};
-ghost use Rattle.sql_reads.specs.Shown.{seat_at};
+ghost use Rattle.sql_reads.specs.Fed.{AreCounted};
+ghost use Rattle.sql_reads.specs.Parts.{KeepsAlso, is_named_by, part_at, part_of, with_totals_at};
+ghost use Rattle.sql_reads.specs.Shown.{AreNumbersOf, kept_at as shown_at, numbered_from, rows_at, seat_at};
 
-use crate::columns::{head_in, seat_in};
-use crate::entries::{entries_of, keep_named};
-use crate::query::rows_of;
+use crate::columns::{entry_in, head_in, number_at, seat_in};
+use crate::query::{RowTaking, hand_rows, rows_of};
+use firm_rows::RowSink;
 use matter_parts::{Figures, Kept, Matter, is_sound_whole};
 use matter_rows::{Head, Seat};
-use sql_rows::{head_of, seat_of, totals_of};
+use sql_rows::{entry_of, head_of, seat_of, totals_of};
 use sqlite::{Alter, Connection, Row};
 use sqlite_value::value::ValueRef;
 use std::alloc::Global;
 use trust_base::{EntryNo, MatterNo, StoreFault};
 
-/// The head of a matter, and its stored totals.
+// The head of a matter, with its totals.
+const HEAD: &str =
+    "SELECT client, opened, closed, last, entries, held, available, disputed, fees, claims, \
+    pending, purged FROM matter_v2 WHERE no = ?1 ORDER BY rowid";
+
+// The seats of a matter, by person.
+const SEATS: &str = "SELECT person, role FROM seat_v2 WHERE matter = ?1 ORDER BY person, rowid";
+
+// The entries of a matter, by number.
+const ENTRIES: &str =
+    "SELECT no, kind, day, amount, state, fund, of_no, text_a, text_b, text_c, day_done, \
+    day_undone, day_bank, bank_ref, part, left_now FROM entry_v2 WHERE matter = ?1 ORDER BY no, rowid";
+
+// The head of a matter, and its stored totals.
 #[derive(Drop)]
-pub(crate) struct HeadWithTotals {
-    pub(crate) head: Head,
-    pub(crate) figures: Figures,
+struct HeadWithTotals {
+    head: Head,
+    figures: Figures,
 }
 
-/// Returns the head of a matter with its totals, or `None` if it was never opened.
-pub(crate) fn head_with_totals<S: Alter>(
+// Returns the head of a matter with its totals, or `None` if it was never opened.
+fn head_with_totals<S: Alter>(
     conn: &mut Connection<S>,
     alloc: Global,
     matter: MatterNo,
@@ -45,12 +65,7 @@ pub(crate) fn head_with_totals<S: Alter>(
         → IfOk result (λ head. head ≡ with_totals_at matter (lists_in l (state S.Store conn.old).now.trees)) }
     ensures left { LeavesAll result (state S.Store conn.old) (state S.Store conn.new) }
 {
-    let rows = rows_of(
-        conn,
-        "SELECT client, opened, closed, last, entries, held, available, disputed, fees, claims, \
-         pending, purged FROM matter_v2 WHERE no = ?1 ORDER BY rowid",
-        &[ValueRef::Int(matter.get() as i64)],
-    )?;
+    let rows = rows_of(conn, HEAD, &[ValueRef::Int(matter.get() as i64)])?;
     let Some(row) = rows.first() else {
         return Ok(None);
     };
@@ -60,16 +75,16 @@ pub(crate) fn head_with_totals<S: Alter>(
     Ok(Some(HeadWithTotals { head, figures }))
 }
 
-/// Reads a seat of a matter from a row.
-pub(crate) fn read_seat(alloc: Global, matter: MatterNo, row: &Row) -> Result<Seat, StoreFault>
+// Reads a seat of a matter from a row.
+fn read_seat(alloc: Global, matter: MatterNo, row: &Row) -> Result<Seat, StoreFault>
     ensures { IfOk result (λ s. s ≡ seat_at matter row.now) }
 {
     let columns = seat_in(matter.get() as i64, row)?;
     seat_of(alloc, matter, columns)
 }
 
-/// Returns the seats of a matter, by person in byte order.
-pub(crate) fn seats_of<S: Alter>(
+// Returns the seats of a matter, by person in byte order.
+fn seats_of<S: Alter>(
     conn: &mut Connection<S>,
     alloc: Global,
     matter: MatterNo,
@@ -81,11 +96,7 @@ pub(crate) fn seats_of<S: Alter>(
         ≡ (part_at matter (lists_in l (state S.Store conn.old).now.trees)).seats) }
     ensures left { LeavesAll result (state S.Store conn.old) (state S.Store conn.new) }
 {
-    let rows = rows_of(
-        conn,
-        "SELECT person, role FROM seat_v2 WHERE matter = ?1 ORDER BY person, rowid",
-        &[ValueRef::Int(matter.get() as i64)],
-    )?;
+    let rows = rows_of(conn, SEATS, &[ValueRef::Int(matter.get() as i64)])?;
     let mut seats = Vec::new(alloc);
     'each: for row in &rows {
         let seat = read_seat(alloc, matter, row)?;
@@ -94,18 +105,106 @@ pub(crate) fn seats_of<S: Alter>(
     Ok(seats)
 }
 
-// The totals of a matter without entries.
-fn no_figures() -> Figures
-    ensures { result ≡ no_figures }
+// Reads an entry of a matter from a row that shows its number first.
+fn kept_in(alloc: Global, matter: MatterNo, row: &Row) -> Result<Kept, StoreFault>
+    ensures { IfOk result (λ k. k ≡ shown_at matter row.now) }
 {
-    Figures {
-        entries: 0,
-        pending: 0,
-        held: 0,
-        available: 0,
-        disputed: 0,
-        fees: 0,
-        claims: 0,
+    let columns = entry_in(matter.get() as i64, row)?;
+    entry_of(alloc, matter, columns)
+}
+
+// Returns the entries of a matter by number, each with what is left of it.
+fn entries_of<S: Alter>(
+    conn: &mut Connection<S>,
+    alloc: Global,
+    matter: MatterNo,
+) -> Result<Vec<Kept>, StoreFault>
+    requires { conn.old.in_transaction ≡ false }
+    ensures mode { conn.new.in_transaction ≡ false }
+    ensures found { (l : Layout) → HasCleanDisk (state S.Store conn.new) → Stands l (state S.Store conn.old).now
+        → IfOk result (λ kept. kept.items ≡ (part_at matter (lists_in l (state S.Store conn.old).now.trees)).kept) }
+    ensures left { LeavesAll result (state S.Store conn.old) (state S.Store conn.new) }
+{
+    let rows = rows_of(conn, ENTRIES, &[ValueRef::Int(matter.get() as i64)])?;
+    let mut kept = Vec::new(alloc);
+    'each: for row in &rows {
+        let entry = kept_in(alloc, matter, row)?;
+        kept.push(entry)?;
+    }
+    Ok(kept)
+}
+
+// Returns the entry of this number, if it is kept.
+fn found(kept: &[Kept], number: EntryNo) -> Option<&Kept>
+    ensures { option_copied result ≡ kept_in kept.now number }
+{
+    let number = number.get();
+    kept.iter().find(|k| k.number.get() == number)
+}
+
+// Keeps the entry of this number, if it exists and is not kept already.
+fn keep_entry<S: Alter>(
+    conn: &mut Connection<S>,
+    alloc: Global,
+    matter: MatterNo,
+    number: EntryNo,
+    kept: &mut Vec<Kept>,
+) -> Result<(), StoreFault>
+    requires mode { conn.old.in_transaction ≡ false }
+    requires serves { HasCleanDisk (state S.Store conn.old) → IsTrue (state S.Store conn.old).is_open }
+    ensures mode { conn.new.in_transaction ≡ false }
+    ensures kept { (l : Layout) → HasCleanDisk (state S.Store conn.new) → StandsSound l (state S.Store conn.old).now
+        → OnOk result (KeepsAlso (λ n. n == number)
+        (part_at matter (lists_in l (state S.Store conn.old).now.trees)).kept kept.old.items kept.new.items) }
+    ensures left { LeavesAll result (state S.Store conn.old) (state S.Store conn.new) }
+{
+    if found(kept, number).is_some() {
+        return Ok(());
+    }
+    let rows = rows_of(
+        conn,
+        "SELECT no, kind, day, amount, state, fund, of_no, text_a, text_b, text_c, day_done, \
+         day_undone, day_bank, bank_ref, part, left_now FROM entry_v2 WHERE matter = ?1 AND no = ?2 \
+         ORDER BY rowid",
+        &[
+            ValueRef::Int(matter.get() as i64),
+            ValueRef::Int(number.get() as i64),
+        ],
+    )?;
+    let Some(row) = rows.first() else {
+        return Ok(());
+    };
+    let entry = kept_in(alloc, matter, row)?;
+    kept.push(entry)?;
+    Ok(())
+}
+
+// Keeps the named entry, if one is named, and the entry that it draws on. Reads no other entry.
+fn keep_named<S: Alter>(
+    conn: &mut Connection<S>,
+    alloc: Global,
+    matter: MatterNo,
+    named: Option<EntryNo>,
+    kept: &mut Vec<Kept>,
+) -> Result<(), StoreFault>
+    requires mode { conn.old.in_transaction ≡ false }
+    requires serves { HasCleanDisk (state S.Store conn.old) → IsTrue (state S.Store conn.old).is_open }
+    ensures mode { conn.new.in_transaction ≡ false }
+    ensures kept { (l : Layout) → HasCleanDisk (state S.Store conn.new) → StandsSound l (state S.Store conn.old).now
+        → OnOk result (KeepsAlso (is_named_by (part_at matter (lists_in l (state S.Store conn.old).now.trees)) named)
+        (part_at matter (lists_in l (state S.Store conn.old).now.trees)).kept kept.old.items kept.new.items) }
+    ensures left { LeavesAll result (state S.Store conn.old) (state S.Store conn.new) }
+{
+    let Some(named) = named else {
+        return Ok(());
+    };
+    keep_entry(conn, alloc, matter, named, kept)?;
+    let Some(entry) = found(kept, named) else {
+        return Ok(());
+    };
+    match entry.entry.target() {
+        None => Ok(()),
+        Some(target) => keep_entry(conn, alloc, matter, target, kept),
     }
 }
 
@@ -118,21 +217,9 @@ fn matter_of(
     ensures { IfOk result (λ part. part ≡ part_of opened seats.items kept.items) }
 {
     match opened {
-        None => Matter::of_part(None, seats, no_figures(), kept),
+        None => Matter::of_part(None, seats, Figures::none(), kept),
         Some(opened) => Matter::of_part(Some(opened.head), seats, opened.figures, kept),
     }
-}
-
-// Returns the matter if it is whole and sound, otherwise `Store`.
-fn if_sound(alloc: Global, matter: Matter) -> Result<Matter, StoreFault>
-    ensures is { IfOk result (λ part. part ≡ matter) }
-    ensures sound { IfOk result IsSoundWhole }
-    ensures store { IfErr result (λ e. e ≡ StoreFault.Store → IsSoundWhole matter → ⊥) }
-{
-    if !is_sound_whole(alloc, &matter)? {
-        return Err(StoreFault::Store);
-    }
-    Ok(matter)
 }
 
 /// Returns a matter with its totals and all its entries in order; without any row if it was never opened. Whatever
@@ -158,7 +245,10 @@ pub fn whole_matter<S: Alter>(
     let seats = seats_of(conn, alloc, matter)?;
     let kept = entries_of(conn, alloc, matter)?;
     let found = matter_of(opened, seats, kept)?;
-    if_sound(alloc, found)
+    if !is_sound_whole(alloc, &found)? {
+        return Err(StoreFault::Store);
+    }
+    Ok(found)
 }
 
 /// Returns a matter with its head, seats and totals, the named entries and those that they draw on; without any row
@@ -185,4 +275,196 @@ pub fn matter_for<S: Alter>(
     keep_named(conn, alloc, matter, entry, &mut kept)?;
     keep_named(conn, alloc, matter, other, &mut kept)?;
     Matter::of_part(Some(opened.head), seats, opened.figures, kept)
+}
+
+// A head with the number of its matter.
+#[derive(Drop)]
+struct NumberedHead {
+    matter: MatterNo,
+    head: Head,
+}
+
+// Reads the number of a head from a column. Returns `Store` if no matter can have it.
+fn matter_at(row: &Row, at: usize) -> Result<MatterNo, StoreFault>
+    ensures { IfOk result (λ m. column row.now at ≡ Int (pos m)) }
+{
+    let number = number_at(row, at)?;
+    if number < 0 || number > 99_999_999 {
+        return Err(StoreFault::Store);
+    }
+    MatterNo::from_number(number as u32).ok_or(StoreFault::Store)
+}
+
+// Returns the first head with a number greater than `after`, or `None` if there is none.
+fn next_head<S: Alter>(
+    conn: &mut Connection<S>,
+    alloc: Global,
+    after: i64,
+) -> Result<Option<NumberedHead>, StoreFault>
+    requires { conn.old.in_transaction ≡ false }
+    ensures mode { conn.new.in_transaction ≡ false }
+    ensures found { (l : Layout) → HasCleanDisk (state S.Store conn.new) → Stands l (state S.Store conn.old).now
+        → IfOk result (λ next. next
+        ≡ option_map numbered_from (find (is_past after) (heads_in l (state S.Store conn.old).now.trees))) }
+    ensures left { LeavesAll result (state S.Store conn.old) (state S.Store conn.new) }
+{
+    let rows = rows_of(
+        conn,
+        "SELECT client, opened, closed, last, entries, held, available, disputed, fees, claims, \
+         pending, purged, no FROM matter_v2 WHERE no > ?1 ORDER BY no LIMIT 1",
+        &[ValueRef::Int(after)],
+    )?;
+    let Some(row) = rows.first() else {
+        return Ok(None);
+    };
+    let matter = matter_at(row, 12)?;
+    let columns = head_in(matter.get() as i64, row)?;
+    let head = head_of(alloc, columns)?;
+    Ok(Some(NumberedHead { matter, head }))
+}
+
+// Reads the numbers of rows that have one each.
+fn numbers_in(alloc: Global, rows: &[Row]) -> Result<Vec<MatterNo>, StoreFault>
+    ensures { IfOk result (λ numbers. (hs : List HeadRow) → rows.now ≡ map no_shown hs → AreNumbersOf hs numbers.items) }
+{
+    let mut numbers = Vec::new(alloc);
+    'each: for row in rows {
+        let number = matter_at(row, 0)?;
+        numbers.push(number)?;
+    }
+    Ok(numbers)
+}
+
+/// Returns the numbers of all heads, in order.
+pub(crate) fn head_numbers<S: Alter>(
+    conn: &mut Connection<S>,
+    alloc: Global,
+) -> Result<Vec<MatterNo>, StoreFault>
+    requires { conn.old.in_transaction ≡ false }
+    ensures mode { conn.new.in_transaction ≡ false }
+    ensures found { (l : Layout) → HasCleanDisk (state S.Store conn.new) → Stands l (state S.Store conn.old).now
+        → IfOk result (λ numbers. AreNumbersOf (heads_in l (state S.Store conn.old).now.trees) numbers.items) }
+    ensures left { LeavesAll result (state S.Store conn.old) (state S.Store conn.new) }
+{
+    let rows = rows_of(conn, "SELECT no FROM matter_v2 ORDER BY no", &[])?;
+    numbers_in(alloc, &rows)
+}
+
+// Takes the rows of a matter's seats.
+#[derive(Drop)]
+struct SeatTaking {
+    alloc: Global,
+    matter: MatterNo,
+}
+
+impl<K: RowSink> RowTaking<K> for SeatTaking {
+    ghost use Rattle.firm_rows.specs.Firm.{SeatRow};
+    ghost use Rattle.sql_reads.specs.Shown.{seat_at};
+
+    ghost taken = { λ t sink row. K.stepped sink (t.matter, SeatRow (seat_at t.matter row)) };
+
+    ghost fits = { λ _ _. Unit {0} };
+
+    fn take(&self, row: &Row, sink: &mut K) -> Result<(), StoreFault> {
+        let seat = read_seat(self.alloc, self.matter, row)?;
+        sink.seat(self.matter, &seat)?;
+        Ok(())
+    }
+}
+
+// Takes the rows of a matter's entries.
+#[derive(Drop)]
+struct EntryTaking {
+    alloc: Global,
+    matter: MatterNo,
+}
+
+impl<K: RowSink> RowTaking<K> for EntryTaking {
+    ghost use Rattle.firm_rows.specs.Firm.{EntryRow};
+    ghost use Rattle.sql_reads.specs.Shown.{kept_at};
+
+    ghost taken = { λ t sink row.
+        K.stepped sink (t.matter, EntryRow (kept_at t.matter row).number (kept_at t.matter row).entry) };
+
+    ghost fits = { λ _ _. Unit {0} };
+
+    fn take(&self, row: &Row, sink: &mut K) -> Result<(), StoreFault> {
+        let kept = kept_in(self.alloc, self.matter, row)?;
+        sink.entry(self.matter, kept.number, &kept.entry)?;
+        Ok(())
+    }
+}
+
+// Returns how many rows a matter has: its head, its seats and its entries. Returns `Store` for 2^64 or more.
+fn row_count(seats: u64, entries: u64) -> Result<u64, StoreFault>
+    ensures { IfOk result (λ n. n ≡ seats + entries + 1) }
+{
+    let others = seats.checked_add(entries).ok_or(StoreFault::Store)?;
+    others.checked_add(1).ok_or(StoreFault::Store)
+}
+
+// Passes a matter to the sink: its head, its seats by person and its entries by number. Returns the number of rows.
+fn hand_matter<S: Alter, K: RowSink>(
+    conn: &mut Connection<S>,
+    alloc: Global,
+    next: &NumberedHead,
+    sink: &mut K,
+) -> Result<u64, StoreFault>
+    requires { conn.old.in_transaction ≡ false }
+    ensures mode { conn.new.in_transaction ≡ false }
+    ensures handed { (l : Layout) → HasCleanDisk (state S.Store conn.new) → Stands l (state S.Store conn.old).now
+        → AreCounted K.stepped (rows_at (lists_in l (state S.Store conn.old).now.trees) next.now)
+        result sink.old sink.new }
+    ensures left { LeavesAll result (state S.Store conn.old) (state S.Store conn.new) }
+{
+    sink.head(next.matter, &next.head)?;
+    let matter = next.matter;
+    let seats = hand_rows(
+        conn,
+        SEATS,
+        &[ValueRef::Int(matter.get() as i64)],
+        &SeatTaking { alloc, matter },
+        sink,
+    )?;
+    let entries = hand_rows(
+        conn,
+        ENTRIES,
+        &[ValueRef::Int(matter.get() as i64)],
+        &EntryTaking { alloc, matter },
+        sink,
+    )?;
+    row_count(seats, entries)
+}
+
+/// Passes each row of each matter to the sink: matters by number, and in each the head, the seats by person and the
+/// entries by number. Stops with `Memory` if memory runs out, and with `Store` at a row that is invalid or past the
+/// 2^64 - 1st; the sink keeps the rows before it. Holds one row at a time, so memory does not grow with their number.
+pub fn each_row<S: Alter, K: RowSink>(
+    conn: &mut Connection<S>,
+    alloc: Global,
+    sink: &mut K,
+) -> Result<(), StoreFault>
+    requires { conn.old.in_transaction ≡ false }
+    ensures mode { conn.new.in_transaction ≡ false }
+    ensures handed { (l : Layout) → HasCleanDisk (state S.Store conn.new) → StandsSound l (state S.Store conn.old).now
+        → AreHanded K.stepped IsRowInRange (firm_in l (state S.Store conn.old).now.trees).rows
+        result sink.old sink.new }
+    ensures left { LeavesAll result (state S.Store conn.old) (state S.Store conn.new) }
+{
+    // No matter has the least number, after which the walk over the heads starts.
+    let least = rows_of(conn, HEAD, &[ValueRef::Int(i64::MIN)])?;
+    if !least.is_empty() {
+        return Err(StoreFault::Store);
+    }
+    let mut after = i64::MIN;
+    let mut count: u64 = 0;
+    'matters: for _ in 0..u64::MAX {
+        let Some(next) = next_head(conn, alloc, after)? else {
+            return Ok(());
+        };
+        let rows = hand_matter(conn, alloc, &next, sink)?;
+        count = count.checked_add(rows).ok_or(StoreFault::Store)?;
+        after = next.matter.get() as i64;
+    }
+    Err(StoreFault::Store)
 }

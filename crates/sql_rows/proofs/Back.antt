@@ -1,23 +1,12 @@
 -- An entry that is read back from its columns is the entry.
-use Rattle.std.proofs.Common.{◌≡◌, refl, ap}
+use Rattle.sql_rows.proofs.Names.{◌≡◌, refl, ap, Payment, PaymentState, Deposit, DepositState, Claim, ClaimState, Against, Entry, parts_of, entry_from, EntriesReadBack}
 use Rattle.matter_rows.specs.declared.payment.Fund.{Fund}
 use Rattle.matter_rows.specs.declared.payment.Fund.TheVariants as fund
-use Rattle.matter_rows.specs.declared.payment.Payment.{Payment}
-use Rattle.matter_rows.specs.declared.payment.PaymentState.{PaymentState}
 use Rattle.matter_rows.specs.declared.payment.PaymentState.TheVariants as payment
-use Rattle.matter_rows.specs.declared.deposit.Deposit.{Deposit}
-use Rattle.matter_rows.specs.declared.deposit.DepositState.{DepositState}
 use Rattle.matter_rows.specs.declared.deposit.DepositState.TheVariants as deposit
-use Rattle.matter_rows.specs.declared.claim.Claim.{Claim}
-use Rattle.matter_rows.specs.declared.claim.ClaimState.{ClaimState}
 use Rattle.matter_rows.specs.declared.claim.ClaimState.TheVariants as claim
-use Rattle.matter_rows.specs.declared.claim.Against.{Against}
 use Rattle.matter_rows.specs.declared.claim.Against.TheVariants as against
-use Rattle.matter_rows.specs.declared.entry.Entry.{Entry}
 use Rattle.matter_rows.specs.declared.entry.Entry.TheVariants as entry
-use Rattle.sql_rows.specs.Entries.{parts_of}
-use Rattle.sql_rows.specs.Meaning.{entry_from}
-use Rattle.sql_rows.specs.Standing.{EntriesReadBack}
 
 deposit_back : (s : DepositState) (d : Deposit)
     → entry_from (parts_of (entry.Deposit (record d { state = s }))) ≡ entry.Deposit (record d { state = s })

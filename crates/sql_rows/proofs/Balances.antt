@@ -1,23 +1,9 @@
 -- The balances of a firm, as their table keeps them and in their order.
-use Rattle.std.proofs.Common.{◌≡◌, ℕ, ℤ, pos, nat_abs, eqb, Bool, true, false, ◌&&◌, cond, List, [], ◌∷◌, map, Some, None, find, option_map, refl, sym, ap, ap₂, ◌∙◌, arith, int_cmp, is_eq}
-use Rattle.std.specs.List.{AllByRecursion}
-use Rattle.std.specs.Cmp.{IsTotalOrder, tied_then}
-use Rattle.std.specs.Ordering.{nat_cmp, ordering_then}
-use Rattle.std.proofs.lemmas.Bool.Decides.{nat_tests}
-use Rattle.std.proofs.lemmas.Cmp.{int_cmp_total, on_total, then_total}
-use Rattle.sqlite_keyed.specs.Keyed.{IsKeyedBy, next_key}
-use Rattle.sqlite_keyed.specs.Lists.{sort_by}
-use Rattle.sqlite_keyed.proofs.ListLemmas.{all_weaker, all-append, all_unmap}
-use Rattle.sqlite_keyed.proofs.SortLemmas.{IsPermutation-sort_by}
-use Rattle.firm_rows.specs.declared.ledger.BalanceKind.{BalanceKind}
+use Rattle.sql_rows.proofs.Names.{◌≡◌, ℕ, ℤ, pos, nat_abs, eqb, Bool, true, false, ◌&&◌, cond, List, [], ◌∷◌, map, Some, None, find, option_map, refl, sym, ap, ap₂, ◌∙◌, arith, int_cmp, is_eq, AllByRecursion, IsTotalOrder, tied_then, nat_cmp, ordering_then, nat_tests, int_cmp_total, on_total, then_total, IsKeyedBy, next_key, sort_by, all_weaker, all-append, all_unmap, IsPermutation-sort_by, BalanceKind, place_of, with_balance, is_balance_on, kept_balance, Balance, balance_cmp, add_balance, kind_column, balance_columns, IsWrittenBalance, balance_from, balance_kind_from}
 use Rattle.firm_rows.specs.declared.ledger.BalanceKind.TheVariants.{Opening, Closing}
 use Rattle.firm_rows.specs.declared.ledger.StatementRow.{StatementRow}
 use Rattle.firm_rows.specs.FirmLines as firm
-use Rattle.firm_rows.specs.FirmLines.{place_of, with_balance, is_balance_on, kept_balance}
 use Rattle.firm_rows.proofs.Balances.{balance_total}
-use Rattle.sql_tables.specs.Rows.{Balance, balance_cmp, add_balance}
-use Rattle.sql_rows.specs.Columns.{kind_column, balance_columns}
-use Rattle.sql_rows.specs.Meaning.{IsWrittenBalance, balance_from, balance_kind_from}
 use Rattle.sql_rows.proofs.RowOrder.{all_permuted, read-push, read_cmp, then_assoc}
 
 -- The order of the rows is that of the balances, and then that of the rowids.

@@ -1,33 +1,13 @@
 -- What a change of one matter makes of the firm for which the tables stand.
-use Rattle.std.proofs.Common.{◌≡◌, ℕ, ℤ, pos, List, [], ◌++◌, map, find, Option, Some, None, option_map, refl, sym, ap, subst, ◌∙◌}
-use Rattle.std.specs.List.{AllByRecursion}
-use Rattle.sqlite_keyed.specs.Keyed.{IsKeyedBy}
-use Rattle.sqlite_keyed.specs.Lists.{sort_by}
-use Rattle.sqlite_keyed.proofs.ListLemmas.{all_weaker}
-use Rattle.matter_rows.specs.declared.head.Head.{Head}
-use Rattle.matter_rows.specs.declared.entry.Entry.{Entry}
-use Rattle.matter_rows.specs.Rows.{Rows, unopened}
-use Rattle.matter_rows.specs.Sound.{Sound}
+use Rattle.sql_rows.proofs.Names.{◌≡◌, ℕ, ℤ, pos, List, [], ◌++◌, map, find, Option, Some, None, option_map, refl, sym, ap, subst, ◌∙◌, AllByRecursion, IsKeyedBy, sort_by, all_weaker, Head, Entry, Rows, unopened, Sound, Figures, Kept, Part, IsWhole, AreKept, AreFigures, AreNumbered, entries_kept, no_figures, MatterChange, IsChange, changed, edited, head_after, seats_after, of, after_change, kept_movements, joined_movement, unopened-sound, rows_in, firm_of, IsKeptAs, AreKeptWhole, put_head, is_head, seats_of, entries_of, Lists, head_columns, AreMeant, HasHeadAt, IsWrittenMovement, firm_from, matters_from, part_from, head_from, figures_from, seat_from, kept_from, movement_from, firm_line_from, exception_from, balance_from, head_at}
 use Rattle.matter_parts.specs.declared.edit.Edit.TheVariants as edit
-use Rattle.matter_parts.specs.declared.figures.Figures.{Figures}
-use Rattle.matter_parts.specs.declared.kept.Kept.{Kept}
-use Rattle.matter_parts.specs.Parts.{Part, IsWhole, AreKept, AreFigures, AreNumbered, entries_kept, no_figures}
-use Rattle.matter_parts.specs.Changes.{MatterChange, IsChange, changed, edited, head_after, seats_after}
-use Rattle.firm_rows.specs.Firm.{of, after_change, kept_movements, joined_movement}
-use Rattle.firm_rows.proofs.Kept.{unopened-sound}
-use Rattle.trust_store.specs.Kept.{rows_in, firm_of, IsKeptAs, AreKeptWhole}
 use Rattle.trust_store.proofs.KeptMatters.{change_in, kept-whole, written_firm}
 use Rattle.sql_tables.specs.Rows as table
-use Rattle.sql_tables.specs.Rows.{put_head, is_head, seats_of, entries_of}
-use Rattle.sql_tables.specs.Lists.{Lists}
-use Rattle.sql_rows.specs.Heads.{head_columns}
-use Rattle.sql_rows.specs.Meaning.{AreMeant, HasHeadAt, IsWrittenSeat, IsWrittenEntry, IsWrittenMovement, firm_from, matters_from, part_from, head_from, figures_from, seat_from, kept_from, movement_from, firm_line_from, exception_from, balance_from}
-use Rattle.sql_rows.specs.Steps.{head_at}
-use Rattle.sql_rows.proofs.EntryWritten.{AreEntered}
 use Rattle.sql_rows.proofs.HeadOrder.{key, rows_found}
 use Rattle.sql_rows.proofs.Heads.{heads_put, rows_at, found_number, part_found, whole_found, HasDays, written_put_head, has_put_head, still_has_head}
 use Rattle.sql_rows.proofs.KeyedRows.{none_of}
-use Rattle.sql_rows.proofs.Seats.{AreSeated, no_seats}
+use Rattle.sql_rows.proofs.Placed.{EntriesPlaced, SeatsPlaced}
+use Rattle.sql_rows.proofs.Seats.{no_seats}
 
 -- The matter before.
 
@@ -195,14 +175,9 @@ matter_becomes m c a b new up meant may some is =
 -- of other matters the seats and the entries stay; all are written ones, of matters with a head
 pub record ArePlaced (m : ℕ) (a : Lists) (seats : List table.Seat) (entries : List table.Entry)
     (movements : List table.Movement) : Type 0 where
-  pub other_seats : (k : ℤ) → (k ≡ pos m → ⊥) → seats_of k seats ≡ seats_of k a.seats
-  pub other_entries : (k : ℤ) → (k ≡ pos m → ⊥) → entries_of k entries ≡ entries_of k a.entries
-  pub seats_written : AllByRecursion IsWrittenSeat seats
-  pub entries_written : AllByRecursion IsWrittenEntry entries
+  pub seats_placed : SeatsPlaced m a.seats seats
+  pub entries_placed : EntriesPlaced m a.entries entries
   pub movements_written : AllByRecursion IsWrittenMovement movements
-  pub seated : (heads : List table.Head) → HasHeadAt heads (pos m) → AreSeated heads a.seats → AreSeated heads seats
-  pub entered : (heads : List table.Head) → HasHeadAt heads (pos m) → AreEntered heads a.entries
-      → AreEntered heads entries
 
 -- the lists with another head of a matter, and other seats, entries and movements
 abbrev pub with_matter : Lists → table.Head → List table.Seat → List table.Entry → List table.Movement → Lists
@@ -243,9 +218,9 @@ module _ (m : ℕ) (c : MatterChange) (a : Lists) (h : Head) (seats : List table
         heads = refl;
         others = λ x other. λ i. record {
           head = Some (head_from x);
-          seats = map seat_from (placed.other_seats x.no other i);
+          seats = map seat_from (placed.seats_placed.others x.no other i);
           figures = figures_from x;
-          kept = map kept_from (placed.other_entries x.no other i);
+          kept = map kept_from (placed.entries_placed.others x.no other i);
         };
         whole = whole;
         movements = moved;
@@ -259,18 +234,18 @@ module _ (m : ℕ) (c : MatterChange) (a : Lists) (h : Head) (seats : List table
       let rows : AreMeant end = record {
         written = record {
           heads = written_put_head m h c.moves.figures a.heads days meant.written.heads;
-          seats = placed.seats_written;
-          entries = placed.entries_written;
+          seats = placed.seats_placed.written;
+          entries = placed.entries_placed.written;
           movements = placed.movements_written;
           firm_lines = meant.written.firm_lines;
           exceptions = meant.written.exceptions;
           balances = meant.written.balances;
         };
         matters = done.1;
-        seated = placed.seated end.heads here
+        seated = placed.seats_placed.headed end.heads here
             (all_weaker (λ (s : table.Seat). HasHeadAt a.heads s.matter)
             (λ (s : table.Seat). HasHeadAt end.heads s.matter) (λ s has. still s.matter has) a.seats meant.seated);
-        entered = placed.entered end.heads here
+        entered = placed.entries_placed.headed end.heads here
             (all_weaker (λ (e : table.Entry). HasHeadAt a.heads e.matter)
             (λ (e : table.Entry). HasHeadAt end.heads e.matter) (λ e has. still e.matter has) a.entries meant.entered);
       } in

@@ -1,7 +1,5 @@
 -- Tables without rows stand for the firm without rows.
-use Rattle.std.proofs.Common.{refl}
-use Rattle.firm_rows.proofs.Kept.{empty-sound}
-use Rattle.sql_rows.specs.Standing.{EmptyTablesStand}
+use Rattle.sql_rows.proofs.Names.{refl, empty-sound, EmptyTablesStand}
 
 -- no row is out of order, or stands for another
 pub empty_stands : EmptyTablesStand

@@ -1,32 +1,19 @@
 -- What the steps of a written entry make of the tables.
-use Rattle.std.proofs.Common.{◌≡◌, ℕ, ℤ, pos, List, Option, Some, None, refl, sym, ap, subst, ◌∙◌}
-use Rattle.std.specs.List.{AllByRecursion}
-use Rattle.sqlite_keyed.specs.Keyed.{IsKeyedBy}
-use Rattle.matter_parts.specs.declared.change.Left.{Left}
-use Rattle.matter_parts.specs.declared.change.TotalsAfter.{TotalsAfter}
-use Rattle.matter_parts.specs.declared.edit.Numbered.{Numbered}
-use Rattle.matter_parts.specs.Applied.{entry_put, kept_as, other_written}
-use Rattle.matter_parts.specs.Parts.{AreNumbered}
-use Rattle.sql_rows.specs.Entries.{entry_columns}
-use Rattle.sql_tables.specs.Lists.{Lists}
+use Rattle.sql_rows.proofs.Names.{◌≡◌, ℕ, pos, List, Option, Some, None, refl, sym, ap, subst, ◌∙◌, AllByRecursion, IsKeyedBy, Left, TotalsAfter, Numbered, entry_put, kept_as, other_written, AreNumbered, entry_columns, Lists, IsWrittenEntry, kept_from, AreMade, entry_steps, left_steps}
 use Rattle.sql_tables.specs.Rows as table
-use Rattle.sql_rows.specs.Meaning.{HasHeadAt, IsWrittenEntry, kept_from}
-use Rattle.sql_rows.specs.Steps.{AreMade, entry_steps, left_steps}
 use Rattle.sql_rows.proofs.Back.{entries_back}
 use Rattle.sql_rows.proofs.EntryFits.{FitsKept}
-use Rattle.sql_rows.proofs.EntryLeft.{entered_left, left_put, others_left, own_left, written_left}
-use Rattle.sql_rows.proofs.EntryOrder.{entry_key, have_numbers, kept_of, kept_put, others_put, written_number}
-use Rattle.sql_rows.proofs.EntryWritten.{AreEntered, columns_written, entered_put, written_put}
+use Rattle.sql_rows.proofs.EntryLeft.{left_put, own_left, placed_left_put}
+use Rattle.sql_rows.proofs.EntryOrder.{entry_key, have_numbers, kept_of, kept_put, written_number}
+use Rattle.sql_rows.proofs.EntryWritten.{columns_written, placed_put}
+use Rattle.sql_rows.proofs.Placed.{EntriesPlaced, placed_then}
 
 -- the entries alone are others: of the matter the entry is in its place, with what is left of the one that it names;
 -- those of others stay; all are written ones, of matters with a head
 pub record IsEntryPut (m : ℕ) (x : Numbered) (v : TotalsAfter) (a b : Lists) : Type 0 where
   pub same : b ≡ record a { entries = b.entries }
   pub own : kept_of (pos m) b.entries ≡ other_written (entry_put (kept_of (pos m) a.entries) (kept_as x v)) v.other
-  pub others : (k : ℤ) → (k ≡ pos m → ⊥) → table.entries_of k b.entries ≡ table.entries_of k a.entries
-  pub written : AllByRecursion IsWrittenEntry b.entries
-  pub entered : (heads : List table.Head) → HasHeadAt heads (pos m) → AreEntered heads a.entries
-      → AreEntered heads b.entries
+  pub placed : EntriesPlaced m a.entries b.entries
 
 -- What the steps of an entry make.
 
@@ -52,8 +39,8 @@ module _ (m : ℕ) (x : Numbered) (v : TotalsAfter) (a b : Lists) (up : IsKeyedB
   row_kept : kept_from row ≡ kept_as x v
   row_kept = entries_back m x.number v.left x.entry
 
-  once_written : AllByRecursion IsWrittenEntry once
-  once_written = written_put row es row_written written
+  once_placed : EntriesPlaced m es once
+  once_placed = placed_put m es written row refl row_written up
 
   own_once : kept_of (pos m) once ≡ entry_put (kept_of (pos m) es) (kept_as x v)
   own_once =
@@ -64,7 +51,7 @@ module _ (m : ℕ) (x : Numbered) (v : TotalsAfter) (a b : Lists) (up : IsKeyedB
   own_both : kept_of (pos m) (left_put m v.other once)
       ≡ other_written (entry_put (kept_of (pos m) es) (kept_as x v)) v.other
   own_both =
-      own_left m v.other once once_written (subst (AreNumbered 1) (sym own_once) fits.after)
+      own_left m v.other once once_placed.written (subst (AreNumbered 1) (sym own_once) fits.after)
       ∙ ap (λ ks. other_written ks v.other) own_once
 
   -- they put it, with what is left of the one that it names
@@ -77,9 +64,7 @@ module _ (m : ℕ) (x : Numbered) (v : TotalsAfter) (a b : Lists) (up : IsKeyedB
       record {
         same = all ∙ ap (λ l. record a { entries = l }) is;
         own = ap (kept_of (pos m)) (sym is) ∙ own_both;
-        others = λ k other.
-            ap (table.entries_of k) (sym is) ∙ others_left k m v.other once other ∙ others_put k row es other up;
-        written = subst (AllByRecursion IsWrittenEntry) is (written_left m v.other once once_written);
-        entered = λ heads has each.
-            subst (AreEntered heads) is (entered_left heads m v.other once (entered_put heads row es has each));
+        placed = subst (EntriesPlaced m es) is
+            (placed_then (λ (e : table.Entry). e.matter) table.entry_cmp IsWrittenEntry m es once _ once_placed
+            (placed_left_put m v.other once once_placed.written));
       }

@@ -1,21 +1,11 @@
 -- The columns of an entry have what its kind and state want.
-use Rattle.std.proofs.Common.{◌≡◌, ℕ, pos, refl, ap, sym, subst}
-use Rattle.matter_rows.specs.declared.deposit.Deposit.{Deposit}
-use Rattle.matter_rows.specs.declared.deposit.DepositState.{DepositState}
+use Rattle.sql_rows.proofs.Names.{◌≡◌, ℕ, pos, refl, ap, subst, ◌∙◌, Deposit, DepositState, Payment, PaymentState, Claim, ClaimState, Against, Entry, Kept, parts_of, entry_columns, HasEntry}
 use Rattle.matter_rows.specs.declared.deposit.DepositState.TheVariants as deposit
-use Rattle.matter_rows.specs.declared.payment.Payment.{Payment}
-use Rattle.matter_rows.specs.declared.payment.PaymentState.{PaymentState}
 use Rattle.matter_rows.specs.declared.payment.PaymentState.TheVariants as payment
-use Rattle.matter_rows.specs.declared.claim.Claim.{Claim}
-use Rattle.matter_rows.specs.declared.claim.ClaimState.{ClaimState}
 use Rattle.matter_rows.specs.declared.claim.ClaimState.TheVariants as claim
-use Rattle.matter_rows.specs.declared.claim.Against.{Against}
 use Rattle.matter_rows.specs.declared.claim.Against.TheVariants as against
-use Rattle.matter_rows.specs.declared.entry.Entry.{Entry}
 use Rattle.matter_rows.specs.declared.entry.Entry.TheVariants as entry
-use Rattle.matter_parts.specs.declared.kept.Kept.{Kept}
 use Rattle.sql_tables.specs.Rows as table
-use Rattle.sql_rows.specs.Entries.{parts_of, entry_columns, HasEntry}
 
 -- its columns have the entry, with its day and its amount
 abbrev HasItself : ℕ → ℕ → ℕ → Entry → Type 0
@@ -76,16 +66,22 @@ kept_has m day amount k t is dated amounts =
     let amount_is : pos (parts_of k.entry).amount ≡ t.amount = ap (λ (x : table.Entry). x.amount) is in
     has_entry m k.number k.left day amount k.entry t is (cc) (cc)
 
--- what was read has the columns of the entry that is kept, where it is that entry and the row has its numbers
+-- what was read is what is kept, where it is that entry and the row has its numbers
+pub same_kept :
+    (m n left : ℕ) (e : Entry) (k : Kept) (t : table.Entry)
+    → entry_columns m k.number k.left k.entry ≡ t → pos n ≡ t.no → pos left ≡ t.left_now → e ≡ k.entry
+    → record { number = n; left = left; entry = e } ≡ k
+same_kept m n left e k t is numbered lefts same =
+    let number_is : pos k.number ≡ t.no = ap (λ (x : table.Entry). x.no) is in
+    let left_is : pos k.left ≡ t.left_now = ap (λ (x : table.Entry). x.left_now) is in
+    let number_same : n ≡ k.number = cc in
+    let left_same : left ≡ k.left = cc in
+    λ i. record { number = number_same i; left = left_same i; entry = same i }
+
+-- so it has the columns of that
 pub same_columns :
     (m n left : ℕ) (e : Entry) (k : Kept) (t : table.Entry)
     → entry_columns m k.number k.left k.entry ≡ t → pos n ≡ t.no → pos left ≡ t.left_now → e ≡ k.entry
     → entry_columns m n left e ≡ t
 same_columns m n left e k t is numbered lefts same =
-    let number_is : pos k.number ≡ t.no = ap (λ (x : table.Entry). x.no) is in
-    let left_is : pos k.left ≡ t.left_now = ap (λ (x : table.Entry). x.left_now) is in
-    let number_same : k.number ≡ n = cc in
-    let left_same : k.left ≡ left = cc in
-    subst (λ (x : ℕ). entry_columns m x left e ≡ t) number_same
-    (subst (λ (x : ℕ). entry_columns m k.number x e ≡ t) left_same
-    (subst (λ (x : Entry). entry_columns m k.number k.left x ≡ t) (sym same) is))
+    ap (λ (x : Kept). entry_columns m x.number x.left x.entry) (same_kept m n left e k t is numbered lefts same) ∙ is

@@ -1,15 +1,6 @@
 -- The entry of a number among the rows of the table is that of the matter that they stand for.
-use Rattle.std.proofs.Common.{◌≡◌, inl, inr, ℕ, ℤ, pos, nat_abs, ◌≤◌, ◌+◌, Bool, cond, eqb, List, [], ◌∷◌, map, filter, find, length, Some, option_map, int_eq, refl, ap, ◌∙◌, arith}
-use Rattle.std.specs.List.{AllByRecursion}
-use Rattle.std.proofs.lemmas.Bool.{cases_Bool}
-use Rattle.std.proofs.lemmas.List.Sorted.{length_permutation}
-use Rattle.sqlite_keyed.specs.Lists.{sort_by}
-use Rattle.sqlite_keyed.proofs.ListLemmas.{IsPermutation-filter}
-use Rattle.sqlite_keyed.proofs.RuleLemmas.{at_most_one}
-use Rattle.sqlite_keyed.proofs.SortLemmas.{IsPermutation-sort_by}
-use Rattle.matter_parts.specs.Parts.{kept_in, AreNumbered}
-use Rattle.sql_tables.specs.Rows.{Entry, entry_cmp, is_entry_at, is_entry_of, entries_of}
-use Rattle.sql_rows.specs.Meaning.{kept_from}
+use Rattle.sql_rows.proofs.Names.{◌≡◌, inl, inr, ℕ, ℤ, pos, nat_abs, ◌≤◌, ◌+◌, Bool, cond, eqb, List, [], ◌∷◌, map, filter, find, length, Some, option_map, int_eq, refl, ap, ◌∙◌, arith, AllByRecursion, cases_Bool, length_permutation, sort_by, IsPermutation-filter, at_most_one, IsPermutation-sort_by, kept_in, AreNumbered, entry_cmp, is_entry_at, is_entry_of, entries_of, kept_from}
+use Rattle.sql_tables.specs.Rows.{Entry}
 use Rattle.sql_rows.proofs.EntryOrder.{HasNumber, entry_total, kept_of, number_is, numbers_of, numbers_rise, same_test}
 use Rattle.sql_rows.proofs.RowOrder.{find-sort_by}
 

@@ -1,15 +1,6 @@
 -- The entry of a change fits among those that the matter keeps.
-use Rattle.std.proofs.Common.{◌≡◌, ◌⊎◌, inl, inr, ◌+◌, List, length, Some, ap, subst, ◌∙◌, arith}
-use Rattle.matter_rows.specs.declared.entry.Entry.{Entry}
-use Rattle.matter_rows.specs.Rows.{Rows, entry_at}
-use Rattle.matter_parts.specs.declared.change.TotalsAfter.{TotalsAfter}
-use Rattle.matter_parts.specs.declared.edit.Edit.{Edit}
+use Rattle.sql_rows.proofs.Names.{◌≡◌, ◌⊎◌, inl, inr, ◌+◌, List, length, Some, ap, subst, ◌∙◌, arith, Entry, Rows, entry_at, TotalsAfter, Edit, Numbered, Kept, entry_put, kept_as, MatterChange, IsChange, IsExchange, IsPlace, Part, AreNumbered, IsWhole, entries_kept}
 use Rattle.matter_parts.specs.declared.edit.Edit.TheVariants as edit
-use Rattle.matter_parts.specs.declared.edit.Numbered.{Numbered}
-use Rattle.matter_parts.specs.declared.kept.Kept.{Kept}
-use Rattle.matter_parts.specs.Applied.{entry_put, kept_as}
-use Rattle.matter_parts.specs.Changes.{MatterChange, IsChange, IsExchange, IsPlace}
-use Rattle.matter_parts.specs.Parts.{Part, AreNumbered, IsWhole, entries_kept}
 use Rattle.matter_parts.proofs.AllKept.{length-kept, numbered-at, numbered-end}
 
 -- what is kept is numbered, also with the entry

@@ -1,20 +1,8 @@
 -- The entries of a matter after what is left of one was written.
-use Rattle.std.proofs.Common.{◌≡◌, inl, inr, ℕ, ℤ, pos, nat_abs, ◌+◌, ◌<◌, Bool, false, cond, eqb, List, [], ◌∷◌, map, filter, Option, Some, None, refl, sym, ap, ◌∙◌, arith, int_eq}
-use Rattle.std.specs.List.{AllByRecursion}
-use Rattle.std.proofs.lemmas.Bool.{cases_Bool, cond_both}
-use Rattle.std.proofs.lemmas.Bool.Decides.{nat_tests}
-use Rattle.sqlite_keyed.specs.Lists.{sort_by, update_where}
-use Rattle.sqlite_keyed.proofs.KeyedLemmas.{same_int, int_eq_apart}
-use Rattle.sqlite_keyed.proofs.ListLemmas.{all_map, all_weaker}
-use Rattle.sqlite_keyed.proofs.RuleLemmas.{first_of_both}
-use Rattle.sqlite_keyed.proofs.SortLemmas.{sort_by-map}
-use Rattle.matter_parts.specs.declared.change.Left.{Left}
-use Rattle.matter_parts.specs.Applied.{left_written, other_written}
-use Rattle.matter_parts.specs.Parts.{AreNumbered}
-use Rattle.sql_tables.specs.Rows.{Head, Entry, entry_cmp, is_entry_at, is_entry_of, entries_of, with_left, put_left}
-use Rattle.sql_rows.specs.Meaning.{HasHeadAt, IsWrittenEntry, kept_from}
+use Rattle.sql_rows.proofs.Names.{◌≡◌, inl, inr, ℕ, ℤ, pos, nat_abs, ◌+◌, ◌<◌, Bool, false, cond, eqb, List, [], ◌∷◌, map, filter, Option, Some, None, refl, sym, ap, ◌∙◌, arith, int_eq, AllByRecursion, cases_Bool, cond_both, nat_tests, sort_by, update_where, same_int, int_eq_apart, all_map, all_weaker, first_of_both, sort_by-map, Left, left_written, other_written, AreNumbered, entry_cmp, is_entry_at, is_entry_of, entries_of, with_left, put_left, HasHeadAt, IsWrittenEntry, kept_from}
+use Rattle.sql_tables.specs.Rows.{Entry}
 use Rattle.sql_rows.proofs.EntryOrder.{HasNumber, have_numbers, kept_of, number_is, numbers_of, same_test}
-use Rattle.sql_rows.proofs.EntryWritten.{AreEntered}
+use Rattle.sql_rows.proofs.Placed.{EntriesPlaced}
 
 -- what is left of the one that is named, if one is
 abbrev pub left_put : ℕ → Option Left → List Entry → List Entry
@@ -112,8 +100,7 @@ own_left m (Some o) es written numbered =
     ∙ ap (map kept_from) (sorted_rows n left (filter (is_entry_of (pos m)) es))
     ∙ kept_left o.number o.left 1 (entries_of (pos m) es) (numbers_of (pos m) es (have_numbers es written)) numbered
 
--- the entries of another matter are as they were
-pub others_left : (k : ℤ) (m : ℕ) (o : Option Left) (es : List Entry) → (k ≡ pos m → ⊥)
+others_left : (k : ℤ) (m : ℕ) (o : Option Left) (es : List Entry) → (k ≡ pos m → ⊥)
     → entries_of k (left_put m o es) ≡ entries_of k es
 others_left k m None es other = refl
 others_left k m (Some o) es other = ap (sort_by entry_cmp) (others_rows (pos m) (pos o.number) (pos o.left) k es other)
@@ -128,13 +115,11 @@ each_left P m (Some o) es still all =
     cond_both (is_entry_at (pos m) (pos o.number) e) (with_left (pos o.left) e) e P
     (λ _. still o.left e h) (λ _. h)) es all)
 
--- each row is what would be written
-pub written_left : (m : ℕ) (o : Option Left) (es : List Entry) → AllByRecursion IsWrittenEntry es
-    → AllByRecursion IsWrittenEntry (left_put m o es)
-written_left m o es =
-    each_left IsWrittenEntry m o es (λ left e h. ap (λ (x : Entry). record x { left_now = pos left }) h)
-
--- and of a matter with a head
-pub entered_left : (heads : List Head) (m : ℕ) (o : Option Left) (es : List Entry) → AreEntered heads es
-    → AreEntered heads (left_put m o es)
-entered_left heads m o es = each_left (λ (e : Entry). HasHeadAt heads e.matter) m o es (λ left e h. h)
+-- those of other matters stay, and each is a written one, of a matter with a head
+pub placed_left_put : (m : ℕ) (o : Option Left) (es : List Entry) → AllByRecursion IsWrittenEntry es
+    → EntriesPlaced m es (left_put m o es)
+placed_left_put m o es written = record {
+  others = λ k other. others_left k m o es other;
+  written = each_left IsWrittenEntry m o es (λ left e h. ap (λ (x : Entry). record x { left_now = pos left }) h) written;
+  headed = λ heads here all. each_left (λ (e : Entry). HasHeadAt heads e.matter) m o es (λ left e h. h) all;
+}

@@ -1,25 +1,8 @@
 -- The entries of a matter by number, after one was put in.
-use Rattle.std.proofs.Common.{◌≡◌, inl, inr, ℕ, ℤ, pos, nat_abs, ◌<ℤ◌, ◌≤ℤ◌, ◌+◌, Bool, true, false, not, cond, eqb, List, [], ◌∷◌, ◌++◌, map, filter, refl, sym, ap, ap₂, subst, ◌∙◌, arith, append-nil, int_eq, int_cmp, Less, is_eq, IsPermutation}
-use Rattle.std.specs.List.{AllByRecursion}
-use Rattle.std.specs.Cmp.{IsTotalOrder}
-use Rattle.std.proofs.lemmas.Int.{ints}
-use Rattle.std.proofs.lemmas.Bool.{cases_Bool}
-use Rattle.std.proofs.lemmas.Cmp.{int_cmp_total, on_total, then_total}
-use Rattle.std.proofs.lemmas.List.Sorted.{IsPermutation-refl, IsPermutation-cons, IsPermutation-trans, IsPermutation-append_comm, IsPermutation-append_left, IsPermutation-sym}
-use Rattle.std.proofs.lemmas.List.Elements.{filter-append}
-use Rattle.sqlite_trees.specs.Tree.{IsAscending}
-use Rattle.sqlite_keyed.specs.Keyed.{IsKeyedBy, next_key}
-use Rattle.sqlite_keyed.specs.Lists.{sort_by, delete_where}
-use Rattle.sqlite_keyed.proofs.KeyedLemmas.{Less-from_lt, same_int, int_eq_apart, IsKeyedBy-insert_by, IsKeyedBy-delete_where}
-use Rattle.sqlite_keyed.proofs.ListLemmas.{IsPermutation-filter, all_weaker, ascending-filter, ascending_weaker, filter_all, all-filter}
-use Rattle.sqlite_keyed.proofs.SortLemmas.{IsPermutation-sort_by}
-use Rattle.matter_parts.specs.declared.kept.Kept.{Kept}
-use Rattle.matter_parts.specs.Applied.{entry_put}
-use Rattle.matter_parts.specs.Parts.{AreNumbered}
-use Rattle.sql_tables.specs.Rows.{Entry, entry_cmp, is_entry, is_entry_of, entries_of, put_entry}
+use Rattle.sql_rows.proofs.Names.{◌≡◌, inl, inr, ℕ, ℤ, pos, nat_abs, ◌<ℤ◌, ◌≤ℤ◌, ◌+◌, Bool, true, false, not, cond, eqb, List, [], ◌∷◌, ◌++◌, map, filter, refl, sym, ap, ap₂, subst, ◌∙◌, arith, int_eq, int_cmp, Less, is_eq, IsPermutation, AllByRecursion, IsTotalOrder, ints, cases_Bool, int_cmp_total, on_total, then_total, IsPermutation-refl, IsPermutation-cons, IsPermutation-trans, IsPermutation-append_comm, IsPermutation-append_left, IsPermutation-sym, filter-append, IsAscending, IsKeyedBy, next_key, sort_by, delete_where, Less-from_lt, same_int, IsKeyedBy-insert_by, IsKeyedBy-delete_where, IsPermutation-filter, all_weaker, ascending-filter, ascending_weaker, filter_all, all-filter, IsPermutation-sort_by, Kept, entry_put, AreNumbered, entry_cmp, is_entry, is_entry_of, entries_of, put_entry, kept_from, IsWrittenEntry}
+use Rattle.sql_tables.specs.Rows.{Entry}
 use Rattle.sql_tables.proofs.Casts.{below_next, goes_last}
-use Rattle.sql_rows.specs.Meaning.{kept_from, IsWrittenEntry}
-use Rattle.sql_rows.proofs.KeyedRows.{int_eq-itself, int_eq-nat, off_first, others_stay}
+use Rattle.sql_rows.proofs.KeyedRows.{filter-delete_both, int_eq-itself, int_eq-nat}
 use Rattle.sql_rows.proofs.RowOrder.{all-sort_by, sorts_to, untied_last}
 
 -- the rowid
@@ -142,7 +125,8 @@ have-with_row new (y ∷ ys) h all = elim (cases_Bool (eqb (nat_abs y.no) (nat_a
 abbrev pub new_row : Entry → List Entry → Entry
 new_row e es = record e { id = next_key entry_key es }
 
-put_last : (e : Entry) (es : List Entry) → IsKeyedBy entry_key es
+-- it goes behind the others
+pub put_last : (e : Entry) (es : List Entry) → IsKeyedBy entry_key es
     → put_entry e es ≡ delete_where (is_entry e) es ++ new_row e es ∷ []
 put_last e es up =
     let below = all-filter (λ (x : Entry). x.id <ℤ next_key entry_key es) _ es (below_next entry_key es up) in
@@ -154,42 +138,14 @@ keyed_put e es up =
     let rest = delete_where (is_entry e) es in
     IsKeyedBy-insert_by entry_key rest (new_row e es) (IsKeyedBy-delete_where entry_key (is_entry e) es up)
 
--- the rows of another matter are as they were
-others_kept : (k : ℤ) (e : Entry) (es : List Entry) → (k ≡ e.matter → ⊥) → IsKeyedBy entry_key es
-    → filter (is_entry_of k) (put_entry e es) ≡ filter (is_entry_of k) es
-others_kept k e es other up =
-    let rest = delete_where (is_entry e) es in
-    let last : is_entry_of k (new_row e es) ≡ false = int_eq_apart e.matter k (λ s. other (sym s)) in
-    let same = others_stay (λ (x : Entry). x.matter) (is_entry e) e.matter k es other (λ x off. off_first _ _ off) in
-    ap (filter (is_entry_of k)) (put_last e es up)
-    ∙ filter-append (is_entry_of k) rest (new_row e es ∷ [])
-    ∙ ap₂ ◌++◌ same (rw last refl)
-    ∙ append-nil (filter (is_entry_of k) es)
-
--- and so are its entries by number
-pub others_put : (k : ℤ) (e : Entry) (es : List Entry) → (k ≡ e.matter → ⊥) → IsKeyedBy entry_key es
-    → entries_of k (put_entry e es) ≡ entries_of k es
-others_put k e es other up = ap (sort_by entry_cmp) (others_kept k e es other up)
-
-own_left : (e : Entry) (es : List Entry)
-    → filter (is_entry_of e.matter) (delete_where (is_entry e) es)
-    ≡ filter (is_other e.no) (filter (is_entry_of e.matter) es)
-own_left e [] = refl
-own_left e (x ∷ es) = elim (cases_Bool (int_eq x.matter e.matter)) [
-  | inl a ↦ elim (cases_Bool (int_eq x.no e.no)) [
-    | inl b ↦ rw (a, b) (own_left e es)
-    | inr b ↦ rw (a, b) (rw a (ap (λ l. x ∷ l) (own_left e es)))
-  ]
-  | inr a ↦ rw a (rw a (own_left e es))
-]
-
 own_rows : (e : Entry) (es : List Entry) → IsKeyedBy entry_key es
     → filter (is_entry_of e.matter) (put_entry e es)
     ≡ filter (is_other e.no) (filter (is_entry_of e.matter) es) ++ new_row e es ∷ []
 own_rows e es up =
     ap (filter (is_entry_of e.matter)) (put_last e es up)
     ∙ filter-append (is_entry_of e.matter) (delete_where (is_entry e) es) (new_row e es ∷ [])
-    ∙ ap₂ ◌++◌ (own_left e es) (rw (int_eq-itself e.matter) refl)
+    ∙ ap₂ ◌++◌ (filter-delete_both (is_entry_of e.matter) (λ (x : Entry). int_eq x.no e.no) es)
+    (rw (int_eq-itself e.matter) refl)
 
 abbrev IsUntied : Entry → Entry → Type 0
 IsUntied a b = is_eq (entry_cmp a b) ≡ false

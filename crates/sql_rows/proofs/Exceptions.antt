@@ -1,25 +1,10 @@
 -- The exceptions of a firm, as their table keeps them and in their order.
-use Rattle.std.proofs.Common.{◌≡◌, ℤ, pos, nat_abs, Bool, true, false, not, ◌&&◌, cond, List, [], ◌∷◌, ◌++◌, map, refl, sym, ap, ◌∙◌, true≢false, int_cmp, Ordering, Less, Equal, Greater, is_eq, IsPermutation, Contains}
-use Rattle.std.specs.List.{AllByRecursion, list_any}
+use Rattle.sql_rows.proofs.Names.{◌≡◌, ℤ, pos, nat_abs, Bool, true, false, not, ◌&&◌, cond, List, [], ◌∷◌, ◌++◌, map, refl, sym, ap, ◌∙◌, true≢false, int_cmp, Ordering, Less, Equal, Greater, is_eq, IsPermutation, Contains, AllByRecursion, list_any, IsTotalOrder, tied_then, ordering_then, cond_both, int_cmp_total, nat_list_cmp_total, on_total, then_total, list_any-IsPermutation, IsPermutation-sym, IsKeyedBy, next_key, sort_by, delete_where, all_weaker, all_both, all-append, none_from_any, IsPermutation-sort_by, Line, with_line, without_line, text_cmp, Exception, exception_cmp, is_exception, note_exception, exception_columns, IsWrittenException, exception_from}
 use Rattle.std.specs.List.Sorted.{IsStrictlySortedBy}
-use Rattle.std.specs.Cmp.{IsTotalOrder, tied_then}
-use Rattle.std.specs.Ordering.{ordering_then}
-use Rattle.std.proofs.lemmas.Bool.{cond_both}
-use Rattle.std.proofs.lemmas.Cmp.{int_cmp_total, nat_list_cmp_total, on_total, then_total}
-use Rattle.std.proofs.lemmas.List.Sorted.{list_any-IsPermutation, IsPermutation-sym}
 use Rattle.std.proofs.lemmas.Map.Views.{Contains-from_any}
-use Rattle.sqlite_keyed.specs.Keyed.{IsKeyedBy, next_key}
-use Rattle.sqlite_keyed.specs.Lists.{sort_by, delete_where}
-use Rattle.sqlite_keyed.proofs.ListLemmas.{all_weaker, all_both, all-append, none_from_any}
-use Rattle.sqlite_keyed.proofs.SortLemmas.{IsPermutation-sort_by}
 use Rattle.trust_base.specs.LineOrder.{line_cmp, is_same_line}
-use Rattle.trust_base.specs.declared.line.Line.{Line}
 use Rattle.trust_base.proofs.LineFacts.{line_total, line_same}
-use Rattle.firm_rows.specs.Firm.{with_line, without_line}
 use Rattle.firm_rows.proofs.Lines.{with_line-again}
-use Rattle.sql_tables.specs.Rows.{text_cmp, Exception, exception_cmp, is_exception, note_exception}
-use Rattle.sql_rows.specs.Columns.{exception_columns}
-use Rattle.sql_rows.specs.Meaning.{IsWrittenException, exception_from}
 use Rattle.sql_rows.proofs.RowOrder.{all-sort_by, any_read, read-filter, read-push, read_cmp, then_assoc}
 
 -- The order of the rows is that of the lines, and then that of the rowids.

@@ -1,23 +1,8 @@
 -- The head of a matter after a change of it, which the steps of the change put in first.
-use Rattle.std.proofs.Common.{◌≡◌, ℕ, pos, ◌∷◌, find, Option, Some, None, option_map, refl, sym, ap, subst, ◌∙◌}
-use Rattle.std.specs.List.{AllByRecursion}
-use Rattle.std.specs.Prelude.{IsSome}
-use Rattle.std.proofs.lemmas.Bool.{false≢true}
-use Rattle.sqlite_keyed.specs.Keyed.{IsKeyedBy}
-use Rattle.matter_rows.specs.declared.head.Head.{Head}
-use Rattle.matter_rows.specs.declared.head.Holder.TheVariants.{Purged}
-use Rattle.matter_rows.specs.Rows.{Rows, seen_on, closed_head, cleared_head, closed_on}
-use Rattle.matter_parts.specs.declared.edit.Edit.{Edit}
+use Rattle.sql_rows.proofs.Names.{◌≡◌, ℕ, pos, ◌∷◌, find, Option, Some, None, option_map, refl, sym, ap, subst, ◌∙◌, AllByRecursion, IsSome, false≢true, IsKeyedBy, Head, Purged, Rows, seen_on, closed_head, cleared_head, closed_on, Edit, MatterChange, IsChange, IsPlace, head_after, rows_in, Lists, HasHead, head_columns, totals_columns, AreMeant, IsWrittenHead, head_from, matters_from, IsTypedEdit, SetClosed, SetPurged, AreMade, head_at, head_steps, totals_steps, edit_steps, matter_steps}
 use Rattle.matter_parts.specs.declared.edit.Edit.TheVariants as edit
-use Rattle.matter_parts.specs.Changes.{MatterChange, IsChange, IsPlace, head_after}
-use Rattle.trust_store.specs.Kept.{rows_in}
 use Rattle.sql_tables.specs.declared.columns.TotalsColumns.{TotalsColumns}
 use Rattle.sql_tables.specs.Rows as table
-use Rattle.sql_tables.specs.Lists.{Lists}
-use Rattle.sql_rows.specs.Heads.{HasHead, head_columns, totals_columns}
-use Rattle.sql_rows.specs.Meaning.{AreMeant, IsWrittenHead, head_from, matters_from}
-use Rattle.sql_rows.specs.Scripts.{IsTypedEdit}
-use Rattle.sql_rows.specs.Steps.{SetClosed, SetPurged, AreMade, head_at, head_steps, totals_steps, edit_steps, matter_steps}
 use Rattle.sql_rows.proofs.HeadOrder.{key}
 use Rattle.sql_rows.proofs.HeadSet.{changed_is_put, changed_twice}
 use Rattle.sql_rows.proofs.Heads.{head_found, found_number, HasDays, HasDaysIfSome, days_after, days_found}

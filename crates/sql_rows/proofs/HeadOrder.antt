@@ -1,19 +1,8 @@
 -- The matters by number, after a head was put in, and what is found of one.
-use Rattle.std.proofs.Common.{◌≡◌, inl, inr, ℕ, ℤ, pos, ◌<ℤ◌, List, [], ◌∷◌, map, find, Option, Some, None, refl, sym, ap, ap₂, ◌∙◌, arith}
-use Rattle.std.specs.Prelude.{nat_lt, ◌==◌, nat_abs}
-use Rattle.std.specs.List.{AllByRecursion}
-use Rattle.std.proofs.lemmas.Int.{ints}
-use Rattle.std.proofs.lemmas.Bool.{cases_Bool}
-use Rattle.std.proofs.lemmas.Bool.Decides.{nat_tests}
-use Rattle.sqlite_keyed.specs.Keyed.{IsKeyedBy, insert_by}
-use Rattle.sqlite_keyed.specs.Lists.{delete_where}
-use Rattle.sqlite_keyed.proofs.KeyedLemmas.{Less-from_lt}
-use Rattle.sqlite_keyed.proofs.ListLemmas.{all_weaker}
-use Rattle.matter_rows.specs.Rows.{Rows, unopened}
-use Rattle.matter_parts.specs.Parts.{Part}
+use Rattle.sql_rows.proofs.Names.{◌≡◌, inl, inr, ℕ, ℤ, pos, ◌<ℤ◌, List, [], ◌∷◌, map, find, Option, Some, None, refl, sym, ap, ap₂, ◌∙◌, arith, nat_lt, ◌==◌, AllByRecursion, ints, cases_Bool, nat_tests, IsKeyedBy, insert_by, delete_where, Less-from_lt, all_weaker, Rows, unopened, Part, rows_kept, rows_in, matters_with, put_head, is_head}
+use Rattle.std.specs.Prelude.{nat_abs}
 use Rattle.trust_store.specs.declared.plain.KeptMatter.{KeptMatter}
-use Rattle.trust_store.specs.Kept.{rows_kept, rows_in, matters_with}
-use Rattle.sql_tables.specs.Rows.{Head, put_head, is_head}
+use Rattle.sql_tables.specs.Rows.{Head}
 use Rattle.sql_rows.proofs.KeyedRows.{lt_ints, same_ints, apart_below, apart_above, Greater-from_lt}
 
 -- the number of the matter, which is the rowid

@@ -1,11 +1,6 @@
 -- A head that is changed where it stands, and one that is put in, are the same heads.
-use Rattle.std.proofs.Common.{◌≡◌, inl, inr, ℤ, ◌<ℤ◌, true, cond, List, [], ◌∷◌, find, Some, refl, sym, ap, ap₂, subst, ◌∙◌, int_eq}
-use Rattle.std.specs.List.{AllByRecursion}
-use Rattle.std.proofs.lemmas.Bool.{cases_Bool}
-use Rattle.sqlite_keyed.specs.Keyed.{IsKeyedBy}
-use Rattle.sqlite_keyed.proofs.KeyedLemmas.{Less-from_lt, same_int}
-use Rattle.sqlite_keyed.proofs.ListLemmas.{map-map, map_same}
-use Rattle.sql_tables.specs.Rows.{Head, is_head, put_head, change_head}
+use Rattle.sql_rows.proofs.Names.{◌≡◌, inl, inr, ℤ, ◌<ℤ◌, true, cond, List, [], ◌∷◌, find, Some, refl, sym, ap, ap₂, subst, ◌∙◌, int_eq, AllByRecursion, cases_Bool, IsKeyedBy, Less-from_lt, same_int, map-map, map_same, is_head, put_head, change_head}
+use Rattle.sql_tables.specs.Rows.{Head}
 use Rattle.sql_rows.proofs.HeadOrder.{key, goes_first, none_gone}
 use Rattle.sql_rows.proofs.KeyedRows.{apart_above, apart_below, int_eq-itself}
 use Rattle.sql_rows.proofs.RowOrder.{all-find}

@@ -1,33 +1,9 @@
 -- What is found of a matter's head, what is written of one, and the matters after one was put in.
-use Rattle.std.proofs.Common.{◌≡◌, inl, inr, ℕ, ℤ, pos, ◌≤◌, true, false, List, [], ◌∷◌, map, find, Option, Some, None, option_map, refl, sym, ap, subst, ◌∙◌, arith, int_eq}
-use Rattle.std.specs.Prelude.{◌==◌, nat_abs, IfSome}
-use Rattle.std.specs.List.{AllByRecursion}
-use Rattle.std.proofs.lemmas.Bool.{cases_Bool}
-use Rattle.std.proofs.lemmas.Bool.Decides.{nat_tests}
-use Rattle.sqlite_keyed.specs.Keyed.{IsKeyedBy}
-use Rattle.sqlite_keyed.specs.Lists.{delete_where}
-use Rattle.sqlite_keyed.proofs.KeyedLemmas.{all-insert_by, has_key-insert_by, has_key-delete_where, same_int}
-use Rattle.sqlite_keyed.proofs.ListLemmas.{all-filter}
-use Rattle.matter_rows.specs.declared.head.Head.{Head}
+use Rattle.sql_rows.proofs.Names.{◌≡◌, inl, inr, ℕ, ℤ, pos, ◌≤◌, true, false, List, [], ◌∷◌, map, find, Option, Some, None, option_map, refl, sym, ap, subst, ◌∙◌, arith, int_eq, ◌==◌, IfSome, AllByRecursion, cases_Bool, nat_tests, IsKeyedBy, delete_where, all-insert_by, has_key-insert_by, has_key-delete_where, same_int, all-filter, Head, Client, Purged, Seat, Entry, Rows, seen_on, closed_head, cleared_head, Sound, IsBare, Edit, Figures, IsWhole, head_after, changed_by, rows_kept, rows_in, matters_with, IsKeptWhole, AreKeptWhole, put_head, is_head, Lists, HasHead, client_column, closed_column, head_columns, purged_column, part_from, matter_from, matters_from, head_from, holder_from, day_or_none, IsWrittenHead, HasHeadAt, IsTypedEdit, head_at}
+use Rattle.std.specs.Prelude.{nat_abs}
 use Rattle.matter_rows.specs.declared.head.Holder.{Holder}
-use Rattle.matter_rows.specs.declared.head.Holder.TheVariants.{Client, Purged}
-use Rattle.matter_rows.specs.declared.seat.Seat.{Seat}
-use Rattle.matter_rows.specs.declared.entry.Entry.{Entry}
-use Rattle.matter_rows.specs.Rows.{Rows, seen_on, closed_head, cleared_head}
-use Rattle.matter_rows.specs.Sound.{Sound, IsBare}
-use Rattle.matter_parts.specs.declared.edit.Edit.{Edit}
 use Rattle.matter_parts.specs.declared.edit.Edit.TheVariants as edit
-use Rattle.matter_parts.specs.declared.figures.Figures.{Figures}
-use Rattle.matter_parts.specs.Parts.{IsWhole}
-use Rattle.matter_parts.specs.Changes.{head_after, changed_by}
-use Rattle.trust_store.specs.Kept.{rows_kept, rows_in, matters_with, IsKeptWhole, AreKeptWhole}
 use Rattle.sql_tables.specs.Rows as table
-use Rattle.sql_tables.specs.Rows.{put_head, is_head}
-use Rattle.sql_tables.specs.Lists.{Lists}
-use Rattle.sql_rows.specs.Heads.{HasHead, client_column, closed_column, head_columns, purged_column}
-use Rattle.sql_rows.specs.Meaning.{part_from, matter_from, matters_from, head_from, holder_from, day_or_none, IsWrittenHead, HasHeadAt}
-use Rattle.sql_rows.specs.Scripts.{IsTypedEdit}
-use Rattle.sql_rows.specs.Steps.{head_at}
 use Rattle.sql_rows.proofs.HeadOrder.{key, IsNumbered, made-put_head, rows_found, rows_in-made}
 use Rattle.sql_rows.proofs.KeyedRows.{has_key-put, not_zero}
 use Rattle.sql_rows.proofs.RowOrder.{all-find, found_passes}

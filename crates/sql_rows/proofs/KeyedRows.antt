@@ -1,16 +1,6 @@
 -- Rows of a table by their numbers: which are there, and which are left where some are taken out.
-use Rattle.std.proofs.Common.{◌≡◌, inl, inr, ℕ, ℤ, pos, ◌<ℤ◌, ◌<◌, ◌≤◌, Bool, true, false, not, ◌&&◌, List, [], ◌∷◌, filter, find, None, is_some, refl, sym, ap, ◌∙◌, subst, arith, int_eq, int_cmp, Ordering, Less, Equal, Greater, true≢false}
-use Rattle.std.specs.Prelude.{◌==◌}
-use Rattle.std.specs.List.{AllByRecursion}
-use Rattle.std.proofs.lemmas.Int.{ints}
-use Rattle.std.proofs.lemmas.Bool.{cases_Bool}
-use Rattle.std.proofs.lemmas.Bool.Decides.{nat_tests}
-use Rattle.sqlite_keyed.specs.Keyed.{has_key, insert_by}
-use Rattle.sqlite_keyed.specs.Lists.{delete_where}
-use Rattle.sqlite_keyed.proofs.KeyedLemmas.{same_int, int_eq_apart}
-use Rattle.sqlite_keyed.proofs.ListLemmas.{filter-filter}
+use Rattle.sql_rows.proofs.Names.{◌≡◌, inl, inr, ℕ, ℤ, pos, ◌<ℤ◌, ◌<◌, ◌≤◌, Bool, true, false, not, ◌&&◌, List, [], ◌∷◌, filter, find, None, is_some, refl, sym, ap, ◌∙◌, subst, arith, int_eq, int_cmp, Ordering, Less, Equal, Greater, true≢false, ◌==◌, AllByRecursion, ints, cases_Bool, nat_tests, has_key, insert_by, delete_where, same_int, int_eq_apart, filter-filter, HasHeadAt}
 use Rattle.sql_tables.specs.Rows as table
-use Rattle.sql_rows.specs.Meaning.{HasHeadAt}
 
 -- Numbers.
 
@@ -78,6 +68,18 @@ filter-delete_where p [] = refl
 filter-delete_where p (x ∷ xs) = elim (cases_Bool (p x)) [
   | inl b ↦ rw b (filter-delete_where p xs)
   | inr b ↦ rw b (rw b (filter-delete_where p xs))
+]
+
+-- of those that pass the first of two tests, what is left does not pass the second
+pub filter-delete_both : {X : Type 0} (p q : X → Bool) (xs : List X)
+    → filter p (delete_where (λ x. p x && q x) xs) ≡ filter (λ x. not (q x)) (filter p xs)
+filter-delete_both p q [] = refl
+filter-delete_both p q (x ∷ xs) = elim (cases_Bool (p x)) [
+  | inl a ↦ elim (cases_Bool (q x)) [
+    | inl b ↦ rw (a, b) (filter-delete_both p q xs)
+    | inr b ↦ rw (a, b) (rw a (ap (λ l. x ∷ l) (filter-delete_both p q xs)))
+  ]
+  | inr a ↦ rw a (rw a (filter-delete_both p q xs))
 ]
 
 off_matter : (k m z : ℤ) → (k ≡ m → ⊥) → int_eq z k ≡ true → int_eq z m ≡ false

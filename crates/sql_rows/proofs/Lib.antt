@@ -2,7 +2,6 @@ pub mod Back
 pub mod Balances
 pub mod Becomes
 pub mod Empty
-pub mod EntriesGone
 pub mod EntriesMade
 pub mod EntryFind
 pub mod EntryFits
@@ -18,6 +17,7 @@ pub mod KeyedRows
 pub mod LineScripts
 pub mod MatterMade
 pub mod Movements
+pub mod Placed
 pub mod RowOrder
 pub mod ScriptsMeant
 pub mod Seats
@@ -25,3 +25,4 @@ pub mod Steps
 pub mod WithEntry
 pub mod WithoutEntry
 pub mod EntryColumns
+mod Names

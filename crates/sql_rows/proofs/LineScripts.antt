@@ -1,21 +1,6 @@
 -- The scripts of the changes that concern the firm's own tables alone are meant.
-use Rattle.std.proofs.Common.{◌≡◌, ℤ, List, [], ◌∷◌, ◌++◌, Option, Some, None, refl, sym, ap, ◌∙◌, subst}
-use Rattle.std.specs.List.{AllByRecursion}
-use Rattle.std.proofs.lemmas.List.{map-append}
-use Rattle.sqlite_keyed.specs.Keyed.{IsKeyedBy}
-use Rattle.sqlite_keyed.proofs.ListLemmas.{all-filter, all-append}
-use Rattle.trust_base.specs.declared.line.Line.{Line}
-use Rattle.firm_rows.specs.declared.ledger.BalanceKind.{BalanceKind}
-use Rattle.firm_rows.specs.Firm.{own_movement, after_match, with_firm_line, with_statement}
-use Rattle.firm_rows.specs.FirmLines.{as_firm_line, balance_row}
-use Rattle.firm_rows.specs.FirmChange.{FirmChange, Repeated, Unmatched, OfFirm, OfBalance, matched_by, after, FitsFirm}
-use Rattle.firm_rows.specs.FirmSound.{FirmSound, StaysSound}
-use Rattle.sql_tables.specs.Lists.{Lists}
+use Rattle.sql_rows.proofs.Names.{◌≡◌, ℤ, List, [], ◌∷◌, ◌++◌, Option, Some, None, refl, sym, ap, ◌∙◌, subst, AllByRecursion, map-append, IsKeyedBy, all-filter, all-append, Line, BalanceKind, own_movement, after_match, with_firm_line, with_statement, as_firm_line, balance_row, FirmChange, Repeated, Unmatched, OfFirm, OfBalance, matched_by, after, FitsFirm, FirmSound, StaysSound, Lists, movement_columns, firm_line_columns, exception_columns, balance_columns, AreKeyed, AreMeant, AreSound, IsWrittenMovement, IsWrittenFirmLine, IsWrittenException, IsWrittenBalance, firm_from, movement_from, firm_line_from, AreMade, line_steps, IsMeant, LineScriptsAreMeant}
 use Rattle.sql_tables.specs.Rows as table
-use Rattle.sql_rows.specs.Columns.{movement_columns, firm_line_columns, exception_columns, balance_columns}
-use Rattle.sql_rows.specs.Meaning.{AreKeyed, AreMeant, AreSound, IsWrittenMovement, IsWrittenFirmLine, IsWrittenException, IsWrittenBalance, firm_from, movement_from, firm_line_from}
-use Rattle.sql_rows.specs.Steps.{AreMade, line_steps}
-use Rattle.sql_rows.specs.Scripts.{IsMeant, LineScriptsAreMeant}
 use Rattle.sql_rows.proofs.Balances.{balances_with, added_written}
 use Rattle.sql_rows.proofs.Exceptions.{key, exceptions_without, exceptions_with, noted_written}
 

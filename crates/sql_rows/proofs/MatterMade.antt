@@ -1,14 +1,6 @@
 -- What the steps of each change of a matter make: the rows stand for the firm after it.
-use Rattle.std.proofs.Common.{◌≡◌, ◌⊎◌, inl, inr, ℕ, ◌≤◌, refl, sym, ap, subst, ◌∙◌}
-use Rattle.matter_parts.specs.declared.edit.Edit.{Edit}
+use Rattle.sql_rows.proofs.Names.{◌≡◌, ◌⊎◌, inl, inr, ℕ, ◌≤◌, refl, sym, ap, subst, ◌∙◌, Edit, Numbered, MatterChange, IsChange, of, after_change, after_edit, Lists, AreKeyed, AreMeant, firm_from, IsTypedEdit, AreMade, matter_steps}
 use Rattle.matter_parts.specs.declared.edit.Edit.TheVariants as edit
-use Rattle.matter_parts.specs.declared.edit.Numbered.{Numbered}
-use Rattle.matter_parts.specs.Changes.{MatterChange, IsChange}
-use Rattle.firm_rows.specs.Firm.{of, after_change, after_edit}
-use Rattle.sql_tables.specs.Lists.{Lists}
-use Rattle.sql_rows.specs.Meaning.{AreKeyed, AreMeant, firm_from}
-use Rattle.sql_rows.specs.Scripts.{IsTypedEdit}
-use Rattle.sql_rows.specs.Steps.{AreMade, matter_steps}
 use Rattle.sql_rows.proofs.Becomes.{IsMatterMade}
 use Rattle.sql_rows.proofs.EntryFits.{IsEntryChange}
 use Rattle.sql_rows.proofs.WithEntry.{with_entry_made}

@@ -1,23 +1,9 @@
 -- The firm's movements, after one was added and after those of a matter are gone.
-use Rattle.std.proofs.Common.{◌≡◌, inl, inr, ℕ, ℤ, pos, ◌≤◌, true, false, List, [], ◌∷◌, ◌++◌, map, Option, Some, None, refl, sym, ap, ◌∙◌, arith, append-nil, int_eq}
-use Rattle.std.specs.Prelude.{◌==◌, nat_abs, cond}
-use Rattle.std.specs.List.{AllByRecursion}
-use Rattle.std.proofs.lemmas.List.{map-append}
-use Rattle.std.proofs.lemmas.Bool.{cases_Bool}
-use Rattle.std.proofs.lemmas.Bool.Decides.{nat_tests}
-use Rattle.sqlite_keyed.specs.Lists.{delete_where}
-use Rattle.sqlite_keyed.proofs.ListLemmas.{all-append, all-filter}
-use Rattle.matter_rows.specs.declared.movement.EntryMovement.{EntryMovement}
-use Rattle.firm_rows.specs.declared.movement.Movement.{Movement}
+use Rattle.sql_rows.proofs.Names.{◌≡◌, inl, inr, ℕ, ℤ, pos, ◌≤◌, true, false, List, [], ◌∷◌, ◌++◌, map, Option, Some, None, refl, sym, ap, ◌∙◌, arith, append-nil, int_eq, ◌==◌, AllByRecursion, map-append, cases_Bool, nat_tests, delete_where, all-append, all-filter, EntryMovement, Movement, is_of_matter, moved_without, joined_movement, is_movement_of, Lists, movement_columns, matter_column, entry_column, movement_from, owner_from, IsWrittenMovement, AreMade, movement_steps}
+use Rattle.std.specs.Prelude.{nat_abs, cond}
 use Rattle.firm_rows.specs.declared.movement.Owner.{Owner}
 use Rattle.firm_rows.specs.declared.movement.Owner.TheVariants as owner
-use Rattle.firm_rows.specs.Firm.{is_of_matter, moved_without, joined_movement}
 use Rattle.sql_tables.specs.Rows as table
-use Rattle.sql_tables.specs.Rows.{is_movement_of}
-use Rattle.sql_tables.specs.Lists.{Lists}
-use Rattle.sql_rows.specs.Columns.{movement_columns, matter_column, entry_column}
-use Rattle.sql_rows.specs.Meaning.{movement_from, owner_from, IsWrittenMovement}
-use Rattle.sql_rows.specs.Steps.{AreMade, movement_steps}
 use Rattle.sql_rows.proofs.KeyedRows.{int_eq-nat, not_zero}
 
 -- matter 0 is the firm

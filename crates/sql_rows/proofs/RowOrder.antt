@@ -1,20 +1,5 @@
 -- Rows in an order: what is found of them, how they are sorted, and what they stand for.
-use Rattle.std.proofs.Common.{◌≡◌, inl, inr, ◌≤◌, ◌+◌, zero, suc, add-one, ℤ, ◌<ℤ◌, Bool, true, false, not, ◌||◌, cond, List, [], ◌∷◌, ◌++◌, map, filter, find, length, Some, refl, sym, ap, ap₂, ◌∙◌, subst, arith, ℕ, pos, nat_abs, true≢false, int_cmp, Ordering, Less, Equal, Greater, is_lt, is_gt, is_eq, IsPermutation, IsSorted}
-use Rattle.std.specs.List.{AllByRecursion, list_any}
-use Rattle.std.specs.Cmp.{IsTotalOrder}
-use Rattle.std.specs.Ordering.{nat_cmp, ordering_then, ordering_reverse}
-use Rattle.std.proofs.lemmas.Int.{ints}
-use Rattle.std.proofs.lemmas.Bool.{cases_Bool}
-use Rattle.std.proofs.lemmas.Bool.Decides.{nat_tests}
-use Rattle.std.proofs.lemmas.List.{map-append}
-use Rattle.std.proofs.lemmas.List.Elements.{recursion_from_All, All-from_recursion, filter_passes}
-use Rattle.std.proofs.lemmas.List.Sorted.{All-permutation, IsPermutation-sym, IsPermutation-cons, IsPermutation-trans, IsPermutation-middle, IsPermutation-to_front, IsPermutation-filter_both}
-use Rattle.sqlite_trees.specs.Tree.{IsAscending}
-use Rattle.sqlite_keyed.specs.Keyed.{IsKeyedBy}
-use Rattle.sqlite_keyed.specs.Lists.{insert_sorted, sort_by}
-use Rattle.sqlite_keyed.proofs.ListLemmas.{IsPermutation-filter, all_of, all_weaker, all_both, ascending-append, ascending-filter, filter-map}
-use Rattle.sqlite_keyed.proofs.KeyedLemmas.{Less-from_lt}
-use Rattle.sqlite_keyed.proofs.SortLemmas.{HasNoTies, IsPermutation-sort_by, sorted_is-sort_by}
+use Rattle.sql_rows.proofs.Names.{◌≡◌, inl, inr, ◌≤◌, ◌+◌, zero, suc, add-one, ℤ, ◌<ℤ◌, Bool, true, false, not, ◌||◌, cond, List, [], ◌∷◌, ◌++◌, map, filter, find, length, Some, refl, sym, ap, ap₂, ◌∙◌, subst, arith, ℕ, pos, nat_abs, true≢false, int_cmp, Ordering, Less, Equal, Greater, is_lt, is_gt, is_eq, IsPermutation, IsSorted, AllByRecursion, list_any, IsTotalOrder, nat_cmp, ordering_then, ordering_reverse, ints, cases_Bool, nat_tests, map-append, recursion_from_All, All-from_recursion, filter_passes, All-permutation, IsPermutation-sym, IsPermutation-cons, IsPermutation-trans, IsPermutation-middle, IsPermutation-to_front, IsPermutation-filter_both, IsAscending, IsKeyedBy, insert_sorted, sort_by, IsPermutation-filter, all_of, all_weaker, all_both, ascending-append, ascending-filter, filter-map, Less-from_lt, HasNoTies, IsPermutation-sort_by, sorted_is-sort_by}
 
 -- Answers of an order.
 

@@ -1,12 +1,5 @@
 -- The script of each change of the firm is meant.
-use Rattle.std.proofs.Common.{ℕ, Option, sym, ap, ◌∙◌, subst}
-use Rattle.sqlite_keyed.specs.Keyed.{IsKeyedBy}
-use Rattle.trust_base.specs.declared.line.Line.{Line}
-use Rattle.matter_parts.specs.Changes.{MatterChange}
-use Rattle.firm_rows.specs.FirmChange.{OfMatter, Repeated, Unmatched, OfFirm, OfBalance, matched_by}
-use Rattle.firm_rows.specs.FirmSound.{StaysSound}
-use Rattle.sql_rows.specs.Scripts.{IsScriptMeant, ScriptsAreMeant}
-use Rattle.sql_rows.specs.Steps.{line_steps, matter_steps}
+use Rattle.sql_rows.proofs.Names.{ℕ, Option, sym, ap, ◌∙◌, subst, IsKeyedBy, Line, MatterChange, OfMatter, Repeated, Unmatched, OfFirm, OfBalance, matched_by, StaysSound, IsScriptMeant, ScriptsAreMeant, line_steps, matter_steps}
 use Rattle.sql_rows.proofs.Exceptions.{key}
 use Rattle.sql_rows.proofs.LineScripts.{line_gone, line_scripts, meant_after}
 use Rattle.sql_rows.proofs.MatterMade.{matter_made}

@@ -1,7 +1,5 @@
 -- Lists of steps, one behind another.
-use Rattle.std.proofs.Common.{List, [], ◌∷◌, ◌++◌, refl}
-use Rattle.sql_tables.specs.Lists.{Lists}
-use Rattle.sql_rows.specs.Steps.{Step, AreMade}
+use Rattle.sql_rows.proofs.Names.{List, [], ◌∷◌, ◌++◌, refl, Lists, Step, AreMade}
 
 -- steps and then others are made in two parts
 pub made-append : (steps more : List Step) (a b : Lists) → AreMade (steps ++ more) a b

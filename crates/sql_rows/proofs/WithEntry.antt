@@ -1,29 +1,15 @@
 -- What the steps of a change of a matter make that writes an entry, a new one or one in the place of another.
-use Rattle.std.proofs.Common.{◌≡◌, inl, inr, ℕ, pos, ◌≤◌, List, ◌++◌, map, Option, Some, refl, sym, ap, subst, ◌∙◌}
-use Rattle.matter_rows.specs.declared.head.Head.{Head}
-use Rattle.matter_rows.specs.Rows.{seen_on}
+use Rattle.sql_rows.proofs.Names.{◌≡◌, inl, inr, ℕ, pos, ◌≤◌, List, ◌++◌, map, Option, Some, refl, sym, ap, subst, ◌∙◌, Head, seen_on, Numbered, Part, IsWhole, IsWritten, entry_put, kept_as, other_written, MatterChange, IsChange, changed, head_after, Movement, of, kept_movements, joined_movement, rows_in, seats_of, Lists, head_columns, AreKeyed, AreMeant, IsWrittenSeat, firm_from, matters_from, part_from, head_from, seat_from, movement_from, IsTypedEdit, AreMade, head_at, edit_steps, entry_steps, movement_steps, matter_steps}
 use Rattle.matter_parts.specs.declared.edit.Edit.TheVariants as edit
-use Rattle.matter_parts.specs.declared.edit.Numbered.{Numbered}
-use Rattle.matter_parts.specs.Parts.{Part, IsWhole}
-use Rattle.matter_parts.specs.Applied.{IsWritten, entry_put, kept_as, other_written}
-use Rattle.matter_parts.specs.Changes.{MatterChange, IsChange, changed, head_after}
 use Rattle.matter_parts.proofs.Applied.{IsAfter, after-append, after-exchange}
-use Rattle.firm_rows.specs.declared.movement.Movement.{Movement}
-use Rattle.firm_rows.specs.Firm.{of, kept_movements, joined_movement}
-use Rattle.trust_store.specs.Kept.{rows_in}
 use Rattle.sql_tables.specs.Rows as table
-use Rattle.sql_tables.specs.Rows.{seats_of}
-use Rattle.sql_tables.specs.Lists.{Lists}
-use Rattle.sql_rows.specs.Heads.{head_columns}
-use Rattle.sql_rows.specs.Meaning.{AreKeyed, AreMeant, firm_from, matters_from, part_from, head_from, seat_from, movement_from}
-use Rattle.sql_rows.specs.Scripts.{IsTypedEdit}
-use Rattle.sql_rows.specs.Steps.{AreMade, head_at, edit_steps, entry_steps, movement_steps, matter_steps}
 use Rattle.sql_rows.proofs.Becomes.{ArePlaced, part_at, whole_at, sound_at, change_at, with_matter, IsMatterMade, matter_done}
 use Rattle.sql_rows.proofs.EntriesMade.{entry_made}
 use Rattle.sql_rows.proofs.EntryFits.{IsEntryChange, fits-change}
 use Rattle.sql_rows.proofs.EntryOrder.{kept_of}
 use Rattle.sql_rows.proofs.HeadFirst.{head_first}
 use Rattle.sql_rows.proofs.Heads.{HasDays, head_back}
+use Rattle.sql_rows.proofs.Placed.{placed_same}
 use Rattle.sql_rows.proofs.Movements.{AreMovements, movement_made}
 use Rattle.sql_rows.proofs.Steps.{made-append}
 
@@ -116,13 +102,9 @@ with_entry_made m c x a b w one keyed meant may made =
     (write_after (part_at m a) (part_from end new) c x w written).whole rows (sound_at a m keyed.heads meant) old
     here in
     let placed : ArePlaced m a a.seats es ms = record {
-      other_seats = λ k other. refl;
-      other_entries = put.others;
-      seats_written = meant.written.seats;
-      entries_written = put.written;
+      seats_placed = placed_same (λ (s : table.Seat). s.matter) table.seat_cmp IsWrittenSeat m a.seats meant.written.seats;
+      entries_placed = put.placed;
       movements_written = from.written meant.written.movements;
-      seated = λ hs has all. all;
-      entered = put.entered;
     } in
     matter_done m c a first.h a.seats es ms b same keyed.heads meant may some first.days placed whole
     (write_keeps m c x (map movement_from ms) (map movement_from a.movements ++ joined_movement m c.movement) w

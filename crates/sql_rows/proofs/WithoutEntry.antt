@@ -1,33 +1,13 @@
 -- What the steps of a change of a matter make that writes no entry: one of the head and the seats, or a purge.
-use Rattle.std.proofs.Common.{◌≡◌, ℕ, pos, ◌≤◌, List, [], ◌++◌, map, Option, Some, None, refl, sym, ap, subst, ◌∙◌, append-nil}
-use Rattle.std.specs.List.{AllByRecursion}
-use Rattle.sqlite_keyed.specs.Keyed.{IsKeyedBy}
-use Rattle.sqlite_keyed.specs.Lists.{delete_where}
-use Rattle.matter_rows.specs.declared.head.Head.{Head}
-use Rattle.matter_rows.specs.declared.seat.Seat.{Seat}
-use Rattle.matter_rows.specs.declared.entry.Entry.{Entry}
-use Rattle.matter_rows.specs.declared.movement.EntryMovement.{EntryMovement}
-use Rattle.matter_rows.specs.Rows.{Rows, role_in, seats_with, seats_without}
-use Rattle.matter_rows.specs.Sound.{Sound, AreInOrder, IsHeaded}
-use Rattle.matter_parts.specs.declared.edit.Edit.{Edit}
+use Rattle.sql_rows.proofs.Names.{◌≡◌, ℕ, pos, ◌≤◌, List, [], ◌++◌, map, Option, Some, None, refl, sym, ap, subst, ◌∙◌, append-nil, AllByRecursion, IsKeyedBy, delete_where, Head, Seat, Entry, EntryMovement, Rows, role_in, seats_with, seats_without, Sound, IsHeaded, Edit, IsWhole, MatterChange, IsChange, IsPlace, changed, edited, head_after, seats_after, movement_of, of, kept_movements, joined_movement, moved_without, rows_in, seats_of, entries_of, is_seat, is_seat_of, is_entry_of, is_movement_of, add_seat, Lists, seat_columns, head_columns, AreKeyed, AreMeant, AreWritten, IsWrittenSeat, IsWrittenEntry, IsWrittenMovement, firm_from, matters_from, part_from, head_from, seat_from, kept_from, movement_from, IsTypedEdit, AreMade, edit_steps, matter_steps}
 use Rattle.matter_parts.specs.declared.edit.Edit.TheVariants as edit
-use Rattle.matter_parts.specs.Parts.{IsWhole}
-use Rattle.matter_parts.specs.Changes.{MatterChange, IsChange, IsPlace, changed, edited, head_after, seats_after, movement_of}
-use Rattle.firm_rows.specs.Firm.{of, kept_movements, joined_movement, moved_without}
-use Rattle.trust_store.specs.Kept.{rows_in}
 use Rattle.sql_tables.specs.Rows as table
-use Rattle.sql_tables.specs.Rows.{seats_of, entries_of, is_seat, is_seat_of, is_entry_of, is_movement_of, add_seat}
-use Rattle.sql_tables.specs.Lists.{Lists}
-use Rattle.sql_rows.specs.Columns.{seat_columns}
-use Rattle.sql_rows.specs.Heads.{head_columns}
-use Rattle.sql_rows.specs.Meaning.{AreKeyed, AreMeant, AreWritten, IsWrittenMovement, firm_from, matters_from, part_from, head_from, seat_from, kept_from, movement_from}
-use Rattle.sql_rows.specs.Scripts.{IsTypedEdit}
-use Rattle.sql_rows.specs.Steps.{AreMade, edit_steps, matter_steps}
 use Rattle.sql_rows.proofs.Becomes.{AreEntries, ArePlaced, part_at, whole_at, sound_at, change_at, whole_entries, whole_after, no_entries, with_matter, IsMatterMade, matter_done}
-use Rattle.sql_rows.proofs.EntriesGone.{entered_gone, kept_gone, others_gone, written_gone}
+use Rattle.sql_rows.proofs.EntryWritten.{kept_gone, placed_gone}
 use Rattle.sql_rows.proofs.HeadFirst.{head_first}
 use Rattle.sql_rows.proofs.Heads.{head_back}
 use Rattle.sql_rows.proofs.Movements.{movements_gone, written_movements_gone}
+use Rattle.sql_rows.proofs.Placed.{EntriesPlaced, SeatsPlaced, placed_same}
 use Rattle.sql_rows.proofs.Seats as seats
 
 -- What is written.
@@ -91,13 +71,13 @@ seats_shown : (m : ℕ) (e : Edit) (ss : List table.Seat) (rows : Rows) → Writ
 seats_shown m (edit.Open o) ss rows w up same sound place =
     let none : map seat_from (seats_of (pos m) ss) ≡ [] =
     same ∙ unopened_seats rows.head rows.seats rows.entries place sound.headed in
-    seats.seats_added m o.seat ss up (subst AreInOrder (sym none) tt)
-    (subst (λ l. role_in l o.seat.person ≡ None) (sym none) refl) ∙ ap (λ l. seats_with l o.seat) none
+    seats.seats_added m o.seat ss up (subst (λ l. role_in l o.seat.person ≡ None) (sym none) refl)
+    ∙ ap (λ l. seats_with l o.seat) none
 seats_shown m (edit.Seat s) ss rows w up same sound place =
-    seats.seats_added m s ss up (subst AreInOrder (sym same) sound.seated)
-    (subst (λ l. role_in l s.person ≡ None) (sym same) place.1) ∙ ap (λ l. seats_with l s) same
+    seats.seats_added m s ss up (subst (λ l. role_in l s.person ≡ None) (sym same) place.1)
+    ∙ ap (λ l. seats_with l s) same
 seats_shown m (edit.Unseat p) ss rows w up same sound place =
-    seats.seats_left m p ss up (subst AreInOrder (sym same) sound.seated) ∙ ap (λ l. seats_without l p) same
+    seats.seats_left m p ss up ∙ ap (λ l. seats_without l p) same
 seats_shown m (edit.Close day) ss rows w up same sound place = same
 seats_shown m (edit.Clear day) ss rows w up same sound place = ap (map seat_from) (seats.seats_gone (pos m) ss)
 seats_shown m _ ss rows w up same sound place = absurd w
@@ -128,62 +108,31 @@ movements_shown m _ x rows ms w one all none = none_moved m x ms none
 
 -- Where the rows are.
 
-placed_added : (m : ℕ) (s : Seat) (a : Lists) → AreWritten a
-    → ArePlaced m a (add_seat (seat_columns m s) a.seats) a.entries a.movements
-placed_added m s a written = record {
-  other_seats = seats.other_seats_added m s a.seats;
-  other_entries = λ k other. refl;
-  seats_written = seats.written_seat_added m s a.seats written.seats;
-  entries_written = written.entries;
-  movements_written = written.movements;
-  seated = λ hs has all. seats.seated_added m s hs a.seats has all;
-  entered = λ hs has all. all;
-}
+seats_placed : (m : ℕ) (e : Edit) (ss : List table.Seat) → AllByRecursion IsWrittenSeat ss
+    → SeatsPlaced m ss (seats_by m e ss)
+seats_placed m (edit.Open o) ss written = seats.placed_seat_added m o.seat ss written
+seats_placed m (edit.Seat s) ss written = seats.placed_seat_added m s ss written
+seats_placed m (edit.Unseat p) ss written = seats.placed_seat_left m p ss written
+seats_placed m (edit.Clear day) ss written = seats.placed_seats_gone m ss written
+seats_placed m _ ss written = placed_same (λ (s : table.Seat). s.matter) table.seat_cmp IsWrittenSeat m ss written
 
-placed_left : (m : ℕ) (p : List ℕ) (a : Lists) → AreWritten a
-    → ArePlaced m a (delete_where (is_seat (pos m) p) a.seats) a.entries a.movements
-placed_left m p a written = record {
-  other_seats = seats.other_seats_left m p a.seats;
-  other_entries = λ k other. refl;
-  seats_written = seats.written_seats_left (is_seat (pos m) p) a.seats written.seats;
-  entries_written = written.entries;
-  movements_written = written.movements;
-  seated = λ hs has all. seats.seated_left (is_seat (pos m) p) hs a.seats all;
-  entered = λ hs has all. all;
-}
+entries_placed : (m : ℕ) (e : Edit) (es : List table.Entry) → AllByRecursion IsWrittenEntry es
+    → EntriesPlaced m es (entries_by m e es)
+entries_placed m (edit.Clear day) es written = placed_gone m es written
+entries_placed m _ es written = placed_same (λ (x : table.Entry). x.matter) table.entry_cmp IsWrittenEntry m es written
 
-placed_same : (m : ℕ) (a : Lists) → AreWritten a → ArePlaced m a a.seats a.entries a.movements
-placed_same m a written = record {
-  other_seats = λ k other. refl;
-  other_entries = λ k other. refl;
-  seats_written = written.seats;
-  entries_written = written.entries;
-  movements_written = written.movements;
-  seated = λ hs has all. all;
-  entered = λ hs has all. all;
-}
+movements_written : (m : ℕ) (e : Edit) (ms : List table.Movement) → AllByRecursion IsWrittenMovement ms
+    → AllByRecursion IsWrittenMovement (movements_by m e ms)
+movements_written m (edit.Clear day) ms written = written_movements_gone (pos m) ms written
+movements_written m _ ms written = written
 
-placed_gone : (m : ℕ) (a : Lists) → AreWritten a
-    → ArePlaced m a (delete_where (is_seat_of (pos m)) a.seats) (delete_where (is_entry_of (pos m)) a.entries)
-    (delete_where (is_movement_of (pos m)) a.movements)
-placed_gone m a written = record {
-  other_seats = seats.other_seats_stay (pos m) a.seats;
-  other_entries = λ k other. others_gone k (pos m) a.entries other;
-  seats_written = seats.written_seats_left (is_seat_of (pos m)) a.seats written.seats;
-  entries_written = written_gone (pos m) a.entries written.entries;
-  movements_written = written_movements_gone (pos m) a.movements written.movements;
-  seated = λ hs has all. seats.seated_left (is_seat_of (pos m)) hs a.seats all;
-  entered = λ hs has all. entered_gone hs (pos m) a.entries all;
-}
-
-placed_by : (m : ℕ) (e : Edit) (a : Lists) → WritesNoEntry e → AreWritten a
+placed_by : (m : ℕ) (e : Edit) (a : Lists) → AreWritten a
     → ArePlaced m a (seats_by m e a.seats) (entries_by m e a.entries) (movements_by m e a.movements)
-placed_by m (edit.Open o) a w written = placed_added m o.seat a written
-placed_by m (edit.Seat s) a w written = placed_added m s a written
-placed_by m (edit.Unseat p) a w written = placed_left m p a written
-placed_by m (edit.Close day) a w written = placed_same m a written
-placed_by m (edit.Clear day) a w written = placed_gone m a written
-placed_by m _ a w written = absurd w
+placed_by m e a written = record {
+  seats_placed = seats_placed m e a.seats written.seats;
+  entries_placed = entries_placed m e a.entries written.entries;
+  movements_written = movements_written m e a.movements written.movements;
+}
 
 -- The change.
 
@@ -209,5 +158,5 @@ without_entry_made m c a b w one keyed meant typed may made =
     (seats_shown m e a.seats rows w keyed.seats old.part.seats (sound_at a m keyed.heads meant) here.place) refl
     (entries_shown m e a.entries rows w (whole_entries (part_at m a) rows old)) in
     matter_done m c a first.h (seats_by m e a.seats) (entries_by m e a.entries) (movements_by m e a.movements) b same
-    keyed.heads meant may some first.days (placed_by m e a w meant.written) whole
+    keyed.heads meant may some first.days (placed_by m e a meant.written) whole
     (movements_shown m e c.movement rows a.movements w one meant.written.movements here.movement)

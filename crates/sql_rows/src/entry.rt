@@ -1,35 +1,31 @@
 // The columns of an entry: written, and read back.
 
 ghost use Rattle.std.specs.Prelude.{◌≡◌, ◌≤◌, ◌↔◌, pos, [], IsTrue, Ok, IfOk, IfErr};
-ghost use Rattle.trust_values.specs.Limits.{IsDay};
 ghost use Rattle.matter_rows.specs.declared.limits.TheConstants.{MAX_TOTAL};
 ghost use Rattle.sql_tables.specs.Given.{entry_given};
 ghost use Rattle.matter_rows.specs.declared.clearing.Clearing.{Clearing as Told};
 ghost use Rattle.matter_rows.specs.declared.deposit.Deposit.{Deposit as Received};
 ghost use Rattle.matter_rows.specs.declared.deposit.DepositState.{DepositState as ReceivedState};
-ghost use Rattle.matter_rows.specs.declared.deposit.ReturnedDeposit.{ReturnedDeposit as SentBack};
-ghost use Rattle.matter_rows.specs.declared.payment.ClearedPayment.{ClearedPayment as PaidCleared};
 ghost use Rattle.matter_rows.specs.declared.payment.Fund.{Fund as Source};
 ghost use Rattle.matter_rows.specs.declared.payment.Payment.{Payment as Paid};
 ghost use Rattle.matter_rows.specs.declared.payment.PaymentState.{PaymentState as PaidState};
-ghost use Rattle.matter_rows.specs.declared.payment.VoidedPayment.{VoidedPayment as PaidVoided};
 ghost use Rattle.matter_rows.specs.declared.claim.Against.{Against as On};
 ghost use Rattle.matter_rows.specs.declared.claim.Claim.{Claim as Claimed};
 ghost use Rattle.matter_rows.specs.declared.claim.ClaimState.{ClaimState as ClaimedState};
 ghost use Rattle.matter_rows.specs.declared.entry.Entry.{Entry as Made};
 ghost use Rattle.matter_parts.specs.declared.kept.Kept.{Kept as KeptEntry};
 ghost use Rattle.sql_rows.specs.Columns.{GivesBack};
-ghost use Rattle.sql_rows.specs.Entries.{IsClearing, IsReturn, IsDepositState, IsDeposit, IsFund};
+ghost use Rattle.sql_rows.specs.Entries.{IsClearing, IsDepositState, IsDeposit, IsFund};
 ghost use Rattle.sql_rows.specs.Entries.{IsPaymentState, IsPayment};
 ghost use Rattle.sql_rows.specs.Entries.{IsAgainst, IsClaimState, IsClaim, HasForm, IsKept};
-ghost use Rattle.sql_rows.specs.Entries.{HasClearing, HasReturn, HasDepositState, HasDeposit, HasFund};
+ghost use Rattle.sql_rows.specs.Entries.{HasClearing, HasDepositState, HasDeposit, HasFund};
 ghost use Rattle.sql_rows.specs.Entries.{HasPaymentState, HasPayment, HasAgainst, HasClaimState, HasClaim, HasEntry};
 ghost use Rattle.sql_rows.specs.Entries.{entry_columns, BeginsEntry};
 ghost use Rattle.sql_rows.specs.Entries.{HasSamePlace, HasSameMoney, HasSameDays, HasSameTexts};
 ghost use Rattle.sql_rows.specs.Entries.{deposit_parts, payment_parts, plain_parts, claim_on_parts, fund_kind};
 ghost use Rattle.sql_rows.specs.Entries.{fund_of, as_columns};
 
-use crate::column::{amount_in, bank_text_in, entry_in, label_in, number_in, part_in, stored_day};
+use crate::column::{amount_in, bank_text_in, day_in, entry_in, label_in, number_in, part_in};
 use matter_parts::Kept;
 use matter_rows::{
     Against, Claim, ClaimState, ClearedPayment, Clearing, Deposit, DepositState, Entry, Fee, Fund,
@@ -39,22 +35,36 @@ use sql_tables::EntryColumns;
 use std::alloc::Global;
 use trust_base::{Cents, Day, EntryNo, MatterNo, StoreFault};
 
-/// Returns the columns of an entry of a matter, with its number and the cents left of it. A missing day or number is
-/// 0, a missing text is empty.
-pub fn entry_columns<'a>(
+// The columns of an entry of this kind, day and amount. Those of its texts and its state are empty.
+fn blank_columns<'a>(
     matter: MatterNo,
     no: EntryNo,
     left: u64,
-    entry: &'a Entry,
+    kind: u8,
+    book: Day,
+    amount: Cents,
 ) -> EntryColumns<'a>
     requires { left ≤ MAX_TOTAL }
-    ensures { entry_given result ≡ entry_columns matter no left entry.now }
+    ensures { entry_given result ≡ as_columns matter no left (plain_parts kind book amount 0 0 0 [] [] []) }
 {
-    match entry {
-        Entry::Deposit(d) => deposit_columns(matter, no, d, left),
-        Entry::Payment(p) => payment_columns(matter, no, p, left),
-        Entry::Fee(f) => fee_columns(matter, no, f, left),
-        Entry::Claim(c) => claim_columns(matter, no, c, left),
+    EntryColumns {
+        matter: matter.get() as i64,
+        no: no.get() as i64,
+        kind: kind as i64,
+        day: book.get() as i64,
+        amount: amount.get() as i64,
+        state: 0,
+        fund: 0,
+        of_no: 0,
+        text_a: b"",
+        text_b: b"",
+        text_c: b"",
+        day_done: 0,
+        day_undone: 0,
+        day_bank: 0,
+        bank_ref: b"",
+        part: 0,
+        left_now: left as i64,
     }
 }
 
@@ -63,27 +73,11 @@ fn deposit_columns<'a>(matter: MatterNo, no: EntryNo, d: &'a Deposit, left: u64)
     ensures { entry_given result ≡ as_columns matter no left
         (deposit_parts d.now.state d.now.book d.now.amount d.now.source d.now.description) }
 {
-    let mut columns = EntryColumns {
-        matter: matter.get() as i64,
-        no: no.get() as i64,
-        kind: 1,
-        day: d.book.get() as i64,
-        amount: d.amount.get() as i64,
-        state: 1,
-        fund: 0,
-        of_no: 0,
-        text_a: d.source.as_slice(),
-        text_b: d.description.as_slice(),
-        text_c: b"",
-        day_done: 0,
-        day_undone: 0,
-        day_bank: 0,
-        bank_ref: b"",
-        part: 0,
-        left_now: left as i64,
-    };
+    let mut columns = blank_columns(matter, no, left, 1, d.book, d.amount);
+    columns.text_a = d.source.as_slice();
+    columns.text_b = d.description.as_slice();
     match &d.state {
-        DepositState::Held => {}
+        DepositState::Held => columns.state = 1,
         DepositState::Cleared(c) => {
             columns.state = 2;
             columns.day_bank = c.bank_day.get() as i64;
@@ -105,44 +99,19 @@ fn deposit_columns<'a>(matter: MatterNo, no: EntryNo, d: &'a Deposit, left: u64)
     columns
 }
 
-fn fund_code(fund: &Fund) -> (i64, i64)
-    ensures { result ≡ (pos (fund_kind fund.now), pos (fund_of fund.now)) }
-{
-    match fund {
-        Fund::General => (0, 0),
-        Fund::Fee(k) => (1, k.get() as i64),
-        Fund::Claim(k) => (2, k.get() as i64),
-    }
-}
-
 fn payment_columns<'a>(matter: MatterNo, no: EntryNo, p: &'a Payment, left: u64) -> EntryColumns<'a>
     requires { left ≤ MAX_TOTAL }
     ensures { entry_given result ≡ as_columns matter no left
         (payment_parts p.now.state p.now.book p.now.amount (fund_kind p.now.fund) (fund_of p.now.fund) p.now.payee
         p.now.purpose p.now.instrument) }
 {
-    let (fund, of_no) = fund_code(&p.fund);
-    let mut columns = EntryColumns {
-        matter: matter.get() as i64,
-        no: no.get() as i64,
-        kind: 2,
-        day: p.book.get() as i64,
-        amount: p.amount.get() as i64,
-        state: 1,
-        fund,
-        of_no,
-        text_a: p.payee.as_slice(),
-        text_b: p.purpose.as_slice(),
-        text_c: p.instrument.as_slice(),
-        day_done: 0,
-        day_undone: 0,
-        day_bank: 0,
-        bank_ref: b"",
-        part: 0,
-        left_now: left as i64,
-    };
+    let mut columns = blank_columns(matter, no, left, 2, p.book, p.amount);
+    (columns.fund, columns.of_no) = fund_code(&p.fund);
+    columns.text_a = p.payee.as_slice();
+    columns.text_b = p.purpose.as_slice();
+    columns.text_c = p.instrument.as_slice();
     match &p.state {
-        PaymentState::Proposed => {}
+        PaymentState::Proposed => columns.state = 1,
         PaymentState::Declined => columns.state = 2,
         PaymentState::Issued(day) => {
             columns.state = 3;
@@ -163,29 +132,13 @@ fn payment_columns<'a>(matter: MatterNo, no: EntryNo, p: &'a Payment, left: u64)
     columns
 }
 
-fn fee_columns<'a>(matter: MatterNo, no: EntryNo, f: &'a Fee, left: u64) -> EntryColumns<'a>
-    requires { left ≤ MAX_TOTAL }
-    ensures { entry_given result ≡ as_columns matter no left
-        (plain_parts 3 f.now.book f.now.amount 0 0 0 f.now.description [] []) }
+fn fund_code(fund: &Fund) -> (i64, i64)
+    ensures { result ≡ (pos (fund_kind fund.now), pos (fund_of fund.now)) }
 {
-    EntryColumns {
-        matter: matter.get() as i64,
-        no: no.get() as i64,
-        kind: 3,
-        day: f.book.get() as i64,
-        amount: f.amount.get() as i64,
-        state: 0,
-        fund: 0,
-        of_no: 0,
-        text_a: f.description.as_slice(),
-        text_b: b"",
-        text_c: b"",
-        day_done: 0,
-        day_undone: 0,
-        day_bank: 0,
-        bank_ref: b"",
-        part: 0,
-        left_now: left as i64,
+    match fund {
+        Fund::General => (0, 0),
+        Fund::Fee(k) => (1, k.get() as i64),
+        Fund::Claim(k) => (2, k.get() as i64),
     }
 }
 
@@ -194,25 +147,8 @@ fn claim_columns<'a>(matter: MatterNo, no: EntryNo, c: &'a Claim, left: u64) -> 
     ensures { entry_given result ≡ as_columns matter no left
         (claim_on_parts c.now.against c.now.state c.now.book c.now.amount c.now.reason) }
 {
-    let mut columns = EntryColumns {
-        matter: matter.get() as i64,
-        no: no.get() as i64,
-        kind: 4,
-        day: c.book.get() as i64,
-        amount: c.amount.get() as i64,
-        state: 1,
-        fund: 0,
-        of_no: 0,
-        text_a: b"",
-        text_b: c.reason.as_slice(),
-        text_c: b"",
-        day_done: 0,
-        day_undone: 0,
-        day_bank: 0,
-        bank_ref: b"",
-        part: 0,
-        left_now: left as i64,
-    };
+    let mut columns = blank_columns(matter, no, left, 4, c.book, c.amount);
+    columns.text_b = c.reason.as_slice();
     match &c.against {
         Against::General(claimant) => columns.text_a = claimant.as_slice(),
         Against::Fee(k) => {
@@ -221,7 +157,7 @@ fn claim_columns<'a>(matter: MatterNo, no: EntryNo, c: &'a Claim, left: u64) -> 
         }
     }
     match &c.state {
-        ClaimState::Open => {}
+        ClaimState::Open => columns.state = 1,
         ClaimState::Offered(part) => {
             columns.state = 2;
             columns.part = part.get() as i64;
@@ -235,37 +171,35 @@ fn claim_columns<'a>(matter: MatterNo, no: EntryNo, c: &'a Claim, left: u64) -> 
     columns
 }
 
-// Reads the bank line that cleared an entry.
-fn clearing_in(alloc: Global, columns: EntryColumns<'_>) -> Result<Clearing, StoreFault>
-    ensures { (c : Told) → IsClearing c → HasClearing c columns.entry.day_bank columns.entry.bank_ref.now
-        → GivesBack c result }
+/// Returns the columns of an entry of a matter, with its number and the cents left of it. A missing day or number is
+/// 0, a missing text is empty.
+pub fn entry_columns<'a>(
+    matter: MatterNo,
+    no: EntryNo,
+    left: u64,
+    entry: &'a Entry,
+) -> EntryColumns<'a>
+    requires { left ≤ MAX_TOTAL }
+    ensures { entry_given result ≡ entry_columns matter no left entry.now }
 {
-    let bank_day = stored_day(columns.day_bank)?;
-    let bank_ref = bank_text_in(alloc, columns.bank_ref)?;
-    Ok(Clearing { bank_day, bank_ref })
+    match entry {
+        Entry::Deposit(d) => deposit_columns(matter, no, d, left),
+        Entry::Payment(p) => payment_columns(matter, no, p, left),
+        Entry::Fee(f) => EntryColumns {
+            text_a: f.description.as_slice(),
+            ..blank_columns(matter, no, left, 3, f.book, f.amount)
+        },
+        Entry::Claim(c) => claim_columns(matter, no, c, left),
+    }
 }
 
-// Reads the bank line that returned a deposit, from the columns `day_done` and `text_c`.
-fn returning_in(alloc: Global, columns: EntryColumns<'_>) -> Result<Clearing, StoreFault>
-    ensures { (c : Told) → IsClearing c → HasClearing c columns.entry.day_done columns.entry.text_c.now
-        → GivesBack c result }
+// Reads what the bank reported of an entry, from the columns of its day and its reference.
+fn clearing_in(alloc: Global, day: i64, reference: &[u8]) -> Result<Clearing, StoreFault>
+    ensures { (c : Told) → IsClearing c → HasClearing c day reference.now → GivesBack c result }
 {
-    let bank_day = stored_day(columns.day_done)?;
-    let bank_ref = bank_text_in(alloc, columns.text_c)?;
-    Ok(Clearing { bank_day, bank_ref })
-}
-
-// Reads a deposit that the bank cleared and then returned.
-fn returned_in(alloc: Global, columns: EntryColumns<'_>) -> Result<ReturnedDeposit, StoreFault>
-    ensures { (r : SentBack) → IsReturn r → HasReturn r (entry_given columns.entry) → GivesBack r result }
-{
-    let undone = stored_day(columns.day_undone)?;
-    let clearing = clearing_in(alloc, columns)?;
-    let returning = returning_in(alloc, columns)?;
-    Ok(ReturnedDeposit {
-        clearing,
-        returning,
-        undone,
+    Ok(Clearing {
+        bank_day: day_in(day)?,
+        bank_ref: bank_text_in(alloc, reference)?,
     })
 }
 
@@ -276,11 +210,20 @@ fn deposit_state_in(alloc: Global, columns: EntryColumns<'_>) -> Result<DepositS
     match columns.state {
         1 => Ok(DepositState::Held),
         2 => {
-            let clearing = clearing_in(alloc, columns)?;
+            let clearing = clearing_in(alloc, columns.day_bank, columns.bank_ref)?;
             Ok(DepositState::Cleared(clearing))
         }
-        3 => Ok(DepositState::Cancelled(stored_day(columns.day_undone)?)),
-        4 => Ok(DepositState::Returned(returned_in(alloc, columns)?)),
+        3 => Ok(DepositState::Cancelled(day_in(columns.day_undone)?)),
+        4 => {
+            let undone = day_in(columns.day_undone)?;
+            let clearing = clearing_in(alloc, columns.day_bank, columns.bank_ref)?;
+            let returning = clearing_in(alloc, columns.day_done, columns.text_c)?;
+            Ok(DepositState::Returned(ReturnedDeposit {
+                clearing,
+                returning,
+                undone,
+            }))
+        }
         _ => Err(StoreFault::Store),
     }
 }
@@ -294,15 +237,12 @@ fn deposit_in(
     ensures { (d : Received) → IsDeposit d → HasDeposit d book amount (entry_given columns.entry)
         → GivesBack d result }
 {
-    let state = deposit_state_in(alloc, columns)?;
-    let source = label_in(alloc, columns.text_a)?;
-    let description = label_in(alloc, columns.text_b)?;
     Ok(Deposit {
+        state: deposit_state_in(alloc, columns)?,
+        source: label_in(alloc, columns.text_a)?,
+        description: label_in(alloc, columns.text_b)?,
         book,
         amount,
-        source,
-        description,
-        state,
     })
 }
 
@@ -313,31 +253,10 @@ fn fund_in(fund: i64, of_no: i64) -> Result<Fund, StoreFault>
 {
     match fund {
         0 => Ok(Fund::General),
-        1 => Ok(Fund::Fee(entry_in(of_no).ok_or(StoreFault::Store)?)),
-        2 => Ok(Fund::Claim(entry_in(of_no).ok_or(StoreFault::Store)?)),
+        1 => Ok(Fund::Fee(entry_in(of_no)?)),
+        2 => Ok(Fund::Claim(entry_in(of_no)?)),
         _ => Err(StoreFault::Store),
     }
-}
-
-// Reads a payment that the bank cleared.
-fn cleared_in(alloc: Global, columns: EntryColumns<'_>) -> Result<ClearedPayment, StoreFault>
-    ensures { (p : PaidCleared) → IsDay p.issued → IsClearing p.clearing → pos p.issued ≡ columns.entry.day_done
-        → HasClearing p.clearing columns.entry.day_bank columns.entry.bank_ref.now → GivesBack p result }
-{
-    let issued = stored_day(columns.day_done)?;
-    let clearing = clearing_in(alloc, columns)?;
-    Ok(ClearedPayment { issued, clearing })
-}
-
-// Reads a payment that was voided.
-fn voided_in(columns: EntryColumns<'_>) -> Result<VoidedPayment, StoreFault>
-    ensures back { (p : PaidVoided) → IsDay p.issued → IsDay p.undone → pos p.issued ≡ columns.entry.day_done
-        → pos p.undone ≡ columns.entry.day_undone → result ≡ Ok p }
-    ensures store { IfErr result (λ e. e ≡ StoreFault.Store) }
-{
-    let issued = stored_day(columns.day_done)?;
-    let undone = stored_day(columns.day_undone)?;
-    Ok(VoidedPayment { issued, undone })
 }
 
 fn payment_state_in(alloc: Global, columns: EntryColumns<'_>) -> Result<PaymentState, StoreFault>
@@ -347,9 +266,17 @@ fn payment_state_in(alloc: Global, columns: EntryColumns<'_>) -> Result<PaymentS
     match columns.state {
         1 => Ok(PaymentState::Proposed),
         2 => Ok(PaymentState::Declined),
-        3 => Ok(PaymentState::Issued(stored_day(columns.day_done)?)),
-        4 => Ok(PaymentState::Cleared(cleared_in(alloc, columns)?)),
-        5 => Ok(PaymentState::Voided(voided_in(columns)?)),
+        3 => Ok(PaymentState::Issued(day_in(columns.day_done)?)),
+        4 => {
+            let issued = day_in(columns.day_done)?;
+            let clearing = clearing_in(alloc, columns.day_bank, columns.bank_ref)?;
+            Ok(PaymentState::Cleared(ClearedPayment { issued, clearing }))
+        }
+        5 => {
+            let issued = day_in(columns.day_done)?;
+            let undone = day_in(columns.day_undone)?;
+            Ok(PaymentState::Voided(VoidedPayment { issued, undone }))
+        }
         _ => Err(StoreFault::Store),
     }
 }
@@ -362,19 +289,14 @@ fn payment_in(
 ) -> Result<Payment, StoreFault>
     ensures { (p : Paid) → IsPayment p → HasPayment p book amount (entry_given columns.entry) → GivesBack p result }
 {
-    let fund = fund_in(columns.fund, columns.of_no)?;
-    let state = payment_state_in(alloc, columns)?;
-    let payee = label_in(alloc, columns.text_a)?;
-    let purpose = label_in(alloc, columns.text_b)?;
-    let instrument = label_in(alloc, columns.text_c)?;
     Ok(Payment {
+        fund: fund_in(columns.fund, columns.of_no)?,
+        state: payment_state_in(alloc, columns)?,
+        payee: label_in(alloc, columns.text_a)?,
+        purpose: label_in(alloc, columns.text_b)?,
+        instrument: label_in(alloc, columns.text_c)?,
         book,
         amount,
-        fund,
-        payee,
-        purpose,
-        instrument,
-        state,
     })
 }
 
@@ -384,7 +306,7 @@ fn against_in(alloc: Global, columns: EntryColumns<'_>) -> Result<Against, Store
 {
     match columns.fund {
         0 => Ok(Against::General(label_in(alloc, columns.text_a)?)),
-        1 => Ok(Against::Fee(entry_in(columns.of_no).ok_or(StoreFault::Store)?)),
+        1 => Ok(Against::Fee(entry_in(columns.of_no)?)),
         _ => Err(StoreFault::Store),
     }
 }
@@ -396,13 +318,10 @@ fn claim_state_in(columns: EntryColumns<'_>) -> Result<ClaimState, StoreFault>
 {
     match columns.state {
         1 => Ok(ClaimState::Open),
-        2 => {
-            let part = part_in(columns.part).ok_or(StoreFault::Store)?;
-            Ok(ClaimState::Offered(part))
-        }
+        2 => Ok(ClaimState::Offered(part_in(columns.part)?)),
         3 => {
-            let day = stored_day(columns.day_done)?;
-            let part = part_in(columns.part).ok_or(StoreFault::Store)?;
+            let day = day_in(columns.day_done)?;
+            let part = part_in(columns.part)?;
             Ok(ClaimState::Settled(Settlement { day, part }))
         }
         _ => Err(StoreFault::Store),
@@ -417,15 +336,12 @@ fn claim_in(
 ) -> Result<Claim, StoreFault>
     ensures { (c : Claimed) → IsClaim c → HasClaim c book amount (entry_given columns.entry) → GivesBack c result }
 {
-    let state = claim_state_in(columns)?;
-    let against = against_in(alloc, columns)?;
-    let reason = label_in(alloc, columns.text_b)?;
     Ok(Claim {
+        state: claim_state_in(columns)?,
+        against: against_in(alloc, columns)?,
+        reason: label_in(alloc, columns.text_b)?,
         book,
         amount,
-        against,
-        reason,
-        state,
     })
 }
 
@@ -513,10 +429,10 @@ pub fn entry_of(
     if columns.matter != matter.get() as i64 {
         return Err(StoreFault::Store);
     }
-    let number = entry_in(columns.no).ok_or(StoreFault::Store)?;
+    let number = entry_in(columns.no)?;
     let left = number_in(columns.left_now, MAX_TOTAL)?;
-    let book = stored_day(columns.day)?;
-    let amount = amount_in(columns.amount).ok_or(StoreFault::Store)?;
+    let book = day_in(columns.day)?;
+    let amount = amount_in(columns.amount)?;
     let entry = of_kind(alloc, book, amount, columns)?;
     let written = entry_columns(matter, number, left, &entry);
     if !are_same(written, columns) {

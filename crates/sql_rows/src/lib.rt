@@ -4,20 +4,15 @@
 //! if memory runs out before the invalid one is reached.
 #![tactic(auto)]
 
-mod balance;
 mod column;
 mod entry;
-mod exception;
-mod firm_line;
-mod head;
 pub mod laws;
-mod movement;
-mod seat;
+mod lines;
+mod matter;
 
-pub use balance::{balance_columns, balance_of, kind_column};
 pub use entry::{entry_columns, entry_of};
-pub use exception::{exception_columns, exception_of};
-pub use firm_line::{firm_line_columns, firm_line_of};
-pub use head::{head_columns, head_of, totals_columns, totals_of};
-pub use movement::{movement_columns, movement_of};
-pub use seat::{seat_columns, seat_of};
+pub use lines::{
+    balance_columns, balance_of, exception_columns, exception_of, firm_line_columns, firm_line_of,
+    kind_column, movement_columns, movement_of,
+};
+pub use matter::{head_columns, head_of, seat_columns, seat_of, totals_columns, totals_of};

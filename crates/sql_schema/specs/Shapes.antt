@@ -1,5 +1,5 @@
 -- The parts of a schema that the shapes in the code describe.
-use Rattle.std.specs.Prelude.{ℕ, Bool, true, [], ◌∷◌, List, map, if◌then◌else◌}
+use Rattle.std.specs.Prelude.{Bool, true, [], ◌∷◌, List, map, if◌then◌else◌}
 use Rattle.sqlite_value.specs.declared.value.Value.TheVariants.{Null}
 use Rattle.sqlite_value.specs.declared.keys.Collation.TheVariants.{Binary}
 use Rattle.sqlite_value.specs.Keys.{plain}

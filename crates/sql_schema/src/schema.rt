@@ -20,37 +20,31 @@ fn is_of(schema: &Schema, tables: &[TableShape<'_>], indexes: &[IndexShape<'_>])
         && schema.views.is_empty()
 }
 
-/// Whether the schema is exactly a book's in this layout, down to the last column: names, kinds, NOT NULL, keys,
-/// references and indexes, created in this order, with no view and nothing else. Does not allocate.
-pub fn is_book_schema(schema: &Schema, layout: Layout) -> bool
-    ensures sound { IsTrue result → schema.now ≡ book_schema layout }
-    ensures complete { schema.now ≡ book_schema layout → IsTrue result }
-{
-    match layout {
-        Layout::Made => is_of(schema, MADE_TABLES, MADE_INDEXES),
-        Layout::Moved => is_of(schema, MOVED_TABLES, MOVED_INDEXES),
-    }
+/// The tables of a book.
+#[derive(Clone, Copy, Debug, PartialEq, Eq)]
+pub enum BookTables {
+    /// Those of this version, in this layout.
+    Now(Layout),
+    /// Those of version 1, which keeps matters, their seats and their entries in three other tables.
+    Old,
 }
 
-/// Returns the layout in which the schema is a book's, or `None` if it is not a book's. Does not allocate.
-pub fn layout_of(schema: &Schema) -> Option<Layout>
-    ensures { (l : Layout) → (result ≡ Some l) ↔ (schema.now ≡ book_schema l) }
+/// Returns the tables of a book that the schema has, or `None` if it is not exactly a book's, down to the last column:
+/// names, kinds, NOT NULL, keys, references and indexes, created in this order, with no view and nothing else. Does
+/// not allocate.
+#[tactic(auto, using(crate::proofs::Apart::never_both))]
+pub fn book_tables(schema: &Schema) -> Option<BookTables>
+    ensures now { (l : Layout) → (result ≡ Some (BookTables.Now l)) ↔ (schema.now ≡ book_schema l) }
+    ensures old { (result ≡ Some BookTables.Old) ↔ (schema.now ≡ old_schema) }
 {
-    if is_book_schema(schema, Layout::Made) {
-        Some(Layout::Made)
-    } else if is_book_schema(schema, Layout::Moved) {
-        Some(Layout::Moved)
+    if is_of(schema, MADE_TABLES, MADE_INDEXES) {
+        Some(BookTables::Now(Layout::Made))
+    } else if is_of(schema, MOVED_TABLES, MOVED_INDEXES) {
+        Some(BookTables::Now(Layout::Moved))
+    } else if is_of(schema, &MOVED_TABLES[..9], &MOVED_INDEXES[..4]) {
+        // A moved book has the tables of version 1, and behind them the three that replaced the old ones.
+        Some(BookTables::Old)
     } else {
         None
     }
-}
-
-/// Whether the schema is exactly that of version 1, which keeps matters, their seats and their entries in three other
-/// tables. Does not allocate.
-pub fn is_old_schema(schema: &Schema) -> bool
-    ensures sound { IsTrue result → schema.now ≡ old_schema }
-    ensures complete { schema.now ≡ old_schema → IsTrue result }
-{
-    // A moved book has the same, and behind it the three tables that replaced the old ones.
-    is_of(schema, &MOVED_TABLES[..9], &MOVED_INDEXES[..4])
 }

@@ -3,10 +3,10 @@
 ghost use Rattle.std.specs.Prelude.{◌≡◌, [], ◌∷◌, IsTrue, map};
 ghost use Rattle.sqlite_value.specs.Keys.{plain};
 ghost use Rattle.sql_schema.specs.Schema.{reference_to};
-ghost use Rattle.sql_schema.specs.Shapes.{one_if};
+ghost use Rattle.sql_schema.specs.Shapes.{one_if, column_of, table_of, index_of};
 
 use sqlite_items::Items;
-use sqlite_schema::schema::{Action, Column, Index, Kind, Reference, Stamps, Table};
+use sqlite_schema::schema::{Action, Column, Index, Kind, Reference, Table};
 use sqlite_value::keys::{Collation, Order};
 use sqlite_value::value::{Bytes, Value};
 
@@ -141,40 +141,29 @@ fn are_references(references: &Items<Reference>, has_parent: bool, parent: &[u8]
     }
 }
 
-fn is_no_stamp(stamps: &Stamps) -> bool
-    ensures sound { IsTrue result → stamps.now ≡ record { places = []; terms = []; formats = [] } }
-    ensures complete { stamps.now ≡ record { places = []; terms = []; formats = [] } → IsTrue result }
-{
-    stamps.places.is_empty() && stamps.terms.roots.is_empty() && stamps.formats.is_empty()
-}
-
 impl Shape for ColumnShape<'_> {
-    ghost use Rattle.sql_schema.specs.Shapes.{column_of};
-
     type Part = Column;
 
     ghost shaped = { column_of };
 
     fn is(&self, column: &Column) -> bool {
-        is_name(&column.name, self.name)
-            && column.kind == self.kind
+        column.kind == self.kind
             && column.is_strict == self.is_strict
             && column.not_null == self.not_null
+            && is_name(&column.name, self.name)
             && column.collation == Collation::Binary
             && matches!(column.default, Value::Null)
     }
 }
 
 impl Shape for TableShape<'_> {
-    ghost use Rattle.sql_schema.specs.Shapes.{table_of};
-
     type Part = Table;
 
     ghost shaped = { table_of };
 
     fn is(&self, table: &Table) -> bool {
-        is_name(&table.name, self.name)
-            && table.tree == self.tree
+        table.tree == self.tree
+            && is_name(&table.name, self.name)
             && are_all(table.columns.as_slice(), self.columns)
             && table.key == self.key
             && are_places(&table.primary, self.primary)
@@ -183,23 +172,23 @@ impl Shape for TableShape<'_> {
             && table.checks.roots.is_empty()
             && are_references(&table.references, self.has_parent, self.parent)
             && table.computed.is_empty()
-            && is_no_stamp(&table.stamps)
+            && table.stamps.places.is_empty()
+            && table.stamps.terms.roots.is_empty()
+            && table.stamps.formats.is_empty()
             && table.is_counted == self.is_counted
     }
 }
 
 impl Shape for IndexShape<'_> {
-    ghost use Rattle.sql_schema.specs.Shapes.{index_of};
-
     type Part = Index;
 
     ghost shaped = { index_of };
 
     fn is(&self, index: &Index) -> bool {
         is_name(&index.name, self.name)
+            && are_places(&index.columns, self.columns)
             && index.tree == self.tree
             && index.table == self.table
-            && are_places(&index.columns, self.columns)
             && index.order.digits == 0
             && index.is_unique
     }

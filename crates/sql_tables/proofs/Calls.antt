@@ -1,21 +1,7 @@
 -- From what a call of `sqlite` says of a text to the meaning of a query that is written out.
-use Rattle.std.proofs.Common.{◌≡◌, ◌⊎◌, inl, inr, ℕ, Bool, true, false, cond, unwrap_or, refl, List, [], None, Result, Ok, Err, IfOk, IfErr, IsOk, OnOk, IsTrue, subst, sym, ◌∙◌, arith}
-use Rattle.sqlite_value.specs.declared.value.Value.TheVariants.{Null}
-use Rattle.sqlite_value.specs.Order.{Row}
-use Rattle.sqlite_trees.specs.Tree.{Trees}
-use Rattle.sqlite_sql.specs.Query.{Query, IsAnswer}
-use Rattle.sqlite_sql.specs.Program.{overlay}
-use Rattle.sqlite_schema.specs.declared.schema.Schema.{Schema}
-use Rattle.sqlite_schema.specs.declared.command.Command.{Command}
-use Rattle.sqlite_schema.specs.declared.command.Command.TheVariants.{Select}
+use Rattle.sql_tables.proofs.Names.{◌≡◌, ◌⊎◌, inl, inr, ℕ, Bool, true, false, cond, unwrap_or, refl, List, [], None, Result, Ok, Err, IfOk, IfErr, IsOk, OnOk, IsTrue, subst, sym, ◌∙◌, arith, Null, Row, Trees, Query, IsAnswer, overlay, Schema, Command, Select, understood, reads_listing, Error, State, HasCleanDisk, Survives, CommitsShowing, Shown, ShowsRows, IsUnchanged, IsRolledBack, IsNotRun, FailsToQuery, FailsToShow, IsKept, LeavesAll, IsSelect, survives_weaker, IsPlain, command_of, reads_as}
 use Rattle.sqlite.specs.Clock.{timed}
-use Rattle.sqlite.specs.Listing.{understood, reads_listing}
-use Rattle.sqlite.specs.declared.error.Error.{Error}
-use Rattle.sqlite.specs.State.{State, HasCleanDisk, Survives, CommitsShowing, Shown, ShowsRows, IsUnchanged, IsRolledBack, IsNotRun, FailsToQuery, FailsToShow}
-use Rattle.sql_tables.specs.Reading.{IsKept, LeavesAll, IsSelect}
 use Rattle.sql_tables.proofs.Selects.{ReturnsNothing, select_returns, select_commits}
-use Rattle.sqlite.proofs.StateLemmas.{survives_weaker}
-use Rattle.sqlite.proofs.Callers.{IsPlain, command_of, reads_as}
 
 -- what is proved of the text of a write, by running its meaning
 pub record IsCommand (schema : Schema) (sql : List ℕ) (command : Command) : Type 0 where

@@ -1,18 +1,10 @@
 -- Values that a statement gives are stored as they are, and rowids go up.
-use Rattle.std.proofs.Common.{◌≡◌, ℤ, pos, ◌+ℤ◌, ◌<ℤ◌, Bool, true, false, cond, ◌&&◌, List, [], ◌∷◌, ◌++◌, map, fold, refl, ap, ap₂, subst, ◌∙◌}
-use Rattle.std.specs.List.{AllByRecursion}
+use Rattle.sql_tables.proofs.Names.{◌≡◌, ℤ, pos, ◌+ℤ◌, ◌<ℤ◌, Bool, true, false, cond, ◌&&◌, List, [], ◌∷◌, ◌++◌, map, fold, refl, ap, ap₂, subst, ◌∙◌, AllByRecursion, Null, Int, Real, Text, Blob, Row, rowid, cast, cast_all, id_in, IsKeyedBy, next_key, insert_by, above_all, Less-from_lt, IsKeyedBy-insert_by}
 use Rattle.sqlite_value.specs.declared.value.Value.{Value}
-use Rattle.sqlite_value.specs.declared.value.Value.TheVariants.{Null, Int, Real, Text, Blob}
-use Rattle.sqlite_value.specs.Order.{Row}
-use Rattle.sqlite_trees.specs.Tree.{rowid}
 use Rattle.sqlite_sql.specs.Ops.{unary}
 use Rattle.sqlite_schema.specs.declared.schema.Kind.{Kind}
 use Rattle.sqlite_schema.specs.declared.schema.Kind.TheVariants as kind
 use Rattle.sqlite_schema.specs.declared.schema.Column.{Column}
-use Rattle.sqlite_rules.specs.Cast.{cast, cast_all}
-use Rattle.sqlite_rules.specs.Edit.{id_in}
-use Rattle.sqlite_keyed.specs.Keyed.{IsKeyedBy, next_key, insert_by}
-use Rattle.sqlite_keyed.proofs.KeyedLemmas.{above_all, Less-from_lt, IsKeyedBy-insert_by}
 use Rattle.sqlite_keyed.proofs.RuleLemmas.{first_of_both, second_of_both}
 
 either : (b : Bool) (x : Value) → cond b x x ≡ x

@@ -1,22 +1,6 @@
 -- INSERT of one row into a table with AUTOINCREMENT.
-use Rattle.std.proofs.Common.{◌≡◌, ◌≢◌, ℕ, ℤ, ◌/◌, Bool, true, false, cond, List, [], ◌∷◌, length, Option, Some, None, Ok, refl, sym, ap, subst, subst₂, ◌∙◌, int_cmp, is_lt, MatchBool}
-use Rattle.std.specs.List.{AllByRecursion}
-use Rattle.sqlite_value.specs.Order.{Row}
-use Rattle.sqlite_trees.specs.Tree.{Trees, put_row}
-use Rattle.sqlite_sql.specs.Term.{Term}
-use Rattle.sqlite_schema.specs.declared.schema.Schema.{Schema}
-use Rattle.sqlite_schema.specs.declared.schema.Table.{Table}
-use Rattle.sqlite_schema.specs.declared.schema.Keys.TheVariants.{Enforced}
-use Rattle.sqlite_schema.specs.declared.command.Source.TheVariants.{Values}
-use Rattle.sqlite_rules.specs.declared.error.Rowids.TheVariants.{Above}
-use Rattle.sqlite_rules.specs.Cast.{cast_row}
-use Rattle.sqlite_rules.specs.Action.{works}
-use Rattle.sqlite_rules.specs.Edit.{Edit, edit_of, with_rowid, taken_by, Applies}
-use Rattle.sqlite.specs.Effect.{value_rows}
-use Rattle.sqlite.specs.Rows.{Written, Task, Inserts, Edited, Gives, Counts, CountsIn, count_of, rowids_for, sequence, stamped}
-use Rattle.sqlite.proofs.Callers.{one_step}
-use Rattle.sqlite_rules.specs.Lists.{Has}
-use Rattle.sqlite_rules.proofs.ListLemmas.{all_has}
+use Rattle.sql_tables.proofs.Names.{◌≡◌, ◌≢◌, ℕ, ℤ, ◌/◌, Bool, true, false, cond, List, [], ◌∷◌, length, Option, Some, None, Ok, refl, sym, ap, subst, subst₂, ◌∙◌, is_lt, MatchBool, AllByRecursion, Row, Trees, put_row, Term, Schema, Table, Enforced, Values, Above, cast_row, works, Edit, edit_of, with_rowid, taken_by, Applies, value_rows, Written, Task, Inserts, Edited, Gives, Counts, CountsIn, count_of, rowids_for, sequence, stamped, one_step, Has, all_has}
+use Rattle.std.proofs.Common.{int_cmp}
 use Rattle.sql_tables.proofs.Writes.{went, same_value}
 
 module _ (limit : Option ℕ) (schema : Schema) (table counters : Table) (params : Row) (counted : table.is_counted ≡ true) (listed : sequence schema ≡ Some counters)

@@ -1,29 +1,9 @@
 -- The rows that a write takes out and puts in, as a list of records in the order of their rowids.
-use Rattle.std.proofs.Common.{◌≡◌, inl, inr, ℤ, ◌<ℤ◌, Bool, true, false, not, cond, ◌&&◌, ◌||◌, List, [], ◌∷◌, map, filter, fold, drop, None, refl, sym, ap, ap₂, subst, ◌∙◌, arith, int_eq, Less, true≢false}
-use Rattle.std.specs.Ordering.{ordering_reverse}
-use Rattle.std.specs.List.{AllByRecursion, list_any}
-use Rattle.std.proofs.lemmas.Int.{ints}
+use Rattle.sql_tables.proofs.Names.{◌≡◌, inl, inr, ℤ, ◌<ℤ◌, Bool, true, false, not, cond, ◌&&◌, ◌||◌, List, [], ◌∷◌, map, filter, fold, drop, None, refl, sym, ap, ap₂, subst, ◌∙◌, arith, int_eq, Less, true≢false, ordering_reverse, AllByRecursion, list_any, ints, Int, Row, value_cmp, value_cmp_total, value_cmp-Int, rowid, put_row, IsAscending, IsTable, Table, Has, ids_of, AreConflicts, conflicts, Given, id_in, without_all, put_all, numbered, are_fresh, IsKeyedBy, insert_by, without_key, update_where, delete_where, same_int, Less-from_lt, IsKeyedBy-update_where, IsKeyedBy-delete_where, all_has, some_has, some_from, has_kept, has_filtered, has_contained, contains_had, map-map, map_same, ascending-map, ascending_weaker, IsPermutation, list_any-IsPermutation, Contains-permutation, IsPermutation-map, IsPermutation-sym}
 use Rattle.std.proofs.lemmas.Bool.{cases_Bool}
-use Rattle.sqlite_value.specs.declared.value.Value.TheVariants.{Int}
-use Rattle.sqlite_value.specs.Order.{Row, value_cmp}
-use Rattle.sqlite_value.proofs.OrderLemmas.{value_cmp_total, value_cmp-Int}
-use Rattle.sqlite_trees.specs.Tree.{rowid, put_row, IsAscending, IsTable}
 use Rattle.sqlite_trees.proofs.TreeLemmas.{IsTable-put_row}
 use Rattle.sqlite_schema.specs.declared.schema.Index.{Index}
-use Rattle.sqlite_schema.specs.declared.schema.Table.{Table}
-use Rattle.sqlite_rules.specs.Lists.{Has}
-use Rattle.sqlite_rules.specs.Calls.{ids_of}
-use Rattle.sqlite_rules.specs.Keys.{AreConflicts, conflicts}
-use Rattle.sqlite_rules.specs.declared.error.Rowids.TheVariants.{Given}
-use Rattle.sqlite_rules.specs.Edit.{id_in, without_all, put_all, numbered, are_fresh}
-use Rattle.sqlite_keyed.specs.Keyed.{IsKeyedBy, insert_by}
-use Rattle.sqlite_keyed.specs.Lists.{without_key, update_where, delete_where}
-use Rattle.sqlite_keyed.proofs.KeyedLemmas.{same_int, Less-from_lt, IsKeyedBy-update_where, IsKeyedBy-delete_where}
-use Rattle.sqlite_rules.proofs.ListLemmas.{all_has, some_has, some_from, has_kept, has_filtered, has_contained, contains_had}
 use Rattle.sqlite_rules.proofs.TableLemmas.{put_all_has, put_all_keeps, put_all_adds}
-use Rattle.sqlite_keyed.proofs.ListLemmas.{map-map, map_same, ascending-map, ascending_weaker}
-use Rattle.std.specs.List.Sorted.{IsPermutation}
-use Rattle.std.proofs.lemmas.List.Sorted.{list_any-IsPermutation, Contains-permutation, IsPermutation-map, IsPermutation-sym}
 use Rattle.sqlite_rules.proofs.ProbeLemmas.{mapped_has, has_mapped}
 use Rattle.sqlite_typed.proofs.RowLemmas.{puts-map, deletes-map}
 
@@ -34,7 +14,7 @@ both p q r is (x ∷ xs) = elim (cases_Bool (q x)) [
   | inr e ↦ let same : r x ≡ false = is x ∙ rw e refl in rw (e, same) (both p q r is xs)
 ]
 
-all_kept : {X : Type 0} (xs : List X) → filter (λ _. true) xs ≡ xs
+pub all_kept : {X : Type 0} (xs : List X) → filter (λ _. true) xs ≡ xs
 all_kept [] = refl
 all_kept (x ∷ xs) = ap (λ l. x ∷ l) (all_kept xs)
 

@@ -1,44 +1,6 @@
 -- What a statement of each kind makes of the list that its table holds.
-use Rattle.std.proofs.Common.{◌≡◌, ◌≢◌, ℕ, ℤ, pos, ◌<ℤ◌, ◌/◌, Bool, true, false, cond, List, [], ◌∷◌, ◌++◌, map, filter, length, drop, slice_get, None, Ok, Some, sym, ap, ap₂, subst, subst₂, ◌∙◌, arith}
-use Rattle.std.specs.List.{AllByRecursion, list_all, list_any}
-use Rattle.std.specs.List.Sorted.{IsPermutation}
-use Rattle.std.proofs.lemmas.Int.{ints}
+use Rattle.sql_tables.proofs.Names.{◌≡◌, ◌≢◌, ℕ, ℤ, pos, ◌<ℤ◌, ◌/◌, Bool, true, false, cond, List, [], ◌∷◌, ◌++◌, map, filter, length, drop, slice_get, None, Ok, Some, sym, ap, ap₂, subst, subst₂, ◌∙◌, arith, AllByRecursion, list_all, list_any, IsPermutation, ints, IsPermutation-map, Null, Int, Row, Trees, rowid, put_row, Term, col, eval_all, holds, IsAnswer, Output, output, overlay, Table, Program, Enforced, Ignore, Replace, Values, Insert, InsertOr, Update, Delete, Chosen, Above, Given, works, ids_of, cast_row, at_least, are_fresh, edit_of, next_rowid, numbered, put_all, with_rowid, without_all, AreConflicts, conflicts, Has, is_present, passes_checks, IsKeyedBy, insert_by, next_key, update_where, delete_where, map-map, map_same, at_end, last_table, matches_are, Database, IsDatabase, value_rows, understood, sequence, stamped, mended, State, Executes, command_of, IsPlain, runs_as, Layout, book_schema, sequence_table, sequence_tree, changing, picked, Changed, Counted}
 use Rattle.std.proofs.lemmas.Bool.Decides.{nat_tests}
-use Rattle.std.proofs.lemmas.List.Sorted.{IsPermutation-map}
-use Rattle.sqlite_value.specs.declared.value.Value.TheVariants.{Null, Int}
-use Rattle.sqlite_value.specs.Order.{Row}
-use Rattle.sqlite_trees.specs.Tree.{Trees, rowid, put_row}
-use Rattle.sqlite_sql.specs.Term.{Term, col, eval_all, holds}
-use Rattle.sqlite_sql.specs.Query.{IsAnswer, Output, output}
-use Rattle.sqlite_sql.specs.Program.{overlay}
-use Rattle.sqlite_schema.specs.declared.schema.Table.{Table}
-use Rattle.sqlite_schema.specs.declared.program.Program.{Program}
-use Rattle.sqlite_schema.specs.declared.schema.Keys.TheVariants.{Enforced}
-use Rattle.sqlite_schema.specs.declared.command.Conflict.TheVariants.{Ignore, Replace}
-use Rattle.sqlite_schema.specs.declared.command.Source.TheVariants.{Values}
-use Rattle.sqlite_schema.specs.declared.command.Command.TheVariants.{Insert, InsertOr, Update, Delete}
-use Rattle.sqlite_rules.specs.declared.error.Rowids.TheVariants.{Chosen, Above, Given}
-use Rattle.sqlite_rules.specs.Action.{works}
-use Rattle.sqlite_rules.specs.Calls.{ids_of}
-use Rattle.sqlite_rules.specs.Cast.{cast_row}
-use Rattle.sqlite_rules.specs.Edit.{at_least, are_fresh, edit_of, next_rowid, numbered, put_all, with_rowid, without_all}
-use Rattle.sqlite_rules.specs.Keys.{AreConflicts, conflicts}
-use Rattle.sqlite_rules.specs.Lists.{Has}
-use Rattle.sqlite_rules.specs.Steps.{is_present}
-use Rattle.sqlite_schema.specs.Rules.{passes_checks}
-use Rattle.sqlite_keyed.specs.Keyed.{IsKeyedBy, insert_by, next_key}
-use Rattle.sqlite_keyed.specs.Lists.{update_where, delete_where}
-use Rattle.sqlite_keyed.proofs.ListLemmas.{map-map, map_same}
-use Rattle.sqlite_typed.proofs.AnswerLemmas.{at_end, last_table, matches_are}
-use Rattle.sqlite.specs.Effect.{Database, IsDatabase, value_rows}
-use Rattle.sqlite.specs.Listing.{understood}
-use Rattle.sqlite.specs.Rows.{sequence, stamped, mended}
-use Rattle.sqlite.specs.State.{State, Executes}
-use Rattle.sqlite.proofs.Callers.{command_of, IsPlain, runs_as}
-use Rattle.sql_schema.specs.declared.layout.Layout.{Layout}
-use Rattle.sql_schema.specs.Schema.{book_schema, sequence_table, sequence_tree}
-use Rattle.sql_tables.specs.Picking.{changing, picked}
-use Rattle.sql_tables.specs.Standing.{Changed, Counted}
 use Rattle.sql_tables.proofs.Writes.{inserts, inserts_or, updates, updated, deletes, removed, replaced, inserted, ignored, Ignored}
 use Rattle.sql_tables.proofs.CountedUp as up
 use Rattle.sql_tables.proofs.Calls.{no_lets}

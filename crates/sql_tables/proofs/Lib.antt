@@ -11,3 +11,4 @@ pub mod Tables
 pub mod Others
 pub mod ReadLemmas
 pub mod ScriptLemmas
+mod Names

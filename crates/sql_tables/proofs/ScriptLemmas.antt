@@ -1,27 +1,13 @@
 -- What a list of statements makes of tables that stand.
-use Rattle.std.proofs.Common.{◌≡◌, ℕ, ℤ, ◌+◌, ◌<◌, ◌<ℤ◌, Bool, true, false, cond, List, [], ◌∷◌, ◌++◌, length, map, take, get_or, Result, Ok, IsTrue, refl, sym, ap, subst, ◌∙◌}
-use Rattle.std.specs.List.{AllByRecursion, list_any}
+use Rattle.sql_tables.proofs.Names.{◌≡◌, ℕ, ℤ, ◌+◌, ◌<◌, ◌<ℤ◌, Bool, true, false, cond, List, [], ◌∷◌, ◌++◌, length, map, take, get_or, Result, Ok, IsTrue, refl, sym, ap, subst, ◌∙◌, arith, AllByRecursion, list_any, Row, IsKeyedBy, next_key, delete_where, IsKeyedBy-insert_by, IsKeyedBy-update_where, IsKeyedBy-delete_where, map_back, Database, IsDatabase, Error, State, HasCleanDisk, Survives, Executes, ExecutesInside, Held, state, survives_then, Layout, matter_tree, Head, head_row, head_in, heads_in, is_head, with_totals, with_closing, with_purge, change_head, Seat, seat_row, seat_in, seats_in, is_seat, is_seat_of, Entry, entry_row, entry_in, entries_in, is_entry, is_entry_at, is_entry_of, with_left, Movement, movement_row, movement_in, movements_in, is_movement_of, FirmLine, firm_line_row, firm_line_in, Exception, exception_row, exception_in, exceptions_in, is_exception, Balance, balance_row, balance_in, balances_in, Holds, Stands, Changed, Call, call_of, calls_of, RanInside, Does, DoesAll, IsPerformed, HasRun}
 use Rattle.std.proofs.lemmas.List.{take_more}
-use Rattle.sqlite_value.specs.Order.{Row}
 use Rattle.sqlite_trees.specs.declared.store.Store.{Ghosts}
-use Rattle.sqlite_keyed.specs.Keyed.{IsKeyedBy, next_key}
-use Rattle.sqlite_keyed.specs.Lists.{delete_where}
-use Rattle.sqlite_keyed.proofs.KeyedLemmas.{IsKeyedBy-insert_by, IsKeyedBy-update_where, IsKeyedBy-delete_where}
-use Rattle.sqlite_keyed.proofs.ListLemmas.{map_back}
-use Rattle.sqlite.specs.Effect.{Database, IsDatabase}
-use Rattle.sqlite.specs.declared.error.Error.{Error}
-use Rattle.sqlite.specs.State.{State, HasCleanDisk, Survives, Executes, ExecutesInside}
-use Rattle.sqlite.specs.Held.{Held, state}
-use Rattle.sql_schema.specs.declared.layout.Layout.{Layout}
-use Rattle.sql_schema.specs.Schema.{matter_tree}
 use Rattle.sql_tables.specs.declared.statements.Statement.{Statement}
 use Rattle.sql_tables.specs.declared.statements.Statement.TheVariants as statement
 use Rattle.sql_tables.specs.Given.{head_given, seat_given, entry_given, movement_given, firm_line_given, exception_given, balance_given}
-use Rattle.sql_tables.specs.Rows.{Head, head_row, head_in, heads_in, is_head, with_totals, with_closing, with_purge, change_head, Seat, seat_row, seat_in, seats_in, is_seat, is_seat_of, Entry, entry_row, entry_in, entries_in, is_entry, is_entry_at, is_entry_of, with_left, Movement, movement_row, movement_in, movements_in, is_movement_of, FirmLine, firm_line_row, firm_line_in, Exception, exception_row, exception_in, exceptions_in, is_exception, Balance, balance_row, balance_in, balances_in}
-use Rattle.sql_tables.specs.Standing.{Holds, Stands, Changed}
 use Rattle.sql_tables.specs.Lists.{lists_in, IsStep}
-use Rattle.sql_tables.specs.Script.{Call, call_of, calls_of, RanInside, RanAll, Does, DoesAll, Written}
-use Rattle.sql_tables.specs.Performing.{IsPerformed}
+use Rattle.sql_tables.specs.Script.{Written}
+use Rattle.sql_tables.proofs.Together.{kept}
 use Rattle.sql_tables.proofs.Casts.{below_next, rise_last}
 use Rattle.sql_tables.proofs.Tables.{head_written, totals_written, closing_written, purge_written, left_written, seat_added, seat_removed, entry_written, movement_added, firm_line_added, exception_noted, exception_removed, balance_added, seats_purged, entries_purged, movements_purged}
 use Rattle.sql_tables.proofs.Others.{stands_but_heads, stands_but_seats, stands_but_entries, stands_but_movements, stands_but_firm_lines, stands_but_exceptions, stands_but_balances, lists_but_heads, lists_but_seats, lists_but_entries, lists_but_movements, lists_but_firm_lines, lists_but_exceptions, lists_but_balances}
@@ -65,7 +51,27 @@ pub performed : (s t : Statement) (params : Row) (result : Result ℕ Error) (ol
     → Survives old new (λ _. ⊥) → IsPerformed (call_of t).text (call_of t).params result old new
 performed s t params result old new is same ran survives =
     subst (λ t. IsPerformed (call_of t).text (call_of t).params result old new) (sym is)
-    (record { ok = λ clean inside. subst (λ p. ExecutesInside 0 (call_of s).text p old new result) same (ran clean inside); crash = survives })
+    (record {
+      ok = λ clean inside. subst (λ p. ExecutesInside 0 (call_of s).text p old new result) same (ran clean inside);
+      keeps = λ clean inside. kept (call_of s).text params old new result (ran clean inside);
+      crash = survives;
+    })
+
+-- a statement more
+pub run_more : {S : Type 0} (g : Ghosts S) (script : List Statement) (i : ℕ) (d : Statement) (old mid new : Held S) (count : ℕ) → i < length script → HasRun g (take i script) old mid
+    → IsPerformed (call_of (get_or script i d)).text (call_of (get_or script i d)).params (Ok count) (state g mid) (state g new) → HasRun g (take (i + 1) script) old new
+run_more {S} g script i d old mid new count within was now =
+    let late : HasCleanDisk (state g new) → HasCleanDisk (state g mid) = λ clean. omega (arith, clean, now.crash.clean) in
+    let it = λ (clean : HasCleanDisk (state g new)). now.ok clean (was.inside (late clean)) in record {
+      inside = λ clean. (it clean).1.mode;
+      ran = λ clean. ran_more g script i d old mid new count within (was.ran (late clean)) (it clean).0;
+      keeps = λ clean still.
+          let one = now.keeps clean (was.inside (late clean)) still in
+          let before = was.keeps (late clean) one.0 in
+          (before.0, one.1 ∙ before.1);
+      opened = λ clean some. (was.keeps (late clean) (it clean).1.was_open).0;
+      crash = survives_then (state g old) (state g mid) (state g new) _ _ (λ _. ⊥) (λ _ db none. none) (λ _ db none. none) was.crash now.crash;
+    }
 
 -- rows that stand for a list with rising keys
 now_holds : {X : Type 0} (to_row : X → Row) (of_row : Row → X) (key : X → ℤ) (back : (x : X) → of_row (to_row x) ≡ x) (rows : List Row) (xs : List X) → rows ≡ map to_row xs → IsKeyedBy key xs
@@ -192,6 +198,3 @@ ran_written g l (s ∷ script) old new stands ran =
       stands = more.stands;
       listed = λ _. listed_after l script (state g ran.0).now (state g new).now (listed_by l (state g old).now (state g ran.0).now s did) more.does;
     }
-
-pub all_written : {S : Type 0} (g : Ghosts S) (l : Layout) (script : List Statement) (old : Held S) (db : Database) → Stands l (state g old).now → RanAll g (calls_of script) old db → Written l script (state g old).now db
-all_written g l script old db stands ran = subst (Written l script (state g old).now) (sym ran.2) (ran_written g l script (record old { in_transaction = true }) ran.0 stands ran.1)

@@ -1,19 +1,12 @@
 -- A SELECT has no RETURNING, whatever tables there are.
-use Rattle.std.proofs.Common.{◌≡◌, ℕ, ◌+◌, Bool, true, false, if◌then◌else◌, List, None, Ok, Err, refl, sym, subst}
+use Rattle.sql_tables.proofs.Names.{◌≡◌, ℕ, ◌+◌, Bool, true, false, if◌then◌else◌, List, None, Ok, Err, refl, sym, subst, Command, Schema, Trees, Row, understood, reads_listing, is_select, if_select, listing_schema, State, CommitsShowing, is_selection, selects, IsSelect}
 use Rattle.sqlite_ast.specs.declared.Statement.{Statement}
 use Rattle.sqlite_ast.specs.declared.Statement.TheVariants as written
 use Rattle.sqlite_syntax.specs.declared.statement.Parsed.{Parsed}
-use Rattle.sqlite_schema.specs.declared.command.Command.{Command}
-use Rattle.sqlite_schema.specs.declared.schema.Schema.{Schema}
 use Rattle.sqlite_resolve.specs.Compile.{first, planned, meaning, returning, command, timed, small, with_command, compiled}
 use Rattle.sqlite_resolve.specs.declared.compiled.Compiled.{Compiled}
 use Rattle.sqlite_resolve.specs.declared.error.CompileError.TheVariants.{NoSuchTable}
 use Rattle.sqlite_resolve.specs.Lowering.{Checked, and_then}
-use Rattle.sqlite_trees.specs.Tree.{Trees}
-use Rattle.sqlite_value.specs.Order.{Row}
-use Rattle.sqlite.specs.Listing.{understood, reads_listing, is_select, if_select, listing_schema}
-use Rattle.sqlite.specs.State.{State, CommitsShowing}
-use Rattle.sql_tables.specs.Reading.{is_selection, selects, IsSelect}
 
 -- where the text compiles, it shows nothing of what it writes
 abbrev pub ReturnsNothing : Checked Compiled → Type 0

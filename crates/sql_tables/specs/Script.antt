@@ -1,5 +1,5 @@
 -- SQL statements that ran in turn in one transaction, and how they change tables that stand.
-use Rattle.std.specs.Prelude.{◌≡◌, ◌≢◌, ℕ, true, List, [], ◌∷◌, map, Ok}
+use Rattle.std.specs.Prelude.{◌≡◌, ◌≢◌, ℕ, List, [], ◌∷◌, map, Ok}
 use Rattle.sqlite_value.specs.declared.value.Value.TheVariants.{Int, Text}
 use Rattle.sqlite_value.specs.Order.{Row}
 use Rattle.sqlite_trees.specs.Tree.{Trees}
@@ -56,11 +56,6 @@ abbrev pub RanInside : {S : Type 0} → Ghosts S → List Call → Held S → He
 RanInside g [] old new = new ≡ old
 RanInside {S} g (call ∷ calls) old new = (mid : Held S) × (count : ℕ)
     × Executes call.text call.params (state g old) (state g mid) (Ok count) × RanInside g calls mid new
-
--- the calls ran in one transaction, which leaves this database
-abbrev pub RanAll : {S : Type 0} → Ghosts S → List Call → Held S → Database → Type 0
-RanAll {S} g calls old db = (last : Held S) × RanInside g calls (record old { in_transaction = true }) last
-    × (db ≡ (state g last).now)
 
 -- how an SQL statement changes tables that stand in a layout
 abbrev pub Does : Layout → Statement → Database → Database → Type 0

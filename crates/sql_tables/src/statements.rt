@@ -3,11 +3,11 @@
 ghost use Rattle.std.specs.Prelude.{◌≡◌, ◌≢◌, false, [], OnOk, OnErr, IsTrue};
 ghost use Rattle.sqlite.specs.Held.{state};
 ghost use Rattle.sqlite.specs.Effect.{Database};
-ghost use Rattle.sqlite.specs.State.{HasCleanDisk, Survives};
+ghost use Rattle.sqlite.specs.State.{HasCleanDisk};
 ghost use Rattle.sql_schema.specs.declared.layout.Layout.{Layout};
 ghost use Rattle.sql_tables.specs.Reading.{LeavesOnly};
-ghost use Rattle.sql_tables.specs.Script.{call_of, calls_of, RanInside, IsSettled, Written};
-ghost use Rattle.sql_tables.specs.Performing.{IsPerformed, KeepsCommit};
+ghost use Rattle.sql_tables.specs.Script.{call_of, IsSettled, Written};
+ghost use Rattle.sql_tables.specs.Performing.{IsPerformed};
 ghost use Rattle.sql_tables.specs.Standing.{Stands};
 
 use crate::columns::{
@@ -54,6 +54,13 @@ pub enum Statement<'a> {
     MovementsGone(i64),
 }
 
+// Executes an SQL text with these values, each behind its kind.
+macro_rules! execute {
+    ($tx:ident, $text:literal, $($kind:ident $value:expr),*) => {
+        $tx.execute($text, &[$(ValueRef::$kind($value)),*])
+    };
+}
+
 // Runs one SQL statement.
 fn perform<S: Alter>(tx: &mut Transaction<'_, S>, statement: Statement<'_>) -> Result<usize, Error>
     ensures same_reference { tx.new.conn.ghost_name ≡ tx.old.conn.ghost_name }
@@ -61,99 +68,56 @@ fn perform<S: Alter>(tx: &mut Transaction<'_, S>, statement: Statement<'_>) -> R
         (state S.Store tx.old.conn.now) (state S.Store tx.new.conn.now) }
 {
     match statement {
-        Statement::Head(head) => tx.execute(
-            "INSERT OR REPLACE INTO matter_v2 (no, client, opened, closed, last, entries, held, \
-             available, disputed, fees, claims, pending, purged) VALUES (?1, ?2, ?3, ?4, ?5, ?6, ?7, \
-             ?8, ?9, ?10, ?11, ?12, ?13)",
-            &head.values(),
-        ),
-        Statement::Totals(totals) => tx.execute(
-            "UPDATE matter_v2 SET last = ?2, entries = ?3, held = ?4, available = ?5, disputed = ?6, \
-             fees = ?7, claims = ?8, pending = ?9 WHERE no = ?1",
-            &totals.values(),
-        ),
-        Statement::Closed(closed) => tx.execute(
-            "UPDATE matter_v2 SET closed = ?2 WHERE no = ?1",
-            &closed.values(),
-        ),
-        Statement::Purged(purged) => tx.execute(
-            "UPDATE matter_v2 SET client = '', purged = ?2 WHERE no = ?1",
-            &purged.values(),
-        ),
-        Statement::Seat(seat) => tx.execute(
+        Statement::Head(h) => execute![tx,
+            "INSERT OR REPLACE INTO matter_v2 (no, client, opened, closed, last, entries, held, available, disputed, \
+             fees, claims, pending, purged) VALUES (?1, ?2, ?3, ?4, ?5, ?6, ?7, ?8, ?9, ?10, ?11, ?12, ?13)",
+            Int h.no, Text h.client, Int h.opened, Int h.closed, Int h.last, Int h.entries, Int h.held,
+            Int h.available, Int h.disputed, Int h.fees, Int h.claims, Int h.pending, Int h.purged],
+        Statement::Totals(t) => execute![tx,
+            "UPDATE matter_v2 SET last = ?2, entries = ?3, held = ?4, available = ?5, disputed = ?6, fees = ?7, \
+             claims = ?8, pending = ?9 WHERE no = ?1",
+            Int t.no, Int t.last, Int t.entries, Int t.held, Int t.available, Int t.disputed, Int t.fees,
+            Int t.claims, Int t.pending],
+        Statement::Closed(c) => execute![tx,
+            "UPDATE matter_v2 SET closed = ?2 WHERE no = ?1", Int c.matter, Int c.day],
+        Statement::Purged(p) => execute![tx,
+            "UPDATE matter_v2 SET client = '', purged = ?2 WHERE no = ?1", Int p.matter, Int p.day],
+        Statement::Seat(s) => execute![tx,
             "INSERT INTO seat_v2 (matter, person, role) VALUES (?1, ?2, ?3)",
-            &seat.values(),
-        ),
-        Statement::SeatGone(seat) => tx.execute(
-            "DELETE FROM seat_v2 WHERE matter = ?1 AND person = ?2",
-            &seat.values(),
-        ),
-        Statement::Entry(entry) => tx.execute(
-            "INSERT OR REPLACE INTO entry_v2 (matter, no, kind, day, amount, state, fund, of_no, \
-             text_a, text_b, text_c, day_done, day_undone, day_bank, bank_ref, part, left_now) VALUES \
-             (?1, ?2, ?3, ?4, ?5, ?6, ?7, ?8, ?9, ?10, ?11, ?12, ?13, ?14, ?15, ?16, ?17)",
-            &entry.values(),
-        ),
-        Statement::Left(left) => tx.execute(
+            Int s.matter, Text s.person, Int s.role],
+        Statement::SeatGone(s) => execute![tx,
+            "DELETE FROM seat_v2 WHERE matter = ?1 AND person = ?2", Int s.matter, Text s.person],
+        Statement::Entry(e) => execute![tx,
+            "INSERT OR REPLACE INTO entry_v2 (matter, no, kind, day, amount, state, fund, of_no, text_a, text_b, \
+             text_c, day_done, day_undone, day_bank, bank_ref, part, left_now) VALUES (?1, ?2, ?3, ?4, ?5, ?6, ?7, \
+             ?8, ?9, ?10, ?11, ?12, ?13, ?14, ?15, ?16, ?17)",
+            Int e.matter, Int e.no, Int e.kind, Int e.day, Int e.amount, Int e.state, Int e.fund, Int e.of_no,
+            Text e.text_a, Text e.text_b, Text e.text_c, Int e.day_done, Int e.day_undone, Int e.day_bank,
+            Text e.bank_ref, Int e.part, Int e.left_now],
+        Statement::Left(e) => execute![tx,
             "UPDATE entry_v2 SET left_now = ?3 WHERE matter = ?1 AND no = ?2",
-            &left.values(),
-        ),
-        Statement::Movement(movement) => tx.execute(
+            Int e.matter, Int e.no, Int e.left_now],
+        Statement::Movement(m) => execute![tx,
             "INSERT INTO journal (matter, entry, day, amount) VALUES (?1, ?2, ?3, ?4)",
-            &movement.values(),
-        ),
-        Statement::FirmLine(line) => tx.execute(
+            Int m.matter, Int m.entry, Int m.day, Int m.amount],
+        Statement::FirmLine(f) => execute![tx,
             "INSERT INTO firm_line (day, bank_ref, amount, text) VALUES (?1, ?2, ?3, ?4)",
-            &line.values(),
-        ),
-        Statement::Exception(line) => tx.execute(
-            "INSERT OR IGNORE INTO exception (day, reference, bank_ref, amount, text) VALUES (?1, ?2, \
-             ?3, ?4, ?5)",
-            &line.values(),
-        ),
-        Statement::ExceptionGone(line) => tx.execute(
-            "DELETE FROM exception WHERE day = ?1 AND reference = ?2 AND bank_ref = ?3 AND amount = ?4 \
-             AND text = ?5",
-            &line.values(),
-        ),
-        Statement::Balance(balance) => tx.execute(
-            "INSERT INTO balance (kind, day, amount) VALUES (?1, ?2, ?3)",
-            &balance.values(),
-        ),
-        Statement::SeatsGone(matter) => tx.execute(
-            "DELETE FROM seat_v2 WHERE matter = ?1",
-            &[ValueRef::Int(matter)],
-        ),
-        Statement::EntriesGone(matter) => tx.execute(
-            "DELETE FROM entry_v2 WHERE matter = ?1",
-            &[ValueRef::Int(matter)],
-        ),
-        Statement::MovementsGone(matter) => tx.execute(
-            "DELETE FROM journal WHERE matter = ?1",
-            &[ValueRef::Int(matter)],
-        ),
+            Int f.day, Text f.bank_ref, Int f.amount, Text f.text],
+        Statement::Exception(e) => execute![tx,
+            "INSERT OR IGNORE INTO exception (day, reference, bank_ref, amount, text) VALUES (?1, ?2, ?3, ?4, ?5)",
+            Int e.day, Text e.reference, Text e.bank_ref, Int e.amount, Text e.text],
+        Statement::ExceptionGone(e) => execute![tx,
+            "DELETE FROM exception WHERE day = ?1 AND reference = ?2 AND bank_ref = ?3 AND amount = ?4 AND text = ?5",
+            Int e.day, Text e.reference, Text e.bank_ref, Int e.amount, Text e.text],
+        Statement::Balance(b) => execute![tx,
+            "INSERT INTO balance (kind, day, amount) VALUES (?1, ?2, ?3)", Int b.kind, Int b.day, Int b.amount],
+        Statement::SeatsGone(matter) =>
+            execute![tx, "DELETE FROM seat_v2 WHERE matter = ?1", Int matter],
+        Statement::EntriesGone(matter) =>
+            execute![tx, "DELETE FROM entry_v2 WHERE matter = ?1", Int matter],
+        Statement::MovementsGone(matter) =>
+            execute![tx, "DELETE FROM journal WHERE matter = ?1", Int matter],
     }
-}
-
-// Runs SQL statements in turn, stopping at the first that fails.
-fn perform_all<S: Alter>(tx: &mut Transaction<'_, S>, script: &[Statement<'_>]) -> Result<(), Error>
-    ensures same_reference { tx.new.conn.ghost_name ≡ tx.old.conn.ghost_name }
-    ensures ok { HasCleanDisk (state S.Store tx.new.conn.now)
-        → IsTrue (state S.Store tx.old.conn.now).in_transaction
-        → OnOk result (IsTrue (state S.Store tx.new.conn.now).in_transaction
-        × RanInside S.Store (calls_of script.now) tx.old.conn.now tx.new.conn.now) }
-    ensures kept { HasCleanDisk (state S.Store tx.new.conn.now)
-        → IsTrue (state S.Store tx.old.conn.now).in_transaction
-        → KeepsCommit (state S.Store tx.old.conn.now) (state S.Store tx.new.conn.now) }
-    ensures opened { HasCleanDisk (state S.Store tx.new.conn.now)
-        → IsTrue (state S.Store tx.old.conn.now).in_transaction
-        → OnOk result (script.now ≢ [] → IsTrue (state S.Store tx.old.conn.now).is_open) }
-    ensures crash { Survives (state S.Store tx.old.conn.now) (state S.Store tx.new.conn.now) (λ _. ⊥) }
-{
-    'each: for statement in script {
-        perform(tx, *statement)?;
-    }
-    Ok(())
 }
 
 /// Runs SQL statements in one transaction: all or nothing, even after a crash. No transaction may be open.
@@ -187,6 +151,8 @@ pub fn write<S: Alter>(conn: &mut Connection<S>, script: &[Statement<'_>]) -> Re
     // Outside a transaction, what is seen is what was committed, so going back to the commit changes nothing.
     let _settled = conn.is_autocommit();
     let mut tx = conn.transaction();
-    perform_all(&mut tx, script)?;
+    'each: for statement in script {
+        perform(&mut tx, *statement)?;
+    }
     tx.commit()
 }

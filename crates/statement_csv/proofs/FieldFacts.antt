@@ -1,6 +1,6 @@
 -- The fields of a record by their places.
-use Rattle.std.proofs.Common.{◌≡◌, ℕ, zero, suc, List, [], ◌∷◌, refl, get_or, unwrap_or}
-use Rattle.csv.specs.Records.{field_at}
+use Rattle.statement_csv.proofs.Names.{◌≡◌, ℕ, zero, suc, List, [], ◌∷◌, refl, unwrap_or, field_at}
+use Rattle.std.proofs.Common.{get_or}
 
 -- the field at a place, or an empty one
 pub field-or_empty : (fields : List (List ℕ)) (place : ℕ) → unwrap_or (field_at fields place) [] ≡ get_or fields place []

@@ -1,18 +1,10 @@
 -- What was given of a statement.
-use Rattle.std.proofs.Common.{◌≡◌, ◌≤◌, ◌+◌, ℕ, true, false, List, [], ◌∷◌, ◌++◌, length, take, drop, Option, Some, None, refl, sym, ap, ◌∙◌, arith, inl, inr, length-append, length-drop, add-zero}
-use Rattle.std.proofs.lemmas.Bool.{cases_Bool}
+use Rattle.statement_csv.proofs.Names.{◌≡◌, ◌≤◌, ◌+◌, ℕ, true, false, List, [], ◌∷◌, ◌++◌, length, take, drop, Option, Some, None, refl, sym, ap, ◌∙◌, arith, inl, inr, add-zero, cases_Bool, Keeps, rows-more, ReadRecord, Reached, default_config, has_failed, reader_source, reader_state, records, source_of, strip_bom, is_header, items_after_header, items_from, IsHeldBack, left_of, GivesWithin, HasRead, Records, Stands, items_left, records_left, unread, Item}
+use Rattle.std.proofs.Common.{length-append, length-drop}
 use Rattle.std.specs.Prelude.{option_map}
-use Rattle.std.specs.Io.KnownBytes.{Keeps}
-use Rattle.csv.proofs.ReadFacts.{rows-more}
-use Rattle.csv.specs.Reading.{ReadRecord, Reached, default_config, has_failed, reader_source, reader_state, records, source_of, strip_bom}
 use Rattle.csv.specs.declared.parser.State.TheVariants as st
 use Rattle.byte_streams.specs.CsvRecords.{rest_records}
 use Rattle.byte_streams.proofs.CsvFronts.{front-records, length-strip_bom, rest-all, strip_bom-front}
-use Rattle.statement_csv.specs.Headers.{is_header}
-use Rattle.statement_csv.specs.Items.{items_after_header, items_from}
-use Rattle.statement_csv.specs.Limits.{IsHeldBack, left_of}
-use Rattle.statement_csv.specs.Reading.{GivesWithin, HasRead, Records, Stands, items_left, records_left, unread}
-use Rattle.statement_csv.specs.declared.item.Item.{Item}
 
 kept : (known : Option (List ℕ)) (bytes : List ℕ) → Keeps (Some bytes) known → known ≡ Some bytes
 kept None bytes h = absurd h

@@ -1,9 +1,6 @@
 -- The fields of the header.
-use Rattle.std.proofs.Common.{◌≡◌, ◌==◌, ◌&&◌, ℕ, suc, Bool, true, false, List, [], ◌∷◌, refl, length, arith}
-use Rattle.std.proofs.lemmas.Bool.Decides.{nat_tests}
-use Rattle.std.specs.Prelude.{codes, get_or}
+use Rattle.statement_csv.proofs.Names.{◌≡◌, ◌==◌, ◌&&◌, ℕ, suc, Bool, true, false, List, [], ◌∷◌, refl, length, arith, nat_tests, codes, get_or, is_header}
 use Rattle.std.specs.Str.{bytes_eq}
-use Rattle.statement_csv.specs.Headers.{is_header}
 
 -- five tests
 all_of : (p q r s t : Bool) → p && q && r && s && t ≡ p && (q && (r && (s && (t && true))))

@@ -1,11 +1,7 @@
 -- Which records are lines.
-use Rattle.std.proofs.Common.{◌≡◌, ◌∙◌, ap, ℕ, ◌==◌, Bool, true, false, List, [], ◌∷◌, cond, length, Option, Some, None, option_map, unwrap_or, refl, arith}
-use Rattle.std.proofs.lemmas.Bool.Decides.{nat_tests}
+use Rattle.statement_csv.proofs.Names.{◌≡◌, ◌∙◌, ap, ℕ, ◌==◌, Bool, true, false, List, [], ◌∷◌, cond, length, Option, Some, None, option_map, unwrap_or, refl, arith, nat_tests, item_by, item_of, item_of_line, line_in, entry_named, owner_of, Item}
 use Rattle.trust_base.specs.declared.line.Line.{Line}
-use Rattle.statement_csv.specs.Items.{item_by, item_of, item_of_line, line_in}
 use Rattle.statement_csv.specs.Lines.{line_of}
-use Rattle.statement_csv.specs.References.{entry_named, owner_of}
-use Rattle.statement_csv.specs.declared.item.Item.{Item}
 use Rattle.statement_csv.specs.declared.item.Item.TheVariants as item
 use Rattle.statement_csv.specs.declared.item.LineOwner.{LineOwner}
 use Rattle.statement_csv.specs.declared.item.LineOwner.TheVariants as owner

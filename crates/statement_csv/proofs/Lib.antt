@@ -6,3 +6,4 @@ pub mod LimitFacts
 pub mod NamedFacts
 pub mod ReadingFacts
 pub mod ReferenceFacts
+mod Names

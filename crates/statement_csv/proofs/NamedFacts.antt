@@ -1,11 +1,8 @@
 -- The texts that name an entry.
-use Rattle.std.proofs.Common.{◌≡◌, ◌==◌, ◌&&◌, ℕ, List, ◌∷◌, ◌++◌, length, slice_index, slice_range, Option, Some, None, option_and_then, option_map, IfSome, refl, sym, ◌∙◌, arith, inl, inr}
-use Rattle.std.proofs.lemmas.Bool.{cases_Bool}
+use Rattle.statement_csv.proofs.Names.{◌≡◌, ◌==◌, ◌&&◌, ℕ, List, ◌∷◌, ◌++◌, length, slice_index, slice_range, Option, Some, None, option_and_then, option_map, IfSome, refl, sym, ◌∙◌, arith, inl, inr, cases_Bool, entry_of, entry_text, matter_of, matter_text, entry_named, entry_of_texts, named, reference_text}
 use Rattle.trust_base.specs.Limits.{IsEntryNo, IsMatterNo}
-use Rattle.trust_base.specs.Texts.{entry_of, entry_text, matter_of, matter_text}
 use Rattle.trust_base.proofs.EntryFacts.{entry_of-is}
 use Rattle.trust_base.proofs.ReadFacts.{matter_of-is, number-text}
-use Rattle.statement_csv.specs.References.{entry_named, entry_of_texts, named, reference_text}
 use Rattle.statement_csv.proofs.ReferenceFacts.{dash-reference, entry-reference, first-reference, length-reference, matter-reference, twelve}
 
 -- an entry that two texts name has them as its texts

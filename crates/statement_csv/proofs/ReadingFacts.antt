@@ -1,14 +1,8 @@
 -- What the next record of a statement gives of the items that are left.
-use Rattle.std.proofs.Common.{◌≡◌, ◌+◌, ℕ, Bool, true, false, List, [], Option, Some, None, refl, sym, subst}
+use Rattle.statement_csv.proofs.Names.{◌≡◌, ◌+◌, ℕ, Bool, true, false, List, [], Option, Some, None, refl, sym, subst, rows-end, rows-more, ReadRecord, Reached, default_config, source_of, is_header, item_of, items_from, left_of, Gives, GivesRecord, PassesHeader, Records, items_left, records_left, Item}
 use Rattle.std.specs.Prelude.{option_map}
-use Rattle.csv.proofs.ReadFacts.{rows-end, rows-more}
-use Rattle.csv.specs.Reading.{ReadRecord, Reached, default_config, source_of}
 use Rattle.csv.specs.declared.parser.State.{State}
 use Rattle.byte_streams.proofs.CsvRecords.{rest-none, rest-reached}
-use Rattle.statement_csv.specs.Items.{item_of, items_from}
-use Rattle.statement_csv.specs.Limits.{left_of}
-use Rattle.statement_csv.specs.Reading.{Gives, GivesRecord, PassesHeader, Records, items_left, records_left}
-use Rattle.statement_csv.specs.declared.item.Item.{Item}
 
 -- the records of a statement
 abbrev Rows : Type 0
@@ -41,6 +35,12 @@ pub gives-end : (n : ℕ) (old new : Option Rows) (after : Option (Option (List 
 unfolding items_from
 gives-end n None new after fields h = tt
 gives-end n (Some rest) new after fields h = rw h refl
+
+-- a record that was found and is the header
+pub passes-header : (old new : Option Rows) (fields : List (List ℕ)) → GivesRecord old new true fields → is_header fields ≡ true → PassesHeader old new
+passes-header None new fields h header = tt
+passes-header (Some rest) None fields h header = absurd h
+passes-header (Some rest) (Some more) fields h header = (fields, h, header)
 
 -- the items are those of the records after the header
 pub gives-after_header : (n : ℕ) (old mid : Option Rows) (after : Option (Option (List Item))) (found : Option Item) → PassesHeader old mid → Gives (option_map (items_left false n) mid) after found → Gives (option_map (items_left true n) old) after found

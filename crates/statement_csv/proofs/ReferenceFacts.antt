@@ -1,8 +1,6 @@
 -- The parts of a reference that names an entry.
-use Rattle.std.proofs.Common.{◌≡◌, ℕ, List, [], ◌∷◌, ◌++◌, length, refl, slice_index, slice_range, arith}
+use Rattle.statement_csv.proofs.Names.{◌≡◌, ℕ, List, [], ◌∷◌, ◌++◌, length, refl, slice_index, slice_range, arith, entry_text, matter_text, reference_text}
 use Rattle.byte_streams.specs.Digits.{fixed_digits}
-use Rattle.trust_base.specs.Texts.{entry_text, matter_text}
-use Rattle.statement_csv.specs.References.{reference_text}
 
 -- twelve bytes are their parts
 pub twelve : (r : List ℕ) → length r ≡ 12 → r ≡ slice_index r 0 ∷ (slice_range r 1 7 ++ slice_index r 7 ∷ slice_range r 8 12)

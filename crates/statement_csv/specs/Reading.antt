@@ -10,8 +10,8 @@ use Rattle.trust_base.specs.declared.limits.TheConstants.{MAX_FILE_BYTES}
 use Rattle.statement_csv.specs.Items.{items, items_after_header, items_from}
 use Rattle.statement_csv.specs.Limits.{IsTooLong, IsWithin, Source, cause_of, left_of}
 use Rattle.statement_csv.specs.declared.item.Item.{Item}
-use Rattle.statement_csv.specs.declared.fault.ReadFault.{ReadFault}
-use Rattle.statement_csv.specs.declared.fault.ReadFault.TheVariants as fault
+use Rattle.statement_csv.specs.declared.lines.ReadFault.{ReadFault}
+use Rattle.statement_csv.specs.declared.lines.ReadFault.TheVariants as fault
 use Rattle.statement_csv.specs.declared.lines.Stage.{Stage}
 use Rattle.statement_csv.specs.declared.lines.Stage.TheVariants as stage
 

@@ -1,15 +1,15 @@
-// The items of a statement.
+// The lines and items of a statement.
 
-ghost use Rattle.std.specs.Prelude.{◌≡◌, ◌≢◌, ℕ, IfNone, IfOk, IfSome};
+ghost use Rattle.std.specs.Prelude.{◌≡◌, ◌≢◌, ℕ, IfNone, IfOk, IfSome, [], get_or};
 ghost use Rattle.csv.specs.Records.{fields_of};
 ghost use Rattle.trust_base.specs.Limits.{IsEntryNo, IsMatterNo};
 ghost use Rattle.statement_csv.specs.Items.{item_of, line_in};
+ghost use Rattle.statement_csv.specs.Lines.{line_of_texts as line_in_texts};
 ghost use Rattle.statement_csv.specs.References.{entry_named, owner_of, reference_text};
 
-use crate::line::read_line;
 use csv::ByteRecord;
 use std::alloc::{AllocError, Global};
-use trust_base::{EntryNo, Line, MatterNo};
+use trust_base::{BankAmount, BankText, Day, EntryNo, Line, LineText, MatterNo};
 use trust_matter::BankLine;
 
 /// What one record after the header of a statement means.
@@ -113,12 +113,66 @@ fn read_owner(reference: &[u8]) -> LineOwner
     }
 }
 
+/// The field at this index; empty if there is none.
+pub(crate) fn field(row: &ByteRecord, place: usize) -> &[u8]
+    ensures { result.now ≡ get_or (fields_of row.now) place [] }
+{
+    row.get(place).unwrap_or(&[])
+}
+
+/// The line from the texts of its five fields. None if any of them is invalid. The only error is out of memory.
+#[tactic(auto, unfolding(crate::specs::Lines::line_of_texts))]
+pub fn line_of_texts(
+    alloc: Global,
+    date: &[u8],
+    reference: &[u8],
+    bank_ref: &[u8],
+    amount: &[u8],
+    text: &[u8],
+) -> Result<Option<Line>, AllocError>
+    ensures { IfOk result (λ line. line ≡ line_in_texts date.now reference.now bank_ref.now amount.now text.now) }
+{
+    let Some(date) = Day::read(date) else {
+        return Ok(None);
+    };
+    let Some(amount) = BankAmount::read(amount) else {
+        return Ok(None);
+    };
+    let Some(reference) = BankText::read(alloc, reference)? else {
+        return Ok(None);
+    };
+    let Some(bank_ref) = BankText::read(alloc, bank_ref)? else {
+        return Ok(None);
+    };
+    let Some(text) = LineText::read(alloc, text)? else {
+        return Ok(None);
+    };
+    Ok(Some(Line {
+        date,
+        reference,
+        bank_ref,
+        amount,
+        text,
+    }))
+}
+
 /// The item of record `number`. The only error is out of memory.
 #[tactic(auto, unfolding(crate::specs::Items::item_of))]
 pub fn read_item(alloc: Global, row: &ByteRecord, number: u64) -> Result<Item, AllocError>
     ensures { IfOk result (λ item. item ≡ item_of number (fields_of row.now)) }
 {
-    let Some(line) = read_line(alloc, row)? else {
+    if row.len() != 5 {
+        return Ok(Item::Unreadable(number));
+    }
+    let read = line_of_texts(
+        alloc,
+        field(row, 0),
+        field(row, 1),
+        field(row, 2),
+        field(row, 3),
+        field(row, 4),
+    )?;
+    let Some(line) = read else {
         return Ok(Item::Unreadable(number));
     };
     Ok(match read_owner(line.reference.as_slice()) {

@@ -1,18 +1,9 @@
 -- What is alike has one number.
-use Rattle.std.proofs.Common.{◌≡◌, ◌∙◌, sym, ap, ℕ, ◌==◌, true, false, not, ◌&&◌, List, [], Option, Some, None}
-use Rattle.std.specs.Prelude.{find, nat_le, option_map, unsigned_abs, unwrap_or}
-use Rattle.std.specs.Ordering.{int_eq}
-use Rattle.std.specs.Str.{bytes_eq}
-use Rattle.std.proofs.lemmas.Bool.{and_parts, cond-false, cond-true, eqb-true, eq-eqb}
-use Rattle.std.proofs.lemmas.Bool.Decides.{Decides-int_eq}
-use Rattle.std.proofs.lemmas.Slice.Eq.{bytes_eq-Decides}
-use Rattle.trust_base.specs.declared.line.Line.{Line}
+use Rattle.statement_lines.proofs.Names.{◌≡◌, ◌∙◌, sym, ap, ℕ, ◌==◌, true, false, not, List, [], Option, Some, None, nat_le, option_map, unsigned_abs, int_eq, bytes_eq, and_parts, cond-false, cond-true, eqb-true, eq-eqb, Decides-int_eq, bytes_eq-Decides, Line, amount_key, booking_key, claim_key, line_key, text_key, waiting_key, claimed_reference, exception_reference, is_named_like, is_open, is_open_fit, is_open_like, fits, is_other_business, shows, Waiting}
+use Rattle.std.proofs.Common.{◌&&◌}
+use Rattle.std.specs.Prelude.{find, unwrap_or}
 use Rattle.statement_lines.specs.declared.booking.Booking.{Booking}
 use Rattle.statement_lines.specs.Bookings.{booking_of, is_beside, is_same_booking}
-use Rattle.statement_lines.specs.Keys.{amount_key, booking_key, claim_key, line_key, text_key, waiting_key}
-use Rattle.statement_lines.specs.OpenLines.{claimed_reference, exception_reference, is_named_like, is_open, is_open_fit, is_open_like}
-use Rattle.statement_lines.specs.Showing.{fits, is_other_business, shows}
-use Rattle.statement_lines.specs.Waiting.{Waiting}
 use Rattle.statement_lines.proofs.Found.{Narrows}
 
 beside_key : (a b : Booking) → is_beside a b ≡ true → (booking_key b == booking_key a) ≡ true

@@ -1,10 +1,6 @@
 -- What a test finds among the elements that have a number, where all that pass it have that.
-use Rattle.std.proofs.Common.{◌≡◌, ◌∙◌, sym, ap, ℕ, Bool, true, false, cond, List, [], ◌∷◌, length, Some, refl}
-use Rattle.std.specs.Prelude.{◌&&◌, ◌||◌, option_map}
-use Rattle.std.specs.List.{count_by, filter, find, list_any}
-use Rattle.std.proofs.lemmas.List.{length-map}
+use Rattle.statement_lines.proofs.Names.{◌≡◌, ◌∙◌, sym, ap, ℕ, Bool, true, false, cond, List, [], ◌∷◌, length, Some, refl, ◌&&◌, ◌||◌, option_map, count_by, filter, find, list_any, length-map, elements}
 use Rattle.std.proofs.lemmas.List.Sums.{length-filter}
-use Rattle.statement_lines.specs.Lookups.{elements}
 use denote.Ref.{Bor}
 
 -- all that pass p pass q

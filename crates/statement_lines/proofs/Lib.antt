@@ -10,3 +10,4 @@ pub mod RowsRead
 pub mod RowsWritten
 pub mod Shown
 pub mod WordFacts
+mod Names

@@ -1,14 +1,6 @@
 -- The elements with a number stand side by side in a list that is sorted by it.
-use Rattle.std.proofs.Common.{◌≡◌, ◌∙◌, sym, ap, ℕ, zero, suc, ◌+◌, ◌<◌, ◌≤◌, ◌==◌, Bool, true, false, not, cond, List, [], ◌∷◌, ◌++◌, map, length, get_or, take, drop, refl, arith}
-use Rattle.std.specs.Prelude.{◌&&◌, nat_le, nat_lt}
-use Rattle.std.specs.Ordering.{is_lt, nat_cmp}
+use Rattle.statement_lines.proofs.Names.{◌≡◌, ◌∙◌, sym, ap, ℕ, zero, suc, ◌+◌, ◌<◌, ◌≤◌, ◌==◌, Bool, true, false, not, cond, List, [], ◌∷◌, ◌++◌, map, length, get_or, take, drop, refl, arith, ◌&&◌, nat_le, nat_lt, is_lt, nat_cmp, filter, IsPartitionPoint, IsStableByKey, ties, nat_tests, get_or-drop, length-drop, map-append, take_more, filter_agree, IsKeyed, elements, has_key}
 use Rattle.std.specs.declared.cmp.Ordering.TheVariants.{Less, Equal, Greater}
-use Rattle.std.specs.List.{filter}
-use Rattle.std.specs.List.Sorted.{IsPartitionPoint, IsStableByKey, ties}
-use Rattle.std.proofs.lemmas.Bool.Decides.{nat_tests}
-use Rattle.std.proofs.lemmas.List.{get_or-drop, length-drop, map-append, take_more}
-use Rattle.std.proofs.lemmas.List.Elements.{filter_agree}
-use Rattle.statement_lines.specs.Lookups.{IsKeyed, elements, has_key}
 use denote.Ref.{Bor}
 
 -- where none of the first i passes, those that pass are those of the rest

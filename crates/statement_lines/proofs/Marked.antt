@@ -1,9 +1,5 @@
 -- The marks of a line and of the entries that it shows.
-use Rattle.std.proofs.Common.{◌≡◌, ◌∙◌, sym, ap, ℕ, ◌+◌, ◌<◌, ◌≤◌, List, [], ◌∷◌, ◌++◌, length, get_or, drop, take, append_assoc, append-nil, refl}
-use Rattle.std.proofs.lemmas.List.{at_drop_more, drop_all, drop_more}
-use Rattle.statement_lines.specs.Keys.{text_key}
-use Rattle.statement_lines.specs.Marks.{marks_at, marks_from, window_marks}
-use Rattle.statement_lines.specs.declared.book_entry.BookEntry.{BookEntry}
+use Rattle.statement_lines.proofs.Names.{◌≡◌, ◌∙◌, sym, ap, ℕ, ◌+◌, ◌<◌, ◌≤◌, List, [], ◌∷◌, ◌++◌, length, get_or, drop, take, append_assoc, append-nil, refl, at_drop_more, drop_all, drop_more, text_key, marks_at, marks_from, window_marks, BookEntry}
 
 -- The steps of the loops.
 

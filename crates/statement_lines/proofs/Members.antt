@@ -1,7 +1,5 @@
 -- What is among the elements of lists that are made of others.
-use Rattle.std.proofs.Common.{◌≡◌, ◌∙◌, sym, ap, subst, zero, suc, Bool, true, false, cond, List, [], ◌∷◌, map, Some, refl, inl, inr, arith}
-use Rattle.std.specs.List.{Contains, filter, find, flat_map}
-use Rattle.std.proofs.lemmas.List.Elements.{Contains-append_cases, Contains-append_left, Contains-append_right}
+use Rattle.statement_lines.proofs.Names.{◌≡◌, ◌∙◌, sym, ap, subst, zero, suc, Bool, true, false, cond, List, [], ◌∷◌, map, Some, refl, inl, inr, arith, Contains, filter, find, flat_map, Contains-append_cases, Contains-append_left, Contains-append_right}
 
 pub later : {A : Type 0} (x y : A) (xs : List A) → Contains xs y → Contains (x ∷ xs) y
 later x y xs (k, lt, is) = (suc k, omega arith, is)

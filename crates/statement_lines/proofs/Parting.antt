@@ -1,9 +1,6 @@
 -- The steps of the loops over a text and over its tokens.
-use Rattle.std.proofs.Common.{◌≡◌, ◌∙◌, sym, ap, ℕ, ◌+◌, ◌<◌, Bool, true, false, cond, ◌||◌, List, [], ◌∷◌, ◌++◌, length, get_or, drop, take, ◌-◌, append_assoc, append-nil, ◌≤◌, refl, arith}
-use Rattle.std.proofs.lemmas.List.{at_drop_more, drop_all, drop_more, get_or-drop, take_rest}
-use Rattle.statement_lines.specs.Tokens.{begins, goes_on, numeral_len, token_in_front, tokens_behind}
-use Rattle.statement_lines.specs.Numbers.{is_telling, telling_behind, without_zeros}
-use Rattle.statement_lines.specs.Showing.{begins_with_reference, has_reference}
+use Rattle.statement_lines.proofs.Names.{◌≡◌, ◌∙◌, sym, ap, ℕ, ◌+◌, ◌<◌, Bool, true, false, cond, List, [], ◌∷◌, ◌++◌, length, get_or, drop, take, ◌-◌, append_assoc, append-nil, ◌≤◌, refl, arith, at_drop_more, drop_all, drop_more, get_or-drop, take_rest, begins, goes_on, numeral_len, token_in_front, tokens_behind, is_telling, telling_behind, without_zeros, begins_with_reference, has_reference}
+use Rattle.std.proofs.Common.{◌||◌}
 
 -- a chosen one of two
 if_true : {A : Type 0} (b : Bool) (x y : A) → b ≡ true → cond b x y ≡ x

@@ -1,15 +1,7 @@
 -- What is met of the lines of a statement while its records are passed.
-use Rattle.std.proofs.Common.{◌≡◌, ◌∙◌, sym, ap, ℕ, zero, suc, ◌+◌, ◌<◌, ◌≤◌, ◌==◌, Bool, true, false, List, [], ◌∷◌, ◌++◌, drop, map, append-nil, append_assoc, cond, Bor, Option, Some, None, option_copied, refl, inl, inr, arith, add-one}
+use Rattle.statement_lines.proofs.Names.{◌≡◌, ◌∙◌, sym, ap, ℕ, zero, suc, ◌+◌, ◌<◌, ◌≤◌, ◌==◌, Bool, true, false, List, [], ◌∷◌, ◌++◌, drop, map, append-nil, append_assoc, cond, Bor, Option, Some, None, option_copied, refl, inl, inr, arith, add-one, cases_Bool, nat_tests, Line, items_from, Rows, line_at, lines_from, numbers_from, outcome_if, row_as, rows_by, Outcome}
 use Rattle.std.specs.List.{slice_get}
 use Rattle.std.specs.Option.{is_some}
-use Rattle.std.proofs.lemmas.Bool.{cases_Bool}
-use Rattle.std.proofs.lemmas.Bool.Decides.{nat_tests}
-use Rattle.trust_base.specs.declared.line.Line.{Line}
-use Rattle.statement_csv.specs.Items.{items_from}
-use Rattle.statement_lines.specs.Records.{Rows, line_at, lines_from, numbers_from}
-use Rattle.statement_lines.specs.RowsLeft.{outcome_if}
-use Rattle.statement_lines.specs.Written.{row_as, rows_by}
-use Rattle.statement_lines.specs.declared.outcome.Outcome.{Outcome}
 
 -- Places of a list.
 

@@ -1,8 +1,6 @@
 -- What is kept of the records of a statement that are read one at a time.
-use Rattle.std.proofs.Common.{◌≡◌, ◌∙◌, sym, ap, ℕ, ◌+◌, List, [], ◌∷◌, ◌++◌, length, map, fold, append_assoc, append-nil, option_to_list, refl, arith}
-use Rattle.trust_base.specs.declared.line.Line.{Line}
-use Rattle.statement_csv.specs.Items.{items_from}
-use Rattle.statement_lines.specs.Records.{Records, Rows, line_at, lines_from, no_records, numbers_from, records_of, rows_of, with_record}
+use Rattle.statement_lines.proofs.Names.{◌≡◌, ◌∙◌, sym, ap, ℕ, ◌+◌, List, [], ◌∷◌, ◌++◌, length, map, fold, append_assoc, append-nil, refl, arith, Line, items_from, Records, Rows, line_at, lines_from, no_records, numbers_from, records_of, rows_of, with_record}
+use Rattle.std.proofs.Common.{option_to_list}
 
 -- records with these lines, these numbers and this count
 abbrev records_with : List Line → List ℕ → ℕ → Records

@@ -1,6 +1,5 @@
 -- The records that a reader of a statement has still to give.
-use Rattle.std.proofs.Common.{◌≡◌, ◌∙◌, sym, ℕ, true, false, List, [], ◌∷◌, drop, Some, Bor, refl, inl}
-use Rattle.csv.specs.Reading.{Reached, ReadRecord, default_config, Ready, reader_config, reader_state, reader_trim, records, source_of, took_first}
+use Rattle.statement_lines.proofs.Names.{◌≡◌, ◌∙◌, sym, ℕ, true, false, List, [], ◌∷◌, drop, Some, Bor, refl, inl, Reached, ReadRecord, default_config, Ready, reader_config, reader_state, reader_trim, records, source_of, took_first, Rows, HasLeft, left_of}
 use Rattle.csv.specs.declared.parser.State.{State}
 use Rattle.csv.specs.declared.parser.State.TheVariants as st
 use Rattle.csv.specs.declared.reader.Trim.TheVariants as trim
@@ -8,8 +7,6 @@ use Rattle.csv.specs.declared.reader.Reader.{Reader}
 use Rattle.csv.proofs.ReadFacts.{rows-end, rows-more}
 use Rattle.byte_streams.specs.CsvRecords.{rest_records}
 use Rattle.byte_streams.proofs.CsvRecords.{rest-none, rest-reached}
-use Rattle.statement_lines.specs.Records.{Rows}
-use Rattle.statement_lines.specs.RowsLeft.{HasLeft, left_of}
 
 start : (s : State) (y : List ℕ) → Reached default_config s y [] s y
 unfolding Reached

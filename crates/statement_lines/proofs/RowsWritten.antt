@@ -1,13 +1,10 @@
 -- What a writer holds after a record.
-use Rattle.std.proofs.Common.{◌≡◌, ◌≢◌, ◌∙◌, sym, ap, subst, ℕ, true, false, List, [], ◌∷◌, ◌++◌, append-nil, append_assoc, Option, Some, None, refl}
+use Rattle.statement_lines.proofs.Names.{◌≡◌, ◌≢◌, ◌∙◌, sym, ap, subst, ℕ, true, false, List, [], ◌∷◌, ◌++◌, append-nil, append_assoc, Option, Some, None, refl, Rows, Adds, Holds, text_of}
 use Rattle.std.specs.Io.KnownBytes.{Appends}
 use Rattle.std.proofs.lemmas.Grind.{flat_map-append}
 use Rattle.csv.specs.Writing.{default_writer, escaped, field_text, fields_text, fields_written, has_written, is_blank, row_text, text_written, with_flexible, writer_setup}
 use Rattle.csv.specs.declared.writer.QuoteStyle.TheVariants as style
 use Rattle.csv.specs.declared.writer.Writer.{Writer}
-use Rattle.statement_lines.specs.Records.{Rows}
-use Rattle.statement_lines.specs.RowsLeft.{Adds, Holds}
-use Rattle.statement_lines.specs.Written.{text_of}
 
 -- A writer of records of any length writes what the default writer writes.
 

@@ -1,24 +1,9 @@
 -- All entries that a line shows are found by its marks.
-use Rattle.std.proofs.Common.{◌≡◌, ◌∙◌, sym, ap, subst, ℕ, zero, suc, ◌+◌, ◌-◌, ◌<◌, ◌≤◌, ◌==◌, Bool, true, false, cond, List, [], ◌∷◌, ◌++◌, length, get_or, take, map, refl, arith}
-use Rattle.std.specs.Prelude.{option_to_list, slice_get}
-use Rattle.std.specs.List.{AllPairs, Contains, filter, flat_map, list_any}
-use Rattle.std.specs.List.Sorted.{IsStrictlyIncreasing}
-use Rattle.std.specs.Str.{bytes_eq}
-use Rattle.std.proofs.lemmas.Bool.{and_parts, eqb-true, eq-eqb}
-use Rattle.std.proofs.lemmas.Bool.Decides.{nat_tests}
-use Rattle.std.proofs.lemmas.Slice.Eq.{bytes_eq-Decides}
-use Rattle.std.proofs.lemmas.List.Elements.{Contains-append_left, Contains-append_right}
+use Rattle.statement_lines.proofs.Names.{◌≡◌, ◌∙◌, sym, ap, subst, ℕ, zero, suc, ◌+◌, ◌-◌, ◌<◌, ◌≤◌, ◌==◌, Bool, true, false, cond, List, [], ◌∷◌, ◌++◌, length, get_or, take, map, refl, arith, option_to_list, slice_get, AllPairs, Contains, filter, flat_map, list_any, IsStrictlyIncreasing, bytes_eq, and_parts, eqb-true, eq-eqb, nat_tests, bytes_eq-Decides, Contains-append_left, Contains-append_right, Line, text_key, entry_marks, is_shown, line_marks, mark_of, marks_at, marks_from, reference_mark, window_marks, is_among, line_numbers, begins_with_reference, has_reference, shows, Waiting, BookEntry}
 use Rattle.std.proofs.lemmas.List.Folds.{Any-from_list_any}
 use Rattle.std.proofs.lemmas.List.Kept.{AllPairs-from_increasing}
 use Rattle.std.proofs.lemmas.Map.Made.{Contains-tail}
-use Rattle.trust_base.specs.declared.line.Line.{Line}
-use Rattle.statement_lines.specs.Keys.{text_key}
-use Rattle.statement_lines.specs.Marks.{entry_marks, is_shown, line_marks, mark_of, marks_at, marks_from, reference_mark, window_marks}
-use Rattle.statement_lines.specs.Numbers.{is_among, line_numbers}
 use Rattle.statement_lines.specs.Places.{places_with}
-use Rattle.statement_lines.specs.Showing.{begins_with_reference, has_reference, shows}
-use Rattle.statement_lines.specs.Waiting.{Waiting}
-use Rattle.statement_lines.specs.declared.book_entry.BookEntry.{BookEntry}
 use Rattle.statement_lines.proofs.Marked.{marks_from-cons, window_marks-cons}
 use Rattle.statement_lines.proofs.Members.{filter_has, flat_map_has, later, map_has}
 

@@ -1,11 +1,7 @@
 -- The bank's words.
-use Rattle.std.proofs.Common.{◌≡◌, ℕ, List, [], ◌∷◌, ◌++◌, map, true, arith, append_assoc, append-nil}
-use Rattle.std.specs.Prelude.{encode_utf8, encode_utf8_all}
-use Rattle.std.specs.Str.{IsUtf8, is_utf8}
-use Rattle.std.proofs.lemmas.List.{map-append}
+use Rattle.statement_lines.proofs.Names.{◌≡◌, ℕ, List, [], ◌∷◌, ◌++◌, map, true, arith, append_assoc, append-nil, encode_utf8, encode_utf8_all, IsUtf8, is_utf8, map-append, shown}
 use Rattle.std.proofs.lemmas.Str.{IsUtf8-from_is_utf8, encodes-append}
 use Rattle.trust_base.specs.BankTexts.{IsLineText, is_line_text}
-use Rattle.statement_lines.specs.Words.{shown}
 
 -- the text of a bank's line is UTF-8
 pub IsUtf8-words : (bs : List ℕ) → IsLineText bs → IsUtf8 bs

@@ -1,8 +1,13 @@
-// The deposits and payments of a book.
+// The deposits and payments of a book, and what lines are compared with of those that wait for the bank.
 
-use crate::waiting::WaitingEntry;
+ghost use Rattle.std.specs.Prelude.{◌≡◌, IfOk};
+ghost use Rattle.statement_lines.specs.Waiting.{waiting_deposit, waiting_payment};
+
+use crate::number::{Number, numbers_of, telling_of};
 use byte_streams::OwnedBytes;
-use trust_base::{Day, Label};
+use std::alloc::{AllocError, Global};
+use std::marker::Model;
+use trust_base::{BankText, Cents, Day, Label};
 
 /// The state of a deposit or of a payment.
 #[derive(Clone, Copy, PartialEq, Eq, Debug)]
@@ -18,6 +23,73 @@ pub enum EntryState {
     Voided,
     /// A deposit or payment that the bank cleared.
     Cleared,
+}
+
+/// An entry that waits for the bank: a held deposit or an issued payment.
+///
+/// Contracts see it as the reference that names it, the amount of the line that clears it, the first day on which that
+/// line may be dated, and the numbers that identify it.
+#[derive(Drop)]
+pub struct WaitingEntry {
+    pub reference: BankText,
+    pub amount: i64,
+    pub(crate) since: u32,
+    pub(crate) numbers: Vec<Number>,
+}
+
+impl Model for WaitingEntry {
+    ghost use Rattle.statement_lines.specs.Waiting.{Waiting};
+
+    ghost Value = { Waiting };
+
+    ghost view = { λ w. record {
+      reference = w.reference;
+      amount = w.amount;
+      since = w.since;
+      numbers = w.numbers.items;
+    } };
+}
+
+impl WaitingEntry {
+    /// A held deposit with this reference, amount, source and description. The only error is out of memory.
+    pub fn deposit(
+        alloc: Global,
+        reference: BankText,
+        amount: Cents,
+        source: &[u8],
+        description: &[u8],
+    ) -> Result<WaitingEntry, AllocError>
+        ensures { IfOk result (λ w. w ≡ waiting_deposit reference amount source.now description.now) }
+    {
+        let mut numbers = telling_of(alloc, source)?;
+        let mut more = telling_of(alloc, description)?;
+        numbers.append(&mut more)?;
+        Ok(WaitingEntry {
+            reference,
+            amount: amount.get() as i64,
+            since: 0,
+            numbers,
+        })
+    }
+
+    /// A payment that was issued on a day, with this reference, amount and instrument. The only error is out of memory.
+    pub fn payment(
+        alloc: Global,
+        reference: BankText,
+        amount: Cents,
+        issued: Day,
+        instrument: &[u8],
+    ) -> Result<WaitingEntry, AllocError>
+        ensures { IfOk result (λ w. w ≡ waiting_payment reference amount issued instrument.now) }
+    {
+        let numbers = numbers_of(alloc, instrument)?;
+        Ok(WaitingEntry {
+            reference,
+            amount: -(amount.get() as i64),
+            since: issued.get(),
+            numbers,
+        })
+    }
 }
 
 /// A deposit or a payment of a book, in any state.

@@ -8,13 +8,13 @@ ghost use Rattle.statement_lines.specs.Keys.{line_key as key_of_line, waiting_ke
 ghost use Rattle.statement_lines.specs.Lookups.{IsLookup, elements};
 ghost use Rattle.statement_lines.specs.OpenLines.{claimed_reference, is_claimed as is_claimed_reference};
 
+use crate::book_entry::WaitingEntry;
 use crate::booking::Booking;
 use crate::exceptions::Exceptions;
-use crate::held::Held;
 use crate::key::{line_key, text_key};
+use crate::known::Held;
 use crate::lookup::Lookup;
 use crate::statement_line::StatementLine;
-use crate::waiting::WaitingEntry;
 use std::alloc::{AllocError, Global};
 use std::marker::Model;
 use trust_base::{BankText, Line};

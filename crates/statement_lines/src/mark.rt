@@ -5,11 +5,10 @@ ghost use Rattle.statement_lines.specs.Keys.{text_key as key_of_text};
 ghost use Rattle.statement_lines.specs.Marks.{entry_marks, line_marks, marks_at, marks_from};
 ghost use Rattle.statement_lines.specs.Marks.{reference_mark as mark_of_reference, window_marks};
 
-use crate::book_entry::BookEntry;
+use crate::book_entry::{BookEntry, WaitingEntry};
 use crate::key::text_key;
 use crate::number::Number;
 use crate::statement_line::StatementLine;
-use crate::waiting::WaitingEntry;
 use std::alloc::{AllocError, Global};
 
 /// A mark of an entry, and the place of the entry.

@@ -11,7 +11,8 @@ ghost use Rattle.statement_lines.specs.Numbers.{is_number_word as is_number_word
 ghost use Rattle.statement_lines.specs.Numbers.{line_numbers, numbers, own_numbers, telling_behind, telling_numbers};
 ghost use Rattle.statement_lines.specs.Numbers.{without_zeros as digits_without_zeros};
 
-use crate::token::{Token, is_digit, tokens_of};
+use crate::token::{is_digit, tokens_of};
+use byte_streams::OwnedBytes;
 use std::alloc::{AllocError, Global};
 use std::marker::Model;
 use trust_base::Line;
@@ -136,7 +137,7 @@ fn is_telling(second: &[u8], last: &[u8], token: &[u8]) -> bool
 
 // Returns the telling numbers among tokens, in order.
 #[tactic(auto, using(crate::proofs::Parting::telling_steps))]
-fn telling_among(alloc: Global, tokens: &[Token]) -> Result<Vec<Number>, AllocError>
+fn telling_among(alloc: Global, tokens: &[OwnedBytes]) -> Result<Vec<Number>, AllocError>
     ensures { IfOk result (λ found. found.items ≡ telling_behind [] [] tokens.now) }
 {
     let mut found = Vec::new(alloc);
@@ -163,7 +164,7 @@ pub(crate) fn telling_of(alloc: Global, text: &[u8]) -> Result<Vec<Number>, Allo
 }
 
 // Returns the numbers among tokens, in order.
-fn numbers_among(alloc: Global, tokens: &[Token]) -> Result<Vec<Number>, AllocError>
+fn numbers_among(alloc: Global, tokens: &[OwnedBytes]) -> Result<Vec<Number>, AllocError>
     ensures { IfOk result (λ found. found.items ≡ map digits_without_zeros (filter is_number_token tokens.now)) }
 {
     let mut found = Vec::new(alloc);

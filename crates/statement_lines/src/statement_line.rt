@@ -11,9 +11,10 @@ ghost use Rattle.statement_lines.specs.Showing.{is_other_word as is_other_word_t
 ghost use Rattle.statement_lines.specs.Numbers.{is_among as is_among_numbers, line_numbers};
 ghost use Rattle.statement_lines.specs.OpenLines.{is_named_like, is_open, is_open_fit, is_open_like};
 
+use crate::book_entry::WaitingEntry;
 use crate::number::{Number, is_among, line_numbers_of};
-use crate::token::{Token, byte_at, is_digit, tokens_of};
-use crate::waiting::WaitingEntry;
+use crate::token::{byte_at, is_digit, tokens_of};
+use byte_streams::OwnedBytes;
 use std::alloc::{AllocError, Global};
 use std::marker::Model;
 use trust_base::{Day, Line};
@@ -70,7 +71,7 @@ fn is_other_word(went_out: bool, word: &[u8]) -> bool
 }
 
 // Whether a token speaks of other business.
-fn has_other_word(went_out: bool, tokens: &[Token]) -> bool
+fn has_other_word(went_out: bool, tokens: &[OwnedBytes]) -> bool
     ensures { result ≡ list_any (is_other_word_text went_out) tokens.now }
 {
     tokens

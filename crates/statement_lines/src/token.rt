@@ -1,6 +1,6 @@
-// Splits a text into tokens.
+// Splits a text into tokens: runs of letters, in lower case, and runs of digits with the characters that join them.
 
-ghost use Rattle.std.specs.Prelude.{◌≡◌, ◌<◌, ◌≤◌, List, ℕ, IfOk, length, slice_index};
+ghost use Rattle.std.specs.Prelude.{◌≡◌, ◌<◌, ◌≤◌, IfOk, length, slice_index};
 ghost use Rattle.std.specs.List.{prefix_len};
 ghost use Rattle.statement_lines.specs.Tokens.{begins as begins_token, goes_on as goes_on_with};
 ghost use Rattle.statement_lines.specs.Tokens.{is_digit as is_digit_byte, is_joiner as is_joiner_byte};
@@ -8,31 +8,8 @@ ghost use Rattle.statement_lines.specs.Tokens.{is_letter as is_letter_byte, lowe
 ghost use Rattle.statement_lines.specs.Tokens.{numeral_len as numeral_length, token_in_front};
 ghost use Rattle.statement_lines.specs.Tokens.{token_len as token_length, tokens};
 
+use byte_streams::OwnedBytes;
 use std::alloc::{AllocError, Global};
-use std::marker::Model;
-
-/// A token of a text: a run of letters, in lower case, or a run of digits with the characters that join them.
-///
-/// Contracts see it as the list of its bytes.
-#[derive(Drop, Debug)]
-pub(crate) struct Token {
-    bytes: Vec<u8>,
-}
-
-impl Model for Token {
-    ghost Value = { List ℕ };
-
-    ghost view = { λ t. t.bytes.items };
-}
-
-impl Token {
-    /// The bytes.
-    pub(crate) fn as_slice(&self) -> &[u8]
-        ensures { result.now ≡ self.now }
-    {
-        self.bytes.as_slice()
-    }
-}
 
 fn is_letter(byte: u8) -> bool
     ensures { result ≡ is_letter_byte byte }
@@ -123,17 +100,17 @@ fn token_len(text: &[u8]) -> usize
 
 // Returns the token at the start.
 #[tactic(auto, unfolding(crate::specs::Tokens::token_in_front))]
-fn token_of(alloc: Global, text: &[u8]) -> Result<Token, AllocError>
+fn token_of(alloc: Global, text: &[u8]) -> Result<OwnedBytes, AllocError>
     ensures { IfOk result (λ token. token ≡ token_in_front text.now) }
 {
     let front = &text[..token_len(text)];
     let bytes = front.iter().map(|byte| lowered(*byte)).collect(alloc)?;
-    Ok(Token { bytes })
+    Ok(OwnedBytes::new(bytes))
 }
 
 /// Returns the tokens of a text, in order. The only error is out of memory.
 #[tactic(auto, using(crate::proofs::Parting::token_steps))]
-pub(crate) fn tokens_of(alloc: Global, text: &[u8]) -> Result<Vec<Token>, AllocError>
+pub(crate) fn tokens_of(alloc: Global, text: &[u8]) -> Result<Vec<OwnedBytes>, AllocError>
     ensures { IfOk result (λ found. found.items ≡ tokens text.now) }
 {
     let mut found = Vec::new(alloc);

@@ -1,17 +1,6 @@
 -- A line that was filled, once the book has it.
-use Rattle.std.proofs.Common.{◌≡◌, ◌∙◌, ap, ℕ, ◌≤◌, Bool, true, false, not, List, arith}
-use Rattle.std.specs.Prelude.{nat_lt}
-use Rattle.std.specs.List.{Contains, count_by}
-use Rattle.std.proofs.lemmas.Bool.{cond-false, cond-true, le-leb, or_left, or_parts}
-use Rattle.std.proofs.lemmas.Bool.Decides.{nat_tests}
-use Rattle.std.proofs.lemmas.List.Sums.{length-filter}
-use Rattle.trust_base.specs.declared.line.Line.{Line}
-use Rattle.statement_lines.specs.declared.booking.Booking.{Booking}
-use Rattle.statement_lines.specs.Bookings.{booking_of, is_same_booking}
-use Rattle.statement_lines.specs.Held.{Held}
-use Rattle.statement_lines.specs.OpenLines.{is_open, is_open_like}
+use Rattle.statement_match.proofs.Names.{◌≡◌, ◌∙◌, ap, ℕ, ◌≤◌, Bool, true, false, not, List, arith, nat_lt, Contains, count_by, cond-false, cond-true, le-leb, or_left, or_parts, nat_tests, length-filter, Line, Booking, booking_of, is_same_booking, Held, is_open, is_open_like, becomes, is_booked, is_booked_in_parts, is_doubled, is_in_book}
 use Rattle.statement_lines.specs.declared.outcome.Outcome.TheVariants as outcome
-use Rattle.statement_match.specs.Rule.{becomes, is_booked, is_booked_in_parts, is_doubled, is_in_book}
 use Rattle.statement_match.proofs.Filling.{becomes-is, sure_of}
 use Rattle.statement_match.proofs.Picks.{one_passes}
 

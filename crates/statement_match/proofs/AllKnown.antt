@@ -1,50 +1,47 @@
 -- What a collector knows of a firm's rows is what is known of the firm.
-use Rattle.std.proofs.Common.{◌≡◌, ◌∙◌, sym, ap, ℕ, List, [], ◌∷◌, ◌++◌, fold, append_assoc, append-nil, refl}
+use Rattle.statement_match.proofs.Names.{◌≡◌, ◌∙◌, sym, ap, ℕ, List, [], ◌∷◌, ◌++◌, map, fold, append_assoc, append-nil, Line, Firm, Row, Waiting, Known, Booking, BookEntry, held_of, own_booking, row_bookings, row_waiting, know_exception, know_own_line, know_row, known_of, none_known, row_entries}
 use Rattle.std.specs.List.{flat_map}
-use Rattle.trust_base.specs.declared.line.Line.{Line}
 use Rattle.firm_rows.specs.declared.ledger.FirmLine.{FirmLine}
-use Rattle.firm_rows.specs.Firm.{Firm, Row}
-use Rattle.statement_lines.specs.Held.{Held}
-use Rattle.statement_lines.specs.Known.{Known}
-use Rattle.statement_lines.specs.declared.book_entry.BookEntry.{BookEntry}
-use Rattle.statement_match.specs.Books.{none_held, with_exception, with_own_line, with_row}
-use Rattle.statement_match.specs.Entries.{know_exception, know_own_line, know_row, known_of, none_known, row_entries}
-use Rattle.statement_match.proofs.Collected.{all_kept}
 
-abbrev known_with : Held → List BookEntry → Known
-known_with held entries = record { held = held; entries = entries }
+-- these four lists
+abbrev known_with : List Waiting → List Booking → List Line → List BookEntry → Known
+known_with waiting bookings exceptions entries =
+    record { held = record { waiting = waiting; bookings = bookings; exceptions = exceptions }; entries = entries }
 
 rows_known : (k : Known) (rows : List (ℕ × Row))
-    → fold know_row k rows ≡ known_with (fold with_row k.held rows) (k.entries ++ flat_map row_entries rows)
-rows_known k [] = ap (known_with k.held) (sym (append-nil k.entries))
+    → fold know_row k rows
+    ≡ known_with (k.held.waiting ++ flat_map row_waiting rows) (k.held.bookings ++ flat_map row_bookings rows)
+    k.held.exceptions (k.entries ++ flat_map row_entries rows)
+rows_known k [] =
+    λ i. known_with (sym (append-nil k.held.waiting) i) (sym (append-nil k.held.bookings) i) k.held.exceptions
+    (sym (append-nil k.entries) i)
 rows_known k (row ∷ rows) =
     rows_known (know_row k row) rows
-    ∙ ap (known_with (fold with_row (with_row k.held row) rows))
-    (append_assoc k.entries (row_entries row) (flat_map row_entries rows))
+    ∙ (λ i. known_with (append_assoc k.held.waiting (row_waiting row) (flat_map row_waiting rows) i)
+    (append_assoc k.held.bookings (row_bookings row) (flat_map row_bookings rows) i) k.held.exceptions
+    (append_assoc k.entries (row_entries row) (flat_map row_entries rows) i))
 
 own_lines_known : (k : Known) (lines : List FirmLine)
-    → fold know_own_line k lines ≡ known_with (fold with_own_line k.held lines) k.entries
-own_lines_known k [] = refl
-own_lines_known k (line ∷ lines) = own_lines_known (know_own_line k line) lines
+    → fold know_own_line k lines
+    ≡ known_with k.held.waiting (k.held.bookings ++ map own_booking lines) k.held.exceptions k.entries
+own_lines_known k [] = λ i. known_with k.held.waiting (sym (append-nil k.held.bookings) i) k.held.exceptions k.entries
+own_lines_known k (line ∷ lines) =
+    own_lines_known (know_own_line k line) lines
+    ∙ (λ i. known_with k.held.waiting
+    (append_assoc k.held.bookings (own_booking line ∷ []) (map own_booking lines) i) k.held.exceptions k.entries)
 
 exceptions_known : (k : Known) (lines : List Line)
-    → fold know_exception k lines ≡ known_with (fold with_exception k.held lines) k.entries
-exceptions_known k [] = refl
-exceptions_known k (line ∷ lines) = exceptions_known (know_exception k line) lines
+    → fold know_exception k lines
+    ≡ known_with k.held.waiting k.held.bookings (k.held.exceptions ++ lines) k.entries
+exceptions_known k [] = λ i. known_with k.held.waiting k.held.bookings (sym (append-nil k.held.exceptions) i) k.entries
+exceptions_known k (line ∷ lines) =
+    exceptions_known (know_exception k line) lines
+    ∙ (λ i. known_with k.held.waiting k.held.bookings (append_assoc k.held.exceptions (line ∷ []) lines i) k.entries)
 
 pub all_known : (firm : Firm) (a b c : Known) → a ≡ fold know_row none_known firm.rows
     → b ≡ fold know_own_line a firm.firm_lines → c ≡ fold know_exception b firm.exceptions → c ≡ known_of firm
-unfolding known_of
+unfolding known_of held_of
 all_known firm a b c ea eb ec =
-    let rows = fold with_row none_held firm.rows in
-    let own = fold with_own_line rows firm.firm_lines in
-    let held = fold with_exception own firm.exceptions in
-    let entries = flat_map row_entries firm.rows in
-    let first : a ≡ known_with rows entries = ea ∙ rows_known none_known firm.rows in
-    let second : b ≡ known_with own entries =
-    eb ∙ ap (λ k. fold know_own_line k firm.firm_lines) first
-    ∙ own_lines_known (known_with rows entries) firm.firm_lines in
-    let third : c ≡ known_with held entries =
-    ec ∙ ap (λ k. fold know_exception k firm.exceptions) second
-    ∙ exceptions_known (known_with own entries) firm.exceptions in
-    third ∙ ap (λ h. known_with h entries) (all_kept firm rows own held refl refl refl)
+    let rows = ea ∙ rows_known none_known firm.rows in
+    let own = eb ∙ ap (λ k. fold know_own_line k firm.firm_lines) rows ∙ own_lines_known _ firm.firm_lines in
+    ec ∙ ap (λ k. fold know_exception k firm.exceptions) own ∙ exceptions_known _ firm.exceptions

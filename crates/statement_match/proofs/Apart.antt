@@ -1,32 +1,17 @@
 -- No two entries that wait in a sound firm have one reference.
-use Rattle.std.proofs.Common.{◌≡◌, ◌∙◌, sym, ap, subst, ℕ, zero, suc, ◌+◌, ◌<◌, true, List, [], ◌∷◌, length, get_or, Option, Some, None, inl, inr, arith}
+use Rattle.statement_match.proofs.Names.{◌≡◌, ◌∙◌, sym, ap, subst, ℕ, zero, suc, ◌+◌, ◌<◌, true, List, [], ◌∷◌, length, get_or, Option, Some, None, inl, inr, arith, Contains, nat_tests, Contains-append_cases, DepositState, PaymentState, Entry, EntryRow, Firm, HeadRow, Row, SeatRow, entry_pairs, head_pairs, of, pairs, put, seat_pairs, entry_named, named, reference_text, Waiting, filter_has, flat_map_from, deposit_waiting, entry_waiting, held_of, payment_waiting, row_waiting, HasMatterNumbers, NoneIsNamedTwiceByFirms, WaitApart}
 use Rattle.std.specs.Prelude.{◌==◌}
-use Rattle.std.specs.List.{Contains}
-use Rattle.std.proofs.lemmas.Bool.Decides.{nat_tests}
-use Rattle.std.proofs.lemmas.List.Elements.{Contains-append_cases}
 use Rattle.trust_base.specs.Limits.{IsEntryNo, IsMatterNo}
 use Rattle.matter_rows.specs.Rows.{Rows, entry_at}
-use Rattle.matter_rows.specs.declared.deposit.Deposit.{Deposit}
-use Rattle.matter_rows.specs.declared.deposit.DepositState.{DepositState}
-use Rattle.matter_rows.specs.declared.deposit.DepositState.TheVariants as deposit
-use Rattle.matter_rows.specs.declared.payment.Payment.{Payment}
-use Rattle.matter_rows.specs.declared.payment.PaymentState.{PaymentState}
-use Rattle.matter_rows.specs.declared.payment.PaymentState.TheVariants as payment
-use Rattle.matter_rows.specs.declared.entry.Entry.{Entry}
 use Rattle.matter_rows.specs.declared.entry.Entry.TheVariants as entry
 use Rattle.matter_rows.specs.declared.head.Head.{Head}
 use Rattle.matter_rows.specs.declared.seat.Seat.{Seat}
 use Rattle.matter_rows.proofs.Collected.{entry-at-place}
 use Rattle.matter_rows.proofs.Entries.{within}
-use Rattle.firm_rows.specs.Firm.{EntryRow, Firm, HeadRow, Row, SeatRow, entry_pairs, head_pairs, of, pairs, put, seat_pairs}
 use Rattle.firm_rows.specs.FirmSound.{FirmSound}
 use Rattle.firm_rows.proofs.Joined.{own-put}
-use Rattle.statement_csv.specs.References.{entry_named, named, reference_text}
 use Rattle.statement_csv.proofs.NamedFacts.{named-found}
-use Rattle.statement_lines.specs.Waiting.{Waiting}
-use Rattle.statement_lines.proofs.Members.{filter_has, flat_map_from}
-use Rattle.statement_match.specs.Books.{deposit_waiting, entry_waiting, held_of, payment_waiting, row_waiting}
-use Rattle.statement_match.specs.FirmLaws.{HasMatterNumbers, NoneIsNamedTwiceByFirms, WaitApart}
+use Rattle.statement_match.proofs.Waits.{by_waiting, none_there, the_one}
 use Rattle.statement_match.proofs.Writing.{none_is_named_twice}
 
 -- The rows of a matter.
@@ -102,40 +87,20 @@ entry_number firm m n e sound at =
 
 -- The entry that waits.
 
-none_there : {A : Type 0} (x : A) → Contains [] x → ⊥
-none_there x (k, lt, is) = omega arith
-
-the_one : {A : Type 0} (y x : A) → Contains (y ∷ []) x → y ≡ x
-the_one y x (zero, lt, is) = is
-the_one y x (suc k, lt, is) = absurd (omega arith)
-
-two_are_one : {A : Type 0} (y w v : A) → Contains (y ∷ []) w → Contains (y ∷ []) v → w ≡ v
-two_are_one y w v first second = sym (the_one y w first) ∙ the_one y v second
-
-deposit_once : (m n : ℕ) (d : Deposit) (s : DepositState) (w v : Waiting) → Contains (deposit_waiting m n d s) w
-    → Contains (deposit_waiting m n d s) v → (w ≡ v) × (w.reference ≡ reference_text m n)
-deposit_once m n d deposit.Held w v first second =
-    (two_are_one _ w v first second, sym (ap (λ (x : Waiting). x.reference) (the_one _ w first)))
-deposit_once m n d (deposit.Cleared c) w v first second = absurd (none_there w first)
-deposit_once m n d (deposit.Cancelled day) w v first second = absurd (none_there w first)
-deposit_once m n d (deposit.Returned r) w v first second = absurd (none_there w first)
-
-payment_once : (m n : ℕ) (p : Payment) (s : PaymentState) (w v : Waiting) → Contains (payment_waiting m n p s) w
-    → Contains (payment_waiting m n p s) v → (w ≡ v) × (w.reference ≡ reference_text m n)
-payment_once m n p payment.Proposed w v first second = absurd (none_there w first)
-payment_once m n p payment.Declined w v first second = absurd (none_there w first)
-payment_once m n p (payment.Issued day) w v first second =
-    (two_are_one _ w v first second, sym (ap (λ (x : Waiting). x.reference) (the_one _ w first)))
-payment_once m n p (payment.Cleared c) w v first second = absurd (none_there w first)
-payment_once m n p (payment.Voided x) w v first second = absurd (none_there w first)
-
 -- an entry waits once, under its reference
 pub entry_once : (m n : ℕ) (e : Entry) (w v : Waiting) → Contains (entry_waiting m n e) w
     → Contains (entry_waiting m n e) v → (w ≡ v) × (w.reference ≡ reference_text m n)
-entry_once m n (entry.Deposit d) w v first second = deposit_once m n d d.state w v first second
-entry_once m n (entry.Payment p) w v first second = payment_once m n p p.state w v first second
-entry_once m n (entry.Fee f) w v first second = absurd (none_there w first)
-entry_once m n (entry.Claim c) w v first second = absurd (none_there w first)
+entry_once m n e w v first second =
+    by_waiting (λ (x : Entry). Contains (entry_waiting m n x) v → (w ≡ v) × (w.reference ≡ reference_text m n)) m n w
+    (λ d held is there. (
+      sym is ∙ the_one _ v (subst (λ (s : DepositState). Contains (deposit_waiting m n d s) v) held there),
+      sym (ap (λ (x : Waiting). x.reference) is),
+    ))
+    (λ p day issued is there. (
+      sym is ∙ the_one _ v (subst (λ (s : PaymentState). Contains (payment_waiting m n p s) v) issued there),
+      sym (ap (λ (x : Waiting). x.reference) is),
+    ))
+    e first second
 
 -- the entry that waits, of a matter under its number
 pub record IsOfEntry (firm : Firm) (w : Waiting) : Type 0 where

@@ -1,24 +1,8 @@
 -- All entries that stand in some way to a line are among those of its amount, those of its reference, those that it
 -- shows, or those of a day.
-use Rattle.std.proofs.Common.{◌≡◌, ◌∙◌, sym, ap, subst, ℕ, zero, suc, ℤ, pos, negsuc, ◌==◌, true, not, ◌&&◌, neg_ℤ, List, refl, inl, inr, ◌⊎◌}
-use Rattle.std.specs.Prelude.{nat_le, nat_lt, unsigned_abs}
-use Rattle.std.specs.List.{filter}
-use Rattle.std.specs.Ordering.{int_eq}
-use Rattle.std.proofs.lemmas.Bool.{and_parts, eq-eqb}
-use Rattle.std.proofs.lemmas.Bool.Decides.{Decides-int_eq}
-use Rattle.std.proofs.lemmas.Slice.Eq.{bytes_eq-Decides}
-use Rattle.trust_base.specs.declared.line.Line.{Line}
-use Rattle.statement_lines.specs.EntryStates.{is_cleared, is_held, is_waiting}
-use Rattle.statement_lines.specs.Keys.{amount_key, day_key, entry_key, reference_key, text_key}
-use Rattle.statement_lines.specs.Lookups.{elements}
-use Rattle.statement_lines.specs.Marks.{is_shown}
-use Rattle.statement_lines.specs.Relations.{has_amount_back, has_its_amount, is_of_no_amount, names, stands}
-use Rattle.statement_lines.specs.Showing.{fits, is_other_business, is_out, shows}
-use Rattle.statement_lines.specs.declared.book_entry.BookEntry.{BookEntry}
+use Rattle.statement_match.proofs.Names.{◌≡◌, ◌∙◌, sym, ap, subst, ℕ, zero, suc, ℤ, pos, negsuc, ◌==◌, true, not, ◌&&◌, neg_ℤ, List, refl, inl, inr, ◌⊎◌, nat_le, nat_lt, unsigned_abs, filter, int_eq, and_parts, eq-eqb, Decides-int_eq, bytes_eq-Decides, Line, is_cleared, is_held, is_waiting, amount_key, day_key, entry_key, reference_key, text_key, elements, is_shown, has_amount_back, has_its_amount, is_of_no_amount, names, stands, fits, is_other_business, is_out, shows, BookEntry, Narrows, filtered, filtered_kept, Bor}
 use Rattle.statement_lines.specs.declared.relation.Relation.{Relation}
 use Rattle.statement_lines.specs.declared.relation.Relation.TheVariants as relation
-use Rattle.statement_lines.proofs.Found.{Narrows, filtered, filtered_kept}
-use denote.Ref.{Bor}
 
 -- Of its amount.
 

@@ -1,16 +1,6 @@
 -- When a line is filled.
-use Rattle.std.proofs.Common.{◌≡◌, ◌∙◌, sym, ap, ℕ, ◌==◌, Bool, true, false, not, cond, ◌&&◌, List, Option, Some, None, refl, arith}
-use Rattle.std.specs.List.{count_by, find}
-use Rattle.std.proofs.lemmas.Bool.{and_parts, and_from, cond-true, cond-false, eqb-true, eq-eqb, not_from_false}
-use Rattle.trust_base.specs.declared.line.Line.{Line}
-use Rattle.statement_lines.specs.Waiting.{Waiting}
-use Rattle.statement_lines.specs.Showing.{fits}
-use Rattle.statement_lines.specs.Held.{Held}
-use Rattle.statement_lines.specs.OpenLines.{exception_reference, is_claimed, is_open, is_open_fit}
-use Rattle.statement_lines.specs.declared.outcome.Outcome.{Outcome}
+use Rattle.statement_match.proofs.Names.{◌≡◌, ◌∙◌, sym, ap, ℕ, ◌==◌, Bool, true, false, not, cond, ◌&&◌, List, Option, Some, None, refl, arith, count_by, find, and_parts, and_from, cond-true, cond-false, eqb-true, eq-eqb, not_from_false, Line, Waiting, fits, Held, exception_reference, is_claimed, is_open, is_open_fit, Outcome, becomes, fill, filled_with, is_beside_booked, is_doubled, is_fitted_once, is_in_book, unless_exception, IsSure, FillsWhatIsSure, FillsWithWaiting, TwoEntriesAreLeft, TwoLinesAreLeft}
 use Rattle.statement_lines.specs.declared.outcome.Outcome.TheVariants as outcome
-use Rattle.statement_match.specs.Rule.{becomes, fill, filled_with, is_beside_booked, is_doubled, is_fitted_once, is_in_book, unless_exception}
-use Rattle.statement_match.specs.Laws.{IsSure, FillsWhatIsSure, FillsWithWaiting, TwoEntriesAreLeft, TwoLinesAreLeft}
 use Rattle.statement_match.proofs.Picks.{found_is_there, found_passes, is_the_one}
 
 -- A choice that gave what one side cannot.

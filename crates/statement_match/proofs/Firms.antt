@@ -1,22 +1,9 @@
 -- What a firm has, matter by matter.
-use Rattle.std.proofs.Common.{◌≡◌, ◌∙◌, sym, ap, ℕ, zero, suc, Bool, true, false, cond, List, [], ◌∷◌, ◌++◌, map, refl, inl, inr, ◌⊎◌, arith}
-use Rattle.std.specs.List.{Contains, filter, flat_map}
-use Rattle.matter_rows.specs.declared.deposit.Deposit.{Deposit}
-use Rattle.matter_rows.specs.declared.deposit.DepositState.{DepositState}
-use Rattle.matter_rows.specs.declared.deposit.DepositState.TheVariants as deposit
-use Rattle.matter_rows.specs.declared.payment.Payment.{Payment}
-use Rattle.matter_rows.specs.declared.payment.PaymentState.{PaymentState}
-use Rattle.matter_rows.specs.declared.payment.PaymentState.TheVariants as payment
-use Rattle.matter_rows.specs.declared.entry.Entry.TheVariants as entry
-use Rattle.firm_rows.specs.Firm.{EntryRow, Firm, HeadRow, Row, SeatRow}
-use Rattle.statement_csv.specs.References.{reference_text}
-use Rattle.statement_lines.specs.Waiting.{Waiting}
-use Rattle.statement_lines.proofs.Members.{filter_has, flat_map_from, flat_map_has}
-use Rattle.statement_match.specs.Books.{deposit_waiting, held_of, own_booking, payment_waiting, row_bookings, row_waiting, with_matters}
-use Rattle.statement_match.specs.Laws.{HasLess, IsPart, NoneOf, With, Without}
-use Rattle.statement_match.specs.FirmLaws.{FilledWaits, IsHeldRow, IsIssuedRow, OtherMattersOnlyTakeAway}
+use Rattle.statement_match.proofs.Names.{◌≡◌, ◌∙◌, sym, ap, ℕ, zero, suc, Bool, true, false, cond, List, [], ◌∷◌, ◌++◌, map, refl, inl, inr, ◌⊎◌, arith, Contains, filter, Entry, EntryRow, Firm, HeadRow, Row, SeatRow, reference_text, Waiting, filter_has, flat_map_from, flat_map_has, held_of, own_booking, row_bookings, row_waiting, with_matters, HasLess, IsPart, NoneOf, With, Without, FilledWaits, IsHeldRow, IsIssuedRow, OtherMattersOnlyTakeAway}
+use Rattle.std.specs.List.{flat_map}
 use Rattle.statement_match.proofs.Filling.{fills_with_waiting}
 use Rattle.statement_match.proofs.Less.{more_only_takes_away}
+use Rattle.statement_match.proofs.Waits.{by_waiting, none_there}
 
 -- Parts of lists.
 
@@ -74,41 +61,20 @@ other_matters_only_take_away today firm is_kept lines line reference m row w hit
 
 -- What a line is filled with.
 
-one_there : {A : Type 0} (y x : A) → Contains (y ∷ []) x → y ≡ x
-one_there y x (zero, lt, is) = is
-one_there y x (suc k, lt, is) = absurd (omega arith)
-
-nothing_there : {A : Type 0} (x : A) → Contains [] x → ⊥
-nothing_there x (k, lt, is) = omega arith
-
-deposit_from : (m n : ℕ) (d : Deposit) (s : DepositState) (w : Waiting) → Contains (deposit_waiting m n d s) w
-    → (s ≡ deposit.Held) × (w.reference ≡ reference_text m n)
-deposit_from m n d deposit.Held w there = (refl, sym (ap (λ (v : Waiting). v.reference) (one_there _ w there)))
-deposit_from m n d (deposit.Cleared c) w there = absurd (nothing_there w there)
-deposit_from m n d (deposit.Cancelled day) w there = absurd (nothing_there w there)
-deposit_from m n d (deposit.Returned r) w there = absurd (nothing_there w there)
-
-payment_from : (m n : ℕ) (p : Payment) (s : PaymentState) (w : Waiting) → Contains (payment_waiting m n p s) w
-    → (day : ℕ) × (s ≡ payment.Issued day) × (w.reference ≡ reference_text m n)
-payment_from m n p payment.Proposed w there = absurd (nothing_there w there)
-payment_from m n p payment.Declined w there = absurd (nothing_there w there)
-payment_from m n p (payment.Issued day) w there =
-    (day, refl, sym (ap (λ (v : Waiting). v.reference) (one_there _ w there)))
-payment_from m n p (payment.Cleared c) w there = absurd (nothing_there w there)
-payment_from m n p (payment.Voided v) w there = absurd (nothing_there w there)
-
 row_from : (m : ℕ) (row : Row) (w : Waiting) → Contains (row_waiting (m, row)) w
     → (n : ℕ) × (w.reference ≡ reference_text m n) × (IsHeldRow row n ⊎ IsIssuedRow row n)
-row_from m (HeadRow head) w there = absurd (nothing_there w there)
-row_from m (SeatRow seat) w there = absurd (nothing_there w there)
-row_from m (EntryRow n (entry.Deposit d)) w there =
-    let told = deposit_from m n d d.state w there in
-    (n, told.1, inl (record { made = d; is = refl; held = told.0 }))
-row_from m (EntryRow n (entry.Payment p)) w there =
-    let told = payment_from m n p p.state w there in
-    (n, told.2, inr (record { made = p; day = told.0; is = refl; issued = told.1 }))
-row_from m (EntryRow n (entry.Fee f)) w there = absurd (nothing_there w there)
-row_from m (EntryRow n (entry.Claim c)) w there = absurd (nothing_there w there)
+row_from m (HeadRow head) w there = absurd (none_there w there)
+row_from m (SeatRow seat) w there = absurd (none_there w there)
+row_from m (EntryRow n e) w there =
+    by_waiting (λ (x : Entry). (k : ℕ) × (w.reference ≡ reference_text m k)
+    × (IsHeldRow (EntryRow n x) k ⊎ IsIssuedRow (EntryRow n x) k)) m n w
+    (λ d held is. (n, sym (ap (λ (v : Waiting). v.reference) is), inl (record { made = d; is = refl; held = held })))
+    (λ p day issued is. (
+      n,
+      sym (ap (λ (v : Waiting). v.reference) is),
+      inr (record { made = p; day = day; is = refl; issued = issued }),
+    ))
+    e there
 
 waits_in : (firm : Firm) (w : Waiting) → Contains (held_of firm).waiting w
     → (p : ℕ × Row) × Contains firm.rows p × Contains (row_waiting p) w

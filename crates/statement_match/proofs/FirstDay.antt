@@ -1,19 +1,7 @@
 -- The first day whose deposits are together an amount.
-use Rattle.std.proofs.Common.{◌≡◌, ◌∙◌, sym, ap, subst, ℕ, zero, suc, ◌<◌, ◌≤◌, ◌==◌, ℤ, Bool, true, false, cond, List, [], ◌∷◌, Option, Some, None, refl, inl, inr, ◌⊎◌, ◌↔◌, arith}
-use Rattle.std.specs.Prelude.{nat_le, option_map}
-use Rattle.std.specs.Ordering.{int_eq}
-use Rattle.std.specs.List.{AllPairs, Contains, filter, find}
+use Rattle.statement_match.proofs.Names.{◌≡◌, ◌∙◌, sym, ap, subst, ℕ, zero, suc, ◌<◌, ◌≤◌, ◌==◌, ℤ, Bool, true, false, cond, List, [], ◌∷◌, Option, Some, None, refl, inl, inr, ◌⊎◌, ◌↔◌, arith, nat_le, option_map, int_eq, AllPairs, Contains, filter, find, and_parts, eq-eqb, eqb-true, nat_tests, AllPairs-from_increasing, same_Some, is_held, is_held_on, BookEntry, filter_from, filter_has, find_has, later, map_from, are_together, day_sums, day_with, first_day, held_days, least, lesser, same_day, together_on, Bor}
 use Rattle.std.specs.List.Sorted.{IsStrictlyIncreasing}
-use Rattle.std.proofs.lemmas.Bool.{and_parts, eq-eqb, eqb-true}
-use Rattle.std.proofs.lemmas.Bool.Decides.{nat_tests}
-use Rattle.std.proofs.lemmas.List.Kept.{AllPairs-from_increasing}
-use Rattle.std.proofs.lemmas.Option.{same_Some}
-use Rattle.statement_lines.specs.EntryStates.{is_held, is_held_on}
-use Rattle.statement_lines.specs.declared.book_entry.BookEntry.{BookEntry}
-use Rattle.statement_lines.proofs.Members.{filter_from, filter_has, find_has, later, map_from}
-use Rattle.statement_match.specs.DaySums.{are_together, day_sums, day_with, first_day, held_days, least, lesser, same_day, together_on}
 use Rattle.statement_match.proofs.Picks.{found_passes}
-use denote.Ref.{Bor}
 
 -- The least of days.
 

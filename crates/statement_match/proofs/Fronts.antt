@@ -1,14 +1,6 @@
 -- No line that is written before a filled one has its reference.
-use Rattle.std.proofs.Common.{◌≡◌, ◌≢◌, ◌∙◌, sym, ap, subst, ℕ, zero, suc, ◌<◌, List, [], ◌∷◌, ◌++◌, length, get_or, append_assoc, refl, inl, inr, ◌⊎◌, arith}
-use Rattle.std.specs.List.{Contains}
-use Rattle.std.proofs.lemmas.Bool.{cases_order}
-use Rattle.std.proofs.lemmas.List.Elements.{Contains-append_cases, Contains-append_right}
-use Rattle.trust_base.specs.declared.line.Line.{Line}
-use Rattle.statement_lines.specs.Held.{Held}
-use Rattle.statement_lines.specs.declared.outcome.Outcome.{Outcome}
+use Rattle.statement_match.proofs.Names.{◌≡◌, ◌≢◌, ◌∙◌, sym, ap, subst, ℕ, zero, suc, ◌<◌, List, [], ◌∷◌, ◌++◌, length, get_or, append_assoc, refl, inl, inr, ◌⊎◌, arith, Contains, cases_order, Contains-append_cases, Contains-append_right, Line, Held, Outcome, becomes, AreNamedApart, with_reference, written, written_as, written_of}
 use Rattle.statement_lines.specs.declared.outcome.Outcome.TheVariants as outcome
-use Rattle.statement_match.specs.Rule.{becomes}
-use Rattle.statement_match.specs.Laws.{AreNamedApart, with_reference, written, written_as, written_of}
 use Rattle.statement_match.proofs.Writing.{none_is_named_twice}
 
 -- Of a line nothing is written, or one line.

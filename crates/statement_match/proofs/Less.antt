@@ -1,20 +1,7 @@
 -- What becomes of a line where less is held.
-use Rattle.std.proofs.Common.{◌≡◌, ◌∙◌, sym, ap, subst, ℕ, zero, suc, ◌<◌, ◌≤◌, ◌==◌, Bool, true, false, cond, ◌&&◌, ◌||◌, List, [], ◌∷◌, length, Some, refl, arith}
-use Rattle.std.specs.Prelude.{nat_lt}
-use Rattle.std.specs.List.{Contains, count_by, filter, find, list_any}
-use Rattle.std.specs.Ordering.{int_eq}
-use Rattle.std.proofs.lemmas.Bool.{and_left, and_right, cond-false, leb-false, lt-leb, or_from, or_parts}
-use Rattle.std.proofs.lemmas.List.Sums.{length-filter}
-use Rattle.trust_base.specs.declared.line.Line.{Line}
-use Rattle.statement_lines.specs.Bookings.{booking_of, is_beside, is_same_booking, total_of}
-use Rattle.statement_lines.specs.Waiting.{Waiting}
-use Rattle.statement_lines.specs.Showing.{fits}
-use Rattle.statement_lines.specs.Held.{Held}
-use Rattle.statement_lines.specs.OpenLines.{exception_reference, is_claimed, is_open_like}
+use Rattle.statement_match.proofs.Names.{◌≡◌, ◌∙◌, sym, ap, subst, ℕ, zero, suc, ◌<◌, ◌≤◌, ◌==◌, Bool, true, false, cond, ◌&&◌, List, [], ◌∷◌, length, Some, refl, arith, nat_lt, Contains, count_by, filter, find, list_any, int_eq, and_left, and_right, cond-false, leb-false, lt-leb, or_from, or_parts, length-filter, Line, booking_of, is_beside, is_same_booking, total_of, Waiting, fits, Held, exception_reference, is_claimed, is_open_like, later, is_beside_booked, is_booked, is_booked_in_parts, is_doubled, is_in_book, HasLess, IsPart, IsSure, MoreOnlyTakesAway, NoneOf, With, Without}
+use Rattle.std.proofs.Common.{◌||◌}
 use Rattle.statement_lines.specs.declared.outcome.Outcome.TheVariants as outcome
-use Rattle.statement_lines.proofs.Members.{later}
-use Rattle.statement_match.specs.Rule.{is_beside_booked, is_booked, is_booked_in_parts, is_doubled, is_in_book}
-use Rattle.statement_match.specs.Laws.{HasLess, IsPart, IsSure, MoreOnlyTakesAway, NoneOf, With, Without}
 use Rattle.statement_match.proofs.Filling.{filled_if_sure, sure_of}
 use Rattle.statement_match.proofs.Picks.{found_is_there, found_passes, is_the_one, length_filter-cons, one_passes}
 

@@ -1,7 +1,6 @@
 pub mod Again
 pub mod Apart
 pub mod AllKnown
-pub mod Collected
 pub mod Filling
 pub mod Firms
 pub mod Fronts
@@ -14,8 +13,10 @@ pub mod References
 pub mod Telling
 pub mod Totals
 pub mod Unfilled
+pub mod Waits
 pub mod Writing
 pub mod Candidates
 pub mod Numbered
 pub mod FirstDay
 pub use Rattle.statement_lines.proofs.Members
+mod Names

@@ -1,23 +1,11 @@
 -- The lines of the records that are written are what is written of the lines.
-use Rattle.std.proofs.Common.{◌≡◌, ◌∙◌, ap, subst, ℕ, ℤ, ◌+◌, true, List, [], ◌∷◌, ◌++◌, drop, Option, Some, None, option_and_then, option_map, option_to_list, refl}
-use Rattle.std.specs.List.{find}
+use Rattle.statement_match.proofs.Names.{◌≡◌, ◌∙◌, ap, subst, ℕ, ℤ, ◌+◌, true, List, [], ◌∷◌, ◌++◌, drop, Option, Some, None, option_and_then, refl, find, bank_text_of, line_text_of, bank_amount_of, day_of, Line, item_of, item_of_line, items_from, line_in, Rows, line_at, lines_from, records_of, rows_of, Held, exception_reference, is_named_like, is_open, named_row, row_as, rows_by, Outcome, with_reference, written_as, written_of, becomes, HasLinesWritten, HasReferences, IsReference}
+use Rattle.std.proofs.Common.{option_map, option_to_list}
 use Rattle.std.specs.Prelude.{unwrap_or}
-use Rattle.trust_base.specs.BankTexts.{bank_text_of, line_text_of}
-use Rattle.trust_base.specs.Texts.{bank_amount_of, day_of}
-use Rattle.trust_base.specs.declared.line.Line.{Line}
-use Rattle.statement_csv.specs.Items.{item_of, item_of_line, items_from, line_in}
 use Rattle.statement_csv.specs.Lines.{line_of, line_of_texts, line_with}
 use Rattle.statement_csv.specs.declared.item.Item.TheVariants as item
 use Rattle.statement_csv.proofs.ItemFacts.{known_line, open_line, same_line}
-use Rattle.statement_lines.specs.Records.{Rows, line_at, lines_from, records_of, rows_of}
-use Rattle.statement_lines.specs.Held.{Held}
-use Rattle.statement_lines.specs.OpenLines.{exception_reference, is_named_like, is_open}
-use Rattle.statement_lines.specs.Written.{named_row, row_as, rows_by}
-use Rattle.statement_lines.specs.declared.outcome.Outcome.{Outcome}
 use Rattle.statement_lines.specs.declared.outcome.Outcome.TheVariants as outcome
-use Rattle.statement_match.specs.Laws.{with_reference, written_as, written_of}
-use Rattle.statement_match.specs.Rule.{becomes}
-use Rattle.statement_match.specs.StatementLaws.{HasLinesWritten, HasReferences, IsReference}
 use Rattle.statement_match.proofs.Filling.{fills_with_waiting}
 use Rattle.statement_match.proofs.Picks.{found_is_there}
 use Rattle.statement_match.proofs.ReadBack.{reads_back}

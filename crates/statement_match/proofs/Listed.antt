@@ -1,12 +1,5 @@
 -- The steps of the loops that list entries and records.
-use Rattle.std.proofs.Common.{◌≡◌, ◌∙◌, sym, ap, ℕ, zero, suc, ◌+◌, ◌<◌, ◌≤◌, Bool, true, false, cond, List, [], ◌∷◌, ◌++◌, length, length-append, get_or, take, map, append-nil, refl, arith}
-use Rattle.std.specs.List.{filter}
-use Rattle.std.proofs.lemmas.List.{map-append, take-append-le, take_all}
-use Rattle.std.proofs.lemmas.List.Elements.{filter_more}
-use Rattle.trust_base.specs.declared.line.Line.{Line}
-use Rattle.statement_lines.specs.Waiting.{Waiting}
-use Rattle.statement_lines.specs.OpenLines.{is_open_fit}
-use Rattle.statement_match.specs.ReasonTexts.{fit_numbers}
+use Rattle.statement_match.proofs.Names.{◌≡◌, ◌∙◌, sym, ap, ℕ, zero, suc, ◌+◌, ◌<◌, ◌≤◌, Bool, true, false, cond, List, [], ◌∷◌, ◌++◌, length, length-append, get_or, take, map, append-nil, refl, arith, filter, map-append, take-append-le, take_all, filter_more, Line, Waiting, is_open_fit, fit_numbers}
 
 pub fit_numbers-cons : (today : ℕ) (w : Waiting) (numbers : List ℕ) (place : ℕ) (line : Line) (lines : List Line)
     → fit_numbers today w numbers place (line ∷ lines)

@@ -1,18 +1,6 @@
 -- The lines with their numbers.
-use Rattle.std.proofs.Common.{◌≡◌, ◌∙◌, sym, ap, ℕ, ◌+◌, ◌<◌, ◌≤◌, ◌==◌, Bool, true, false, cond, List, [], ◌∷◌, ◌++◌, length, get_or, drop, map, append_assoc, append-nil, refl}
-use Rattle.std.specs.List.{filter}
-use Rattle.std.proofs.lemmas.List.{at_drop_more, drop_all, map-append}
-use Rattle.trust_base.specs.declared.line.Line.{Line}
-use Rattle.statement_lines.specs.Keys.{amount_key, waiting_key}
-use Rattle.statement_lines.specs.Lookups.{elements}
-use Rattle.statement_lines.specs.OpenLines.{is_open_fit}
-use Rattle.statement_lines.specs.Waiting.{Waiting}
-use Rattle.statement_lines.proofs.Alike.{open_fit_narrows}
-use Rattle.statement_lines.proofs.Found.{filter_among}
-use Rattle.statement_match.specs.Grounds.{numbered, numbered_key, plain_pairs}
-use Rattle.statement_match.specs.ReasonTexts.{fit_numbers}
+use Rattle.statement_match.proofs.Names.{◌≡◌, ◌∙◌, sym, ap, ℕ, ◌+◌, ◌<◌, ◌≤◌, ◌==◌, Bool, true, false, cond, List, [], ◌∷◌, ◌++◌, length, get_or, drop, map, append_assoc, append-nil, refl, filter, at_drop_more, drop_all, map-append, Line, amount_key, waiting_key, elements, is_open_fit, Waiting, open_fit_narrows, filter_among, numbered, numbered_key, plain_pairs, fit_numbers, Bor}
 use Rattle.statement_match.proofs.Listed.{fit_numbers-cons, fit_numbers-nil}
-use denote.Ref.{Bor}
 
 numbered-cons : (numbers : List ℕ) (place : ℕ) (line : Line) (lines : List Line)
     → numbered numbers place (line ∷ lines) ≡ (get_or numbers place 0, line) ∷ numbered numbers (place + 1) lines

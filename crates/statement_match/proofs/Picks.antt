@@ -1,9 +1,5 @@
 -- Which elements of a list pass a test, where one alone does.
-use Rattle.std.proofs.Common.{◌≡◌, ◌∙◌, sym, subst, ℕ, zero, suc, ◌+◌, ◌<◌, ◌≤◌, Bool, true, false, cond, List, [], ◌∷◌, length, get_or, Option, Some, refl, inl, inr, ◌⊎◌, arith}
-use Rattle.std.specs.List.{Contains, count_by, filter, find}
-use Rattle.std.proofs.lemmas.Bool.{cond-true, cond-false}
-use Rattle.std.proofs.lemmas.Option.{same_Some}
-use Rattle.std.proofs.lemmas.List.Sums.{length-filter}
+use Rattle.statement_match.proofs.Names.{◌≡◌, ◌∙◌, sym, subst, ℕ, zero, suc, ◌+◌, ◌<◌, ◌≤◌, Bool, true, false, cond, List, [], ◌∷◌, length, get_or, Option, Some, refl, inl, inr, ◌⊎◌, arith, Contains, count_by, filter, find, cond-true, cond-false, same_Some, length-filter}
 
 -- How many pass, one element in front.
 

@@ -1,6 +1,6 @@
 -- The text of records reads as those records.
-use Rattle.std.proofs.Common.{◌≡◌, ◌≢◌, ◌∙◌, ◌+◌, ap, ℕ, zero, suc, true, List, [], ◌∷◌, ◌++◌, map, drop, Option, Some, None, option_map, refl, inl, inr}
-use Rattle.std.proofs.lemmas.Bool.{cases_Bool}
+use Rattle.statement_match.proofs.Names.{◌≡◌, ◌≢◌, ◌∙◌, ◌+◌, ap, ℕ, zero, suc, true, List, [], ◌∷◌, ◌++◌, map, drop, Option, Some, None, refl, inl, inr, cases_Bool, Line, items_after_header, items_from, Rows, line_at, lines_from, rows_of, named_row, row_as, rows_by, text_of, Outcome, becomes, IsImported, ReadsBack, statement_text, written_rows}
+use Rattle.std.proofs.Common.{option_map}
 use Rattle.csv.specs.Machine.{Read, ends_at_end, field_after, fields_after, is_end, next_record, step}
 use Rattle.csv.specs.Reading.{default_config, records, records_from, records_next, strip_bom}
 use Rattle.csv.specs.Writing.{default_writer, escaped, fields_text, is_blank, read_back, row_text}
@@ -12,16 +12,8 @@ use Rattle.csv.specs.declared.parser.State.TheVariants as st
 use Rattle.csv.proofs.RoundTrip.{read-write}
 use Rattle.byte_streams.specs.CsvRecords.{rest_records}
 use Rattle.byte_streams.proofs.CsvRecords.{rest-more, rest-none}
-use Rattle.trust_base.specs.declared.line.Line.{Line}
 use Rattle.statement_csv.specs.Headers.{header}
-use Rattle.statement_csv.specs.Items.{items_after_header, items_from}
-use Rattle.statement_lines.specs.Records.{Rows, line_at, lines_from, rows_of}
-use Rattle.statement_lines.specs.Written.{named_row, row_as, rows_by, text_of}
-use Rattle.statement_lines.specs.declared.outcome.Outcome.{Outcome}
 use Rattle.statement_lines.specs.declared.outcome.Outcome.TheVariants as outcome
-use Rattle.statement_match.specs.Rule.{becomes}
-use Rattle.statement_match.specs.StatementLaws.{IsImported, ReadsBack}
-use Rattle.statement_match.specs.Statements.{statement_text, written_rows}
 
 -- The records of a text that was written.
 

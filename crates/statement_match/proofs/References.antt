@@ -1,13 +1,7 @@
 -- The reference of an entry is one of a bank's texts.
-use Rattle.std.proofs.Common.{◌≡◌, ◌∙◌, ℕ, zero, suc, ◌+◌, ◌≤◌, ◌/◌, ◌%◌, true, [], ◌∷◌, length, length-append, refl, arith}
-use Rattle.std.specs.List.{list_all}
-use Rattle.std.proofs.lemmas.Bool.{and_from, le-leb}
-use Rattle.std.proofs.lemmas.List.Folds.{list_all-append}
+use Rattle.statement_match.proofs.Names.{◌≡◌, ◌∙◌, ℕ, zero, suc, ◌+◌, ◌≤◌, ◌/◌, ◌%◌, true, [], ◌∷◌, length, length-append, refl, arith, list_all, and_from, le-leb, list_all-append, is_bank_text, is_printed_byte, entry_text, matter_text, reference_text}
 use Rattle.byte_streams.specs.Digits.{fixed_digits}
 use Rattle.byte_streams.proofs.FixedFacts.{length-fixed}
-use Rattle.trust_base.specs.BankTexts.{is_bank_text, is_printed_byte}
-use Rattle.trust_base.specs.Texts.{entry_text, matter_text}
-use Rattle.statement_csv.specs.References.{reference_text}
 
 digit_printed : (n : ℕ) → is_printed_byte (48 + n % 10) ≡ true
 digit_printed n =

@@ -1,13 +1,5 @@
 -- The steps of the loops over the records of a statement.
-use Rattle.std.proofs.Common.{◌≡◌, ◌∙◌, sym, ap, ℕ, suc, ◌+◌, ◌-◌, ◌<◌, ◌≤◌, List, [], ◌∷◌, ◌++◌, length, get_or, drop, append_assoc, append-nil, refl, arith}
-use Rattle.std.proofs.lemmas.List.{at_drop_more, drop_all, get_or-map}
-use Rattle.trust_base.specs.declared.line.Line.{Line}
-use Rattle.statement_lines.specs.Records.{Records}
-use Rattle.statement_lines.specs.Known.{Known}
-use Rattle.statement_lines.specs.declared.outcome.Outcome.{Outcome}
-use Rattle.statement_match.specs.Rule.{becomes, outcomes}
-use Rattle.statement_match.specs.Reasons.{reason_for}
-use Rattle.statement_match.specs.Unmatched.{told_by, told_from, told_of_line, told_unreadable, unreadable_line}
+use Rattle.statement_match.proofs.Names.{◌≡◌, ◌∙◌, sym, ap, ℕ, suc, ◌+◌, ◌-◌, ◌<◌, ◌≤◌, List, [], ◌∷◌, ◌++◌, length, get_or, drop, append_assoc, append-nil, refl, arith, at_drop_more, drop_all, get_or-map, Line, Records, Known, Outcome, becomes, outcomes, reason_for, told_by, told_from, told_of_line, told_unreadable, unreadable_line}
 
 -- Unreadable records.
 

@@ -1,12 +1,6 @@
 -- The sum of the amounts of booked lines, one line on.
-use Rattle.std.proofs.Common.{◌≡◌, ◌∙◌, sym, ap, ℕ, ◌+◌, ◌<◌, ℤ, pos, ◌+ℤ◌, Bool, true, false, cond, List, [], ◌∷◌, ◌++◌, length, get_or, take, append-nil, refl, arith}
-use Rattle.std.proofs.lemmas.Int.{ints}
-use Rattle.std.specs.List.{filter}
-use Rattle.std.proofs.lemmas.List.Elements.{filter_more}
-use Rattle.firm_rows.specs.Sums.{sum_of}
+use Rattle.statement_match.proofs.Names.{◌≡◌, ◌∙◌, sym, ap, ℕ, ◌+◌, ◌<◌, ℤ, pos, ◌+ℤ◌, Bool, true, false, cond, List, [], ◌∷◌, ◌++◌, length, get_or, take, append-nil, refl, arith, ints, filter, filter_more, sum_of, Booking, amount_if, total_of}
 use Rattle.firm_rows.proofs.Sums.{sum-append}
-use Rattle.statement_lines.specs.declared.booking.Booking.{Booking}
-use Rattle.statement_lines.specs.Bookings.{amount_if, total_of}
 
 total_of-append : (xs : List Booking) (b : Booking) → total_of (xs ++ b ∷ []) ≡ total_of xs +ℤ b.amount
 total_of-append [] b = omega (arith, ints)

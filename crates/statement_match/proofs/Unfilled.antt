@@ -1,29 +1,10 @@
 -- Lines that are not filled, and the lines that are written where none has a reference.
-use Rattle.std.proofs.Common.{◌≡◌, ◌≢◌, ◌∙◌, sym, ap, subst, ℕ, zero, suc, ◌<◌, ◌==◌, Bool, true, false, not, cond, ◌&&◌, List, [], ◌∷◌, length, get_or, Option, Some, None, refl, inl, inr, arith}
-use Rattle.std.specs.Prelude.{nat_lt}
-use Rattle.std.specs.List.{Contains, count_by, filter, find, list_any}
-use Rattle.std.specs.Option.{unwrap_or}
-use Rattle.std.specs.Ordering.{int_eq}
-use Rattle.std.specs.Str.{bytes_eq}
-use Rattle.std.proofs.lemmas.Bool.{and_from, and_left, and_right, cases_order, cond-false, cond-true, eq-eqb, false_from_ne_true, lt-leb, or_from, or_parts}
-use Rattle.std.proofs.lemmas.Bool.Decides.{Decides-int_eq}
-use Rattle.std.proofs.lemmas.List.{get_or_default}
-use Rattle.std.proofs.lemmas.List.Sums.{length-filter}
-use Rattle.std.proofs.lemmas.Slice.Eq.{bytes_eq-Decides}
-use Rattle.trust_base.specs.declared.line.Line.{Line}
-use Rattle.statement_lines.specs.declared.booking.Booking.{Booking}
-use Rattle.statement_lines.specs.Bookings.{booking_of, is_beside, is_same_booking}
-use Rattle.statement_lines.specs.Waiting.{Waiting}
-use Rattle.statement_lines.specs.Showing.{fits}
-use Rattle.statement_lines.specs.Held.{Held}
-use Rattle.statement_lines.specs.OpenLines.{claimed_reference, exception_reference, is_claimed, is_open, is_open_fit, is_open_like}
-use Rattle.statement_lines.specs.declared.outcome.Outcome.{Outcome}
+use Rattle.statement_match.proofs.Names.{◌≡◌, ◌≢◌, ◌∙◌, sym, ap, subst, ℕ, zero, suc, ◌<◌, ◌==◌, Bool, true, false, not, cond, ◌&&◌, List, [], ◌∷◌, length, get_or, Option, Some, None, refl, inl, inr, arith, nat_lt, Contains, count_by, filter, find, list_any, unwrap_or, int_eq, bytes_eq, and_from, and_left, and_right, cases_order, cond-false, cond-true, eq-eqb, false_from_ne_true, lt-leb, or_from, or_parts, Decides-int_eq, get_or_default, length-filter, bytes_eq-Decides, Line, Booking, booking_of, is_beside, is_same_booking, Waiting, fits, Held, claimed_reference, exception_reference, is_claimed, is_open, is_open_fit, is_open_like, Outcome, later, becomes, fill, filled_with, is_beside_booked, is_booked, is_booked_in_parts, is_doubled, is_fitted_once, is_in_book, unless_exception, IsSure, with_reference, written_as}
 use Rattle.statement_lines.specs.declared.outcome.Outcome.TheVariants as outcome
-use Rattle.statement_lines.proofs.Members.{later}
-use Rattle.statement_match.specs.Rule.{becomes, fill, filled_with, is_beside_booked, is_booked, is_booked_in_parts, is_doubled, is_fitted_once, is_in_book, unless_exception}
-use Rattle.statement_match.specs.Laws.{IsSure, with_reference, written_as}
 use Rattle.statement_match.proofs.Filling.{becomes-is, fill-is, filled_if_sure}
 use Rattle.statement_match.proofs.Picks.{found_passes, length_filter-cons, one_passes, two_pass}
+use Rattle.statement_match.proofs.Waits.{none_there, the_one}
+use Rattle.statement_match.proofs.Writing.{by_last, chosen}
 
 -- What another line is filled with.
 
@@ -62,24 +43,6 @@ IsFresh outcome.Doubled = Unit {0}
 IsFresh (outcome.Filled r) = Unit {0}
 IsFresh outcome.Left = Unit {0}
 
-either : (b : Bool) (x y : Outcome) → IsFresh x → IsFresh y → IsFresh (cond b x y)
-either true x y px py = px
-either false x y px py = py
-
-filled_fresh : (today : ℕ) (held : Held) (lines : List Line) (found : Option Waiting)
-    → IsFresh (filled_with today held lines found)
-filled_fresh today held lines None = tt
-filled_fresh today held lines (Some w) =
-    either (is_fitted_once today lines w && not (is_claimed held.exceptions lines w.reference))
-    (outcome.Filled w.reference) outcome.Left tt tt
-
-fill_fresh : (today : ℕ) (held : Held) (lines : List Line) (line : Line) → IsFresh (fill today held lines line)
-fill_fresh today held lines line =
-    subst IsFresh (sym (fill-is today held lines line))
-    (either (not (is_beside_booked held line) && count_by (fits today line) held.waiting == 1)
-    (filled_with today held lines (find (fits today line) held.waiting)) outcome.Left
-    (filled_fresh today held lines (find (fits today line) held.waiting)) tt)
-
 fresh : (today : ℕ) (held : Held) (lines : List Line) (line : Line) → is_open line ≡ true
     → exception_reference held.exceptions line ≡ None → IsFresh (becomes today held lines line)
 fresh today held lines line opened unnamed =
@@ -88,16 +51,8 @@ fresh today held lines line opened unnamed =
     becomes-is today held lines line ∙ cond-false (not (is_open line)) _ _ (ap not opened)
     ∙ ap (λ o. cond (is_in_book held lines line) outcome.InBook (unless_exception o last)) unnamed in
     subst IsFresh (sym is)
-    (either (is_in_book held lines line) outcome.InBook last tt
-    (either (is_doubled held lines line) outcome.Doubled (fill today held lines line) tt
-    (fill_fresh today held lines line)))
-
-the_one : (y x : Line) → Contains (y ∷ []) x → y ≡ x
-the_one y x (zero, lt, is) = is
-the_one y x (suc k, lt, is) = absurd (omega arith)
-
-none_there : (x : Line) → Contains [] x → ⊥
-none_there x (k, lt, is) = omega arith
+    (chosen IsFresh (is_in_book held lines line) outcome.InBook last tt
+    (by_last IsFresh today held lines line tt tt (λ r. tt)))
 
 of_fresh : (line x : Line) (o : Outcome) → IsFresh o → Contains (written_as line o) x
     → (r : List ℕ) × (o ≡ outcome.Filled r) × (with_reference r line ≡ x)

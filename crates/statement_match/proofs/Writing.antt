@@ -1,38 +1,39 @@
 -- What is written of the lines of a statement.
-use Rattle.std.proofs.Common.{◌≡◌, ◌≢◌, ◌∙◌, sym, ap, subst, ℕ, zero, suc, ◌+◌, ◌<◌, ◌==◌, Bool, true, false, not, cond, ◌&&◌, List, [], ◌∷◌, ◌++◌, length, get_or, Option, Some, None, refl, inl, inr, arith}
-use Rattle.std.specs.List.{Contains, count_by, find}
-use Rattle.std.specs.Option.{unwrap_or}
-use Rattle.std.specs.Str.{bytes_eq}
-use Rattle.std.proofs.lemmas.Bool.{and_from, cases_order}
-use Rattle.std.proofs.lemmas.List.Folds.{list_any_at}
-use Rattle.std.proofs.lemmas.Slice.Eq.{bytes_eq-Decides}
-use Rattle.trust_base.specs.declared.line.Line.{Line}
-use Rattle.statement_lines.specs.Waiting.{Waiting}
-use Rattle.statement_lines.specs.Showing.{fits}
-use Rattle.statement_lines.specs.Held.{Held}
-use Rattle.statement_lines.specs.OpenLines.{claimed_reference, exception_reference, is_claimed, is_open, is_open_fit}
-use Rattle.statement_lines.specs.declared.outcome.Outcome.{Outcome}
+use Rattle.statement_match.proofs.Names.{◌≡◌, ◌≢◌, ◌∙◌, sym, ap, subst, ℕ, ◌+◌, ◌<◌, ◌==◌, Bool, true, false, not, cond, ◌&&◌, List, [], ◌∷◌, ◌++◌, length, get_or, Option, Some, None, refl, inl, inr, arith, Contains, count_by, find, unwrap_or, bytes_eq, and_from, cases_order, list_any_at, bytes_eq-Decides, Line, Waiting, fits, Held, claimed_reference, exception_reference, is_claimed, is_open, is_open_fit, Outcome, claimed_closed, becomes, fill, filled_with, is_beside_booked, is_doubled, is_fitted_once, is_in_book, unless_exception, AreWritten, None_left, Kept, Named, LeftOut, AreNamedApart, IsSure, NoneIsNamedTwice, OnlyReferencesChange, with_reference, written_as, written_of}
 use Rattle.statement_lines.specs.declared.outcome.Outcome.TheVariants as outcome
-use Rattle.statement_match.specs.Rule.{becomes, fill, filled_with, is_beside_booked, is_doubled, is_fitted_once, is_in_book, unless_exception}
-use Rattle.statement_match.specs.Laws.{AreWritten, None_left, Kept, Named, LeftOut, AreNamedApart, IsSure, NoneIsNamedTwice, OnlyReferencesChange, with_reference, written_as, written_of}
 use Rattle.statement_match.proofs.Filling.{becomes-is, fill-is, second_gave, sure_of}
 use Rattle.statement_match.proofs.Picks.{found_is_there, found_passes, two_pass}
+use Rattle.statement_match.proofs.Waits.{none_there, the_one}
 
 -- What holds of both choices holds of the one that is taken.
 
-chosen : (P : Outcome → Type 0) (b : Bool) (x y : Outcome) → P x → P y → P (cond b x y)
+pub chosen : (P : Outcome → Type 0) (b : Bool) (x y : Outcome) → P x → P y → P (cond b x y)
 chosen P true x y px py = px
 chosen P false x y px py = py
 
--- An outcome of an open line.
+-- what holds of a line that is left and of one that is filled holds behind the search for its entry
+pub by_fill : (P : Outcome → Type 0) (today : ℕ) (held : Held) (lines : List Line) (line : Line) → P outcome.Left
+    → ((r : List ℕ) → P (outcome.Filled r)) → P (fill today held lines line)
+by_fill P today held lines line left filled =
+    subst P (sym (fill-is today held lines line))
+    (chosen P (not (is_beside_booked held line) && count_by (fits today line) held.waiting == 1)
+    (filled_with today held lines (find (fits today line) held.waiting)) outcome.Left
+    (by (find (fits today line) held.waiting)) left)
+  where
+    by : (found : Option Waiting) → P (filled_with today held lines found)
+    by None = left
+    by (Some w) =
+        chosen P (is_fitted_once today lines w && not (is_claimed held.exceptions lines w.reference))
+        (outcome.Filled w.reference) outcome.Left (filled w.reference) left
 
-IsOfOpen : Outcome → Type 0
-IsOfOpen outcome.AsItIs = ⊥
-IsOfOpen outcome.InBook = Unit {0}
-IsOfOpen (outcome.Retried r) = Unit {0}
-IsOfOpen outcome.Doubled = Unit {0}
-IsOfOpen (outcome.Filled r) = Unit {0}
-IsOfOpen outcome.Left = Unit {0}
+pub by_last : (P : Outcome → Type 0) (today : ℕ) (held : Held) (lines : List Line) (line : Line) → P outcome.Doubled
+    → P outcome.Left → ((r : List ℕ) → P (outcome.Filled r))
+    → P (cond (is_doubled held lines line) outcome.Doubled (fill today held lines line))
+by_last P today held lines line doubled left filled =
+    chosen P (is_doubled held lines line) outcome.Doubled (fill today held lines line) doubled
+    (by_fill P today held lines line left filled)
+
+-- Whether a line is open, by its outcome.
 
 abbrev pub HasOpenness : Line → Outcome → Type 0
 HasOpenness line outcome.AsItIs = is_open line ≡ false
@@ -42,64 +43,23 @@ HasOpenness line outcome.Doubled = is_open line ≡ true
 HasOpenness line (outcome.Filled r) = is_open line ≡ true
 HasOpenness line outcome.Left = is_open line ≡ true
 
-unless_of_open : (found : Option (List ℕ)) (other : Outcome) → IsOfOpen other → IsOfOpen (unless_exception found other)
-unfolding IsOfOpen
-unless_of_open None other h = h
-unless_of_open (Some r) other h = tt
-
-filled_of_open : (today : ℕ) (held : Held) (lines : List Line) (found : Option Waiting)
-    → IsOfOpen (filled_with today held lines found)
-unfolding IsOfOpen
-filled_of_open today held lines None = tt
-filled_of_open today held lines (Some w) =
-    chosen IsOfOpen (is_fitted_once today lines w && not (is_claimed held.exceptions lines w.reference))
-    (outcome.Filled w.reference) outcome.Left tt tt
-
-fill_of_open : (today : ℕ) (held : Held) (lines : List Line) (line : Line) → IsOfOpen (fill today held lines line)
-unfolding IsOfOpen
-fill_of_open today held lines line =
-    subst IsOfOpen (sym (fill-is today held lines line))
-    (chosen IsOfOpen (not (is_beside_booked held line) && count_by (fits today line) held.waiting == 1)
-    (filled_with today held lines (find (fits today line) held.waiting)) outcome.Left
-    (filled_of_open today held lines (find (fits today line) held.waiting)) tt)
-
--- what becomes of an open line
-open_outcome : ℕ → Held → List Line → Line → Outcome
-open_outcome today held lines line =
-    cond (is_in_book held lines line) outcome.InBook
-    (unless_exception (exception_reference held.exceptions line)
-    (cond (is_doubled held lines line) outcome.Doubled (fill today held lines line)))
-
-open_of_open : (today : ℕ) (held : Held) (lines : List Line) (line : Line)
-    → IsOfOpen (open_outcome today held lines line)
-unfolding IsOfOpen open_outcome
-open_of_open today held lines line =
-    chosen IsOfOpen (is_in_book held lines line) outcome.InBook _ tt
-    (unless_of_open (exception_reference held.exceptions line) _
-    (chosen IsOfOpen (is_doubled held lines line) outcome.Doubled (fill today held lines line) tt
-    (fill_of_open today held lines line)))
-
-openness_by : (line : Line) (o : Outcome) → IsOfOpen o → is_open line ≡ true → HasOpenness line o
-unfolding IsOfOpen
-openness_by line outcome.AsItIs miss e = absurd miss
-openness_by line outcome.InBook miss e = e
-openness_by line (outcome.Retried r) miss e = e
-openness_by line outcome.Doubled miss e = e
-openness_by line (outcome.Filled r) miss e = e
-openness_by line outcome.Left miss e = e
-
-openness_from : (line : Line) (o : Outcome) (b : Bool) → is_open line ≡ b → IsOfOpen o
-    → HasOpenness line (cond (not b) outcome.AsItIs o)
-openness_from line o true e h = openness_by line o h e
-openness_from line o false e h = e
-
 pub openness : (today : ℕ) (held : Held) (lines : List Line) (line : Line)
     → HasOpenness line (becomes today held lines line)
-unfolding open_outcome
 openness today held lines line =
-    subst (HasOpenness line) (sym (becomes-is today held lines line))
-    (openness_from line (open_outcome today held lines line) (is_open line) refl
-    (open_of_open today held lines line))
+    subst (HasOpenness line) (sym (becomes-is today held lines line)) (by (is_open line) refl)
+  where
+    unless : (found : Option (List ℕ)) → is_open line ≡ true → HasOpenness line
+        (unless_exception found (cond (is_doubled held lines line) outcome.Doubled (fill today held lines line)))
+    unless None e = by_last (HasOpenness line) today held lines line e e (λ r. e)
+    unless (Some r) e = e
+
+    by : (b : Bool) → is_open line ≡ b → HasOpenness line (cond (not b) outcome.AsItIs
+        (cond (is_in_book held lines line) outcome.InBook (unless_exception (exception_reference held.exceptions line)
+        (cond (is_doubled held lines line) outcome.Doubled (fill today held lines line)))))
+    by true e =
+        chosen (HasOpenness line) (is_in_book held lines line) outcome.InBook _ e
+        (unless (exception_reference held.exceptions line) e)
+    by false e = e
 
 -- Nothing but references changes.
 
@@ -123,11 +83,6 @@ only_references_change today held lines = written_by today held lines lines
 
 -- A reference that a record has by itself.
 
-claimed_closed : (exceptions : List Line) (line : Line) → is_open line ≡ false
-    → claimed_reference exceptions line ≡ line.reference
-claimed_closed exceptions line e =
-    ap (λ b. cond b (unwrap_or (exception_reference exceptions line) []) line.reference) e
-
 claimed_open : (exceptions : List Line) (line : Line) (reference : List ℕ) → is_open line ≡ true
     → exception_reference exceptions line ≡ Some reference → claimed_reference exceptions line ≡ reference
 claimed_open exceptions line reference e found =
@@ -143,24 +98,6 @@ IsNoRetry outcome.Doubled = Unit {0}
 IsNoRetry (outcome.Filled r) = Unit {0}
 IsNoRetry outcome.Left = Unit {0}
 
-filled_no_retry : (today : ℕ) (held : Held) (lines : List Line) (found : Option Waiting)
-    → IsNoRetry (filled_with today held lines found)
-unfolding IsNoRetry
-filled_no_retry today held lines None = tt
-filled_no_retry today held lines (Some w) =
-    chosen IsNoRetry (is_fitted_once today lines w && not (is_claimed held.exceptions lines w.reference))
-    (outcome.Filled w.reference) outcome.Left tt tt
-
-last_no_retry : (today : ℕ) (held : Held) (lines : List Line) (line : Line)
-    → IsNoRetry (cond (is_doubled held lines line) outcome.Doubled (fill today held lines line))
-unfolding IsNoRetry
-last_no_retry today held lines line =
-    chosen IsNoRetry (is_doubled held lines line) outcome.Doubled (fill today held lines line) tt
-    (subst IsNoRetry (sym (fill-is today held lines line))
-    (chosen IsNoRetry (not (is_beside_booked held line) && count_by (fits today line) held.waiting == 1)
-    (filled_with today held lines (find (fits today line) held.waiting)) outcome.Left
-    (filled_no_retry today held lines (find (fits today line) held.waiting)) tt))
-
 retried_by : (found : Option (List ℕ)) (other : Outcome) (reference : List ℕ) → IsNoRetry other
     → unless_exception found other ≡ outcome.Retried reference → found ≡ Some reference
 unfolding IsNoRetry
@@ -171,12 +108,14 @@ retried_by (Some r) other reference h e = cc
 pub retried_of : (today : ℕ) (held : Held) (lines : List Line) (line : Line) (reference : List ℕ)
     → becomes today held lines line ≡ outcome.Retried reference
     → exception_reference held.exceptions line ≡ Some reference
+unfolding IsNoRetry
 retried_of today held lines line reference e =
     let again = outcome.Retried reference in
     let all = sym (becomes-is today held lines line) ∙ e in
     let opened = second_gave (not (is_open line)) outcome.AsItIs _ again (λ clash. cc) all in
     let new = second_gave (is_in_book held lines line) outcome.InBook _ again (λ clash. cc) opened.1 in
-    retried_by (exception_reference held.exceptions line) _ reference (last_no_retry today held lines line) new.1
+    retried_by (exception_reference held.exceptions line) _ reference
+    (by_last IsNoRetry today held lines line tt tt (λ r. tt)) new.1
 
 -- a record with the reference makes that claimed
 claims : (exceptions lines : List Line) (k : ℕ) (d : Line) (reference : List ℕ) → k < length lines
@@ -186,13 +125,6 @@ claims exceptions lines k d reference lt e =
     ((bytes_eq-Decides (claimed_reference exceptions (get_or lines k d)) reference).1 e)
 
 -- No entry is named twice.
-
-only_one : (y x : Line) → Contains (y ∷ []) x → y ≡ x
-only_one y x (zero, lt, is) = is
-only_one y x (suc k, lt, is) = absurd (omega arith)
-
-none_there : (x : Line) → Contains [] x → ⊥
-none_there x (k, lt, is) = omega arith
 
 -- two lines at two places are not both sure of one entry
 not_both : (today : ℕ) (held : Held) (lines : List Line) (i k : ℕ) (d : Line) (w v : Waiting)
@@ -227,14 +159,14 @@ clash_by : (today : ℕ) (held : Held) (lines : List Line) (i k : ℕ) (d x : Li
     → x.reference ≡ w.reference → ⊥
 clash_by today held lines i k d x w outcome.AsItIs apart li lk differ sure e there is =
     let closed = subst (HasOpenness (get_or lines k d)) e (openness today held lines (get_or lines k d)) in
-    let same = only_one (get_or lines k d) x there in
+    let same = the_one (get_or lines k d) x there in
     let claimed = claims held.exceptions lines k d w.reference lk
     (claimed_closed held.exceptions (get_or lines k d) closed ∙ ap (λ (y : Line). y.reference) same ∙ is) in
     let free = sure.unclaimed in cc
 clash_by today held lines i k d x w outcome.InBook apart li lk differ sure e there is = none_there x there
 clash_by today held lines i k d x w (outcome.Retried r) apart li lk differ sure e there is =
     let opened = subst (HasOpenness (get_or lines k d)) e (openness today held lines (get_or lines k d)) in
-    let same = only_one (with_reference r (get_or lines k d)) x there in
+    let same = the_one (with_reference r (get_or lines k d)) x there in
     let claimed = claims held.exceptions lines k d w.reference lk
     (claimed_open held.exceptions (get_or lines k d) r opened
     (retried_of today held lines (get_or lines k d) r e)
@@ -243,7 +175,7 @@ clash_by today held lines i k d x w (outcome.Retried r) apart li lk differ sure 
 clash_by today held lines i k d x w outcome.Doubled apart li lk differ sure e there is = none_there x there
 clash_by today held lines i k d x w (outcome.Filled r) apart li lk differ sure e there is =
     let other = sure_of today held lines (get_or lines k d) r e in
-    let same = only_one (with_reference r (get_or lines k d)) x there in
+    let same = the_one (with_reference r (get_or lines k d)) x there in
     not_both today held lines i k d w other.0 apart li lk differ sure other.1
     (sym other.2 ∙ ap (λ (y : Line). y.reference) same ∙ is)
 clash_by today held lines i k d x w outcome.Left apart li lk differ sure e there is = none_there x there

@@ -139,16 +139,12 @@ impl<'a, 'b> EntryIndex<'a, 'b> {
         requires { marks.now ≡ marks_from 0 entries.now }
         ensures { IfOk result (λ index. index ≡ entries.now) }
     {
-        let amounts = by_amount(alloc, entries)?;
-        let references = by_reference(alloc, entries)?;
-        let days = by_day(alloc, entries)?;
-        let marks = by_mark(alloc, marks)?;
         Ok(EntryIndex {
             entries,
-            amounts,
-            references,
-            days,
-            marks,
+            amounts: by_amount(alloc, entries)?,
+            references: by_reference(alloc, entries)?,
+            days: by_day(alloc, entries)?,
+            marks: by_mark(alloc, marks)?,
         })
     }
 

@@ -1,76 +1,162 @@
 // Collects what is known of a book, row by row.
 
-ghost use Rattle.std.specs.Prelude.{◌≡◌, IfOk, OnOk, OnErr};
+ghost use Rattle.std.specs.Prelude.{◌≡◌, ◌++◌, IfOk, OnOk, OnErr, option_copied, unwrap_or, []};
 ghost use Rattle.firm_rows.specs.Firm.{EntryRow};
 ghost use Rattle.trust_store.specs.Calls.{IsRead};
-ghost use Rattle.statement_match.specs.Entries.{book_entry as entry_with, know_exception, know_own_line, know_row};
-ghost use Rattle.statement_match.specs.Entries.{known_of, none_known, since_of as since_day};
-ghost use Rattle.statement_match.specs.Entries.{told_deposit as deposit_told, told_entries as entries_told};
-ghost use Rattle.statement_match.specs.Entries.{told_payment as payment_told};
+ghost use Rattle.statement_csv.specs.References.{reference_text};
+ghost use Rattle.statement_lines.specs.Waiting.{Waiting, waiting_deposit, waiting_payment};
+ghost use Rattle.statement_match.specs.Books.{booked_by, entry_bookings, entry_waiting};
+ghost use Rattle.statement_match.specs.Entries.{book_entry, deposit_in, know_exception, know_own_line, know_row};
+ghost use Rattle.statement_match.specs.Entries.{known_of, none_known, payment_in, since_of as since_day};
+ghost use Rattle.statement_match.specs.Entries.{told_entries as entries_told};
 
-use crate::collecting::{Collector, reference_of};
 use byte_streams::OwnedBytes;
-use firm_rows::{ExceptionSink, FirmLine, FirmLineSink, RowSink};
-use matter_rows::{Clearing, Deposit, DepositState, Entry, Head, Payment, PaymentState, Seat};
-use statement_lines::{BookEntry, EntryState, Known, WaitingEntry};
+use firm_rows::{ExceptionSink, FirmLine, FirmLineSink, MatterRow, MatterRowSink};
+use matter_rows::{Clearing, Deposit, DepositState, Entry, Payment, PaymentState};
+use statement_lines::{BookEntry, Booking, EntryState, Held, Known, WaitingEntry};
 use std::alloc::{AllocError, Global};
 use std::marker::Model;
-use trust_base::{Day, EntryNo, Label, Line, MatterNo, StoreFault};
+use trust_base::{BankText, Day, EntryNo, Label, Line, MatterNo, StoreFault};
 use trust_store::Book;
 
-fn book_entry(
-    entry: WaitingEntry,
-    state: EntryState,
-    day: Day,
-    bank_ref: OwnedBytes,
-    party: Label,
-) -> BookEntry
-    ensures { result ≡ entry_with entry state day bank_ref party }
+// Writes the reference that names an entry, as bytes.
+fn reference_bytes(alloc: Global, matter: MatterNo, entry: EntryNo) -> Result<Vec<u8>, AllocError>
+    ensures { IfOk result (λ bytes. bytes.items ≡ reference_text matter entry) }
 {
-    BookEntry {
-        entry,
-        state,
-        day,
-        bank_ref,
-        party,
+    let mut bytes = Vec::new(alloc);
+    bytes.push(b'M')?;
+    matter.write_to(&mut bytes)?;
+    bytes.push(b'-')?;
+    entry.write_to(&mut bytes)?;
+    Ok(bytes)
+}
+
+// Returns the reference that names an entry.
+fn reference_of(alloc: Global, matter: MatterNo, entry: EntryNo) -> Result<BankText, AllocError>
+    ensures { IfOk result (λ reference. reference ≡ reference_text matter entry) }
+{
+    let bytes = reference_bytes(alloc, matter, entry)?;
+    match BankText::from_vec(bytes) {
+        Ok(reference) => Ok(reference),
+        Err(_) => unreachable!(),
     }
 }
 
-// Returns the bank's reference of a line.
-fn bank_ref_of(clearing: &Clearing) -> Result<OwnedBytes, AllocError>
-    ensures { IfOk result (λ bytes. bytes ≡ clearing.now.bank_ref) }
-{
-    let bank_ref = clearing.bank_ref.copied()?;
-    Ok(OwnedBytes::new(bank_ref.into_vec()))
-}
-
-fn told_deposit(
+// Returns a deposit as lines are compared with it: what it would be if it waited.
+fn deposit_waiting(
     alloc: Global,
+    d: &Deposit,
     matter: MatterNo,
     number: EntryNo,
-    d: &Deposit,
-) -> Result<BookEntry, AllocError>
-    ensures { IfOk result (λ e. e ≡ deposit_told matter number d.now) }
+) -> Result<WaitingEntry, AllocError>
+    ensures { IfOk result (λ w. w
+        ≡ waiting_deposit (reference_text matter number) d.now.amount d.now.source d.now.description) }
 {
     let reference = reference_of(alloc, matter, number)?;
-    let source = d.source.as_slice();
-    let description = d.description.as_slice();
-    let entry = WaitingEntry::deposit(alloc, reference, d.amount, source, description)?;
-    let party = d.source.copied()?;
-    let none = OwnedBytes::new(Vec::new(alloc));
+    WaitingEntry::deposit(
+        alloc,
+        reference,
+        d.amount,
+        d.source.as_slice(),
+        d.description.as_slice(),
+    )
+}
+
+// Returns a payment as lines are compared with it: what it would be if it had waited since this day.
+fn payment_waiting(
+    alloc: Global,
+    p: &Payment,
+    since: Day,
+    matter: MatterNo,
+    number: EntryNo,
+) -> Result<WaitingEntry, AllocError>
+    ensures { IfOk result (λ w. w
+        ≡ waiting_payment (reference_text matter number) p.now.amount since p.now.instrument) }
+{
+    let reference = reference_of(alloc, matter, number)?;
+    WaitingEntry::payment(alloc, reference, p.amount, since, p.instrument.as_slice())
+}
+
+// Returns the entry if it waits for the bank.
+fn waiting_of(
+    alloc: Global,
+    matter: MatterNo,
+    entry: &Entry,
+    number: EntryNo,
+) -> Result<Vec<WaitingEntry>, AllocError>
+    ensures { IfOk result (λ found. found.items ≡ entry_waiting matter number entry.now) }
+{
+    let mut found = Vec::new(alloc);
+    match entry {
+        Entry::Deposit(d) => {
+            if let DepositState::Held = &d.state {
+                found.push(deposit_waiting(alloc, d, matter, number)?)?;
+            }
+        }
+        Entry::Payment(p) => {
+            if let PaymentState::Issued(day) = &p.state {
+                found.push(payment_waiting(alloc, p, *day, matter, number)?)?;
+            }
+        }
+        Entry::Fee(_) | Entry::Claim(_) => {}
+    }
+    Ok(found)
+}
+
+// The bank line that the book has for an entry.
+fn booked(clearing: &Clearing, amount: i64) -> Result<Booking, AllocError>
+    ensures { IfOk result (λ booking. booking ≡ booked_by clearing.now amount) }
+{
+    let bank_ref = clearing.bank_ref.copied()?;
+    Ok(Booking {
+        date: clearing.bank_day,
+        bank_ref,
+        amount,
+    })
+}
+
+// Returns the bank lines that are booked for an entry.
+fn bookings_of(alloc: Global, entry: &Entry) -> Result<Vec<Booking>, AllocError>
+    ensures { IfOk result (λ found. found.items ≡ entry_bookings entry.now) }
+{
+    let mut found = Vec::new(alloc);
+    match entry {
+        Entry::Deposit(d) => {
+            let amount = d.amount.get() as i64;
+            match &d.state {
+                DepositState::Cleared(clearing) => found.push(booked(clearing, amount)?)?,
+                DepositState::Returned(back) => {
+                    found.push(booked(&back.clearing, amount)?)?;
+                    found.push(booked(&back.returning, -amount)?)?;
+                }
+                DepositState::Held | DepositState::Cancelled(_) => {}
+            }
+        }
+        Entry::Payment(p) => {
+            if let PaymentState::Cleared(paid) = &p.state {
+                found.push(booked(&paid.clearing, -(p.amount.get() as i64))?)?;
+            }
+        }
+        Entry::Fee(_) | Entry::Claim(_) => {}
+    }
+    Ok(found)
+}
+
+// The state of an entry, the day of the state, and the bank's reference of the line that reported it, if one did.
+type StateOf<'a> = (EntryState, Day, Option<&'a BankText>);
+
+fn deposit_state(d: &Deposit) -> StateOf<'_>
+    ensures { (w : Waiting)
+        → book_entry w result.0 result.1 (unwrap_or (option_copied result.2) []) d.now.source
+        ≡ deposit_in w d.now d.now.state }
+{
     match &d.state {
-        DepositState::Held => Ok(book_entry(entry, EntryState::Held, d.book, none, party)),
-        DepositState::Cancelled(day) => {
-            Ok(book_entry(entry, EntryState::Cancelled, *day, none, party))
-        }
-        DepositState::Cleared(c) => {
-            let bank_ref = bank_ref_of(c)?;
-            Ok(book_entry(entry, EntryState::Cleared, c.bank_day, bank_ref, party))
-        }
+        DepositState::Held => (EntryState::Held, d.book, None),
+        DepositState::Cancelled(day) => (EntryState::Cancelled, *day, None),
+        DepositState::Cleared(line) => (EntryState::Cleared, line.bank_day, Some(&line.bank_ref)),
         DepositState::Returned(back) => {
-            let bank_ref = bank_ref_of(&back.returning)?;
-            let day = back.returning.bank_day;
-            Ok(book_entry(entry, EntryState::Returned, day, bank_ref, party))
+            let line = &back.returning;
+            (EntryState::Returned, line.bank_day, Some(&line.bank_ref))
         }
     }
 }
@@ -87,48 +173,67 @@ fn since_of(p: &Payment) -> Day
     }
 }
 
-fn told_payment(
-    alloc: Global,
-    matter: MatterNo,
-    number: EntryNo,
-    p: &Payment,
-) -> Result<BookEntry, AllocError>
-    ensures { IfOk result (λ e. e ≡ payment_told matter number p.now) }
+fn payment_state(p: &Payment) -> StateOf<'_>
+    ensures { (w : Waiting)
+        → book_entry w result.0 result.1 (unwrap_or (option_copied result.2) []) p.now.payee
+        ≡ payment_in w p.now p.now.state }
 {
-    let reference = reference_of(alloc, matter, number)?;
-    let instrument = p.instrument.as_slice();
-    let entry = WaitingEntry::payment(alloc, reference, p.amount, since_of(p), instrument)?;
-    let party = p.payee.copied()?;
-    let none = OwnedBytes::new(Vec::new(alloc));
     match &p.state {
-        PaymentState::Proposed => Ok(book_entry(entry, EntryState::Proposed, p.book, none, party)),
-        PaymentState::Declined => Ok(book_entry(entry, EntryState::Declined, p.book, none, party)),
-        PaymentState::Issued(day) => Ok(book_entry(entry, EntryState::Issued, *day, none, party)),
+        PaymentState::Issued(day) => (EntryState::Issued, *day, None),
+        PaymentState::Proposed => (EntryState::Proposed, p.book, None),
+        PaymentState::Declined => (EntryState::Declined, p.book, None),
+        PaymentState::Voided(voided) => (EntryState::Voided, voided.undone, None),
         PaymentState::Cleared(paid) => {
-            let bank_ref = bank_ref_of(&paid.clearing)?;
-            let day = paid.clearing.bank_day;
-            Ok(book_entry(entry, EntryState::Cleared, day, bank_ref, party))
-        }
-        PaymentState::Voided(voided) => {
-            Ok(book_entry(entry, EntryState::Voided, voided.undone, none, party))
+            let line = &paid.clearing;
+            (EntryState::Cleared, line.bank_day, Some(&line.bank_ref))
         }
     }
+}
+
+// Returns an entry with its state, and its source or payee.
+fn told(
+    alloc: Global,
+    entry: WaitingEntry,
+    now: StateOf<'_>,
+    party: &Label,
+) -> Result<BookEntry, AllocError>
+    ensures { IfOk result (λ e. e
+        ≡ book_entry entry now.entry.0 now.entry.1 (unwrap_or (option_copied now.entry.2) []) party.now) }
+{
+    let (state, day, reported) = now;
+    let bank_ref = match reported {
+        Some(bank_ref) => bank_ref.copied()?.into_vec(),
+        None => Vec::new(alloc),
+    };
+    Ok(BookEntry {
+        entry,
+        state,
+        day,
+        bank_ref: OwnedBytes::new(bank_ref),
+        party: party.copied()?,
+    })
 }
 
 // Returns the entry if it is a deposit or a payment.
 fn told_entries(
     alloc: Global,
+    entry: &Entry,
     matter: MatterNo,
     number: EntryNo,
-    entry: &Entry,
 ) -> Result<Vec<BookEntry>, AllocError>
     ensures { IfOk result (λ found. found.items ≡ entries_told matter number entry.now) }
 {
     let mut found = Vec::new(alloc);
     match entry {
-        Entry::Deposit(d) => found.push(told_deposit(alloc, matter, number, d)?)?,
-        Entry::Payment(p) => found.push(told_payment(alloc, matter, number, p)?)?,
         Entry::Fee(_) | Entry::Claim(_) => {}
+        Entry::Deposit(d) => {
+            let waiting = deposit_waiting(alloc, d, matter, number)?;
+            found.push(told(alloc, waiting, deposit_state(d), &d.source)?)?;
+        }
+        Entry::Payment(p) => {
+            let waiting = payment_waiting(alloc, p, since_of(p), matter, number)?;
+            found.push(told(alloc, waiting, payment_state(p), &p.payee)?)?;
+        }
     }
     Ok(found)
 }
@@ -139,8 +244,10 @@ fn told_entries(
 #[derive(Drop)]
 struct KnownCollector {
     alloc: Global,
-    collector: Collector,
     entries: Vec<BookEntry>,
+    waiting: Vec<WaitingEntry>,
+    bookings: Vec<Booking>,
+    exceptions: Vec<Line>,
 }
 
 impl Model for KnownCollector {
@@ -148,7 +255,10 @@ impl Model for KnownCollector {
 
     ghost Value = { Known };
 
-    ghost view = { λ c. record { held = c.collector; entries = c.entries.items } };
+    ghost view = { λ c. record {
+      held = record { waiting = c.waiting.items; bookings = c.bookings.items; exceptions = c.exceptions.items };
+      entries = c.entries.items;
+    } };
 }
 
 impl KnownCollector {
@@ -157,11 +267,14 @@ impl KnownCollector {
     {
         KnownCollector {
             alloc,
-            collector: Collector::new(alloc),
             entries: Vec::new(alloc),
+            waiting: Vec::new(alloc),
+            bookings: Vec::new(alloc),
+            exceptions: Vec::new(alloc),
         }
     }
 
+    // Adds what is known of an entry, or nothing if memory runs out.
     fn add_entry(
         &mut self,
         matter: MatterNo,
@@ -171,11 +284,19 @@ impl KnownCollector {
         ensures ok { OnOk result (self.new ≡ know_row self.old (matter, EntryRow number entry.now)) }
         ensures err { OnErr result (self.new ≡ self.old) }
     {
-        let mut told = told_entries(self.alloc, matter, number, entry)?;
-        let before = self.entries.len();
+        let mut told = told_entries(self.alloc, entry, matter, number)?;
+        let mut waiting = waiting_of(self.alloc, matter, entry, number)?;
+        let mut bookings = bookings_of(self.alloc, entry)?;
+        let entries_before = self.entries.len();
         self.entries.append(&mut told)?;
-        if let Err(error) = self.collector.add_entry(matter, number, entry) {
-            self.entries.truncate(before);
+        let waiting_before = self.waiting.len();
+        if let Err(error) = self.waiting.append(&mut waiting) {
+            self.entries.truncate(entries_before);
+            return Err(error);
+        }
+        if let Err(error) = self.bookings.append(&mut bookings) {
+            self.entries.truncate(entries_before);
+            self.waiting.truncate(waiting_before);
             return Err(error);
         }
         Ok(())
@@ -186,30 +307,21 @@ impl KnownCollector {
         ensures { result ≡ self }
     {
         Known {
-            held: self.collector.finish(),
+            held: Held::new(self.waiting, self.bookings, self.exceptions),
             entries: self.entries,
         }
     }
 }
 
-impl RowSink for KnownCollector {
-    ghost stepped = { know_row };
+impl MatterRowSink for KnownCollector {
+    ghost taken = { know_row };
 
-    fn head(&mut self, _matter: MatterNo, _head: &Head) -> Result<(), AllocError> {
-        Ok(())
-    }
-
-    fn seat(&mut self, _matter: MatterNo, _seat: &Seat) -> Result<(), AllocError> {
-        Ok(())
-    }
-
-    fn entry(
-        &mut self,
-        matter: MatterNo,
-        number: EntryNo,
-        entry: &Entry,
-    ) -> Result<(), AllocError> {
-        self.add_entry(matter, number, entry)
+    fn matter_row(&mut self, matter: MatterNo, row: MatterRow<'_>) -> Result<(), AllocError> {
+        match row {
+            MatterRow::Head(_head) => Ok(()),
+            MatterRow::Seat(_seat) => Ok(()),
+            MatterRow::Entry(number, entry) => self.add_entry(matter, number, entry),
+        }
     }
 }
 
@@ -217,7 +329,8 @@ impl ExceptionSink for KnownCollector {
     ghost noted = { know_exception };
 
     fn exception(&mut self, line: &Line) -> Result<(), AllocError> {
-        self.collector.add_exception(line)
+        self.exceptions.push(line.copied()?)?;
+        Ok(())
     }
 }
 
@@ -225,7 +338,13 @@ impl FirmLineSink for KnownCollector {
     ghost lined = { know_own_line };
 
     fn firm_line(&mut self, line: &FirmLine) -> Result<(), AllocError> {
-        self.collector.add_own_line(line)
+        let bank_ref = line.bank_ref.copied()?;
+        self.bookings.push(Booking {
+            date: line.date,
+            bank_ref,
+            amount: line.amount.get(),
+        })?;
+        Ok(())
     }
 }
 

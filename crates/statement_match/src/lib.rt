@@ -1,7 +1,6 @@
 //! Finds the entries that the lines of a bank's own file belong to, if the bank's words leave no doubt.
 #![tactic(auto)]
 
-mod collecting;
 mod day_sums;
 mod entry_index;
 mod grounds;
@@ -12,7 +11,6 @@ mod phrase;
 mod reason;
 mod reason_text;
 mod rule;
-mod statement;
 mod unmatched;
 
 pub use matched::{Matched, match_statement};

@@ -1,15 +1,17 @@
 // Matches a statement whose references may be empty against a book.
 
-ghost use Rattle.std.specs.Prelude.{◌≡◌, IfOk};
+ghost use Rattle.std.specs.Prelude.{◌≡◌, ℕ, IfOk};
 ghost use Rattle.trust_store.specs.Calls.{IsRead};
+ghost use Rattle.statement_lines.specs.Held.{Held};
 ghost use Rattle.statement_lines.specs.Records.{records_of};
 ghost use Rattle.statement_match.specs.Matched.{matched, matched_by as matched_by_known};
+ghost use Rattle.statement_match.specs.Rule.{outcomes as outcomes_told};
+ghost use Rattle.statement_match.specs.Statements.{statement_text};
 
 use crate::knowing::known_in;
 use crate::rule::outcomes_by;
-use crate::statement::statement_of;
 use crate::unmatched::unmatched_of;
-use statement_lines::{Index, Known, Records, records_in};
+use statement_lines::{Index, Known, Outcome, Records, records_in, write_statement};
 use std::alloc::{AllocError, Global};
 use std::marker::Model;
 use trust_base::{Day, StoreFault};
@@ -20,13 +22,13 @@ use trust_store::Book;
 /// Contracts see it as its two texts, and whether a person has to look at something.
 #[derive(Drop)]
 pub struct Matched {
+    /// Whether a person has to look at a record.
+    pub is_left: bool,
     /// The statement for the import, in CSV: records with a reference unchanged, and records without one that are sure,
     /// with the reference of their entry.
     pub statement: Vec<u8>,
     /// The report on the records: a line for each that a person has to look at, and the counts in the last line.
     pub unmatched: Vec<u8>,
-    /// Whether a person has to look at a record.
-    pub is_left: bool,
 }
 
 impl Model for Matched {
@@ -35,6 +37,21 @@ impl Model for Matched {
     ghost Value = { MatchedTexts };
 
     ghost view = { λ m. record { statement = m.statement.items; unmatched = m.unmatched.items; is_left = m.is_left } };
+}
+
+// Returns the statement for the import. `records` are those of a statement whose references may be empty, and each line
+// has an outcome.
+fn statement_of(
+    alloc: Global,
+    records: &Records,
+    outcomes: &[Outcome],
+    statement: &[u8],
+) -> Result<Vec<u8>, AllocError>
+    requires { records.now ≡ records_of statement.now }
+    ensures { (today : ℕ) (held : Held) → outcomes.now ≡ outcomes_told today held records.now.lines
+        → IfOk result (λ text. text.items ≡ statement_text today held statement.now) }
+{
+    write_statement(alloc, statement, records, outcomes)
 }
 
 // Matches a statement with these records against what is known of a book.
@@ -50,7 +67,7 @@ fn matched_by(
 {
     let index = Index::of(alloc, &known.held, &records.lines)?;
     let outcomes = outcomes_by(alloc, today, &index)?;
-    let text = statement_of(alloc, statement, records, &outcomes)?;
+    let text = statement_of(alloc, records, &outcomes, statement)?;
     let told = unmatched_of(alloc, today, known, records, index, &outcomes)?;
     Ok(Matched {
         statement: text,

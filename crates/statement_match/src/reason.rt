@@ -50,32 +50,6 @@ pub(crate) enum Reason {
     NamesNone,
 }
 
-// Whether one of the given entries is in this relation to a line.
-fn is_related_among(
-    found: &[(u64, &BookEntry)],
-    relation: Relation,
-    today: Day,
-    line: &StatementLine,
-) -> bool
-    ensures { result ≡ list_any (λ e. stands relation today line.now e.1.now) found.now }
-{
-    found
-        .iter()
-        .any(|entry| relation.holds(today, line, entry.1))
-}
-
-/// Whether entries of the book are in this relation to the line.
-pub(crate) fn is_related(relation: Relation, today: Day, grounds: &LineGrounds) -> bool
-    ensures { result ≡ is_related_so relation today grounds.now.known grounds.now.line }
-{
-    is_related_among(
-        grounds.candidates(relation),
-        relation,
-        today,
-        grounds.line(),
-    )
-}
-
 // How many of the given entries are in this relation to a line.
 fn count_related_among(
     found: &[(u64, &BookEntry)],
@@ -101,6 +75,13 @@ pub(crate) fn count_related(relation: Relation, today: Day, grounds: &LineGround
         today,
         grounds.line(),
     )
+}
+
+/// Whether entries of the book are in this relation to the line.
+pub(crate) fn is_related(relation: Relation, today: Day, grounds: &LineGrounds) -> bool
+    ensures { result ≡ is_related_so relation today grounds.now.known grounds.now.line }
+{
+    0 < count_related(relation, today, grounds)
 }
 
 // Returns the first of the given entries that a line fits.

@@ -344,6 +344,7 @@ fn words(relation: Relation) -> &'static str
     ensures { result.now ≡ words_of relation }
 {
     match relation {
+        Relation::HeldOn(_) => "deposits were booked on the day: ",
         Relation::Fitted => "it fits: ",
         Relation::NotWaiting => "the entry that it shows is not waiting for the bank: ",
         Relation::IssuedAfter => "it shows an entry that was issued after it: ",
@@ -352,7 +353,6 @@ fn words(relation: Relation) -> &'static str
         Relation::MaybeReturned => "no payment of its amount; it may be a return of ",
         Relation::Named => "its reference is that of an entry: ",
         Relation::NamedOfAnotherAmount => "its reference is that of an entry of another amount: ",
-        Relation::HeldOn(_) => "deposits were booked on the day: ",
     }
 }
 

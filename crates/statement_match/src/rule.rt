@@ -37,10 +37,7 @@ fn are_at_most(index: &Index, line: &StatementLine, most: usize) -> bool
 fn count_open_like_among(found: &[(u64, &StatementLine)], line: &StatementLine) -> usize
     ensures { result ≡ count_by (λ e. is_open_like line.now e.1.now) found.now }
 {
-    found
-        .iter()
-        .filter(|entry| line.is_open_like(entry.1))
-        .count()
+    found.iter().filter(|one| line.is_open_like(one.1)).count()
 }
 
 /// How many open lines have the date, bank reference and amount of a line.
@@ -48,24 +45,6 @@ pub(crate) fn count_open_like(index: &Index, line: &StatementLine) -> usize
     ensures { result ≡ count_by (is_open_like line.now) index.now.lines }
 {
     count_open_like_among(index.lines_of(line.line()), line)
-}
-
-// Whether several of the given lines are open and have the date, bank reference and amount of a line.
-fn are_several_among(found: &[(u64, &StatementLine)], line: &StatementLine) -> bool
-    ensures { result ≡ nat_lt 1 (count_by (λ e. is_open_like line.now e.1.now) found.now) }
-{
-    1 < found
-        .iter()
-        .filter(|entry| line.is_open_like(entry.1))
-        .take(2)
-        .count()
-}
-
-// Whether several open lines have the date, bank reference and amount of a line.
-fn are_several(index: &Index, line: &StatementLine) -> bool
-    ensures { result ≡ nat_lt 1 (count_by (is_open_like line.now) index.now.lines) }
-{
-    are_several_among(index.lines_of(line.line()), line)
 }
 
 // How many of the given lines of the book have the date, bank reference and amount of a line.
@@ -204,7 +183,7 @@ fn exception_reference_of(
 fn is_doubled(index: &Index, line: &StatementLine) -> bool
     ensures { result ≡ is_doubled_line index.now.held index.now.lines line.now }
 {
-    are_several(index, line) || has_booked_like(index, line.line())
+    !are_at_most(index, line, 1) || has_booked_like(index, line.line())
 }
 
 // Whether a line fits exactly one of the given entries.

@@ -1,5 +1,5 @@
 -- Lines of a bank's statement in their order.
-use Rattle.std.proofs.Common.{◌≡◌, refl, sym}
+use Rattle.trust_base.proofs.Names.{◌≡◌, refl, sym}
 use Rattle.std.specs.Cmp.{IsTotalOrder}
 use Rattle.std.specs.declared.cmp.Ordering.{Ordering}
 use Rattle.std.specs.declared.cmp.Ordering.TheVariants.{Less, Equal, Greater}

@@ -1,13 +1,11 @@
 -- Texts of names, labels and bank lines.
-use Rattle.std.proofs.Common.{◌≡◌, ℕ, List, false, ◌≤◌, length, inl, inr, arith}
+use Rattle.trust_base.proofs.Names.{◌≡◌, ℕ, List, false, ◌≤◌, length, inl, inr, arith, IsUtf8-from_is_utf8, IsLabel, IsPerson, is_label_text, is_person_byte, is_person_text}
 use Rattle.std.specs.List.{AllPass, list_any}
 use Rattle.std.specs.Str.{IsUtf8, chars, is_utf8}
 use Rattle.std.specs.Char.{is_control}
 use Rattle.std.proofs.lemmas.List.Sums.{AllPass-from_list_all}
-use Rattle.std.proofs.lemmas.Str.{IsUtf8-from_is_utf8}
 use Rattle.std.proofs.lemmas.Bool.{cases_Bool}
 use Rattle.trust_base.specs.BankTexts.{IsBankText, IsLineText, is_bank_text, is_line_text, is_printed_byte}
-use Rattle.trust_base.specs.Names.{IsLabel, IsPerson, is_label_text, is_person_byte, is_person_text}
 
 -- the test fails of what is no text
 pub is_utf8-of_other : (bs : List ℕ) → (IsUtf8 bs → ⊥) → is_utf8 bs ≡ false

@@ -1,32 +1,10 @@
 -- No step leaves a firm unsound.
-use Rattle.std.proofs.Common.{◌≡◌, ℕ, List, [], ◌∷◌, Option, Some, None, refl}
-use Rattle.trust_base.specs.declared.refusal.Refusal.{Refusal}
-use Rattle.trust_matter.specs.declared.bank_line.BankLine.{BankLine}
-use Rattle.trust_matter.specs.declared.line_verdict.LineEffect.{LineEffect}
+use Rattle.trust_desk.proofs.Names.{◌≡◌, ℕ, List, [], ◌∷◌, Option, Some, None, refl, Refusal, BankLine, LineEffect, Asked, line_on, last_after, HasAmount, refusal, edit_on, sound-covered, step, Line, BalanceKind, Firm, of, after_edit, after, by_balance, by_firm_line, FirmSound, edit-sound, ledger-least, balance-fits, firm_line-fits, Item, after_told, after_item, after_items, balance_on, firm_line_on, Heard, Kind, OfMatter, OfItems, Dismisses, OnlyTold, NotRead, kind_of, asked_on, after_asked, after_ask, firm_step, kind_step, dismiss_refusal, dismissed_unless, AlwaysSound}
 use Rattle.trust_matter.specs.declared.line_verdict.LineEffect.TheVariants as told
-use Rattle.trust_matter.specs.Facts.{Asked}
-use Rattle.trust_matter.specs.LineStep.{line_on}
-use Rattle.matter_parts.specs.Changes.{last_after}
-use Rattle.trust_matter.specs.Step.{HasAmount, refusal, edit_on}
-use Rattle.matter_rows.proofs.Covered.{sound-covered}
-use Rattle.trust_matter.proofs.Steps.{step}
-use Rattle.trust_base.specs.declared.line.Line.{Line}
-use Rattle.firm_rows.specs.declared.ledger.BalanceKind.{BalanceKind}
 use Rattle.firm_rows.specs.declared.ledger.BalanceKind.TheVariants as kind
-use Rattle.firm_rows.specs.Firm.{Firm, of, after_edit}
-use Rattle.firm_rows.specs.FirmChange.{after, by_balance, by_firm_line}
-use Rattle.firm_rows.specs.FirmSound.{FirmSound}
-use Rattle.firm_rows.proofs.Kept.{edit-sound, ledger-least}
 use Rattle.firm_rows.proofs.FirmChanges.{change-stays-sound}
-use Rattle.firm_rows.proofs.OwnLines.{balance-fits, firm_line-fits}
 use Rattle.firm_rows.proofs.Lines.{match-sound, stray-stays-sound}
-use Rattle.statement_csv.specs.declared.item.Item.{Item}
 use Rattle.statement_csv.specs.declared.item.Item.TheVariants as item
-use Rattle.trust_desk.specs.ItemStep.{after_told, after_item, after_items, balance_on, firm_line_on}
-use Rattle.trust_desk.specs.Heard.{Heard, Kind, OfMatter, OfItems, Dismisses, OnlyTold, NotRead, kind_of, asked_on}
-use Rattle.trust_desk.specs.FirmStep.{after_asked, after_ask, firm_step, kind_step}
-use Rattle.trust_desk.specs.Dismissing.{dismiss_refusal, dismissed_unless}
-use Rattle.trust_desk.specs.Imports.{AlwaysSound}
 use Rattle.trust_desk.specs.NeverBelowZero.{HasAmounts, KindHasAmounts, IsCovered, AlwaysCoveredBy, KindIsCovered, NeverBelowZero, RunsNeverBelowZero}
 use Rattle.trust_desk.proofs.LineFacts.{kept-by_step, line-fits}
 

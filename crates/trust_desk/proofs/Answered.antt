@@ -1,20 +1,5 @@
 -- How a request is answered, by what the calls of the book were.
-use Rattle.std.proofs.Common.{◌≡◌, ◌⊎◌, inl, inr, ◌∙◌, ℕ, Bool, true, false, Ok, Err, Result, refl, ap, sym, subst}
-use Rattle.std.specs.Prelude.{IfOk}
-use Rattle.trust_base.specs.Refusals.{is_fault}
-use Rattle.trust_base.specs.declared.refusal.Refusal.{Refusal}
-use Rattle.trust_matter.specs.declared.ask.Ask.{Ask}
-use Rattle.trust_matter.specs.declared.ask.Caller.{Caller}
-use Rattle.firm_rows.specs.Firm.{Firm, of}
-use Rattle.trust_desk.specs.declared.requests.Reply.{Reply}
-use Rattle.trust_desk.specs.Answered.{IsAnswered}
-use Rattle.trust_desk.specs.Calls.{KeepsBook}
-use Rattle.trust_desk.specs.Counts.{counted_end, counted_reply}
-use Rattle.trust_desk.specs.Crashes.{IsMade, IsOfItems, KindIsMade, MayLeave, MayLeaveChange, is_fault_end}
-use Rattle.trust_desk.specs.FirmStep.{Steps, Stopped, after_ask, after_asked, firm_step, kind_step}
-use Rattle.trust_desk.specs.Heard.{Heard, Kind, OfMatter, asked_on, kind_of}
-use Rattle.trust_desk.specs.Plan.{Ends}
-use Rattle.trust_desk.specs.Replies.{is_fault_reply, refused, replied, reply_for}
+use Rattle.trust_desk.proofs.Names.{◌≡◌, ◌⊎◌, inl, inr, ◌∙◌, ℕ, Bool, true, false, Ok, Err, Result, refl, ap, sym, subst, IfOk, is_fault, Refusal, Ask, Caller, Firm, of, Reply, IsAnswered, KeepsBook, counted_end, counted_reply, IsMade, IsOfItems, KindIsMade, MayLeave, MayLeaveChange, is_fault_end, Steps, Stopped, after_ask, after_asked, firm_step, kind_step, Heard, Kind, OfMatter, asked_on, kind_of, Ends, is_fault_reply, refused, replied, reply_for}
 use Rattle.trust_desk.proofs.Calls.{uncounted}
 use Rattle.trust_desk.proofs.Crashes.{leave-as}
 use Rattle.trust_desk.proofs.MadeRows.{plain-step}

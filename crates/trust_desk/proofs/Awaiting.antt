@@ -1,40 +1,16 @@
 -- An entry that waits for a line of the bank: the line is applied, and lines of other entries leave it as it is.
-use Rattle.std.proofs.Common.{◌≡◌, ◌≢◌, ◌∙◌, sym, ap, ℕ, zero, suc, Bool, true, false, not, cond, ◌&&◌, ◌||◌, List, [], ◌∷◌, Option, Some, None, refl, arith, eqb}
-use Rattle.std.specs.Prelude.{nat_lt, is_none}
-use Rattle.std.specs.List.{Contains}
-use Rattle.std.proofs.lemmas.Bool.{cond-false}
-use Rattle.std.proofs.lemmas.Bool.Decides.{Decides-int_eq, nat_tests}
-use Rattle.trust_base.specs.declared.line.Line.{Line}
-use Rattle.matter_rows.specs.declared.head.Head.{Head}
+use Rattle.trust_desk.proofs.Names.{◌≡◌, ◌≢◌, ◌∙◌, sym, ap, ℕ, zero, suc, Bool, true, false, not, cond, ◌||◌, List, [], ◌∷◌, Option, Some, None, refl, arith, eqb, nat_lt, is_none, Contains, cond-false, Decides-int_eq, nat_tests, Line, Head, Deposit, DepositState, Payment, PaymentState, Entry, Rows, entry_at, is_gone, is_held_state, is_issued_state, is_of_nobody, is_purged, last_of, seen_on, cleared_amount, has_amount_back, has_its_amount, is_cleared_state, is_deposit_cleared_by, is_deposit_returned_by, is_line_again, is_payment_cleared_by, is_return, exceeds, IsBare, IsBareIfPurged, IsHeaded, Sound, entry_at-with, Numbered, changed_by, BankLine, DatedEdit, Reason, LineFacts, after_line_effect, amount_in, awaits_no_line, dated_by, first_reason, has_no_line, is_of_another_amount, is_uncovered, last_by, line_effect, line_facts, line_on, matched, reasons, rows_after_line, told_by, Waiting, entry_waiting, by_waiting, counted_as}
+use Rattle.std.proofs.Common.{◌&&◌}
 use Rattle.matter_rows.specs.declared.head.Holder.{Holder}
 use Rattle.matter_rows.specs.declared.head.Holder.TheVariants as holder
 use Rattle.matter_rows.specs.declared.seat.Seat.{Seat}
-use Rattle.matter_rows.specs.declared.deposit.Deposit.{Deposit}
-use Rattle.matter_rows.specs.declared.deposit.DepositState.{DepositState}
 use Rattle.matter_rows.specs.declared.deposit.DepositState.TheVariants as deposit
-use Rattle.matter_rows.specs.declared.payment.Payment.{Payment}
-use Rattle.matter_rows.specs.declared.payment.PaymentState.{PaymentState}
 use Rattle.matter_rows.specs.declared.payment.PaymentState.TheVariants as payment
-use Rattle.matter_rows.specs.declared.entry.Entry.{Entry}
 use Rattle.matter_rows.specs.declared.entry.Entry.TheVariants as entry
-use Rattle.matter_rows.specs.Rows.{Rows, entry_at, is_gone, is_held_state, is_issued_state, is_of_nobody, is_purged, last_of, seen_on}
-use Rattle.matter_rows.specs.Clearings.{cleared_amount, has_amount_back, has_its_amount, is_cleared_state, is_deposit_cleared_by, is_deposit_returned_by, is_line_again, is_payment_cleared_by, is_return}
-use Rattle.matter_rows.specs.Balances.{exceeds}
-use Rattle.matter_rows.specs.Sound.{IsBare, IsBareIfPurged, IsHeaded, Sound}
-use Rattle.matter_rows.proofs.Entries.{entry_at-with}
 use Rattle.matter_parts.specs.declared.edit.Edit.TheVariants as edit
-use Rattle.matter_parts.specs.declared.edit.Numbered.{Numbered}
-use Rattle.matter_parts.specs.Changes.{changed_by}
-use Rattle.trust_matter.specs.declared.bank_line.BankLine.{BankLine}
-use Rattle.trust_matter.specs.declared.line_verdict.DatedEdit.{DatedEdit}
 use Rattle.trust_matter.specs.declared.line_verdict.LineEffect.TheVariants as told
-use Rattle.trust_matter.specs.declared.line_verdict.Reason.{Reason}
 use Rattle.trust_matter.specs.declared.line_verdict.Reason.TheVariants as reason
-use Rattle.trust_matter.specs.LineStep.{LineFacts, after_line_effect, amount_in, awaits_no_line, dated_by, first_reason, has_no_line, is_of_another_amount, is_uncovered, last_by, line_effect, line_facts, line_on, matched, reasons, rows_after_line, told_by}
-use Rattle.statement_match.specs.Waiting.{Waiting}
-use Rattle.statement_match.specs.Books.{deposit_waiting, entry_waiting, payment_waiting}
 use Rattle.trust_desk.specs.declared.importing.Counted.TheVariants as counted
-use Rattle.trust_desk.specs.ItemStep.{counted_as}
 
 -- What an entry waits for.
 
@@ -67,43 +43,20 @@ issued_awaits p line day issued same = record {
   forward = refl;
 }
 
-none_there : {A : Type 0} (x : A) → Contains [] x → ⊥
-none_there x (k, lt, is) = omega arith
-
-the_one : {A : Type 0} (y x : A) → Contains (y ∷ []) x → y ≡ x
-the_one y x (zero, lt, is) = is
-the_one y x (suc k, lt, is) = absurd (omega arith)
-
 its_amount : (e : Entry) (line : Line) (w : Waiting) → cleared_amount e ≡ w.amount → line.amount ≡ w.amount
     → has_its_amount e line ≡ true
 its_amount e line w cleared same = (Decides-int_eq (cleared_amount e) line.amount).1 (cleared ∙ sym same)
 
-deposit_awaits : (m n : ℕ) (d : Deposit) (w : Waiting) (line : Line) (s : DepositState) → d.state ≡ s
-    → Contains (deposit_waiting m n d s) w → line.amount ≡ w.amount → Awaits (entry.Deposit d) line
-deposit_awaits m n d w line deposit.Held is there same =
-    held_awaits d line is
-    (its_amount (entry.Deposit d) line w (ap (λ (x : Waiting). x.amount) (the_one _ w there)) same)
-deposit_awaits m n d w line (deposit.Cleared c) is there same = absurd (none_there w there)
-deposit_awaits m n d w line (deposit.Cancelled day) is there same = absurd (none_there w there)
-deposit_awaits m n d w line (deposit.Returned r) is there same = absurd (none_there w there)
-
-payment_awaits : (m n : ℕ) (p : Payment) (w : Waiting) (line : Line) (s : PaymentState) → p.state ≡ s
-    → Contains (payment_waiting m n p s) w → line.amount ≡ w.amount → Awaits (entry.Payment p) line
-payment_awaits m n p w line payment.Proposed is there same = absurd (none_there w there)
-payment_awaits m n p w line payment.Declined is there same = absurd (none_there w there)
-payment_awaits m n p w line (payment.Issued day) is there same =
-    issued_awaits p line day is
-    (its_amount (entry.Payment p) line w (ap (λ (x : Waiting). x.amount) (the_one _ w there)) same)
-payment_awaits m n p w line (payment.Cleared c) is there same = absurd (none_there w there)
-payment_awaits m n p w line (payment.Voided v) is there same = absurd (none_there w there)
-
 -- an entry that waits for the bank awaits a line of its amount
 pub entry_awaits : (m n : ℕ) (e : Entry) (w : Waiting) (line : Line) → Contains (entry_waiting m n e) w
     → line.amount ≡ w.amount → Awaits e line
-entry_awaits m n (entry.Deposit d) w line there same = deposit_awaits m n d w line d.state refl there same
-entry_awaits m n (entry.Payment p) w line there same = payment_awaits m n p w line p.state refl there same
-entry_awaits m n (entry.Fee f) w line there same = absurd (none_there w there)
-entry_awaits m n (entry.Claim c) w line there same = absurd (none_there w there)
+entry_awaits m n e w line there same =
+    by_waiting (λ (x : Entry). Awaits x line) m n w
+    (λ d held is. held_awaits d line held
+    (its_amount (entry.Deposit d) line w (ap (λ (x : Waiting). x.amount) is) same))
+    (λ p day issued is. issued_awaits p line day issued
+    (its_amount (entry.Payment p) line w (ap (λ (x : Waiting). x.amount) is) same))
+    e there
 
 -- The line is applied.
 

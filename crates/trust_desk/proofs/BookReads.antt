@@ -1,8 +1,5 @@
 -- Reads of a book, one after the other.
-use Rattle.std.proofs.Common.{◌≡◌, List, Result, subst}
-use Rattle.trust_base.specs.declared.refusal.StoreFault.{StoreFault}
-use Rattle.firm_rows.specs.Firm.{Firm}
-use Rattle.trust_store.specs.Calls.{AreHanded}
+use Rattle.trust_desk.proofs.Names.{◌≡◌, List, Result, subst, StoreFault, Firm, AreHanded}
 
 -- what a later read hands over is of the rows that were there before the first
 pub handed-before : {S A T : Type 0} {step : S → A → S} {IsInRange : A → Type 0} {result : Result T StoreFault} {s t : S} {now old : Firm} (part : Firm → List A)

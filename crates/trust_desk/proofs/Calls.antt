@@ -1,20 +1,8 @@
 -- One call of a book after another, as what a call of the desk leaves of it.
 use Rattle.std.specs.Prelude.{◌≡◌, ℕ, Result, false}
-use Rattle.std.proofs.Common.{◌∙◌, ap, refl, sym}
-use Rattle.std.proofs.lemmas.Bool.{false≢true}
-use Rattle.trust_base.specs.Refusals.{is_fault}
-use Rattle.trust_base.specs.declared.refusal.Refusal.{Refusal}
+use Rattle.trust_desk.proofs.Names.{◌∙◌, ap, refl, sym, false≢true, is_fault, Refusal, StoreFault, Firm, FirmChange, counted, IsRead, IsWrite, Body, KeepsBook, counted_body, counted_refusal, is_fault_body}
 use Rattle.trust_base.specs.declared.refusal.Refusal.TheVariants as refusal
-use Rattle.trust_base.specs.declared.refusal.StoreFault.{StoreFault}
-use Rattle.firm_rows.specs.Firm.{Firm}
-use Rattle.firm_rows.specs.FirmChange.{FirmChange}
-use Rattle.trust_store.specs.Books.{counted}
-use Rattle.trust_store.specs.Calls.{IsRead, IsWrite}
-use Rattle.trust_desk.specs.declared.requests.Body.{Body}
 use Rattle.trust_desk.specs.declared.requests.Body.TheVariants as body
-use Rattle.trust_desk.specs.Calls.{KeepsBook}
-use Rattle.trust_desk.specs.Counts.{counted_body, counted_refusal}
-use Rattle.trust_desk.specs.Replies.{is_fault_body}
 
 pub read-kept : {B T : Type 0} {firm : B → Firm} {clean sure stands lasts : B → Type 0} {leaves : B → Firm → Type 0} {refusals : B → ℕ} {result : Result T StoreFault} {old new : B} → IsRead firm clean sure stands lasts leaves refusals result old new → KeepsBook clean sure stands lasts refusals (counted result) old new
 read-kept read = record { was_clean = read.was_clean; was_sure = read.was_sure; still_stands = read.still_stands; still_lasts = λ sure _ lasts. read.still_lasts sure lasts; cause = λ sure stands. read.count }

@@ -1,11 +1,6 @@
 -- Each item of a statement is counted, once.
-use Rattle.std.proofs.Common.{◌≡◌, ℕ, ◌+◌, List, [], ◌∷◌, length, arith, ◌∙◌}
-use Rattle.firm_rows.specs.Firm.{Firm}
-use Rattle.statement_csv.specs.declared.item.Item.{Item}
-use Rattle.matter_bodies.specs.declared.bodies.ImportReply.{ImportReply}
-use Rattle.trust_desk.specs.declared.importing.Counted.{Counted}
+use Rattle.trust_desk.proofs.Names.{◌≡◌, ℕ, ◌+◌, List, [], ◌∷◌, length, arith, ◌∙◌, Firm, Item, ImportReply, Counted, after_item, counted_of, none_counted, count_item, counts_after, count_sum, EveryItemIsCounted}
 use Rattle.trust_desk.specs.declared.importing.Counted.TheVariants as counted
-use Rattle.trust_desk.specs.ItemStep.{after_item, counted_of, none_counted, count_item, counts_after, count_sum, EveryItemIsCounted}
 
 sum-one : (it : Item) (k : Counted) (c : ImportReply) → count_sum (count_item it k c) ≡ count_sum c + 1
 sum-one it counted.Applied c = omega arith

@@ -1,11 +1,5 @@
 -- What a crash may leave after one call after another.
-use Rattle.std.proofs.Common.{◌≡◌, inl, inr, ◌∙◌, ℕ, Result, Ok, Err, sym, ap}
-use Rattle.std.specs.Prelude.{OnOk, IsOk}
-use Rattle.trust_base.specs.declared.refusal.StoreFault.{StoreFault}
-use Rattle.firm_rows.specs.Firm.{Firm}
-use Rattle.firm_rows.specs.FirmChange.{FirmChange, after}
-use Rattle.trust_store.specs.Calls.{IsRead, IsWrite}
-use Rattle.trust_desk.specs.Crashes.{MayLeave, MayLeaveChange}
+use Rattle.trust_desk.proofs.Names.{◌≡◌, inl, inr, ◌∙◌, ℕ, Result, Ok, Err, sym, ap, OnOk, IsOk, StoreFault, Firm, FirmChange, after, IsRead, IsWrite, MayLeave, MayLeaveChange}
 
 -- No call, and another way to say it.
 

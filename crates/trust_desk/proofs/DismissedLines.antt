@@ -1,17 +1,12 @@
 -- A line that is dismissed from the exceptions.
-use Rattle.std.proofs.Common.{◌≡◌, Bool, true, false, cond, List, [], ◌∷◌, Option, Some, None, refl, ap, ◌∙◌, fold}
+use Rattle.trust_desk.proofs.Names.{◌≡◌, Bool, true, false, cond, List, [], ◌∷◌, Option, Some, None, refl, ap, ◌∙◌, fold, Line, Refusal, first, Firm, without_line, dismiss_refusal, dismissed_unless, is_exception}
 use Rattle.std.specs.Prelude.{not, ◌||◌}
 use Rattle.trust_base.specs.LineOrder.{is_same_line}
-use Rattle.trust_base.specs.declared.line.Line.{Line}
-use Rattle.trust_base.specs.declared.refusal.Refusal.{Refusal}
 use Rattle.trust_base.specs.declared.refusal.Refusal.TheVariants as refusals
 use Rattle.trust_base.specs.declared.refusal.Rule.TheVariants as rule
 use Rattle.trust_matter.specs.declared.ask.Caller.TheVariants.{Cashier}
-use Rattle.trust_matter.specs.Step.{first}
-use Rattle.firm_rows.specs.Firm.{Firm, without_line}
-use Rattle.trust_desk.specs.declared.dismissing.LineSearch.{LineSearch}
+use Rattle.trust_desk.specs.declared.exceptions.LineSearch.{LineSearch}
 use Rattle.trust_desk.specs.Dismissed.{DismissedOnce, DismissingMovesNothing, KeepsAllElse}
-use Rattle.trust_desk.specs.Dismissing.{dismiss_refusal, dismissed_unless, is_exception}
 
 -- A line that is looked for.
 

@@ -1,38 +1,12 @@
 -- Lines that are filled are applied.
-use Rattle.std.proofs.Common.{◌≡◌, ◌≢◌, ◌∙◌, sym, ap, subst, ℕ, suc, ◌+◌, ◌<◌, Bool, true, false, not, cond, ◌==◌, List, [], ◌∷◌, length, Some, None, refl, arith, codes}
-use Rattle.std.specs.Prelude.{IfSome, nat_le, nat_lt}
-use Rattle.std.specs.List.{Contains}
-use Rattle.std.specs.Ordering.{int_eq}
-use Rattle.std.specs.Str.{bytes_eq}
-use Rattle.std.proofs.lemmas.Bool.{and_parts}
-use Rattle.std.proofs.lemmas.Bool.Decides.{Decides-int_eq, nat_tests}
+use Rattle.trust_desk.proofs.Names.{◌≡◌, ◌≢◌, ◌∙◌, sym, ap, subst, ℕ, suc, ◌+◌, ◌<◌, Bool, true, false, not, cond, List, [], ◌∷◌, length, Some, None, refl, arith, IfSome, nat_le, nat_lt, Contains, int_eq, bytes_eq, and_parts, Decides-int_eq, nat_tests, Line, Rows, Entry, BankLine, line_on, rows_after_line, Firm, of, FirmSound, item_by, item_of_line, Item, Waiting, fits, is_other_business, shows, entry_waiting, held_of, HasMatterNumbers, IsSure, with_reference, of_entry, wait_apart, sure_of, front_apart, OwnLine, own_if, own_of_item, after_item, after_items, counted_as, counted_of, FilledLinesAreApplied, items_of, solo_rows}
+use Rattle.std.proofs.Common.{◌==◌, codes}
 use Rattle.trust_base.specs.Limits.{IsEntryNo, IsMatterNo}
-use Rattle.trust_base.specs.declared.line.Line.{Line}
-use Rattle.matter_rows.specs.Rows.{Rows}
-use Rattle.matter_rows.specs.declared.entry.Entry.{Entry}
-use Rattle.trust_matter.specs.declared.bank_line.BankLine.{BankLine}
-use Rattle.trust_matter.specs.LineStep.{line_on, rows_after_line}
-use Rattle.firm_rows.specs.Firm.{Firm, of}
-use Rattle.firm_rows.specs.FirmSound.{FirmSound}
-use Rattle.statement_csv.specs.Items.{item_by, item_of_line}
 use Rattle.statement_csv.specs.References.{entry_named, owner_by, owner_of, reference_text}
-use Rattle.statement_csv.specs.declared.item.Item.{Item}
 use Rattle.statement_csv.specs.declared.item.Item.TheVariants as item
 use Rattle.statement_csv.proofs.NamedFacts.{named-found, named-text}
-use Rattle.statement_match.specs.Waiting.{Waiting}
-use Rattle.statement_match.specs.Showing.{fits, is_other_business, shows}
-use Rattle.statement_match.specs.Books.{entry_waiting, held_of}
-use Rattle.statement_match.specs.FirmLaws.{HasMatterNumbers}
-use Rattle.statement_match.specs.Laws.{IsSure, with_reference}
-use Rattle.statement_match.proofs.Apart.{of_entry, wait_apart}
-use Rattle.statement_match.proofs.Filling.{sure_of}
-use Rattle.statement_match.proofs.Fronts.{front_apart}
 use Rattle.statement_match.proofs.Picks.{found_is_there, found_passes}
-use Rattle.trust_desk.specs.Heard.{OwnLine, own_if, own_of_item}
 use Rattle.trust_desk.specs.declared.importing.Counted.TheVariants as counted
-use Rattle.trust_desk.specs.ItemStep.{after_item, after_items, counted_as, counted_of}
-use Rattle.trust_desk.specs.Matching.{FilledLinesAreApplied, items_of}
-use Rattle.trust_desk.specs.Solo.{solo_rows}
 use Rattle.trust_desk.proofs.Awaiting.{Awaits, Stands, entry_awaits, line_applied, line_keeps, sound_stands}
 use Rattle.trust_desk.proofs.OwnItems.{of-after_item}
 

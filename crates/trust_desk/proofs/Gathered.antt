@@ -1,16 +1,7 @@
 -- What is gathered from a firm's rows, where an entry of a matter stands in the place of another.
-use Rattle.std.proofs.Common.{◌≡◌, sym, subst, ℕ, ◌+◌, ◌-◌, true, false, cond, List, [], ◌∷◌, ◌++◌, Option, Some, None, refl, arith, eqb}
-use Rattle.std.specs.Prelude.{nat_lt}
-use Rattle.std.specs.List.{filter, flat_map}
-use Rattle.std.proofs.lemmas.Bool.{eqb-true}
+use Rattle.trust_desk.proofs.Names.{◌≡◌, sym, subst, ℕ, ◌+◌, ◌-◌, true, false, cond, List, [], ◌∷◌, ◌++◌, Option, Some, None, refl, arith, eqb, nat_lt, filter, flat_map, eqb-true, Head, Entry, Rows, entry_at, seen_on, with_entry, within, changed_by, EntryRow, HeadRow, Row, entry_pairs, head_pairs, pairs, put, seat_pairs}
 use Rattle.std.proofs.lemmas.Grind.{flat_map-append}
-use Rattle.matter_rows.specs.declared.head.Head.{Head}
-use Rattle.matter_rows.specs.declared.entry.Entry.{Entry}
-use Rattle.matter_rows.specs.Rows.{Rows, entry_at, seen_on, with_entry}
-use Rattle.matter_rows.proofs.Entries.{within}
 use Rattle.matter_parts.specs.declared.edit.Edit.TheVariants as edit
-use Rattle.matter_parts.specs.Changes.{changed_by}
-use Rattle.firm_rows.specs.Firm.{EntryRow, HeadRow, Row, entry_pairs, head_pairs, pairs, put, seat_pairs}
 
 -- a relation of what is gathered that each list has to itself, and that goes on behind each other
 module _ {B : Type 0} (f : ℕ × Row → List B) (R : List B → List B → Type 0) (same : (xs : List B) → R xs xs) (both : (a b c d : List B) → R a b → R c d → R (a ++ c) (b ++ d)) where

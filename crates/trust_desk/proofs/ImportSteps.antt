@@ -1,33 +1,11 @@
 -- The course of an import is its step.
-use Rattle.std.proofs.Common.{◌≡◌, ◌⊎◌, inl, inr, ℕ, Bool, true, false, List, [], ◌∷◌, Option, Some, None, Ok, Err, refl, sym, ap, ◌∙◌, subst, append-nil}
-use Rattle.std.specs.Prelude.{nat_lt, length, is_none, unwrap_or}
-use Rattle.std.proofs.lemmas.Bool.{false≢true}
+use Rattle.trust_desk.proofs.Names.{◌≡◌, ◌⊎◌, inl, inr, ℕ, Bool, true, false, List, [], ◌∷◌, Option, Some, None, Ok, Err, refl, sym, ap, ◌∙◌, subst, append-nil, nat_lt, is_none, unwrap_or, false≢true, Refusal, is_fault, Caller, first, Firm, Item, items, LacksHeader, ImportReply, ImportEnd, ImportStop, Import, Json, is_store, counted_refusal, refused, after_items, counts_after, none_counted, Imports, IsStop, IsMade, EndsItems, IsAfterFront, import_refusal, items_in, items_unless, imported, counts_text, import_reply, is_not_of_firm, Asks, Steps}
+use Rattle.std.specs.Prelude.{length}
 use Rattle.trust_base.specs.declared.refusal.Field.TheVariants as field
 use Rattle.trust_base.specs.declared.refusal.Rule.TheVariants as rule
-use Rattle.trust_base.specs.declared.refusal.Refusal.{Refusal}
 use Rattle.trust_base.specs.declared.refusal.Refusal.TheVariants as refusals
-use Rattle.trust_base.specs.Refusals.{is_fault}
-use Rattle.trust_matter.specs.declared.ask.Caller.{Caller}
-use Rattle.trust_matter.specs.Step.{first}
-use Rattle.firm_rows.specs.Firm.{Firm}
-use Rattle.statement_csv.specs.declared.item.Item.{Item}
-use Rattle.statement_csv.specs.Items.{items}
 use Rattle.trust_base.specs.declared.limits.TheConstants.{MAX_FILE_BYTES}
-use Rattle.statement_csv.specs.Reading.{LacksHeader}
-use Rattle.matter_bodies.specs.declared.bodies.ImportReply.{ImportReply}
-use Rattle.trust_desk.specs.declared.importing.ImportEnd.{ImportEnd}
-use Rattle.trust_desk.specs.declared.importing.ImportStop.{ImportStop}
 use Rattle.trust_desk.specs.declared.importing.ImportStop.TheVariants as stop
-use Rattle.trust_desk.specs.declared.requests.Request.TheVariants.{Import}
-use Rattle.trust_desk.specs.declared.requests.Body.TheVariants.{Json}
-use Rattle.trust_desk.specs.Counts.{is_store, counted_refusal}
-use Rattle.trust_desk.specs.Replies.{refused}
-use Rattle.trust_desk.specs.ItemStep.{after_items, counts_after, none_counted}
-use Rattle.trust_desk.specs.Imports.{Imports, IsStop}
-use Rattle.trust_desk.specs.Crashes.{IsMade}
-use Rattle.trust_desk.specs.ImportStep.{EndsItems, IsAfterFront, import_refusal, items_in, items_unless, imported, counts_text, import_reply, is_not_of_firm}
-use Rattle.trust_desk.specs.Heard.{Asks}
-use Rattle.trust_desk.specs.FirmStep.{Steps}
 use Rattle.trust_desk.proofs.Refused.{not-counted}
 use Rattle.trust_desk.proofs.Steps.{steps-fault, steps-plain}
 

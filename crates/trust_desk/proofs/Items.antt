@@ -1,17 +1,8 @@
 -- What becomes of a line that was decided on by what was read of its matter.
-use Rattle.std.proofs.Common.{◌≡◌, ℕ, Ok, Err, refl, sym, ap}
-use Rattle.trust_base.specs.declared.refusal.StoreFault.{StoreFault}
+use Rattle.trust_desk.proofs.Names.{◌≡◌, ℕ, Ok, Err, refl, sym, ap, StoreFault, BankLine, LineEffect, Rows, LineDecides, line_on, Firm, of, after, by_line, counted_fault, after_told, counted_as, counted_verdict}
 use Rattle.trust_base.specs.declared.refusal.StoreFault.TheVariants as faults
-use Rattle.trust_matter.specs.declared.bank_line.BankLine.{BankLine}
-use Rattle.trust_matter.specs.declared.line_verdict.LineEffect.{LineEffect}
 use Rattle.trust_matter.specs.declared.line_verdict.LineVerdict.{LineVerdict}
 use Rattle.trust_matter.specs.declared.line_verdict.LineVerdict.TheVariants as verdict
-use Rattle.matter_rows.specs.Rows.{Rows}
-use Rattle.trust_matter.specs.LineStep.{LineDecides, line_on}
-use Rattle.firm_rows.specs.Firm.{Firm, of}
-use Rattle.firm_rows.specs.FirmChange.{after, by_line}
-use Rattle.trust_store.specs.Books.{counted_fault}
-use Rattle.trust_desk.specs.ItemStep.{after_told, counted_as, counted_verdict}
 
 -- A verdict.
 

@@ -1,15 +1,5 @@
 -- How an item is applied, by the calls of the book.
-use Rattle.std.proofs.Common.{◌≡◌, ◌∙◌, ℕ, Ok, Err, ap, sym}
-use Rattle.std.proofs.lemmas.Bool.{false≢true}
-use Rattle.trust_base.specs.declared.refusal.StoreFault.{StoreFault}
-use Rattle.firm_rows.specs.Firm.{Firm}
-use Rattle.firm_rows.specs.FirmChange.{FirmChange, after}
-use Rattle.statement_csv.specs.declared.item.Item.{Item}
-use Rattle.trust_store.specs.Books.{counted}
-use Rattle.trust_store.specs.Calls.{IsRead, IsWrite}
-use Rattle.trust_desk.specs.declared.importing.Counted.{Counted}
-use Rattle.trust_desk.specs.Applied.{IsItemApplied}
-use Rattle.trust_desk.specs.ItemStep.{after_item, counted_of}
+use Rattle.trust_desk.proofs.Names.{◌≡◌, ◌∙◌, ℕ, Ok, Err, ap, sym, false≢true, StoreFault, Firm, FirmChange, after, Item, counted, IsRead, IsWrite, Counted, IsItemApplied, after_item, counted_of}
 use Rattle.trust_desk.proofs.Calls.{kept-as, kept-then, read-kept, write-kept}
 use Rattle.trust_desk.proofs.Crashes.{leave-failed, read-leaves, written-leaves}
 

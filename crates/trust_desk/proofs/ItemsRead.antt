@@ -1,18 +1,7 @@
 -- A statement that is read and applied item by item.
-use Rattle.std.proofs.Common.{◌≡◌, ◌∙◌, ◌+◌, ◌≤◌, ◌++◌, ◌∷◌, [], ℕ, false, List, Some, None, refl, sym, ap, subst, append_assoc, arith}
-use Rattle.std.specs.List.{list_any}
-use Rattle.firm_rows.specs.Firm.{Firm, of}
-use Rattle.firm_rows.specs.FirmSound.{FirmSound}
-use Rattle.statement_csv.specs.Reading.{Gives, LacksHeader}
-use Rattle.statement_csv.specs.declared.item.Item.{Item}
-use Rattle.matter_bodies.specs.declared.bodies.ImportReply.{ImportReply}
-use Rattle.trust_desk.specs.declared.importing.Counted.{Counted}
+use Rattle.trust_desk.proofs.Names.{◌≡◌, ◌∙◌, ◌+◌, ◌≤◌, ◌++◌, ◌∷◌, [], ℕ, false, List, Some, None, refl, sym, ap, subst, append_assoc, arith, list_any, Firm, of, FirmSound, Gives, LacksHeader, Item, ImportReply, Counted, ImportEnd, ImportStop, AreBelow, AreFirst, AreRead, Imports, IsAmid, IsUnnamed, KeepsAllUnnamed, TakesOne, Told, after_item, after_items, count_item, counted_of, counts_after, names_item, none_counted}
 use Rattle.trust_desk.specs.declared.importing.Counted.TheVariants as counted
-use Rattle.trust_desk.specs.declared.importing.ImportEnd.{ImportEnd}
-use Rattle.trust_desk.specs.declared.importing.ImportStop.{ImportStop}
 use Rattle.trust_desk.specs.declared.importing.ImportStop.TheVariants as stop
-use Rattle.trust_desk.specs.Imports.{AreBelow, AreFirst, AreRead, Imports, IsAmid, IsUnnamed, KeepsAllUnnamed, TakesOne, Told}
-use Rattle.trust_desk.specs.ItemStep.{after_item, after_items, count_item, counted_of, counts_after, names_item, none_counted}
 use Rattle.trust_desk.proofs.AlwaysCovered.{always-sound}
 use Rattle.trust_desk.proofs.OwnItems.{none-front, of-after_items, unnamed-items}
 

@@ -3,6 +3,7 @@ pub mod DismissedLines
 pub mod Refused
 pub mod Items
 pub mod ItemsApplied
+pub mod Beside
 pub mod Calls
 pub mod Crashes
 pub mod MadeRows
@@ -30,3 +31,4 @@ mod BookReads
 mod ReconciliationAnswers
 mod ReportTexts
 pub use Rattle.trust_reports.proofs.Cards
+mod Names

@@ -1,23 +1,8 @@
 -- What a line of the bank does to a matter's rows, as laws of the matter.
-use Rattle.std.proofs.Common.{◌≡◌, ℕ, List, [], ◌∷◌, ◌++◌, None, true, false, refl, subst, sym}
-use Rattle.std.specs.Prelude.{IsSome}
-use Rattle.matter_parts.specs.declared.edit.Edit.{Edit}
-use Rattle.trust_matter.specs.declared.bank_line.BankLine.{BankLine}
-use Rattle.trust_matter.specs.declared.line_verdict.DatedEdit.{DatedEdit}
+use Rattle.trust_desk.proofs.Names.{◌≡◌, ℕ, List, [], ◌∷◌, ◌++◌, None, true, false, refl, subst, sym, IsSome, Edit, BankLine, DatedEdit, Rows, is_purged, Sound, Asked, facts_of, is_repeat, number_made, refusal, rows_after, Doing, AnAsk, ALine, all_after, IsSameLine, ask-repeat, line-repeat, line_on, rows_after_line, IsApplied, IsKept, Own, OwnAsk, OwnRefusal, OwnLine, solo_rows}
 use Rattle.trust_matter.specs.declared.line_verdict.LineEffect.TheVariants as told
-use Rattle.matter_rows.specs.Rows.{Rows, is_purged}
-use Rattle.matter_rows.specs.Sound.{Sound}
-use Rattle.trust_matter.specs.Facts.{Asked, facts_of}
-use Rattle.trust_matter.specs.Conditions.{is_repeat, number_made}
-use Rattle.trust_matter.specs.Step.{refusal, rows_after}
-use Rattle.trust_matter.specs.Laws.{Doing, AnAsk, ALine, all_after, IsSameLine}
 use Rattle.trust_matter.proofs.LineSteps.{applied-step}
 use Rattle.matter_parts.proofs.StepForms.{IsStepOf}
-use Rattle.trust_matter.proofs.Purging.{ask-repeat, line-repeat}
-use Rattle.trust_matter.specs.LineStep.{line_on, rows_after_line, IsApplied}
-use Rattle.firm_rows.proofs.Kept.{IsKept}
-use Rattle.trust_desk.specs.Heard.{Own, OwnAsk, OwnRefusal, OwnLine}
-use Rattle.trust_desk.specs.Solo.{solo_rows}
 
 -- the step of an ask or of a line is one that a firm keeps its soundness by
 pub kept-by_step : {rows : Rows} {t n : ℕ} {e : Edit} {last : ℕ} → IsStepOf rows t n e last → IsKept rows e last

@@ -1,17 +1,5 @@
 -- What rows an import and a run make while they go on, and the replies before a fault.
-use Rattle.std.proofs.Common.{◌≡◌, ◌⊎◌, inl, inr, ◌∙◌, ℕ, Bool, true, false, cond, List, [], ◌∷◌, ◌++◌, Option, Some, None, length, take, refl, sym, ap, subst}
-use Rattle.std.specs.Prelude.{MatchBool, is_none, unwrap_or}
-use Rattle.firm_rows.specs.Firm.{Firm}
-use Rattle.statement_csv.specs.declared.item.Item.{Item}
-use Rattle.trust_desk.specs.declared.requests.Request.{Request}
-use Rattle.trust_desk.specs.declared.requests.Reply.{Reply}
-use Rattle.trust_desk.specs.Crashes.{AreFront, AreNoFaults, AreNoFaultsButLast, IsAfterFirst, IsAfterNext, IsMade, IsMadeInRun, before_fault}
-use Rattle.trust_desk.specs.FirmStep.{IsStopped, RunsSoundly, Steps, firm_step}
-use Rattle.trust_desk.specs.Heard.{Heard, heard}
-use Rattle.trust_desk.specs.ImportStep.{IsAfterFront}
-use Rattle.trust_desk.specs.Imports.{AreRead, Told}
-use Rattle.trust_desk.specs.ItemStep.{after_item, after_items}
-use Rattle.trust_desk.specs.Replies.{is_fault_reply}
+use Rattle.trust_desk.proofs.Names.{◌≡◌, ◌⊎◌, inl, inr, ◌∙◌, ℕ, Bool, true, false, cond, List, [], ◌∷◌, ◌++◌, Option, Some, None, length, take, refl, sym, ap, subst, MatchBool, is_none, unwrap_or, Firm, Item, Request, Reply, AreFront, AreNoFaults, AreNoFaultsButLast, IsAfterFirst, IsAfterNext, IsMade, IsMadeInRun, before_fault, IsStopped, RunsSoundly, Steps, firm_step, Heard, heard, IsAfterFront, AreRead, Told, after_item, after_items, is_fault_reply}
 use Rattle.trust_desk.proofs.ItemsRead.{after_items-push, read-more}
 
 -- An import.

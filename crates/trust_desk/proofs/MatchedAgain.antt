@@ -1,45 +1,15 @@
 -- Lines that were filled are in the book behind the import of what was written.
-use Rattle.std.proofs.Common.{◌≡◌, ◌∙◌, sym, ap, subst, ℕ, zero, suc, ◌+◌, ◌-◌, Bool, true, false, cond, ◌&&◌, ◌||◌, ◌==◌, List, [], ◌∷◌, ◌++◌, map, Option, Some, None, refl, inl, inr, arith, eqb, pos, ℤ, ◌-ℤ◌}
-use Rattle.std.specs.List.{Contains, filter, flat_map}
-use Rattle.std.specs.Ordering.{int_eq}
-use Rattle.std.specs.Str.{bytes_eq}
-use Rattle.std.proofs.lemmas.Bool.{and_from, and_parts, eq-eqb, eqb-true, false≢true, or_cases}
-use Rattle.std.proofs.lemmas.Bool.Decides.{Decides-int_eq}
-use Rattle.std.proofs.lemmas.List.Elements.{Contains-append_left}
+use Rattle.trust_desk.proofs.Names.{◌≡◌, ◌∙◌, sym, ap, subst, ℕ, zero, suc, ◌+◌, ◌-◌, Bool, true, false, cond, ◌||◌, List, [], ◌∷◌, ◌++◌, map, Option, Some, None, refl, inl, inr, arith, eqb, pos, ◌-ℤ◌, Contains, filter, flat_map, int_eq, bytes_eq, and_from, and_parts, eq-eqb, eqb-true, false≢true, or_cases, Decides-int_eq, Contains-append_left, Line, DepositState, PaymentState, Entry, entry_at, is_purged, is_clearing_by, is_deposit_cleared_by, is_deposit_returned_by, is_line_again, is_payment_cleared_by, DatedEdit, Reason, IsSameLine, dated_by, first_reason, line_facts, line_on, matched, reasons, rows_after_line, EntryRow, Firm, HeadRow, Row, SeatRow, entries_among, of, rows_of, item_of_line, Item, booking_of, is_same_booking, Waiting, booked_by, deposit_bookings, entry_bookings, held_of, payment_bookings, row_bookings, with_reference, written, wait_apart, sure_of, front_apart, has_filled, filter_from, flat_map_has, later, map_from, own_of_items, after_item, after_items, FilledLinesAreInBook, items_of, solo_rows}
+use Rattle.std.proofs.Common.{◌&&◌, ◌==◌, ℤ}
 use Rattle.std.proofs.lemmas.Slice.Eq.{bytes_eq-Decides}
-use Rattle.trust_base.specs.declared.line.Line.{Line}
 use Rattle.matter_rows.specs.declared.clearing.Clearing.{Clearing}
-use Rattle.matter_rows.specs.declared.deposit.DepositState.{DepositState}
 use Rattle.matter_rows.specs.declared.deposit.DepositState.TheVariants as deposit
-use Rattle.matter_rows.specs.declared.payment.PaymentState.{PaymentState}
 use Rattle.matter_rows.specs.declared.payment.PaymentState.TheVariants as payment
-use Rattle.matter_rows.specs.declared.entry.Entry.{Entry}
 use Rattle.matter_rows.specs.declared.entry.Entry.TheVariants as entry
-use Rattle.matter_rows.specs.Rows.{entry_at, is_purged}
-use Rattle.matter_rows.specs.Clearings.{is_clearing_by, is_deposit_cleared_by, is_deposit_returned_by, is_line_again, is_payment_cleared_by}
-use Rattle.trust_matter.specs.declared.line_verdict.DatedEdit.{DatedEdit}
 use Rattle.trust_matter.specs.declared.line_verdict.LineEffect.TheVariants as told
-use Rattle.trust_matter.specs.declared.line_verdict.Reason.{Reason}
-use Rattle.trust_matter.specs.Laws.{IsSameLine}
-use Rattle.trust_matter.specs.LineStep.{dated_by, first_reason, line_facts, line_on, matched, reasons, rows_after_line}
-use Rattle.firm_rows.specs.Firm.{EntryRow, Firm, HeadRow, Row, SeatRow, entries_among, of, rows_of}
-use Rattle.statement_csv.specs.Items.{item_of_line}
-use Rattle.statement_csv.specs.declared.item.Item.{Item}
 use Rattle.statement_csv.specs.declared.item.Item.TheVariants as item
 use Rattle.statement_lines.specs.declared.booking.Booking.{Booking}
-use Rattle.statement_match.specs.Bookings.{booking_of, is_same_booking}
-use Rattle.statement_match.specs.Waiting.{Waiting}
-use Rattle.statement_match.specs.Books.{booked_by, deposit_bookings, entry_bookings, held_of, payment_bookings, row_bookings}
-use Rattle.statement_match.specs.Laws.{with_reference, written}
 use Rattle.statement_match.proofs.Again.{filled_is_booked}
-use Rattle.statement_match.proofs.Apart.{wait_apart}
-use Rattle.statement_match.proofs.Filling.{sure_of}
-use Rattle.statement_match.proofs.Fronts.{front_apart, has_filled}
-use Rattle.statement_match.proofs.Members.{flat_map_has, later}
-use Rattle.trust_desk.specs.Heard.{own_of_items}
-use Rattle.trust_desk.specs.ItemStep.{after_item, after_items}
-use Rattle.trust_desk.specs.Matching.{FilledLinesAreInBook, items_of}
-use Rattle.trust_desk.specs.Solo.{solo_rows}
 use Rattle.trust_desk.proofs.Awaiting.{line_unpurged, stands_unpurged}
 use Rattle.trust_desk.proofs.LineFacts.{repeat-later}
 use Rattle.trust_desk.proofs.Once.{was-applied}
@@ -128,30 +98,13 @@ row_there (EntryRow n x ∷ rows) e (suc k, lt, is) =
     let more = row_there rows e (k, omega arith, is) in
     (more.0, later (EntryRow n x) (EntryRow more.0 e) rows more.1)
 
-pair_there : (pairs : List (ℕ × Row)) (row : Row) → Contains (map (λ p. p.1) pairs) row
-    → (p : ℕ × Row) × Contains pairs p × (p.1 ≡ row)
-pair_there [] row (k, lt, is) = absurd (omega arith)
-pair_there (p ∷ pairs) row (zero, lt, is) = (p, (zero, omega arith, refl), is)
-pair_there (p ∷ pairs) row (suc k, lt, is) =
-    let more = pair_there pairs row (k, omega arith, is) in (more.0, later p more.0 pairs more.1, more.2)
-
-from_picked : {A : Type 0} (b : Bool) (x y : A) (ys xs : List A) → (Contains ys y → Contains xs y)
-    → Contains (cond b (x ∷ ys) ys) y → Contains (x ∷ xs) y
-from_picked true x y ys xs more (zero, lt, is) = (zero, omega arith, is)
-from_picked true x y ys xs more (suc k, lt, is) = later x y xs (more (k, omega arith, is))
-from_picked false x y ys xs more there = later x y xs (more there)
-
-from_filter : {A : Type 0} (p : A → Bool) (xs : List A) (y : A) → Contains (filter p xs) y → Contains xs y
-from_filter p [] y there = there
-from_filter p (x ∷ xs) y there = from_picked (p x) x y (filter p xs) xs (from_filter p xs y) there
-
 firm_booked : (firm : Firm) (m n : ℕ) (e : Entry) (b : Booking) → entry_at (of m firm).entries n ≡ Some e
     → Contains (entry_bookings e) b → Contains (held_of firm).bookings b
 unfolding held_of
 firm_booked firm m n e b at booked =
     let row = row_there (rows_of m firm.rows) e (entry_there (of m firm).entries n e at) in
-    let pair = pair_there (filter (λ p. p.0 == m) firm.rows) (EntryRow row.0 e) row.1 in
-    let there = from_filter (λ (p : ℕ × Row). p.0 == m) firm.rows pair.0 pair.1 in
+    let pair = map_from (λ (p : ℕ × Row). p.1) (filter (λ p. p.0 == m) firm.rows) (EntryRow row.0 e) row.1 in
+    let there = (filter_from (λ (p : ℕ × Row). p.0 == m) firm.rows pair.0 pair.1).1 in
     let here : Contains (row_bookings pair.0) b =
     subst (λ (r : Row). Contains (row_bookings (pair.0.0, r)) b) (sym pair.2) booked in
     Contains-append_left (flat_map row_bookings firm.rows) _ b (flat_map_has row_bookings firm.rows pair.0 b there here)

@@ -1,35 +1,14 @@
 -- What is planned on what is kept is the step of the rows.
-use Rattle.std.proofs.Common.{◌≡◌, ℕ, ◌+◌, ◌==◌, Bool, true, false, cond, List, [], ◌∷◌, Option, Some, None, length, refl, sym, ap, ◌∙◌, subst, pos, arith}
-use Rattle.std.proofs.lemmas.Bool.{eq-eqb}
-use Rattle.std.proofs.lemmas.Bool.Decides.{nat_tests}
-use Rattle.matter_rows.specs.declared.entry.Entry.{Entry}
+use Rattle.trust_desk.proofs.Names.{◌≡◌, ℕ, ◌+◌, Bool, true, false, cond, List, [], ◌∷◌, Option, Some, None, length, refl, sym, ap, ◌∙◌, subst, pos, arith, eq-eqb, nat_tests, Entry, PaymentState, Ask, Caller, Edit, Numbered, Kept, Rows, entry_at, Sound, left_in, left_of, entry_at-append, entry_at-with, Asked, Facts, number_named, other_of, facts_of, is_repeat, Part, IsPart, kept_at, kept_in, entry_in, left_kept, is_held_or_none, holds_for, AreLefts, IsPlace, MatterChange, changed, changed_by, edited, IsDecided, cancelled, decided, edit_on, rows_after, with_claim, with_payment, receipt_body, entry_body, Body, made_text, shown_text, body_of, said, success_of, replied, IsBodyAfter, IsPlanned, IsWholeForCard, entry_text, kept_after, made_kept, shown_kept, status_of_edit, written_or}
+use Rattle.std.proofs.Common.{◌==◌}
 use Rattle.matter_rows.specs.declared.entry.Entry.TheVariants as entry
 use Rattle.matter_rows.specs.declared.claim.ClaimState.{ClaimState}
-use Rattle.matter_rows.specs.declared.payment.PaymentState.{PaymentState}
-use Rattle.trust_matter.specs.declared.ask.Ask.{Ask}
 use Rattle.trust_matter.specs.declared.ask.Ask.TheVariants as ask
-use Rattle.trust_matter.specs.declared.ask.Caller.{Caller}
 use Rattle.matter_parts.specs.declared.change.TotalsAfter.{TotalsAfter}
-use Rattle.matter_parts.specs.declared.edit.Edit.{Edit}
 use Rattle.matter_parts.specs.declared.edit.Edit.TheVariants as edit
-use Rattle.matter_parts.specs.declared.edit.Numbered.{Numbered}
-use Rattle.matter_parts.specs.declared.kept.Kept.{Kept}
-use Rattle.matter_rows.specs.Rows.{Rows, entry_at}
-use Rattle.matter_rows.specs.Sound.{Sound}
-use Rattle.matter_rows.specs.Balances.{left_in, left_of}
-use Rattle.matter_rows.proofs.Entries.{entry_at-append, entry_at-with}
-use Rattle.trust_matter.specs.Facts.{Asked, Facts, number_named, other_of, facts_of}
-use Rattle.trust_matter.specs.Conditions.{is_repeat}
-use Rattle.matter_parts.specs.Parts.{Part, IsPart, kept_at, kept_in, entry_in, left_kept, is_held_or_none}
-use Rattle.trust_matter.specs.KeptFacts.{holds_for}
-use Rattle.matter_parts.specs.Changes.{AreLefts, IsPlace, MatterChange, changed, changed_by, edited}
-use Rattle.trust_matter.specs.Step.{IsDecided, cancelled, decided, edit_on, after, rows_after, with_claim, with_payment}
+use Rattle.trust_matter.specs.Step.{after}
 use Rattle.matter_parts.proofs.Parts.{held-entry}
 use Rattle.trust_matter.proofs.Parts.{both}
-use Rattle.matter_bodies.specs.Bodies.{receipt_body, entry_body}
-use Rattle.trust_desk.specs.declared.requests.Body.{Body}
-use Rattle.trust_desk.specs.Replies.{made_text, shown_text, body_of, said, success_of, replied}
-use Rattle.trust_desk.specs.Plan.{IsBodyAfter, IsPlanned, IsWholeForCard, entry_text, kept_after, made_kept, shown_kept, status_of_edit, written_or}
 
 -- What is kept of an entry.
 

@@ -1,29 +1,10 @@
 -- What was asked and accepted, and a line that was applied, are repeats after every run.
-use Rattle.std.proofs.Common.{◌≡◌, ℕ, Bool, true, false, cond, List, [], ◌++◌, Option, Some, None, refl, sym, ap, ◌∙◌, subst}
-use Rattle.std.specs.Prelude.{is_some}
-use Rattle.std.proofs.lemmas.Bool.{false≢true}
-use Rattle.trust_base.specs.declared.refusal.Refusal.{Refusal}
-use Rattle.matter_parts.specs.declared.edit.Edit.{Edit}
-use Rattle.trust_matter.specs.declared.bank_line.BankLine.{BankLine}
+use Rattle.trust_desk.proofs.Names.{◌≡◌, ℕ, Bool, true, false, cond, List, [], ◌++◌, Option, Some, None, refl, sym, ap, ◌∙◌, subst, is_some, false≢true, Refusal, Edit, BankLine, LineEffect, Rows, is_purged, Asked, facts_of, is_repeat, last_after, refusal, edit_on, rows_after, line_on, rows_after_line, IsApplied, purged-unapplied, Firm, of, after_edit, Item, after_told, after_item, after_items, counted_as, Heard, Own, own_of, own_of_item, after_asked, after_ask, firm_step, solo_rows, DayRun, RunsOn, OnceOnly, LineOnceOnly}
 use Rattle.matter_parts.specs.declared.edit.Edit.TheVariants as edit
-use Rattle.trust_matter.specs.declared.line_verdict.LineEffect.{LineEffect}
 use Rattle.trust_matter.specs.declared.line_verdict.LineEffect.TheVariants as told
-use Rattle.matter_rows.specs.Rows.{Rows, is_purged}
-use Rattle.trust_matter.specs.Facts.{Asked, facts_of}
-use Rattle.trust_matter.specs.Conditions.{is_repeat}
-use Rattle.matter_parts.specs.Changes.{last_after}
-use Rattle.trust_matter.specs.Step.{refusal, edit_on, rows_after}
-use Rattle.trust_matter.specs.LineStep.{line_on, rows_after_line, IsApplied}
-use Rattle.trust_matter.proofs.Purging.{refused, purged-unapplied}
-use Rattle.firm_rows.specs.Firm.{Firm, of, after_edit}
-use Rattle.statement_csv.specs.declared.item.Item.{Item}
+use Rattle.trust_matter.proofs.Purging.{refused}
 use Rattle.statement_csv.specs.declared.item.Item.TheVariants as item
 use Rattle.trust_desk.specs.declared.importing.Counted.TheVariants as counted
-use Rattle.trust_desk.specs.ItemStep.{after_told, after_item, after_items, counted_as}
-use Rattle.trust_desk.specs.Heard.{Heard, Own, own_of, own_of_item}
-use Rattle.trust_desk.specs.FirmStep.{after_asked, after_ask, firm_step}
-use Rattle.trust_desk.specs.Solo.{solo_rows}
-use Rattle.trust_desk.specs.OnceOnly.{DayRun, RunsOn, OnceOnly, LineOnceOnly}
 use Rattle.trust_desk.proofs.LineFacts.{asked-later, repeat-later}
 use Rattle.trust_desk.proofs.OwnItems.{solo_rows-append, of-after_item, of-after_line}
 use Rattle.trust_desk.proofs.Own.{of-after_ask, own-rows}

@@ -1,27 +1,10 @@
 -- A line of the firm's own, and a balance, that were applied are so once after every run.
-use Rattle.std.proofs.Common.{◌≡◌, ◌≢◌, ℕ, Bool, true, false, List, ◌∷◌, Option, Some, None, refl, sym, ap, ◌∙◌, subst}
-use Rattle.std.specs.Prelude.{ℤ, ◌&&◌, ◌==◌, nat_le, if◌then◌else◌}
-use Rattle.std.specs.List.{list_any}
-use Rattle.std.specs.Ordering.{int_eq}
-use Rattle.std.specs.Str.{bytes_eq}
-use Rattle.std.proofs.lemmas.Bool.Decides.{Decides-int_eq}
-use Rattle.trust_base.specs.declared.line.Line.{Line}
-use Rattle.matter_parts.specs.declared.edit.Edit.{Edit}
-use Rattle.firm_rows.specs.declared.ledger.BalanceKind.{BalanceKind}
+use Rattle.trust_desk.proofs.Names.{◌≡◌, ◌≢◌, ℕ, Bool, true, false, List, ◌∷◌, Option, Some, None, refl, sym, ap, ◌∙◌, subst, ℤ, ◌&&◌, ◌==◌, nat_le, if◌then◌else◌, list_any, int_eq, bytes_eq, Decides-int_eq, Line, Edit, BalanceKind, FirmLine, Verdict, Firm, after_edit, FirmChange, FitsFirm, after, by_balance, by_firm_line, is_kept_as, is_bookable, kept_balance, balance_verdict, edit-leaves, line-kept, lines-stay, balance-kept, balances-stay, Item, after_balance, after_item, after_items, balance_item, balance_on, counted_by, counted_of, firm_line_on, DayRun, RunsOn, IsRepeated, IsUnmatched, IsSameFirmLine, FirmLineOnce, IsBalanceOver, BalanceOnce}
 use Rattle.firm_rows.specs.declared.ledger.BalanceKind.TheVariants as kind
-use Rattle.firm_rows.specs.declared.ledger.FirmLine.{FirmLine}
-use Rattle.firm_rows.specs.declared.ledger.Verdict.{Verdict}
 use Rattle.firm_rows.specs.declared.ledger.Verdict.TheVariants as own
-use Rattle.firm_rows.specs.Firm.{Firm, after_edit}
-use Rattle.firm_rows.specs.FirmChange.{FirmChange, FitsFirm, after, by_balance, by_firm_line}
-use Rattle.firm_rows.specs.FirmLines.{is_kept_as, is_bookable, kept_balance, balance_verdict}
 use Rattle.firm_rows.specs.LinesStay.{is_line_kept}
-use Rattle.firm_rows.proofs.LinesStay.{edit-leaves, line-kept, lines-stay, balance-kept, balances-stay}
-use Rattle.statement_csv.specs.declared.item.Item.{Item}
 use Rattle.statement_csv.specs.declared.item.Item.TheVariants as item
 use Rattle.trust_desk.specs.declared.importing.Counted.TheVariants as counted
-use Rattle.trust_desk.specs.ItemStep.{after_balance, after_item, after_items, balance_item, balance_on, counted_by, counted_of, firm_line_on}
-use Rattle.trust_desk.specs.OnceOnly.{DayRun, RunsOn, IsRepeated, IsUnmatched, IsSameFirmLine, FirmLineOnce, IsBalanceOver, BalanceOnce}
 use Rattle.trust_desk.proofs.OnceRuns.{all-keep, each-item, each-step}
 
 -- A line of the firm's own.

@@ -1,30 +1,8 @@
 -- What every item and every step of a firm keeps, every run keeps.
-use Rattle.std.proofs.Common.{◌≡◌, ℕ, Bool, true, false, List, [], ◌∷◌, Option, Some, None, refl, sym, subst}
-use Rattle.std.specs.Prelude.{MatchBool}
-use Rattle.trust_base.specs.declared.refusal.Refusal.{Refusal}
-use Rattle.trust_base.specs.declared.line.Line.{Line}
-use Rattle.matter_parts.specs.declared.edit.Edit.{Edit}
-use Rattle.matter_parts.specs.Changes.{last_after}
-use Rattle.trust_matter.specs.declared.bank_line.BankLine.{BankLine}
-use Rattle.trust_matter.specs.declared.line_verdict.LineEffect.{LineEffect}
+use Rattle.trust_desk.proofs.Names.{◌≡◌, ℕ, Bool, true, false, List, [], ◌∷◌, Option, Some, None, refl, sym, subst, MatchBool, Refusal, Line, Edit, last_after, BankLine, LineEffect, Asked, line_on, refusal, edit_on, BalanceKind, Firm, of, after_edit, FirmChange, Repeated, Unmatched, after, FitsFirm, by_balance, by_firm_line, balance-fits, firm_line-fits, Item, Reply, after_told, after_item, after_items, after_balance, balance_on, firm_line_on, Heard, Kind, OfMatter, OfItems, Dismisses, OnlyTold, NotRead, kind_of, asked_on, dismiss_refusal, dismissed_unless, is_fault_reply, after_asked, firm_step, kind_step, IsStopped, KindStopped, Steps, Runs, DayRun, RunsOn}
 use Rattle.trust_matter.specs.declared.line_verdict.LineEffect.TheVariants as told
-use Rattle.trust_matter.specs.Facts.{Asked}
-use Rattle.trust_matter.specs.LineStep.{line_on}
-use Rattle.trust_matter.specs.Step.{refusal, edit_on}
-use Rattle.firm_rows.specs.declared.ledger.BalanceKind.{BalanceKind}
 use Rattle.firm_rows.specs.declared.ledger.BalanceKind.TheVariants as kind
-use Rattle.firm_rows.specs.Firm.{Firm, of, after_edit}
-use Rattle.firm_rows.specs.FirmChange.{FirmChange, Repeated, Unmatched, after, FitsFirm, by_balance, by_firm_line}
-use Rattle.firm_rows.proofs.OwnLines.{balance-fits, firm_line-fits}
-use Rattle.statement_csv.specs.declared.item.Item.{Item}
 use Rattle.statement_csv.specs.declared.item.Item.TheVariants as item
-use Rattle.trust_desk.specs.declared.requests.Reply.{Reply}
-use Rattle.trust_desk.specs.ItemStep.{after_told, after_item, after_items, after_balance, balance_on, firm_line_on}
-use Rattle.trust_desk.specs.Heard.{Heard, Kind, OfMatter, OfItems, Dismisses, OnlyTold, NotRead, kind_of, asked_on}
-use Rattle.trust_desk.specs.Dismissing.{dismiss_refusal, dismissed_unless}
-use Rattle.trust_desk.specs.Replies.{is_fault_reply}
-use Rattle.trust_desk.specs.FirmStep.{after_asked, firm_step, kind_step, IsStopped, KindStopped, Steps, Runs}
-use Rattle.trust_desk.specs.OnceOnly.{DayRun, RunsOn}
 
 -- By items.
 

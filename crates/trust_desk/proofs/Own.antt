@@ -1,23 +1,6 @@
 -- Each matter's replies and rows in a run of the firm are those of its own machine.
-use Rattle.std.proofs.Common.{◌≡◌, ◌≢◌, ℕ, Bool, true, false, cond, List, [], ◌∷◌, ◌++◌, Option, Some, None, refl, sym, ap, ◌∙◌, subst, arith, length, take, get_or}
-use Rattle.std.specs.Prelude.{MatchBool, ◌==◌}
-use Rattle.std.specs.List.{list_any}
-use Rattle.std.proofs.lemmas.Bool.Decides.{nat_tests}
-use Rattle.trust_base.specs.declared.line.Line.{Line}
-use Rattle.trust_base.specs.declared.refusal.Refusal.{Refusal}
-use Rattle.trust_matter.specs.Facts.{Asked}
-use Rattle.matter_parts.specs.Changes.{last_after}
-use Rattle.trust_matter.specs.Step.{refusal, edit_on, after, rows_after}
-use Rattle.firm_rows.specs.Firm.{Firm, of}
-use Rattle.firm_rows.proofs.Changed.{of-after_edit, of_other-after_edit}
-use Rattle.trust_desk.specs.declared.requests.Request.{Request}
-use Rattle.trust_desk.specs.declared.requests.Reply.{Reply}
-use Rattle.trust_desk.specs.ItemStep.{names_item}
-use Rattle.trust_desk.specs.Heard.{Heard, Kind, OfMatter, OfItems, Dismisses, OnlyTold, NotRead, kind_of, OwnAsk, OwnRefusal, heard, names, kind_names, concerns, kind_concerns, own_if, own_of, kind_own, project, told, asked_on, is_the}
-use Rattle.trust_desk.specs.Dismissing.{dismiss_refusal, dismissed_unless}
-use Rattle.trust_desk.specs.Replies.{is_fault_reply, reply_of, refused}
-use Rattle.trust_desk.specs.FirmStep.{after_asked, after_ask, firm_step, kind_step, KindStopped, IsStopped, Steps, Runs, IsUnstopped}
-use Rattle.trust_desk.specs.Solo.{solo_rows, solo_replies}
+use Rattle.trust_desk.proofs.Names.{◌≡◌, ◌≢◌, ℕ, Bool, true, false, cond, List, [], ◌∷◌, ◌++◌, Option, Some, None, refl, sym, ap, ◌∙◌, subst, arith, length, take, get_or, MatchBool, ◌==◌, list_any, nat_tests, Line, Refusal, Asked, last_after, refusal, edit_on, rows_after, Firm, of, of-after_edit, of_other-after_edit, Request, Reply, names_item, Heard, Kind, OfMatter, OfItems, Dismisses, OnlyTold, NotRead, kind_of, OwnAsk, OwnRefusal, heard, names, kind_names, concerns, kind_concerns, own_if, own_of, kind_own, project, told, asked_on, is_the, dismiss_refusal, dismissed_unless, is_fault_reply, reply_of, refused, after_asked, after_ask, firm_step, kind_step, KindStopped, IsStopped, Steps, Runs, IsUnstopped, solo_rows, solo_replies}
+use Rattle.trust_matter.specs.Step.{after}
 use Rattle.trust_desk.specs.Isolation.{IsOwn, KeepsOthers, EachMatterOwn, SameForTheMatter}
 use Rattle.trust_desk.proofs.OwnItems.{solo_rows-append, solo_replies-append, of-after_items, silent-items, none-front, unnamed-items}
 

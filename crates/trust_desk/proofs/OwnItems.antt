@@ -1,26 +1,9 @@
 -- What the items of a statement do to a matter is what its own machine does with the lines that name it.
-use Rattle.std.proofs.Common.{◌≡◌, ◌≢◌, ℕ, Bool, true, false, ◌||◌, List, [], ◌∷◌, ◌++◌, refl, sym, ap, ◌∙◌, subst, append_assoc, arith}
-use Rattle.std.specs.Prelude.{◌==◌}
-use Rattle.std.specs.List.{list_any}
-use Rattle.std.proofs.lemmas.Bool.Decides.{nat_tests}
-use Rattle.trust_matter.specs.declared.bank_line.BankLine.{BankLine}
-use Rattle.trust_matter.specs.declared.line_verdict.LineEffect.{LineEffect}
+use Rattle.trust_desk.proofs.Names.{◌≡◌, ◌≢◌, ℕ, Bool, true, false, ◌||◌, List, [], ◌∷◌, ◌++◌, refl, sym, ap, ◌∙◌, subst, append_assoc, arith, ◌==◌, list_any, nat_tests, BankLine, LineEffect, Rows, line_on, after_line_effect, rows_after_line, Line, BalanceKind, Verdict, Firm, of, after, by_balance, by_firm_line, of-after_edit, of_other-after_edit, Item, after_told, after_item, after_items, balance_on, firm_line_on, names_item, Own, OwnLine, own_if, own_of_item, own_of_items, own_rows, own_reply, solo_rows, solo_replies}
 use Rattle.trust_matter.specs.declared.line_verdict.LineEffect.TheVariants as told
-use Rattle.matter_rows.specs.Rows.{Rows}
-use Rattle.trust_matter.specs.LineStep.{line_on, after_line_effect, rows_after_line}
-use Rattle.trust_base.specs.declared.line.Line.{Line}
-use Rattle.firm_rows.specs.declared.ledger.BalanceKind.{BalanceKind}
 use Rattle.firm_rows.specs.declared.ledger.BalanceKind.TheVariants as kind
-use Rattle.firm_rows.specs.declared.ledger.Verdict.{Verdict}
 use Rattle.firm_rows.specs.declared.ledger.Verdict.TheVariants as own
-use Rattle.firm_rows.specs.Firm.{Firm, of}
-use Rattle.firm_rows.specs.FirmChange.{after, by_balance, by_firm_line}
-use Rattle.firm_rows.proofs.Changed.{of-after_edit, of_other-after_edit}
-use Rattle.statement_csv.specs.declared.item.Item.{Item}
 use Rattle.statement_csv.specs.declared.item.Item.TheVariants as item
-use Rattle.trust_desk.specs.ItemStep.{after_told, after_item, after_items, balance_on, firm_line_on, names_item}
-use Rattle.trust_desk.specs.Heard.{Own, OwnLine, own_if, own_of_item, own_of_items}
-use Rattle.trust_desk.specs.Solo.{own_rows, own_reply, solo_rows, solo_replies}
 
 -- A machine that goes on.
 

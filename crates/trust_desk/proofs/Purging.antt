@@ -1,24 +1,10 @@
 -- A purge that the firm's step does is a change that purges, so the figures' law speaks of it.
-use Rattle.std.proofs.Common.{◌≡◌, ℕ, false, Option, Some, None, refl}
-use Rattle.trust_base.specs.declared.refusal.Refusal.{Refusal}
-use Rattle.matter_rows.specs.Rows.{Rows}
-use Rattle.matter_rows.proofs.Covered.{sound-covered}
+use Rattle.trust_desk.proofs.Names.{◌≡◌, ℕ, false, Option, Some, None, refl, Refusal, Rows, sound-covered, MatterChange, IsChange, last_after, no_figures, Caller, Asked, refusal, step, Firm, of, FirmSound, IsKept, asked_on, after_asked}
 use Rattle.matter_parts.specs.declared.edit.Edit.TheVariants as edit
-use Rattle.matter_parts.specs.Changes.{MatterChange, IsChange, last_after}
-use Rattle.matter_parts.specs.Parts.{no_figures}
 use Rattle.matter_parts.proofs.Moved.{figures-none}
-use Rattle.trust_matter.specs.declared.ask.Caller.{Caller}
 use Rattle.trust_matter.specs.declared.ask.Ask.TheVariants as ask
-use Rattle.trust_matter.specs.Facts.{Asked}
-use Rattle.trust_matter.specs.Step.{refusal}
-use Rattle.trust_matter.proofs.Steps.{step}
-use Rattle.firm_rows.specs.Firm.{Firm, of}
-use Rattle.firm_rows.specs.FirmSound.{FirmSound}
-use Rattle.firm_rows.proofs.Kept.{IsKept}
 use Rattle.firm_figures.specs.Purged.{IsPurge, is_period_purged}
 use Rattle.firm_figures.proofs.PurgedPeriods.{no_figure-left, no_list-left}
-use Rattle.trust_desk.specs.Heard.{asked_on}
-use Rattle.trust_desk.specs.FirmStep.{after_asked}
 use Rattle.trust_desk.specs.Purging.{IsReportedAsBefore, PurgingChangesNoFigure}
 use Rattle.trust_desk.proofs.LineFacts.{kept-by_step}
 

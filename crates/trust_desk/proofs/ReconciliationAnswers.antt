@@ -1,18 +1,13 @@
 -- What is answered by what was kept of a firm's rows is the firm's reconciliation.
-use Rattle.std.proofs.Common.{◌≡◌, ℕ, Bool, Option, Some, None, refl, sym, ap, ◌∙◌, subst}
-use Rattle.std.specs.Prelude.{is_none}
+use Rattle.trust_desk.proofs.Names.{◌≡◌, ℕ, Bool, Option, Some, None, refl, sym, ap, ◌∙◌, subst, is_none, Firm, FirmSound, ReconciliationKept, ReconciliationTold, kept_told, reconciled, reconciliation_on, IsReconciled, has_no_statement, reconciliation_report}
 use Rattle.std.specs.Option.{option_map}
-use Rattle.firm_rows.specs.Firm.{Firm}
-use Rattle.firm_rows.specs.FirmSound.{FirmSound}
 use Rattle.trust_reports.specs.Figures.{closing_on, figures, figures_on}
 use Rattle.trust_reports.specs.Openings.{AreClosings}
 use Rattle.trust_reports.specs.Purged.{is_period_purged}
-use Rattle.trust_reports.specs.Reconciliations.{ReconciliationKept, ReconciliationTold, kept_told, reconciled, reconciliation_on}
 use Rattle.trust_reports.proofs.ReconciliationRows.{reconciliation-kept}
 use Rattle.trust_desk.specs.Kept.{IsAnswer, IsKeptOf}
-use Rattle.trust_desk.specs.Reports.{IsReconciled, has_no_statement, reconciliation_report}
-use Rattle.trust_desk.specs.declared.reporting.Reconciled.{Reconciled}
-use Rattle.trust_desk.specs.declared.reporting.Reconciled.TheVariants as answer
+use Rattle.trust_desk.specs.declared.desk.Reconciled.{Reconciled}
+use Rattle.trust_desk.specs.declared.desk.Reconciled.TheVariants as answer
 
 none-map : {A C : Type 0} (f : A → C) (o : Option A) → is_none (option_map f o) ≡ is_none o
 none-map f None = refl

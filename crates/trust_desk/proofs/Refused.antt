@@ -1,32 +1,12 @@
 -- What a refusal of the plan is.
-use Rattle.std.proofs.Common.{◌≡◌, ◌⊎◌, inl, inr, ℕ, Bool, true, false, cond, Option, Some, refl, sym, ap, ◌∙◌, subst, arith}
-use Rattle.std.specs.Prelude.{◌==◌, ◌||◌, ◌&&◌}
-use Rattle.std.proofs.lemmas.Bool.{false≢true}
-use Rattle.std.proofs.lemmas.Bool.Decides.{nat_tests}
-use Rattle.trust_base.specs.declared.refusal.Refusal.{Refusal}
+use Rattle.trust_desk.proofs.Names.{◌≡◌, ◌⊎◌, inl, inr, ℕ, Bool, true, false, cond, Option, Some, refl, sym, ap, ◌∙◌, subst, arith, ◌==◌, ◌&&◌, false≢true, nat_tests, Refusal, StoreFault, is_fault, refused_by, Ask, Asked, fund_named, number_named, other_of, Sound, Part, IsPart, IsWhole, entry_in, is_held, is_held_or_none, kept_at, is_accounting, holds_for, Rows, MayRefuse, refusal, Firm, of, after_edit, after_change, FirmSound, counted_fault, named-held, after_ask, after_asked, is_store, counted_refusal, IsAccepted, IsPlanned, IsReadFor, IsRefused, IsWholeForCard}
+use Rattle.std.specs.Prelude.{◌||◌}
 use Rattle.trust_base.specs.declared.refusal.Refusal.TheVariants as refusals
-use Rattle.trust_base.specs.declared.refusal.StoreFault.{StoreFault}
 use Rattle.trust_base.specs.declared.refusal.StoreFault.TheVariants as faults
-use Rattle.trust_base.specs.Refusals.{is_fault, refused_by}
-use Rattle.trust_matter.specs.declared.ask.Ask.{Ask}
-use Rattle.trust_matter.specs.Facts.{Asked, fund_named, number_named, other_of}
 use Rattle.matter_rows.specs.Shares.{number_or_none}
-use Rattle.matter_rows.specs.Sound.{Sound}
-use Rattle.matter_parts.specs.Parts.{Part, IsPart, IsWhole, entry_in, is_held, is_held_or_none, kept_at}
 use Rattle.matter_parts.proofs.AllKept.{whole-all}
-use Rattle.trust_matter.specs.Conditions.{is_accounting}
-use Rattle.trust_matter.specs.KeptFacts.{holds_for}
-use Rattle.matter_rows.specs.Rows.{Rows}
-use Rattle.trust_matter.specs.Step.{MayRefuse, refusal}
-use Rattle.firm_rows.specs.Firm.{Firm, of, after_edit, after_change}
-use Rattle.firm_rows.specs.FirmSound.{FirmSound}
-use Rattle.trust_store.specs.Books.{counted_fault}
 use Rattle.trust_store.specs.Named.{IsPartFor}
-use Rattle.trust_store.proofs.Named.{named-held}
-use Rattle.trust_desk.specs.declared.planning.Planned.{Planned}
-use Rattle.trust_desk.specs.FirmStep.{after_ask, after_asked}
-use Rattle.trust_desk.specs.Counts.{is_store, counted_refusal}
-use Rattle.trust_desk.specs.Plan.{IsAccepted, IsPlanned, IsReadFor, IsRefused, IsWholeForCard}
+use Rattle.trust_desk.specs.declared.desk.Planned.{Planned}
 
 -- the refusal is the ask's or a fault, and none of the store
 pub record IsTold (o : Option Refusal) (r : Refusal) : Type 0 where
@@ -58,11 +38,6 @@ plan-uncounted o r n h = not-counted (is_store r) _ n (plan-refuses o r h).told
 pub fault-told : (fault : StoreFault) → is_fault (refused_by fault) ≡ true
 fault-told faults.Store = refl
 fault-told faults.Memory = refl
-
--- a fault of the book is counted as the book counts it
-pub fault-counted : (fault : StoreFault) (r : Refusal) (n : ℕ) → r ≡ refused_by fault → counted_refusal r n ≡ counted_fault fault n
-fault-counted faults.Store r n is = ap (λ x. counted_refusal x n) is
-fault-counted faults.Memory r n is = ap (λ x. counted_refusal x n) is
 
 -- What is read of a matter.
 

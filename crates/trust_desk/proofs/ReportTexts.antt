@@ -1,17 +1,11 @@
 -- The texts of what the sinks kept are the reports.
-use Rattle.std.proofs.Common.{◌≡◌, ℕ, List, [], ◌∷◌, ◌++◌, flat_map, fold, sym, ap, ◌∙◌, append_assoc, append-nil}
-use Rattle.std.specs.Prelude.{codes}
+use Rattle.trust_desk.proofs.Names.{◌≡◌, ℕ, List, [], ◌∷◌, ◌++◌, fold, sym, ap, ◌∙◌, append_assoc, append-nil, codes, Firm, FirmSound, JournalKept, TrialKept, no_journal, trial_kept, trial_of, trial_sum, with_moved, Retained, none_retained, with_row_retained, exception_line, exceptions_text, journal_text, retention_text, trial_text, exceptions_report, journal_report, retention_report, trial_report}
+use Rattle.std.proofs.Common.{flat_map}
 use Rattle.firm_rows.specs.Countable.{AreCountable, IsFirmLineInRange, IsMovementInRange, IsRowInRange}
-use Rattle.firm_rows.specs.Firm.{Firm}
-use Rattle.firm_rows.specs.FirmSound.{FirmSound}
-use Rattle.trust_reports.specs.Lists.{JournalKept, TrialKept, no_journal, trial_kept, trial_of, trial_sum, with_moved}
-use Rattle.trust_reports.specs.Retained.{Retained, none_retained, with_row_retained}
 use Rattle.trust_reports.proofs.Lists.{journal-kept}
 use Rattle.trust_reports.proofs.Retained.{retention-kept}
 use Rattle.trust_reports.proofs.Trial.{total-kept, trial-kept}
 use Rattle.trust_reports.specs.Texts.{heading}
-use Rattle.trust_reports.specs.TextsOfLists.{exception_line, exceptions_text, journal_text, retention_text, trial_text}
-use Rattle.trust_desk.specs.Reports.{exceptions_report, journal_report, retention_report, trial_report}
 
 pub trial-told : (today : ℕ) (firm : Firm) (kept : TrialKept) → FirmSound firm → AreCountable IsRowInRange firm.rows → AreCountable IsFirmLineInRange firm.firm_lines → kept ≡ trial_kept firm → trial_text today kept.lines kept.own (trial_sum kept) ≡ trial_report today firm
 unfolding trial_report

@@ -1,13 +1,6 @@
 -- A run goes on by one request.
-use Rattle.std.proofs.Common.{◌≡◌, ℕ, ◌+◌, ◌<◌, List, [], ◌∷◌, ◌++◌, length, get_or, take, refl, sym, ap, ◌∙◌, subst}
+use Rattle.trust_desk.proofs.Names.{◌≡◌, ℕ, ◌+◌, ◌<◌, List, [], ◌∷◌, ◌++◌, length, get_or, take, refl, sym, ap, ◌∙◌, subst, Firm, FirmSound, Request, Reply, Heard, Asks, heard, Steps, RunsSoundly, SoundRunsAreRuns, counted_reply, counted_replies}
 use Rattle.std.proofs.lemmas.List.{take_more}
-use Rattle.firm_rows.specs.Firm.{Firm}
-use Rattle.firm_rows.specs.FirmSound.{FirmSound}
-use Rattle.trust_desk.specs.declared.requests.Request.{Request}
-use Rattle.trust_desk.specs.declared.requests.Reply.{Reply}
-use Rattle.trust_desk.specs.Heard.{Heard, Asks, heard}
-use Rattle.trust_desk.specs.FirmStep.{Steps, RunsSoundly, SoundRunsAreRuns}
-use Rattle.trust_desk.specs.Counts.{counted_reply, counted_replies}
 
 pub sound-runs-are-runs : SoundRunsAreRuns
 sound-runs-are-runs day firm new [] [] run = run

@@ -1,46 +1,16 @@
 -- A second match, behind the import of what the first wrote, fills nothing.
-use Rattle.std.proofs.Common.{◌≡◌, ◌≢◌, ◌∙◌, sym, ap, subst, ℕ, zero, ◌+◌, Bool, false, List, [], ◌∷◌, ◌++◌, map, get_or, append_assoc, append-nil, Some, refl, arith}
-use Rattle.std.specs.List.{Contains, filter, flat_map, list_any}
-use Rattle.std.specs.Str.{bytes_eq}
-use Rattle.std.proofs.lemmas.Bool.{cond-false, or_from, or_parts}
-use Rattle.std.proofs.lemmas.List.Elements.{Contains-append_right, Contains-get_or, filter-append}
+use Rattle.trust_desk.proofs.Names.{◌≡◌, ◌≢◌, ◌∙◌, sym, ap, subst, ℕ, zero, ◌+◌, Bool, false, List, [], ◌∷◌, ◌++◌, map, get_or, append_assoc, append-nil, Some, refl, arith, Contains, filter, flat_map, list_any, bytes_eq, cond-false, or_from, or_parts, Contains-append_right, Contains-get_or, filter-append, Line, Deposit, DepositState, Payment, PaymentState, Entry, cleared_payment, deposit_by, Edit, changed_by, LineEffect, last_by, line_facts, line_on, told_by, Firm, of, put, FirmSound, IsInOrder, item_of_line, booking_of, is_beside, Waiting, fits, deposit_bookings, deposit_waiting, entry_bookings, entry_waiting, held_of, own_booking, payment_bookings, payment_waiting, row_bookings, row_waiting, HasMatterNumbers, with_reference, written, entry_once, wait_apart, filled_if_sure, sure_of, front_apart, stems, later, by_waiting, after_item, after_items, after_told, AreNameless, SecondMatchFillsNothing, items_of}
 use Rattle.std.proofs.lemmas.List.Folds.{list_any-append}
-use Rattle.trust_base.specs.declared.line.Line.{Line}
-use Rattle.matter_rows.specs.declared.deposit.Deposit.{Deposit}
-use Rattle.matter_rows.specs.declared.deposit.DepositState.{DepositState}
 use Rattle.matter_rows.specs.declared.deposit.DepositState.TheVariants as deposit
-use Rattle.matter_rows.specs.declared.payment.Payment.{Payment}
-use Rattle.matter_rows.specs.declared.payment.PaymentState.{PaymentState}
 use Rattle.matter_rows.specs.declared.payment.PaymentState.TheVariants as payment
-use Rattle.matter_rows.specs.declared.entry.Entry.{Entry}
 use Rattle.matter_rows.specs.declared.entry.Entry.TheVariants as entry
-use Rattle.matter_rows.specs.Clearings.{cleared_payment, deposit_by}
-use Rattle.matter_parts.specs.declared.edit.Edit.{Edit}
 use Rattle.matter_parts.specs.declared.edit.Edit.TheVariants as edit
-use Rattle.matter_parts.specs.Changes.{changed_by}
-use Rattle.trust_matter.specs.declared.line_verdict.LineEffect.{LineEffect}
 use Rattle.trust_matter.specs.declared.line_verdict.LineEffect.TheVariants as told
-use Rattle.trust_matter.specs.LineStep.{last_by, line_facts, line_on, told_by}
-use Rattle.firm_rows.specs.Firm.{Firm, of, put}
-use Rattle.firm_rows.specs.FirmSound.{FirmSound, IsInOrder}
-use Rattle.statement_csv.specs.Items.{item_of_line}
 use Rattle.statement_csv.specs.declared.item.Item.TheVariants as item
-use Rattle.statement_match.specs.Bookings.{booking_of, is_beside}
-use Rattle.statement_match.specs.Waiting.{Waiting}
-use Rattle.statement_match.specs.Showing.{fits}
-use Rattle.statement_match.specs.Books.{deposit_bookings, deposit_waiting, entry_bookings, entry_waiting, held_of, own_booking, payment_bookings, payment_waiting, row_bookings, row_waiting}
-use Rattle.statement_match.specs.FirmLaws.{HasMatterNumbers}
-use Rattle.statement_match.specs.Laws.{with_reference, written}
 use Rattle.statement_match.specs.Rule.{becomes, is_beside_booked}
 use Rattle.statement_lines.specs.declared.outcome.Outcome.TheVariants as outcome
-use Rattle.statement_match.proofs.Apart.{entry_once, wait_apart}
-use Rattle.statement_match.proofs.Filling.{filled_if_sure, sure_of}
 use Rattle.statement_match.proofs.Firms.{filled_waits}
-use Rattle.statement_match.proofs.Fronts.{front_apart, stems}
-use Rattle.statement_match.proofs.Members.{later}
 use Rattle.statement_match.proofs.Unfilled.{fits_none, none_claims, sure_before, written_is_filled}
-use Rattle.trust_desk.specs.ItemStep.{after_item, after_items, after_told}
-use Rattle.trust_desk.specs.Matching.{AreNameless, SecondMatchFillsNothing, items_of}
 use Rattle.trust_desk.proofs.AlwaysCovered.{sound-after_items}
 use Rattle.trust_desk.proofs.Awaiting.{line_applies}
 use Rattle.trust_desk.proofs.Gathered.{put_gathered}
@@ -48,9 +18,6 @@ use Rattle.trust_desk.proofs.MatchedAgain.{after_both, filled_lines_are_in_book}
 use Rattle.trust_desk.proofs.FilledLines.{IsReady, filled_ready, ready_behind, ready_item, ready_line}
 
 -- An entry that waits, and what a line makes of it.
-
-none_there : {A : Type 0} (x : A) → Contains [] x → ⊥
-none_there x (k, lt, is) = omega arith
 
 -- the entry behind the line that it awaits
 abbrev cleared : Entry → Line → ℕ → Entry
@@ -61,57 +28,25 @@ cleared (entry.Claim c) line today = entry.Claim c
 
 exchanged : (m n : ℕ) (e : Entry) (w : Waiting) (line : Line) (today : ℕ) → Contains (entry_waiting m n e) w
     → told_by n (Some e) line today ≡ edit.Exchange (record { number = n; entry = cleared e line today })
-exchanged m n (entry.Deposit d) w line today waits = refl
-exchanged m n (entry.Payment p) w line today waits = refl
-exchanged m n (entry.Fee f) w line today waits = absurd (none_there w waits)
-exchanged m n (entry.Claim c) w line today waits = absurd (none_there w waits)
-
-deposit_done : (m n : ℕ) (d new : Deposit) (s : DepositState) (w : Waiting) (line : Line) (today : ℕ)
-    → Contains (deposit_waiting m n d s) w → deposit_waiting m n new (deposit_by line today s) ≡ []
-deposit_done m n d new deposit.Held w line today waits = refl
-deposit_done m n d new (deposit.Cleared c) w line today waits = absurd (none_there w waits)
-deposit_done m n d new (deposit.Cancelled day) w line today waits = absurd (none_there w waits)
-deposit_done m n d new (deposit.Returned r) w line today waits = absurd (none_there w waits)
-
-payment_done : (m n : ℕ) (p new : Payment) (s : PaymentState) (w : Waiting) (line : Line)
-    → Contains (payment_waiting m n p s) w → payment_waiting m n new (cleared_payment line s) ≡ []
-payment_done m n p new payment.Proposed w line waits = absurd (none_there w waits)
-payment_done m n p new payment.Declined w line waits = absurd (none_there w waits)
-payment_done m n p new (payment.Issued day) w line waits = refl
-payment_done m n p new (payment.Cleared c) w line waits = absurd (none_there w waits)
-payment_done m n p new (payment.Voided v) w line waits = absurd (none_there w waits)
+exchanged m n e w line today waits =
+    by_waiting (λ (x : Entry). told_by n (Some x) line today
+    ≡ edit.Exchange (record { number = n; entry = cleared x line today })) m n w (λ d held is. refl)
+    (λ p day issued is. refl) e waits
 
 -- it waits no longer
 done : (m n : ℕ) (e : Entry) (w : Waiting) (line : Line) (today : ℕ) → Contains (entry_waiting m n e) w
     → entry_waiting m n (cleared e line today) ≡ []
-done m n (entry.Deposit d) w line today waits =
-    deposit_done m n d (record d { state = deposit_by line today d.state }) d.state w line today waits
-done m n (entry.Payment p) w line today waits =
-    payment_done m n p (record p { state = cleared_payment line p.state }) p.state w line waits
-done m n (entry.Fee f) w line today waits = absurd (none_there w waits)
-done m n (entry.Claim c) w line today waits = absurd (none_there w waits)
-
-deposit_unbooked : (m n : ℕ) (d : Deposit) (s : DepositState) (w : Waiting) → Contains (deposit_waiting m n d s) w
-    → deposit_bookings d.amount s ≡ []
-deposit_unbooked m n d deposit.Held w waits = refl
-deposit_unbooked m n d (deposit.Cleared c) w waits = absurd (none_there w waits)
-deposit_unbooked m n d (deposit.Cancelled day) w waits = absurd (none_there w waits)
-deposit_unbooked m n d (deposit.Returned r) w waits = absurd (none_there w waits)
-
-payment_unbooked : (m n : ℕ) (p : Payment) (s : PaymentState) (w : Waiting) → Contains (payment_waiting m n p s) w
-    → payment_bookings p.amount s ≡ []
-payment_unbooked m n p payment.Proposed w waits = refl
-payment_unbooked m n p payment.Declined w waits = refl
-payment_unbooked m n p (payment.Issued day) w waits = refl
-payment_unbooked m n p (payment.Cleared c) w waits = absurd (none_there w waits)
-payment_unbooked m n p (payment.Voided v) w waits = refl
+done m n e w line today waits =
+    by_waiting (λ (x : Entry). entry_waiting m n (cleared x line today) ≡ []) m n w
+    (λ d held is. ap (λ s. deposit_waiting m n (record d { state = deposit_by line today d.state }) (deposit_by line today s)) held)
+    (λ p day issued is. ap (λ s. payment_waiting m n (record p { state = cleared_payment line p.state }) (cleared_payment line s)) issued)
+    e waits
 
 -- nothing of it was booked
 unbooked : (m n : ℕ) (e : Entry) (w : Waiting) → Contains (entry_waiting m n e) w → entry_bookings e ≡ []
-unbooked m n (entry.Deposit d) w waits = deposit_unbooked m n d d.state w waits
-unbooked m n (entry.Payment p) w waits = payment_unbooked m n p p.state w waits
-unbooked m n (entry.Fee f) w waits = refl
-unbooked m n (entry.Claim c) w waits = refl
+unbooked m n e w waits =
+    by_waiting (λ (x : Entry). entry_bookings x ≡ []) m n w (λ d held is. ap (deposit_bookings d.amount) held)
+    (λ p day issued is. ap (payment_bookings p.amount) issued) e waits
 
 none_kept : {A : Type 0} (p : A → Bool) (xs : List A) → ((x : A) → Contains xs x → p x ≡ false) → filter p xs ≡ []
 none_kept p [] off = refl

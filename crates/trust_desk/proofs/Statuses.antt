@@ -1,21 +1,5 @@
 -- The status of a reply whose body is a refusal.
-use Rattle.std.proofs.Common.{◌≡◌, inl, inr, ℕ, Bool, true, false, cond, List, Option, Some, None, Result, Ok, Err, sym, ap, subst}
-use Rattle.std.specs.Prelude.{MatchBool}
-use Rattle.trust_base.specs.Refusals.{status_of}
-use Rattle.trust_base.specs.declared.refusal.Refusal.{Refusal}
-use Rattle.trust_matter.specs.Facts.{Asked}
-use Rattle.trust_matter.specs.Conditions.{is_accounting}
-use Rattle.trust_desk.specs.Dismissing.{dismiss_refusal, dismiss_reply}
-use Rattle.trust_desk.specs.declared.requests.Body.TheVariants.{Json, Refused, Text}
-use Rattle.matter_rows.specs.Rows.{Rows}
-use Rattle.trust_matter.specs.Step.{refusal}
-use Rattle.firm_rows.specs.Firm.{Firm, of}
-use Rattle.matter_bodies.specs.declared.bodies.ImportReply.{ImportReply}
-use Rattle.trust_desk.specs.Heard.{Kind, OfMatter, OfItems, Dismisses, OnlyTold, NotRead, kind_of, asked_on}
-use Rattle.trust_desk.specs.ImportStep.{import_reply}
-use Rattle.trust_desk.specs.ItemStep.{counts_after, none_counted}
-use Rattle.trust_desk.specs.Replies.{is_fault_reply, refused, replied, text_reply}
-use Rattle.trust_desk.specs.FirmStep.{HasItsStatus, IsStopped, RefusalsHaveTheirStatus, firm_step, kind_step}
+use Rattle.trust_desk.proofs.Names.{◌≡◌, inl, inr, ℕ, Bool, true, false, cond, List, Option, Some, None, Result, Ok, Err, sym, ap, subst, MatchBool, status_of, Refusal, Asked, is_accounting, dismiss_refusal, dismiss_reply, Json, Refused, Text, Rows, refusal, Firm, of, ImportReply, Kind, OfMatter, OfItems, Dismisses, OnlyTold, NotRead, kind_of, asked_on, import_reply, counts_after, none_counted, is_fault_reply, refused, replied, text_reply, HasItsStatus, IsStopped, RefusalsHaveTheirStatus, firm_step, kind_step}
 
 refused-status : (r : Refusal) → HasItsStatus (refused r)
 refused-status r s is = let same : r ≡ s = cc in ap status_of same

@@ -1,14 +1,6 @@
 -- A step by its reply.
-use Rattle.std.proofs.Common.{◌≡◌, inl, inr, ℕ, Bool, true, false, [], refl}
-use Rattle.std.specs.Prelude.{MatchBool}
-use Rattle.trust_base.specs.Refusals.{is_fault}
-use Rattle.trust_base.specs.declared.refusal.Refusal.{Refusal}
+use Rattle.trust_desk.proofs.Names.{◌≡◌, inl, inr, ℕ, Bool, true, false, [], refl, MatchBool, is_fault, Refusal, Firm, Reply, Heard, Kind, OfMatter, OfItems, Dismisses, OnlyTold, NotRead, kind_of, is_fault_reply, refused, IsFaultReply, IsStopped, KindStopped, Stopped, Steps, firm_step}
 use Rattle.trust_base.specs.declared.refusal.Refusal.TheVariants as refusals
-use Rattle.firm_rows.specs.Firm.{Firm}
-use Rattle.trust_desk.specs.declared.requests.Reply.{Reply}
-use Rattle.trust_desk.specs.Heard.{Heard, Kind, OfMatter, OfItems, Dismisses, OnlyTold, NotRead, kind_of}
-use Rattle.trust_desk.specs.Replies.{is_fault_reply, refused}
-use Rattle.trust_desk.specs.FirmStep.{IsFaultReply, IsStopped, KindStopped, Stopped, Steps, firm_step}
 
 kind-not_done : (day : ℕ) (firm : Firm) (k : Kind) → KindStopped day firm k firm
 kind-not_done day firm (OfMatter m caller ask) = refl

@@ -4,8 +4,8 @@ use Rattle.firm_rows.specs.Countable.{IsCountable}
 use Rattle.firm_rows.specs.Firm.{Firm}
 use Rattle.trust_reports.specs.Reconciliations.{ReconciliationKept, ReconciliationTold, all_kept}
 use Rattle.trust_desk.specs.Reports.{text_of}
-use Rattle.trust_desk.specs.declared.reporting.Reconciled.{Reconciled}
-use Rattle.trust_desk.specs.declared.reporting.Reconciled.TheVariants as answer
+use Rattle.trust_desk.specs.declared.desk.Reconciled.{Reconciled}
+use Rattle.trust_desk.specs.declared.desk.Reconciled.TheVariants as answer
 
 -- all rows of the firm were received, and can be counted
 pub record IsKeptOf (day : ℕ) (firm : Firm) (kept : ReconciliationKept) : Type 0 where

@@ -20,6 +20,7 @@ pub mod Checking
 pub mod Crashes
 pub mod Answered
 pub mod Applied
+pub mod Beside
 pub mod Matching
 pub mod Kept
 pub mod Reports

@@ -19,7 +19,7 @@ use Rattle.trust_matter.specs.KeptFacts.{holds_for}
 use Rattle.trust_matter.specs.Step.{refusal, IsDecided, MayRefuse}
 use Rattle.firm_rows.specs.Firm.{Firm, of}
 use Rattle.trust_desk.specs.declared.requests.Reply.{Reply}
-use Rattle.trust_desk.specs.declared.planning.Planned.{Planned}
+use Rattle.trust_desk.specs.declared.desk.Planned.{Planned}
 use Rattle.trust_desk.specs.Replies.{body_of, reply_of}
 use Rattle.trust_desk.specs.FirmStep.{after_ask}
 

@@ -9,8 +9,8 @@ use Rattle.trust_matter.specs.declared.ask.Caller.{Caller}
 use Rattle.trust_matter.specs.Step.{first}
 use Rattle.firm_rows.specs.Firm.{Firm}
 use Rattle.trust_desk.specs.Reports.{exceptions_report, has_no_statement, is_period_purged, journal_report, own_card_report, reconciliation_report, retention_report, trial_report}
-use Rattle.trust_desk.specs.declared.reporting.Reconciled.{Reconciled}
-use Rattle.trust_desk.specs.declared.reporting.Reconciled.TheVariants as found
+use Rattle.trust_desk.specs.declared.desk.Reconciled.{Reconciled}
+use Rattle.trust_desk.specs.declared.desk.Reconciled.TheVariants as found
 use Rattle.trust_desk.specs.declared.requests.Report.{Report}
 use Rattle.trust_desk.specs.declared.requests.Report.TheVariants.{Exceptions, Trial, Journal, Reconciliation, Retention, OwnLedger}
 use Rattle.trust_desk.specs.declared.requests.Reply.{Reply}

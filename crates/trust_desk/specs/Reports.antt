@@ -10,8 +10,8 @@ use Rattle.trust_reports.specs.Retained.{retention_list}
 use Rattle.trust_reports.specs.TextsOfLedgers.{own_card_text}
 use Rattle.trust_reports.specs.TextsOfLists.{exceptions_text, journal_text, retention_text, trial_text}
 use Rattle.trust_reports.specs.TextsOfReconciliation.{reconciliation_text}
-use Rattle.trust_desk.specs.declared.reporting.Reconciled.{Reconciled}
-use Rattle.trust_desk.specs.declared.reporting.Reconciled.TheVariants as answer
+use Rattle.trust_desk.specs.declared.desk.Reconciled.{Reconciled}
+use Rattle.trust_desk.specs.declared.desk.Reconciled.TheVariants as answer
 
 -- On a business day.
 

@@ -1,26 +1,26 @@
-//! What a book's rows show in addition to a report: a bank line that cleared two entries, and work after the day.
+//! The bank lines that a book has, and what they show: a line that cleared two entries, and work after a day.
 
 ghost use Rattle.trust_store.specs.Calls.{IsRead};
 
 use crate::desk::Desk;
 use crate::watching::{ClearedLine, RowWatch};
-use firm_rows::{FirmLine, FirmLineSink, Owner, RowSink};
+use firm_rows::{FirmLine, FirmLineSink, MatterRow, MatterRowSink, Owner};
 use std::alloc::{AllocError, Global};
 use std::cmp::Ordering;
 use std::marker::Model;
-use trust_base::{Day, EntryNo, MatterNo, StoreFault};
-use trust_matter::{Clearing, DepositState, Entry, Head, PaymentState, Seat};
+use trust_base::{Day, EntryNo, Line, MatterNo, StoreFault};
+use trust_matter::{Clearing, DepositState, Entry, PaymentState};
 use trust_store::Book;
 
-/// Collects the bank lines that cleared entries, and the firm's own, dated between two days given by their numbers, and
-/// the last day of any matter.
-///
-/// Contracts see nothing of it.
+// Collects the bank lines that cleared entries, and the firm's own, dated between two days given by their numbers, and
+// the last day of any matter.
+//
+// Contracts see nothing of it.
 #[derive(Drop)]
-pub(crate) struct ClearedLines {
+struct ClearedLines {
     from: u32,
     to: u32,
-    pub(crate) lines: Vec<ClearedLine>,
+    lines: Vec<ClearedLine>,
     last: Option<Day>,
 }
 
@@ -31,6 +31,16 @@ impl Model for ClearedLines {
 }
 
 impl ClearedLines {
+    // Collects from the first to the last of these days.
+    fn between(alloc: Global, from: u32, to: u32) -> ClearedLines {
+        ClearedLines {
+            from,
+            to,
+            lines: Vec::new(alloc),
+            last: None,
+        }
+    }
+
     // Adds what a line cleared, if its date is between the two days.
     fn keep(&mut self, owner: &Owner, line: &Clearing, amount: i64) -> Result<(), AllocError> {
         let day = line.bank_day;
@@ -46,34 +56,16 @@ impl ClearedLines {
         })?;
         Ok(())
     }
-}
 
-impl RowSink for ClearedLines {
-    ghost stepped = { λ lines row. lines };
-
-    fn head(&mut self, _matter: MatterNo, head: &Head) -> Result<(), AllocError> {
-        match self.last {
-            Some(last) if head.last.get() <= last.get() => {}
-            _ => self.last = Some(head.last),
-        }
-        Ok(())
-    }
-
-    fn seat(&mut self, _matter: MatterNo, _seat: &Seat) -> Result<(), AllocError> {
-        Ok(())
-    }
-
-    fn entry(
+    // Adds the lines that cleared an entry or took it back.
+    fn keep_entry(
         &mut self,
         matter: MatterNo,
-        number: EntryNo,
-        entry: &Entry,
+        entry: EntryNo,
+        kept: &Entry,
     ) -> Result<(), AllocError> {
-        let owner = Owner::Matter {
-            matter,
-            entry: number,
-        };
-        match entry {
+        let owner = Owner::Matter { matter, entry };
+        match kept {
             Entry::Deposit(deposit) => {
                 let amount = deposit.amount.get() as i64;
                 match &deposit.state {
@@ -96,6 +88,24 @@ impl RowSink for ClearedLines {
     }
 }
 
+impl MatterRowSink for ClearedLines {
+    ghost taken = { λ lines row. lines };
+
+    fn matter_row(&mut self, matter: MatterNo, row: MatterRow<'_>) -> Result<(), AllocError> {
+        match row {
+            MatterRow::Head(head) => match self.last {
+                Some(last) if head.last.get() <= last.get() => Ok(()),
+                _ => {
+                    self.last = Some(head.last);
+                    Ok(())
+                }
+            },
+            MatterRow::Seat(_seat) => Ok(()),
+            MatterRow::Entry(number, entry) => self.keep_entry(matter, number, entry),
+        }
+    }
+}
+
 impl FirmLineSink for ClearedLines {
     ghost lined = { λ lines line. lines };
 
@@ -109,8 +119,8 @@ impl FirmLineSink for ClearedLines {
     }
 }
 
-/// Compares by date, amount and bank reference.
-pub(crate) fn order_of(one: &ClearedLine, other: &ClearedLine) -> Ordering {
+// Compares by date, amount and bank reference.
+fn order_of(one: &ClearedLine, other: &ClearedLine) -> Ordering {
     let by_date = one.date.get().cmp(&other.date.get());
     let by_amount = by_date.then(one.amount.cmp(&other.amount));
     by_amount.then(one.bank_ref.as_slice().cmp(other.bank_ref.as_slice()))
@@ -136,24 +146,38 @@ fn month_before(day: Day) -> u32 {
     }
 }
 
-/// Reads the rows of a book, collecting the lines dated between two days given by their numbers.
-pub(crate) fn rows_of<B: Book>(
-    alloc: Global,
-    book: &mut B,
-    from: u32,
-    to: u32,
-) -> Result<ClearedLines, StoreFault>
+// Reads the bank lines of a book, and the last day of any matter.
+fn collect<B: Book>(book: &mut B, found: &mut ClearedLines) -> Result<(), StoreFault>
     ensures { IsRead B.firm B.clean B.sure B.stands B.lasts B.leaves B.refusals result book.old book.new }
 {
-    let mut found = ClearedLines {
-        from,
-        to,
-        lines: Vec::new(alloc),
-        last: None,
-    };
-    book.each_row(&mut found)?;
-    book.each_firm_line(&mut found)?;
-    Ok(found)
+    book.each_row(found)?;
+    book.each_firm_line(found)?;
+    Ok(())
+}
+
+/// The bank lines that a book has: those that cleared an entry or took it back, and the firm's own. An imported line is
+/// looked up among them by date, bank reference and amount.
+#[derive(Drop)]
+pub struct EarlierLines {
+    // Sorted by date, amount and bank reference.
+    lines: Vec<ClearedLine>,
+}
+
+// Compares one of them with a line of a statement.
+fn order_beside(one: &ClearedLine, line: &Line) -> Ordering {
+    let by_date = one.date.get().cmp(&line.date.get());
+    let by_amount = by_date.then(one.amount.cmp(&line.amount.get()));
+    by_amount.then(one.bank_ref.as_slice().cmp(line.bank_ref.as_slice()))
+}
+
+impl EarlierLines {
+    /// Returns a line with the same date, bank reference and amount, if there is one.
+    pub fn same_as(&self, line: &Line) -> Option<&ClearedLine> {
+        match self.lines.binary_search_by(|one| order_beside(one, line)) {
+            Ok(place) => self.lines.get(place),
+            Err(_) => None,
+        }
+    }
 }
 
 impl<B: Book> Desk<B> {
@@ -169,15 +193,30 @@ impl<B: Book> Desk<B> {
         day: Day,
         watch: &V,
     ) -> Result<(), StoreFault>
-        ensures read { IsRead B.firm B.clean B.sure B.stands B.lasts B.leaves B.refusals result self.old self.new }
+        ensures { IsRead B.firm B.clean B.sure B.stands B.lasts B.leaves B.refusals result self.old self.new }
     {
-        let rows = rows_of(alloc, &mut self.book, month_before(day), day.get())?;
-        let mut lines = rows.lines;
+        let mut found = ClearedLines::between(alloc, month_before(day), day.get());
+        collect(&mut self.book, &mut found)?;
+        let mut lines = found.lines;
         lines.sort_by(|one, other| order_of(one, other))?;
         tell_of_same(&lines, watch);
-        if let Some(last) = rows.last {
+        if let Some(last) = found.last {
             watch.worked_on(last);
         }
         Ok(())
+    }
+
+    /// Returns the bank lines that the book has, of any day, for reports on lines that are imported later. The book is
+    /// unchanged.
+    ///
+    /// Returns `Store` if the book's store failed, and `Memory` if memory ran out.
+    pub fn earlier_lines(&mut self, alloc: Global) -> Result<EarlierLines, StoreFault>
+        ensures read { IsRead B.firm B.clean B.sure B.stands B.lasts B.leaves B.refusals result self.old self.new }
+    {
+        let mut found = ClearedLines::between(alloc, 0, u32::MAX);
+        collect(&mut self.book, &mut found)?;
+        let mut lines = found.lines;
+        lines.sort_by(|one, other| order_of(one, other))?;
+        Ok(EarlierLines { lines })
     }
 }

@@ -1,6 +1,6 @@
 //! Imports statements of the bank, item by item.
 
-ghost use Rattle.std.specs.Prelude.{◌≡◌, ◌-◌, ◌^◌, IfNone, IfSome, None, Some, false, option_map};
+ghost use Rattle.std.specs.Prelude.{◌≡◌, ◌-◌, ◌^◌, ℕ, IfNone, IfSome, None, Some, false, option_map};
 ghost use Rattle.std.specs.Io.KnownBytes.{Keeps};
 ghost use Rattle.trust_base.specs.declared.refusal.Field.TheVariants as field;
 ghost use Rattle.trust_base.specs.declared.refusal.Refusal.TheVariants as refusal;
@@ -8,15 +8,17 @@ ghost use Rattle.statement_csv.specs.Items.{items};
 ghost use Rattle.statement_csv.specs.Limits.{IsTooLong, IsWithin};
 ghost use Rattle.statement_csv.specs.Reading.{Gives, LacksHeader};
 ghost use Rattle.firm_rows.specs.Firm.{Firm};
+ghost use Rattle.firm_rows.specs.FirmLines.{firm_verdict};
 ghost use Rattle.trust_desk.specs.Calls.{KeepsBook};
 ghost use Rattle.trust_desk.specs.Crashes.{IsAfterFirst, IsAfterNext, IsNotStopped, MayLeave, is_stopped};
 ghost use Rattle.trust_desk.specs.Imports.{AreBelow, Imports, IsStop, KeepsAllUnnamed, TakesOne, counted_if, counted_stop};
 ghost use Rattle.trust_desk.specs.Applied.{IsImported, IsItemApplied};
+ghost use Rattle.trust_desk.specs.Beside.{IsAppliedBeside, KeepsBeside, StandsBeside, lines_after};
 ghost use Rattle.trust_desk.specs.ItemStep.{DecidesLine, balance_item, count_item, counted_by, counted_verdict};
 
 use crate::desk::Desk;
 use crate::watching::{At, ItemWatch, NotApplied};
-use firm_rows::{BalanceKind, FirmLedger, Verdict, decide_balance, decide_firm_line};
+use firm_rows::{BalanceKind, FirmLedger, FirmLine, Verdict, decide_balance, decide_firm_line};
 use matter_bodies::ImportReply;
 use statement_csv::{Item, Lines, ReadFault, Whole};
 use std::alloc::Global;
@@ -146,6 +148,23 @@ pub(crate) fn counted_line<V: ItemWatch>(
     }
 }
 
+// The firm's own ledger after a line with this verdict. None if memory ran out.
+fn ledger_with(mut ledger: FirmLedger, line: &Line, verdict: Verdict) -> Option<FirmLedger>
+    requires { (today : ℕ) × (verdict ≡ firm_verdict ledger line.now today) }
+    ensures { IfSome result (λ lines. lines ≡ lines_after line.now verdict ledger) }
+{
+    match verdict {
+        Verdict::Applied => match FirmLine::of(line) {
+            Ok(added) => match ledger.add(added) {
+                Ok(()) => Some(ledger),
+                Err(_) => None,
+            },
+            Err(_) => None,
+        },
+        Verdict::Repeat | Verdict::Unmatched => Some(ledger),
+    }
+}
+
 /// Reports a line of the firm's own, if it is an exception.
 pub(crate) fn tell_of_firm_line<V: ItemWatch>(
     at: &At<'_, V>,
@@ -176,15 +195,18 @@ impl<B: Book> Desk<B> {
     // added to its ledger, and a balance is put on file; or else the item is a repeat or becomes an exception. A stray
     // line always becomes an exception. A record that is not a line changes nothing. On an error nothing has changed.
     // Exceptions and records that are not lines are reported to the watcher afterwards.
+    //
+    // `own` is the firm's own ledger, if an earlier item of the import read it.
     fn apply_item<V: ItemWatch>(
         &mut self,
         alloc: Global,
+        own: &mut Option<FirmLedger>,
         item: &Item,
         day: Day,
         at: &At<'_, V>,
     ) -> Result<Counted, StoreFault>
-        ensures { IsItemApplied B.firm B.clean B.sure B.stands B.lasts B.leaves B.refusals day item.now result
-            self.old self.new }
+        ensures { IsAppliedBeside B.firm B.clean B.sure B.stands B.lasts B.leaves B.refusals day item.now result
+            self.old own.old self.new own.new }
     {
         match item {
             Item::OfMatter(line) => {
@@ -195,13 +217,7 @@ impl<B: Book> Desk<B> {
                 self.book.write_line(alloc, line, &verdict)?;
                 Ok(counted_line(at, line, &matter, &verdict))
             }
-            Item::OfFirm(line) => {
-                let ledger = self.book.firm(alloc)?;
-                let verdict = decide_firm_line(&ledger, line, day);
-                self.book.write_firm(alloc, line, verdict)?;
-                tell_of_firm_line(at, line, &ledger, verdict);
-                Ok(counted_by(verdict))
-            }
+            Item::OfFirm(line) => self.apply_firm_line(alloc, own, line, day, at),
             Item::Opening(line) => self.apply_balance(alloc, BalanceKind::Opening, line, day, at),
             Item::Closing(line) => self.apply_balance(alloc, BalanceKind::Closing, line, day, at),
             Item::Stray(line) => {
@@ -214,6 +230,48 @@ impl<B: Book> Desk<B> {
                 Ok(Counted::Unreadable)
             }
         }
+    }
+
+    // Applies a line of the firm's own. Its ledger is read unless an earlier item read it.
+    fn apply_firm_line<V: ItemWatch>(
+        &mut self,
+        alloc: Global,
+        own: &mut Option<FirmLedger>,
+        line: &Line,
+        day: Day,
+        at: &At<'_, V>,
+    ) -> Result<Counted, StoreFault>
+        ensures { IsAppliedBeside B.firm B.clean B.sure B.stands B.lasts B.leaves B.refusals day (Item.OfFirm line.now)
+            result self.old own.old self.new own.new }
+    {
+        match own.take() {
+            Some(ledger) => self.add_firm_line(alloc, own, ledger, line, day, at),
+            None => {
+                let ledger = self.book.firm(alloc)?;
+                self.add_firm_line(alloc, own, ledger, line, day, at)
+            }
+        }
+    }
+
+    // The same, by the firm's ledger, which then is that of `own`.
+    fn add_firm_line<V: ItemWatch>(
+        &mut self,
+        alloc: Global,
+        own: &mut Option<FirmLedger>,
+        ledger: FirmLedger,
+        line: &Line,
+        day: Day,
+        at: &At<'_, V>,
+    ) -> Result<Counted, StoreFault>
+        requires { own.old ≡ None }
+        ensures { IsAppliedBeside B.firm B.clean B.sure B.stands B.lasts B.leaves B.refusals day (Item.OfFirm line.now)
+            result self.old (Some ledger) self.new own.new }
+    {
+        let verdict = decide_firm_line(&ledger, line, day);
+        self.book.write_firm(alloc, line, verdict)?;
+        tell_of_firm_line(at, line, &ledger, verdict);
+        *own = ledger_with(ledger, line, verdict);
+        Ok(counted_by(verdict))
     }
 
     // Applies an opening or a closing balance.
@@ -305,11 +363,12 @@ impl<B: Book> Desk<B> {
             unreadable: 0,
             statement: None,
         };
+        let mut own = None;
         // No statement has this many items. The bound keeps the counts from overflowing.
         for turn in 0..u64::MAX {
             let number = turn.saturating_add(1);
             let at = At { number, watch };
-            if let Some(end) = self.import_next(alloc, &mut lines, day, &at, &mut reply) {
+            if let Some(end) = self.import_next(alloc, &mut own, &mut lines, day, &at, &mut reply) {
                 return ImportEnd { reply, end };
             }
         }
@@ -319,10 +378,12 @@ impl<B: Book> Desk<B> {
         }
     }
 
-    // Applies and counts the next item of a statement, or returns how the import ends.
+    // Applies and counts the next item of a statement, or returns how the import ends. `own` is the firm's own ledger,
+    // if an earlier item read it.
     fn import_next<R: Read, V: ItemWatch, K: Whole>(
         &mut self,
         alloc: Global,
+        own: &mut Option<FirmLedger>,
         lines: &mut Lines<R, K>,
         day: Day,
         at: &At<'_, V>,
@@ -330,23 +391,25 @@ impl<B: Book> Desk<B> {
     ) -> Option<ImportStop>
         requires room { AreBelow (2 ^ 64 - 1) reply.old }
         ensures takes { IfNone result
-            (TakesOne day (B.clean self.new × B.stands self.old) (B.firm self.old) (B.firm self.new)
-            lines.old.left lines.new.left reply.old reply.new) }
+            (TakesOne day (B.clean self.new × StandsBeside B.firm B.stands self.old own.old) (B.firm self.old)
+            (B.firm self.new) lines.old.left lines.new.left reply.old reply.new) }
         ensures keeps { IfSome result (λ end. (reply.new ≡ reply.old)
-            × (B.clean self.new → B.stands self.old → B.firm self.new ≡ B.firm self.old)) }
+            × (B.clean self.new → StandsBeside B.firm B.stands self.old own.old → B.firm self.new ≡ B.firm self.old)) }
         ensures stops { IfSome result IsStop }
         ensures done { result ≡ Some ImportStop.Done → Gives lines.old.left lines.new.left None }
         ensures header { result ≡ Some (ImportStop.Refused (refusal.BadField field.Header))
             → LacksHeader lines.old.left }
         ensures limit { result ≡ Some ImportStop.Limit → IsTooLong K.bytes }
         ensures within { result ≡ Some ImportStop.Done → IsWithin K.bytes }
-        ensures kept { KeepsBook B.clean B.sure B.stands B.lasts B.refusals (counted_if result) self.old self.new }
-        ensures crash { B.sure self.new → B.clean self.old → B.stands self.old → MayLeave B.clean B.leaves
+        ensures kept { KeepsBeside B.firm B.clean B.sure B.stands B.lasts B.refusals (counted_if result)
+            self.old own.old self.new own.new }
+        ensures crash { B.sure self.new → B.clean self.old → StandsBeside B.firm B.stands self.old own.old
+            → MayLeave B.clean B.leaves
             (IsNotStopped result) (IsAfterNext day (B.firm self.old) lines.old.left) (B.firm self.old) (B.firm self.new)
             self.old self.new }
     {
         match lines.next() {
-            Ok(Some(item)) => match self.apply_item(alloc, &item, day, at) {
+            Ok(Some(item)) => match self.apply_item(alloc, own, &item, day, at) {
                 Ok(counted) => {
                     count_item(reply, &item, counted);
                     tell_of_applied(at, &item, counted);

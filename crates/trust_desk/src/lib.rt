@@ -5,25 +5,18 @@
 mod checking;
 mod cleared_lines;
 mod desk;
-mod dismissing;
-mod earlier_lines;
-mod exceptions_sink;
+mod exceptions;
 mod explaining;
-mod import_checks;
 mod importing;
 pub mod laws;
 mod matching;
-mod matters_seen;
-mod planning;
-mod reporting;
 mod requests;
-mod rows_seen;
 mod unread;
 mod watching;
 
 pub use checking::{Checked, RowCounts};
+pub use cleared_lines::EarlierLines;
 pub use desk::Desk;
-pub use earlier_lines::EarlierLines;
 pub use firm_audit::Flaw;
 pub use importing::{Counted, ImportEnd, ImportStop};
 pub use matter_bodies::{ImportReply, entry_body, import_body, matter_body, receipt_body};

@@ -9,8 +9,7 @@ ghost use Rattle.trust_desk.specs.Heard.{Heard, OnlyTold, kind_of};
 ghost use Rattle.trust_desk.specs.MatchStep.{IsMatched, match_text, text_in};
 
 use crate::desk::Desk;
-use crate::import_checks::check_import;
-use crate::requests::{Body, MatchText, Reply};
+use crate::requests::{Body, MatchText, Reply, check_import};
 use statement_match::{Matched, match_statement};
 use std::alloc::Global;
 use trust_base::{Day, OwnedBytes, Refusal};

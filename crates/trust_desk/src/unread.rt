@@ -5,11 +5,13 @@ ghost use Rattle.trust_desk.specs.Checking.{AreReads};
 ghost use Rattle.trust_store.specs.Calls.{IsRead};
 
 use crate::desk::Desk;
-use crate::matters_seen::MattersSeen;
-use crate::rows_seen::RowsSeen;
-use firm_rows::BalanceKind;
-use std::alloc::Global;
-use trust_base::{Day, EntryNo, MatterNo, StoreFault};
+use firm_rows::{
+    BalanceKind, BalanceSink, ExceptionSink, FirmLine, FirmLineSink, MatterRow, MatterRowSink,
+    Movement, MovementSink, StatementRow,
+};
+use std::alloc::{AllocError, Global};
+use std::marker::Model;
+use trust_base::{Day, EntryNo, Line, MatterNo, StoreFault};
 use trust_store::Book;
 
 /// The part of a book that can't be read, though its store works.
@@ -36,6 +38,113 @@ pub enum Unread {
     Balance(u64),
     /// None of these: the rows can't be read together.
     Elsewhere,
+}
+
+// The numbers of the matters whose heads it received, and the matter of the last row, with the entry's number if that
+// row was an entry.
+//
+// Contracts see nothing of it.
+#[derive(Drop)]
+struct MattersSeen {
+    matters: Vec<MatterNo>,
+    last: Option<(MatterNo, Option<EntryNo>)>,
+}
+
+impl Model for MattersSeen {
+    ghost Value = { Unit };
+
+    ghost view = { λ seen. tt };
+}
+
+impl MattersSeen {
+    fn new(alloc: Global) -> MattersSeen {
+        MattersSeen {
+            matters: Vec::new(alloc),
+            last: None,
+        }
+    }
+}
+
+impl MatterRowSink for MattersSeen {
+    ghost taken = { λ seen row. seen };
+
+    fn matter_row(&mut self, matter: MatterNo, row: MatterRow<'_>) -> Result<(), AllocError> {
+        match row {
+            MatterRow::Head(_head) => {
+                self.matters.push(matter)?;
+                self.last = Some((matter, None));
+            }
+            MatterRow::Seat(_seat) => {}
+            MatterRow::Entry(number, _entry) => self.last = Some((matter, Some(number))),
+        }
+        Ok(())
+    }
+}
+
+// Counts the rows that it receives, of any kind that is of no matter.
+//
+// Contracts see nothing of it.
+#[derive(Drop)]
+struct RowsSeen {
+    count: u64,
+}
+
+impl Model for RowsSeen {
+    ghost Value = { Unit };
+
+    ghost view = { λ seen. tt };
+}
+
+impl RowsSeen {
+    fn new() -> RowsSeen {
+        RowsSeen { count: 0 }
+    }
+
+    // The number of the next row.
+    fn next(&self) -> u64 {
+        self.count.saturating_add(1)
+    }
+
+    // Counts one more row.
+    fn see(&mut self) {
+        self.count = self.count.saturating_add(1);
+    }
+}
+
+impl ExceptionSink for RowsSeen {
+    ghost noted = { λ seen line. seen };
+
+    fn exception(&mut self, _line: &Line) -> Result<(), AllocError> {
+        self.see();
+        Ok(())
+    }
+}
+
+impl MovementSink for RowsSeen {
+    ghost moved = { λ seen movement. seen };
+
+    fn movement(&mut self, _movement: &Movement) -> Result<(), AllocError> {
+        self.see();
+        Ok(())
+    }
+}
+
+impl FirmLineSink for RowsSeen {
+    ghost lined = { λ seen line. seen };
+
+    fn firm_line(&mut self, _line: &FirmLine) -> Result<(), AllocError> {
+        self.see();
+        Ok(())
+    }
+}
+
+impl BalanceSink for RowsSeen {
+    ghost balanced = { λ seen row. seen };
+
+    fn balance(&mut self, _row: &StatementRow) -> Result<(), AllocError> {
+        self.see();
+        Ok(())
+    }
 }
 
 // Whether a read succeeded. Out of memory is passed on as an error.

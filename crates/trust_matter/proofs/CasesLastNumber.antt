@@ -1,17 +1,6 @@
 -- Behind the last number no entry is made.
-use Rattle.std.specs.Prelude.{nat_lt}
-use Rattle.std.proofs.Common.{◌≡◌, ℕ, ◌≤◌, Bool, true, false, cond, List, length, refl, sym, subst, arith, Option, Some, None}
-use Rattle.std.proofs.lemmas.Bool.{false≢true}
-use Rattle.std.proofs.lemmas.Bool.Decides.{nat_tests}
-use Rattle.trust_base.specs.declared.refusal.Refusal.{Refusal}
+use Rattle.trust_matter.proofs.Names.{nat_lt, ◌≡◌, ℕ, ◌≤◌, Bool, true, false, cond, List, length, refl, sym, subst, arith, Option, Some, None, false≢true, nat_tests, Refusal, Entry, Head, Seat, is_of_nobody, Rows, is_repeat, Asked, facts_of, first, conditions, early_conditions, refusal, edit_on, after}
 use Rattle.trust_base.specs.declared.refusal.Refusal.TheVariants as refusals
-use Rattle.matter_rows.specs.declared.entry.Entry.{Entry}
-use Rattle.matter_rows.specs.declared.head.Head.{Head}
-use Rattle.matter_rows.specs.declared.seat.Seat.{Seat}
-use Rattle.matter_rows.specs.Rows.{is_of_nobody, Rows}
-use Rattle.trust_matter.specs.Conditions.{is_repeat}
-use Rattle.trust_matter.specs.Facts.{Asked, facts_of}
-use Rattle.trust_matter.specs.Step.{first, conditions, early_conditions, refusal, edit_on, after}
 use Rattle.trust_matter.specs.Cases.{by_cashier, retainer, FullIsTold}
 
 not-back : (day last : ℕ) → last ≤ day → nat_lt day last ≡ false

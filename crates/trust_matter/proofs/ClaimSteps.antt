@@ -1,41 +1,14 @@
 -- Fees and claims, as steps.
-use Rattle.std.specs.Prelude.{nat_lt, is_none, ◌==◌}
-use Rattle.std.proofs.Common.{◌≡◌, ℕ, ◌<◌, ◌≤◌, not, ◌&&◌, true, false, List, [], length, refl, sym, ◌∙◌, arith, subst, Option, Some, None, inl, inr, ℤ, pos, negsuc, ◌≤ℤ◌, ◌-ℤ◌}
-use Rattle.std.proofs.lemmas.Int.{ints}
-use Rattle.std.proofs.lemmas.Bool.{false≢true}
-use Rattle.std.proofs.lemmas.Bool.Decides.{nat_tests}
-use Rattle.trust_base.specs.Limits.{IsAmount}
-use Rattle.matter_rows.specs.declared.claim.Against.{Against}
+use Rattle.trust_matter.proofs.Names.{nat_lt, is_none, ◌≡◌, ℕ, ◌<◌, ◌≤◌, not, ◌&&◌, true, false, List, [], length, refl, sym, ◌∙◌, arith, subst, Option, Some, None, inl, inr, ℤ, pos, negsuc, ◌≤ℤ◌, ◌-ℤ◌, ints, false≢true, nat_tests, IsAmount, Against, ClaimState, Entry, Head, Seat, names, is_fee, is_general, is_settled, available, left_of, of_kind, exceeds, left_in, events_of, target_in, draw, worth, available_share, against_no, has_settled, to_client, to_claimant, off_fee, on_fee, on_general, entry_at, AreBacked, IsBy, IsRising, IsRanged, Sound, days_of, part_of, made-before, all-at, within, MayAdd, MayTake, target-apart, total-undrawn, Numbered, left-drawn, left-moved, rows-of, MovesWithin, Ask, Caller, FeeAsk, ClaimAsk, against_left, is_on_fee, is_no_fee, is_no_claim, is_claim_settled, is_claim_without_offer, is_offered_state, is_another_offer, exceeds_claim, differs_from_offer, facts_of, number_named, other_of, HasAmount, edit_of, fee_of, claim_of, with_claim, settled}
+use Rattle.std.specs.Prelude.{◌==◌}
 use Rattle.matter_rows.specs.declared.claim.Against.TheVariants as against
 use Rattle.matter_rows.specs.declared.claim.Claim.{Claim}
-use Rattle.matter_rows.specs.declared.claim.ClaimState.{ClaimState}
 use Rattle.matter_rows.specs.declared.claim.ClaimState.TheVariants as claim
 use Rattle.matter_rows.specs.declared.fee.Fee.{Fee}
-use Rattle.matter_rows.specs.declared.entry.Entry.{Entry}
 use Rattle.matter_rows.specs.declared.entry.Entry.TheVariants as entry
-use Rattle.matter_rows.specs.declared.head.Head.{Head}
-use Rattle.matter_rows.specs.declared.seat.Seat.{Seat}
-use Rattle.matter_rows.specs.Balances.{names, is_fee, is_general, is_settled, available, left_of, passes as of_kind, exceeds, left_in}
-use Rattle.matter_rows.specs.Events.{events_of}
-use Rattle.matter_rows.specs.Shares.{target_in, draw, worth, available_share, against_no, has_settled, to_client, to_claimant, off_fee, on_fee, on_general}
-use Rattle.matter_rows.specs.Rows.{entry_at}
-use Rattle.matter_rows.specs.Sound.{AreBacked, IsBy, IsRising, IsRanged, Sound, days_of, part_of}
-use Rattle.matter_rows.proofs.Days.{made-before}
-use Rattle.matter_rows.proofs.Entries.{all-at, within}
-use Rattle.matter_rows.proofs.Keeping.{MayAdd, MayTake, target-apart, total-undrawn}
 use Rattle.matter_parts.specs.declared.edit.Edit.TheVariants as edit
-use Rattle.matter_parts.specs.declared.edit.Numbered.{Numbered}
-use Rattle.matter_parts.proofs.Editing.{left-drawn, left-moved}
-use Rattle.matter_parts.proofs.StepForms.{rows-of, MovesWithin}
-use Rattle.trust_matter.specs.declared.ask.Ask.{Ask}
 use Rattle.trust_matter.specs.declared.ask.Ask.TheVariants as ask
-use Rattle.trust_matter.specs.declared.ask.Caller.{Caller}
-use Rattle.trust_matter.specs.declared.fee.FeeAsk.{FeeAsk}
-use Rattle.trust_matter.specs.declared.claim.ClaimAsk.{ClaimAsk}
 use Rattle.trust_matter.specs.declared.claim.SplitAsk.{SplitAsk}
-use Rattle.trust_matter.specs.Conditions.{against_left, is_on_fee, is_no_fee, is_no_claim, is_claim_settled, is_claim_without_offer, is_offered_state, is_another_offer, exceeds_claim, differs_from_offer}
-use Rattle.trust_matter.specs.Facts.{facts_of, number_named, other_of}
-use Rattle.trust_matter.specs.Step.{HasAmount, edit_of, fee_of, claim_of, with_claim, settled}
 use Rattle.trust_matter.proofs.StepForms.{step-append, step-exchange, exchange-moves, next-is, not-false, asked, Stepped}
 use Rattle.trust_matter.proofs.Table.{Passes}
 
@@ -207,14 +180,14 @@ unfolding events_of
 restating-moves es n last day d next at = exchange-moves es (record { number = n; entry = with-state d next }) last day [] (rw at refl) tt
 
 -- the days of a claim in another state are not after a day, and rise
-abbrev AreDays : ℕ → ClaimState → Type 0
+abbrev pub AreDays : ℕ → ClaimState → Type 0
 AreDays day next = (d : Claim) → d.book ≤ day → IsBy day (with-state d next) × IsRising (with-state d next)
 
-offered-days : (day part : ℕ) → AreDays day (claim.Offered part)
+pub offered-days : (day part : ℕ) → AreDays day (claim.Offered part)
 unfolding days_of
 offered-days day part d made = ((made, tt), tt)
 
-settled-days : (day part : ℕ) → AreDays day (settled day part)
+pub settled-days : (day part : ℕ) → AreDays day (settled day part)
 unfolding days_of
 settled-days day part d made = ((made, (omega arith, tt)), (made, tt))
 
@@ -230,15 +203,12 @@ step-split h seats es c q n day d next number other at s unclosed later unsettle
 not-over : (amount part : ℕ) → nat_lt amount part ≡ false → part ≤ amount
 not-over amount part h = grind (arith, nat_tests)
 
--- An offer.
+-- An offer, or an award.
 
-offer-made : (h : Head) (seats : List Seat) (es : List Entry) (c : Caller) (a : SplitAsk) (day : ℕ) (o : Option Entry) → entry_at es a.number ≡ o → Sound (rows-of (Some h) seats es) → h.closed ≡ None → h.last ≤ day → is_none o ≡ false → is_no_claim o ≡ false → is_claim_settled o ≡ false → exceeds_claim o a.to_client ≡ false → Stepped (Some h) seats es (asked c (ask.Offer a) day) (with_claim a.number o (claim.Offered a.to_client))
-offer-made h seats es c a day (Some (entry.Claim d)) at s unclosed later there kind state split =
-    step-split h seats es c (ask.Offer a) a.number day d (claim.Offered a.to_client) refl (λ e. refl) at s unclosed later state (not-over d.amount a.to_client split) (offered-days day a.to_client)
-offer-made h seats es c a day o at s unclosed later there kind state split = absurd (cc)
-
-pub step-offer : (h : Head) (seats : List Seat) (es : List Entry) (c : Caller) (a : SplitAsk) (day : ℕ) → Sound (rows-of (Some h) seats es) → h.closed ≡ None → h.last ≤ day → Passes (facts_of (rows-of (Some h) seats es) (ask.Offer a)) (asked c (ask.Offer a) day) → Stepped (Some h) seats es (asked c (ask.Offer a) day) (edit_of (ask.Offer a) (entry_at es a.number) day)
-step-offer h seats es c a day s unclosed later p = offer-made h seats es c a day (entry_at es a.number) refl s unclosed later p.there p.kind p.state p.split
+pub step-unsettled : (h : Head) (seats : List Seat) (es : List Entry) (c : Caller) (q : Ask) (n day : ℕ) (next : ClaimState) (o : Option Entry) → number_named q ≡ n → ((e : Option Entry) → other_of q e ≡ target_in e) → AreDays day next → entry_at es n ≡ o → Sound (rows-of (Some h) seats es) → h.closed ≡ None → h.last ≤ day → is_none o ≡ false → is_no_claim o ≡ false → is_claim_settled o ≡ false → exceeds_claim o (part_of next) ≡ false → Stepped (Some h) seats es (asked c q day) (with_claim n o next)
+step-unsettled h seats es c q n day next (Some (entry.Claim d)) number other days at s unclosed later there kind state split =
+    step-split h seats es c q n day d next number other at s unclosed later state (not-over d.amount (part_of next) split) days
+step-unsettled h seats es c q n day next o number other days at s unclosed later there kind state split = absurd (cc)
 
 -- An offer that is accepted: its part is that of the claim.
 
@@ -248,24 +218,11 @@ offered-is (claim.Offered offered) part h g =
     let same : offered ≡ part = grind (arith, nat_tests) in rw same refl
 offered-is s part h g = absurd (cc)
 
-accept-made : (h : Head) (seats : List Seat) (es : List Entry) (c : Caller) (a : SplitAsk) (day : ℕ) (o : Option Entry) → entry_at es a.number ≡ o → Sound (rows-of (Some h) seats es) → h.closed ≡ None → h.last ≤ day → is_none o ≡ false → is_no_claim o ≡ false → is_claim_without_offer o ≡ false → differs_from_offer o a.to_client ≡ false → Stepped (Some h) seats es (asked c (ask.Accept a) day) (with_claim a.number o (settled day a.to_client))
-accept-made h seats es c a day (Some (entry.Claim d)) at s unclosed later there kind state split =
+pub step-accept : (h : Head) (seats : List Seat) (es : List Entry) (c : Caller) (a : SplitAsk) (day : ℕ) (o : Option Entry) → entry_at es a.number ≡ o → Sound (rows-of (Some h) seats es) → h.closed ≡ None → h.last ≤ day → is_none o ≡ false → is_no_claim o ≡ false → is_claim_without_offer o ≡ false → differs_from_offer o a.to_client ≡ false → Stepped (Some h) seats es (asked c (ask.Accept a) day) (with_claim a.number o (settled day a.to_client))
+step-accept h seats es c a day (Some (entry.Claim d)) at s unclosed later there kind state split =
     let is = offered-is d.state a.to_client state split in
     let P : ClaimState → Type 0 = λ v. part_of v ≤ d.amount in
     let le : a.to_client ≤ d.amount = subst P is (all-at IsRanged es a.number (entry.Claim d) s.backed.ranged at).part in
     let unsettled : has_settled d.state ≡ false = rw is refl in
     step-split h seats es c (ask.Accept a) a.number day d (settled day a.to_client) refl (λ e. refl) at s unclosed later unsettled le (settled-days day a.to_client)
-accept-made h seats es c a day o at s unclosed later there kind state split = absurd (cc)
-
-pub step-accept : (h : Head) (seats : List Seat) (es : List Entry) (c : Caller) (a : SplitAsk) (day : ℕ) → Sound (rows-of (Some h) seats es) → h.closed ≡ None → h.last ≤ day → Passes (facts_of (rows-of (Some h) seats es) (ask.Accept a)) (asked c (ask.Accept a) day) → Stepped (Some h) seats es (asked c (ask.Accept a) day) (edit_of (ask.Accept a) (entry_at es a.number) day)
-step-accept h seats es c a day s unclosed later p = accept-made h seats es c a day (entry_at es a.number) refl s unclosed later p.there p.kind p.state p.split
-
--- An award.
-
-award-made : (h : Head) (seats : List Seat) (es : List Entry) (c : Caller) (a : SplitAsk) (day : ℕ) (o : Option Entry) → entry_at es a.number ≡ o → Sound (rows-of (Some h) seats es) → h.closed ≡ None → h.last ≤ day → is_none o ≡ false → is_no_claim o ≡ false → is_claim_settled o ≡ false → exceeds_claim o a.to_client ≡ false → Stepped (Some h) seats es (asked c (ask.Award a) day) (with_claim a.number o (settled day a.to_client))
-award-made h seats es c a day (Some (entry.Claim d)) at s unclosed later there kind state split =
-    step-split h seats es c (ask.Award a) a.number day d (settled day a.to_client) refl (λ e. refl) at s unclosed later state (not-over d.amount a.to_client split) (settled-days day a.to_client)
-award-made h seats es c a day o at s unclosed later there kind state split = absurd (cc)
-
-pub step-award : (h : Head) (seats : List Seat) (es : List Entry) (c : Caller) (a : SplitAsk) (day : ℕ) → Sound (rows-of (Some h) seats es) → h.closed ≡ None → h.last ≤ day → Passes (facts_of (rows-of (Some h) seats es) (ask.Award a)) (asked c (ask.Award a) day) → Stepped (Some h) seats es (asked c (ask.Award a) day) (edit_of (ask.Award a) (entry_at es a.number) day)
-step-award h seats es c a day s unclosed later p = award-made h seats es c a day (entry_at es a.number) refl s unclosed later p.there p.kind p.state p.split
+step-accept h seats es c a day o at s unclosed later there kind state split = absurd (cc)

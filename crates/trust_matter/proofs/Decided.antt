@@ -1,20 +1,5 @@
 -- What is decided on what is kept is decided on the rows.
-use Rattle.std.proofs.Common.{◌≡◌, ℕ, true, ap, sym, ◌∙◌, subst, Result, Ok, Err, IfOk, OnErr, Option, None}
-use Rattle.trust_base.specs.declared.refusal.Refusal.{Refusal}
-use Rattle.matter_rows.specs.declared.head.Head.{Head}
-use Rattle.matter_rows.specs.declared.entry.Entry.{Entry}
-use Rattle.matter_rows.specs.Rows.{Rows, entry_at}
-use Rattle.matter_rows.specs.Sound.{Sound}
-use Rattle.matter_parts.specs.declared.edit.Edit.{Edit}
-use Rattle.matter_parts.specs.declared.change.TotalsAfter.{TotalsAfter}
-use Rattle.matter_parts.specs.Parts.{Part, IsPart, kept_at, entry_in, is_held_or_none}
-use Rattle.matter_parts.specs.Changes.{MatterChange, AreSmallTotals, last_after}
-use Rattle.matter_parts.specs.TotalsAfter.{EditMoved, IsMade, movement_kept}
-use Rattle.matter_parts.proofs.MadeChange.{change-is}
-use Rattle.matter_parts.proofs.NeverStore.{never-store}
-use Rattle.trust_matter.specs.Facts.{Facts, Asked, number_named, other_of}
-use Rattle.trust_matter.specs.KeptFacts.{kept_facts, holds_for}
-use Rattle.trust_matter.specs.Step.{HasAmount, IsDecided, Decides, MayRefuse, AnswersBy, refusal, refusal_of, decided, edit_on}
+use Rattle.trust_matter.proofs.Names.{◌≡◌, ℕ, true, ap, sym, ◌∙◌, subst, Result, Ok, Err, IfOk, OnErr, Option, None, Refusal, Head, Entry, Rows, entry_at, Sound, Edit, TotalsAfter, Part, IsPart, kept_at, entry_in, is_held_or_none, MatterChange, AreSmallTotals, last_after, EditMoved, IsMade, movement_kept, change-is, never-store, Facts, Asked, number_named, other_of, kept_facts, holds_for, HasAmount, IsDecided, Decides, MayRefuse, AnswersBy, refusal, refusal_of, decided, edit_on}
 use Rattle.trust_matter.proofs.Parts.{facts-same, both}
 use Rattle.trust_matter.proofs.StepForms.{IsStep}
 use Rattle.trust_matter.proofs.Steps.{step}

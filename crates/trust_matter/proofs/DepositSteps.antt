@@ -1,34 +1,10 @@
 -- Deposits, as steps.
-use Rattle.std.specs.Prelude.{is_none}
-use Rattle.std.specs.List.{AllByRecursion}
-use Rattle.std.proofs.Common.{◌≡◌, ℕ, ◌+◌, ◌<◌, ◌≤◌, false, List, [], ◌∷◌, ◌++◌, length, refl, ap, subst, arith, Option, Some, None, inl, pos, ◌+ℤ◌, ◌-ℤ◌, ◌≤ℤ◌}
-use Rattle.std.proofs.lemmas.Int.{ints}
-use Rattle.matter_rows.specs.declared.deposit.Deposit.{Deposit}
+use Rattle.trust_matter.proofs.Names.{is_none, AllByRecursion, ◌≡◌, ℕ, ◌+◌, ◌<◌, ◌≤◌, false, List, [], ◌∷◌, ◌++◌, length, refl, ap, subst, arith, Option, Some, None, inl, pos, ◌+ℤ◌, ◌-ℤ◌, ◌≤ℤ◌, ints, Deposit, ReturnedDeposit, DepositState, Entry, Head, Seat, available, names, is_fee, is_settled, of_kind, events_of, events_in, received, paid_out, entry_at, draw, worth, available_share, cleared_deposit, AreBacked, IsBy, IsRanged, Sound, days_of, deposit_days, deposit_bank, made-before, all-at, within, MayTake, target-apart, total-undrawn, Numbered, deposit-may, left-moved, rows-of, MovesWithin, Caller, DepositAsk, is_no_deposit, is_deposit_not_held, HasAmount, deposit_of, cancelled}
 use Rattle.matter_rows.specs.declared.clearing.Clearing.{Clearing}
-use Rattle.matter_rows.specs.declared.deposit.ReturnedDeposit.{ReturnedDeposit}
-use Rattle.matter_rows.specs.declared.deposit.DepositState.{DepositState}
 use Rattle.matter_rows.specs.declared.deposit.DepositState.TheVariants as deposit
-use Rattle.matter_rows.specs.declared.entry.Entry.{Entry}
 use Rattle.matter_rows.specs.declared.entry.Entry.TheVariants as entry
-use Rattle.matter_rows.specs.declared.head.Head.{Head}
-use Rattle.matter_rows.specs.declared.seat.Seat.{Seat}
-use Rattle.matter_rows.specs.Balances.{available, names, is_fee, is_settled, passes as of_kind}
-use Rattle.matter_rows.specs.Events.{events_of, events_in, received, paid_out}
-use Rattle.matter_rows.specs.Rows.{entry_at}
-use Rattle.matter_rows.specs.Shares.{draw, worth, available_share, cleared_deposit}
-use Rattle.matter_rows.specs.Sound.{AreBacked, IsBy, IsRanged, Sound, days_of, deposit_days, deposit_bank}
-use Rattle.matter_rows.proofs.Days.{made-before}
-use Rattle.matter_rows.proofs.Entries.{all-at, within}
-use Rattle.matter_rows.proofs.Keeping.{MayTake, target-apart, total-undrawn}
 use Rattle.matter_parts.specs.declared.edit.Edit.TheVariants as edit
-use Rattle.matter_parts.specs.declared.edit.Numbered.{Numbered}
-use Rattle.matter_parts.proofs.Editing.{deposit-may, left-moved}
-use Rattle.matter_parts.proofs.StepForms.{rows-of, MovesWithin}
 use Rattle.trust_matter.specs.declared.ask.Ask.TheVariants as ask
-use Rattle.trust_matter.specs.declared.ask.Caller.{Caller}
-use Rattle.trust_matter.specs.declared.deposit.DepositAsk.{DepositAsk}
-use Rattle.trust_matter.specs.Conditions.{is_no_deposit, is_deposit_not_held}
-use Rattle.trust_matter.specs.Step.{HasAmount, deposit_of, cancelled}
 use Rattle.trust_matter.proofs.StepForms.{step-append, step-exchange, exchange-moves, held-is, asked, Stepped}
 
 -- A deposit.

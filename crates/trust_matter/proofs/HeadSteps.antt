@@ -1,38 +1,13 @@
 -- What an accepted ask leaves of the head and the seats.
-use Rattle.std.specs.Prelude.{is_some, is_none}
-use Rattle.std.specs.List.{AllByRecursion, filter}
-use Rattle.std.specs.Option.{option_map}
-use Rattle.std.specs.Str.{bytes_eq}
-use Rattle.std.proofs.Common.{◌≡◌, ℕ, Bool, true, false, cond, List, [], ◌∷◌, ◌++◌, refl, ap, sym, ◌∙◌, subst, Option, Some, None}
-use Rattle.std.proofs.lemmas.Bool.{false≢true}
-use Rattle.std.proofs.lemmas.Slice.Eq.{bytes_eq-Decides}
-use Rattle.trust_base.specs.declared.refusal.Refusal.{Refusal}
-use Rattle.matter_rows.specs.declared.claim.Against.{Against}
+use Rattle.trust_matter.proofs.Names.{is_some, is_none, AllByRecursion, filter, option_map, bytes_eq, ◌≡◌, ℕ, Bool, true, false, cond, List, [], ◌∷◌, ◌++◌, refl, ap, sym, ◌∙◌, subst, Option, Some, None, false≢true, bytes_eq-Decides, Refusal, Against, ClaimState, PaymentState, Entry, Head, Seat, Rows, entry_at, last_of, comes_before, role_in, seat_of, seats_with, seats_without, AreInOrder, IsHeaded, Sound, Edit, changed_by, head_after, last_after, rows-of, Ask, Caller, OpenAsk, is_changing, is_opening, is_unknown_to, is_repeat, is_no_claim, is_no_deposit, is_no_payment, Asked, facts_of, number_named, changes_matter, rule_against, first, conditions, early_conditions, refusal, edit_on, edit_of, rows_after, after, cancelled, with_payment, with_claim, voided, settled, opening}
 use Rattle.matter_rows.specs.declared.claim.Against.TheVariants as against
-use Rattle.matter_rows.specs.declared.claim.ClaimState.{ClaimState}
-use Rattle.matter_rows.specs.declared.payment.PaymentState.{PaymentState}
 use Rattle.matter_rows.specs.declared.payment.PaymentState.TheVariants as payment
 use Rattle.matter_rows.specs.declared.claim.ClaimState.TheVariants as claim
-use Rattle.matter_rows.specs.declared.entry.Entry.{Entry}
 use Rattle.matter_rows.specs.declared.entry.Entry.TheVariants as entry
-use Rattle.matter_rows.specs.declared.head.Head.{Head}
-use Rattle.matter_rows.specs.declared.seat.Seat.{Seat}
-use Rattle.matter_rows.specs.Rows.{Rows, entry_at, last_of, comes_before, role_in, seat_of, seats_with, seats_without}
-use Rattle.matter_rows.specs.Sound.{AreInOrder, IsHeaded, Sound}
 use Rattle.matter_rows.proofs.Seating.{before-antisym, before-total, all-after, after-more, no-seat, bytes_eq-swap}
-use Rattle.matter_parts.specs.declared.edit.Edit.{Edit}
 use Rattle.matter_parts.specs.declared.edit.Edit.TheVariants as edit
-use Rattle.matter_parts.specs.Changes.{changed_by, head_after, last_after}
-use Rattle.matter_parts.proofs.StepForms.{rows-of}
-use Rattle.trust_matter.specs.declared.ask.Ask.{Ask}
 use Rattle.trust_matter.specs.declared.ask.Ask.TheVariants as ask
-use Rattle.trust_matter.specs.declared.ask.Caller.{Caller}
-use Rattle.trust_matter.specs.declared.ask.OpenAsk.{OpenAsk}
-use Rattle.trust_matter.specs.Conditions.{is_changing, is_opening, is_unknown_to, is_repeat, is_no_claim, is_no_deposit, is_no_payment}
-use Rattle.trust_matter.specs.Facts.{Asked, facts_of, number_named}
 use Rattle.trust_matter.specs.HeadLaws.{IsOpened, OpeningOpens, IsClosed, ClosingCloses, HasOneMore, IsSeated, SeatIsAdded, IsUnseated, SeatIsDropped, PurgingPurges, DayIsLast, ReadsChangeNothing}
-use Rattle.trust_matter.specs.Policy.{changes_matter, rule_against}
-use Rattle.trust_matter.specs.Step.{first, conditions, early_conditions, refusal, edit_on, edit_of, rows_after, after, cancelled, with_payment, with_claim, voided, settled, opening}
 use Rattle.trust_matter.proofs.StepForms.{asked, head-there, none-is, some-is}
 use Rattle.trust_matter.proofs.Table.{Passes, passes}
 
@@ -151,34 +126,29 @@ with-head : (head : Option Head) (seats : List Seat) (es : List Entry) (who : Ca
 with-head None seats es who q headed known other P of = absurd (let there = head-there None seats es who q headed known other in cc)
 with-head (Some h) seats es who q headed known other P of = of h
 
+-- what holds of such a matter and the rows after the edit that was asked for
+with-edit : (rows : Rows) (who : Caller) (q : Ask) (day : ℕ) (e : Edit) (R : Rows → Rows → Type 0) → Sound rows → is_repeat (facts_of rows q) (asked who q day) ≡ false → refusal rows (asked who q day) ≡ None → edit_of q (entry_at rows.entries (number_named q)) day ≡ e → is_opening q ≡ false → ((h : Head) → R (rows-of (Some h) rows.seats rows.entries) (after-edit (Some h) rows.seats rows.entries e day)) → R rows (rows_after rows (asked who q day))
+with-edit rows who q day e R s new none is other of =
+    let P : Rows → Type 0 = λ after. R rows after in
+    let Q : Option Head → Type 0 = λ head. R (rows-of head rows.seats rows.entries) (after-edit head rows.seats rows.entries e day) in
+    subst P (sym (accepted-after rows (asked who q day) new none e is))
+    (with-head rows.head rows.seats rows.entries who q s.headed (accepted-passes rows (asked who q day) new none).seat other Q of)
+
 pub closing-closes : ClosingCloses
 closing-closes rows who day s none =
-    let a : Asked = asked who ask.CloseMatter day in
-    let p = accepted-passes rows a refl none in
-    let P : Rows → Type 0 = λ after. IsClosed day rows after in
-    let Q : Option Head → Type 0 = λ head. IsClosed day (rows-of head rows.seats rows.entries) (after-edit head rows.seats rows.entries (edit.Close day) day) in
-    subst P (sym (accepted-after rows a refl none (edit.Close day) refl))
-    (with-head rows.head rows.seats rows.entries who ask.CloseMatter s.headed p.seat refl Q (λ h. record { was = h; head = refl; closed = refl; seats = refl; entries = refl }))
+    with-edit rows who ask.CloseMatter day (edit.Close day) (λ before after. IsClosed day before after) s refl none refl refl (λ h. record { was = h; head = refl; closed = refl; seats = refl; entries = refl })
 
 pub seat-is_added : SeatIsAdded
 seat-is_added new rows who day s none =
-    let a : Asked = asked who (ask.AddSeat new) day in
-    let p = accepted-passes rows a refl none in
+    let p = accepted-passes rows (asked who (ask.AddSeat new) day) refl none in
     let free = none-is (role_in rows.seats new.person) p.seat_free in
-    let P : Rows → Type 0 = λ after. IsSeated new day rows after in
-    let Q : Option Head → Type 0 = λ head. IsSeated new day (rows-of head rows.seats rows.entries) (after-edit head rows.seats rows.entries (edit.Seat new) day) in
-    subst P (sym (accepted-after rows a refl none (edit.Seat new) refl))
-    (with-head rows.head rows.seats rows.entries who (ask.AddSeat new) s.headed p.seat refl Q (λ h. record { head = refl; seats = seat-more rows.seats new s.seated free; entries = refl }))
+    with-edit rows who (ask.AddSeat new) day (edit.Seat new) (λ before after. IsSeated new day before after) s refl none refl refl (λ h. record { head = refl; seats = seat-more rows.seats new s.seated free; entries = refl })
 
 pub seat-is_dropped : SeatIsDropped
 seat-is_dropped person rows who day s none =
-    let a : Asked = asked who (ask.DropSeat person) day in
-    let p = accepted-passes rows a refl none in
+    let p = accepted-passes rows (asked who (ask.DropSeat person) day) refl none in
     let less = seat-less rows.seats person s.seated (some-is (role_in rows.seats person) p.seat_taken) in
-    let P : Rows → Type 0 = λ after. IsUnseated person day rows after in
-    let Q : Option Head → Type 0 = λ head. IsUnseated person day (rows-of head rows.seats rows.entries) (after-edit head rows.seats rows.entries (edit.Unseat person) day) in
-    subst P (sym (accepted-after rows a refl none (edit.Unseat person) refl))
-    (with-head rows.head rows.seats rows.entries who (ask.DropSeat person) s.headed p.seat refl Q (λ h. record { head = refl; seat = less.seat; own = less.own; seats = less.among; entries = refl }))
+    with-edit rows who (ask.DropSeat person) day (edit.Unseat person) (λ before after. IsUnseated person day before after) s refl none refl refl (λ h. record { head = refl; seat = less.seat; own = less.own; seats = less.among; entries = refl })
 
 last-cleared : (head : Option Head) (day : ℕ) → last_after head (edit.Clear day) day ≡ day
 last-cleared None day = refl

@@ -1,13 +1,5 @@
 -- Behind the last number no entry is made.
-use Rattle.std.specs.Prelude.{is_some}
-use Rattle.std.proofs.Common.{◌≡◌, ℕ, Bool, true, false, cond, List, [], ◌∷◌, length, refl, sym, ◌∙◌, rules, Option, Some, None}
-use Rattle.std.proofs.lemmas.Bool.{false≢true}
-use Rattle.trust_base.specs.declared.refusal.Refusal.{Refusal}
-use Rattle.matter_rows.specs.Rows.{next_number}
-use Rattle.trust_matter.specs.Conditions.{is_repeat, misses, number_made}
-use Rattle.trust_matter.specs.Facts.{Asked, Facts, facts_of}
-use Rattle.trust_matter.specs.Laws.{TellsNoNumber, FullTakesNone}
-use Rattle.trust_matter.specs.Step.{first, conditions, early_conditions}
+use Rattle.trust_matter.proofs.Names.{is_some, ◌≡◌, ℕ, Bool, true, false, cond, List, [], ◌∷◌, length, refl, sym, ◌∙◌, rules, Option, Some, None, false≢true, Refusal, next_number, is_repeat, misses, number_made, Asked, Facts, facts_of, TellsNoNumber, FullTakesNone, first, conditions, early_conditions}
 use Rattle.trust_matter.proofs.Table.{passes}
 
 -- none of these tells a number

@@ -1,17 +1,8 @@
 -- What the early conditions and the later ones say of an ask together.
-use Rattle.std.proofs.Common.{◌≡◌, ℕ, ◌++◌, sym, Bool, true, false, cond, List, [], ◌∷◌, Option, Some, None, refl, subst, Result, Ok, Err}
+use Rattle.trust_matter.proofs.Names.{◌≡◌, ℕ, ◌++◌, sym, Bool, true, false, cond, List, [], ◌∷◌, Option, Some, None, refl, subst, Result, Ok, Err, Refusal, Edit, Part, Ask, Caller, kept_facts, has_no_seat, was_purged, is_not_allowed, is_repeat, rule_of, first, early_conditions, later_conditions, late_refusal, refusal_of, decided, Answers, AnswersBy, AnswersLateBy, HasAmount, MayRefuse}
 use Rattle.std.specs.Result.{IsErr, IsErrAnd}
-use Rattle.trust_base.specs.declared.refusal.Refusal.{Refusal}
 use Rattle.trust_base.specs.declared.refusal.Rule.{Rule}
 use Rattle.trust_base.specs.declared.refusal.Refusal.TheVariants as refusals
-use Rattle.matter_parts.specs.declared.edit.Edit.{Edit}
-use Rattle.matter_parts.specs.Parts.{Part}
-use Rattle.trust_matter.specs.declared.ask.Ask.{Ask}
-use Rattle.trust_matter.specs.declared.ask.Caller.{Caller}
-use Rattle.trust_matter.specs.KeptFacts.{kept_facts}
-use Rattle.trust_matter.specs.Conditions.{has_no_seat, was_purged, is_not_allowed, is_repeat}
-use Rattle.trust_matter.specs.Policy.{rule_of}
-use Rattle.trust_matter.specs.Step.{first, early_conditions, later_conditions, late_refusal, refusal_of, decided, Answers, AnswersBy, AnswersLateBy, HasAmount, MayRefuse}
 use Rattle.trust_matter.proofs.StepForms.{asked}
 
 abbrev none : Option Refusal

@@ -20,3 +20,4 @@ pub use Rattle.matter_rows.proofs.Entries
 pub use Rattle.matter_rows.proofs.Sums
 pub mod SoundExamples
 pub mod CasesLastNumber
+mod Names

@@ -1,27 +1,6 @@
 -- What is decided of a line on what is kept is decided on the rows.
-use Rattle.std.proofs.Common.{◌≡◌, ℕ, ◌==◌, ◌||◌, Bool, true, false, cond, Some, None, refl, ap, sym, ◌∙◌, subst, Option, ℤ, pos}
-use Rattle.matter_rows.specs.declared.head.Head.{Head}
-use Rattle.matter_rows.specs.declared.entry.Entry.{Entry}
-use Rattle.matter_rows.specs.Rows.{Rows, entry_at}
-use Rattle.matter_rows.specs.Clearings.{is_line_again}
-use Rattle.matter_rows.specs.Shares.{target_in}
-use Rattle.matter_rows.specs.Sound.{Sound}
-use Rattle.matter_parts.specs.declared.edit.Edit.{Edit}
-use Rattle.matter_parts.specs.declared.change.TotalsAfter.{TotalsAfter}
-use Rattle.matter_parts.specs.Parts.{Part, IsPart, kept_at, entry_in, is_held, is_held_or_none}
-use Rattle.matter_parts.specs.Changes.{MatterChange, AreSmallTotals}
-use Rattle.matter_parts.specs.TotalsAfter.{EditMoved, IsMade, movement_kept}
-use Rattle.matter_parts.proofs.MadeChange.{change-is}
-use Rattle.matter_parts.proofs.NeverStore.{never-store}
-use Rattle.matter_parts.proofs.Parts.{held-entry}
-use Rattle.matter_parts.proofs.StepForms.{IsStepOf}
-use Rattle.trust_matter.specs.declared.bank_line.BankLine.{BankLine}
-use Rattle.trust_matter.specs.declared.line_verdict.DatedEdit.{DatedEdit}
-use Rattle.trust_matter.specs.declared.line_verdict.Reason.{Reason}
-use Rattle.trust_matter.specs.declared.line_verdict.LineEffect.{LineEffect}
+use Rattle.trust_matter.proofs.Names.{◌≡◌, ℕ, ◌==◌, ◌||◌, Bool, true, false, cond, Some, None, refl, ap, sym, ◌∙◌, subst, Option, ℤ, pos, Head, Entry, Rows, entry_at, is_line_again, target_in, Sound, Edit, TotalsAfter, Part, IsPart, kept_at, entry_in, is_held, is_held_or_none, MatterChange, AreSmallTotals, EditMoved, IsMade, movement_kept, change-is, never-store, held-entry, IsStepOf, BankLine, DatedEdit, Reason, LineEffect, LineFacts, line_effect, line_on, first_reason, reasons, matched, told_by, last_by, dated_by, IsApplied, IsLineDecided, kept_line_facts, holds_for_line}
 use Rattle.trust_matter.specs.declared.line_verdict.LineEffect.TheVariants as told
-use Rattle.trust_matter.specs.LineStep.{LineFacts, line_effect, line_on, first_reason, reasons, matched, told_by, last_by, dated_by, IsApplied, IsLineDecided}
-use Rattle.trust_matter.specs.KeptFacts.{kept_line_facts, holds_for_line}
 use Rattle.trust_matter.proofs.LineSteps.{applied-step}
 use Rattle.trust_matter.proofs.Parts.{both}
 

@@ -1,40 +1,13 @@
 -- What a line cleared stays cleared, so that a line that comes again is a repeat.
-use Rattle.std.specs.Str.{bytes_eq}
-use Rattle.std.proofs.Common.{◌≡◌, ℕ, ◌+◌, ◌==◌, ◌&&◌, ◌||◌, ◌<◌, ◌⊎◌, inl, not, Bool, ℤ, true, false, cond, List, [], ◌∷◌, ◌++◌, length, refl, ap, sym, ◌∙◌, arith, subst, Option, Some, None, eqb}
-use Rattle.std.proofs.lemmas.Bool.{false≢true}
-use Rattle.std.proofs.lemmas.Bool.Decides.{nat_tests}
-use Rattle.std.proofs.lemmas.Slice.Eq.{bytes_eq-Decides}
-use Rattle.trust_base.specs.declared.line.Line.{Line}
-use Rattle.trust_base.specs.declared.refusal.Refusal.{Refusal}
-use Rattle.matter_rows.specs.declared.head.Head.{Head}
-use Rattle.matter_rows.specs.declared.deposit.Deposit.{Deposit}
-use Rattle.matter_rows.specs.declared.deposit.DepositState.{DepositState}
+use Rattle.trust_matter.proofs.Names.{◌≡◌, ℕ, ◌+◌, ◌==◌, ◌&&◌, ◌||◌, ◌<◌, ◌⊎◌, inl, not, Bool, ℤ, true, false, cond, List, [], ◌∷◌, ◌++◌, length, refl, ap, sym, ◌∙◌, arith, subst, Option, Some, None, eqb, false≢true, nat_tests, Line, Refusal, Head, Deposit, DepositState, Payment, PaymentState, ClaimState, Entry, is_held_state, is_proposed_state, is_issued_state, Rows, is_purged, entry_at, with_entry, clearing_by, is_clearing_by, is_deposit_cleared_by, is_deposit_returned_by, is_payment_cleared_by, is_cleared_state, has_its_amount, has_amount_back, is_line_again, deposit_by, cleared_payment, entry_at-append, entry_at-with, none-past, Edit, edited, Ask, BankLine, DatedEdit, LineEffect, is_purging, is_not_yet_closed_for, is_deposit_not_held, is_payment_not_proposed, is_payment_not_issued, is_in_another_state_for, is_repeat, Asked, facts_of, number_named, Doing, AnAsk, ALine, after_doing, line_facts, told_by, dated_by, line_on, after_line_effect, rows_after_line, matched, first_reason, reasons, IsApplied, first, early_conditions, conditions, refusal, edit_on, edit_of, after, rows_after, cancelled, with_payment, with_claim}
 use Rattle.matter_rows.specs.declared.deposit.DepositState.TheVariants as deposit
-use Rattle.matter_rows.specs.declared.payment.Payment.{Payment}
-use Rattle.matter_rows.specs.declared.payment.PaymentState.{PaymentState}
 use Rattle.matter_rows.specs.declared.payment.PaymentState.TheVariants as payment
-use Rattle.matter_rows.specs.declared.claim.ClaimState.{ClaimState}
-use Rattle.matter_rows.specs.declared.entry.Entry.{Entry}
 use Rattle.matter_rows.specs.declared.entry.Entry.TheVariants as entry
-use Rattle.matter_rows.specs.Rows.{is_held_state, is_proposed_state, is_issued_state, Rows, is_purged, entry_at, with_entry}
-use Rattle.matter_rows.specs.Clearings.{clearing_by, is_clearing_by, is_deposit_cleared_by, is_deposit_returned_by, is_payment_cleared_by, is_cleared_state, has_its_amount, has_amount_back, is_line_again, deposit_by, cleared_payment}
-use Rattle.matter_rows.proofs.Entries.{entry_at-append, entry_at-with, none-past}
-use Rattle.matter_parts.specs.declared.edit.Edit.{Edit}
 use Rattle.matter_parts.specs.declared.edit.Edit.TheVariants as edit
-use Rattle.matter_parts.specs.Changes.{edited}
-use Rattle.trust_matter.specs.declared.ask.Ask.{Ask}
 use Rattle.trust_matter.specs.declared.ask.Ask.TheVariants as ask
-use Rattle.trust_matter.specs.declared.bank_line.BankLine.{BankLine}
-use Rattle.trust_matter.specs.declared.line_verdict.DatedEdit.{DatedEdit}
-use Rattle.trust_matter.specs.declared.line_verdict.LineEffect.{LineEffect}
 use Rattle.trust_matter.specs.declared.line_verdict.LineEffect.TheVariants as told
-use Rattle.trust_matter.specs.Conditions.{is_purging, is_not_yet_closed_for, is_deposit_not_held, is_payment_not_proposed, is_payment_not_issued, is_in_another_state_for, is_repeat}
-use Rattle.trust_matter.specs.Facts.{Asked, facts_of, number_named}
-use Rattle.trust_matter.specs.Laws.{Doing, AnAsk, ALine, after_doing}
-use Rattle.trust_matter.specs.LineStep.{line_facts, told_by, dated_by, line_on, after_line_effect, rows_after_line, matched, first_reason, reasons, IsApplied}
-use Rattle.trust_matter.specs.Step.{first, early_conditions, conditions, refusal, edit_on, edit_of, after, rows_after, cancelled, with_payment, with_claim}
 use Rattle.trust_matter.proofs.LineSteps.{IsMatched, applied-matched}
-use Rattle.trust_matter.proofs.Repeats.{unless-purged}
+use Rattle.trust_matter.proofs.Repeats.{same-amount, same-bytes, unless-purged}
 use Rattle.trust_matter.proofs.StepForms.{not-false}
 use Rattle.trust_matter.proofs.Table.{passes}
 
@@ -189,14 +162,8 @@ doing-stays line rows (ALine l today) = inl (line-stays line rows l today (line_
 
 -- A line that was applied.
 
-same-number : (n : ℕ) → (n == n) ≡ true
-same-number n = grind (arith, nat_tests)
-
-same-bytes : (bs : List ℕ) → bytes_eq bs bs ≡ true
-same-bytes bs = (bytes_eq-Decides bs bs).1 refl
-
 own-clearing : (line : Line) → is_clearing_by (clearing_by line) line ≡ true
-own-clearing line = rw (same-number line.date) (same-bytes line.bank_ref)
+own-clearing line = rw (same-amount line.date) (same-bytes line.bank_ref)
 
 own-payment : (line : Line) (s : PaymentState) → not (is_issued_state s) ≡ false → is_payment_cleared_by (cleared_payment line s) line ≡ true
 own-payment line (payment.Issued day) h = own-clearing line
@@ -207,7 +174,7 @@ both-true true b x y = y
 both-true false b x y = absurd (false≢true x)
 
 here : (es : List Entry) (k : ℕ) (old new : Entry) → entry_at es k ≡ Some old → entry_at (with_entry es k new) k ≡ Some new
-here es k old new at = entry_at-with es k old new k at ∙ rw (same-number k) refl
+here es k old new at = entry_at-with es k old new k at ∙ rw (same-amount k) refl
 
 not-and : (a b : Bool) → b ≡ true → (not a && b) ≡ false → a ≡ true
 not-and true b x h = refl

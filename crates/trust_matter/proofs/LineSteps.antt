@@ -1,43 +1,11 @@
 -- Lines of the bank, as steps.
-use Rattle.std.specs.Prelude.{nat_lt, is_none}
-use Rattle.std.specs.List.{AllByRecursion}
-use Rattle.std.proofs.Common.{◌≡◌, ◌⊎◌, ℕ, ◌≤◌, max, Bool, true, false, not, ◌&&◌, ◌||◌, cond, List, [], ◌∷◌, ◌++◌, refl, ap, sym, ◌∙◌, arith, subst, Option, Some, None, inl, inr, pos, append-nil, ◌≤ℤ◌}
-use Rattle.std.proofs.Math.Nat.{le-max_left, le-max_right}
-use Rattle.std.proofs.lemmas.Bool.{false≢true}
-use Rattle.std.proofs.lemmas.Int.{ints}
-use Rattle.trust_base.specs.declared.line.Line.{Line}
-use Rattle.matter_rows.specs.declared.head.Head.{Head}
-use Rattle.matter_rows.specs.declared.seat.Seat.{Seat}
-use Rattle.matter_rows.specs.declared.deposit.Deposit.{Deposit}
-use Rattle.matter_rows.specs.declared.deposit.DepositState.{DepositState}
+use Rattle.trust_matter.proofs.Names.{nat_lt, is_none, AllByRecursion, ◌≡◌, ◌⊎◌, ℕ, ◌≤◌, max, Bool, true, false, not, ◌&&◌, ◌||◌, cond, List, [], ◌∷◌, ◌++◌, refl, ap, sym, ◌∙◌, arith, subst, Option, Some, None, inl, inr, pos, append-nil, ◌≤ℤ◌, le-max_left, le-max_right, false≢true, ints, Line, Head, Seat, Deposit, DepositState, ReturnedDeposit, Payment, PaymentState, Entry, available, exceeds, is_held_state, is_issued_state, is_gone, Rows, entry_at, events_of, events_in, payments, target_in, fund_no, held_share, pending_share, paid, from_general, held_deposit, pending_payment, clearing_by, has_amount_back, is_cleared_state, is_line_again, deposit_by, cleared_payment, AreBacked, IsBy, IsRising, AreRising, IsRanged, IsAtRestIfClosed, Sound, days_of, payment_days, payment_bank, sound-covered, made-before, all-at, MayTake, Numbered, rows-of, MovesWithin, IsStepOf, BankLine, DatedEdit, Reason, LineEffect, LinesKeepSound, NoReasonHolds, LineFacts, line_facts, has_no_line, awaits_no_line, is_of_another_amount, is_uncovered, reasons, first_reason, told_by, last_by, dated_by, matched, line_effect, line_on, after_line_effect}
 use Rattle.matter_rows.specs.declared.deposit.DepositState.TheVariants as deposit
-use Rattle.matter_rows.specs.declared.deposit.ReturnedDeposit.{ReturnedDeposit}
-use Rattle.matter_rows.specs.declared.payment.Payment.{Payment}
-use Rattle.matter_rows.specs.declared.payment.PaymentState.{PaymentState}
 use Rattle.matter_rows.specs.declared.payment.PaymentState.TheVariants as payment
-use Rattle.matter_rows.specs.declared.entry.Entry.{Entry}
 use Rattle.matter_rows.specs.declared.entry.Entry.TheVariants as entry
-use Rattle.matter_rows.specs.Balances.{available, exceeds}
-use Rattle.matter_rows.specs.Rows.{is_held_state, is_issued_state, is_gone, Rows, entry_at}
-use Rattle.matter_rows.specs.Events.{events_of, events_in, payments}
-use Rattle.matter_rows.specs.Shares.{target_in, fund_no, held_share, pending_share, paid, from_general, held_deposit, pending_payment}
-use Rattle.matter_rows.specs.Clearings.{clearing_by, has_amount_back, is_cleared_state, is_line_again, deposit_by, cleared_payment}
-use Rattle.matter_rows.specs.Sound.{AreBacked, IsBy, IsRising, AreRising, IsRanged, IsAtRestIfClosed, Sound, days_of, payment_days, payment_bank}
-use Rattle.matter_rows.proofs.Covered.{sound-covered}
-use Rattle.matter_rows.proofs.Days.{made-before}
-use Rattle.matter_rows.proofs.Entries.{all-at}
-use Rattle.matter_rows.proofs.Keeping.{MayTake}
 use Rattle.matter_rows.proofs.Sums.{total-within}
 use Rattle.matter_parts.specs.declared.edit.Edit.TheVariants as edit
-use Rattle.matter_parts.specs.declared.edit.Numbered.{Numbered}
-use Rattle.matter_parts.proofs.StepForms.{rows-of, MovesWithin, IsStepOf}
-use Rattle.trust_matter.specs.declared.bank_line.BankLine.{BankLine}
-use Rattle.trust_matter.specs.declared.line_verdict.DatedEdit.{DatedEdit}
-use Rattle.trust_matter.specs.declared.line_verdict.Reason.{Reason}
-use Rattle.trust_matter.specs.declared.line_verdict.LineEffect.{LineEffect}
 use Rattle.trust_matter.specs.declared.line_verdict.LineEffect.TheVariants as told
-use Rattle.trust_matter.specs.Laws.{LinesKeepSound, NoReasonHolds}
-use Rattle.trust_matter.specs.LineStep.{LineFacts, line_facts, has_no_line, awaits_no_line, is_of_another_amount, is_uncovered, reasons, first_reason, told_by, last_by, dated_by, matched, line_effect, line_on, after_line_effect}
 use Rattle.trust_matter.proofs.DepositSteps.{restated-may, returned-may, returning-moves, returned-by}
 use Rattle.trust_matter.proofs.StepForms.{step-exchange, exchange-moves, not-false, not-before}
 use Rattle.trust_matter.proofs.PaymentSteps.{within-left, restated-may as payment-restated}

@@ -1,18 +1,5 @@
 -- What a part of rows is decided on is what the rows are.
-use Rattle.std.specs.List.{AllByRecursion}
-use Rattle.std.proofs.Common.{◌≡◌, ℕ, ◌+◌, ◌&&◌, Bool, true, false, List, refl, ap, ◌∙◌, arith, Option, ℤ, pos}
-use Rattle.std.proofs.lemmas.Int.{ints}
-use Rattle.matter_rows.specs.declared.entry.Entry.{Entry}
-use Rattle.matter_rows.specs.declared.head.Head.{Head}
-use Rattle.matter_rows.specs.declared.seat.Seat.{Seat}
-use Rattle.matter_rows.specs.Balances.{names, ledger, left_in}
-use Rattle.matter_rows.specs.Rows.{entry_at, Rows}
-use Rattle.matter_rows.proofs.Covered.{total-covered}
-use Rattle.matter_parts.specs.Parts.{AreFigures, total_kept, Part, kept_at, IsPart, is_held_or_none, entry_in}
-use Rattle.matter_parts.proofs.Parts.{held-entry}
-use Rattle.trust_matter.specs.declared.ask.Ask.{Ask}
-use Rattle.trust_matter.specs.Facts.{Facts, number_named, other_of, facts_of}
-use Rattle.trust_matter.specs.KeptFacts.{kept_facts, holds_for}
+use Rattle.trust_matter.proofs.Names.{AllByRecursion, ◌≡◌, ℕ, ◌+◌, ◌&&◌, Bool, true, false, List, refl, ap, ◌∙◌, arith, Option, ℤ, pos, ints, Entry, Head, Seat, names, ledger, left_in, entry_at, Rows, total-covered, AreFigures, total_kept, Part, kept_at, IsPart, is_held_or_none, entry_in, held-entry, Ask, Facts, number_named, other_of, facts_of, kept_facts, holds_for}
 
 abbrev facts : Option Head → List Seat → ℕ → ℤ → ℤ → ℤ → Option Entry → Option Entry → ℤ → Facts
 facts h s n a b w e o l = record { head = h; seats = s; count = n; available = a; ledger = b; pending = w; entry = e; other = o; left = l }

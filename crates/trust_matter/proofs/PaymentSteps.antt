@@ -1,37 +1,10 @@
 -- Payments, as steps.
-use Rattle.std.specs.Prelude.{is_none}
-use Rattle.std.specs.List.{AllByRecursion}
-use Rattle.std.proofs.Common.{◌≡◌, ℕ, ◌≤◌, ◌<◌, ◌≢◌, not, ◌&&◌, true, false, List, [], ◌∷◌, ◌++◌, length, refl, sym, ap, arith, subst, Option, Some, None, inr, pos, negsuc, ℤ, ◌+ℤ◌, ◌-ℤ◌, ◌≤ℤ◌}
-use Rattle.std.proofs.lemmas.Int.{ints}
-use Rattle.std.proofs.lemmas.Bool.Decides.{nat_tests}
-use Rattle.trust_base.specs.Limits.{IsAmount}
-use Rattle.matter_rows.specs.declared.entry.Entry.{Entry}
+use Rattle.trust_matter.proofs.Names.{is_none, AllByRecursion, ◌≡◌, ℕ, ◌≤◌, ◌<◌, ◌≢◌, not, ◌&&◌, true, false, List, [], ◌∷◌, ◌++◌, length, refl, sym, ap, arith, subst, Option, Some, None, inr, pos, negsuc, ℤ, ◌+ℤ◌, ◌-ℤ◌, ◌≤ℤ◌, ints, nat_tests, IsAmount, Entry, Fund, Head, Payment, PaymentState, Seat, available, funds, is_fee, is_general, is_settled, left_of, names, of_kind, exceeds, fund_left, left_in, is_issued_state, is_proposed_state, entry_at, Event, events_in, events_of, paid_out, payments, received, target_in, available_share, draw, from_general, fund_no, has_settled, paid, target, worth, AreBacked, AreDated, AreRising, IsBy, IsRanged, IsRising, Sound, days_of, payment_bank, payment_days, made-before, all-at, within, MayAdd, MayTake, target-apart, total-undrawn, Numbered, left-drawn, left-moved, rows-of, MovesWithin, Caller, PaymentAsk, is_an_entry, is_no_fund, is_no_fund_yet, is_no_payment, is_payment_not_issued, is_payment_not_proposed, is_short_payment, facts_of, HasAmount, edit_of, payment_of, voided, with_payment}
 use Rattle.matter_rows.specs.declared.entry.Entry.TheVariants as entry
-use Rattle.matter_rows.specs.declared.payment.Fund.{Fund}
 use Rattle.matter_rows.specs.declared.payment.Fund.TheVariants as fund
-use Rattle.matter_rows.specs.declared.head.Head.{Head}
-use Rattle.matter_rows.specs.declared.payment.Payment.{Payment}
-use Rattle.matter_rows.specs.declared.payment.PaymentState.{PaymentState}
 use Rattle.matter_rows.specs.declared.payment.PaymentState.TheVariants as payment
-use Rattle.matter_rows.specs.declared.seat.Seat.{Seat}
-use Rattle.matter_rows.specs.Balances.{available, funds, is_fee, is_general, is_settled, left_of, names, passes as of_kind, exceeds, fund_left, left_in}
-use Rattle.matter_rows.specs.Rows.{is_issued_state, is_proposed_state, entry_at}
-use Rattle.matter_rows.specs.Events.{Event, events_in, events_of, paid_out, payments, received}
-use Rattle.matter_rows.specs.Shares.{target_in, available_share, draw, from_general, fund_no, has_settled, paid, target, worth}
-use Rattle.matter_rows.specs.Sound.{AreBacked, AreDated, AreRising, IsBy, IsRanged, IsRising, Sound, days_of, payment_bank, payment_days}
-use Rattle.matter_rows.proofs.Days.{made-before}
-use Rattle.matter_rows.proofs.Entries.{all-at, within}
-use Rattle.matter_rows.proofs.Keeping.{MayAdd, MayTake, target-apart, total-undrawn}
 use Rattle.matter_parts.specs.declared.edit.Edit.TheVariants as edit
-use Rattle.matter_parts.specs.declared.edit.Numbered.{Numbered}
-use Rattle.matter_parts.proofs.Editing.{left-drawn, left-moved}
-use Rattle.matter_parts.proofs.StepForms.{rows-of, MovesWithin}
 use Rattle.trust_matter.specs.declared.ask.Ask.TheVariants as ask
-use Rattle.trust_matter.specs.declared.ask.Caller.{Caller}
-use Rattle.trust_matter.specs.declared.payment.PaymentAsk.{PaymentAsk}
-use Rattle.trust_matter.specs.Conditions.{is_an_entry, is_no_fund, is_no_fund_yet, is_no_payment, is_payment_not_issued, is_payment_not_proposed, is_short_payment}
-use Rattle.trust_matter.specs.Facts.{facts_of}
-use Rattle.trust_matter.specs.Step.{HasAmount, edit_of, payment_of, voided, with_payment}
 use Rattle.trust_matter.proofs.StepForms.{step-append, step-exchange, AreWithin, exchange-moves, next-is, not-false, asked, Stepped}
 use Rattle.trust_matter.proofs.Table.{Passes}
 
@@ -160,18 +133,14 @@ proposed-is : (s : PaymentState) → not (is_proposed_state s) ≡ false → s �
 proposed-is payment.Proposed h = refl
 proposed-is s h = absurd (cc)
 
-approve-one : (h : Head) (seats : List Seat) (es : List Entry) (c : Caller) (n day : ℕ) (o : Option Entry) → entry_at es n ≡ o → Sound (rows-of (Some h) seats es) → h.closed ≡ None → h.last ≤ day → is_none o ≡ false → is_no_payment o ≡ false → is_payment_not_proposed o ≡ false → is_short_payment o (available es) (left_in es (target_in o) (entry_at es (target_in o))) ≡ false → Stepped (Some h) seats es (asked c (ask.Approve n) day) (with_payment n o (λ _. payment.Issued day))
-approve-one h seats es c n day (Some (entry.Payment p)) at s unclosed later there kind state enough =
+pub step-approve : (h : Head) (seats : List Seat) (es : List Entry) (c : Caller) (n day : ℕ) (o : Option Entry) → entry_at es n ≡ o → Sound (rows-of (Some h) seats es) → h.closed ≡ None → h.last ≤ day → is_none o ≡ false → is_no_payment o ≡ false → is_payment_not_proposed o ≡ false → is_short_payment o (available es) (left_in es (target_in o) (entry_at es (target_in o))) ≡ false → Stepped (Some h) seats es (asked c (ask.Approve n) day) (with_payment n o (λ _. payment.Issued day))
+step-approve h seats es c n day (Some (entry.Payment p)) at s unclosed later there kind state enough =
     let x : Numbered = record { number = n; entry = with-state p (payment.Issued day) } in
     let new = proposed-is p.state state in
     let may = approved-may es n day p s.backed at new enough in
     let made : p.book ≤ day = let b = made-before h es n (entry.Payment p) s.headed.0 at in omega (arith, b, later) in
     step-exchange h seats es x (entry.Payment p) _ _ day s unclosed may refl (λ _. omega arith) later (approved-by p day made) (made, tt) (restating-moves es n h.last day p (payment.Issued day) (paid_out day p.amount ∷ []) at (rw new refl) (later, omega arith)) (inr (sym (ap target_in at))) (refl)
-approve-one h seats es c n day o at s unclosed later there kind state enough = absurd (cc)
-
-pub step-approve : (h : Head) (seats : List Seat) (es : List Entry) (c : Caller) (n : ℕ) (day : ℕ) → Sound (rows-of (Some h) seats es) → h.closed ≡ None → h.last ≤ day → Passes (facts_of (rows-of (Some h) seats es) (ask.Approve n)) (asked c (ask.Approve n) day) → Stepped (Some h) seats es (asked c (ask.Approve n) day) (edit_of (ask.Approve n) (entry_at es n) day)
-step-approve h seats es c n day s unclosed later p =
-    approve-one h seats es c n day (entry_at es n) refl s unclosed later p.there p.kind p.state p.enough
+step-approve h seats es c n day o at s unclosed later there kind state enough = absurd (cc)
 
 -- A declining draws nothing.
 
@@ -185,18 +154,14 @@ declined-by : (p : Payment) (day : ℕ) → p.book ≤ day → IsBy day (with-st
 unfolding days_of
 declined-by p day made = (made, tt)
 
-decline-one : (h : Head) (seats : List Seat) (es : List Entry) (c : Caller) (n day : ℕ) (o : Option Entry) → entry_at es n ≡ o → Sound (rows-of (Some h) seats es) → h.closed ≡ None → h.last ≤ day → is_none o ≡ false → is_no_payment o ≡ false → is_payment_not_proposed o ≡ false → Stepped (Some h) seats es (asked c (ask.Decline n) day) (with_payment n o (λ _. payment.Declined))
-decline-one h seats es c n day (Some (entry.Payment p)) at s unclosed later there kind state =
+pub step-decline : (h : Head) (seats : List Seat) (es : List Entry) (c : Caller) (n day : ℕ) (o : Option Entry) → entry_at es n ≡ o → Sound (rows-of (Some h) seats es) → h.closed ≡ None → h.last ≤ day → is_none o ≡ false → is_no_payment o ≡ false → is_payment_not_proposed o ≡ false → Stepped (Some h) seats es (asked c (ask.Decline n) day) (with_payment n o (λ _. payment.Declined))
+step-decline h seats es c n day (Some (entry.Payment p)) at s unclosed later there kind state =
     let x : Numbered = record { number = n; entry = with-state p payment.Declined } in
     let new = proposed-is p.state state in
     let may = declined-may es n p s.backed at new in
     let made : p.book ≤ day = let b = made-before h es n (entry.Payment p) s.headed.0 at in omega (arith, b, later) in
     step-exchange h seats es x (entry.Payment p) _ _ day s unclosed may refl (λ _. omega arith) later (declined-by p day made) tt (restating-moves es n h.last day p payment.Declined [] at (rw new refl) tt) (inr (sym (ap target_in at))) (refl)
-decline-one h seats es c n day o at s unclosed later there kind state = absurd (cc)
-
-pub step-decline : (h : Head) (seats : List Seat) (es : List Entry) (c : Caller) (n : ℕ) (day : ℕ) → Sound (rows-of (Some h) seats es) → h.closed ≡ None → h.last ≤ day → Passes (facts_of (rows-of (Some h) seats es) (ask.Decline n)) (asked c (ask.Decline n) day) → Stepped (Some h) seats es (asked c (ask.Decline n) day) (edit_of (ask.Decline n) (entry_at es n) day)
-step-decline h seats es c n day s unclosed later p =
-    decline-one h seats es c n day (entry_at es n) refl s unclosed later p.there p.kind p.state
+step-decline h seats es c n day o at s unclosed later there kind state = absurd (cc)
 
 -- A voiding gives back.
 
@@ -235,13 +200,9 @@ void-issued h seats es c n day issued p at s unclosed later was =
     let on : issued ≤ day = let d = days.1 in omega (arith, d, later) in
     step-exchange h seats es x (entry.Payment p) _ _ day s unclosed may refl (λ _. omega arith) later (voided-by p issued day days.0 on) (days.0, (on, tt)) (restating-moves es n h.last day p (taken-back issued day) (received day p.amount ∷ []) at (rw was refl) (later, omega arith)) (inr (sym (ap target_in at))) (refl)
 
-void-one : (h : Head) (seats : List Seat) (es : List Entry) (c : Caller) (n day : ℕ) (o : Option Entry) → entry_at es n ≡ o → Sound (rows-of (Some h) seats es) → h.closed ≡ None → h.last ≤ day → is_none o ≡ false → is_no_payment o ≡ false → is_payment_not_issued o ≡ false → Stepped (Some h) seats es (asked c (ask.VoidPayment n) day) (with_payment n o (voided day))
-void-one h seats es c n day (Some (entry.Payment p)) at s unclosed later there kind state =
+pub step-void : (h : Head) (seats : List Seat) (es : List Entry) (c : Caller) (n day : ℕ) (o : Option Entry) → entry_at es n ≡ o → Sound (rows-of (Some h) seats es) → h.closed ≡ None → h.last ≤ day → is_none o ≡ false → is_no_payment o ≡ false → is_payment_not_issued o ≡ false → Stepped (Some h) seats es (asked c (ask.VoidPayment n) day) (with_payment n o (voided day))
+step-void h seats es c n day (Some (entry.Payment p)) at s unclosed later there kind state =
     let was = issued-is p.state state in
     let P : PaymentState → Type 0 = λ v. Stepped (Some h) seats es (asked c (ask.VoidPayment n) day) (edit.Exchange (record { number = n; entry = with-state p (voided day v) })) in
     subst P (sym was.1) (void-issued h seats es c n day was.0 p at s unclosed later was.1)
-void-one h seats es c n day o at s unclosed later there kind state = absurd (cc)
-
-pub step-void : (h : Head) (seats : List Seat) (es : List Entry) (c : Caller) (n : ℕ) (day : ℕ) → Sound (rows-of (Some h) seats es) → h.closed ≡ None → h.last ≤ day → Passes (facts_of (rows-of (Some h) seats es) (ask.VoidPayment n)) (asked c (ask.VoidPayment n) day) → Stepped (Some h) seats es (asked c (ask.VoidPayment n) day) (edit_of (ask.VoidPayment n) (entry_at es n) day)
-step-void h seats es c n day s unclosed later p =
-    void-one h seats es c n day (entry_at es n) refl s unclosed later p.there p.kind p.state
+step-void h seats es c n day o at s unclosed later there kind state = absurd (cc)

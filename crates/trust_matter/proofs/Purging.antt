@@ -1,28 +1,9 @@
 -- Nothing changes a purged matter, and so what was accepted or applied before changes nothing when it comes again.
-use Rattle.std.specs.Prelude.{is_some, is_none, nat_lt, IsSome}
-use Rattle.std.proofs.Common.{◌≡◌, ℕ, ◌≤◌, Bool, true, false, cond, List, [], ◌∷◌, Option, Some, None, refl, sym, ap, ◌∙◌, subst, ◌⊎◌, ⊎_elim, inl, inr}
-use Rattle.std.proofs.lemmas.Bool.{false≢true}
-use Rattle.trust_base.specs.declared.refusal.Refusal.{Refusal}
-use Rattle.trust_base.specs.declared.line.Line.{Line}
-use Rattle.matter_rows.specs.declared.head.Head.{Head}
-use Rattle.matter_rows.specs.Rows.{Rows, entry_at, last_of, closed_on, is_purged, is_gone}
-use Rattle.matter_rows.specs.Sound.{Sound}
-use Rattle.matter_rows.specs.Clearings.{is_line_again}
-use Rattle.matter_parts.specs.declared.edit.Edit.{Edit}
-use Rattle.matter_parts.specs.Changes.{last_after}
+use Rattle.trust_matter.proofs.Names.{is_some, is_none, nat_lt, IsSome, ◌≡◌, ℕ, ◌≤◌, Bool, true, false, cond, List, [], ◌∷◌, Option, Some, None, refl, sym, ap, ◌∙◌, subst, ◌⊎◌, ⊎_elim, inl, inr, false≢true, Refusal, Line, Head, Rows, entry_at, last_of, closed_on, is_purged, is_gone, Sound, is_line_again, Edit, last_after, Ask, BankLine, Reason, DatedEdit, Facts, Asked, facts_of, number_named, is_repeat, number_made, comes_again, first, refusal_of, refusal, edit_on, after, rows_after, LineFacts, line_facts, has_no_line, awaits_no_line, is_of_another_amount, is_uncovered, first_reason, reasons, matched, dated_by, line_on, after_line_effect, rows_after_line, IsApplied, Grows, Doing, AnAsk, ALine, after_doing, all_after, IsSameLine, StubIsSound, PurgedStays, AskUnchanged, AskRepeat, LineUnchanged, LineRepeat}
 use Rattle.matter_parts.specs.Purging.{stub_rows}
-use Rattle.trust_matter.specs.declared.ask.Ask.{Ask}
 use Rattle.trust_matter.specs.declared.ask.Ask.TheVariants as ask
-use Rattle.trust_matter.specs.declared.bank_line.BankLine.{BankLine}
-use Rattle.trust_matter.specs.declared.line_verdict.Reason.{Reason}
 use Rattle.trust_matter.specs.declared.line_verdict.Reason.TheVariants as reason
-use Rattle.trust_matter.specs.declared.line_verdict.DatedEdit.{DatedEdit}
 use Rattle.trust_matter.specs.declared.line_verdict.LineEffect.TheVariants as told
-use Rattle.trust_matter.specs.Facts.{Facts, Asked, facts_of, number_named}
-use Rattle.trust_matter.specs.Conditions.{is_repeat, number_made, comes_again}
-use Rattle.trust_matter.specs.Step.{first, refusal_of, refusal, edit_on, after, rows_after}
-use Rattle.trust_matter.specs.LineStep.{LineFacts, line_facts, has_no_line, awaits_no_line, is_of_another_amount, is_uncovered, first_reason, reasons, matched, dated_by, line_on, after_line_effect, rows_after_line, IsApplied}
-use Rattle.trust_matter.specs.Laws.{Grows, Doing, AnAsk, ALine, after_doing, all_after, IsSameLine, StubIsSound, PurgedStays, AskUnchanged, AskRepeat, LineUnchanged, LineRepeat}
 use Rattle.trust_matter.proofs.Repeats.{IsSpent, Makes, stays, further, doing-grows, asked-stays, asked-made-now, is-spent, makes-deposit, makes-payment, makes-fee, makes-claim}
 use Rattle.trust_matter.proofs.StepForms.{rows-clear}
 use Rattle.trust_matter.proofs.LineRepeats.{Stays, doing-stays, applied-now, again-same, line-spent}

@@ -1,11 +1,6 @@
 -- The reason that a line is told is the first that holds.
-use Rattle.std.proofs.Common.{◌≡◌, Bool, true, false, cond, List, [], ◌∷◌, refl, ap, Option, Some, None}
-use Rattle.matter_rows.specs.Clearings.{is_line_again}
-use Rattle.trust_matter.specs.declared.line_verdict.DatedEdit.{DatedEdit}
-use Rattle.trust_matter.specs.declared.line_verdict.Reason.{Reason}
+use Rattle.trust_matter.proofs.Names.{◌≡◌, Bool, true, false, cond, List, [], ◌∷◌, refl, ap, Option, Some, None, is_line_again, DatedEdit, Reason, IsFirstReason, FirstReason, NoReason, line_facts, first_reason, reasons, dated_by, matched, IsApplied}
 use Rattle.trust_matter.specs.declared.line_verdict.LineEffect.TheVariants as told
-use Rattle.trust_matter.specs.Laws.{IsFirstReason, FirstReason, NoReason}
-use Rattle.trust_matter.specs.LineStep.{line_facts, first_reason, reasons, dated_by, matched, IsApplied}
 use Rattle.trust_matter.proofs.LineSteps.{none-hold}
 
 told-is : (b : Bool) (o : Option Reason) (e : DatedEdit) (r : Reason) → cond b told.Repeat (matched o e) ≡ told.Unmatched r → o ≡ Some r

@@ -1,49 +1,15 @@
 -- What was made stays, so that an ask that comes again is a repeat.
-use Rattle.std.specs.Option.{option_map}
-use Rattle.std.specs.Str.{bytes_eq}
-use Rattle.std.proofs.Common.{◌≡◌, ℕ, ◌+◌, ◌-◌, ◌==◌, Bool, true, false, cond, ◌||◌, ◌⊎◌, ⊎_elim, inl, inr, List, [], ◌∷◌, ◌++◌, length, map, refl, ap, sym, ◌∙◌, arith, subst, Option, Some, None, eqb, append_assoc, append-nil}
-use Rattle.std.proofs.lemmas.Bool.{false≢true}
-use Rattle.std.proofs.lemmas.Bool.Decides.{nat_tests}
+use Rattle.trust_matter.proofs.Names.{option_map, bytes_eq, ◌≡◌, ℕ, ◌+◌, ◌-◌, ◌==◌, Bool, true, false, cond, ◌||◌, ◌⊎◌, ⊎_elim, inl, inr, List, [], ◌∷◌, ◌++◌, length, map, refl, ap, sym, ◌∙◌, arith, subst, Option, Some, None, eqb, append_assoc, append-nil, false≢true, nat_tests, bytes_eq-Decides, Refusal, Line, Against, ClaimState, Fund, PaymentState, Head, Entry, is_same_against, is_same_fund, Rows, is_purged, entry_at, as_made, next_number, deposit_by, cleared_payment, map-with, entry_at-append, Edit, Numbered, changed_by, head_after, IsExchange, last_after, Ask, Caller, ClaimAsk, DepositAsk, FeeAsk, PaymentAsk, BankLine, DatedEdit, LineEffect, is_purging, is_not_yet_closed_for, is_in_another_state_for, comes_again, is_as_asked, is_claim_asked, is_fee_asked, is_payment_asked, is_repeat, misses, number_made, Asked, facts_of, number_named, made_in, Grows, MadeStays, MadeStaysOrGoes, LinesLeaveMade, Doing, AnAsk, ALine, after_doing, line_facts, told_by, last_by, line_on, after_line_effect, first, early_conditions, conditions, refusal, edit_on, edit_of, rows_after, after, cancelled, claim_of, deposit_of, fee_of, payment_of, settled, voided, with_claim, with_payment}
 use Rattle.std.proofs.lemmas.List.{map-append}
-use Rattle.std.proofs.lemmas.Slice.Eq.{bytes_eq-Decides}
-use Rattle.trust_base.specs.declared.refusal.Refusal.{Refusal}
-use Rattle.trust_base.specs.declared.line.Line.{Line}
-use Rattle.matter_rows.specs.declared.claim.Against.{Against}
 use Rattle.matter_rows.specs.declared.claim.Against.TheVariants as against
-use Rattle.matter_rows.specs.declared.claim.ClaimState.{ClaimState}
 use Rattle.matter_rows.specs.declared.claim.ClaimState.TheVariants as claim
 use Rattle.matter_rows.specs.declared.deposit.DepositState.TheVariants as deposit
-use Rattle.matter_rows.specs.declared.payment.Fund.{Fund}
 use Rattle.matter_rows.specs.declared.payment.Fund.TheVariants as fund
-use Rattle.matter_rows.specs.declared.payment.PaymentState.{PaymentState}
 use Rattle.matter_rows.specs.declared.payment.PaymentState.TheVariants as payment
-use Rattle.matter_rows.specs.declared.head.Head.{Head}
-use Rattle.matter_rows.specs.declared.entry.Entry.{Entry}
 use Rattle.matter_rows.specs.declared.entry.Entry.TheVariants as entry
-use Rattle.matter_rows.specs.Rows.{is_same_against, is_same_fund, Rows, is_purged, entry_at, as_made, next_number}
-use Rattle.matter_rows.specs.Clearings.{deposit_by, cleared_payment}
-use Rattle.matter_rows.proofs.Days.{map-with}
-use Rattle.matter_rows.proofs.Entries.{entry_at-append}
-use Rattle.matter_parts.specs.declared.edit.Edit.{Edit}
 use Rattle.matter_parts.specs.declared.edit.Edit.TheVariants as edit
-use Rattle.matter_parts.specs.declared.edit.Numbered.{Numbered}
-use Rattle.matter_parts.specs.Changes.{changed_by, head_after, IsExchange, last_after}
-use Rattle.trust_matter.specs.declared.ask.Ask.{Ask}
 use Rattle.trust_matter.specs.declared.ask.Ask.TheVariants as ask
-use Rattle.trust_matter.specs.declared.ask.Caller.{Caller}
-use Rattle.trust_matter.specs.declared.claim.ClaimAsk.{ClaimAsk}
-use Rattle.trust_matter.specs.declared.deposit.DepositAsk.{DepositAsk}
-use Rattle.trust_matter.specs.declared.fee.FeeAsk.{FeeAsk}
-use Rattle.trust_matter.specs.declared.payment.PaymentAsk.{PaymentAsk}
-use Rattle.trust_matter.specs.declared.bank_line.BankLine.{BankLine}
-use Rattle.trust_matter.specs.declared.line_verdict.DatedEdit.{DatedEdit}
-use Rattle.trust_matter.specs.declared.line_verdict.LineEffect.{LineEffect}
 use Rattle.trust_matter.specs.declared.line_verdict.LineEffect.TheVariants as told
-use Rattle.trust_matter.specs.Conditions.{is_purging, is_not_yet_closed_for, is_in_another_state_for, comes_again, is_as_asked, is_claim_asked, is_fee_asked, is_payment_asked, is_repeat, misses, number_made}
-use Rattle.trust_matter.specs.Facts.{Asked, facts_of, number_named}
-use Rattle.trust_matter.specs.Laws.{made_in, Grows, MadeStays, MadeStaysOrGoes, LinesLeaveMade, Doing, AnAsk, ALine, after_doing}
-use Rattle.trust_matter.specs.LineStep.{line_facts, told_by, last_by, line_on, after_line_effect}
-use Rattle.trust_matter.specs.Step.{first, early_conditions, conditions, refusal, edit_on, edit_of, rows_after, after, cancelled, claim_of, deposit_of, fee_of, payment_of, settled, voided, with_claim, with_payment}
 use Rattle.trust_matter.proofs.LineSteps.{applied-matched}
 use Rattle.trust_matter.proofs.StepForms.{next-is}
 use Rattle.trust_matter.proofs.Table.{passes}
@@ -223,10 +189,10 @@ asked-made-now q m false rows c day is none last =
 
 -- The asks that make an entry.
 
-same-amount : (n : ℕ) → (n == n) ≡ true
+pub same-amount : (n : ℕ) → (n == n) ≡ true
 same-amount n = grind (arith, nat_tests)
 
-same-bytes : (bs : List ℕ) → bytes_eq bs bs ≡ true
+pub same-bytes : (bs : List ℕ) → bytes_eq bs bs ≡ true
 same-bytes bs = (bytes_eq-Decides bs bs).1 refl
 
 same-fund : (f : Fund) → is_same_fund f f ≡ true

@@ -1,14 +1,5 @@
 -- The example rows are sound.
-use Rattle.std.specs.List.{AllByRecursion}
-use Rattle.std.proofs.Common.{◌≡◌, ℕ, ◌+◌, ◌-◌, true, false, cond, List, [], ◌∷◌, refl, sym, subst, arith, rules, Some, eqb, pos, ◌≤ℤ◌}
-use Rattle.std.proofs.lemmas.Int.{ints}
-use Rattle.std.proofs.lemmas.Bool.Decides.{nat_tests}
-use Rattle.matter_rows.specs.declared.entry.Entry.{Entry}
-use Rattle.matter_rows.specs.Balances.{left_of, names}
-use Rattle.matter_rows.specs.Rows.{entry_at}
-use Rattle.matter_rows.specs.Shares.{held_share, total_share, available_share, disputed_share, pending_share, worth, draw}
-use Rattle.matter_rows.specs.Sound.{AreBacked, IsRanged, Sound, days_of}
-use Rattle.matter_rows.proofs.Entries.{within}
+use Rattle.trust_matter.proofs.Names.{AllByRecursion, ◌≡◌, ℕ, ◌+◌, ◌-◌, true, false, cond, List, [], ◌∷◌, refl, sym, subst, arith, rules, Some, eqb, pos, ◌≤ℤ◌, ints, nat_tests, Entry, left_of, names, entry_at, held_share, total_share, available_share, disputed_share, pending_share, worth, draw, AreBacked, IsRanged, Sound, days_of, within}
 use Rattle.trust_matter.specs.Examples.{every_state, in_every_state, all_paid_out, closed_at_rest, Balance}
 
 -- what is left of each entry of the list, whose first has the number n, is not below zero

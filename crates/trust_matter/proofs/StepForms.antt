@@ -1,37 +1,14 @@
 -- Forms of a step: edits of sound rows, what they move, and what an accepted ask has passed.
-use Rattle.std.specs.Prelude.{IsSome, ◌||◌, nat_lt, is_some, is_none, slice_get}
-use Rattle.std.proofs.Common.{◌≡◌, ◌⊎◌, ℕ, ◌+◌, ◌<◌, ◌≤◌, not, ◌&&◌, Bool, true, false, cond, ℤ, pos, negsuc, ap, List, [], ◌∷◌, ◌++◌, length, refl, sym, arith, subst, Option, Some, None, eqb}
-use Rattle.std.proofs.lemmas.Bool.Decides.{nat_tests}
-use Rattle.matter_rows.specs.declared.deposit.DepositState.{DepositState}
+use Rattle.trust_matter.proofs.Names.{IsSome, nat_lt, is_some, is_none, slice_get, ◌≡◌, ◌⊎◌, ℕ, ◌+◌, ◌<◌, ◌≤◌, not, ◌&&◌, Bool, true, false, cond, ℤ, pos, negsuc, ap, List, [], ◌∷◌, ◌++◌, length, refl, sym, arith, subst, Option, Some, None, eqb, nat_tests, DepositState, Entry, Head, Seat, moved_beyond, Event, events_of, events_in, is_number, is_held_state, Rows, is_purged, entry_at, next_number, book_day, as_made, role_in, ledger, pending, is_settled, target, AreDated, IsBy, IsRising, IsHeaded, IsAtRestIfClosed, IsBare, Sound, settlement_day, dated-later, dated-append, dated-with, not-closed, not-bare, unclosed-bare, MayAdd, MayTake, sound-append, sound-with, Edit, Numbered, changed_by, events_by, IsMovedWithin, last_after, backed-none, IsStepOf, MovesWithin, rows-of, Ask, Caller, OpenAsk, is_unknown_to, is_opening, misses, is_zero, Asked, number_named, other_of, opening}
+use Rattle.std.specs.Prelude.{◌||◌}
 use Rattle.matter_rows.specs.declared.deposit.DepositState.TheVariants as deposit
-use Rattle.matter_rows.specs.declared.entry.Entry.{Entry}
-use Rattle.matter_rows.specs.declared.head.Head.{Head}
 use Rattle.matter_rows.specs.declared.head.Holder.TheVariants as holder
-use Rattle.matter_rows.specs.declared.seat.Seat.{Seat}
-use Rattle.matter_rows.specs.Events.{moved_beyond, Event, events_of, events_in}
-use Rattle.matter_rows.specs.Rows.{is_number, is_held_state, Rows, is_purged, entry_at, next_number, book_day, as_made, role_in}
-use Rattle.matter_rows.specs.Balances.{ledger, pending, is_settled}
-use Rattle.matter_rows.specs.Shares.{target}
-use Rattle.matter_rows.specs.Sound.{AreDated, IsBy, IsRising, IsHeaded, IsAtRestIfClosed, IsBare, Sound, settlement_day}
-use Rattle.matter_rows.proofs.Days.{dated-later, dated-append, dated-with, not-closed, not-bare, unclosed-bare}
 use Rattle.matter_rows.proofs.Funding.{funded-added, funded-exchanged}
-use Rattle.matter_rows.proofs.Keeping.{MayAdd, MayTake, sound-append, sound-with}
 use Rattle.matter_rows.proofs.SeatOrder.{order-with, order-without}
-use Rattle.matter_parts.specs.declared.edit.Edit.{Edit}
 use Rattle.matter_parts.specs.declared.edit.Edit.TheVariants as edit
-use Rattle.matter_parts.specs.declared.edit.Numbered.{Numbered}
 use Rattle.matter_parts.specs.declared.edit.Opening.{Opening}
-use Rattle.matter_parts.specs.Changes.{changed_by, events_by, IsMovedWithin, last_after}
-use Rattle.matter_parts.proofs.Editing.{backed-none}
-use Rattle.matter_parts.proofs.StepForms.{IsStepOf, MovesWithin, rows-of}
-use Rattle.trust_matter.specs.declared.ask.Ask.{Ask}
 use Rattle.trust_matter.specs.declared.ask.Ask.TheVariants as ask
-use Rattle.trust_matter.specs.declared.ask.Caller.{Caller}
 use Rattle.trust_matter.specs.declared.ask.Caller.TheVariants as caller
-use Rattle.trust_matter.specs.declared.ask.OpenAsk.{OpenAsk}
-use Rattle.trust_matter.specs.Conditions.{is_unknown_to, is_opening, misses, is_zero}
-use Rattle.trust_matter.specs.Facts.{Asked, number_named, other_of}
-use Rattle.trust_matter.specs.Step.{opening}
 
 -- an entry is added, on no day before the last
 pub rows-append : (h : Head) (seats : List Seat) (es : List Entry) (x : Numbered) (last : ℕ) → Sound (rows-of (Some h) seats es) → h.closed ≡ None → MayAdd es x.entry → h.last ≤ book_day x.entry → IsBy last x.entry → IsRising x.entry → Sound (changed_by (edit.Append x) last (rows-of (Some h) seats es))

@@ -1,31 +1,15 @@
 -- Sound rows stay sound at every accepted ask.
-use Rattle.std.specs.Prelude.{◌&&◌, is_some, nat_lt}
-use Rattle.std.proofs.Common.{◌≡◌, ℕ, Bool, true, false, cond, List, length, refl, sym, Option, Some, None}
-use Rattle.std.proofs.lemmas.Bool.{false≢true}
-use Rattle.trust_base.specs.declared.refusal.Refusal.{Refusal}
-use Rattle.matter_rows.specs.declared.claim.Against.{Against}
+use Rattle.trust_matter.proofs.Names.{is_some, nat_lt, ◌≡◌, ℕ, Bool, true, false, cond, List, length, refl, sym, Option, Some, None, false≢true, Refusal, Against, Entry, Head, Seat, Rows, entry_at, role_in, Sound, last_after, rows-of, Ask, Caller, is_opening, is_repeat, comes_again, Asked, facts_of, number_named, SoundForEver, changes_matter, rule_against, HasAmount, first, conditions, early_conditions, refusal, edit_on, edit_of, after, settled}
+use Rattle.std.specs.Prelude.{◌&&◌}
 use Rattle.matter_rows.specs.declared.claim.Against.TheVariants as against
-use Rattle.matter_rows.specs.declared.entry.Entry.{Entry}
-use Rattle.matter_rows.specs.declared.head.Head.{Head}
-use Rattle.matter_rows.specs.declared.seat.Seat.{Seat}
-use Rattle.matter_rows.specs.Rows.{Rows, entry_at, role_in}
-use Rattle.matter_rows.specs.Sound.{Sound}
+use Rattle.matter_rows.specs.declared.claim.ClaimState.TheVariants as claim
 use Rattle.matter_parts.specs.declared.edit.Edit.TheVariants as edit
-use Rattle.matter_parts.specs.Changes.{last_after}
-use Rattle.matter_parts.proofs.StepForms.{rows-of}
-use Rattle.trust_matter.specs.declared.ask.Ask.{Ask}
 use Rattle.trust_matter.specs.declared.ask.Ask.TheVariants as ask
-use Rattle.trust_matter.specs.declared.ask.Caller.{Caller}
-use Rattle.trust_matter.specs.Conditions.{is_opening, is_repeat, comes_again}
-use Rattle.trust_matter.specs.Facts.{Asked, facts_of, number_named}
-use Rattle.trust_matter.specs.Laws.{SoundForEver}
-use Rattle.trust_matter.specs.Policy.{changes_matter, rule_against}
-use Rattle.trust_matter.specs.Step.{HasAmount, first, conditions, early_conditions, refusal, edit_on, edit_of, after}
 use Rattle.trust_matter.proofs.Table.{Passes, passes}
 use Rattle.trust_matter.proofs.StepForms.{asked, IsStep, Stepped, head-there, none-is, some-is, not-before, next-is, step-nothing, step-unclosed, step-seat, step-unseat, step-close, step-purge}
 use Rattle.trust_matter.proofs.DepositSteps.{step-deposit, step-cancel}
 use Rattle.trust_matter.proofs.PaymentSteps.{step-propose, step-approve, step-decline, step-void}
-use Rattle.trust_matter.proofs.ClaimSteps.{step-fee, step-claim, step-offer, step-accept, step-award}
+use Rattle.trust_matter.proofs.ClaimSteps.{offered-days, settled-days, step-fee, step-claim, step-unsettled, step-accept}
 
 -- A claim changes the matter, whatever it is on.
 
@@ -53,15 +37,17 @@ step-made (Some h) seats es c (ask.Deposit d) day s amount p =
 step-made (Some h) seats es c (ask.CancelDeposit n) day s amount p =
     step-cancel h seats es c n day (entry_at es n) refl s (none-is h.closed p.not_closed) (not-before day h.last p.forwards) p.there p.kind p.state
 step-made (Some h) seats es c (ask.Propose a) day s amount p = step-propose h seats es c a day s amount (none-is h.closed p.not_closed) (not-before day h.last p.forwards) p
-step-made (Some h) seats es c (ask.Approve n) day s amount p = step-approve h seats es c n day s (none-is h.closed p.not_closed) (not-before day h.last p.forwards) p
-step-made (Some h) seats es c (ask.Decline n) day s amount p = step-decline h seats es c n day s (none-is h.closed p.not_closed) (not-before day h.last p.forwards) p
-step-made (Some h) seats es c (ask.VoidPayment n) day s amount p = step-void h seats es c n day s (none-is h.closed p.not_closed) (not-before day h.last p.forwards) p
+step-made (Some h) seats es c (ask.Approve n) day s amount p = step-approve h seats es c n day (entry_at es n) refl s (none-is h.closed p.not_closed) (not-before day h.last p.forwards) p.there p.kind p.state p.enough
+step-made (Some h) seats es c (ask.Decline n) day s amount p = step-decline h seats es c n day (entry_at es n) refl s (none-is h.closed p.not_closed) (not-before day h.last p.forwards) p.there p.kind p.state
+step-made (Some h) seats es c (ask.VoidPayment n) day s amount p = step-void h seats es c n day (entry_at es n) refl s (none-is h.closed p.not_closed) (not-before day h.last p.forwards) p.there p.kind p.state
 step-made (Some h) seats es c (ask.EarnFee a) day s amount p = step-fee h seats es c a day s amount (none-is h.closed p.not_closed) (not-before day h.last p.forwards) p
 step-made (Some h) seats es c (ask.RaiseClaim a) day s amount p =
     step-claim h seats es c a day s amount (none-is h.closed (claim-unclosed a.against (is_some h.closed) p.not_closed)) (not-before day h.last (claim-forwards a.against (nat_lt day h.last) p.forwards)) p
-step-made (Some h) seats es c (ask.Offer a) day s amount p = step-offer h seats es c a day s (none-is h.closed p.not_closed) (not-before day h.last p.forwards) p
-step-made (Some h) seats es c (ask.Accept a) day s amount p = step-accept h seats es c a day s (none-is h.closed p.not_closed) (not-before day h.last p.forwards) p
-step-made (Some h) seats es c (ask.Award a) day s amount p = step-award h seats es c a day s (none-is h.closed p.not_closed) (not-before day h.last p.forwards) p
+step-made (Some h) seats es c (ask.Offer a) day s amount p =
+    step-unsettled h seats es c (ask.Offer a) a.number day (claim.Offered a.to_client) (entry_at es a.number) refl (λ e. refl) (offered-days day a.to_client) refl s (none-is h.closed p.not_closed) (not-before day h.last p.forwards) p.there p.kind p.state p.split
+step-made (Some h) seats es c (ask.Accept a) day s amount p = step-accept h seats es c a day (entry_at es a.number) refl s (none-is h.closed p.not_closed) (not-before day h.last p.forwards) p.there p.kind p.state p.split
+step-made (Some h) seats es c (ask.Award a) day s amount p =
+    step-unsettled h seats es c (ask.Award a) a.number day (settled day a.to_client) (entry_at es a.number) refl (λ e. refl) (settled-days day a.to_client) refl s (none-is h.closed p.not_closed) (not-before day h.last p.forwards) p.there p.kind p.state p.split
 step-made (Some h) seats es c ask.CloseMatter day s amount p = step-close h seats es c day s (none-is h.closed p.not_closed) (not-before day h.last p.forwards) p.empty
 step-made (Some h) seats es c ask.Purge day s amount p = step-purge h seats es c day s p.kept (not-before day h.last p.forwards) p.state
 step-made (Some h) seats es c a day s amount p = step-nothing h seats es (asked c a day) s

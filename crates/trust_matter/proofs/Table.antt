@@ -1,13 +1,6 @@
 -- The table of refusals gives the least number whose condition holds.
-use Rattle.std.proofs.Common.{◌≡◌, ◌⊎◌, ℕ, ◌≤◌, Bool, true, false, List, [], ◌∷◌, ◌++◌, Option, Some, None, refl, sym, subst, ◌∙◌, inl, inr, ⊎_elim, arith, rules, cond}
-use Rattle.std.proofs.Math.Nat.{le_refl}
-use Rattle.std.proofs.lemmas.Bool.{false≢true}
-use Rattle.trust_base.specs.declared.refusal.Refusal.{Refusal}
+use Rattle.trust_matter.proofs.Names.{◌≡◌, ◌⊎◌, ℕ, ◌≤◌, Bool, true, false, List, [], ◌∷◌, ◌++◌, Option, Some, None, refl, sym, subst, ◌∙◌, inl, inr, ⊎_elim, arith, rules, cond, le_refl, false≢true, Refusal, Facts, Asked, has_no_seat, was_purged, is_not_allowed, is_opened_already, is_closed, goes_backwards, is_not_next, is_not_there, is_of_another_kind, is_in_another_state, is_to_cash, is_to_wrong_payee, is_bad_split, is_short, has_a_seat_already, has_none_to_drop, would_lose_its_last_lawyer, is_not_empty, is_too_early, is_repeat, first, conditions, early_conditions, later_conditions, Stands, LeastRefusal, NoRefusal}
 use Rattle.trust_base.specs.Refusals.{number_of}
-use Rattle.trust_matter.specs.Facts.{Facts, Asked}
-use Rattle.trust_matter.specs.Conditions.{has_no_seat, was_purged, is_not_allowed, is_opened_already, is_closed, goes_backwards, is_not_next, is_not_there, is_of_another_kind, is_in_another_state, is_to_cash, is_to_wrong_payee, is_bad_split, is_short, has_a_seat_already, has_none_to_drop, would_lose_its_last_lawyer, is_not_empty, is_too_early, is_repeat}
-use Rattle.trust_matter.specs.Step.{first, conditions, early_conditions, later_conditions}
-use Rattle.trust_matter.specs.Laws.{Stands, LeastRefusal, NoneHolds as NoRefusal}
 
 -- the numbers do not fall
 abbrev pub Rises : ℕ → List (Bool × Refusal) → Type 0

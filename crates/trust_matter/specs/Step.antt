@@ -19,9 +19,9 @@ use Rattle.matter_parts.specs.declared.edit.Edit.{Edit}
 use Rattle.matter_parts.specs.declared.edit.Edit.TheVariants as edit
 use Rattle.matter_parts.specs.Changes.{MatterChange, IsChange, changed_by, last_after}
 use Rattle.trust_matter.specs.declared.ask.OpenAsk.{OpenAsk}
-use Rattle.trust_matter.specs.declared.deposit.DepositAsk.{DepositAsk}
+use Rattle.trust_matter.specs.declared.ask.DepositAsk.{DepositAsk}
 use Rattle.trust_matter.specs.declared.payment.PaymentAsk.{PaymentAsk}
-use Rattle.trust_matter.specs.declared.fee.FeeAsk.{FeeAsk}
+use Rattle.trust_matter.specs.declared.ask.FeeAsk.{FeeAsk}
 use Rattle.trust_matter.specs.declared.claim.ClaimAsk.{ClaimAsk}
 use Rattle.trust_matter.specs.declared.ask.Ask.{Ask}
 use Rattle.trust_matter.specs.declared.ask.Ask.TheVariants as ask

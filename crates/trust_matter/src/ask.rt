@@ -7,11 +7,9 @@ ghost use Rattle.trust_matter.specs.Facts.{fund_named, number_named};
 ghost use Rattle.trust_matter.specs.Policy.{rule_of};
 
 use crate::claim::{ClaimAsk, SplitAsk};
-use crate::deposit::DepositAsk;
-use crate::fee::FeeAsk;
 use crate::payment::PaymentAsk;
 use matter_rows::{Against, Seat};
-use trust_base::{EntryNo, Label, PersonId, Rule};
+use trust_base::{Cents, EntryNo, Label, PersonId, Rule};
 
 /// The cashier of the firm, or a person by name.
 #[derive(Drop)]
@@ -25,6 +23,23 @@ pub enum Caller {
 pub struct OpenAsk {
     pub client: Label,
     pub lawyer: PersonId,
+}
+
+/// Asks to book a deposit under a number.
+#[derive(Drop)]
+pub struct DepositAsk {
+    pub number: EntryNo,
+    pub amount: Cents,
+    pub source: Label,
+    pub description: Label,
+}
+
+/// Asks to set apart an earned fee under a number (ABA Model Rule 1.15(c)).
+#[derive(Drop)]
+pub struct FeeAsk {
+    pub number: EntryNo,
+    pub amount: Cents,
+    pub description: Label,
 }
 
 /// What is asked of a matter.

@@ -1,4 +1,5 @@
 //! Worked cases over the definitions. Each clause is one ask of a matter, and its answer.
+#![tactic(auto, unfolding(matter_rows::specs::Shares::held_share, matter_rows::specs::Shares::available_share, matter_rows::specs::Shares::disputed_share, matter_rows::specs::Shares::total_share, matter_rows::specs::Shares::pending_share, matter_rows::specs::Shares::worth, matter_rows::specs::Shares::draw, trust_base::specs::Names::is_cash_label))]
 
 ghost use Rattle.std.specs.Prelude.{Some, pos, codes};
 ghost use Rattle.matter_rows.specs.declared.deposit.DepositState.TheVariants as deposit;
@@ -316,20 +317,20 @@ pub fn payees()
         (by_person lee (check_for 2 10000 (Fund.Fee 2) firm) friday) Refusal.NoEntry }
     ensures firm_from_fee { Accepts settled_rows (by_person lee (check_for 5 15000 (Fund.Fee 2) firm) friday)
         (settled_with_check 15000 (Fund.Fee 2) firm PaymentState.Proposed) }
-    ensures clerk_from_fee { Refuses settled_rows
-        (by_person lee (check_for 5 15000 (Fund.Fee 2) clerk) friday) Refusal.WrongPayee }
     ensures fee_is_short { Refuses (settled_with_check 15001 (Fund.Fee 2) firm PaymentState.Proposed)
         (by_person lee (Ask.Approve 5) friday) (Refusal.Short 15000) }
-    ensures claim_on_fee { Refuses settled_rows
-        (by_person lee (check_for 5 5000 (Fund.Claim 3) clinic) friday) Refusal.WrongKind }
-    ensures unsettled_claim { Refuses unsettled
-        (by_person lee (check_for 5 5000 (Fund.Claim 4) clinic) friday) Refusal.WrongState }
+    ensures clerk_from_fee { Refuses settled_rows
+        (by_person lee (check_for 5 15000 (Fund.Fee 2) clerk) friday) Refusal.WrongPayee }
     ensures claimant { Accepts settled_rows (by_person lee (check_for 5 6000 (Fund.Claim 4) clinic) friday)
         (settled_with_check 6000 (Fund.Claim 4) clinic PaymentState.Proposed) }
-    ensures another_than_claimant { Refuses settled_rows
-        (by_person lee (check_for 5 6000 (Fund.Claim 4) clerk) friday) Refusal.WrongPayee }
+    ensures claim_on_fee { Refuses settled_rows
+        (by_person lee (check_for 5 5000 (Fund.Claim 3) clinic) friday) Refusal.WrongKind }
     ensures claim_is_short { Refuses (settled_with_check 6001 (Fund.Claim 4) clinic PaymentState.Proposed)
         (by_person lee (Ask.Approve 5) friday) (Refusal.Short 6000) }
+    ensures unsettled_claim { Refuses unsettled
+        (by_person lee (check_for 5 5000 (Fund.Claim 4) clinic) friday) Refusal.WrongState }
+    ensures another_than_claimant { Refuses settled_rows
+        (by_person lee (check_for 5 6000 (Fund.Claim 4) clerk) friday) Refusal.WrongPayee }
     ensures claim_covers { Accepts (settled_with_check 6000 (Fund.Claim 4) clinic PaymentState.Proposed)
         (by_person lee (Ask.Approve 5) friday)
         (settled_with_check 6000 (Fund.Claim 4) clinic (PaymentState.Issued friday)) }

@@ -12,7 +12,7 @@ ghost use Rattle.trust_matter.specs.ClaimTables.{against_conditions, split_condi
 ghost use Rattle.trust_matter.specs.Step.{AnswersLateBy, first, settled, with_claim};
 
 use crate::ask::Ask;
-use crate::policy::check_change;
+use crate::deciding::check_change;
 use matter_parts::{Edit, Kept, Matter, Numbered};
 use matter_rows::{Against, Claim, ClaimState, Entry, Settlement};
 use std::alloc::AllocError;
@@ -96,23 +96,21 @@ pub(crate) fn decide_claim(matter: &Matter, asked: &ClaimAsk, day: Day) -> Resul
     ensures answer { (c : AnyCaller) → AnswersLateBy (kept_facts matter.now (Ask.RaiseClaim asked.now))
         (record { caller = c; ask = Ask.RaiseClaim asked.now; day = day }) result }
 {
-    let number = asked.number;
     let amount = asked.amount.get();
-    if is_claim_asked(matter.find(number), asked) {
+    if is_claim_asked(matter.find(asked.number), asked) {
         return Ok(Edit::Nothing);
     }
+    let number = asked.number;
     check_change(matter, Some(number), day)?;
     let left = left_against(matter, &asked.against)?;
     if left < amount {
         return Err(Refusal::Short(left));
     }
-    let against = asked.against.copied()?;
-    let reason = asked.reason.copied()?;
     let entry = Entry::Claim(Claim {
         book: day,
         amount: asked.amount,
-        against,
-        reason,
+        against: asked.against.copied()?,
+        reason: asked.reason.copied()?,
         state: ClaimState::Open,
     });
     Ok(Edit::Append(Numbered { number, entry }))

@@ -1,22 +1,22 @@
-//! Decides an ask of a matter: returns the refusal, or the change of its rows.
+//! Decides an ask of a matter: returns the refusal, or the change of its rows. Says who may ask, when a matter may
+//! change, and what is decided about deposits and fees.
 
-ghost use Rattle.std.specs.Prelude.{◌≡◌, true};
-ghost use Rattle.matter_rows.specs.Rows.{Rows};
+ghost use Rattle.std.specs.Prelude.{◌≡◌, true, MatchResult, None, Some};
+ghost use Rattle.trust_base.specs.Limits.{IsAmount};
+ghost use Rattle.matter_rows.specs.Rows.{Rows, next_number};
 ghost use Rattle.matter_rows.specs.Sound.{Sound};
 ghost use Rattle.matter_parts.specs.Parts.{IsPart};
 ghost use Rattle.trust_matter.specs.declared.ask.Caller.{Caller as AnyCaller};
 ghost use Rattle.trust_matter.specs.KeptFacts.{kept_facts, holds_for};
-ghost use Rattle.trust_matter.specs.Step.{Decides, AnswersLateBy};
+ghost use Rattle.trust_matter.specs.Step.{AnswersLateBy, Decides, change_conditions, early_conditions, first};
 
-use crate::ask::{Ask, Caller};
+use crate::ask::{Ask, Caller, DepositAsk, FeeAsk};
 use crate::claim::{decide_accept, decide_award, decide_claim, decide_offer};
-use crate::deposit::{decide_cancel, decide_deposit};
-use crate::fee::decide_fee;
 use crate::head::{decide_add_seat, decide_close, decide_drop_seat, decide_open, decide_purge};
 use crate::payment::{decide_approve, decide_decline, decide_propose, decide_void};
-use crate::policy::check_caller;
-use matter_parts::{Change, Edit, Matter, change_of};
-use trust_base::{Day, EntryNo, Refusal};
+use matter_parts::{Change, Edit, Kept, Matter, Numbered, change_of};
+use matter_rows::{Deposit, DepositState, Entry, Fee, Role};
+use trust_base::{Day, EntryNo, Refusal, Rule};
 
 /// Whether enough is loaded to decide the ask: the entry that it names, and the fee or claim that it or that entry
 /// names, are loaded or do not exist. Allocates nothing.
@@ -32,17 +32,6 @@ pub fn holds_for(matter: &Matter, ask: &Ask) -> bool
         },
     };
     matter.holds_or_none(ask.number()) && matter.holds_or_none(other)
-}
-
-fn decide_show_entry(matter: &Matter, number: EntryNo, day: Day) -> Result<Edit, Refusal>
-    ensures { (c : AnyCaller) → AnswersLateBy (kept_facts matter.now (Ask.ShowEntry number))
-        (record { caller = c; ask = Ask.ShowEntry number; day = day }) result }
-{
-    let _day = day;
-    if matter.find(number).is_none() {
-        return Err(Refusal::NoEntry);
-    }
-    Ok(Edit::Nothing)
 }
 
 /// Decides an ask of a caller on a business day. Returns the change that it makes, or the refusal with the least number
@@ -80,4 +69,157 @@ pub fn decide(matter: &Matter, caller: &Caller, ask: &Ask, day: Day) -> Result<C
     let edit = decided?;
     let last = matter.last_after(&edit, day);
     change_of(matter, edit, last)
+}
+
+// Refuses a caller for whom the matter does not exist, any ask of a purged matter, and what the policy forbids.
+fn check_caller(matter: &Matter, caller: &Caller, ask: &Ask) -> Result<(), Refusal>
+    ensures { MatchResult result
+        (λ _. first (early_conditions (kept_facts matter.now ask.now)
+        (record { caller = caller.now; ask = ask.now; day = 0 })) ≡ None)
+        (λ r. first (early_conditions (kept_facts matter.now ask.now)
+        (record { caller = caller.now; ask = ask.now; day = 0 })) ≡ Some r) }
+{
+    let is_unknown = match caller {
+        Caller::Cashier => matter.head().is_none() && !matches!(ask, Ask::OpenMatter(_)),
+        Caller::Person(person) => matter.role_of(person).is_none(),
+    };
+    if is_unknown {
+        return Err(Refusal::NoMatter);
+    }
+    if matter.is_purged() {
+        return Err(Refusal::Purged);
+    }
+    let rule = ask.rule();
+    let is_allowed = match caller {
+        Caller::Cashier => !matches!(rule, Rule::Dispute | Rule::Sign),
+        Caller::Person(person) => match (matter.role_of(person), rule) {
+            (Some(_), Rule::Read) => true,
+            (Some(Role::Client), Rule::Dispute) => true,
+            (Some(Role::Lawyer), Rule::Claim | Rule::Propose | Rule::Sign) => true,
+            _ => false,
+        },
+    };
+    if !is_allowed {
+        return Err(Refusal::NotAllowed(rule));
+    }
+    Ok(())
+}
+
+// Refuses a change of a closed matter, one dated before its last day, and a new entry that does not have the next
+// number.
+pub(crate) fn check_change(matter: &Matter, made: Option<EntryNo>, day: Day) -> Result<(), Refusal>
+    ensures { MatchResult result
+        (λ _. first (change_conditions matter.now.head (next_number matter.now.figures.entries) made day) ≡ None)
+        (λ r. first (change_conditions matter.now.head (next_number matter.now.figures.entries) made day) ≡ Some r) }
+{
+    if matter.is_closed() {
+        return Err(Refusal::Closed);
+    }
+    if let Some(last) = matter.last_behind(day) {
+        return Err(Refusal::DateBackwards(last));
+    }
+    match made {
+        Some(number) if !matter.is_next(number) => Err(Refusal::WrongNumber(matter.next_number())),
+        _ => Ok(()),
+    }
+}
+
+// Decides to book a deposit, which is held.
+fn decide_deposit(matter: &Matter, asked: &DepositAsk, day: Day) -> Result<Edit, Refusal>
+    ensures amount { IsAmount asked.now.amount }
+    ensures answer { (c : AnyCaller) → AnswersLateBy (kept_facts matter.now (Ask.Deposit asked.now))
+        (record { caller = c; ask = Ask.Deposit asked.now; day = day }) result }
+{
+    let number = asked.number;
+    let amount = asked.amount.get();
+    let is_booked = match matter.find(number) {
+        Some(
+            Kept {
+                entry: Entry::Deposit(booked),
+                ..
+            },
+        ) => {
+            booked.amount.get() == amount
+                && booked.source.is_same(&asked.source)
+                && booked.description.is_same(&asked.description)
+        }
+        _ => false,
+    };
+    if is_booked {
+        return Ok(Edit::Nothing);
+    }
+    check_change(matter, Some(number), day)?;
+    let source = asked.source.copied()?;
+    let description = asked.description.copied()?;
+    let entry = Entry::Deposit(Deposit {
+        book: day,
+        amount: asked.amount,
+        source,
+        description,
+        state: DepositState::Held,
+    });
+    Ok(Edit::Append(Numbered { number, entry }))
+}
+
+// Decides to cancel a held deposit.
+fn decide_cancel(matter: &Matter, number: EntryNo, day: Day) -> Result<Edit, Refusal>
+    ensures { (c : AnyCaller) → AnswersLateBy (kept_facts matter.now (Ask.CancelDeposit number))
+        (record { caller = c; ask = Ask.CancelDeposit number; day = day }) result }
+{
+    check_change(matter, None, day)?;
+    let kept = matter.find(number).ok_or(Refusal::NoEntry)?;
+    let Entry::Deposit(deposit) = &kept.entry else {
+        return Err(Refusal::WrongKind);
+    };
+    let DepositState::Held = &deposit.state else {
+        return Err(Refusal::WrongState);
+    };
+    let entry = Entry::Deposit(deposit.restated(DepositState::Cancelled(day))?);
+    Ok(Edit::Exchange(Numbered { number, entry }))
+}
+
+// Decides to set a fee apart from what is available.
+fn decide_fee(matter: &Matter, asked: &FeeAsk, day: Day) -> Result<Edit, Refusal>
+    ensures amount { IsAmount asked.now.amount }
+    ensures answer { (c : AnyCaller) → AnswersLateBy (kept_facts matter.now (Ask.EarnFee asked.now))
+        (record { caller = c; ask = Ask.EarnFee asked.now; day = day }) result }
+{
+    let left = matter.figures().available;
+    let amount = asked.amount.get();
+    let is_earned = match matter.find(asked.number) {
+        Some(kept) => match &kept.entry {
+            Entry::Fee(earned) => {
+                earned.amount.get() == amount && earned.description.is_same(&asked.description)
+            }
+            _ => false,
+        },
+        None => false,
+    };
+    if is_earned {
+        return Ok(Edit::Nothing);
+    }
+    let number = asked.number;
+    check_change(matter, Some(number), day)?;
+    if left < amount {
+        return Err(Refusal::Short(left));
+    }
+    let description = asked.description.copied()?;
+    let entry = Entry::Fee(Fee {
+        book: day,
+        amount: asked.amount,
+        description,
+    });
+    Ok(Edit::Append(Numbered { number, entry }))
+}
+
+// Decides to read an entry.
+fn decide_show_entry(matter: &Matter, number: EntryNo, day: Day) -> Result<Edit, Refusal>
+    ensures { (c : AnyCaller) → AnswersLateBy (kept_facts matter.now (Ask.ShowEntry number))
+        (record { caller = c; ask = Ask.ShowEntry number; day = day }) result }
+{
+    let _day = day;
+    if matter.find(number).is_none() {
+        return Err(Refusal::NoEntry);
+    }
+    Ok(Edit::Nothing)
 }

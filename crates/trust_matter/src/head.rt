@@ -6,7 +6,7 @@ ghost use Rattle.trust_matter.specs.KeptFacts.{kept_facts};
 ghost use Rattle.trust_matter.specs.Step.{AnswersLateBy};
 
 use crate::ask::{Ask, OpenAsk};
-use crate::policy::check_change;
+use crate::deciding::check_change;
 use matter_parts::{Edit, Matter, Opening};
 use matter_rows::{Head, Holder, Role, Seat};
 use trust_base::{Day, PersonId, Refusal};

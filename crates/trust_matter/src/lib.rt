@@ -7,20 +7,15 @@ mod bank_line;
 pub mod cases;
 mod claim;
 mod deciding;
-mod deposit;
-mod fee;
 mod head;
 pub mod laws;
 mod line_verdict;
 mod payment;
-mod policy;
 
-pub use ask::{Ask, Caller, OpenAsk};
+pub use ask::{Ask, Caller, DepositAsk, FeeAsk, OpenAsk};
 pub use bank_line::BankLine;
 pub use claim::{ClaimAsk, SplitAsk};
 pub use deciding::{decide, holds_for};
-pub use deposit::DepositAsk;
-pub use fee::FeeAsk;
 pub use line_verdict::{LineVerdict, Reason, decide_line, holds_for_line};
 pub use matter_parts::{
     Balances, Change, Edit, Figures, Kept, Left, Matter, Numbered, Opening, TotalsAfter, balances,

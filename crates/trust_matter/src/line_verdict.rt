@@ -4,7 +4,7 @@ ghost use Rattle.std.specs.Prelude.{◌≡◌, true, IfOk, MatchResult, None, So
 ghost use Rattle.std.specs.Option.{option_copied};
 ghost use Rattle.matter_rows.specs.Rows.{Rows};
 ghost use Rattle.matter_rows.specs.Sound.{Sound};
-ghost use Rattle.matter_rows.specs.Clearings.{is_line_again, is_return};
+ghost use Rattle.matter_rows.specs.Clearings.{is_line_again};
 ghost use Rattle.matter_parts.specs.Parts.{IsPart, kept_at, entry_in};
 ghost use Rattle.trust_matter.specs.LineStep.{LineDecides, first_reason, last_by, reasons, told_by};
 ghost use Rattle.trust_matter.specs.KeptFacts.{kept_line_facts, holds_for_line};
@@ -126,21 +126,12 @@ fn entry_cleared<'m>(matter: &'m Matter, line: &BankLine, today: Day) -> Result<
     Ok(kept)
 }
 
-// Whether the line takes back a cleared deposit.
-fn is_return(matter: &Matter, line: &BankLine) -> bool
-    ensures { result ≡ is_return (entry_in (kept_at matter.now line.now.entry)) line.now.line }
-{
-    match matter.find(line.entry) {
-        None => false,
-        Some(kept) => kept.entry.is_return(&line.line),
-    }
-}
-
-// The last day after an applied line.
-fn last_by(matter: &Matter, line: &BankLine, today: Day) -> Day
+// The last day after an applied line, which names this entry.
+fn last_by(matter: &Matter, kept: &Kept, line: &BankLine, today: Day) -> Day
+    requires { kept_at matter.now line.now.entry ≡ Some kept.now }
     ensures { result ≡ last_by (kept_line_facts matter.now line.now today) }
 {
-    if is_return(matter, line) {
+    if kept.entry.is_return(&line.line) {
         return today;
     }
     match matter.head() {
@@ -177,7 +168,7 @@ pub fn decide_line(matter: &Matter, line: &BankLine, today: Day) -> Result<LineV
         Ok(kept) => kept,
         Err(reason) => return Ok(LineVerdict::Unmatched(reason)),
     };
-    let last = last_by(matter, line, today);
+    let last = last_by(matter, kept, line, today);
     let edit = told(&kept.entry, line.entry, &line.line, today)?;
     match change_of(matter, edit, last) {
         Ok(change) => Ok(LineVerdict::Applied(change)),

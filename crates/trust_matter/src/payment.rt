@@ -11,7 +11,7 @@ ghost use Rattle.trust_matter.specs.KeptFacts.{kept_facts};
 ghost use Rattle.trust_matter.specs.Step.{AnswersLateBy, payment_of};
 
 use crate::ask::Ask;
-use crate::policy::check_change;
+use crate::deciding::check_change;
 use matter_parts::{Edit, Matter, Numbered};
 use matter_rows::{Against, ClaimState, Entry, Fund, Payment, PaymentState, VoidedPayment};
 use std::alloc::AllocError;

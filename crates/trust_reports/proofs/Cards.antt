@@ -1,15 +1,12 @@
 -- The card of a matter that keeps all entries.
-use Rattle.std.proofs.Common.{◌≡◌, ℕ, ◌+◌, ◌≤◌, List, [], ◌∷◌, ◌++◌, refl, ap, ◌∙◌, arith, Some, eqb, true, false, flat_map}
-use Rattle.std.specs.Prelude.{pos}
+use Rattle.trust_reports.proofs.Names.{◌≡◌, ℕ, ◌+◌, ◌≤◌, List, [], ◌∷◌, ◌++◌, refl, ap, ◌∙◌, arith, Some, eqb, true, false, flat_map, pos, entry_text, line}
 use Rattle.std.proofs.lemmas.Bool.Decides.{nat_tests}
-use Rattle.trust_base.specs.Texts.{entry_text}
 use Rattle.matter_rows.specs.declared.entry.Entry.{Entry}
 use Rattle.matter_rows.specs.Balances.{available, claims, disputed, fees, held, left_of}
 use Rattle.matter_parts.specs.declared.figures.Balances.{Balances}
 use Rattle.matter_parts.specs.declared.kept.Kept.{Kept}
 use Rattle.matter_parts.specs.Parts.{AreBalances, AreNumbered, IsEntryOf, entries_kept, kept_in}
 use Rattle.matter_parts.proofs.Telling.{balances-of}
-use Rattle.trust_reports.specs.Texts.{line}
 use Rattle.trust_reports.specs.TextsOfLedgers.{WholeCardIsOfRows, added_balances, balance_lines, entry_fields, entry_lines, kept_balances, kept_line, ledger_heading}
 
 lines-of : (es : List Entry) (n : ℕ) (ks : List Kept) → AreNumbered n ks

@@ -4,3 +4,4 @@ pub use Rattle.firm_figures.proofs.Lists
 pub use Rattle.firm_figures.proofs.Retained
 pub use Rattle.firm_figures.proofs.Trial
 pub use Rattle.firm_figures.proofs.ReconciliationRows
+mod Names

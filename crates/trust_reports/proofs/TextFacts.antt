@@ -1,12 +1,8 @@
 -- The bank's words, and fields one behind the other.
-use Rattle.std.proofs.Common.{◌≡◌, ℕ, List, [], ◌∷◌, ◌++◌, map, flat_map, true, arith, append_assoc, append-nil}
-use Rattle.std.specs.Prelude.{encode_utf8, encode_utf8_all}
-use Rattle.std.specs.Str.{IsUtf8, is_utf8}
-use Rattle.std.proofs.lemmas.List.{map-append}
+use Rattle.trust_reports.proofs.Names.{◌≡◌, ℕ, List, [], ◌∷◌, ◌++◌, map, flat_map, true, arith, append_assoc, append-nil, encode_utf8, encode_utf8_all, IsUtf8, is_utf8, map-append, further, line, shown}
 use Rattle.std.proofs.lemmas.Grind.{flat_map-append}
 use Rattle.std.proofs.lemmas.Str.{IsUtf8-from_is_utf8, encodes-append}
 use Rattle.trust_base.specs.BankTexts.{IsLineText, is_line_text}
-use Rattle.trust_reports.specs.Texts.{further, line, shown}
 
 -- the text of a bank's line is UTF-8
 pub IsUtf8-words : (bs : List ℕ) → IsLineText bs → IsUtf8 bs

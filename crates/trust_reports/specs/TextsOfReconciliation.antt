@@ -2,10 +2,10 @@
 use Rattle.std.specs.Prelude.{ℕ, neg_ℤ, List, [], ◌∷◌, ◌++◌, codes, flat_map}
 use Rattle.trust_base.specs.Texts.{day_text, signed_text}
 use Rattle.trust_base.specs.declared.line.Line.{Line}
-use Rattle.firm_figures.specs.declared.doubles.Issued.{Issued}
-use Rattle.firm_figures.specs.declared.lister.EntryLine.{EntryLine}
-use Rattle.firm_figures.specs.declared.openings.OpeningLine.{OpeningLine}
-use Rattle.firm_figures.specs.declared.reconciler.Figures.{Figures}
+use Rattle.firm_figures.specs.declared.day_lists.Issued.{Issued}
+use Rattle.firm_figures.specs.declared.day_lists.EntryLine.{EntryLine}
+use Rattle.firm_figures.specs.declared.day_lists.OpeningLine.{OpeningLine}
+use Rattle.firm_figures.specs.declared.figures.Figures.{Figures}
 use Rattle.firm_figures.specs.Reconciliations.{ReconciliationTold}
 use Rattle.trust_reports.specs.Texts.{heading, line, reference_text}
 use Rattle.trust_reports.specs.TextsOfLists.{exception_line, figure_line}

@@ -5,8 +5,7 @@ ghost use Rattle.trust_base.specs.Texts.{amount_text, day_text, entry_text};
 ghost use Rattle.trust_reports.specs.Texts.{further};
 ghost use Rattle.trust_reports.specs.TextsOfLedgers.{against_fields, barred, claim_fields, claim_state, deposit_fields, deposit_state, entry_fields, fee_fields, fund_fields, kept_line, made, payment_fields, payment_state, told};
 
-use crate::page::{Page, Printed};
-use crate::piece::{Piece, push_fields, push_word};
+use crate::page::{Page, Piece, Printed, push_fields, push_word};
 use std::alloc::AllocError;
 use trust_base::{Cents, Day, EntryNo, Label};
 use trust_matter::{

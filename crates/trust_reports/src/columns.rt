@@ -1,12 +1,56 @@
-// Lines of a label and a figure, each padded to its width.
+// Sums of cents as text, and lines of a label and a sum, each padded to its width.
 
-ghost use Rattle.std.specs.Prelude.{◌≡◌, ◌++◌, OnOk, flat_map};
+ghost use Rattle.std.specs.Prelude.{◌≡◌, ◌∷◌, ◌++◌, OnOk, flat_map, if◌then◌else◌};
+ghost use Rattle.trust_base.specs.Texts.{amount_text};
 ghost use Rattle.trust_reports.specs.Texts.{column};
 ghost use Rattle.trust_reports.specs.Pieces.{row_text, sum_text};
 
 use crate::page::Page;
-use crate::sum::Sum;
+use arrayvec::ArrayVec;
+use byte_streams::push_piece;
+use itoa::Buffer;
 use std::alloc::AllocError;
+
+/// A sum in cents, or the negative of one.
+#[derive(Clone, Copy)]
+pub(crate) enum Sum {
+    Of(i128),
+    NegativeOf(i128),
+}
+
+/// A printed sum, at most 44 bytes, on the stack.
+pub(crate) type SumText = ArrayVec<u8, 44>;
+
+// An amount with a leading minus sign if the sum is negative.
+fn signed(below: bool, cents: u128) -> SumText
+    ensures { result.items ≡ (if below then 45 ∷ amount_text cents else amount_text cents) }
+{
+    let mut text = SumText::new();
+    if below {
+        push_piece(&mut text, b"-");
+    }
+    let mut buffer = Buffer::new();
+    push_piece(&mut text, buffer.format(cents / 100).as_bytes());
+    let end = [
+        b'.',
+        b'0' + (cents % 100 / 10) as u8,
+        b'0' + (cents % 100 % 10) as u8,
+    ];
+    push_piece(&mut text, &end);
+    text
+}
+
+impl Sum {
+    /// The sum as text, with a leading `-` if negative. Allocates nothing.
+    pub(crate) fn text(self) -> SumText
+        ensures { result.items ≡ sum_text self }
+    {
+        match self {
+            Sum::Of(cents) => signed(cents < 0, cents.unsigned_abs()),
+            Sum::NegativeOf(cents) => signed(cents > 0, cents.unsigned_abs()),
+        }
+    }
+}
 
 #[tactic(auto, unfolding(crate::specs::Texts::left_in, crate::specs::Texts::right_in))]
 /// Appends a line: a left-aligned label and a right-aligned figure, each in its own width.

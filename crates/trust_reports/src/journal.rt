@@ -3,8 +3,7 @@
 ghost use Rattle.std.specs.Prelude.{◌≡◌, ◌++◌, OnOk, OnErr};
 ghost use Rattle.trust_reports.specs.TextsOfLists.{journal_line, journal_text};
 
-use crate::page::{Page, Printed, append};
-use crate::piece::{List, Piece, push_line};
+use crate::page::{List, Page, Piece, Printed, append, push_line};
 use firm_figures::JournalLine;
 use std::alloc::AllocError;
 use trust_base::Day;

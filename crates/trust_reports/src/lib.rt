@@ -4,25 +4,21 @@
 mod card;
 mod card_entries;
 mod columns;
-mod exceptions;
 mod journal;
 pub mod laws;
 mod own_card;
 mod page;
-mod piece;
 mod reconciliation;
 mod retention;
-mod sum;
 mod trial;
 
 pub use card::ledger_card;
-pub use exceptions::{exception_line, exceptions_text};
 pub use firm_figures::{
     JournalLine, JournalSink, Reconciliation, ReconciliationSink, RetentionLine, RetentionSink,
     TrialBalance, TrialSink,
 };
 pub use journal::journal_text;
 pub use own_card::own_card_text;
-pub use reconciliation::reconciliation_text;
+pub use reconciliation::{exception_line, exceptions_text, reconciliation_text};
 pub use retention::retention_text;
 pub use trial::trial_text;

@@ -3,10 +3,8 @@
 ghost use Rattle.std.specs.Prelude.{◌≡◌, ◌++◌, OnOk, OnErr, codes};
 ghost use Rattle.trust_reports.specs.TextsOfLedgers.{balance_line, own_card_text, own_line};
 
-use crate::columns::push_column;
-use crate::page::{Page, Printed, append};
-use crate::piece::{Piece, push_heading, push_line};
-use crate::sum::Sum;
+use crate::columns::{Sum, push_column};
+use crate::page::{Page, Piece, Printed, append, push_heading, push_line};
 use firm_rows::{FirmLedger, FirmLine};
 use std::alloc::AllocError;
 use trust_base::Day;
@@ -15,15 +13,12 @@ impl Printed for FirmLine {
     ghost printed = { own_line };
 
     fn push_to(&self, page: &mut Page) -> Result<(), AllocError> {
-        push_line(
-            page,
-            &Piece::Day(self.date),
-            &[
-                Piece::OrDash(&self.bank_ref),
-                Piece::Bank(self.amount),
-                Piece::Words(&self.text),
-            ],
-        )
+        let fields = [
+            Piece::OrDash(&self.bank_ref),
+            Piece::Bank(self.amount),
+            Piece::Words(&self.text),
+        ];
+        push_line(page, &Piece::Day(self.date), &fields)
     }
 }
 
@@ -36,8 +31,8 @@ fn push_balance(page: &mut Page, balance: i64) -> Result<(), AllocError>
 
 #[derive(Drop)]
 struct OwnCard<'a> {
-    today: Day,
     ledger: &'a FirmLedger,
+    today: Day,
 }
 
 impl Printed for OwnCard<'_> {

@@ -1,10 +1,19 @@
-// A report appended to a vector.
+// A report appended to a vector, and the pieces that its lines are made of.
 
-ghost use Rattle.std.specs.Prelude.{◌≡◌, ◌++◌, replicate, flat_map, OnOk, OnErr};
+ghost use Rattle.std.specs.Prelude.{◌≡◌, [], ◌∷◌, ◌++◌, replicate, flat_map, encode_utf8, OnOk, OnErr};
+ghost use Rattle.trust_base.specs.Texts.{amount_text, day_text, matter_text, signed_text};
+ghost use Rattle.trust_reports.specs.Texts.{further, heading, or_dash, reference_text, shown, shown_text, words_shown};
+ghost use Rattle.trust_reports.specs.Pieces.{further_piece, text_of};
 
+use crate::columns::Sum;
+use firm_figures::Owner;
 use std::alloc::AllocError;
 use std::marker::Model;
 use std::mem;
+use trust_base::{
+    BankAmount, BankText, Cents, CentsOrZero, CivilDay, Day, EntryNo, Label, LineText, MatterNo,
+    day_bytes,
+};
 
 /// A report being appended to the content of a vector.
 ///
@@ -86,4 +95,222 @@ pub(crate) fn append<T: Printed>(out: &mut Vec<u8>, report: &T) -> Result<(), Al
         out.truncate(kept);
     }
     written
+}
+
+/// A piece of a line.
+#[derive(Clone, Copy)]
+pub(crate) enum Piece<'a> {
+    /// A word of the report's own.
+    Word(&'a str),
+    Label(&'a Label),
+    /// The bank's reference, unchanged.
+    BankRef(&'a BankText),
+    /// A reference, or `-` for an empty one.
+    OrDash(&'a BankText),
+    /// A bank line's text with each control character as a space, or `-` if it is empty.
+    Words(&'a LineText),
+    Day(Day),
+    /// A day that may lie after 2199.
+    LastDay(CivilDay),
+    Amount(Cents),
+    Part(CentsOrZero),
+    /// What is left of an entry, in cents.
+    Left(u64),
+    /// A sum in cents.
+    Sum(i128),
+    /// A bank amount: what a line moved, or a balance.
+    Bank(BankAmount),
+    Matter(MatterNo),
+    Entry(EntryNo),
+    /// An entry of a matter.
+    Reference(MatterNo, EntryNo),
+    Owner(Owner),
+}
+
+/// The six digits of a matter's number.
+pub(crate) fn matter_digits(matter: MatterNo) -> [u8; 6]
+    ensures { result ≡ matter_text matter }
+{
+    let n = matter.get();
+    [
+        b'0' + (n / 100_000 % 10) as u8,
+        b'0' + (n / 10_000 % 10) as u8,
+        b'0' + (n / 1_000 % 10) as u8,
+        b'0' + (n / 100 % 10) as u8,
+        b'0' + (n / 10 % 10) as u8,
+        b'0' + (n % 10) as u8,
+    ]
+}
+
+fn push_reference(page: &mut Page, matter: MatterNo, entry: EntryNo) -> Result<(), AllocError>
+    ensures before { page.new.before ≡ page.old.before }
+    ensures text { OnOk result (page.new.text ≡ page.old.text ++ reference_text matter entry) }
+{
+    page.push(b"M")?;
+    page.push(&matter_digits(matter))?;
+    page.push(b"-")?;
+    page.push(&entry.digits())
+}
+
+fn push_or_dash(page: &mut Page, text: &[u8]) -> Result<(), AllocError>
+    ensures before { page.new.before ≡ page.old.before }
+    ensures text { OnOk result (page.new.text ≡ page.old.text ++ or_dash text.now) }
+{
+    if text.is_empty() {
+        return page.push(b"-");
+    }
+    page.push(text)
+}
+
+// Appends a character, or a space if it is a control character.
+fn push_shown(page: &mut Page, character: char) -> Result<(), AllocError>
+    ensures before { page.new.before ≡ page.old.before }
+    ensures text { OnOk result (page.new.text ≡ page.old.text ++ encode_utf8 (shown character)) }
+{
+    if character.is_control() {
+        return page.push(b" ");
+    }
+    let mut buffer = [0; 4];
+    page.push(character.encode_utf8(&mut buffer).as_bytes())
+}
+
+fn push_shown_text(page: &mut Page, text: &str) -> Result<(), AllocError>
+    ensures before { page.new.before ≡ page.old.before }
+    ensures text { OnOk result (page.new.text ≡ page.old.text ++ shown_text text.now) }
+{
+    for character in text.chars() {
+        push_shown(page, character)?;
+    }
+    Ok(())
+}
+
+fn push_words(page: &mut Page, words: &LineText) -> Result<(), AllocError>
+    ensures before { page.new.before ≡ page.old.before }
+    ensures text { OnOk result (page.new.text ≡ page.old.text ++ words_shown words.now) }
+{
+    let words = words.as_slice();
+    if words.is_empty() {
+        return page.push(b"-");
+    }
+    let Ok(text) = str::from_utf8(words) else {
+        unreachable!()
+    };
+    push_shown_text(page, text)
+}
+
+fn push_day(page: &mut Page, day: Day) -> Result<(), AllocError>
+    ensures before { page.new.before ≡ page.old.before }
+    ensures text { OnOk result (page.new.text ≡ page.old.text ++ day_text day) }
+{
+    page.push(&day_bytes(day.get()))
+}
+
+fn push_last_day(page: &mut Page, day: CivilDay) -> Result<(), AllocError>
+    ensures before { page.new.before ≡ page.old.before }
+    ensures text { OnOk result (page.new.text ≡ page.old.text ++ day_text day) }
+{
+    page.push(&day_bytes(day.get()))
+}
+
+fn push_cents(page: &mut Page, cents: u64) -> Result<(), AllocError>
+    ensures before { page.new.before ≡ page.old.before }
+    ensures text { OnOk result (page.new.text ≡ page.old.text ++ amount_text cents) }
+{
+    let text = Sum::Of(cents as i128).text();
+    page.push(text.as_slice())
+}
+
+fn push_sum(page: &mut Page, cents: i128) -> Result<(), AllocError>
+    ensures before { page.new.before ≡ page.old.before }
+    ensures text { OnOk result (page.new.text ≡ page.old.text ++ signed_text cents) }
+{
+    let text = Sum::Of(cents).text();
+    page.push(text.as_slice())
+}
+
+fn push_piece(page: &mut Page, piece: &Piece<'_>) -> Result<(), AllocError>
+    ensures before { page.new.before ≡ page.old.before }
+    ensures text { OnOk result (page.new.text ≡ page.old.text ++ text_of piece.now) }
+{
+    match piece {
+        Piece::Word(word) => page.push(word.as_bytes()),
+        Piece::Label(label) => page.push(label.as_slice()),
+        Piece::BankRef(reference) => page.push(reference.as_slice()),
+        Piece::OrDash(reference) => push_or_dash(page, reference.as_slice()),
+        Piece::Words(words) => push_words(page, words),
+        Piece::Day(day) => push_day(page, *day),
+        Piece::LastDay(day) => push_last_day(page, *day),
+        Piece::Amount(amount) => push_cents(page, amount.get()),
+        Piece::Part(part) => push_cents(page, part.get()),
+        Piece::Left(cents) => push_cents(page, *cents),
+        Piece::Sum(cents) => push_sum(page, *cents),
+        Piece::Bank(amount) => push_sum(page, amount.get() as i128),
+        Piece::Matter(matter) => page.push(&matter_digits(*matter)),
+        Piece::Entry(entry) => page.push(&entry.digits()),
+        Piece::Reference(matter, entry) => push_reference(page, *matter, *entry),
+        Piece::Owner(Owner::Matter { matter, entry }) => push_reference(page, *matter, *entry),
+        Piece::Owner(Owner::Firm) => page.push(b"FIRM"),
+    }
+}
+
+/// Appends a word after another field.
+pub(crate) fn push_word(page: &mut Page, word: &str) -> Result<(), AllocError>
+    ensures before { page.new.before ≡ page.old.before }
+    ensures text { OnOk result (page.new.text ≡ page.old.text ++ further word.now) }
+{
+    page.push(b" ")?;
+    page.push(word.as_bytes())
+}
+
+/// Appends fields after others.
+pub(crate) fn push_fields(page: &mut Page, pieces: &[Piece<'_>]) -> Result<(), AllocError>
+    ensures before { page.new.before ≡ page.old.before }
+    ensures text { OnOk result (page.new.text ≡ page.old.text ++ flat_map further_piece pieces.now) }
+{
+    for piece in pieces {
+        page.push(b" ")?;
+        push_piece(page, piece)?;
+    }
+    Ok(())
+}
+
+/// Appends a line of fields separated by single spaces.
+pub(crate) fn push_line(
+    page: &mut Page,
+    first: &Piece<'_>,
+    others: &[Piece<'_>],
+) -> Result<(), AllocError>
+    ensures before { page.new.before ≡ page.old.before }
+    ensures text { OnOk result (page.new.text ≡ page.old.text
+        ++ (text_of first.now ++ (flat_map further_piece others.now ++ 10 ∷ []))) }
+{
+    push_piece(page, first)?;
+    push_fields(page, others)?;
+    page.push(b"\n")
+}
+
+/// Appends the first line of a report: its name and its day.
+#[tactic(auto, unfolding(crate::specs::Texts::heading))]
+pub(crate) fn push_heading(page: &mut Page, name: &str, day: Day) -> Result<(), AllocError>
+    ensures before { page.new.before ≡ page.old.before }
+    ensures text { OnOk result (page.new.text ≡ page.old.text ++ heading name.now day) }
+{
+    push_line(page, &Piece::Word(name), &[Piece::Day(day)])
+}
+
+/// A report that is a list: its name, its day and its lines.
+#[derive(Drop)]
+pub(crate) struct List<'a, T> {
+    pub(crate) name: &'a str,
+    pub(crate) today: Day,
+    pub(crate) lines: &'a [T],
+}
+
+impl<T: Printed> Printed for List<'_, T> {
+    ghost printed = { λ l. heading l.name.now l.today ++ flat_map T.printed l.lines.now };
+
+    fn push_to(&self, page: &mut Page) -> Result<(), AllocError> {
+        push_heading(page, self.name, self.today)?;
+        page.push_lines(self.lines)
+    }
 }

@@ -1,14 +1,13 @@
-// The reconciliation.
+// The reconciliation, and the exceptions.
 
 ghost use Rattle.std.specs.Prelude.{◌≡◌, ◌++◌, OnOk, OnErr, codes, flat_map};
 ghost use Rattle.firm_figures.specs.Reconciliations.{told};
 ghost use Rattle.trust_reports.specs.Texts.{heading};
+ghost use Rattle.trust_reports.specs.TextsOfLists.{exception_line, exceptions_text};
 ghost use Rattle.trust_reports.specs.TextsOfReconciliation.{bank_figures, book_figures, double_line, entry_line, listed_exception, opening_line, reconciliation_text};
 
-use crate::columns::push_columns;
-use crate::page::{Page, Printed, append};
-use crate::piece::{Piece, push_heading, push_line};
-use crate::sum::Sum;
+use crate::columns::{Sum, push_columns};
+use crate::page::{List, Page, Piece, Printed, append, push_heading, push_line};
 use firm_figures::{EntryLine, Figures, Issued, OpeningLine, Reconciliation, ReconciliationLists};
 use std::alloc::AllocError;
 use trust_base::{Day, Line};
@@ -18,18 +17,13 @@ fn push_bank_figures(page: &mut Page, figures: &Figures) -> Result<(), AllocErro
     ensures before { page.new.before ≡ page.old.before }
     ensures text { OnOk result (page.new.text ≡ page.old.text ++ bank_figures figures.now) }
 {
-    let closing = figures.closing as i128;
-    push_columns(
-        page,
-        14,
-        24,
-        &[
-            ("CLOSING", Sum::Of(closing)),
-            ("IN TRANSIT", Sum::Of(figures.transit)),
-            ("OUTSTANDING", Sum::NegativeOf(figures.outstanding)),
-            ("ADJUSTED BANK", Sum::Of(figures.adjusted)),
-        ],
-    )
+    let rows = [
+        ("CLOSING", Sum::Of(figures.closing as i128)),
+        ("IN TRANSIT", Sum::Of(figures.transit)),
+        ("OUTSTANDING", Sum::NegativeOf(figures.outstanding)),
+        ("ADJUSTED BANK", Sum::Of(figures.adjusted)),
+    ];
+    push_columns(page, 14, 24, &rows)
 }
 
 #[tactic(auto, unfolding(crate::specs::TextsOfReconciliation::book_figures))]
@@ -66,6 +60,23 @@ fn push_entries(page: &mut Page, word: &str, lines: &[EntryLine]) -> Result<(), 
         )?;
     }
     Ok(())
+}
+
+impl Printed for Line {
+    ghost printed = { exception_line };
+
+    fn push_to(&self, page: &mut Page) -> Result<(), AllocError> {
+        push_line(
+            page,
+            &Piece::Day(self.date),
+            &[
+                Piece::OrDash(&self.reference),
+                Piece::OrDash(&self.bank_ref),
+                Piece::Bank(self.amount),
+                Piece::Words(&self.text),
+            ],
+        )
+    }
 }
 
 fn push_exceptions(page: &mut Page, lines: &[Line]) -> Result<(), AllocError>
@@ -172,4 +183,27 @@ pub fn reconciliation_text(
     ensures err { OnErr result (out.new.items ≡ out.old.items) }
 {
     append(out, &Reconciled { p, reconciliation })
+}
+
+/// Appends the exceptions on a business day: the bank lines that matched nothing in the books. Each has its date, its
+/// reference, the bank's own reference, the signed amount in cents and the line's text. An empty field is printed as
+/// `-`, and each character U+0000 to U+001F and U+007F to U+009F of the text as a space.
+///
+/// The only error is out of memory; `out` is then unchanged.
+pub fn exceptions_text(today: Day, lines: &[Line], out: &mut Vec<u8>) -> Result<(), AllocError>
+    ensures ok { OnOk result (out.new.items ≡ out.old.items ++ exceptions_text today lines.now) }
+    ensures err { OnErr result (out.new.items ≡ out.old.items) }
+{
+    let name = "EXCEPTIONS";
+    append(out, &List { name, today, lines })
+}
+
+/// Appends the line of one exception, as it is in the report of all of them.
+///
+/// The only error is out of memory; `out` is then unchanged.
+pub fn exception_line(line: &Line, out: &mut Vec<u8>) -> Result<(), AllocError>
+    ensures ok { OnOk result (out.new.items ≡ out.old.items ++ exception_line line.now) }
+    ensures err { OnErr result (out.new.items ≡ out.old.items) }
+{
+    append(out, line)
 }

@@ -5,8 +5,7 @@ ghost use Rattle.trust_base.specs.Texts.{day_text, matter_text};
 ghost use Rattle.trust_reports.specs.Texts.{further};
 ghost use Rattle.trust_reports.specs.TextsOfLists.{purge_fields, retention_line, retention_text};
 
-use crate::page::{Page, Printed, append};
-use crate::piece::{List, Piece, matter_digits, push_fields, push_word};
+use crate::page::{List, Page, Piece, Printed, append, matter_digits, push_fields, push_word};
 use firm_figures::RetentionLine;
 use std::alloc::AllocError;
 use trust_base::Day;
@@ -18,15 +17,13 @@ fn push_days(page: &mut Page, line: &RetentionLine) -> Result<(), AllocError>
         (codes "CLOSED" ∷ day_text line.now.closed ∷ codes "KEEP UNTIL" ∷ day_text line.now.until ∷ []))) }
 {
     page.push(&matter_digits(line.matter))?;
-    push_fields(
-        page,
-        &[
-            Piece::Word("CLOSED"),
-            Piece::Day(line.closed),
-            Piece::Word("KEEP UNTIL"),
-            Piece::LastDay(line.until),
-        ],
-    )
+    let fields = [
+        Piece::Word("CLOSED"),
+        Piece::Day(line.closed),
+        Piece::Word("KEEP UNTIL"),
+        Piece::LastDay(line.until),
+    ];
+    push_fields(page, &fields)
 }
 
 fn push_may_purge(page: &mut Page, line: &RetentionLine) -> Result<(), AllocError>

@@ -5,10 +5,8 @@ ghost use Rattle.trust_reports.specs.Pieces.{sum_text};
 ghost use Rattle.trust_reports.specs.Texts.{column, heading};
 ghost use Rattle.trust_reports.specs.TextsOfLists.{trial_line, trial_text};
 
-use crate::columns::{push_column, push_columns};
-use crate::page::{Page, Printed, append};
-use crate::piece::{matter_digits, push_heading};
-use crate::sum::Sum;
+use crate::columns::{Sum, push_column, push_columns};
+use crate::page::{Page, Printed, append, matter_digits, push_heading};
 use firm_figures::TrialLine;
 use std::alloc::AllocError;
 use trust_base::Day;

@@ -1,21 +1,10 @@
 -- What a binary search finds among lines in their order, and what a book of lists keeps then.
-use Rattle.std.proofs.Common.{◌≡◌, ◌≢◌, ℕ, ◌<◌, ◌++◌, ◌∷◌, ◌+ℤ◌, None, insert, List, [], length, get_or, Result, Ok, Err, IfOk, IfErr, sym, subst, arith}
-use Rattle.std.specs.List.Sorted.{IsStrictlySortedBy, IsSearchInRange, IsBinarySearchResult}
-use Rattle.trust_base.specs.LineOrder.{line_cmp}
-use Rattle.trust_base.specs.declared.line.Line.{Line}
+use Rattle.trust_store.proofs.Names.{◌≡◌, ◌≢◌, ℕ, ◌<◌, ◌++◌, ◌∷◌, ◌+ℤ◌, None, List, [], length, get_or, Result, Ok, Err, IfOk, IfErr, sym, subst, arith, IsStrictlySortedBy, IsSearchInRange, IsBinarySearchResult, line_cmp, Line, Movement, FirmLine, StatementRow, IsOwnBalance, balance_of, balance_cmp, with_balance, kept_balance, Firm, empty_firm, with_line, without_line, own_movement, FirmSound, found-at, absent-at, rises, KeptMatter, AreKeptWhole, AreKept, firm_of, StandsAt, WouldStandAt}
+use Rattle.std.proofs.Common.{insert}
 use Rattle.trust_base.proofs.LineFacts.{line_total, line_same}
-use Rattle.firm_rows.specs.declared.movement.Movement.{Movement}
-use Rattle.firm_rows.specs.declared.ledger.FirmLine.{FirmLine}
-use Rattle.firm_rows.specs.declared.ledger.StatementRow.{StatementRow}
-use Rattle.firm_rows.specs.FirmLines.{IsOwnBalance, balance_of, balance_cmp, with_balance, kept_balance}
-use Rattle.firm_rows.specs.Firm.{Firm, empty_firm, with_line, without_line, own_movement}
-use Rattle.firm_rows.specs.FirmSound.{FirmSound}
 use Rattle.firm_rows.proofs.Balances.{balance_total, none-tied}
 use Rattle.firm_rows.proofs.Lines.{match-sound, stray-stays-sound}
-use Rattle.firm_rows.proofs.Ordered.{found-at, absent-at, rises}
 use Rattle.firm_rows.proofs.OwnLines.{own_line-sound, statement-sound}
-use Rattle.trust_store.specs.declared.plain.KeptMatter.{KeptMatter}
-use Rattle.trust_store.specs.Kept.{AreKeptWhole, AreKept, firm_of, StandsAt, WouldStandAt}
 
 module _ (line : Line) (lines : List Line) (up : IsStrictlySortedBy line_cmp lines) where
   stands : (i : ℕ) → i < length lines → get_or lines i line ≡ line → StandsAt line lines i

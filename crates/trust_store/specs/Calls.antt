@@ -42,6 +42,21 @@ pub record IsWrite {B T : Type 0} (firm : B → Firm) (clean sure stands lasts :
       → OnOk result (LeavesAlone (firm old) (leaves old) → LeavesAlone (after change (firm old)) (leaves new))
   pub count : refusals new ≡ counted result (refusals old)
 
+-- the same of a write that promises what needs `stands` only if `fits` holds too, except of an error
+pub record IsWriteIf {B T : Type 0} (firm : B → Firm) (clean sure stands lasts : B → Type 0) (leaves : B → Firm → Type 0)
+    (refusals : B → ℕ) (fits : Type 0) (change : FirmChange) (result : Result T StoreFault) (old new : B) : Type 0 where
+  pub ok : clean new → stands old → fits → OnOk result (firm new ≡ after change (firm old))
+  pub err : clean new → stands old → OnErr result (firm new ≡ firm old)
+  pub was_clean : clean new → clean old
+  pub was_sure : sure new → sure old
+  pub still_stands : clean new → stands old → fits → stands new
+  pub still_lasts : sure new → (clean old → stands old) → fits → lasts old → lasts new
+  pub serves : sure new → clean old → OnOk result (clean new)
+  pub crash : sure new → stands old → fits → LeavesOr (after change (firm old)) (leaves old) (leaves new)
+  pub settled : sure new → stands old → fits
+      → OnOk result (LeavesAlone (firm old) (leaves old) → LeavesAlone (after change (firm old)) (leaves new))
+  pub count : refusals new ≡ counted result (refusals old)
+
 -- a sink received all of the rows, fewer than 2^64 with amounts in range; on an error, only a prefix of them
 pub record AreHanded {S A T E : Type 0} (step : S → A → S) (IsInRange : A → Type 0) (rows : List A)
     (result : Result T E) (old new : S) : Type 0 where

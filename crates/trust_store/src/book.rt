@@ -8,7 +8,7 @@ ghost use Rattle.firm_rows.specs.Firm.{Firm, of};
 ghost use Rattle.firm_rows.specs.FirmChange.{OfMatter, Repeated, Unmatched, FitsFirm, by_line, by_firm_line, by_balance};
 ghost use Rattle.firm_rows.specs.FirmLines.{kept_balance};
 ghost use Rattle.firm_rows.specs.FirmSound.{IsVerdictOn, IsFirmVerdict, IsBalanceVerdict};
-ghost use Rattle.trust_store.specs.Calls.{IsRead, IsWrite, AreHanded};
+ghost use Rattle.trust_store.specs.Calls.{IsRead, IsWrite, IsWriteIf, AreHanded};
 ghost use Rattle.trust_store.specs.Kept.{firm_of_all};
 ghost use Rattle.trust_store.specs.Named.{IsPartFor};
 
@@ -163,11 +163,11 @@ pub trait Book {
             (by_line line.now verdict.now) result self.old self.new };
 
     /// Writes the verdict on a line of the firm's own. An applied line is added to the firm's ledger, with what it
-    /// moves. An applied or repeated line is no exception from then on; any other becomes an exception. The verdict
-    /// must be that on this line, from the ledger as it is now. This is one write.
+    /// moves. An applied or repeated line is no exception from then on; any other becomes an exception. This is one
+    /// write. Its promises hold if the verdict is that on this line, from the ledger as it is now.
     fn write_firm(&mut self, alloc: Global, line: &Line, verdict: Verdict) -> Result<(), StoreFault>
-        requires { clean self.old → stands self.old → IsFirmVerdict (firm self.old) line.now verdict }
-        ensures written { IsWrite firm clean sure stands lasts leaves refusals
+        ensures written { IsWriteIf firm clean sure stands lasts leaves refusals
+            (clean self.old → IsFirmVerdict (firm self.old) line.now verdict)
             (by_firm_line line.now verdict) result self.old self.new };
 
     /// Writes the verdict on an opening or closing balance. An applied balance is stored. An applied or repeated one is

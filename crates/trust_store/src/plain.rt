@@ -1,6 +1,6 @@
 // A book in memory, made of lists.
 
-ghost use Rattle.std.specs.Prelude.{◌≡◌, ◌≤◌, ◌++◌, ◌∷◌, [], ◌+ℤ◌, None, ℕ, length, fold, IfOk, IfSome, OnOk, OnErr, IsOk};
+ghost use Rattle.std.specs.Prelude.{◌≡◌, ◌↔◌, IsTrue, ◌≤◌, ◌++◌, ◌∷◌, [], ◌+ℤ◌, None, ℕ, length, fold, IfOk, IfSome, OnOk, OnErr, IsOk};
 ghost use Rattle.matter_parts.specs.declared.edit.Edit.TheVariants.{Nothing};
 ghost use Rattle.matter_parts.specs.Parts.{IsWhole, AreNumbered};
 ghost use Rattle.matter_parts.specs.Changes.{IsChange, changed};
@@ -20,7 +20,7 @@ use crate::exceptions::{add_line, remove_line};
 use crate::handing::{hand_balances, hand_firm_lines, hand_lines, hand_movements};
 use firm_rows::laws::{firm_stays_sound, verdicts_fit};
 use firm_rows::{
-    BalanceKind, BalanceSink, ExceptionSink, FirmLedger, FirmLine, FirmLineSink, Movement,
+    BalanceKind, BalanceSink, ExceptionSink, FirmLedger, FirmLine, FirmLineSink, MAX_OWN, Movement,
     MovementSink, Owner, RowSink, StatementRow, Verdict,
 };
 use std::alloc::{AllocError, Global};
@@ -105,12 +105,15 @@ impl PlainBook {
         Ok(())
     }
 
-    // Books a line of the firm's own with what it moves, or nothing on an error.
+    // Books a line of the firm's own with what it moves. Nothing on an error, or if the firm may not own so much.
     fn book(&mut self, line: &Line) -> Result<(), AllocError>
-        requires { IsOwnBalance (balance_of (self.old).firm_lines +ℤ line.now.amount) }
-        ensures ok { OnOk result (self.new ≡ with_firm_line (as_firm_line line.now) self.old) }
+        ensures ok { IsOwnBalance (balance_of (self.old).firm_lines +ℤ line.now.amount)
+            → OnOk result (self.new ≡ with_firm_line (as_firm_line line.now) self.old) }
         ensures err { OnErr result (self.new ≡ self.old) }
     {
+        if !may_own(self.own.balance(), line) {
+            return Ok(());
+        }
         book_line(&mut self.movements, &mut self.own, line)?;
         Ok(())
     }
@@ -295,6 +298,15 @@ impl Book for PlainBook {
         self.is_sound();
         Ok(())
     }
+}
+
+// Whether the firm may own what it owns with this line, if its lines add up to `balance`.
+fn may_own(balance: i64, line: &Line) -> bool
+    requires { IsOwnBalance balance }
+    ensures { IsTrue result ↔ IsOwnBalance (balance +ℤ line.now.amount) }
+{
+    let owned = balance + line.amount.get();
+    0 <= owned && owned <= MAX_OWN as i64
 }
 
 /// The index of a matter in a list sorted by number, or where it would be inserted.

@@ -1,11 +1,7 @@
 -- The parts of an amount's text.
-use Rattle.std.proofs.Common.{◌≡◌, ℕ, ℤ, pos, negsuc, true, false, ◌≤◌, ◌<◌, ◌+◌, ◌*◌, ◌-◌, ◌/◌, ◌^◌, ◌%◌, List, ◌∷◌, ◌++◌, length, take, drop, refl, sym, ◌∙◌, arith, length-append}
-use Rattle.std.specs.Fmt.{decimal}
-use Rattle.std.specs.Prelude.{unsigned_abs}
+use Rattle.trust_values.proofs.Names.{◌≡◌, ℕ, ℤ, pos, negsuc, true, false, ◌≤◌, ◌<◌, ◌+◌, ◌*◌, ◌-◌, ◌/◌, ◌^◌, ◌%◌, List, ◌∷◌, ◌++◌, length, take, drop, refl, sym, ◌∙◌, arith, length-append, decimal, unsigned_abs, decimal_injective, decimal_nonempty, decimal_digit, amount_text, end_text, signed_text}
 use lib.Signed.{lt_z}
 use Rattle.std.proofs.Math.Seq.{take-append_seam, drop-append_seam}
-use Rattle.std.proofs.lemmas.Fmt.{decimal_injective, decimal_nonempty, decimal_digit}
-use Rattle.trust_values.specs.Texts.{amount_text, end_text, signed_text}
 
 pub record HasParts (bs : List ℕ) (n : ℕ) : Type 0 where
   pub long : 4 ≤ length bs

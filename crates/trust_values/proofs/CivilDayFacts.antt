@@ -1,6 +1,5 @@
 -- Days that may lie past those that are kept.
-use Rattle.std.proofs.Common.{ℕ, ◌<◌, arith}
-use Rattle.trust_values.specs.Limits.{IsCivilDay, IsDay}
+use Rattle.trust_values.proofs.Names.{ℕ, ◌<◌, arith, IsCivilDay, IsDay}
 
 pub civil_day-of_day : (n : ℕ) → IsDay n → IsCivilDay n
 unfolding IsDay IsCivilDay

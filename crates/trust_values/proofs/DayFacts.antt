@@ -1,13 +1,5 @@
 -- The numbers and the texts of days.
-use Rattle.std.proofs.Common.{◌≡◌, ◌≢◌, ℕ, ◌≤◌, ◌<◌, ◌+◌, ◌*◌, ◌/◌, ◌%◌, ℤ, pos, List, [], ◌∷◌, ◌++◌, length, take, drop, slice_index, Option, Some, None, IfSome, IfNone, Bool, true, ◌&&◌, nat_le, refl, sym, ◌∙◌, arith, inl, inr}
-use Rattle.std.proofs.lemmas.Bool.{cases_Bool}
-use Rattle.std.proofs.lemmas.Fmt.{decimal_digit}
-use Rattle.std.specs.Fmt.{decimal}
-use Rattle.jiff.specs.Words.{days_in_month}
-use Rattle.trust_values.specs.Limits.{IsDay, MAX_DAY, MIN_DAY, is_day, month_day_of, month_of, year_of}
-use Rattle.byte_streams.specs.Digits.{fixed_digits}
-use Rattle.trust_values.specs.Texts.{date_text, day_of, day_text, number_in, on_calendar}
-use Rattle.byte_streams.proofs.FixedFacts.{fixed-injective, length-fixed}
+use Rattle.trust_values.proofs.Names.{◌≡◌, ◌≢◌, ℕ, ◌≤◌, ◌<◌, ◌+◌, ◌*◌, ◌/◌, ◌%◌, ℤ, pos, List, [], ◌∷◌, ◌++◌, length, take, drop, slice_index, Option, Some, None, IfSome, IfNone, Bool, true, ◌&&◌, nat_le, refl, sym, ◌∙◌, arith, inl, inr, cases_Bool, decimal_digit, decimal, days_in_month, IsDay, MAX_DAY, MIN_DAY, is_day, month_day_of, month_of, year_of, fixed_digits, date_text, day_of, day_text, number_in, on_calendar, fixed-injective, length-fixed}
 use Rattle.trust_values.proofs.ReadFacts.{number-found, number-text}
 
 pub record HasDateParts (t : List ℕ) (y m d : ℕ) : Type 0 where

@@ -1,11 +1,5 @@
 -- Numbers of entries and their four digits.
-use Rattle.std.proofs.Common.{◌≡◌, ◌≢◌, ℕ, ◌+◌, ◌/◌, ◌%◌, List, [], ◌∷◌, ◌++◌, Option, Some, None, IfSome, IfNone, sym, ◌∙◌, arith}
-use Rattle.std.specs.Fmt.{decimal}
-use Rattle.std.proofs.lemmas.Fmt.{decimal_digit}
-use Rattle.trust_values.specs.Limits.{IsEntryNo}
-use Rattle.byte_streams.specs.Digits.{fixed_digits}
-use Rattle.trust_values.specs.Texts.{entry_of, entry_text}
-use Rattle.byte_streams.proofs.FixedFacts.{fixed-injective}
+use Rattle.trust_values.proofs.Names.{◌≡◌, ◌≢◌, ℕ, ◌+◌, ◌/◌, ◌%◌, List, [], ◌∷◌, ◌++◌, Option, Some, None, IfSome, IfNone, sym, ◌∙◌, arith, decimal, decimal_digit, IsEntryNo, fixed_digits, entry_of, entry_text, fixed-injective}
 use Rattle.trust_values.proofs.ReadFacts.{number-found, number-none}
 
 -- the four digits one by one

@@ -6,3 +6,4 @@ pub mod DayFacts
 pub mod SignedFacts
 pub mod CivilDayFacts
 pub mod RetentionFacts
+mod Names

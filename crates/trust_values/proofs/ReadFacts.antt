@@ -1,12 +1,7 @@
 -- A number is found by its text.
-use Rattle.std.proofs.Common.{subst, ◌≡◌, ◌≢◌, ℕ, zero, suc, ◌≤◌, ◌<◌, List, Option, Some, None, Bool, true, false, ◌&&◌, nat_le, refl, sym, ◌∙◌, arith, inl, inr, IfSome, IfNone}
-use Rattle.std.specs.Str.{bytes_eq}
+use Rattle.trust_values.proofs.Names.{subst, ◌≡◌, ◌≢◌, ℕ, zero, suc, ◌≤◌, ◌<◌, List, Option, Some, None, Bool, true, false, ◌&&◌, nat_le, refl, sym, ◌∙◌, arith, inl, inr, IfSome, IfNone, bytes_eq, cases_Bool, cases_lt, IsAmount, IsAmountOrZero, IsMatterNo, amount_of, amount_or_zero_of, amount_text, matter_of, matter_text, number_in, or_here, fixed-injective}
 use Rattle.std.proofs.lemmas.Slice.Eq.{bytes_eq-Decides}
-use Rattle.std.proofs.lemmas.Bool.{cases_Bool, cases_lt}
-use Rattle.trust_values.specs.Limits.{IsAmount, IsAmountOrZero, IsMatterNo}
-use Rattle.trust_values.specs.Texts.{amount_of, amount_or_zero_of, amount_text, matter_of, matter_text, number_in, or_here}
 use Rattle.trust_values.proofs.AmountFacts.{sum-injective}
-use Rattle.byte_streams.proofs.FixedFacts.{fixed-injective}
 
 -- the test at one number
 here-true : (low k : ℕ) (t bs : List ℕ) → low ≤ k → t ≡ bs → (nat_le low k && bytes_eq t bs) ≡ true

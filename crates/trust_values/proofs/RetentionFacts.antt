@@ -1,11 +1,5 @@
 -- The days until which records are kept are days of the calendar.
-use Rattle.std.proofs.Common.{◌≡◌, ℕ, ◌≤◌, ◌<◌, ◌+◌, ◌-◌, ◌*◌, ◌/◌, ◌%◌, pos, Bool, true, false, cond, ◌&&◌, nat_lt, refl, sym, ◌∙◌, arith, subst}
-use Rattle.std.specs.Prelude.{◌==◌}
-use Rattle.std.proofs.lemmas.Bool.{false≢true}
-use Rattle.std.proofs.lemmas.Bool.Decides.{nat_tests}
-use Rattle.jiff.specs.Words.{days_in_month}
-use Rattle.trust_values.specs.Limits.{IsDay, IsCivilDay, month_day_of, month_of, year_of}
-use Rattle.trust_values.specs.Retention.{day_number, retained_until, next_day, IsDayAfter}
+use Rattle.trust_values.proofs.Names.{◌≡◌, ℕ, ◌≤◌, ◌<◌, ◌+◌, ◌-◌, ◌*◌, ◌/◌, ◌%◌, pos, Bool, true, false, cond, ◌&&◌, nat_lt, refl, sym, ◌∙◌, arith, subst, ◌==◌, false≢true, nat_tests, days_in_month, IsDay, IsCivilDay, month_day_of, month_of, year_of, day_number, retained_until, next_day, IsDayAfter}
 
 -- Tests.
 

@@ -1,12 +1,7 @@
 -- Amounts with a sign.
-use Rattle.std.proofs.Common.{◌≡◌, ◌≢◌, ℕ, zero, suc, ℤ, pos, negsuc, ◌≤◌, ◌<◌, ◌/◌, ◌%◌, ◌^◌, List, ◌∷◌, get_or, Option, Some, None, IfSome, IfNone, refl, sym, ap, ◌∙◌, arith}
-use Rattle.std.specs.Fmt.{decimal}
+use Rattle.trust_values.proofs.Names.{◌≡◌, ◌≢◌, ℕ, zero, suc, ℤ, pos, negsuc, ◌≤◌, ◌<◌, ◌/◌, ◌%◌, ◌^◌, List, ◌∷◌, get_or, Option, Some, None, IfSome, IfNone, refl, sym, ap, ◌∙◌, arith, decimal, decimal_is_IsNumeral, digit_at, IsBankAmount, amount_text, bank_amount_of, end_text, negative_text, signed_text}
 use Rattle.std.proofs.Math.ListN.{get_or-append}
-use Rattle.std.proofs.lemmas.Fmt.{decimal_is_IsNumeral}
-use Rattle.std.proofs.lemmas.Str.Parse.{digit_at}
-use Rattle.trust_values.specs.Limits.{IsBankAmount}
 use Rattle.trust_values.specs.declared.limits.TheConstants.{MAX_BANK_AMOUNT}
-use Rattle.trust_values.specs.Texts.{amount_text, bank_amount_of, end_text, negative_text, signed_text}
 use Rattle.trust_values.proofs.AmountFacts.{sum-injective}
 use Rattle.trust_values.proofs.ReadFacts.{number-found, number-none}
 

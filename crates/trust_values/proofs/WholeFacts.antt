@@ -1,12 +1,7 @@
 -- What the text of a number of dollars looks like.
-use Rattle.std.proofs.Common.{◌≡◌, ◌≢◌, ℕ, zero, suc, ◌<◌, ◌^◌, List, length, get_or, refl, arith, Result, Ok, true}
-use Rattle.std.specs.Fmt.{decimal}
-use Rattle.std.specs.Str.{IsUtf8}
+use Rattle.trust_values.proofs.Names.{◌≡◌, ◌≢◌, ℕ, zero, suc, ◌<◌, ◌^◌, List, length, get_or, refl, arith, Result, Ok, true, decimal, IsUtf8, IsNumeralModel, numerals_by_value, tells_digits, digit_at, parse_plain, parse_gives, decimal_is_IsNumeral, decimal_digit, first_decimal, IsAscii-decimal, decimal-digits_value, starts_plainly}
 use Rattle.std.specs.Str.Parse.{AllDigits, digits_value, ParsesUnsigned}
 use Rattle.std.proofs.lemmas.Str.{IsUtf8-from_ascii}
-use Rattle.std.proofs.lemmas.Str.Parse.{IsNumeralModel, numerals_by_value, tells_digits, digit_at, parse_plain, parse_gives}
-use Rattle.std.proofs.lemmas.Fmt.{decimal_is_IsNumeral, decimal_digit, first_decimal, IsAscii-decimal, decimal-digits_value}
-use Rattle.trust_values.specs.Texts.{starts_plainly}
 
 -- std's own words for digits and their value
 pub own : IsNumeralModel (AllDigits 10) (digits_value 10)

@@ -3,7 +3,9 @@
 use crate::networks::{NO_NETWORK, StillClock, TrialNetwork};
 use crate::stores::TrialStores;
 use crate::trial::{TrialReader, TrialWriter};
-use cashier::{Folder, NoRemarks, Opened, Outcome, Surroundings, run_over_stores};
+use cashier::{Folder, NoRemarks, Opened, Outcome, Surroundings, run_called};
+use std::alloc::{AllocError, Global};
+use std::io::ErrorKind;
 use std::process::Abort;
 
 /// A folder with one file, which may not be there to open.
@@ -78,6 +80,15 @@ pub(crate) const NOTHING: Run = Run {
     reads: false,
 };
 
+// The words of a run, as the program gets them.
+fn called_with(alloc: Global, words: &[&str]) -> Result<Vec<String>, AllocError> {
+    let mut called = Vec::new(alloc);
+    for word in words {
+        called.push(String::from_str(alloc, word)?)?;
+    }
+    Ok(called)
+}
+
 fn check_one(rt: &(impl Abort + AllocGlobal), stores: &TrialStores, run: &Run) {
     let around = Surroundings {
         folder: &run.folder,
@@ -87,9 +98,10 @@ fn check_one(rt: &(impl Abort + AllocGlobal), stores: &TrialStores, run: &Run) {
     };
     let mut reader = TrialReader::new(run.input.as_bytes(), 7, 100);
     let mut writer = TrialWriter::new(rt.alloc(), 3, run.writes);
-    let outcome = run_over_stores(
+    let called = called_with(rt.alloc(), run.words).map_err(|_| ErrorKind::OutOfMemory);
+    let outcome = run_called(
         rt.alloc(),
-        run.words,
+        &called,
         &mut reader,
         around,
         stores,

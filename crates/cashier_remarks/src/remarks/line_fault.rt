@@ -154,39 +154,43 @@ pub fn fault_of_line(row: &ByteRecord) -> LineFault<'_> {
     }
 }
 
-// Writes about a field that is not a valid day.
-fn write_day<W: fmt::Write>(
-    f: &mut fmt::Formatter<W>,
-    text: Excerpt<'_>,
-    meant: Option<Day>,
-) -> fmt::Result {
-    if text.is_empty() {
-        return f.write_str("the day is empty: write it as 2026-03-16");
-    }
-    match meant {
-        Some(day) => write!(f, "{text} is no day: write {day}"),
-        None => write!(
-            f,
-            "{text} is no day: write year, month and day as 2026-03-16"
-        ),
-    }
+// How a field is written: of an empty one, of another one, and what comes behind that.
+#[derive(Clone, Copy)]
+struct Form {
+    noun: &'static str,
+    empty: &'static str,
+    other: &'static str,
+    end: &'static str,
 }
 
-// Writes about a field that is not a valid amount.
-fn write_amount<W: fmt::Write>(
+const DAY: Form = Form {
+    noun: "day",
+    empty: "it as 2026-03-16",
+    other: "year, month and day as 2026-03-16",
+    end: "",
+};
+
+const AMOUNT: Form = Form {
+    noun: "amount",
+    empty: "dollars and cents as 1234.50",
+    other: "dollars and cents as 1234.50",
+    end: ", no $ and no comma",
+};
+
+// Writes about a field that is not valid: how it is written, or what is meant, if that is clear.
+fn write_form<W: fmt::Write, T: fmt::Display + Copy>(
     f: &mut fmt::Formatter<W>,
+    form: Form,
     text: Excerpt<'_>,
-    meant: Option<BankAmount>,
+    meant: Option<T>,
 ) -> fmt::Result {
+    let (noun, empty, other, end) = (form.noun, form.empty, form.other, form.end);
     if text.is_empty() {
-        return f.write_str("the amount is empty: write dollars and cents as 1234.50");
+        return write!(f, "the {noun} is empty: write {empty}");
     }
     match meant {
-        Some(amount) => write!(f, "{text} is no amount: write {amount}, no $ and no comma"),
-        None => write!(
-            f,
-            "{text} is no amount: write dollars and cents as 1234.50, no $ and no comma"
-        ),
+        Some(meant) => write!(f, "{text} is no {noun}: write {meant}{end}"),
+        None => write!(f, "{text} is no {noun}: write {other}{end}"),
     }
 }
 
@@ -209,8 +213,8 @@ impl fmt::Display for LineFault<'_> {
             LineFault::NotText(number) => {
                 write!(f, "field {number} is not UTF-8: save the file as UTF-8")
             }
-            LineFault::NoDay(text, meant) => write_day(f, text, meant),
-            LineFault::NoAmount(text, meant) => write_amount(f, text, meant),
+            LineFault::NoDay(text, meant) => write_form(f, DAY, text, meant),
+            LineFault::NoAmount(text, meant) => write_form(f, AMOUNT, text, meant),
             LineFault::NoReference(noun, text) => write!(
                 f,
                 "{text} is no {noun}: write at most 64 printed characters of ASCII"

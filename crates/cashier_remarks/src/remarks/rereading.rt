@@ -34,12 +34,13 @@ impl Rereading {
         let Ok(Some(bytes)) = read_whole(alloc, &mut file.reader, MAX_FILE_BYTES) else {
             return None;
         };
+        let mut builder = ReaderBuilder::new();
+        builder.has_headers(false).flexible(true);
+        let records = builder.from_reader(alloc, Cursor::new(bytes));
+        let row = ByteRecord::new(alloc);
         Some(Rereading {
-            records: ReaderBuilder::new()
-                .has_headers(false)
-                .flexible(true)
-                .from_reader(alloc, Cursor::new(bytes)),
-            row: ByteRecord::new(alloc),
+            records,
+            row,
             taken: 0,
         })
     }

@@ -1,6 +1,4 @@
-use Rattle.std.proofs.Common.{◌∙◌, refl, arith, inl, inr, add-one}
-use Rattle.std.proofs.Math.Nat.{pow-suc}
-use Rattle.byte_streams.specs.Digits.{fixed_digits}
+use Rattle.byte_streams.proofs.Names.{◌∙◌, refl, arith, inl, inr, add-one, pow-suc, fixed_digits}
 use Rattle.byte_streams.proofs.FixedFacts.{fixed-step, not-fixed, below-power, digit-more}
 use Rattle.byte_streams.proofs.fixed.read_fixed.Goals as goal
 use Rattle.byte_streams.proofs.fixed.read_fixed.Goals.{then-digit-lt48-via-then-digit-lt48, then-digit-lt48-via-else-digit-lt48+then-digit-gt57}

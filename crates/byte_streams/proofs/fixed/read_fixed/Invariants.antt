@@ -1,5 +1,4 @@
-use Rattle.std.proofs.Common.{◌≡◌, ◌<◌, ◌^◌, take}
-use Rattle.byte_streams.specs.Digits.{fixed_digits}
+use Rattle.byte_streams.proofs.Names.{◌≡◌, ◌<◌, ◌^◌, take, fixed_digits}
 use Rattle.byte_streams.proofs.fixed.read_fixed.Given as goal
 
 abbrev pub invariant-loop-digit : goal.invariant-loop-digit

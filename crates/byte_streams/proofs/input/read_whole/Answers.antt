@@ -1,6 +1,4 @@
-use Rattle.std.proofs.Common.{arith, length-append, take, ◌++◌}
-use Rattle.std.proofs.KnownBytes.{Consumes-trans}
-use Rattle.std.proofs.lemmas.List.{length-take}
+use Rattle.byte_streams.proofs.Names.{arith, length-append, take, ◌++◌, Consumes-trans, length-take}
 use Rattle.byte_streams.proofs.input.read_whole.Goals as goal
 
 pub returns-then-is_err-clause-err : goal.returns-then-is_err-clause-err

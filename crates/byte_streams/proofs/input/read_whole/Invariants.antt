@@ -1,5 +1,4 @@
-use Rattle.std.proofs.Common.{◌≤◌, length}
-use Rattle.std.specs.Io.KnownBytes.{Consumes}
+use Rattle.byte_streams.proofs.Names.{◌≤◌, length, Consumes}
 use Rattle.byte_streams.proofs.input.read_whole.Given as goal
 
 abbrev pub invariant-loop : goal.invariant-loop

@@ -1,7 +1,4 @@
-use Rattle.std.proofs.Common.{◌≡◌, ℕ, ◌-◌, List, take, drop, length, arith, length-drop}
-use Rattle.std.proofs.lemmas.List.{take_all}
-use Rattle.std.proofs.Math.Seq.{take-add}
-use Rattle.std.proofs.KnownBytes.{Appends-trans}
+use Rattle.byte_streams.proofs.Names.{◌≡◌, ℕ, ◌-◌, List, take, drop, length, arith, length-drop, take_all, take-add, Appends-trans}
 use Rattle.byte_streams.proofs.output.send.Goals as goal
 
 -- what is left of a text, as the code slices it

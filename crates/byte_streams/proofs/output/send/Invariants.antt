@@ -1,5 +1,4 @@
-use Rattle.std.proofs.Common.{◌≤◌, length, take}
-use Rattle.std.specs.Io.KnownBytes.{Appends}
+use Rattle.byte_streams.proofs.Names.{◌≤◌, length, take, Appends}
 use Rattle.byte_streams.proofs.output.send.Given as goal
 
 abbrev pub invariant-loop : goal.invariant-loop

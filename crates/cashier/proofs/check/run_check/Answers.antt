@@ -1,4 +1,4 @@
-use Rattle.std.proofs.Common.{inl}
+use Rattle.cashier.proofs.Names.{inl}
 use Rattle.cashier.proofs.CheckFacts.{check-ends, reads-leave, said-ok, said-sound}
 use Rattle.cashier.proofs.check.run_check.Goals as goal
 

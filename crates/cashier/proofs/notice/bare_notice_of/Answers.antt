@@ -1,8 +1,6 @@
-use Rattle.std.proofs.Common.{◌≡◌, List, Some, None, refl}
-use Rattle.clap.specs.Words.{Text}
+use Rattle.cashier.proofs.Names.{◌≡◌, List, Some, None, refl, Text, Outcome}
 use Rattle.cashier.specs.Notice.{IsTold}
 use Rattle.cashier.specs.declared.notice.Notice.TheVariants as notice
-use Rattle.cashier.specs.declared.outcome.Outcome.{Outcome}
 use Rattle.cashier.specs.declared.outcome.Outcome.TheVariants as outcome
 use Rattle.cashier.proofs.notice.bare_notice_of.Goals as goal
 

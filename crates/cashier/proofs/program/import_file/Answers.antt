@@ -1,4 +1,4 @@
-use Rattle.std.proofs.Common.{inl, inr, refl, sym}
+use Rattle.cashier.proofs.Names.{inl, inr, refl, sym}
 use Rattle.cashier.proofs.StatementFacts.{ends-known, leaves-known}
 use Rattle.cashier.proofs.program.import_file.Goals as goal
 

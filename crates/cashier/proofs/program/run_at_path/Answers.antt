@@ -1,12 +1,31 @@
-use Rattle.std.proofs.Common.{◌∙◌, inl, inr, refl, sym}
-use Rattle.cashier.proofs.RunFacts.{store-no-line}
+use Rattle.cashier.proofs.Names.{◌∙◌, inl, inr, refl, sym}
+use Rattle.cashier.proofs.RunFacts.{put-line, store-no-line}
 use Rattle.cashier.proofs.program.run_at_path.Goals as goal
 
-pub returns-in-Ok-clause-ran : goal.returns-in-Ok-clause-ran
-returns-in-Ok-clause-ran g c = λ words means. inl (c.run_over_book.ensures.ran c.args.path.now c.in-Ok.ensures.found c.in-Ok.ensures.serves words means)
+pub returns-in-Err-clause-began : goal.returns-in-Err-clause-began
+returns-in-Err-clause-began g c = λ ended. store-no-line c.in-Err.fault (sym c.outcome_of_store.ensures ∙ ended)
+
+pub returns-in-Err-clause-ran : goal.returns-in-Err-clause-ran
+returns-in-Err-clause-ran g c = λ _ _. inr (record { fault = c.in-Err.fault; outcome = c.outcome_of_store.ensures; nothing = (refl, refl) })
 
 pub returns-clause-began : goal.returns-clause-began
-returns-clause-began g c = λ ended. store-no-line c.in-Err.fault (sym c.outcome_of_store.ensures ∙ ended)
+returns-clause-began g c = λ ended.
+    c.run_plan-ended.ensures.began (put-line c.run_plan-ended.result c.put_back-put.result (sym c.outcome_put_back.ensures ∙ ended))
 
 pub returns-clause-ran : goal.returns-clause-ran
-returns-clause-ran g c = λ _ _. inr (record { fault = c.in-Err.fault; outcome = c.outcome_of_store.ensures; nothing = (refl, refl) })
+returns-clause-ran g c = λ words means.
+    let B = g.S.AtPath.Book in
+    let served : B.sure c.new-desk.result → B.clean c.new-desk.result = rw c.new-desk.ensures c.in-Ok.ensures.serves in inl (record {
+      before = c.new-desk.result;
+      found = rw c.new-desk.ensures c.in-Ok.ensures.found;
+      serves = served;
+      after = c.run_plan-ended.new.desk;
+      ended = c.run_plan-ended.result;
+      kept = c.run_plan-ended.ensures.kept words means;
+      sound = λ clean stands. g.S.AtPath.Book.sound c.run_plan-ended.new.desk ((c.run_plan-ended.ensures.kept words means).still_stands clean stands);
+      ran = λ clean stands. c.run_plan-ended.ensures.ends words means clean stands;
+      crash = λ sure stands. c.run_plan-ended.ensures.crash words means sure (served ((c.run_plan-ended.ensures.kept words means).was_sure sure)) stands;
+      put = c.put_back-put.result;
+      left = rw c.into_book.ensures at c.put_back-put.ensures.put;
+      outcome = c.outcome_put_back.ensures;
+    })

@@ -1,4 +1,4 @@
-use Rattle.std.proofs.Common.{◌∙◌}
+use Rattle.cashier.proofs.Names.{◌∙◌}
 use Rattle.cashier.proofs.RunFacts.{in-memory}
 use Rattle.cashier.proofs.program.run_in_memory.Goals as goal
 

@@ -1,6 +1,4 @@
-use Rattle.std.proofs.Common.{◌≡◌, map, take}
-use Rattle.std.specs.String.{string_bytes}
-use Rattle.command_line.specs.Program.{words_of}
+use Rattle.cashier.proofs.Names.{◌≡◌, map, take, string_bytes, words_of}
 use Rattle.cashier.proofs.program.texts_of.Given as goal
 
 abbrev pub invariant-loop-word : goal.invariant-loop-word

@@ -1,8 +1,4 @@
-use Rattle.std.proofs.Common.{ap, inl, inr, refl, ◌∙◌}
-use Rattle.csv.specs.Records.{fields_of}
-use Rattle.cashier_remarks.specs.Records.{heard_of}
-use Rattle.cashier.specs.Sheet.{ran_by}
-use Rattle.trust_desk.proofs.Crashes.{leave-failed}
+use Rattle.cashier.proofs.Names.{inl, inr, refl, fields_of, heard_of, leave-failed}
 use Rattle.cashier.proofs.SheetKept.{reply-says, told-as}
 use Rattle.cashier.proofs.sheet.run_record.Goals as goal
 
@@ -11,7 +7,7 @@ returns-in_default-clause-crash g c = λ sure clean stands. leave-failed (λ ok.
 
 pub returns-clause-crash : goal.returns-clause-crash
 returns-clause-crash g c = λ sure clean stands.
-    told-as _ _ _ _ _ (heard_of (fields_of c.args.row.now)) c.answer_record-reply.result _ (c.ran_of.ensures.is ∙ ap ran_by c.kind_of_reply.ensures) clean (λ served. c.answer_record-reply.ensures.step served stands) (c.answer_record-reply.ensures.crash sure clean stands)
+    told-as _ _ _ _ _ (heard_of (fields_of c.args.row.now)) c.answer_record-reply.result _ (c.ran_of.ensures.is) clean (λ served. c.answer_record-reply.ensures.step served stands) (c.answer_record-reply.ensures.crash sure clean stands)
 
 pub returns-in_default-clause-told : goal.returns-in_default-clause-told
 returns-in_default-clause-told g c = λ sure clean stands. record {
@@ -24,5 +20,5 @@ pub returns-clause-told : goal.returns-clause-told
 returns-clause-told g c = λ sure clean stands. record {
   reply = c.answer_record-reply.result;
   says = reply-says _ _ _ _ _ (heard_of (fields_of c.args.row.now)) _ clean (λ served. c.answer_record-reply.ensures.step served stands) (c.answer_record-reply.ensures.crash sure clean stands);
-  sent = inl (c.ran_of.ensures.is ∙ ap ran_by c.kind_of_reply.ensures, c.in-Ok.ensures.ok);
+  sent = inl (c.ran_of.ensures.is, c.in-Ok.ensures.ok);
 }

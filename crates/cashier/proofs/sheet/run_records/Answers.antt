@@ -1,11 +1,7 @@
-use Rattle.std.proofs.Common.{◌≡◌, ◌∙◌, ◌++◌, true, ℕ, List, [], ◌∷◌, Option, Some, Bor, refl, sym, inl, inr, append_assoc}
-use Rattle.std.proofs.KnownBytes.{Appends-nil}
-use Rattle.csv.specs.Reading.{Reached, ReadRecord, default_config, source_of, strip_bom}
-use Rattle.csv.specs.Records.{fields_of}
+use Rattle.cashier.proofs.Names.{◌≡◌, ◌∙◌, ◌++◌, true, ℕ, List, [], ◌∷◌, Option, Some, Bor, refl, inl, inr, append_assoc, Appends-nil, Reached, ReadRecord, default_config, source_of, strip_bom, fields_of, rest_records}
 use Rattle.csv.specs.declared.parser.State.{State}
 use Rattle.csv.specs.declared.reader.Reader.{Reader}
 use Rattle.csv.proofs.ReadFacts.{rows-end, rows-more}
-use Rattle.byte_streams.specs.CsvRecords.{rest_records}
 use Rattle.byte_streams.proofs.CsvRecords.{rest-none, rest-reached}
 use Rattle.cashier.proofs.CallFacts.{book-alone, book-then}
 use Rattle.cashier.proofs.SheetKept.{going-more, kept-here, kept-stopped}

@@ -1,11 +1,5 @@
-use Rattle.std.proofs.Common.{◌≡◌, ◌<◌, ◌++◌, not, ℕ, List, Some, Bor}
-use Rattle.std.specs.Io.KnownBytes.{Appends}
-use Rattle.std.specs.List.{concat}
-use Rattle.csv.specs.Reading.{Ready, default_config, source_of}
+use Rattle.cashier.proofs.Names.{◌≡◌, ◌<◌, ◌++◌, not, ℕ, List, Some, Bor, Appends, concat, Ready, default_config, source_of, rest_records, IsSame, LeavesBook, all_accepted, firm_from, lines_from, sheet_records}
 use Rattle.csv.specs.declared.reader.Trim.TheVariants as trim
-use Rattle.byte_streams.specs.CsvRecords.{rest_records}
-use Rattle.cashier.specs.Calls.{IsSame, LeavesBook}
-use Rattle.cashier.specs.Sheet.{all_accepted, firm_from, lines_from, sheet_records}
 use Rattle.cashier.proofs.SheetKept.{IsGoing}
 use Rattle.cashier.proofs.sheet.run_records.Given as goal
 

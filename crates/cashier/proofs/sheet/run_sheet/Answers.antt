@@ -1,7 +1,4 @@
-use Rattle.std.proofs.Common.{ℕ, List, Option, IfSome}
-use Rattle.firm_rows.specs.Firm.{Firm}
-use Rattle.cashier.specs.Sheet.{IsWhole, LinesAreKept, records_run}
-use Rattle.cashier.specs.declared.sheet.SheetEnd.{SheetEnd}
+use Rattle.cashier.proofs.Names.{ℕ, List, Option, IfSome, Firm, IsWhole, LinesAreKept, records_run, SheetEnd}
 use Rattle.cashier.proofs.SheetKept.{kept-large, kept-none, known-large, known-none, known-run}
 use Rattle.cashier.proofs.SheetFacts.{ends-large, ends-run}
 use Rattle.cashier.proofs.sheet.run_sheet.Goals as goal

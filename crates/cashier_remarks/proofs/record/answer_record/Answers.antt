@@ -1,4 +1,4 @@
-use Rattle.csv.specs.Records.{fields_of}
+use Rattle.cashier_remarks.proofs.Names.{fields_of}
 use Rattle.cashier_remarks.proofs.RecordFacts.{heard-read, record-asked, record-refused, refused-step}
 use Rattle.cashier_remarks.proofs.record.answer_record.Goals as goal
 

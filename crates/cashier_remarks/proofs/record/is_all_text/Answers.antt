@@ -1,9 +1,6 @@
-use Rattle.std.proofs.Common.{◌≡◌, ◌∙◌, ◌∷◌, ◌+◌, ◌&&◌, zero, suc, ◌<◌, Bool, List, ℕ, [], length, take, get_or, unwrap_or, refl, sym, ap, arith}
+use Rattle.cashier_remarks.proofs.Names.{◌≡◌, ◌∙◌, ◌∷◌, ◌+◌, ◌&&◌, zero, suc, ◌<◌, Bool, List, ℕ, [], length, take, get_or, unwrap_or, refl, sym, ap, arith, list_all, is_utf8, field_at, fields_of}
 use Rattle.std.proofs.Math.Seq.{take-length}
 use Rattle.std.proofs.lemmas.List.Folds.{list_all_more}
-use Rattle.std.specs.List.{list_all}
-use Rattle.std.specs.Str.{is_utf8}
-use Rattle.csv.specs.Records.{field_at, fields_of}
 use Rattle.cashier_remarks.proofs.record.is_all_text.Goals as goal
 
 field-text : (fields : List (List ℕ)) (i : ℕ) → unwrap_or (field_at fields i) [] ≡ get_or fields i []

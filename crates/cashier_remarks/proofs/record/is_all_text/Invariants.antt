@@ -1,7 +1,4 @@
-use Rattle.std.proofs.Common.{◌≡◌, take}
-use Rattle.std.specs.List.{list_all}
-use Rattle.std.specs.Str.{is_utf8}
-use Rattle.csv.specs.Records.{fields_of}
+use Rattle.cashier_remarks.proofs.Names.{◌≡◌, take, list_all, is_utf8, fields_of}
 use Rattle.cashier_remarks.proofs.record.is_all_text.Given as goal
 
 abbrev pub invariant-loop-i : goal.invariant-loop-i

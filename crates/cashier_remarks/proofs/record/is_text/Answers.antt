@@ -1,4 +1,4 @@
-use Rattle.std.proofs.Common.{sym}
+use Rattle.cashier_remarks.proofs.Names.{sym}
 use Rattle.std.proofs.lemmas.Str.{is_utf8-from_IsUtf8}
 use Rattle.trust_base.proofs.NameFacts.{is_utf8-of_other}
 use Rattle.cashier_remarks.proofs.record.is_text.Goals as goal

@@ -1,4 +1,4 @@
-use Rattle.std.proofs.Common.{arith, ◌∙◌, sym}
+use Rattle.command_line.proofs.Names.{arith, ◌∙◌, sym}
 use Rattle.command_line.proofs.NumeralFacts.{never-unlike, reads-back, reads-same, shows-text}
 use Rattle.command_line.proofs.command.number_between.Goals as goal
 use Rattle.command_line.proofs.command.number_between.Goals.{else-eq-via-then-eq+then-least-number+else-number-most, else-eq-via-then-eq+else-least-number, else-eq-via-else-eq}

@@ -1,7 +1,4 @@
-use Rattle.std.proofs.Common.{sym, subst}
-use Rattle.command_line.specs.Program.{words_of}
-use Rattle.command_line.specs.Advice.{IsFront}
-use Rattle.command_line.specs.declared.faults.Front.{Front}
+use Rattle.command_line.proofs.Names.{sym, subst, words_of, IsFront, Front}
 use Rattle.command_line.proofs.AdviceFacts.{front-fits}
 use Rattle.command_line.proofs.faults.front_of.Goals as goal
 

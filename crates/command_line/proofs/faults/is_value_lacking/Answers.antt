@@ -1,4 +1,4 @@
-use Rattle.std.proofs.Common.{◌≡◌, ◌+◌, length, min, rules}
+use Rattle.command_line.proofs.Names.{◌≡◌, ◌+◌, length, min, rules}
 use Rattle.command_line.proofs.AdviceFacts.{lacks-at}
 use Rattle.command_line.proofs.faults.is_value_lacking.Goals as goal
 

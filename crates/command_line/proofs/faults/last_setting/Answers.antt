@@ -1,4 +1,4 @@
-use Rattle.std.proofs.Common.{◌∙◌}
+use Rattle.command_line.proofs.Names.{◌∙◌}
 use Rattle.command_line.proofs.AdviceFacts.{named-more}
 use Rattle.command_line.proofs.faults.last_setting.Goals as goal
 

@@ -1,6 +1,4 @@
-use Rattle.std.proofs.Common.{◌≡◌, take}
-use Rattle.command_line.specs.Advice.{last_setting}
-use Rattle.command_line.specs.Program.{words_of}
+use Rattle.command_line.proofs.Names.{◌≡◌, take, last_setting, words_of}
 use Rattle.command_line.proofs.faults.last_setting.Given as goal
 
 abbrev pub invariant-loop-word : goal.invariant-loop-word

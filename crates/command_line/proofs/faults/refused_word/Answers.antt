@@ -1,4 +1,4 @@
-use Rattle.std.proofs.Common.{inl, inr}
+use Rattle.command_line.proofs.Names.{inl, inr}
 use Rattle.command_line.proofs.AdviceFacts.{none-taken, repeated, still-taken, stray}
 use Rattle.command_line.proofs.faults.refused_word.Goals as goal
 

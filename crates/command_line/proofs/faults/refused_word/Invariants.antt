@@ -1,6 +1,4 @@
-use Rattle.std.proofs.Common.{take}
-use Rattle.command_line.specs.Advice.{IsTakenSoFar}
-use Rattle.command_line.specs.Program.{words_of}
+use Rattle.command_line.proofs.Names.{take, IsTakenSoFar, words_of}
 use Rattle.command_line.proofs.faults.refused_word.Given as goal
 
 abbrev pub invariant-loop-place : goal.invariant-loop-place

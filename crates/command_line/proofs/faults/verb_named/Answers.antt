@@ -1,5 +1,4 @@
-use Rattle.std.proofs.Common.{◌∙◌, sym}
-use Rattle.std.proofs.lemmas.Option.{IfSome_then}
+use Rattle.command_line.proofs.Names.{◌∙◌, sym, IfSome_then}
 use Rattle.command_line.proofs.AdviceFacts.{names, wants-command}
 use Rattle.command_line.proofs.faults.verb_named.Goals as goal
 use Rattle.command_line.proofs.faults.verb_named.Goals.{in-WantsCommand, in-WantsValue}

@@ -1,7 +1,5 @@
-use Rattle.std.proofs.Common.{◌≡◌, take, true}
+use Rattle.command_line.proofs.Names.{◌≡◌, take, true, FailsAs, words_of}
 use Rattle.clap.specs.declared.error.kind.ErrorKind.TheVariants.{MissingSubcommand}
-use Rattle.command_line.specs.Program.{FailsAs}
-use Rattle.command_line.specs.Program.{words_of}
 use Rattle.command_line.proofs.faults.verb_named.Given as goal
 
 abbrev pub invariant-loop-place : goal.invariant-loop-place

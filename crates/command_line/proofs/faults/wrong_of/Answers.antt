@@ -1,4 +1,4 @@
-use Rattle.std.proofs.lemmas.Option.{IfSome_then}
+use Rattle.command_line.proofs.Names.{IfSome_then}
 use Rattle.command_line.proofs.AdviceFacts.{has-wrong-value, value-wrong}
 use Rattle.command_line.proofs.faults.wrong_of.Goals as goal
 

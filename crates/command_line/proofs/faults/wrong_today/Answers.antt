@@ -1,6 +1,4 @@
-use Rattle.std.proofs.Common.{sym}
-use Rattle.std.proofs.lemmas.Option.{IfSome_then}
-use Rattle.clap.specs.Words.{found_of}
+use Rattle.command_line.proofs.Names.{sym, IfSome_then, found_of}
 use Rattle.command_line.proofs.AdviceFacts.{wrong-today}
 use Rattle.command_line.proofs.faults.wrong_today.Goals as goal
 

@@ -1,8 +1,4 @@
-use Rattle.std.proofs.Common.{◌≡◌, ℕ, suc, ◌+◌, List, drop, Some, None, sym, ap, ◌∙◌, arith}
-use Rattle.std.specs.Prelude.{slice_get}
-use Rattle.matter_rows.specs.Events.{events_of, nth_moved, as_movement}
-use Rattle.firm_rows.specs.declared.movement.Movement.{Movement}
-use Rattle.firm_rows.specs.Journal.{event_of, is_of_entry, events_moved}
+use Rattle.firm_audit.proofs.Names.{◌≡◌, ℕ, suc, ◌+◌, List, drop, Some, None, sym, ap, ◌∙◌, arith, slice_get, events_of, nth_moved, as_movement, Movement, event_of, is_of_entry, events_moved}
 use Rattle.firm_audit.proofs.Fronts.{next, ended, rest-at, none-left, one-fails, one-passes}
 use Rattle.firm_audit.proofs.event.is_moved.Goals as goal
 use Rattle.firm_audit.proofs.event.is_moved.Goals.{then-is_of_entry+else-not-is_event, else-is_of_entry}

@@ -1,6 +1,4 @@
-use Rattle.std.proofs.Common.{◌≡◌, ◌≤◌, drop}
-use Rattle.matter_rows.specs.Events.{events_of}
-use Rattle.firm_rows.specs.Journal.{events_moved}
+use Rattle.firm_audit.proofs.Names.{◌≡◌, ◌≤◌, drop, events_of, events_moved}
 use Rattle.firm_audit.proofs.event.is_moved.Given as goal
 
 abbrev pub invariant-loop-movement : goal.invariant-loop-movement

@@ -1,11 +1,7 @@
-use Rattle.std.proofs.Common.{◌≡◌, List, None, subst, rules}
+use Rattle.firm_audit.proofs.Names.{◌≡◌, List, None, subst, rules, Movement, KeptMatter, AreKeptWhole, IsJournalOf, IsOwnMoney, AreAscending}
 use Rattle.trust_base.specs.declared.line.Line.{Line}
-use Rattle.firm_rows.specs.declared.movement.Movement.{Movement}
 use Rattle.firm_rows.specs.declared.ledger.FirmLine.{FirmLine}
 use Rattle.firm_rows.specs.declared.ledger.StatementRow.{StatementRow}
-use Rattle.trust_store.specs.declared.plain.KeptMatter.{KeptMatter}
-use Rattle.trust_store.specs.Kept.{AreKeptWhole}
-use Rattle.firm_audit.specs.Audited.{IsJournalOf, IsOwnMoney, AreAscending}
 use Rattle.firm_audit.proofs.Sound.{firm_is_sound}
 use Rattle.firm_audit.proofs.firm.audit.Goals as goal
 

@@ -1,6 +1,4 @@
-use Rattle.std.proofs.Common.{drop}
-use Rattle.std.specs.List.{AllByRecursion}
-use Rattle.firm_audit.specs.Audited.{moved_of, IsJournal}
+use Rattle.firm_audit.proofs.Names.{drop, AllByRecursion, moved_of, IsJournal}
 use Rattle.firm_audit.proofs.journal.first_flaw.Given as goal
 
 abbrev pub invariant-loop-kept : goal.invariant-loop-kept

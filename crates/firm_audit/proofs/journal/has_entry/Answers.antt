@@ -1,6 +1,4 @@
-use Rattle.std.proofs.Common.{◌<◌, ◌≤◌, length, sym, ap, ◌∙◌, arith}
-use Rattle.std.proofs.lemmas.Bool.Decides.{nat_tests}
-use Rattle.trust_store.specs.declared.plain.KeptMatter.{KeptMatter}
+use Rattle.firm_audit.proofs.Names.{◌<◌, ◌≤◌, length, sym, ap, ◌∙◌, arith, nat_tests, KeptMatter}
 use Rattle.firm_audit.proofs.Entries.{entry-there}
 use Rattle.firm_audit.proofs.journal.has_entry.Goals as goal
 

@@ -1,6 +1,4 @@
-use Rattle.std.proofs.Common.{◌≡◌, drop}
-use Rattle.std.specs.List.{AllByRecursion}
-use Rattle.firm_audit.specs.Audited.{IsOwned}
+use Rattle.firm_audit.proofs.Names.{◌≡◌, drop, AllByRecursion, IsOwned}
 use Rattle.firm_audit.proofs.journal.unowned.Given as goal
 
 abbrev pub invariant-loop-movement : goal.invariant-loop-movement

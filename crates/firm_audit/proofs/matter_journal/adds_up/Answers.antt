@@ -1,9 +1,4 @@
-use Rattle.std.proofs.Common.{◌≡◌, ◌-◌, arith}
-use Rattle.std.specs.Prelude.{pos}
-use Rattle.std.proofs.lemmas.Bool.Decides.{nat_tests}
-use Rattle.std.proofs.lemmas.Int.{ints}
-use Rattle.trust_store.specs.Kept.{rows_kept}
-use Rattle.firm_audit.specs.Audited.{moved_sum}
+use Rattle.firm_audit.proofs.Names.{◌≡◌, ◌-◌, arith, pos, nat_tests, ints, rows_kept, moved_sum}
 use Rattle.firm_audit.proofs.matter_journal.adds_up.Goals as goal
 
 pub returns-clause-sum : goal.returns-clause-sum

@@ -1,7 +1,4 @@
-use Rattle.std.proofs.Common.{◌≡◌, ◌+◌, take, arith}
-use Rattle.std.specs.Prelude.{ℤ, pos, ◌+ℤ◌, ◌≤ℤ◌}
-use Rattle.std.proofs.lemmas.Int.{ints, to_z-of_z}
-use Rattle.firm_audit.specs.Audited.{moved_sum}
+use Rattle.firm_audit.proofs.Names.{◌≡◌, ◌+◌, take, arith, ℤ, pos, ◌+ℤ◌, ◌≤ℤ◌, ints, to_z-of_z, moved_sum}
 use Rattle.firm_audit.proofs.Totals.{sum-more, each-more}
 use Rattle.firm_audit.proofs.matter_journal.covered_sum.Goals as goal
 

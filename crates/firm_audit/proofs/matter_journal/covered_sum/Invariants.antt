@@ -1,6 +1,4 @@
-use Rattle.std.proofs.Common.{◌≡◌, ℕ, ◌≤◌, take}
-use Rattle.std.specs.Prelude.{pos, ◌≤ℤ◌}
-use Rattle.firm_audit.specs.Audited.{moved_sum}
+use Rattle.firm_audit.proofs.Names.{◌≡◌, ℕ, ◌≤◌, take, pos, ◌≤ℤ◌, moved_sum}
 use Rattle.firm_audit.proofs.matter_journal.covered_sum.Given as goal
 
 abbrev pub invariant-loop-movement : goal.invariant-loop-movement

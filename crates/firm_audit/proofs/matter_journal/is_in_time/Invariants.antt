@@ -1,5 +1,4 @@
-use Rattle.std.proofs.Common.{drop, map}
-use Rattle.firm_audit.specs.Audited.{RiseWithin}
+use Rattle.firm_audit.proofs.Names.{drop, map, RiseWithin}
 use Rattle.firm_audit.proofs.matter_journal.is_in_time.Given as goal
 
 abbrev pub invariant-loop-movement : goal.invariant-loop-movement

@@ -1,5 +1,4 @@
-use Rattle.std.proofs.Common.{◌≡◌, take}
-use Rattle.firm_audit.specs.Audited.{moved_of}
+use Rattle.firm_audit.proofs.Names.{◌≡◌, take, moved_of}
 use Rattle.firm_audit.proofs.matter_journal.movements_of.Given as goal
 
 abbrev pub invariant-loop-movement : goal.invariant-loop-movement

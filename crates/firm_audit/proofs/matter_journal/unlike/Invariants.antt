@@ -1,5 +1,4 @@
-use Rattle.std.proofs.Common.{drop}
-use Rattle.firm_audit.specs.Audited.{AreMoved}
+use Rattle.firm_audit.proofs.Names.{drop, AreMoved}
 use Rattle.firm_audit.proofs.matter_journal.unlike.Given as goal
 
 abbrev pub invariant-loop-one : goal.invariant-loop-one

@@ -1,6 +1,4 @@
-use Rattle.std.proofs.Common.{drop}
-use Rattle.std.specs.List.{AllByRecursion}
-use Rattle.trust_store.specs.Kept.{IsKeptWhole}
+use Rattle.firm_audit.proofs.Names.{drop, AllByRecursion, IsKeptWhole}
 use Rattle.firm_audit.proofs.matters.unsound.Given as goal
 
 abbrev pub invariant-loop-kept : goal.invariant-loop-kept

@@ -1,7 +1,4 @@
-use Rattle.std.proofs.Common.{◌≡◌, ℕ, suc, ◌+◌, List, drop, map, Some, sym, ap, ◌∙◌, arith}
-use Rattle.std.specs.Prelude.{slice_get}
-use Rattle.firm_rows.specs.declared.movement.Movement.{Movement}
-use Rattle.firm_rows.specs.Journal.{event_of, line_event, is_of_firm, firm_events}
+use Rattle.firm_audit.proofs.Names.{◌≡◌, ℕ, suc, ◌+◌, List, drop, map, Some, sym, ap, ◌∙◌, arith, slice_get, Movement, event_of, line_event, is_of_firm, firm_events}
 use Rattle.firm_audit.proofs.Fronts.{next, rest-at, one-fails, one-passes}
 use Rattle.firm_audit.proofs.own_money.are_lines.Goals as goal
 use Rattle.firm_audit.proofs.own_money.are_lines.Goals.{then-is_own+else-not-is_line_at, else-is_own}

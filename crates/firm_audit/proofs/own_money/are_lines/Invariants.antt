@@ -1,5 +1,4 @@
-use Rattle.std.proofs.Common.{◌≡◌, ◌≤◌, drop, map}
-use Rattle.firm_rows.specs.Journal.{firm_events, line_event}
+use Rattle.firm_audit.proofs.Names.{◌≡◌, ◌≤◌, drop, map, firm_events, line_event}
 use Rattle.firm_audit.proofs.own_money.are_lines.Given as goal
 
 abbrev pub invariant-loop-movement : goal.invariant-loop-movement

@@ -1,7 +1,5 @@
-use Rattle.std.proofs.Common.{◌<◌, length, Some, refl, sym, ap, ◌∙◌, arith}
-use Rattle.std.specs.Option.{option_map}
+use Rattle.firm_audit.proofs.Names.{◌<◌, length, Some, refl, sym, ap, ◌∙◌, arith, option_map, line_event}
 use Rattle.std.proofs.lemmas.Option.{slice_get-map, slice_get_read}
-use Rattle.firm_rows.specs.Journal.{line_event}
 use Rattle.firm_audit.proofs.own_money.is_line_at.Goals as goal
 
 pub returns : goal.returns

@@ -1,8 +1,5 @@
-use Rattle.std.proofs.Common.{◌≡◌, ◌+◌, take, ap, ℕ, arith, to_z, of_z}
-use Rattle.std.specs.Prelude.{◌+ℤ◌}
+use Rattle.firm_audit.proofs.Names.{◌≡◌, ◌+◌, take, ap, ℕ, arith, to_z, of_z, ◌+ℤ◌, ints, balance_of, IsOwnBalance}
 use Rattle.std.specs.Int.{w64}
-use Rattle.std.proofs.lemmas.Int.{ints}
-use Rattle.firm_rows.specs.FirmLines.{balance_of, IsOwnBalance}
 use Rattle.firm_audit.proofs.Totals.{sum-more, each-more}
 use Rattle.firm_audit.proofs.own_money.outside.Goals as goal
 

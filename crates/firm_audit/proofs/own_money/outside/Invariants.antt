@@ -1,5 +1,4 @@
-use Rattle.std.proofs.Common.{◌≡◌, ℕ, ◌≤◌, take}
-use Rattle.firm_rows.specs.FirmLines.{balance_of, IsOwnBalance}
+use Rattle.firm_audit.proofs.Names.{◌≡◌, ℕ, ◌≤◌, take, balance_of, IsOwnBalance}
 use Rattle.firm_audit.proofs.own_money.outside.Given as goal
 
 abbrev pub invariant-loop-line : goal.invariant-loop-line

@@ -1,7 +1,5 @@
-use Rattle.std.proofs.Common.{length, set, ◌-◌, ap, ◌∙◌, sym, ℤ, w64}
-use Rattle.std.proofs.lemmas.Int.{to_z-of_z}
-use Rattle.firm_figures.specs.Reconciling.{added}
-use Rattle.firm_figures.specs.declared.trial_sink.TrialLine.{TrialLine}
+use Rattle.firm_figures.proofs.Names.{length, set, ◌-◌, ap, ◌∙◌, sym, w64, to_z-of_z, added, TrialLine}
+use Rattle.std.proofs.Common.{ℤ}
 use Rattle.firm_figures.proofs.Lasts.{last-on, last-off}
 use Rattle.firm_figures.proofs.trial_sink.add_last.Goals as goal
 

@@ -1,6 +1,5 @@
-use Rattle.std.proofs.Common.{◌≡◌, take, fold}
-use Rattle.firm_figures.specs.Reconciling.{added}
-use Rattle.firm_figures.specs.declared.trial_sink.TrialLine.{TrialLine}
+use Rattle.firm_figures.proofs.Names.{◌≡◌, take, added, TrialLine}
+use Rattle.std.proofs.Common.{fold}
 use Rattle.firm_figures.proofs.trial_sink.total_of.Given as goal
 
 -- the sum so far

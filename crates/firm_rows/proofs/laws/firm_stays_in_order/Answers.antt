@@ -1,5 +1,4 @@
-use Rattle.std.specs.List.Sorted.{IsStrictlySortedBy}
-use Rattle.std.proofs.Common.{refl}
+use Rattle.firm_rows.proofs.Names.{IsStrictlySortedBy, refl}
 use Rattle.firm_rows.proofs.FirmChanges.{change-stays-in_order}
 use Rattle.firm_rows.proofs.laws.firm_stays_in_order.Goals as goal
 

@@ -1,4 +1,4 @@
-use Rattle.std.proofs.Common.{◌≡◌, take}
+use Rattle.firm_rows.proofs.Names.{◌≡◌, take}
 use Rattle.firm_rows.proofs.ledger.lines_copied.Given as goal
 
 abbrev pub invariant-loop-line : goal.invariant-loop-line

@@ -1,8 +1,4 @@
-use Rattle.std.proofs.Common.{◌≡◌, List, ℤ, ap, length, sym, subst, arith, ◌∙◌}
-use Rattle.std.proofs.lemmas.Bool.{false≢true}
-use Rattle.matter_rows.specs.declared.entry.Entry.{Entry}
-use Rattle.matter_parts.specs.Parts.{entries_kept}
-use Rattle.matter_parts.specs.Audit.{AreDrawn}
+use Rattle.matter_parts.proofs.Names.{◌≡◌, List, ℤ, ap, length, sym, subst, arith, ◌∙◌, false≢true, Entry, entries_kept, AreDrawn}
 use Rattle.matter_parts.proofs.audit.is_sound_whole.Goals as goal
 
 pub returns-then-len : goal.returns-then-len

@@ -1,5 +1,4 @@
-use Rattle.std.proofs.Common.{refl, sym, ◌∙◌}
-use Rattle.std.proofs.lemmas.Bool.{false≢true}
+use Rattle.matter_parts.proofs.Names.{refl, sym, ◌∙◌, false≢true}
 use Rattle.matter_parts.proofs.Audited.{AreOf, all-pass, empty-in, form-in, order-in, place-in, totals-in}
 use Rattle.matter_parts.proofs.WholeRows.{named-of}
 use Rattle.matter_parts.proofs.audit.passes.Goals as goal

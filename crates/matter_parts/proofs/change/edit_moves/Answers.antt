@@ -1,9 +1,4 @@
-use Rattle.std.proofs.Common.{◌≡◌, ◌+◌, ap, arith, of_z, pos, sym, to_z, w64}
-use Rattle.std.proofs.lemmas.Int.{ints}
-use Rattle.matter_rows.specs.declared.shares.Shares.{Shares}
-use Rattle.matter_rows.specs.Shares.{draw, worth}
-use Rattle.matter_parts.specs.declared.change.Before.{Before}
-use Rattle.matter_parts.specs.declared.figures.Figures.{Figures}
+use Rattle.matter_parts.proofs.Names.{◌≡◌, ◌+◌, ap, arith, of_z, pos, sym, to_z, w64, ints, Shares, draw, worth, Before, Figures}
 use Rattle.matter_parts.proofs.Moving.{written-same, append-written, exchange-written, written-exchange}
 use Rattle.matter_parts.proofs.change.edit_moves.Goals as goal
 

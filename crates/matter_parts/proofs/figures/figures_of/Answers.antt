@@ -1,4 +1,4 @@
-use Rattle.std.proofs.Common.{refl}
+use Rattle.matter_parts.proofs.Names.{refl}
 use Rattle.matter_parts.proofs.Existence.{figures-summed, available-summed, none-summed}
 use Rattle.matter_parts.proofs.figures.figures_of.Goals as goal
 

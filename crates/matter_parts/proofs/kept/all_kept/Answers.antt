@@ -1,4 +1,4 @@
-use Rattle.std.proofs.Common.{arith}
+use Rattle.matter_parts.proofs.Names.{arith}
 use Rattle.matter_parts.proofs.Collected.{collected-more, collected-all}
 use Rattle.matter_parts.proofs.kept.all_kept.Goals as goal
 

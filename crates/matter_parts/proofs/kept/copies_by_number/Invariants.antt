@@ -1,6 +1,4 @@
-use Rattle.std.specs.List.{filter}
-use Rattle.std.proofs.Common.{◌≡◌, take}
-use Rattle.matter_parts.specs.NamedEntries.{has_number}
+use Rattle.matter_parts.proofs.Names.{filter, ◌≡◌, take, has_number}
 use Rattle.matter_parts.proofs.kept.copies_by_number.Given as goal
 
 abbrev pub invariant-loop-k : goal.invariant-loop-k

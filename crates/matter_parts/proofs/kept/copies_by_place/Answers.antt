@@ -1,6 +1,4 @@
-use Rattle.std.proofs.Common.{◌++◌, ◌∷◌, [], List, ap, sym, subst, ◌∙◌}
-use Rattle.matter_parts.specs.declared.kept.Kept.{Kept}
-use Rattle.matter_parts.specs.NamedEntries.{has_number}
+use Rattle.matter_parts.proofs.Names.{◌++◌, ◌∷◌, [], List, ap, sym, subst, ◌∙◌, Kept, has_number}
 use Rattle.matter_parts.proofs.ByPlace.{AreCopiedTo, copied-none, copied-more, copied-all}
 use Rattle.matter_parts.proofs.kept.copies_by_place.Goals as goal
 

@@ -1,5 +1,4 @@
-use Rattle.std.proofs.Common.{◌-◌, length}
-use Rattle.matter_parts.specs.NamedEntries.{has_number}
+use Rattle.matter_parts.proofs.Names.{◌-◌, length, has_number}
 use Rattle.matter_parts.proofs.ByPlace.{AreCopiedTo}
 use Rattle.matter_parts.proofs.kept.copies_by_place.Given as goal
 

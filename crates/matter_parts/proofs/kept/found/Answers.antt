@@ -1,5 +1,4 @@
-use Rattle.std.proofs.Common.{◌≡◌, List, get_or, subst}
-use Rattle.matter_parts.specs.declared.kept.Kept.{Kept}
+use Rattle.matter_parts.proofs.Names.{◌≡◌, List, get_or, subst, Kept}
 use Rattle.matter_parts.proofs.ByPlace.{kept-at-place, kept-nowhere}
 use Rattle.matter_parts.proofs.kept.found.Goals as goal
 

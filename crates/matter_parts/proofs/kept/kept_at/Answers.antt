@@ -1,8 +1,4 @@
-use Rattle.std.proofs.Common.{arith, ◌+◌, ◌≡◌}
-use Rattle.std.proofs.lemmas.Int.{ints}
-use Rattle.matter_rows.specs.Balances.{left_of}
-use Rattle.matter_rows.proofs.Collected.{entry-at-place}
-use Rattle.matter_rows.proofs.Store.{left-balance}
+use Rattle.matter_parts.proofs.Names.{arith, ◌+◌, ◌≡◌, ints, left_of, entry-at-place, left-balance}
 use Rattle.matter_parts.proofs.Collected.{no-total, left-is, kept-of}
 use Rattle.matter_parts.proofs.kept.kept_at.Goals as goal
 

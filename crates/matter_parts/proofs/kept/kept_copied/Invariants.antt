@@ -1,4 +1,4 @@
-use Rattle.std.proofs.Common.{◌≡◌, take}
+use Rattle.matter_parts.proofs.Names.{◌≡◌, take}
 use Rattle.matter_parts.proofs.kept.kept_copied.Given as goal
 
 abbrev pub invariant-loop-one : goal.invariant-loop-one

@@ -1,8 +1,4 @@
-use Rattle.std.specs.List.{position}
-use Rattle.std.proofs.Common.{◌≡◌, ℕ, ◌++◌, ◌∷◌, [], List, Some, None, ap, sym, subst, ◌∙◌}
-use Rattle.std.proofs.Math.ListN.{set}
-use Rattle.matter_parts.specs.declared.kept.Kept.{Kept}
-use Rattle.matter_parts.specs.Parts.{AreNumbered}
+use Rattle.matter_parts.proofs.Names.{position, ◌≡◌, ℕ, ◌++◌, ◌∷◌, [], List, Some, None, ap, sym, subst, ◌∙◌, set, Kept, AreNumbered}
 use Rattle.matter_parts.proofs.ByPlace.{numbered-push, numbered-set}
 use Rattle.matter_parts.proofs.Keepers.{is_number, with-set, with-push}
 use Rattle.matter_parts.proofs.kept.put.Goals as goal

@@ -1,7 +1,4 @@
-use Rattle.std.specs.List.{position}
-use Rattle.std.proofs.Common.{◌≡◌, ℕ, List, Some, None, get_or, ap, sym, subst, ◌∙◌}
-use Rattle.std.proofs.Math.ListN.{set}
-use Rattle.matter_parts.specs.declared.kept.Kept.{Kept}
+use Rattle.matter_parts.proofs.Names.{position, ◌≡◌, ℕ, List, Some, None, get_or, ap, sym, subst, ◌∙◌, set, Kept}
 use Rattle.matter_parts.proofs.ByPlace.{numbered-left-set}
 use Rattle.matter_parts.proofs.Keepers.{is_number, left-set, left-none}
 use Rattle.matter_parts.proofs.kept.set_left.Goals as goal

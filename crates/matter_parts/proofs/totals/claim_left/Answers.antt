@@ -1,6 +1,4 @@
-use Rattle.std.proofs.Common.{ap, ◌∙◌}
-use Rattle.matter_rows.specs.Balances.{is_general_claim}
-use Rattle.matter_parts.specs.Parts.{left_if}
+use Rattle.matter_parts.proofs.Names.{ap, ◌∙◌, is_general_claim, left_if}
 use Rattle.matter_parts.proofs.Telling.{left-held}
 use Rattle.matter_parts.proofs.totals.claim_left.Goals as goal
 

@@ -1,6 +1,4 @@
-use Rattle.std.proofs.Common.{ap, ◌∙◌}
-use Rattle.matter_rows.specs.Balances.{is_fee}
-use Rattle.matter_parts.specs.Parts.{left_if}
+use Rattle.matter_parts.proofs.Names.{ap, ◌∙◌, is_fee, left_if}
 use Rattle.matter_parts.proofs.Telling.{left-held}
 use Rattle.matter_parts.proofs.totals.fee_left.Goals as goal
 

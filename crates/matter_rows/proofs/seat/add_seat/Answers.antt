@@ -1,4 +1,4 @@
-use Rattle.std.proofs.Common.{◌∙◌}
+use Rattle.matter_rows.proofs.Names.{◌∙◌}
 use Rattle.matter_rows.proofs.Seating.{seated-at, seated-last}
 use Rattle.matter_rows.proofs.seat.add_seat.Goals as goal
 

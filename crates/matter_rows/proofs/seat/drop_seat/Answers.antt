@@ -1,4 +1,4 @@
-use Rattle.std.proofs.Common.{rules, tests}
+use Rattle.matter_rows.proofs.Names.{rules, tests}
 use Rattle.std.proofs.lemmas.Fn.{filter_same}
 use Rattle.matter_rows.proofs.seat.drop_seat.Goals as goal
 

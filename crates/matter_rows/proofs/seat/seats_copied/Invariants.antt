@@ -1,4 +1,4 @@
-use Rattle.std.proofs.Common.{◌≡◌, take}
+use Rattle.matter_rows.proofs.Names.{◌≡◌, take}
 use Rattle.matter_rows.proofs.seat.seats_copied.Given as goal
 
 abbrev pub invariant-loop-seat : goal.invariant-loop-seat

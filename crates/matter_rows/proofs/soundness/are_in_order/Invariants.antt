@@ -1,5 +1,4 @@
-use Rattle.std.proofs.Common.{◌↔◌, ◌-◌, drop}
-use Rattle.matter_rows.specs.Sound.{AreInOrder}
+use Rattle.matter_rows.proofs.Names.{◌↔◌, ◌-◌, drop, AreInOrder}
 use Rattle.matter_rows.proofs.Tested.{AreChained}
 use Rattle.matter_rows.proofs.soundness.are_in_order.Given as goal
 

@@ -1,5 +1,4 @@
-use Rattle.std.proofs.Common.{refl, sym, ◌∙◌}
-use Rattle.std.proofs.lemmas.Bool.{false≢true}
+use Rattle.matter_rows.proofs.Names.{refl, sym, ◌∙◌, false≢true}
 use Rattle.matter_rows.proofs.Tested.{rising-next, rising-fails, rising-done}
 use Rattle.matter_rows.proofs.soundness.are_rising.Goals as goal
 

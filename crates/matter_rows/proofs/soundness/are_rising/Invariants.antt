@@ -1,6 +1,4 @@
-use Rattle.std.proofs.Common.{◌↔◌, drop, map}
-use Rattle.matter_rows.specs.Rows.{book_day}
-use Rattle.matter_rows.specs.Sound.{AreRising}
+use Rattle.matter_rows.proofs.Names.{◌↔◌, drop, map, book_day, AreRising}
 use Rattle.matter_rows.proofs.soundness.are_rising.Given as goal
 
 abbrev pub invariant-loop-entry : goal.invariant-loop-entry

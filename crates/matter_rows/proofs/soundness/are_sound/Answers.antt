@@ -1,6 +1,4 @@
-use Rattle.std.proofs.Common.{refl, sym, ◌∙◌}
-use Rattle.std.proofs.lemmas.Bool.{false≢true}
-use Rattle.matter_rows.specs.SoundRows.{IsSoundEntry}
+use Rattle.matter_rows.proofs.Names.{refl, sym, ◌∙◌, false≢true, IsSoundEntry}
 use Rattle.matter_rows.proofs.Tested.{all-next, all-fails, all-done}
 use Rattle.matter_rows.proofs.soundness.are_sound.Goals as goal
 

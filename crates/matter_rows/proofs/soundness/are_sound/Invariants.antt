@@ -1,6 +1,4 @@
-use Rattle.std.specs.List.{AllByRecursion}
-use Rattle.std.proofs.Common.{◌↔◌, drop}
-use Rattle.matter_rows.specs.SoundRows.{IsSoundEntry}
+use Rattle.matter_rows.proofs.Names.{AllByRecursion, ◌↔◌, drop, IsSoundEntry}
 use Rattle.matter_rows.proofs.soundness.are_sound.Given as goal
 
 abbrev pub invariant-loop-entry : goal.invariant-loop-entry

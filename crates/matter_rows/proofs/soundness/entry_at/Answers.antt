@@ -1,4 +1,4 @@
-use Rattle.std.proofs.Common.{arith, ◌-◌}
+use Rattle.matter_rows.proofs.Names.{arith, ◌-◌}
 use Rattle.matter_rows.proofs.Tested.{entry-there, entry-past}
 use Rattle.matter_rows.proofs.soundness.entry_at.Goals as goal
 

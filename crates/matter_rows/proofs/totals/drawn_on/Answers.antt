@@ -1,6 +1,4 @@
-use Rattle.std.proofs.Common.{arith, subst, ℤ}
-use Rattle.std.proofs.lemmas.Int.{ints}
-use Rattle.matter_rows.specs.Shares.{draw_on, IsSmallShare}
+use Rattle.matter_rows.proofs.Names.{arith, subst, ℤ, ints, draw_on, IsSmallShare}
 use Rattle.matter_rows.proofs.Adding.{more, small-sum}
 use Rattle.matter_rows.proofs.totals.drawn_on.Goals as goal
 

@@ -1,4 +1,4 @@
-use Rattle.matter_rows.specs.Shares.{draw_on}
+use Rattle.matter_rows.proofs.Names.{draw_on}
 use Rattle.matter_rows.proofs.Adding.{IsSumTo}
 use Rattle.matter_rows.proofs.totals.drawn_on.Given as goal
 

@@ -1,5 +1,4 @@
-use Rattle.std.proofs.Common.{ap, arith}
-use Rattle.matter_rows.specs.Shares.{held_share, available_share, disputed_share, fee_share, claim_share, pending_share}
+use Rattle.matter_rows.proofs.Names.{ap, arith, held_share, available_share, disputed_share, fee_share, claim_share, pending_share}
 use Rattle.matter_rows.proofs.Adding.{fits, next, small-sums}
 use Rattle.matter_rows.proofs.totals.sums_of.Goals as goal
 

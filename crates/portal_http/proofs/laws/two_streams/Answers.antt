@@ -1,9 +1,4 @@
-use Rattle.std.proofs.Common.{ap, map}
-use Rattle.trust_desk.proofs.AlwaysCovered.{runs-covered}
-use Rattle.trust_desk.proofs.Own.{each-own, same-for_the_matter}
-use Rattle.trust_desk.proofs.Runs.{sound-runs-are-runs}
-use Rattle.portal_requests.specs.Requests.{heard_of}
-use Rattle.portal_http.specs.Answers.{reply_bytes}
+use Rattle.portal_http.proofs.Names.{ap, map, runs-covered, each-own, same-for_the_matter, sound-runs-are-runs, heard_of, reply_bytes}
 use Rattle.portal_http.proofs.laws.two_streams.Goals as goal
 
 pub returns : goal.returns

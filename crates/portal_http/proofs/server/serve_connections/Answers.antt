@@ -1,5 +1,4 @@
-use Rattle.std.proofs.Common.{arith, inl, inr, refl}
-use Rattle.portal_http.specs.ServedAll.{IsClientServed}
+use Rattle.portal_http.proofs.Names.{arith, inl, inr, refl, IsClientServed}
 use Rattle.portal_http.proofs.InTurn.{serving-none, serving-more, served-done, served-write_fault}
 use Rattle.portal_http.proofs.server.serve_connections.Goals as goal
 use Rattle.portal_http.proofs.server.serve_connections.Goals.{in-Ok, in-Err-Aborted}

@@ -1,4 +1,4 @@
-use Rattle.std.proofs.Common.{◌≤◌}
+use Rattle.portal_http.proofs.Names.{◌≤◌}
 use Rattle.portal_http.proofs.InTurn.{ServingAll}
 use Rattle.portal_http.proofs.server.serve_connections.Given as goal
 

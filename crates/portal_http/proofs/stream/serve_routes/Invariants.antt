@@ -1,5 +1,4 @@
-use Rattle.std.proofs.Common.{◌≡◌, ◌≤◌, None}
-use Rattle.portal_http.specs.Served.{Serving}
+use Rattle.portal_http.proofs.Names.{◌≡◌, ◌≤◌, None, Serving}
 use Rattle.portal_http.proofs.stream.serve_routes.Given as goal
 
 -- the messages so far were answered

@@ -1,12 +1,5 @@
-use Rattle.std.proofs.Common.{◌≡◌, Result, Ok, Err, refl}
-use Rattle.std.specs.Prelude.{IfErr}
-use Rattle.matchit.specs.Rows.{RowsOf}
-use Rattle.matchit.specs.Route.{Scan, parse_route}
-use Rattle.matchit.specs.Router.{InsertsRead, RouteOf}
-use Rattle.matchit.specs.declared.error.InsertError.{InsertError}
+use Rattle.portal_requests.proofs.Names.{◌≡◌, Result, Ok, Err, refl, IfErr, RowsOf, Scan, parse_route, InsertsRead, RouteOf, InsertError, Place, IsTaken}
 use Rattle.matchit.specs.declared.error.InsertError.TheVariants.{Conflict, InvalidParam, InvalidParamSegment, InvalidCatchAll, OutOfMemory}
-use Rattle.portal_requests.specs.declared.routes.Place.{Place}
-use Rattle.portal_requests.specs.Table.{IsTaken}
 use Rattle.portal_requests.proofs.routes.insert_route.Goals as goal
 
 -- only want of memory leaves out a route that is taken

@@ -1,14 +1,8 @@
-use Rattle.std.proofs.Common.{◌≡◌, ◌∙◌, ◌<◌, ◌≤◌, ℕ, suc, List, [], get_or, drop, length, refl, sym, arith, add-one, drop-cons}
+use Rattle.portal_requests.proofs.Names.{◌≡◌, ◌∙◌, ◌<◌, ◌≤◌, ℕ, suc, List, [], get_or, drop, length, refl, sym, arith, add-one, drop-cons, err_from_is_err_and, RowsOf, RouteOf, parse_route, Place, AreTaken, IsTaken, row_in, route_rows, rows_of}
 use Rattle.std.specs.Borrow.{Bor}
 use Rattle.std.proofs.lemmas.List.{drop_all}
-use Rattle.std.proofs.lemmas.Result.{err_from_is_err_and}
-use Rattle.matchit.specs.Rows.{RowsOf}
-use Rattle.matchit.specs.Router.{RouteOf}
-use Rattle.matchit.specs.Route.{parse_route}
-use Rattle.portal_requests.specs.declared.routes.Place.{Place}
 use Rattle.portal_requests.specs.declared.routes.Place.TheVariants.{Matter}
 use Rattle.portal_requests.specs.declared.routes.MatterPlace.TheVariants.{Show}
-use Rattle.portal_requests.specs.Table.{AreTaken, IsTaken, row_in, route_rows, rows_of}
 use Rattle.portal_requests.proofs.routes.router_of.Goals as goal
 
 -- what the code reads past a table's end

@@ -1,5 +1,4 @@
-use Rattle.std.proofs.Common.{◌≡◌, drop, []}
-use Rattle.portal_requests.specs.Table.{AreTaken, route_rows, rows_of}
+use Rattle.portal_requests.proofs.Names.{◌≡◌, drop, [], AreTaken, route_rows, rows_of}
 use Rattle.portal_requests.proofs.routes.router_of.Given as goal
 
 abbrev pub invariant-loop-row : goal.invariant-loop-row

@@ -1,5 +1,4 @@
-use Rattle.std.proofs.Common.{◌≡◌, rules}
-use Rattle.sql_making.specs.Books.{no_schema}
+use Rattle.sql_making.proofs.Names.{◌≡◌, rules, no_schema}
 use Rattle.sql_making.proofs.NewBook.{new_book_stands}
 use Rattle.sql_making.proofs.making.make.Goals as goal
 

@@ -1,13 +1,8 @@
-use Rattle.std.proofs.Common.{Result, OnOk, sym, subst}
-use Rattle.sqlite.specs.Batch.{ExecutesAllInside}
-use Rattle.sql_schema.specs.Making.{schema_text}
-use Rattle.sql_tables.proofs.Together.{ok_then}
+use Rattle.sql_making.proofs.Names.{sym, subst, ExecutesAllInside, schema_text, ok_then, move_text, state}
 use Rattle.sql_making.specs.declared.scripts.Script.{Script}
 use Rattle.sql_making.specs.Scripts.{Makes}
-use Rattle.sql_making.specs.Text.{move_text}
 use Rattle.sql_making.proofs.Whole.{makes_book}
 use Rattle.sql_making.proofs.MovedWhole.{is_moved}
-use Rattle.sqlite.specs.Held.{state}
 use Rattle.sql_making.proofs.scripts.execute.Goals as goal
 
 pub returns-in-Create-clause-made : goal.returns-in-Create-clause-made

@@ -1,8 +1,4 @@
-use Rattle.std.proofs.Common.{refl, sym, ap, ◌∙◌, arith, rules, IsTrue, OnErr, OnOk, not}
-use Rattle.sqlite.specs.State.{HasCleanDisk}
-use Rattle.sqlite.specs.Held.{state}
-use Rattle.sql_tables.specs.Reading.{IsKept}
-use Rattle.sql_tables.proofs.Together.{when_err, when_ok}
+use Rattle.sql_making.proofs.Names.{refl, sym, ap, ◌∙◌, arith, rules, IsTrue, OnErr, OnOk, not, HasCleanDisk, state, IsKept, when_err, when_ok}
 use Rattle.sql_making.proofs.Endings.{uncommitted}
 use Rattle.sql_making.proofs.scripts.run.Goals as goal
 

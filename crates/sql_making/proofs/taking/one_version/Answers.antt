@@ -1,5 +1,4 @@
-use Rattle.std.proofs.Common.{◌≡◌, ℤ, ◌∷◌, [], Some, rules, sym, ap, ◌∙◌, to_z, of_z, w64}
-use Rattle.sqlite_value.specs.declared.value.Value.TheVariants.{Int}
+use Rattle.sql_making.proofs.Names.{◌≡◌, ℤ, ◌∷◌, [], Some, rules, sym, ap, ◌∙◌, to_z, of_z, w64, Int}
 use Rattle.sqlite_value.specs.Value.{owned}
 use Rattle.sql_making.proofs.VersionRead.{one_row}
 use Rattle.sql_making.proofs.taking.one_version.Goals as goal

@@ -1,7 +1,4 @@
-use Rattle.std.proofs.Common.{◌≡◌, ◌∷◌, [], inr, sym, ap, ◌∙◌, subst, map, IsPermutation}
-use Rattle.sqlite_value.specs.declared.value.Value.TheVariants.{Int}
-use Rattle.sqlite_value.specs.Order.{Row, column}
-use Rattle.sql_making.specs.Then.{numbered_versions}
+use Rattle.sql_making.proofs.Names.{inr, sym, ap, ◌∙◌, subst, map, IsPermutation, Int, Row, column, numbered_versions}
 use Rattle.sql_making.proofs.VersionRead.{one_stored, one_read, one_numbered, versions_shown}
 use Rattle.sql_making.proofs.taking.version_of.Goals as goal
 

@@ -1,11 +1,7 @@
-use Rattle.std.proofs.Common.{◌≡◌, sym, ap, ◌∙◌, IsTrue, not}
+use Rattle.sql_making.proofs.Names.{◌≡◌, sym, ap, ◌∙◌, IsTrue, not, Database, state, version_text, shown_unchanged, kept_unchanged, kept_either, fails_kept, when_shown}
 use Rattle.std.proofs.lemmas.Result.{IfOk-weaker, IfErr-weaker}
-use Rattle.sqlite.specs.Effect.{Database}
-use Rattle.sqlite.specs.Held.{state}
 use Rattle.sqlite.proofs.StateLemmas.{survives_weaker}
-use Rattle.sql_making.specs.Books.{version_text}
 use Rattle.sql_tables.proofs.Selects.{select_commits}
-use Rattle.sql_tables.proofs.Calls.{shown_unchanged, kept_unchanged, kept_either, fails_kept, when_shown}
 use Rattle.sql_making.proofs.Endings.{if_ok, either_way}
 use Rattle.sql_making.proofs.VersionRead.{version_selects, version_shown, query_cause}
 use Rattle.sql_making.proofs.taking.version_rows.Goals as goal

@@ -1,4 +1,4 @@
-use Rattle.std.proofs.Common.{rules, ◌≡◌, pos, to_z, of_z, w64}
+use Rattle.sql_reads.proofs.Names.{rules, ◌≡◌, pos, to_z, of_z, w64}
 use Rattle.sql_reads.proofs.Shown.{number_held, text_read}
 use Rattle.sql_reads.proofs.columns.entry_in.Goals as goal
 

@@ -1,8 +1,4 @@
-use Rattle.std.proofs.Common.{rules, ◌≡◌, ◌≤◌, length, map, take, ap, ◌∙◌}
-use Rattle.std.proofs.lemmas.List.{take_all}
-use Rattle.sqlite.specs.Held.{state}
-use Rattle.sql_tables.specs.Lists.{lists_in}
-use Rattle.sql_reads.specs.Parts.{numbered_at}
+use Rattle.sql_reads.proofs.Names.{rules, ◌≡◌, ◌≤◌, length, map, take, ap, ◌∙◌, take_all, state, lists_in, numbered_at}
 use Rattle.sql_reads.proofs.AllMatters.{matters_read}
 use Rattle.sql_reads.proofs.firm.all_matters.Goals as goal
 

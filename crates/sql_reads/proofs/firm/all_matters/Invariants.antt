@@ -1,12 +1,4 @@
-use Rattle.std.proofs.Common.{◌≡◌, false, map, take}
-use Rattle.sqlite.specs.Held.{state}
-use Rattle.sqlite.specs.State.{HasCleanDisk}
-use Rattle.sql_schema.specs.declared.layout.Layout.{Layout}
-use Rattle.sql_tables.specs.Lists.{lists_in}
-use Rattle.sql_tables.specs.Rows.{heads_in}
-use Rattle.sql_tables.specs.Standing.{Stands}
-use Rattle.sql_reads.specs.Parts.{numbered_at}
-use Rattle.sql_reads.specs.Shown.{AreNumbersOf}
+use Rattle.sql_reads.proofs.Names.{◌≡◌, false, map, take, state, HasCleanDisk, Layout, lists_in, heads_in, Stands, numbered_at, AreNumbersOf}
 use Rattle.sql_reads.proofs.Going.{AllLeft}
 use Rattle.sql_reads.proofs.firm.all_matters.Given as goal
 

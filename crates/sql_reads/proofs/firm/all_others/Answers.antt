@@ -1,8 +1,4 @@
-use Rattle.std.proofs.Common.{◌≡◌, fold, sym, ap, subst, ◌∙◌}
-use Rattle.sqlite.specs.Effect.{Database}
-use Rattle.sqlite.specs.Held.{state}
-use Rattle.sql_tables.specs.Standing.{Stands}
-use Rattle.sql_rows.specs.Standing.{firm_in}
+use Rattle.sql_reads.proofs.Names.{◌≡◌, fold, sym, ap, subst, ◌∙◌, Database, state, Stands, firm_in}
 use Rattle.sql_reads.proofs.Calls.{kept_by}
 use Rattle.sql_reads.proofs.RowLists.{all_gathered, and_balance, and_exception, and_firm_line}
 use Rattle.sql_reads.proofs.firm.all_others.Goals as goal

@@ -1,14 +1,5 @@
-use Rattle.std.proofs.Common.{[], map}
-use Rattle.sqlite.specs.Held.{state}
-use Rattle.sqlite_keyed.specs.Lists.{sort_by}
-use Rattle.firm_rows.specs.Countable.{IsBalanceInRange}
-use Rattle.sql_tables.specs.Rows.{balance_cmp, balances_in, balance_values}
-use Rattle.sql_tables.proofs.Means.{balance_scan_asks, balance_scan_selects}
-use Rattle.sql_tables.proofs.ReadLemmas.{balance_scan_answer}
-use Rattle.sql_rows.specs.Meaning.{balance_from}
-use Rattle.sql_reads.specs.Shown.{balance_at}
+use Rattle.sql_reads.proofs.Names.{[], map, map-map, state, sort_by, IsBalanceInRange, balance_cmp, balances_in, balance_values, balance_scan_asks, balance_scan_selects, balance_scan_answer, balance_from, balance_at}
 use Rattle.sql_reads.proofs.Handed.{all_left, handed}
-use Rattle.sql_reads.proofs.Shown.{balances_shown}
 use Rattle.sql_reads.proofs.lists.each_balance.Goals as goal
 
 pub hand_rows-requires-clause-select : goal.hand_rows-requires-clause-select
@@ -20,7 +11,7 @@ returns-clause-handed g c l clean stands =
     let balances = sort_by balance_cmp (balances_in l old.now.trees) in
     handed (balance_scan_asks l) [] old (state g.S.Store c.hand_rows.new.conn) stands.schema
     (map balance_values balances) (λ found a. balance_scan_answer l old.now stands found a)
-    g.K.BalanceSink.balanced balance_at IsBalanceInRange (map balance_from balances) (balances_shown balances)
+    g.K.BalanceSink.balanced balance_at IsBalanceInRange (map balance_from balances) (map-map balance_at balance_values balances)
     c.hand_rows.result c.args.sink.now c.hand_rows.new.sink (c.hand_rows.ensures.handed clean)
     c.and.result c.and.ensures
 

@@ -1,14 +1,5 @@
-use Rattle.std.proofs.Common.{[], map}
-use Rattle.sqlite.specs.Held.{state}
-use Rattle.sqlite_keyed.specs.Lists.{sort_by}
-use Rattle.firm_rows.specs.Countable.{IsLineInRange}
-use Rattle.sql_tables.specs.Rows.{exception_cmp, exceptions_in, exception_values}
-use Rattle.sql_tables.proofs.Means.{exception_scan_asks, exception_scan_selects}
-use Rattle.sql_tables.proofs.ReadLemmas.{exception_scan_answer}
-use Rattle.sql_rows.specs.Meaning.{exception_from}
-use Rattle.sql_reads.specs.Shown.{exception_at}
+use Rattle.sql_reads.proofs.Names.{[], map, map-map, state, sort_by, IsLineInRange, exception_cmp, exceptions_in, exception_values, exception_scan_asks, exception_scan_selects, exception_scan_answer, exception_from, exception_at}
 use Rattle.sql_reads.proofs.Handed.{all_left, handed}
-use Rattle.sql_reads.proofs.Shown.{exceptions_shown}
 use Rattle.sql_reads.proofs.lists.each_exception.Goals as goal
 
 pub hand_rows-requires-clause-select : goal.hand_rows-requires-clause-select
@@ -20,7 +11,7 @@ returns-clause-handed g c l clean stands =
     let lines = sort_by exception_cmp (exceptions_in l old.now.trees) in
     handed (exception_scan_asks l) [] old (state g.S.Store c.hand_rows.new.conn) stands.schema
     (map exception_values lines) (λ found a. exception_scan_answer l old.now stands found a)
-    g.K.ExceptionSink.noted exception_at IsLineInRange (map exception_from lines) (exceptions_shown lines)
+    g.K.ExceptionSink.noted exception_at IsLineInRange (map exception_from lines) (map-map exception_at exception_values lines)
     c.hand_rows.result c.args.sink.now c.hand_rows.new.sink (c.hand_rows.ensures.handed clean)
     c.and.result c.and.ensures
 

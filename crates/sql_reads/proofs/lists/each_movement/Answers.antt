@@ -1,13 +1,5 @@
-use Rattle.std.proofs.Common.{[], map}
-use Rattle.sqlite.specs.Held.{state}
-use Rattle.firm_rows.specs.Countable.{IsMovementInRange}
-use Rattle.sql_tables.specs.Rows.{movements_in, movement_values}
-use Rattle.sql_tables.proofs.Means.{journal_scan_asks, journal_scan_selects}
-use Rattle.sql_tables.proofs.ReadLemmas.{journal_scan_answer}
-use Rattle.sql_rows.specs.Meaning.{movement_from}
-use Rattle.sql_reads.specs.Shown.{movement_at}
+use Rattle.sql_reads.proofs.Names.{[], map, map-map, state, IsMovementInRange, movements_in, movement_values, journal_scan_asks, journal_scan_selects, journal_scan_answer, movement_from, movement_at}
 use Rattle.sql_reads.proofs.Handed.{all_left, handed}
-use Rattle.sql_reads.proofs.Shown.{movements_shown}
 use Rattle.sql_reads.proofs.lists.each_movement.Goals as goal
 
 pub hand_rows-requires-clause-select : goal.hand_rows-requires-clause-select
@@ -19,7 +11,7 @@ returns-clause-handed g c l clean stands =
     let movements = movements_in l old.now.trees in
     handed (journal_scan_asks l) [] old (state g.S.Store c.hand_rows.new.conn) stands.schema
     (map movement_values movements) (λ found a. journal_scan_answer l old.now stands found a)
-    g.K.MovementSink.moved movement_at IsMovementInRange (map movement_from movements) (movements_shown movements)
+    g.K.MovementSink.moved movement_at IsMovementInRange (map movement_from movements) (map-map movement_at movement_values movements)
     c.hand_rows.result c.args.sink.now c.hand_rows.new.sink (c.hand_rows.ensures.handed clean)
     c.and.result c.and.ensures
 

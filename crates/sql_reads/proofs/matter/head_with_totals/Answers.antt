@@ -1,12 +1,4 @@
-use Rattle.std.proofs.Common.{rules, ◌≡◌, pos, [], ◌∷◌, Some, find, option_map, option_copied, slice_get, sym, ap, ◌∙◌, to_z, w64}
-use Rattle.sqlite_value.specs.declared.value.Value.TheVariants.{Int}
-use Rattle.sqlite.specs.Held.{state}
-use Rattle.sql_tables.specs.Given.{head_given}
-use Rattle.sql_tables.specs.Rows.{head_shown, heads_in, is_head}
-use Rattle.sql_tables.proofs.Calls.{answers}
-use Rattle.sql_tables.proofs.Means.{head_read_asks, head_read_selects}
-use Rattle.sql_tables.proofs.ReadLemmas.{head_read_answer}
-use Rattle.sql_reads.specs.Parts.{with_totals_from}
+use Rattle.sql_reads.proofs.Names.{rules, ◌≡◌, pos, [], ◌∷◌, Some, find, option_map, option_copied, slice_get, sym, ap, ◌∙◌, to_z, w64, Int, state, head_given, head_shown, heads_in, is_head, answers, head_read_asks, head_read_selects, head_read_answer, with_totals_from}
 use Rattle.sql_reads.proofs.Firsts.{none_first, some_first}
 use Rattle.sql_reads.proofs.HeadsRead.{totals_read}
 use Rattle.sql_reads.proofs.matter.head_with_totals.Goals as goal

@@ -1,15 +1,4 @@
-use Rattle.std.proofs.Common.{◌≡◌, List, Some, None, sym, ap, subst, ◌∙◌}
-use Rattle.std.proofs.lemmas.Result.{IfOk-weaker}
-use Rattle.sqlite.specs.Effect.{Database}
-use Rattle.sqlite.specs.Held.{state}
-use Rattle.matter_parts.specs.declared.kept.Kept.{Kept}
-use Rattle.matter_parts.specs.Parts.{Part}
-use Rattle.firm_rows.specs.Firm.{of}
-use Rattle.trust_store.specs.Named.{IsPartFor}
-use Rattle.sql_tables.specs.Lists.{lists_in}
-use Rattle.sql_tables.specs.Standing.{Stands}
-use Rattle.sql_rows.specs.Standing.{StandsSound, firm_in}
-use Rattle.sql_reads.specs.Parts.{KeepsAlso, is_named_by, part_at, with_totals_at}
+use Rattle.sql_reads.proofs.Names.{◌≡◌, List, Some, None, sym, ap, subst, ◌∙◌, IfOk-weaker, Database, state, Kept, Part, of, IsPartFor, lists_in, Stands, StandsSound, firm_in, KeepsAlso, is_named_by, part_at, with_totals_at}
 use Rattle.sql_reads.proofs.Calls.{kept_by}
 use Rattle.sql_reads.proofs.NamedEntries.{both_named, none_for, read_for}
 use Rattle.sql_reads.proofs.matter.matter_for.Goals as goal

@@ -1,12 +1,4 @@
-use Rattle.std.proofs.Common.{rules, ◌≡◌, ◌≤◌, pos, [], ◌∷◌, length, map, ap, ◌∙◌, to_z, w64}
-use Rattle.sqlite_value.specs.declared.value.Value.TheVariants.{Int}
-use Rattle.sqlite.specs.Held.{state}
-use Rattle.sql_tables.specs.Rows.{seats_in, seats_of, seat_shown}
-use Rattle.sql_tables.proofs.Calls.{answers}
-use Rattle.sql_tables.proofs.Means.{seats_read_asks, seats_read_selects}
-use Rattle.sql_tables.proofs.ReadLemmas.{seats_read_answer}
-use Rattle.sql_rows.specs.Meaning.{seat_from}
-use Rattle.sql_reads.specs.Shown.{seat_at}
+use Rattle.sql_reads.proofs.Names.{rules, ◌≡◌, ◌≤◌, pos, [], ◌∷◌, length, map, ap, ◌∙◌, to_z, w64, Int, state, seats_in, seats_of, seat_shown, answers, seats_read_asks, seats_read_selects, seats_read_answer, seat_from, seat_at}
 use Rattle.sql_reads.proofs.Gathered.{all_taken, one_more}
 use Rattle.sql_reads.proofs.matter.seats_of.Goals as goal
 

@@ -1,6 +1,5 @@
-use Rattle.std.proofs.Common.{◌≡◌, List, map, take}
-use Rattle.sql_tables.specs.Rows.{Seat, seat_shown}
-use Rattle.sql_rows.specs.Meaning.{seat_from}
+use Rattle.sql_reads.proofs.Names.{◌≡◌, List, map, take, seat_shown, seat_from}
+use Rattle.sql_tables.specs.Rows.{Seat}
 use Rattle.sql_reads.proofs.matter.seats_of.Given as goal
 
 abbrev pub invariant-each : goal.invariant-each

@@ -1,13 +1,4 @@
-use Rattle.std.proofs.Common.{◌≡◌, sym, ap, subst, ◌∙◌}
-use Rattle.std.proofs.lemmas.Result.{IfOk-weaker}
-use Rattle.sqlite.specs.Effect.{Database}
-use Rattle.sqlite.specs.Held.{state}
-use Rattle.matter_parts.specs.Parts.{Part, IsWhole}
-use Rattle.firm_rows.specs.Firm.{of}
-use Rattle.sql_tables.specs.Lists.{lists_in}
-use Rattle.sql_tables.specs.Standing.{Stands}
-use Rattle.sql_rows.specs.Standing.{firm_in}
-use Rattle.sql_reads.specs.Parts.{part_at}
+use Rattle.sql_reads.proofs.Names.{◌≡◌, sym, ap, subst, ◌∙◌, Database, state, Part, IsWhole, of, lists_in, Stands, firm_from, part_at}
 use Rattle.sql_reads.proofs.Calls.{kept_by}
 use Rattle.sql_reads.proofs.Parts.{parts_whole, read_part}
 use Rattle.sql_reads.proofs.matter.whole_matter.Goals as goal
@@ -28,12 +19,11 @@ returns-clause-read g c l clean stands =
     let seats = c.in_ok-seats.ensures.found l clean2 (subst (Stands l) (sym now1) stands) ∙ ap (λ (db : Database). (part_at m (lists_in l db.trees)).seats) now1 in
     let kept = c.in_ok-kept.ensures.found l clean (subst (Stands l) (sym now2) stands) ∙ ap (λ (db : Database). (part_at m (lists_in l db.trees)).kept) now2 in
     let all = read_part m (lists_in l s0.now.trees) c.in_ok-opened.opened head c.in_ok-seats.seats.items seats c.in_ok-kept.kept.items kept in
-    IfOk-weaker c.if_sound.result _ _ (λ p is. is ∙ c.in_ok-found.ensures ∙ all) c.if_sound.ensures.is
+    c.in_ok-found.ensures ∙ all
 
 pub returns-clause-found : goal.returns-clause-found
 returns-clause-found g c l clean stands =
     let m = c.args.matter in
-    let s0 = state g.S.Store c.args.conn.now in
-    IfOk-weaker c.if_sound.result _ _
-    (λ p is. subst (λ (q : Part). IsWhole q (of m (firm_in l s0.now.trees))) (sym is) (parts_whole m (lists_in l s0.now.trees) stands.rows))
-    (returns-clause-read g c l clean stands.tables)
+    let a = lists_in l (state g.S.Store c.args.conn.now).now.trees in
+    subst (λ (q : Part). IsWhole q (of m (firm_from a))) (sym (returns-clause-read g c l clean stands.tables))
+    (parts_whole m a stands.rows)

@@ -1,11 +1,4 @@
-use Rattle.std.proofs.Common.{◌≡◌, ℕ, [], Ok, Err, refl, not, IsTrue, rules, arith, ap, ◌∙◌}
-use Rattle.sqlite.specs.Held.{state}
-use Rattle.sqlite.specs.State.{HasCleanDisk}
-use Rattle.sqlite.specs.Values.{bound}
-use Rattle.sqlite.proofs.StateLemmas.{survives_then}
-use Rattle.sql_tables.specs.Reading.{LeavesAll}
-use Rattle.trust_base.specs.declared.refusal.StoreFault.{StoreFault}
-use Rattle.trust_base.specs.declared.refusal.StoreFault.TheVariants.{Store}
+use Rattle.sql_reads.proofs.Names.{◌≡◌, ℕ, [], Ok, Err, refl, not, IsTrue, rules, arith, ap, ◌∙◌, state, HasCleanDisk, bound, survives_then, LeavesAll, StoreFault, Store}
 use Rattle.sql_reads.proofs.Streams.{one_more, all_fed, some_fed, begun_select, select_survives, left_unchanged, left_later, left_refused, left_failed}
 use Rattle.sql_reads.proofs.query.hand_rows.Goals as goal
 

@@ -1,7 +1,4 @@
-use Rattle.std.proofs.Common.{◌≡◌, false}
-use Rattle.sqlite.specs.Held.{state}
-use Rattle.sqlite.specs.State.{HasCleanDisk, Survives}
-use Rattle.sqlite.specs.Values.{bound}
+use Rattle.sql_reads.proofs.Names.{◌≡◌, false, state, HasCleanDisk, Survives, bound}
 use Rattle.sql_reads.proofs.Streams.{Gave}
 use Rattle.sql_reads.proofs.query.hand_rows.Given as goal
 

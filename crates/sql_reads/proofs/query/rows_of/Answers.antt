@@ -1,7 +1,4 @@
-use Rattle.std.proofs.Common.{IsTrue, IsOk, Ok, Err, not, refl, sym, subst, ap, ◌∙◌}
-use Rattle.sqlite.specs.Held.{state}
-use Rattle.sqlite.specs.Values.{bound}
-use Rattle.sql_tables.proofs.Calls.{asked_left, leaves_on}
+use Rattle.sql_reads.proofs.Names.{IsTrue, IsOk, Ok, Err, not, refl, sym, subst, ap, ◌∙◌, state, bound, asked_left, leaves_on}
 use Rattle.sql_reads.proofs.query.rows_of.Goals as goal
 
 pub returns-in-Ok-clause-left : goal.returns-in-Ok-clause-left

@@ -1,8 +1,9 @@
-use Rattle.std.proofs.Common.{◌≡◌, pos, arith, sym, ◌∙◌}
-use Rattle.std.proofs.lemmas.Bool.{false≢true}
+use Rattle.sql_rows.proofs.Names.{◌≡◌, pos, arith, rules, Result, Ok, Err, IfErr, sym, ◌∙◌, false≢true}
 use Rattle.std.proofs.lemmas.Grind.{common_steps}
 use Rattle.sql_tables.specs.Given.{entry_given}
-use Rattle.sql_rows.proofs.EntryColumns.{kept_has, same_columns}
+use Rattle.trust_base.specs.declared.refusal.StoreFault.{StoreFault}
+use Rattle.trust_base.specs.declared.refusal.StoreFault.TheVariants.{Memory}
+use Rattle.sql_rows.proofs.EntryColumns.{kept_has, same_columns, same_kept}
 use Rattle.sql_rows.proofs.entry.entry_of.Goals as goal
 
 pub returns-in_err-entry-clause-back : goal.returns-in_err-entry-clause-back
@@ -25,3 +26,36 @@ returns-then-not-are_same-clause-back c k kept is =
     let read = c.in_ok-entry.entry in
     let back = same_columns c.args.matter c.in_ok-number.number c.in_ok-left.left read k row is numbered lefts same in
     absurd (false≢true (sym c.if-not-are_same.true ∙ c.are_same.ensures.1 (c.entry_columns-written.ensures ∙ back)))
+
+at_any_error : {T P : Type 0} (r : Result T StoreFault) → P → IfErr r (λ e. e ≡ Memory → P)
+at_any_error (Ok x) p = tt
+at_any_error (Err e) p = λ _. p
+
+pub returns-in_err-entry-clause-memory : goal.returns-in_err-entry-clause-memory
+returns-in_err-entry-clause-memory c =
+    let of_matter : c.args.columns.matter ≡ pos c.args.matter = grind (arith, common_steps) in
+    let numbered : pos c.in_ok-number.number ≡ c.args.columns.no = grind (arith, common_steps) in
+    let lefts : pos c.in_ok-left.left ≡ c.args.columns.left_now = grind (arith, common_steps) in
+    let dated : pos c.in_ok-book.book ≡ c.args.columns.day = grind (arith, common_steps) in
+    let amounts : pos c.in_ok-amount.amount ≡ c.args.columns.amount = grind (arith, common_steps) in
+    at_any_error c.from_residual-in_err-entry.result (record {
+      of_matter = of_matter;
+      number = (c.in_ok-number.number, (search rules, numbered));
+      left = (c.in_ok-left.left, (c.in_ok-left.ensures.most, lefts));
+      dated = (c.in_ok-book.book, (c.in_ok-book.ensures.form, dated));
+      amounts = (c.in_ok-amount.amount, (c.in_ok-amount.ensures.form, amounts));
+    })
+
+pub returns-clause-ok : goal.returns-clause-ok
+returns-clause-ok c = sym c.entry_columns-written.ensures ∙ c.are_same.ensures.0 c.if-not-are_same.false
+
+pub returns-clause-back : goal.returns-clause-back
+returns-clause-back c k kept is =
+    let row = entry_given c.args.columns in
+    let dated : pos c.in_ok-book.book ≡ c.args.columns.day = grind (arith, common_steps) in
+    let amounts : pos c.in_ok-amount.amount ≡ c.args.columns.amount = grind (arith, common_steps) in
+    let has = kept_has c.args.matter c.in_ok-book.book c.in_ok-amount.amount k row is dated amounts in
+    let numbered : pos c.in_ok-number.number ≡ c.args.columns.no = grind (arith, common_steps) in
+    let lefts : pos c.in_ok-left.left ≡ c.args.columns.left_now = grind (arith, common_steps) in
+    let same = c.in_ok-entry.ensures k.entry kept.form has in
+    same_kept c.args.matter c.in_ok-number.number c.in_ok-left.left c.in_ok-entry.entry k row is numbered lefts same

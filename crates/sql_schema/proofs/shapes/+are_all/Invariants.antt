@@ -1,4 +1,4 @@
-use Rattle.std.proofs.Common.{length}
+use Rattle.sql_schema.proofs.Names.{length}
 use Rattle.sql_schema.proofs.shapes.+are_all.Given as goal
 
 abbrev pub decreases-are_all : goal.decreases-are_all

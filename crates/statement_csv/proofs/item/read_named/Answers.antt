@@ -1,4 +1,4 @@
-use Rattle.std.proofs.Common.{◌∙◌, ap, sym, length, List, ℕ, slice_index, slice_range}
+use Rattle.statement_csv.proofs.Names.{◌∙◌, ap, sym, length, List, ℕ, slice_index, slice_range}
 use Rattle.statement_csv.proofs.ReferenceFacts.{dash-reference, entry-reference, first-reference, length-reference, matter-reference, twelve}
 use Rattle.statement_csv.proofs.item.read_named.Goals as goal
 use Rattle.statement_csv.proofs.item.read_named.Goals.{then-reference-ne12-via-then-reference-ne12, then-reference-ne12-via-else-reference-ne12+then-reference-ne77, then-reference-ne12-via-else-reference-ne12+else-reference-ne77+then-reference-ne45}

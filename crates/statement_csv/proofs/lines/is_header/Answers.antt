@@ -1,4 +1,4 @@
-use Rattle.csv.specs.Records.{fields_of}
+use Rattle.statement_csv.proofs.Names.{fields_of}
 use Rattle.statement_csv.proofs.HeaderFacts.{is_header-fields}
 use Rattle.statement_csv.proofs.lines.is_header.Goals as goal
 

@@ -1,4 +1,4 @@
-use Rattle.csv.specs.Records.{fields_of}
+use Rattle.statement_csv.proofs.Names.{fields_of}
 use Rattle.statement_csv.proofs.GivenFacts.{read-more}
 use Rattle.statement_csv.proofs.ReadingFacts.{read-gives}
 use Rattle.statement_csv.proofs.lines.read_row.Goals as goal

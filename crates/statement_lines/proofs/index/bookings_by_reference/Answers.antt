@@ -1,5 +1,4 @@
-use Rattle.std.proofs.Common.{rules}
-use Rattle.statement_lines.specs.Keys.{booking_key}
+use Rattle.statement_lines.proofs.Names.{rules, booking_key}
 use Rattle.statement_lines.proofs.index.bookings_by_reference.Goals as goal
 
 pub returns : goal.returns

@@ -1,5 +1,4 @@
-use Rattle.std.proofs.Common.{rules}
-use Rattle.statement_lines.specs.Keys.{claim_key}
+use Rattle.statement_lines.proofs.Names.{rules, claim_key}
 use Rattle.statement_lines.proofs.index.lines_by_claim.Goals as goal
 
 pub returns : goal.returns

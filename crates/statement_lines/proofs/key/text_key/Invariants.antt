@@ -1,5 +1,4 @@
-use Rattle.std.proofs.Common.{◌≡◌, fold, take}
-use Rattle.statement_lines.specs.Keys.{next_key}
+use Rattle.statement_lines.proofs.Names.{◌≡◌, fold, take, next_key}
 use Rattle.statement_lines.proofs.key.text_key.Given as goal
 
 abbrev pub invariant-loop-byte : goal.invariant-loop-byte

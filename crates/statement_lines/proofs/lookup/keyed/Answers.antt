@@ -1,4 +1,4 @@
-use Rattle.std.proofs.Common.{refl}
+use Rattle.statement_lines.proofs.Names.{refl}
 use Rattle.statement_lines.proofs.Lookups.{keyed_more}
 use Rattle.statement_lines.proofs.lookup.keyed.Goals as goal
 

@@ -1,6 +1,5 @@
-use Rattle.std.proofs.Common.{◌≡◌, ℕ, take}
+use Rattle.statement_lines.proofs.Names.{◌≡◌, ℕ, take, IsKeyed}
 use Rattle.std.specs.Fn.{FnReturnsAt}
-use Rattle.statement_lines.specs.Lookups.{IsKeyed}
 use Rattle.statement_lines.proofs.lookup.keyed.Given as goal
 
 abbrev pub invariant-loop-item : goal.invariant-loop-item

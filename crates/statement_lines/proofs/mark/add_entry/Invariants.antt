@@ -1,6 +1,4 @@
-use Rattle.std.proofs.Common.{◌≡◌, ◌++◌, ◌∷◌, ℕ, map, take}
-use Rattle.statement_lines.specs.Keys.{text_key}
-use Rattle.statement_lines.specs.Marks.{reference_mark}
+use Rattle.statement_lines.proofs.Names.{◌≡◌, ◌++◌, ◌∷◌, ℕ, map, take, text_key, reference_mark}
 use Rattle.statement_lines.proofs.mark.add_entry.Given as goal
 
 abbrev pub invariant-loop-number : goal.invariant-loop-number

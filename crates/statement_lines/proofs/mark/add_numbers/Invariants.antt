@@ -1,5 +1,4 @@
-use Rattle.std.proofs.Common.{◌≡◌, ◌++◌, map, take}
-use Rattle.statement_lines.specs.Keys.{text_key}
+use Rattle.statement_lines.proofs.Names.{◌≡◌, ◌++◌, map, take, text_key}
 use Rattle.statement_lines.proofs.mark.add_numbers.Given as goal
 
 abbrev pub invariant-loop-number : goal.invariant-loop-number

@@ -1,7 +1,4 @@
-use Rattle.std.proofs.Common.{◌≡◌, ◌∙◌, sym, ap, ◌<◌, ◌≤◌, ◌+◌, ◌++◌, ◌∷◌, [], ℕ, List, length, take, drop, arith}
-use Rattle.std.proofs.lemmas.List.{take_rest}
-use Rattle.statement_lines.specs.Keys.{text_key}
-use Rattle.statement_lines.specs.Marks.{window_marks}
+use Rattle.statement_lines.proofs.Names.{◌≡◌, ◌∙◌, sym, ap, ◌<◌, ◌≤◌, ◌+◌, ◌++◌, ◌∷◌, [], ℕ, List, length, take, drop, arith, take_rest, text_key, window_marks}
 use Rattle.statement_lines.proofs.Marked.{windows_done, windows_more}
 use Rattle.statement_lines.proofs.mark.add_windows.Goals as goal
 

@@ -1,5 +1,4 @@
-use Rattle.std.proofs.Common.{◌≡◌, ◌++◌, drop}
-use Rattle.statement_lines.specs.Marks.{window_marks}
+use Rattle.statement_lines.proofs.Names.{◌≡◌, ◌++◌, drop, window_marks}
 use Rattle.statement_lines.proofs.mark.add_windows.Given as goal
 
 abbrev pub invariant-loop-place : goal.invariant-loop-place

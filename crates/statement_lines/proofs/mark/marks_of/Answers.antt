@@ -1,4 +1,4 @@
-use Rattle.std.proofs.Common.{◌∙◌, sym, ◌≤◌, length, arith}
+use Rattle.statement_lines.proofs.Names.{◌∙◌, sym, ◌≤◌, length, arith}
 use Rattle.statement_lines.proofs.Marked.{marks_done}
 use Rattle.statement_lines.proofs.mark.marks_of.Goals as goal
 

@@ -1,5 +1,4 @@
-use Rattle.std.proofs.Common.{◌≡◌, ◌++◌, drop}
-use Rattle.statement_lines.specs.Marks.{marks_from}
+use Rattle.statement_lines.proofs.Names.{◌≡◌, ◌++◌, drop, marks_from}
 use Rattle.statement_lines.proofs.mark.marks_of.Given as goal
 
 abbrev pub invariant-loop-place : goal.invariant-loop-place

@@ -1,6 +1,4 @@
-use Rattle.std.proofs.Common.{◌≡◌, take, map}
-use Rattle.std.specs.List.{filter}
-use Rattle.statement_lines.specs.Numbers.{is_number, without_zeros}
+use Rattle.statement_lines.proofs.Names.{◌≡◌, take, map, filter, is_number, without_zeros}
 use Rattle.statement_lines.proofs.number.numbers_among.Given as goal
 
 abbrev pub invariant-loop-token : goal.invariant-loop-token

@@ -1,5 +1,4 @@
-use Rattle.std.proofs.Common.{◌≡◌, ◌++◌, [], drop}
-use Rattle.statement_lines.specs.Numbers.{telling_behind}
+use Rattle.statement_lines.proofs.Names.{◌≡◌, ◌++◌, [], drop, telling_behind}
 use Rattle.statement_lines.proofs.number.telling_among.Given as goal
 
 abbrev pub invariant-loop-token : goal.invariant-loop-token

@@ -1,7 +1,4 @@
-use Rattle.std.proofs.Common.{◌∙◌, ap, [], fold}
-use Rattle.csv.specs.Records.{fields_of}
-use Rattle.statement_lines.specs.Records.{Records, rows_of, with_record}
-use Rattle.statement_lines.specs.RowsLeft.{HasLeft}
+use Rattle.statement_lines.proofs.Names.{◌∙◌, ap, [], fold, fields_of, Records, rows_of, with_record, HasLeft}
 use Rattle.statement_lines.proofs.RecordsRead.{all_records, none_of}
 use Rattle.statement_lines.proofs.RowsRead.{left-more, left-none}
 use Rattle.statement_lines.proofs.records.records_in.Goals as goal

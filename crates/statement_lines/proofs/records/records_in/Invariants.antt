@@ -1,6 +1,4 @@
-use Rattle.std.proofs.Common.{◌≡◌, ◌<◌, fold}
-use Rattle.statement_lines.specs.Records.{Rows, no_records, rows_of, with_record}
-use Rattle.statement_lines.specs.RowsLeft.{HasLeft}
+use Rattle.statement_lines.proofs.Names.{◌≡◌, ◌<◌, fold, Rows, no_records, rows_of, with_record, HasLeft}
 use Rattle.statement_lines.proofs.records.records_in.Given as goal
 
 abbrev pub invariant-loop-row : goal.invariant-loop-row

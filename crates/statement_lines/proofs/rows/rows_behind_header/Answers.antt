@@ -1,8 +1,5 @@
-use Rattle.std.proofs.Common.{◌≡◌, ◌∙◌, List, ℕ, refl, inr}
-use Rattle.csv.specs.Reading.{Ready, default_config, reader_config, reader_trim, records, strip_bom}
+use Rattle.statement_lines.proofs.Names.{◌≡◌, ◌∙◌, List, ℕ, refl, inr, Ready, default_config, reader_config, reader_trim, records, strip_bom, fields_of, Rows}
 use Rattle.csv.specs.declared.reader.Trim.TheVariants as trim
-use Rattle.csv.specs.Records.{fields_of}
-use Rattle.statement_lines.specs.Records.{Rows}
 use Rattle.statement_lines.proofs.RowsRead.{left-behind, left-none, left-start}
 use Rattle.statement_lines.proofs.rows.rows_behind_header.Goals as goal
 

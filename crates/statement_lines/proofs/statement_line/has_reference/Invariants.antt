@@ -1,5 +1,4 @@
-use Rattle.std.proofs.Common.{◌≡◌, drop}
-use Rattle.statement_lines.specs.Showing.{has_reference as has_reference_text}
+use Rattle.statement_lines.proofs.Names.{◌≡◌, drop, has_reference_text}
 use Rattle.statement_lines.proofs.statement_line.has_reference.Given as goal
 
 abbrev pub invariant-loop-place : goal.invariant-loop-place

@@ -1,5 +1,4 @@
-use Rattle.std.proofs.Common.{◌≡◌, ◌+◌, drop}
-use Rattle.statement_lines.specs.Tokens.{numeral_len as numeral_length}
+use Rattle.statement_lines.proofs.Names.{◌≡◌, ◌+◌, drop, numeral_length}
 use Rattle.statement_lines.proofs.token.numeral_len.Given as goal
 
 abbrev pub invariant-loop-place : goal.invariant-loop-place

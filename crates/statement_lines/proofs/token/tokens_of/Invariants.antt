@@ -1,5 +1,4 @@
-use Rattle.std.proofs.Common.{◌≡◌, ◌++◌, drop}
-use Rattle.statement_lines.specs.Tokens.{tokens, tokens_behind}
+use Rattle.statement_lines.proofs.Names.{◌≡◌, ◌++◌, drop, tokens, tokens_behind}
 use Rattle.statement_lines.proofs.token.tokens_of.Given as goal
 
 abbrev pub invariant-loop-place : goal.invariant-loop-place

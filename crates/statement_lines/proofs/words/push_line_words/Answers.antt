@@ -1,5 +1,4 @@
-use Rattle.std.proofs.Common.{subst, sym}
-use Rattle.std.specs.Str.{IsUtf8}
+use Rattle.statement_lines.proofs.Names.{subst, sym, IsUtf8}
 use Rattle.statement_lines.proofs.WordFacts.{IsUtf8-words}
 use Rattle.statement_lines.proofs.words.push_line_words.Goals as goal
 

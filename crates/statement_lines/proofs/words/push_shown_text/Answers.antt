@@ -1,9 +1,6 @@
-use Rattle.std.proofs.Common.{◌++◌, ◌∙◌, sym, ap, map}
-use Rattle.std.specs.Prelude.{encode_utf8, encode_utf8_all}
-use Rattle.std.proofs.lemmas.List.{map-id}
+use Rattle.statement_lines.proofs.Names.{◌++◌, ◌∙◌, sym, ap, map, encode_utf8, encode_utf8_all, map-id, shown}
 use Rattle.std.proofs.lemmas.Iterator.{YieldsList-from_chars}
 use Rattle.std.proofs.lemmas.Iterator.Consumers.{YieldsList-end}
-use Rattle.statement_lines.specs.Words.{shown}
 use Rattle.statement_lines.proofs.WordFacts.{shown_more}
 use Rattle.statement_lines.proofs.words.push_shown_text.Goals as goal
 

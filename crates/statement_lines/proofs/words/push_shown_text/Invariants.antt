@@ -1,6 +1,4 @@
-use Rattle.std.proofs.Common.{◌≡◌, ◌++◌, map}
-use Rattle.std.specs.Prelude.{encode_utf8_all}
-use Rattle.statement_lines.specs.Words.{shown}
+use Rattle.statement_lines.proofs.Names.{◌≡◌, ◌++◌, map, encode_utf8_all, shown}
 use Rattle.statement_lines.proofs.words.push_shown_text.Given as goal
 
 -- the text so far

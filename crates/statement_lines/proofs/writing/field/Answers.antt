@@ -1,5 +1,5 @@
-use Rattle.std.proofs.Common.{◌≡◌, ◌∙◌, ap, refl, List, ℕ, [], Option, Some, None, Bor, option_map, unwrap_or}
-use Rattle.csv.specs.Records.{fields_of}
+use Rattle.statement_lines.proofs.Names.{◌≡◌, ◌∙◌, ap, refl, List, ℕ, [], Option, Some, None, Bor, unwrap_or, fields_of}
+use Rattle.std.proofs.Common.{option_map}
 use Rattle.statement_csv.proofs.FieldFacts.{field-or_empty}
 use Rattle.statement_lines.proofs.writing.field.Goals as goal
 

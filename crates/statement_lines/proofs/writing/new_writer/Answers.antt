@@ -1,4 +1,4 @@
-use Rattle.std.proofs.Common.{refl}
+use Rattle.statement_lines.proofs.Names.{refl}
 use Rattle.statement_lines.proofs.writing.new_writer.Goals as goal
 
 pub returns : goal.returns

@@ -1,4 +1,4 @@
-use Rattle.std.proofs.Common.{◌∙◌, ap, ℕ, List, [], Option, unwrap_or}
+use Rattle.statement_lines.proofs.Names.{◌∙◌, ap, ℕ, List, [], Option, unwrap_or}
 use Rattle.statement_lines.proofs.writing.text_in.Goals as goal
 
 pub returns : goal.returns

@@ -1,4 +1,4 @@
-use Rattle.std.proofs.Common.{map}
+use Rattle.statement_lines.proofs.Names.{map}
 use Rattle.statement_lines.proofs.RowsWritten.{holds-more}
 use Rattle.statement_lines.proofs.writing.write_fields.Goals as goal
 

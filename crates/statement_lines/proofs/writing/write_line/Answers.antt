@@ -1,4 +1,4 @@
-use Rattle.std.proofs.Common.{inl, inr}
+use Rattle.statement_lines.proofs.Names.{inl, inr}
 use Rattle.statement_lines.proofs.writing.write_line.Goals as goal
 
 pub returns-in-AsItIs : goal.returns-in-AsItIs

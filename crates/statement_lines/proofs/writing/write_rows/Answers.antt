@@ -1,8 +1,4 @@
-use Rattle.std.proofs.Common.{◌≡◌, ◌∙◌, ◌+◌, ◌++◌, sym, subst, [], option_copied, arith}
-use Rattle.csv.specs.Records.{fields_of}
-use Rattle.statement_lines.specs.Records.{rows_of}
-use Rattle.statement_lines.specs.RowsLeft.{Adds, HasLeft}
-use Rattle.statement_lines.specs.Written.{row_as, rows_by}
+use Rattle.statement_lines.proofs.Names.{◌≡◌, ◌∙◌, ◌+◌, ◌++◌, sym, subst, [], option_copied, arith, fields_of, rows_of, Adds, HasLeft, row_as, rows_by}
 use Rattle.statement_lines.proofs.Passing.{met-all, met-more, met-start, place-none, place-some, place-within, place_behind}
 use Rattle.statement_lines.proofs.RowsRead.{left-more, left-none}
 use Rattle.statement_lines.proofs.RowsWritten.{adds-more, adds-none}

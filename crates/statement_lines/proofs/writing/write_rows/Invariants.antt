@@ -1,8 +1,4 @@
-use Rattle.std.proofs.Common.{◌≡◌, ◌<◌, ◌≤◌, map}
-use Rattle.trust_base.specs.declared.line.Line.{Line}
-use Rattle.statement_lines.specs.Records.{Rows, lines_from, numbers_from, rows_of}
-use Rattle.statement_lines.specs.RowsLeft.{Adds, HasLeft}
-use Rattle.statement_lines.specs.declared.outcome.Outcome.{Outcome}
+use Rattle.statement_lines.proofs.Names.{◌≡◌, ◌<◌, ◌≤◌, map, Line, Rows, lines_from, numbers_from, rows_of, Adds, HasLeft, Outcome}
 use Rattle.statement_lines.proofs.Passing.{IsMet}
 use Rattle.statement_lines.proofs.writing.write_rows.Given as goal
 

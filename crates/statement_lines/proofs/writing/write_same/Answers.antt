@@ -1,4 +1,4 @@
-use Rattle.csv.specs.Records.{fields_of}
+use Rattle.statement_lines.proofs.Names.{fields_of}
 use Rattle.statement_lines.proofs.RowsWritten.{holds-more}
 use Rattle.statement_lines.proofs.writing.write_same.Goals as goal
 

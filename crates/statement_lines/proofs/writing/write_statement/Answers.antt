@@ -1,7 +1,5 @@
-use Rattle.std.proofs.Common.{◌≡◌, ◌∙◌, ap, map, [], ◌∷◌, Some}
+use Rattle.statement_lines.proofs.Names.{◌≡◌, ◌∙◌, ap, map, [], ◌∷◌, Some, Records, lines_from, numbers_from, records_of, rows_of, rows_by, text_of}
 use Rattle.statement_csv.specs.Headers.{header}
-use Rattle.statement_lines.specs.Records.{Records, lines_from, numbers_from, records_of, rows_of}
-use Rattle.statement_lines.specs.Written.{rows_by, text_of}
 use Rattle.statement_lines.proofs.RowsWritten.{adds-more}
 use Rattle.statement_lines.proofs.writing.write_statement.Goals as goal
 

@@ -1,5 +1,4 @@
-use Rattle.std.proofs.Common.{◌≡◌, take}
-use Rattle.statement_match.specs.DaySums.{held_days}
+use Rattle.statement_match.proofs.Names.{◌≡◌, take, held_days}
 use Rattle.statement_match.proofs.day_sums.days_held.Given as goal
 
 abbrev pub invariant-loop-entry : goal.invariant-loop-entry

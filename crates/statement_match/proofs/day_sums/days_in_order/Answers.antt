@@ -1,5 +1,4 @@
-use Rattle.std.proofs.Common.{sym, subst, ℕ, List}
-use Rattle.std.specs.List.{Contains}
+use Rattle.statement_match.proofs.Names.{sym, subst, ℕ, List, Contains}
 use Rattle.statement_match.proofs.day_sums.days_in_order.Goals as goal
 
 pub returns-clause-same : goal.returns-clause-same

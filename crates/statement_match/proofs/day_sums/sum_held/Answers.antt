@@ -1,9 +1,4 @@
-use Rattle.std.proofs.Common.{◌∙◌, sym, ap, ◌<◌, length, arith}
-use Rattle.std.proofs.lemmas.Int.{ints, to_z-of_z}
-use Rattle.std.proofs.lemmas.List.{get_or-map, length-map}
-use Rattle.statement_lines.specs.EntryStates.{is_held}
-use Rattle.statement_lines.specs.Lookups.{elements}
-use Rattle.statement_match.specs.DaySums.{amount_of}
+use Rattle.statement_match.proofs.Names.{◌∙◌, sym, ap, ◌<◌, length, arith, ints, to_z-of_z, get_or-map, length-map, is_held, elements, amount_of}
 use Rattle.statement_match.proofs.Totals.{sum_more}
 use Rattle.statement_match.proofs.day_sums.sum_held.Goals as goal
 

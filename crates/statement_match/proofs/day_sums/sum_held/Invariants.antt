@@ -1,9 +1,4 @@
-use Rattle.std.proofs.Common.{◌≡◌, ◌*◌, ◌^◌, pos, ◌+ℤ◌, ◌≤ℤ◌, take}
-use Rattle.std.specs.List.{filter}
-use Rattle.firm_rows.specs.Sums.{sum_of}
-use Rattle.statement_lines.specs.EntryStates.{is_held}
-use Rattle.statement_lines.specs.Lookups.{elements}
-use Rattle.statement_match.specs.DaySums.{amount_of}
+use Rattle.statement_match.proofs.Names.{◌≡◌, ◌*◌, ◌^◌, pos, ◌+ℤ◌, ◌≤ℤ◌, take, filter, sum_of, is_held, elements, amount_of}
 use Rattle.statement_match.proofs.day_sums.sum_held.Given as goal
 
 abbrev pub invariant-loop-entry : goal.invariant-loop-entry

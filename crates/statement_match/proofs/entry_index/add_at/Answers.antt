@@ -1,11 +1,6 @@
-use Rattle.std.proofs.Common.{◌∙◌, sym, ap, ◌++◌, ℕ, append-nil, refl}
-use Rattle.std.specs.Prelude.{Option, option_to_list}
-use Rattle.std.proofs.lemmas.List.{map-append}
-use Rattle.std.proofs.lemmas.Option.{slice_get_past, slice_get_read}
-use Rattle.statement_lines.specs.Lookups.{elements}
-use Rattle.statement_lines.specs.declared.book_entry.BookEntry.{BookEntry}
+use Rattle.statement_match.proofs.Names.{◌∙◌, sym, ap, ◌++◌, ℕ, append-nil, refl, option_to_list, map-append, slice_get_past, slice_get_read, elements, BookEntry, Bor}
+use Rattle.std.specs.Prelude.{Option}
 use Rattle.statement_match.proofs.entry_index.add_at.Goals as goal
-use denote.Ref.{Bor}
 
 pub returns-in_ok-push : goal.returns-in_ok-push
 returns-in_ok-push c =

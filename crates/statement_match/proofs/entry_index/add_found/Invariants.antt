@@ -1,5 +1,4 @@
-use Rattle.std.proofs.Common.{◌≡◌, ◌++◌, map, take}
-use Rattle.statement_lines.specs.Lookups.{elements}
+use Rattle.statement_match.proofs.Names.{◌≡◌, ◌++◌, map, take, elements}
 use Rattle.statement_match.proofs.entry_index.add_found.Given as goal
 
 abbrev pub invariant-loop-mark : goal.invariant-loop-mark

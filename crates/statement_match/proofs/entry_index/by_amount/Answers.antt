@@ -1,5 +1,4 @@
-use Rattle.std.proofs.Common.{rules}
-use Rattle.statement_lines.specs.Keys.{entry_key}
+use Rattle.statement_match.proofs.Names.{rules, entry_key}
 use Rattle.statement_match.proofs.entry_index.by_amount.Goals as goal
 
 pub returns : goal.returns

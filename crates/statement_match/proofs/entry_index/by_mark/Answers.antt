@@ -1,5 +1,4 @@
-use Rattle.std.proofs.Common.{rules}
-use Rattle.statement_lines.specs.Marks.{mark_of}
+use Rattle.statement_match.proofs.Names.{rules, mark_of}
 use Rattle.statement_match.proofs.entry_index.by_mark.Goals as goal
 
 pub returns : goal.returns

@@ -1,6 +1,4 @@
-use Rattle.std.proofs.Common.{◌≡◌, take, flat_map}
-use Rattle.std.specs.Prelude.{option_to_list, slice_get}
-use Rattle.statement_lines.specs.Lookups.{elements}
+use Rattle.statement_match.proofs.Names.{◌≡◌, take, flat_map, option_to_list, slice_get, elements}
 use Rattle.statement_match.proofs.entry_index.entries_at.Given as goal
 
 abbrev pub invariant-loop-place : goal.invariant-loop-place

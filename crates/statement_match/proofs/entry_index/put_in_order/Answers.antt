@@ -1,7 +1,4 @@
-use Rattle.std.proofs.lemmas.List.Filters.{dedup_is}
-use Rattle.std.proofs.lemmas.List.Kept.{Contains-dedup_nat}
-use Rattle.std.proofs.lemmas.List.Sorted.{Contains-permutation}
-use Rattle.std.proofs.lemmas.Map.Keys.{IsStrictlyIncreasing-dedup}
+use Rattle.statement_match.proofs.Names.{dedup_is, Contains-dedup_nat, Contains-permutation, IsStrictlyIncreasing-dedup}
 use Rattle.statement_match.proofs.entry_index.put_in_order.Goals as goal
 
 pub returns : goal.returns

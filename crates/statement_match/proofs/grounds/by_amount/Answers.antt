@@ -1,5 +1,4 @@
-use Rattle.std.proofs.Common.{rules}
-use Rattle.statement_match.specs.Grounds.{numbered_key}
+use Rattle.statement_match.proofs.Names.{rules, numbered_key}
 use Rattle.statement_match.proofs.grounds.by_amount.Goals as goal
 
 pub returns : goal.returns

@@ -1,5 +1,4 @@
-use Rattle.std.proofs.Common.{◌∙◌, sym, ◌<◌, ◌≤◌, length, arith}
-use Rattle.std.proofs.lemmas.Grind.{common_steps}
+use Rattle.statement_match.proofs.Names.{◌∙◌, sym, ◌<◌, ◌≤◌, length, arith, common_steps}
 use Rattle.statement_match.proofs.Numbered.{numbered_done, numbered_more}
 use Rattle.statement_match.proofs.grounds.numbered_lines.Goals as goal
 

@@ -1,5 +1,4 @@
-use Rattle.std.proofs.Common.{◌≡◌, ◌++◌, drop}
-use Rattle.statement_match.specs.Grounds.{numbered, plain_pairs}
+use Rattle.statement_match.proofs.Names.{◌≡◌, ◌++◌, drop, numbered, plain_pairs}
 use Rattle.statement_match.proofs.grounds.numbered_lines.Given as goal
 
 abbrev pub invariant-loop-place : goal.invariant-loop-place

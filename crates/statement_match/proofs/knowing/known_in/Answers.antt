@@ -1,7 +1,4 @@
-use Rattle.std.proofs.Common.{◌≡◌, ◌∙◌, ap, fold}
-use Rattle.firm_rows.specs.Firm.{Firm}
-use Rattle.statement_lines.specs.Known.{Known}
-use Rattle.statement_match.specs.Entries.{know_exception, know_own_line, know_row, none_known}
+use Rattle.statement_match.proofs.Names.{◌≡◌, ◌∙◌, ap, fold, Firm, Known, know_exception, know_own_line, know_row, none_known}
 use Rattle.statement_match.proofs.AllKnown.{all_known}
 use Rattle.statement_match.proofs.knowing.known_in.Goals as goal
 

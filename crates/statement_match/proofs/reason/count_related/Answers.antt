@@ -1,8 +1,4 @@
-use Rattle.std.proofs.Common.{◌∙◌, ap}
-use Rattle.std.specs.List.{count_by}
-use Rattle.trust_base.specs.declared.line.Line.{Line}
-use Rattle.statement_lines.specs.Relations.{stands}
-use Rattle.statement_lines.proofs.Found.{counted_kept}
+use Rattle.statement_match.proofs.Names.{◌∙◌, ap, count_by, Line, stands, counted_kept}
 use Rattle.statement_match.proofs.reason.count_related.Goals as goal
 
 pub returns : goal.returns

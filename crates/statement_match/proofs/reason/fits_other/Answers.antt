@@ -1,11 +1,5 @@
-use Rattle.std.proofs.Common.{◌∙◌, ap, ◌&&◌, not}
-use Rattle.std.specs.List.{list_any}
-use Rattle.std.specs.Str.{bytes_eq}
-use Rattle.std.proofs.lemmas.Bool.{and_parts}
-use Rattle.trust_base.specs.declared.line.Line.{Line}
-use Rattle.statement_lines.specs.Relations.{stands}
+use Rattle.statement_match.proofs.Names.{◌∙◌, ap, ◌&&◌, not, list_any, bytes_eq, and_parts, Line, stands, any_kept}
 use Rattle.statement_lines.specs.declared.relation.Relation.TheVariants as relation
-use Rattle.statement_lines.proofs.Found.{any_kept}
 use Rattle.statement_match.proofs.reason.fits_other.Goals as goal
 
 pub returns : goal.returns

@@ -1,9 +1,6 @@
-use Rattle.std.proofs.Common.{◌∙◌, ap}
-use Rattle.std.specs.Prelude.{find, option_map}
-use Rattle.trust_base.specs.declared.line.Line.{Line}
-use Rattle.statement_lines.specs.Relations.{stands}
+use Rattle.statement_match.proofs.Names.{◌∙◌, ap, option_map, Line, stands, first_kept}
+use Rattle.std.specs.Prelude.{find}
 use Rattle.statement_lines.specs.declared.relation.Relation.TheVariants as relation
-use Rattle.statement_lines.proofs.Found.{first_kept}
 use Rattle.statement_match.proofs.reason.fitted.Goals as goal
 
 pub returns : goal.returns

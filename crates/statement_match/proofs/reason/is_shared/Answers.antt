@@ -1,9 +1,4 @@
-use Rattle.std.proofs.Common.{◌∙◌, ap, ◌==◌}
-use Rattle.std.specs.Prelude.{nat_lt}
-use Rattle.statement_lines.specs.Keys.{amount_key, waiting_key}
-use Rattle.statement_lines.specs.OpenLines.{is_open_fit}
-use Rattle.statement_lines.proofs.Alike.{open_fit_narrows}
-use Rattle.statement_lines.proofs.Found.{counted}
+use Rattle.statement_match.proofs.Names.{◌∙◌, ap, ◌==◌, nat_lt, amount_key, waiting_key, is_open_fit, open_fit_narrows, counted}
 use Rattle.statement_match.proofs.reason.is_shared.Goals as goal
 
 pub returns : goal.returns

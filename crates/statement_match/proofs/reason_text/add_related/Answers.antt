@@ -1,7 +1,4 @@
-use Rattle.std.proofs.Common.{sym, ◌≤◌, length, arith}
-use Rattle.std.proofs.lemmas.Grind.{common_steps}
-use Rattle.statement_lines.specs.Relations.{stands}
-use Rattle.statement_match.specs.ReasonTexts.{related_entry_text, text_if}
+use Rattle.statement_match.proofs.Names.{sym, ◌≤◌, length, arith, common_steps, stands, related_entry_text, text_if}
 use Rattle.statement_match.proofs.Listed.{has_no_room}
 use Rattle.statement_match.proofs.reason_text.add_related.Goals as goal
 

@@ -1,4 +1,4 @@
-use Rattle.std.proofs.Common.{◌∙◌}
+use Rattle.statement_match.proofs.Names.{◌∙◌}
 use Rattle.statement_match.proofs.Numbered.{fit_found}
 use Rattle.statement_match.proofs.reason_text.fit_numbers.Goals as goal
 

@@ -1,6 +1,4 @@
-use Rattle.std.proofs.Common.{◌≡◌, map, take}
-use Rattle.std.specs.List.{filter}
-use Rattle.statement_lines.specs.OpenLines.{is_open_fit}
+use Rattle.statement_match.proofs.Names.{◌≡◌, map, take, filter, is_open_fit}
 use Rattle.statement_match.proofs.reason_text.fit_numbers_among.Given as goal
 
 abbrev pub invariant-loop-line : goal.invariant-loop-line

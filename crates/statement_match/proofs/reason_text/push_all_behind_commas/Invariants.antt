@@ -1,5 +1,4 @@
-use Rattle.std.proofs.Common.{◌≡◌, ◌++◌, take, flat_map}
-use Rattle.statement_match.specs.ReasonTexts.{behind_comma}
+use Rattle.statement_match.proofs.Names.{◌≡◌, ◌++◌, take, flat_map, behind_comma}
 use Rattle.statement_match.proofs.reason_text.push_all_behind_commas.Given as goal
 
 abbrev pub invariant-loop-number : goal.invariant-loop-number

@@ -1,5 +1,4 @@
-use Rattle.std.proofs.Common.{◌≡◌, ◌++◌, take, flat_map}
-use Rattle.statement_match.specs.ReasonTexts.{behind_semicolon}
+use Rattle.statement_match.proofs.Names.{◌≡◌, ◌++◌, take, flat_map, behind_semicolon}
 use Rattle.statement_match.proofs.reason_text.push_all_behind_semicolons.Given as goal
 
 abbrev pub invariant-loop-text : goal.invariant-loop-text

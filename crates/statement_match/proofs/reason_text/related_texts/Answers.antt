@@ -1,9 +1,4 @@
-use Rattle.std.proofs.Common.{◌≡◌, ◌∙◌, sym, ap, ◌<◌, ◌++◌, List, ℕ, length, get_or, take, arith}
-use Rattle.std.proofs.lemmas.List.{get_or-map, length-map, length-take}
-use Rattle.statement_lines.specs.declared.book_entry.BookEntry.{BookEntry}
-use Rattle.statement_lines.specs.Lookups.{elements}
-use Rattle.statement_lines.specs.Relations.{stands}
-use Rattle.statement_match.specs.ReasonTexts.{related_entry_text, text_if}
+use Rattle.statement_match.proofs.Names.{◌≡◌, ◌∙◌, sym, ap, ◌<◌, ◌++◌, List, ℕ, length, get_or, take, arith, get_or-map, length-map, length-take, BookEntry, elements, stands, related_entry_text, text_if}
 use Rattle.statement_match.proofs.Listed.{listed_more}
 use Rattle.statement_match.proofs.reason_text.related_texts.Goals as goal
 

@@ -1,8 +1,4 @@
-use Rattle.std.proofs.Common.{◌≡◌, ◌≤◌, length, take, map}
-use Rattle.std.specs.List.{filter}
-use Rattle.statement_lines.specs.Lookups.{elements}
-use Rattle.statement_lines.specs.Relations.{stands}
-use Rattle.statement_match.specs.ReasonTexts.{related_entry_text}
+use Rattle.statement_match.proofs.Names.{◌≡◌, ◌≤◌, length, take, map, filter, elements, stands, related_entry_text}
 use Rattle.statement_match.proofs.reason_text.related_texts.Given as goal
 
 abbrev pub invariant-loop-entry : goal.invariant-loop-entry

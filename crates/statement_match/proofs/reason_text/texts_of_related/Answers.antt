@@ -1,10 +1,4 @@
-use Rattle.std.proofs.Common.{◌∙◌, ap, List, take, map}
-use Rattle.std.specs.List.{filter}
-use Rattle.trust_base.specs.declared.line.Line.{Line}
-use Rattle.statement_lines.specs.Lookups.{elements}
-use Rattle.statement_lines.specs.Relations.{stands}
-use Rattle.statement_lines.specs.declared.book_entry.BookEntry.{BookEntry}
-use Rattle.statement_match.specs.ReasonTexts.{related_entry_text}
+use Rattle.statement_match.proofs.Names.{◌∙◌, ap, List, take, map, filter, Line, elements, stands, BookEntry, related_entry_text}
 use Rattle.statement_match.proofs.reason_text.texts_of_related.Goals as goal
 
 pub returns : goal.returns

@@ -1,9 +1,4 @@
-use Rattle.std.proofs.Common.{◌∙◌, ap, ◌==◌}
-use Rattle.std.specs.List.{filter}
-use Rattle.statement_lines.specs.Keys.{line_key}
-use Rattle.statement_lines.specs.OpenLines.{is_open_like}
-use Rattle.statement_lines.proofs.Alike.{open_like_narrows}
-use Rattle.statement_lines.proofs.Found.{counted}
+use Rattle.statement_match.proofs.Names.{◌∙◌, ap, ◌==◌, filter, line_key, is_open_like, open_like_narrows, counted}
 use Rattle.statement_match.proofs.rule.count_open_like.Goals as goal
 
 pub returns : goal.returns

@@ -1,9 +1,4 @@
-use Rattle.std.proofs.Common.{◌∙◌, ap, ◌==◌}
-use Rattle.std.specs.List.{filter}
-use Rattle.statement_lines.specs.Keys.{amount_key, waiting_key}
-use Rattle.statement_lines.specs.Showing.{fits}
-use Rattle.statement_lines.proofs.Alike.{fits_narrows}
-use Rattle.statement_lines.proofs.Found.{first_found}
+use Rattle.statement_match.proofs.Names.{◌∙◌, ap, ◌==◌, filter, amount_key, waiting_key, fits, fits_narrows, first_found}
 use Rattle.statement_match.proofs.rule.first_fit.Goals as goal
 
 pub returns : goal.returns

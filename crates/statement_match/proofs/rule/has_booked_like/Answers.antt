@@ -1,8 +1,4 @@
-use Rattle.std.proofs.Common.{◌∙◌, ◌==◌}
-use Rattle.statement_lines.specs.Bookings.{booking_of, is_same_booking}
-use Rattle.statement_lines.specs.Keys.{booking_key, line_key}
-use Rattle.statement_lines.proofs.Alike.{same_narrows}
-use Rattle.statement_lines.proofs.Found.{any_found}
+use Rattle.statement_match.proofs.Names.{◌∙◌, ◌==◌, booking_of, is_same_booking, booking_key, line_key, same_narrows, any_found}
 use Rattle.statement_match.proofs.rule.has_booked_like.Goals as goal
 
 pub returns : goal.returns

@@ -1,8 +1,4 @@
-use Rattle.std.proofs.Common.{◌∙◌, ◌==◌}
-use Rattle.statement_lines.specs.Bookings.{booking_of, is_beside}
-use Rattle.statement_lines.specs.Keys.{booking_key, line_key}
-use Rattle.statement_lines.proofs.Alike.{beside_narrows}
-use Rattle.statement_lines.proofs.Found.{any_found}
+use Rattle.statement_match.proofs.Names.{◌∙◌, ◌==◌, booking_of, is_beside, booking_key, line_key, beside_narrows, any_found}
 use Rattle.statement_match.proofs.rule.is_beside_booked.Goals as goal
 
 pub returns : goal.returns

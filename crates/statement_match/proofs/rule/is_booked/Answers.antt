@@ -1,8 +1,4 @@
-use Rattle.std.proofs.Common.{◌∙◌, ap}
-use Rattle.std.specs.Prelude.{nat_le}
-use Rattle.std.specs.List.{count_by}
-use Rattle.statement_lines.specs.Bookings.{booking_of, is_same_booking}
-use Rattle.statement_lines.specs.OpenLines.{is_open_like}
+use Rattle.statement_match.proofs.Names.{◌∙◌, ap, nat_le, count_by, booking_of, is_same_booking, is_open_like}
 use Rattle.statement_match.proofs.rule.is_booked.Goals as goal
 
 pub returns : goal.returns

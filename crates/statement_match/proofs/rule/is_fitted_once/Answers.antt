@@ -1,8 +1,4 @@
-use Rattle.std.proofs.Common.{◌∙◌, ap, ◌==◌}
-use Rattle.statement_lines.specs.Keys.{amount_key, waiting_key}
-use Rattle.statement_lines.specs.OpenLines.{is_open_fit}
-use Rattle.statement_lines.proofs.Alike.{open_fit_narrows}
-use Rattle.statement_lines.proofs.Found.{counted}
+use Rattle.statement_match.proofs.Names.{◌∙◌, ap, ◌==◌, amount_key, waiting_key, is_open_fit, open_fit_narrows, counted}
 use Rattle.statement_match.proofs.rule.is_fitted_once.Goals as goal
 
 pub returns : goal.returns

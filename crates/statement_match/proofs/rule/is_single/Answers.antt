@@ -1,9 +1,4 @@
-use Rattle.std.proofs.Common.{◌∙◌, ap, ◌==◌}
-use Rattle.std.specs.List.{filter}
-use Rattle.statement_lines.specs.Bookings.{booking_of, is_beside}
-use Rattle.statement_lines.specs.Keys.{line_key}
-use Rattle.statement_lines.proofs.Alike.{line_beside_narrows}
-use Rattle.statement_lines.proofs.Found.{counted}
+use Rattle.statement_match.proofs.Names.{◌∙◌, ap, ◌==◌, filter, booking_of, is_beside, line_key, line_beside_narrows, counted}
 use Rattle.statement_match.proofs.rule.is_single.Goals as goal
 
 pub returns : goal.returns

@@ -1,5 +1,4 @@
-use Rattle.std.proofs.Common.{◌≡◌, take, map}
-use Rattle.statement_match.specs.Rule.{becomes}
+use Rattle.statement_match.proofs.Names.{◌≡◌, take, map, becomes}
 use Rattle.statement_match.proofs.rule.outcomes_by.Given as goal
 
 abbrev pub invariant-loop-line : goal.invariant-loop-line

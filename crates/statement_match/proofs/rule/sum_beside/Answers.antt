@@ -1,8 +1,4 @@
-use Rattle.std.proofs.Common.{◌∙◌, sym, ap, ◌<◌, length, arith}
-use Rattle.std.proofs.lemmas.Int.{ints, to_z-of_z}
-use Rattle.std.proofs.lemmas.List.{get_or-map, length-map}
-use Rattle.statement_lines.specs.Bookings.{booking_of, is_beside}
-use Rattle.statement_lines.specs.Lookups.{elements}
+use Rattle.statement_match.proofs.Names.{◌∙◌, sym, ap, ◌<◌, length, arith, ints, to_z-of_z, get_or-map, length-map, booking_of, is_beside, elements}
 use Rattle.statement_match.proofs.Totals.{total_more}
 use Rattle.statement_match.proofs.rule.sum_beside.Goals as goal
 

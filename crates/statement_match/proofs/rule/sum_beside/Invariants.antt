@@ -1,7 +1,4 @@
-use Rattle.std.proofs.Common.{◌≡◌, ◌*◌, ◌^◌, pos, ◌+ℤ◌, ◌≤ℤ◌, take}
-use Rattle.std.specs.List.{filter}
-use Rattle.statement_lines.specs.Bookings.{booking_of, is_beside, total_of}
-use Rattle.statement_lines.specs.Lookups.{elements}
+use Rattle.statement_match.proofs.Names.{◌≡◌, ◌*◌, ◌^◌, pos, ◌+ℤ◌, ◌≤ℤ◌, take, filter, booking_of, is_beside, total_of, elements}
 use Rattle.statement_match.proofs.rule.sum_beside.Given as goal
 
 abbrev pub invariant-loop-entry : goal.invariant-loop-entry

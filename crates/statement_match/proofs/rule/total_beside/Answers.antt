@@ -1,9 +1,4 @@
-use Rattle.std.proofs.Common.{ap, ◌==◌, arith}
-use Rattle.std.proofs.lemmas.Int.{ints, to_z-of_z}
-use Rattle.statement_lines.specs.Bookings.{booking_of, is_beside, total_of}
-use Rattle.statement_lines.specs.Keys.{booking_key, line_key}
-use Rattle.statement_lines.proofs.Alike.{beside_narrows}
-use Rattle.statement_lines.proofs.Found.{filtered}
+use Rattle.statement_match.proofs.Names.{ap, ◌==◌, arith, ints, to_z-of_z, booking_of, is_beside, total_of, booking_key, line_key, beside_narrows, filtered}
 use Rattle.statement_match.proofs.rule.total_beside.Goals as goal
 
 pub returns : goal.returns

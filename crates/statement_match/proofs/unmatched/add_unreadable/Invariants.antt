@@ -1,5 +1,4 @@
-use Rattle.std.proofs.Common.{◌≡◌, ◌++◌, ◌-◌}
-use Rattle.statement_match.specs.Unmatched.{told_unreadable}
+use Rattle.statement_match.proofs.Names.{◌≡◌, ◌++◌, ◌-◌, told_unreadable}
 use Rattle.statement_match.proofs.unmatched.add_unreadable.Given as goal
 
 abbrev pub invariant-loop-number : goal.invariant-loop-number

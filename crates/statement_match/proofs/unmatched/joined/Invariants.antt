@@ -1,5 +1,4 @@
-use Rattle.std.proofs.Common.{◌≡◌, take, flat_map}
-use Rattle.statement_match.specs.Unmatched.{same_text}
+use Rattle.statement_match.proofs.Names.{◌≡◌, take, flat_map, same_text}
 use Rattle.statement_match.proofs.unmatched.joined.Given as goal
 
 abbrev pub invariant-loop-line : goal.invariant-loop-line

@@ -1,8 +1,4 @@
-use Rattle.std.proofs.Common.{◌∙◌, ap, ◌<◌, ◌-◌, ◌++◌, length, arith}
-use Rattle.std.proofs.lemmas.Grind.{common_steps}
-use Rattle.statement_lines.specs.Records.{Records}
-use Rattle.statement_match.specs.Reasons.{reason_for}
-use Rattle.statement_match.specs.Unmatched.{told_by, told_unreadable}
+use Rattle.statement_match.proofs.Names.{◌∙◌, ap, ◌<◌, ◌-◌, ◌++◌, length, arith, common_steps, Records, reason_for, told_by, told_unreadable}
 use Rattle.statement_match.proofs.Telling.{told_step}
 use Rattle.statement_match.proofs.unmatched.lines_told.Goals as goal
 

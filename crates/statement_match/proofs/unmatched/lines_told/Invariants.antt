@@ -1,5 +1,4 @@
-use Rattle.std.proofs.Common.{◌≡◌, ◌++◌, drop}
-use Rattle.statement_match.specs.Unmatched.{told, told_from}
+use Rattle.statement_match.proofs.Names.{◌≡◌, ◌++◌, drop, told, told_from}
 use Rattle.statement_match.proofs.unmatched.lines_told.Given as goal
 
 abbrev pub invariant-loop-place : goal.invariant-loop-place

@@ -1,5 +1,4 @@
-use Rattle.std.proofs.Common.{sym}
-use Rattle.std.proofs.lemmas.Str.{is_utf8-from_IsUtf8}
+use Rattle.trust_base.proofs.Names.{sym, is_utf8-from_IsUtf8}
 use Rattle.trust_base.proofs.NameFacts.{is_utf8-of_other}
 use Rattle.trust_base.proofs.line_text.is_text.Goals as goal
 

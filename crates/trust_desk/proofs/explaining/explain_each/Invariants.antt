@@ -1,6 +1,4 @@
-use Rattle.std.proofs.Common.{Result, Ok}
-use Rattle.trust_base.specs.declared.refusal.StoreFault.{StoreFault}
-use Rattle.trust_store.specs.Calls.{IsRead}
+use Rattle.trust_desk.proofs.Names.{Result, Ok, StoreFault, IsRead}
 use Rattle.trust_desk.proofs.explaining.explain_each.Given as goal
 
 -- so far the book was only read

@@ -1,6 +1,4 @@
-use Rattle.std.proofs.Common.{◌≡◌, ◌≤◌, None, true, arith}
-use Rattle.trust_matter.specs.KeptFacts.{holds_for_line}
-use Rattle.trust_store.proofs.Named.{line-held}
+use Rattle.trust_desk.proofs.Names.{◌≡◌, ◌≤◌, None, true, arith, holds_for_line, line-held}
 use Rattle.trust_desk.proofs.importing.line_verdict.Goals as goal
 
 pub returns-else-holds_for_line : goal.returns-else-holds_for_line

@@ -1,8 +1,5 @@
-use Rattle.std.proofs.Common.{◌≡◌, true, refl, arith, rules}
-use Rattle.std.proofs.lemmas.Grind.{common_steps}
-use Rattle.matter_rows.specs.declared.claim.Against.{Against}
+use Rattle.trust_matter.proofs.Names.{◌≡◌, true, refl, arith, rules, common_steps, Against, changes_matter, rule_against}
 use Rattle.matter_rows.specs.declared.claim.Against.TheVariants as against
-use Rattle.trust_matter.specs.Policy.{changes_matter, rule_against}
 use Rattle.trust_matter.proofs.claim.decide_claim.Goals as goal
 
 -- a claim comes under a rule by which a matter changes, whatever it is on

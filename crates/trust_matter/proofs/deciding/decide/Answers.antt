@@ -1,18 +1,33 @@
-use Rattle.std.proofs.Common.{ℕ, refl, subst, IfOk, Result, Err}
-use Rattle.trust_base.specs.declared.refusal.Refusal.{Refusal}
-use Rattle.matter_rows.specs.Rows.{Rows}
-use Rattle.matter_rows.specs.Sound.{Sound}
-use Rattle.matter_parts.specs.declared.edit.Edit.{Edit}
-use Rattle.matter_parts.specs.Changes.{MatterChange}
-use Rattle.matter_parts.specs.Parts.{IsPart}
-use Rattle.matter_parts.specs.TotalsAfter.{IsMade}
-use Rattle.trust_matter.specs.KeptFacts.{kept_facts}
-use Rattle.trust_matter.specs.Step.{AnswersBy, Decides, HasAmount}
+use Rattle.trust_matter.proofs.Names.{ℕ, refl, subst, IfOk, Result, Err, Refusal, Rows, Sound, Edit, MatterChange, IsPart, IsMade, kept_facts, AnswersBy, Decides, HasAmount}
 use Rattle.trust_matter.proofs.Decided.{decided-made, decided-refused}
 use Rattle.trust_matter.proofs.Late.{early-refused, gives-asked, handed-up}
 use Rattle.trust_matter.proofs.StepForms.{asked}
-use Rattle.trust_matter.proofs.deciding.decide.Goals.{in-OpenMatter, in-AddSeat, in-DropSeat, in-Deposit, in-CancelDeposit, in-Propose, in-Approve, in-Decline, in-VoidPayment, in-EarnFee, in-RaiseClaim, in-Offer, in-Accept, in-Award, in-CloseMatter, in-Purge, in-ShowEntry, in-Show, in-Accounting}
+use Rattle.trust_matter.proofs.deciding.decide.Goals.{Joined-ask, in-OpenMatter, in-AddSeat, in-DropSeat, in-Deposit, in-CancelDeposit, in-Propose, in-Approve, in-Decline, in-VoidPayment, in-EarnFee, in-RaiseClaim, in-Offer, in-Accept, in-Award, in-CloseMatter, in-Purge, in-ShowEntry, in-Show, in-Accounting}
 use Rattle.trust_matter.proofs.deciding.decide.Goals as goal
+
+-- what is decided of the ask, whatever it is, and that its amount is one
+given : (c : Joined-ask) → AnswersBy (kept_facts c.args.matter.now c.args.ask.now) (asked c.args.caller.now c.args.ask.now c.args.day) c.match-ask.decided × HasAmount c.args.ask.now
+given c = elim c.match-ask.branch [
+  | in-OpenMatter w ↦ gives-asked c.args.matter.now c.args.caller.now c.args.ask.now _ c.args.day _ _ w.in-OpenMatter.is w.decided-is c.in_ok-check_caller.ensures tt w.decide_open-decided.ensures
+  | in-AddSeat w ↦ gives-asked c.args.matter.now c.args.caller.now c.args.ask.now _ c.args.day _ _ w.in-AddSeat.is w.decided-is c.in_ok-check_caller.ensures tt w.decide_add_seat-decided.ensures
+  | in-DropSeat w ↦ gives-asked c.args.matter.now c.args.caller.now c.args.ask.now _ c.args.day _ _ w.in-DropSeat.is w.decided-is c.in_ok-check_caller.ensures tt w.decide_drop_seat-decided.ensures
+  | in-Deposit w ↦ gives-asked c.args.matter.now c.args.caller.now c.args.ask.now _ c.args.day _ _ w.in-Deposit.is w.decided-is c.in_ok-check_caller.ensures w.decide_deposit-decided.ensures.amount w.decide_deposit-decided.ensures.answer
+  | in-CancelDeposit w ↦ gives-asked c.args.matter.now c.args.caller.now c.args.ask.now _ c.args.day _ _ w.in-CancelDeposit.is w.decided-is c.in_ok-check_caller.ensures tt w.decide_cancel-decided.ensures
+  | in-Propose w ↦ gives-asked c.args.matter.now c.args.caller.now c.args.ask.now _ c.args.day _ _ w.in-Propose.is w.decided-is c.in_ok-check_caller.ensures w.decide_propose-decided.ensures.amount w.decide_propose-decided.ensures.answer
+  | in-Approve w ↦ gives-asked c.args.matter.now c.args.caller.now c.args.ask.now _ c.args.day _ _ w.in-Approve.is w.decided-is c.in_ok-check_caller.ensures tt w.decide_approve-decided.ensures
+  | in-Decline w ↦ gives-asked c.args.matter.now c.args.caller.now c.args.ask.now _ c.args.day _ _ w.in-Decline.is w.decided-is c.in_ok-check_caller.ensures tt w.decide_decline-decided.ensures
+  | in-VoidPayment w ↦ gives-asked c.args.matter.now c.args.caller.now c.args.ask.now _ c.args.day _ _ w.in-VoidPayment.is w.decided-is c.in_ok-check_caller.ensures tt w.decide_void-decided.ensures
+  | in-EarnFee w ↦ gives-asked c.args.matter.now c.args.caller.now c.args.ask.now _ c.args.day _ _ w.in-EarnFee.is w.decided-is c.in_ok-check_caller.ensures w.decide_fee-decided.ensures.amount w.decide_fee-decided.ensures.answer
+  | in-RaiseClaim w ↦ gives-asked c.args.matter.now c.args.caller.now c.args.ask.now _ c.args.day _ _ w.in-RaiseClaim.is w.decided-is c.in_ok-check_caller.ensures w.decide_claim-decided.ensures.amount w.decide_claim-decided.ensures.answer
+  | in-Offer w ↦ gives-asked c.args.matter.now c.args.caller.now c.args.ask.now _ c.args.day _ _ w.in-Offer.is w.decided-is c.in_ok-check_caller.ensures tt w.decide_offer-decided.ensures
+  | in-Accept w ↦ gives-asked c.args.matter.now c.args.caller.now c.args.ask.now _ c.args.day _ _ w.in-Accept.is w.decided-is c.in_ok-check_caller.ensures tt w.decide_accept-decided.ensures
+  | in-Award w ↦ gives-asked c.args.matter.now c.args.caller.now c.args.ask.now _ c.args.day _ _ w.in-Award.is w.decided-is c.in_ok-check_caller.ensures tt w.decide_award-decided.ensures
+  | in-CloseMatter w ↦ gives-asked c.args.matter.now c.args.caller.now c.args.ask.now _ c.args.day _ _ w.in-CloseMatter.is w.decided-is c.in_ok-check_caller.ensures tt w.decide_close-decided.ensures
+  | in-Purge w ↦ gives-asked c.args.matter.now c.args.caller.now c.args.ask.now _ c.args.day _ _ w.in-Purge.is w.decided-is c.in_ok-check_caller.ensures tt w.decide_purge-decided.ensures
+  | in-ShowEntry w ↦ gives-asked c.args.matter.now c.args.caller.now c.args.ask.now _ c.args.day _ _ w.in-ShowEntry.is w.decided-is c.in_ok-check_caller.ensures tt w.decide_show_entry-decided.ensures
+  | in-Show w ↦ gives-asked c.args.matter.now c.args.caller.now c.args.ask.now _ c.args.day _ _ w.in-Show.is w.decided-is c.in_ok-check_caller.ensures tt (λ c'. (refl, refl))
+  | in-Accounting w ↦ gives-asked c.args.matter.now c.args.caller.now c.args.ask.now _ c.args.day _ _ w.in-Accounting.is w.decided-is c.in_ok-check_caller.ensures tt (λ c'. (refl, refl))
+]
 
 pub returns-in_err-check_caller : goal.returns-in_err-check_caller
 returns-in_err-check_caller c =
@@ -26,57 +41,17 @@ pub returns-in_err-edit : goal.returns-in_err-edit
 returns-in_err-edit c =
     let m = c.args.matter.now in
     let q = asked c.args.caller.now c.args.ask.now c.args.day in
-    let given : AnswersBy (kept_facts m c.args.ask.now) q c.match-ask.decided × HasAmount c.args.ask.now = elim c.match-ask.branch [
-      | in-OpenMatter w ↦ gives-asked m c.args.caller.now c.args.ask.now _ c.args.day _ _ w.in-OpenMatter.is w.decided-is c.in_ok-check_caller.ensures tt w.decide_open-decided.ensures
-      | in-AddSeat w ↦ gives-asked m c.args.caller.now c.args.ask.now _ c.args.day _ _ w.in-AddSeat.is w.decided-is c.in_ok-check_caller.ensures tt w.decide_add_seat-decided.ensures
-      | in-DropSeat w ↦ gives-asked m c.args.caller.now c.args.ask.now _ c.args.day _ _ w.in-DropSeat.is w.decided-is c.in_ok-check_caller.ensures tt w.decide_drop_seat-decided.ensures
-      | in-Deposit w ↦ gives-asked m c.args.caller.now c.args.ask.now _ c.args.day _ _ w.in-Deposit.is w.decided-is c.in_ok-check_caller.ensures w.decide_deposit-decided.ensures.amount w.decide_deposit-decided.ensures.answer
-      | in-CancelDeposit w ↦ gives-asked m c.args.caller.now c.args.ask.now _ c.args.day _ _ w.in-CancelDeposit.is w.decided-is c.in_ok-check_caller.ensures tt w.decide_cancel-decided.ensures
-      | in-Propose w ↦ gives-asked m c.args.caller.now c.args.ask.now _ c.args.day _ _ w.in-Propose.is w.decided-is c.in_ok-check_caller.ensures w.decide_propose-decided.ensures.amount w.decide_propose-decided.ensures.answer
-      | in-Approve w ↦ gives-asked m c.args.caller.now c.args.ask.now _ c.args.day _ _ w.in-Approve.is w.decided-is c.in_ok-check_caller.ensures tt w.decide_approve-decided.ensures
-      | in-Decline w ↦ gives-asked m c.args.caller.now c.args.ask.now _ c.args.day _ _ w.in-Decline.is w.decided-is c.in_ok-check_caller.ensures tt w.decide_decline-decided.ensures
-      | in-VoidPayment w ↦ gives-asked m c.args.caller.now c.args.ask.now _ c.args.day _ _ w.in-VoidPayment.is w.decided-is c.in_ok-check_caller.ensures tt w.decide_void-decided.ensures
-      | in-EarnFee w ↦ gives-asked m c.args.caller.now c.args.ask.now _ c.args.day _ _ w.in-EarnFee.is w.decided-is c.in_ok-check_caller.ensures w.decide_fee-decided.ensures.amount w.decide_fee-decided.ensures.answer
-      | in-RaiseClaim w ↦ gives-asked m c.args.caller.now c.args.ask.now _ c.args.day _ _ w.in-RaiseClaim.is w.decided-is c.in_ok-check_caller.ensures w.decide_claim-decided.ensures.amount w.decide_claim-decided.ensures.answer
-      | in-Offer w ↦ gives-asked m c.args.caller.now c.args.ask.now _ c.args.day _ _ w.in-Offer.is w.decided-is c.in_ok-check_caller.ensures tt w.decide_offer-decided.ensures
-      | in-Accept w ↦ gives-asked m c.args.caller.now c.args.ask.now _ c.args.day _ _ w.in-Accept.is w.decided-is c.in_ok-check_caller.ensures tt w.decide_accept-decided.ensures
-      | in-Award w ↦ gives-asked m c.args.caller.now c.args.ask.now _ c.args.day _ _ w.in-Award.is w.decided-is c.in_ok-check_caller.ensures tt w.decide_award-decided.ensures
-      | in-CloseMatter w ↦ gives-asked m c.args.caller.now c.args.ask.now _ c.args.day _ _ w.in-CloseMatter.is w.decided-is c.in_ok-check_caller.ensures tt w.decide_close-decided.ensures
-      | in-Purge w ↦ gives-asked m c.args.caller.now c.args.ask.now _ c.args.day _ _ w.in-Purge.is w.decided-is c.in_ok-check_caller.ensures tt w.decide_purge-decided.ensures
-      | in-ShowEntry w ↦ gives-asked m c.args.caller.now c.args.ask.now _ c.args.day _ _ w.in-ShowEntry.is w.decided-is c.in_ok-check_caller.ensures tt w.decide_show_entry-decided.ensures
-      | in-Show w ↦ gives-asked m c.args.caller.now c.args.ask.now _ c.args.day _ _ w.in-Show.is w.decided-is c.in_ok-check_caller.ensures tt (λ c'. (refl, refl))
-      | in-Accounting w ↦ gives-asked m c.args.caller.now c.args.ask.now _ c.args.day _ _ w.in-Accounting.is w.decided-is c.in_ok-check_caller.ensures tt (λ c'. (refl, refl))
-    ] in
+    let told = given (goal.at.returns-in_err-edit c).Joined-ask in
     let A : Result Edit Refusal → Type 0 = λ r. AnswersBy (kept_facts m c.args.ask.now) q r in
     let P : Result MatterChange Refusal → Type 0 = λ r. (rows : Rows) → Sound rows → IsPart m rows → Decides rows q r in
-    let refused : P (Err c.in_err-edit.field-0.0) = decided-refused m q _ c.requires (subst A c.in_err-edit.was given.0) in
+    let refused : P (Err c.in_err-edit.field-0.0) = decided-refused m q _ c.requires (subst A c.in_err-edit.was told.0) in
     handed-up P c.from_residual-in_err-edit.result c.in_err-edit.field-0.0 c.from_residual-in_err-edit.ensures.0 c.from_residual-in_err-edit.ensures.1 refused
 
 pub returns : goal.returns
 returns c =
     let m = c.args.matter.now in
     let q = asked c.args.caller.now c.args.ask.now c.args.day in
-    let given : AnswersBy (kept_facts m c.args.ask.now) q c.match-ask.decided × HasAmount c.args.ask.now = elim c.match-ask.branch [
-      | in-OpenMatter w ↦ gives-asked m c.args.caller.now c.args.ask.now _ c.args.day _ _ w.in-OpenMatter.is w.decided-is c.in_ok-check_caller.ensures tt w.decide_open-decided.ensures
-      | in-AddSeat w ↦ gives-asked m c.args.caller.now c.args.ask.now _ c.args.day _ _ w.in-AddSeat.is w.decided-is c.in_ok-check_caller.ensures tt w.decide_add_seat-decided.ensures
-      | in-DropSeat w ↦ gives-asked m c.args.caller.now c.args.ask.now _ c.args.day _ _ w.in-DropSeat.is w.decided-is c.in_ok-check_caller.ensures tt w.decide_drop_seat-decided.ensures
-      | in-Deposit w ↦ gives-asked m c.args.caller.now c.args.ask.now _ c.args.day _ _ w.in-Deposit.is w.decided-is c.in_ok-check_caller.ensures w.decide_deposit-decided.ensures.amount w.decide_deposit-decided.ensures.answer
-      | in-CancelDeposit w ↦ gives-asked m c.args.caller.now c.args.ask.now _ c.args.day _ _ w.in-CancelDeposit.is w.decided-is c.in_ok-check_caller.ensures tt w.decide_cancel-decided.ensures
-      | in-Propose w ↦ gives-asked m c.args.caller.now c.args.ask.now _ c.args.day _ _ w.in-Propose.is w.decided-is c.in_ok-check_caller.ensures w.decide_propose-decided.ensures.amount w.decide_propose-decided.ensures.answer
-      | in-Approve w ↦ gives-asked m c.args.caller.now c.args.ask.now _ c.args.day _ _ w.in-Approve.is w.decided-is c.in_ok-check_caller.ensures tt w.decide_approve-decided.ensures
-      | in-Decline w ↦ gives-asked m c.args.caller.now c.args.ask.now _ c.args.day _ _ w.in-Decline.is w.decided-is c.in_ok-check_caller.ensures tt w.decide_decline-decided.ensures
-      | in-VoidPayment w ↦ gives-asked m c.args.caller.now c.args.ask.now _ c.args.day _ _ w.in-VoidPayment.is w.decided-is c.in_ok-check_caller.ensures tt w.decide_void-decided.ensures
-      | in-EarnFee w ↦ gives-asked m c.args.caller.now c.args.ask.now _ c.args.day _ _ w.in-EarnFee.is w.decided-is c.in_ok-check_caller.ensures w.decide_fee-decided.ensures.amount w.decide_fee-decided.ensures.answer
-      | in-RaiseClaim w ↦ gives-asked m c.args.caller.now c.args.ask.now _ c.args.day _ _ w.in-RaiseClaim.is w.decided-is c.in_ok-check_caller.ensures w.decide_claim-decided.ensures.amount w.decide_claim-decided.ensures.answer
-      | in-Offer w ↦ gives-asked m c.args.caller.now c.args.ask.now _ c.args.day _ _ w.in-Offer.is w.decided-is c.in_ok-check_caller.ensures tt w.decide_offer-decided.ensures
-      | in-Accept w ↦ gives-asked m c.args.caller.now c.args.ask.now _ c.args.day _ _ w.in-Accept.is w.decided-is c.in_ok-check_caller.ensures tt w.decide_accept-decided.ensures
-      | in-Award w ↦ gives-asked m c.args.caller.now c.args.ask.now _ c.args.day _ _ w.in-Award.is w.decided-is c.in_ok-check_caller.ensures tt w.decide_award-decided.ensures
-      | in-CloseMatter w ↦ gives-asked m c.args.caller.now c.args.ask.now _ c.args.day _ _ w.in-CloseMatter.is w.decided-is c.in_ok-check_caller.ensures tt w.decide_close-decided.ensures
-      | in-Purge w ↦ gives-asked m c.args.caller.now c.args.ask.now _ c.args.day _ _ w.in-Purge.is w.decided-is c.in_ok-check_caller.ensures tt w.decide_purge-decided.ensures
-      | in-ShowEntry w ↦ gives-asked m c.args.caller.now c.args.ask.now _ c.args.day _ _ w.in-ShowEntry.is w.decided-is c.in_ok-check_caller.ensures tt w.decide_show_entry-decided.ensures
-      | in-Show w ↦ gives-asked m c.args.caller.now c.args.ask.now _ c.args.day _ _ w.in-Show.is w.decided-is c.in_ok-check_caller.ensures tt (λ c'. (refl, refl))
-      | in-Accounting w ↦ gives-asked m c.args.caller.now c.args.ask.now _ c.args.day _ _ w.in-Accounting.is w.decided-is c.in_ok-check_caller.ensures tt (λ c'. (refl, refl))
-    ] in
+    let told = given (goal.at.returns c).Joined-ask in
     let A : Result Edit Refusal → Type 0 = λ r. AnswersBy (kept_facts m c.args.ask.now) q r in
     let L : ℕ → Type 0 = λ n. IfOk c.change_of.result (λ x. IsMade m c.in_ok-edit.edit n x) in
-    decided-made m q c.in_ok-edit.edit c.change_of.result c.requires given.1 (subst A c.in_ok-edit.was given.0) (subst L c.last_after-last.ensures c.change_of.ensures.ok) c.change_of.ensures.store
+    decided-made m q c.in_ok-edit.edit c.change_of.result c.requires told.1 (subst A c.in_ok-edit.was told.0) (subst L c.last_after-last.ensures c.change_of.ensures.ok) c.change_of.ensures.store

@@ -1,8 +1,5 @@
 use Rattle.trust_matter.proofs.Table.{refuses_least, none_holds}
 use Rattle.trust_matter.proofs.laws.least_refusal.Goals as goal
 
-pub returns-clause-least : goal.returns-clause-least
-returns-clause-least c = refuses_least
-
-pub returns-clause-none : goal.returns-clause-none
-returns-clause-none c = none_holds
+pub returns : goal.returns
+returns c = record { least = refuses_least; none = none_holds }

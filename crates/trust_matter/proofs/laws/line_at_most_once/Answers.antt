@@ -1,8 +1,5 @@
 use Rattle.trust_matter.proofs.Purging.{line-unchanged, line-repeat}
 use Rattle.trust_matter.proofs.laws.line_at_most_once.Goals as goal
 
-pub returns-clause-unchanged : goal.returns-clause-unchanged
-returns-clause-unchanged c = line-unchanged
-
-pub returns-clause-repeat : goal.returns-clause-repeat
-returns-clause-repeat c = line-repeat
+pub returns : goal.returns
+returns c = record { unchanged = line-unchanged; repeat = line-repeat }

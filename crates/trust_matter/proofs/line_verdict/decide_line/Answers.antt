@@ -1,12 +1,7 @@
-use Rattle.std.proofs.Common.{◌≡◌, true, false, refl, sym, ap, ◌∙◌, subst, Result, Err}
+use Rattle.trust_matter.proofs.Names.{◌≡◌, true, false, refl, sym, ap, ◌∙◌, subst, Result, Err, is_line_again, Rows, Sound, IsPart, kept_at, entry_in, IsApplied, LineDecides, told_by}
 use Rattle.trust_base.specs.declared.refusal.StoreFault.{StoreFault}
 use Rattle.trust_base.specs.declared.refusal.StoreFault.TheVariants as faults
-use Rattle.matter_rows.specs.Clearings.{is_line_again}
-use Rattle.matter_rows.specs.Rows.{Rows}
-use Rattle.matter_rows.specs.Sound.{Sound}
-use Rattle.matter_parts.specs.Parts.{IsPart, kept_at, entry_in}
 use Rattle.trust_matter.specs.declared.line_verdict.LineVerdict.{LineVerdict}
-use Rattle.trust_matter.specs.LineStep.{IsApplied, LineDecides, told_by}
 use Rattle.trust_matter.proofs.Late.{handed-up}
 use Rattle.trust_matter.proofs.LineDecided.{applied-by, repeat-by, unmatched-by, line-same, line-made, line-no-store, line-memory}
 use Rattle.trust_matter.proofs.line_verdict.decide_line.Goals as goal

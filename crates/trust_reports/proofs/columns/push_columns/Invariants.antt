@@ -1,5 +1,4 @@
-use Rattle.std.proofs.Common.{◌≡◌, ◌++◌, take, flat_map}
-use Rattle.trust_reports.specs.Pieces.{row_text}
+use Rattle.trust_reports.proofs.Names.{◌≡◌, ◌++◌, take, flat_map, row_text}
 use Rattle.trust_reports.proofs.columns.push_columns.Given as goal
 
 -- the text so far

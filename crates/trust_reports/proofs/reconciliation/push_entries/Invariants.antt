@@ -1,5 +1,4 @@
-use Rattle.std.proofs.Common.{◌≡◌, ◌++◌, take, flat_map}
-use Rattle.trust_reports.specs.TextsOfReconciliation.{entry_line}
+use Rattle.trust_reports.proofs.Names.{◌≡◌, ◌++◌, take, flat_map, entry_line}
 use Rattle.trust_reports.proofs.reconciliation.push_entries.Given as goal
 
 -- the text so far

@@ -1,5 +1,4 @@
-use Rattle.std.proofs.Common.{◌≡◌, ◌++◌, take, flat_map}
-use Rattle.trust_reports.specs.TextsOfReconciliation.{listed_exception}
+use Rattle.trust_reports.proofs.Names.{◌≡◌, ◌++◌, take, flat_map, listed_exception}
 use Rattle.trust_reports.proofs.reconciliation.push_exceptions.Given as goal
 
 -- the text so far

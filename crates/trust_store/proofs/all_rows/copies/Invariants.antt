@@ -1,4 +1,4 @@
-use Rattle.std.proofs.Common.{◌≡◌, take}
+use Rattle.trust_store.proofs.Names.{◌≡◌, take}
 use Rattle.trust_store.proofs.all_rows.copies.Given as goal
 
 abbrev pub invariant-loop-row : goal.invariant-loop-row

@@ -1,5 +1,4 @@
-use Rattle.std.proofs.Common.{◌≡◌, drop}
-use Rattle.firm_rows.specs.FirmLines.{kept_balance}
+use Rattle.trust_store.proofs.Names.{◌≡◌, drop, kept_balance}
 use Rattle.trust_store.proofs.balances.balance_kept.Given as goal
 
 -- it is not among those that were passed

@@ -1,6 +1,4 @@
-use Rattle.std.proofs.Common.{rules}
-use Rattle.std.proofs.lemmas.Fn.{always_returns_same}
-use Rattle.firm_rows.specs.FirmLines.{balance_cmp}
+use Rattle.trust_store.proofs.Names.{rules, always_returns_same, balance_cmp}
 use Rattle.trust_store.proofs.Places.{found-balance, absent-balance}
 use Rattle.trust_store.proofs.balances.place_of.Goals as goal
 

@@ -1,4 +1,4 @@
-use Rattle.firm_rows.specs.Countable.{IsBalanceInRange}
+use Rattle.trust_store.proofs.Names.{IsBalanceInRange}
 use Rattle.trust_store.proofs.Sinks.{HandedSoFar}
 use Rattle.trust_store.proofs.handing.hand_balances.Given as goal
 

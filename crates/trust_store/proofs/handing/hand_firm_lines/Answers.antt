@@ -1,6 +1,4 @@
-use Rattle.std.proofs.Common.{arith, subst}
-use Rattle.trust_base.specs.Limits.{IsBankAmount}
-use Rattle.firm_rows.specs.Countable.{IsFirmLineInRange}
+use Rattle.trust_store.proofs.Names.{arith, subst, IsBankAmount, IsFirmLineInRange}
 use Rattle.trust_store.proofs.Sinks.{next_handed}
 use Rattle.trust_store.proofs.handing.hand_firm_lines.Goals as goal
 

@@ -1,4 +1,4 @@
-use Rattle.firm_rows.specs.Countable.{IsFirmLineInRange}
+use Rattle.trust_store.proofs.Names.{IsFirmLineInRange}
 use Rattle.trust_store.proofs.Sinks.{HandedSoFar}
 use Rattle.trust_store.proofs.handing.hand_firm_lines.Given as goal
 

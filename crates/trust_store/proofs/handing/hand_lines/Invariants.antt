@@ -1,4 +1,4 @@
-use Rattle.firm_rows.specs.Countable.{IsLineInRange}
+use Rattle.trust_store.proofs.Names.{IsLineInRange}
 use Rattle.trust_store.proofs.Sinks.{HandedSoFar}
 use Rattle.trust_store.proofs.handing.hand_lines.Given as goal
 

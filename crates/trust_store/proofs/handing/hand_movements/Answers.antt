@@ -1,5 +1,4 @@
-use Rattle.std.proofs.Common.{arith}
-use Rattle.firm_rows.specs.Countable.{IsMovementInRange}
+use Rattle.trust_store.proofs.Names.{arith, IsMovementInRange}
 use Rattle.trust_store.proofs.Sinks.{next_handed}
 use Rattle.trust_store.proofs.handing.hand_movements.Goals as goal
 

@@ -1,4 +1,4 @@
-use Rattle.firm_rows.specs.Countable.{IsMovementInRange}
+use Rattle.trust_store.proofs.Names.{IsMovementInRange}
 use Rattle.trust_store.proofs.Sinks.{HandedSoFar}
 use Rattle.trust_store.proofs.handing.hand_movements.Given as goal
 

@@ -1,7 +1,4 @@
-use Rattle.std.proofs.Common.{◌≤◌, length, arith}
-use Rattle.std.proofs.lemmas.Result.{on_ok_weaker}
-use Rattle.firm_rows.specs.Countable.{IsRowInRange, AreCountable, MOST_ROWS}
-use Rattle.trust_store.specs.Kept.{joined}
+use Rattle.trust_store.proofs.Names.{◌≤◌, length, arith, on_ok_weaker, IsRowInRange, AreCountable, MOST_ROWS, joined}
 use Rattle.trust_store.proofs.KeptMatters.{joined-ranged}
 use Rattle.trust_store.proofs.Sinks.{begun}
 use Rattle.trust_store.proofs.plain.hand_counted.Goals as goal

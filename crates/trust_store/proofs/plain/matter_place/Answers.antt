@@ -1,6 +1,4 @@
-use Rattle.std.proofs.Common.{◌≡◌, ℕ, subst, rules}
-use Rattle.std.proofs.lemmas.List.Sorted.{answers_always}
-use Rattle.trust_store.specs.Kept.{seek}
+use Rattle.trust_store.proofs.Names.{◌≡◌, ℕ, subst, rules, answers_always, seek}
 use Rattle.trust_store.proofs.Search.{searched}
 use Rattle.trust_store.proofs.plain.matter_place.Goals as goal
 

@@ -1,6 +1,4 @@
-use Rattle.std.proofs.Common.{◌+◌, arith, ap, drop, length, length-append}
-use Rattle.firm_rows.specs.Firm.{pairs}
-use Rattle.trust_store.specs.Kept.{joined, rows_kept}
+use Rattle.trust_store.proofs.Names.{◌+◌, arith, ap, drop, length, length-append, pairs, joined, rows_kept}
 use Rattle.trust_store.proofs.Sinks.{joined_from}
 use Rattle.trust_store.proofs.plain.row_count.Goals as goal
 

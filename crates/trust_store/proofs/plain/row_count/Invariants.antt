@@ -1,6 +1,4 @@
-use Rattle.std.proofs.Common.{◌≡◌, ◌≤◌, ◌+◌, drop, length}
-use Rattle.firm_rows.specs.Countable.{MOST_ROWS}
-use Rattle.trust_store.specs.Kept.{joined}
+use Rattle.trust_store.proofs.Names.{◌≡◌, ◌≤◌, ◌+◌, drop, length, MOST_ROWS, joined}
 use Rattle.trust_store.proofs.plain.row_count.Given as goal
 
 -- what was counted, and what is left

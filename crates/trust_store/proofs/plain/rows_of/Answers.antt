@@ -1,4 +1,4 @@
-use Rattle.std.proofs.Common.{arith, ap, length}
+use Rattle.trust_store.proofs.Names.{arith, ap, length}
 use Rattle.trust_store.proofs.KeptMatters.{pairs-counted}
 use Rattle.trust_store.proofs.plain.rows_of.Goals as goal
 

@@ -1,5 +1,4 @@
-use Rattle.std.proofs.Common.{rules, tests}
-use Rattle.std.proofs.lemmas.Fn.{filter_same}
+use Rattle.trust_store.proofs.Names.{rules, tests, filter_same}
 use Rattle.trust_store.proofs.plain.take_out.Goals as goal
 
 pub returns : goal.returns

@@ -1,4 +1,4 @@
-use Rattle.std.proofs.Common.{arith}
+use Rattle.trust_values.proofs.Names.{arith}
 use Rattle.trust_values.proofs.SignedFacts.{if-zero-none}
 use Rattle.trust_values.proofs.bank_amount.read_negative.Goals as goal
 

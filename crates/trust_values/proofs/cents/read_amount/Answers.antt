@@ -1,6 +1,4 @@
-use Rattle.std.proofs.Common.{◌∙◌, sym, arith}
-use Rattle.trust_values.specs.Limits.{IsAmount}
-use Rattle.trust_values.specs.Texts.{amount_text}
+use Rattle.trust_values.proofs.Names.{◌∙◌, sym, arith, IsAmount, amount_text}
 use Rattle.trust_values.proofs.AmountFacts.{sum-injective}
 use Rattle.trust_values.proofs.ReadFacts.{none-in-range}
 use Rattle.trust_values.proofs.cents.read_amount.Goals as goal

@@ -1,4 +1,4 @@
-use Rattle.std.proofs.Common.{◌≡◌, ◌∙◌, sym, arith}
+use Rattle.trust_values.proofs.Names.{◌≡◌, ◌∙◌, sym, arith}
 use Rattle.trust_values.proofs.WholeFacts.{decimal-shape, plain-test, parsed-text, text-parses}
 use Rattle.trust_values.proofs.cents.read_dollars.Goals as goal
 

@@ -1,4 +1,4 @@
-use Rattle.std.proofs.Common.{arith}
+use Rattle.trust_values.proofs.Names.{arith}
 use Rattle.trust_values.proofs.AmountFacts.{amount-parts}
 use Rattle.trust_values.proofs.cents.read_sum.Goals as goal
 

@@ -1,4 +1,4 @@
-use Rattle.std.proofs.Common.{sym, arith}
+use Rattle.trust_values.proofs.Names.{sym, arith}
 use Rattle.trust_values.proofs.DayFacts.{ten-bytes}
 use Rattle.trust_values.proofs.day.day_bytes.Goals as goal
 

@@ -1,6 +1,4 @@
-use Rattle.std.proofs.Common.{◌∙◌, arith, sym}
-use Rattle.trust_values.specs.Limits.{IsDay}
-use Rattle.trust_values.specs.Texts.{day_text}
+use Rattle.trust_values.proofs.Names.{◌∙◌, arith, sym, IsDay, day_text}
 use Rattle.trust_values.proofs.DayFacts.{day-bounds, day-injective}
 use Rattle.trust_values.proofs.ReadFacts.{none-in-range}
 use Rattle.trust_values.proofs.day.read_day.Goals as goal

@@ -1,6 +1,5 @@
-use Rattle.std.proofs.Common.{◌≡◌, length, take, drop, refl, arith, length-drop, rules}
+use Rattle.trust_values.proofs.Names.{◌≡◌, length, take, drop, refl, arith, length-drop, rules, month_day_of, month_of, year_of}
 use Rattle.std.proofs.lemmas.List.{length-take}
-use Rattle.trust_values.specs.Limits.{month_day_of, month_of, year_of}
 use Rattle.trust_values.proofs.DayFacts.{date-parts, none-of, number-joined}
 use Rattle.trust_values.proofs.day.read_number.Goals as goal
 

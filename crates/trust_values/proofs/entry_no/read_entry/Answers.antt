@@ -1,7 +1,4 @@
-use Rattle.std.proofs.Common.{ℕ, ◌∙◌, sym, ap, length, List, arith}
-use Rattle.trust_values.specs.Limits.{IsEntryNo}
-use Rattle.trust_values.specs.Texts.{entry_text}
-use Rattle.byte_streams.proofs.FixedFacts.{length-fixed, fixed-injective}
+use Rattle.trust_values.proofs.Names.{ℕ, ◌∙◌, sym, ap, length, List, arith, IsEntryNo, entry_text, length-fixed, fixed-injective}
 use Rattle.trust_values.proofs.ReadFacts.{none-in-range}
 use Rattle.trust_values.proofs.entry_no.read_entry.Goals as goal
 

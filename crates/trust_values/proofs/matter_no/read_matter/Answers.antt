@@ -1,7 +1,4 @@
-use Rattle.std.proofs.Common.{ℕ, ◌∙◌, sym, ap, length, List, arith}
-use Rattle.trust_values.specs.Limits.{IsMatterNo}
-use Rattle.trust_values.specs.Texts.{matter_text}
-use Rattle.byte_streams.proofs.FixedFacts.{length-fixed, fixed-injective}
+use Rattle.trust_values.proofs.Names.{ℕ, ◌∙◌, sym, ap, length, List, arith, IsMatterNo, matter_text, length-fixed, fixed-injective}
 use Rattle.trust_values.proofs.ReadFacts.{none-in-range}
 use Rattle.trust_values.proofs.matter_no.read_matter.Goals as goal
 

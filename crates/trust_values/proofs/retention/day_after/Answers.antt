@@ -1,7 +1,4 @@
-use Rattle.std.proofs.Common.{ℕ, ◌+◌, ◌<◌, ◌≡◌, sym, subst, ap, ◌∙◌, arith}
-use Rattle.std.proofs.lemmas.Bool.Decides.{nat_tests}
-use Rattle.trust_values.specs.Limits.{IsCivilDay, year_of}
-use Rattle.trust_values.specs.Retention.{next_day, IsDayAfter}
+use Rattle.trust_values.proofs.Names.{ℕ, ◌+◌, ◌<◌, ◌≡◌, sym, subst, ap, ◌∙◌, arith, nat_tests, IsCivilDay, year_of, next_day, IsDayAfter}
 use Rattle.trust_values.proofs.RetentionFacts.{first_behind, next-within, next-over, over-civil, after-over}
 use Rattle.trust_values.proofs.retention.day_after.Goals as goal
 use Rattle.trust_values.proofs.retention.day_after.Goals.{then-number-lt12, else-number-lt12}

@@ -1,7 +1,5 @@
-use Rattle.std.proofs.Common.{◌≡◌, List, ap, subst, arith, ◌++◌, ◌∷◌, [], ◌∙◌, ◌+ℤ◌}
-use Rattle.std.proofs.lemmas.Int.{ints}
-use Rattle.firm_rows.specs.declared.ledger.FirmLine.{FirmLine}
-use Rattle.firm_rows.specs.FirmLines.{balance_of, IsOwnBalance}
+use Rattle.firm_rows.proofs.Names.{◌≡◌, List, ap, subst, arith, ◌++◌, ◌∷◌, [], ◌∙◌, ints, FirmLine, balance_of, IsOwnBalance}
+use Rattle.std.proofs.Common.{◌+ℤ◌}
 use Rattle.firm_rows.proofs.Sums.{sum-append}
 use Rattle.firm_rows.proofs.ledger.FirmLedger.add.Goals as goal
 

@@ -1,6 +1,4 @@
-use Rattle.std.proofs.Common.{◌≡◌, List, length, ap, arith, subst}
-use Rattle.matter_parts.specs.declared.kept.Kept.{Kept}
-use Rattle.matter_parts.specs.Parts.{AreNumbered}
+use Rattle.matter_parts.proofs.Names.{◌≡◌, List, length, ap, arith, subst, Kept, AreNumbered}
 use Rattle.matter_parts.proofs.ByPlace.{placed, not-placed}
 use Rattle.matter_parts.proofs.kept.KeptEntries.place_of.Goals.{else-number-ge1-via-then-number-ge1+else-number-len, else-number-ge1-via-else-number-ge1}
 use Rattle.matter_parts.proofs.kept.KeptEntries.place_of.Goals as goal

@@ -1,4 +1,4 @@
-use Rattle.std.proofs.Common.{sym, ◌∙◌}
+use Rattle.matter_parts.proofs.Names.{sym, ◌∙◌}
 use Rattle.matter_parts.proofs.Applied.{after-append, after-exchange, after-nothing, after-open, after-seat, after-unseat, after-close, after-clear, ok-map, ok-both}
 use Rattle.matter_parts.proofs.matter.Matter.apply.Goals as goal
 

@@ -1,6 +1,4 @@
-use Rattle.std.proofs.Common.{List, subst, sym, ap, ◌∙◌}
-use Rattle.matter_parts.specs.declared.kept.Kept.{Kept}
-use Rattle.matter_parts.specs.Applied.{other_written}
+use Rattle.matter_parts.proofs.Names.{List, subst, sym, ap, ◌∙◌, Kept, other_written}
 use Rattle.matter_parts.proofs.Keepers.{AreSmallLefts, small-after}
 use Rattle.matter_parts.proofs.matter.Matter.keep.Goals as goal
 

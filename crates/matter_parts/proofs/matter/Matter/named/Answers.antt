@@ -1,4 +1,4 @@
-use Rattle.std.proofs.Common.{refl}
+use Rattle.matter_parts.proofs.Names.{refl}
 use Rattle.matter_parts.proofs.Naming.{has-named}
 use Rattle.matter_parts.proofs.matter.Matter.named.Goals as goal
 

@@ -1,6 +1,4 @@
-use Rattle.std.proofs.Common.{◌≤◌, List, All, subst, sym}
-use Rattle.matter_rows.specs.declared.limits.TheConstants.{MAX_TOTAL}
-use Rattle.matter_parts.specs.declared.kept.Kept.{Kept}
+use Rattle.matter_parts.proofs.Names.{◌≤◌, List, All, subst, sym, MAX_TOTAL, Kept}
 use Rattle.matter_parts.proofs.Keepers.{AreSmallLefts}
 use Rattle.matter_parts.proofs.WholeRows.{lefts-within}
 use Rattle.matter_parts.proofs.matter.Matter.of_part.Goals as goal

@@ -1,8 +1,4 @@
-use Rattle.std.proofs.Common.{List, sym, ◌∙◌, subst}
-use Rattle.std.proofs.lemmas.Bool.{false≢true}
-use Rattle.matter_rows.specs.declared.seat.Seat.{Seat}
-use Rattle.matter_rows.specs.Sound.{AreInOrder}
-use Rattle.matter_rows.specs.SoundRows.{AreInForm}
+use Rattle.matter_parts.proofs.Names.{List, sym, ◌∙◌, subst, false≢true, Seat, AreInOrder, AreInForm}
 use Rattle.matter_parts.proofs.Collected.{made-whole}
 use Rattle.matter_parts.proofs.WholeRows.{form-of, empty-of, backed-of, sound-of}
 use Rattle.matter_parts.proofs.StepForms.{rows-of}

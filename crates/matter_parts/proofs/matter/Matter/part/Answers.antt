@@ -1,5 +1,4 @@
-use Rattle.std.proofs.Common.{◌≡◌, List, ◌∙◌, subst, sym}
-use Rattle.matter_parts.specs.declared.kept.Kept.{Kept}
+use Rattle.matter_parts.proofs.Names.{◌≡◌, List, ◌∙◌, subst, sym, Kept}
 use Rattle.matter_parts.proofs.Keepers.{AreSmallLefts}
 use Rattle.matter_parts.proofs.Naming.{part-named, held-named, only-named, small-named, named-kept, named-made}
 use Rattle.matter_parts.proofs.matter.Matter.part.Goals as goal

@@ -1,4 +1,4 @@
-use Rattle.std.proofs.Common.{◌≡◌, ap, inl, inr, ℕ, Vec, Global}
+use Rattle.portal_messages.proofs.Names.{◌≡◌, ap, inl, inr, ℕ, Vec, Global}
 use Rattle.std.proofs.KnownBytes.{Keeps-trans}
 use Rattle.portal_messages.proofs.NextFacts.{bad-next, blank-next, cut-next}
 use Rattle.portal_messages.proofs.input.Source.next_head.Goals as goal

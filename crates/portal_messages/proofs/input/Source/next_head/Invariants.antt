@@ -1,6 +1,4 @@
-use Rattle.std.proofs.Common.{◌≡◌, ◌≤◌, length}
-use Rattle.std.specs.Io.KnownBytes.{Keeps}
-use Rattle.portal_messages.specs.Sources.{unread}
+use Rattle.portal_messages.proofs.Names.{◌≡◌, ◌≤◌, length, Keeps, unread}
 use Rattle.portal_messages.proofs.input.Source.next_head.Given as goal
 
 abbrev pub invariant-loop : goal.invariant-loop

@@ -1,7 +1,4 @@
-use Rattle.std.proofs.Common.{◌∙◌, ℕ, List, map, take, codes, sym, ap}
-use Rattle.httparse.specs.Spans.{header_bytes, span_bytes}
-use Rattle.portal_messages.specs.Heads.{front_of}
-use Rattle.portal_messages.specs.Fields.{values_of}
+use Rattle.portal_messages.proofs.Names.{◌∙◌, ℕ, List, map, take, codes, sym, ap, header_bytes, span_bytes, front_of, values_of}
 use Rattle.portal_messages.proofs.BodyFacts.{size_at, kept-next, refused-next, cut-body, message-gives}
 use Rattle.portal_messages.proofs.input.Source.read_next.Goals as goal
 

@@ -1,5 +1,4 @@
-use Rattle.std.proofs.lemmas.Result.{err_from_is_err_and}
-use Rattle.portal_requests.specs.Table.{TABLE}
+use Rattle.portal_requests.proofs.Names.{err_from_is_err_and, TABLE}
 use Rattle.portal_requests.proofs.TableFacts.{table-taken}
 use Rattle.portal_requests.proofs.routes.Routes.new.Goals as goal
 

@@ -1,4 +1,4 @@
-use Rattle.std.proofs.Common.{Some, refl}
+use Rattle.portal_requests.proofs.Names.{Some, refl}
 use Rattle.portal_requests.proofs.RouteFacts.{place-none, place-some}
 use Rattle.portal_requests.proofs.routes.Routes.place.Goals as goal
 

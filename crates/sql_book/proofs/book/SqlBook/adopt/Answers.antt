@@ -1,8 +1,4 @@
-use Rattle.std.proofs.Common.{inl, inr, sym, ap, subst, rules}
-use Rattle.sqlite.specs.Effect.{Database}
-use Rattle.sqlite.specs.Held.{state}
-use Rattle.sql_making.specs.Books.{IsBook}
-use Rattle.sql_rows.specs.Standing.{StandsSound, firm_in}
+use Rattle.sql_book.proofs.Names.{inl, inr, sym, ap, subst, rules, Database, state, IsBook, StandsSound, firm_in}
 use Rattle.sql_book.proofs.Moves.{moved_in, firm_moved_in}
 use Rattle.sql_book.proofs.Openings.{settled_lasts}
 use Rattle.sql_book.proofs.book.SqlBook.adopt.Goals as goal

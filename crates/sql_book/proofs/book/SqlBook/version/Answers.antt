@@ -1,9 +1,5 @@
-use Rattle.std.proofs.Common.{rules, ◌≡◌, ◌∷◌, [], subst, sym, to_z, of_z, w64}
+use Rattle.sql_book.proofs.Names.{rules, ◌≡◌, ◌∷◌, [], subst, sym, to_z, of_z, w64, state, versions_in, book_schema, HeldBook, at}
 use Rattle.sqlite_value.specs.declared.value.Value.TheVariants.{Int}
-use Rattle.sqlite.specs.Held.{state}
-use Rattle.sql_making.specs.Books.{versions_in}
-use Rattle.sql_schema.specs.Schema.{book_schema}
-use Rattle.sql_book.specs.Books.{HeldBook, at}
 use Rattle.sql_book.proofs.book.SqlBook.version.Goals as goal
 
 pub returns-in-Ok-Some-clause-is : goal.returns-in-Ok-Some-clause-is

@@ -1,4 +1,4 @@
-use Rattle.std.proofs.Common.{◌+◌, refl}
+use Rattle.statement_csv.proofs.Names.{◌+◌, refl}
 use Rattle.statement_csv.proofs.GivenFacts.{gives-within}
 use Rattle.statement_csv.proofs.lines.Lines.next.Goals as goal
 

@@ -1,4 +1,4 @@
-use Rattle.std.proofs.Common.{rules}
+use Rattle.statement_csv.proofs.Names.{rules}
 use Rattle.statement_csv.proofs.GivenFacts.{stands-start}
 use Rattle.statement_csv.proofs.lines.Lines.of_whole.Goals as goal
 

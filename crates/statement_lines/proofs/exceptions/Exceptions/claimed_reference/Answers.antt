@@ -1,6 +1,5 @@
-use Rattle.std.proofs.Common.{◌≡◌, ◌∙◌, sym, ap, true, rules}
+use Rattle.statement_lines.proofs.Names.{◌≡◌, ◌∙◌, sym, ap, true, rules, is_open}
 use Rattle.std.specs.Prelude.{option_copied}
-use Rattle.statement_lines.specs.OpenLines.{is_open}
 use Rattle.statement_lines.proofs.Alike.{claimed_named, claimed_none}
 use Rattle.statement_lines.proofs.exceptions.Exceptions.claimed_reference.Goals as goal
 

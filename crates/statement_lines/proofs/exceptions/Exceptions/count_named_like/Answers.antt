@@ -1,9 +1,4 @@
-use Rattle.std.proofs.Common.{◌≡◌, ◌∙◌, ap, ◌==◌, List}
-use Rattle.std.specs.List.{count_by, filter}
-use Rattle.trust_base.specs.declared.line.Line.{Line}
-use Rattle.statement_lines.specs.Keys.{line_key}
-use Rattle.statement_lines.specs.Lookups.{elements}
-use Rattle.statement_lines.specs.OpenLines.{is_named_like}
+use Rattle.statement_lines.proofs.Names.{◌≡◌, ◌∙◌, ap, ◌==◌, List, count_by, filter, Line, line_key, elements, is_named_like}
 use Rattle.statement_lines.proofs.Alike.{named_like_narrows}
 use Rattle.statement_lines.proofs.Found.{counted}
 use Rattle.statement_lines.proofs.exceptions.Exceptions.count_named_like.Goals as goal

@@ -1,9 +1,4 @@
-use Rattle.std.proofs.Common.{◌≡◌, ◌∙◌, ap, ◌==◌, List}
-use Rattle.std.specs.List.{filter, find}
-use Rattle.trust_base.specs.declared.line.Line.{Line}
-use Rattle.statement_lines.specs.Keys.{line_key}
-use Rattle.statement_lines.specs.Lookups.{elements}
-use Rattle.statement_lines.specs.OpenLines.{is_named_like}
+use Rattle.statement_lines.proofs.Names.{◌≡◌, ◌∙◌, ap, ◌==◌, List, filter, find, Line, line_key, elements, is_named_like}
 use Rattle.statement_lines.proofs.Alike.{named_like_narrows}
 use Rattle.statement_lines.proofs.Found.{first_found}
 use Rattle.statement_lines.proofs.exceptions.Exceptions.named_like.Goals as goal

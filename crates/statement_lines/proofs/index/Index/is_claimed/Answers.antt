@@ -1,11 +1,4 @@
-use Rattle.std.proofs.Common.{◌≡◌, ◌∙◌, ap, ◌==◌, List, rules}
-use Rattle.std.specs.List.{filter, list_any}
-use Rattle.std.specs.Str.{bytes_eq}
-use Rattle.trust_base.specs.declared.line.Line.{Line}
-use Rattle.statement_lines.specs.Keys.{claim_key, text_key}
-use Rattle.statement_lines.specs.Lookups.{elements}
-use Rattle.statement_lines.specs.OpenLines.{claimed_reference, is_claimed}
-use Rattle.statement_lines.specs.Sides.{Sides}
+use Rattle.statement_lines.proofs.Names.{◌≡◌, ◌∙◌, ap, ◌==◌, List, rules, filter, list_any, bytes_eq, Line, claim_key, text_key, elements, claimed_reference, is_claimed, Sides}
 use Rattle.statement_lines.proofs.Alike.{claims_narrows}
 use Rattle.statement_lines.proofs.Found.{any_found}
 use Rattle.statement_lines.proofs.index.Index.is_claimed.Goals as goal

@@ -1,8 +1,4 @@
-use Rattle.std.proofs.Common.{◌∙◌, ap, ◌==◌}
-use Rattle.std.specs.List.{filter}
-use Rattle.statement_lines.specs.Keys.{line_key}
-use Rattle.statement_lines.specs.Lookups.{elements}
-use Rattle.statement_lines.specs.Sides.{Sides}
+use Rattle.statement_lines.proofs.Names.{◌∙◌, ap, ◌==◌, filter, line_key, elements, Sides}
 use Rattle.statement_lines.proofs.index.Index.lines_of.Goals as goal
 
 pub returns : goal.returns

@@ -1,8 +1,4 @@
-use Rattle.std.proofs.Common.{◌≡◌, ◌∙◌, ap, ◌==◌, rules}
-use Rattle.std.specs.List.{filter}
-use Rattle.statement_lines.specs.Keys.{amount_key, waiting_key}
-use Rattle.statement_lines.specs.Lookups.{elements}
-use Rattle.statement_lines.specs.Sides.{Sides}
+use Rattle.statement_lines.proofs.Names.{◌≡◌, ◌∙◌, ap, ◌==◌, rules, filter, amount_key, waiting_key, elements, Sides}
 use Rattle.statement_lines.proofs.index.Index.waiting_of.Goals as goal
 
 pub returns : goal.returns

@@ -1,8 +1,4 @@
-use Rattle.std.proofs.Common.{◌≡◌, ◌∙◌, sym, ap, subst, true, false, ◌-◌, ◌≤◌, length, take, drop, rules, arith}
-use Rattle.std.specs.Prelude.{nat_le, nat_lt}
-use Rattle.std.specs.List.Sorted.{IsNonDecreasingBy, IsPartitionPoint}
-use Rattle.std.proofs.lemmas.List.{take_all, length-drop}
-use Rattle.std.proofs.lemmas.List.Sorted.{IsNonDecreasingBy-drop, IsPartitionPoint-from_clause, IsPartitionedBy-leb, IsPartitionedBy-ltb}
+use Rattle.statement_lines.proofs.Names.{◌≡◌, ◌∙◌, sym, ap, subst, true, false, ◌-◌, ◌≤◌, length, take, drop, rules, arith, nat_le, nat_lt, IsNonDecreasingBy, IsPartitionPoint, take_all, length-drop, IsNonDecreasingBy-drop, IsPartitionPoint-from_clause, IsPartitionedBy-leb, IsPartitionedBy-ltb}
 use Rattle.statement_lines.proofs.Lookups.{between}
 use Rattle.statement_lines.proofs.lookup.Lookup.at.Goals as goal
 

@@ -1,6 +1,4 @@
-use Rattle.std.proofs.Common.{◌∙◌, ap, rules}
-use Rattle.std.proofs.lemmas.List.Sorted.{IsNonDecreasingBy-from_sort_by_key, answers_always, length_permutation}
-use Rattle.statement_lines.specs.Lookups.{elements}
+use Rattle.statement_lines.proofs.Names.{◌∙◌, ap, rules, IsNonDecreasingBy-from_sort_by_key, answers_always, length_permutation, elements}
 use Rattle.statement_lines.proofs.Lookups.{kept_by_sort, looked_up}
 use Rattle.statement_lines.proofs.lookup.Lookup.of.Goals as goal
 

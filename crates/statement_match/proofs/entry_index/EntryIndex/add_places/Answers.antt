@@ -1,9 +1,4 @@
-use Rattle.std.proofs.Common.{◌≡◌, ◌∙◌, ap, subst, ◌==◌, ◌++◌, ℕ, List, map}
-use Rattle.std.specs.Prelude.{OnOk}
-use Rattle.std.specs.List.{filter}
-use Rattle.statement_lines.specs.Lookups.{elements}
-use Rattle.statement_lines.specs.Marks.{mark_of, marks_from}
-use Rattle.statement_lines.specs.declared.book_entry.BookEntry.{BookEntry}
+use Rattle.statement_match.proofs.Names.{◌≡◌, ◌∙◌, ap, subst, ◌==◌, ◌++◌, ℕ, List, map, OnOk, filter, elements, mark_of, marks_from, BookEntry}
 use Rattle.statement_match.proofs.entry_index.EntryIndex.add_places.Goals as goal
 
 pub returns : goal.returns

@@ -1,5 +1,4 @@
-use Rattle.std.proofs.Common.{◌≡◌, take, flat_map}
-use Rattle.statement_lines.specs.Places.{places_with}
+use Rattle.statement_match.proofs.Names.{◌≡◌, take, flat_map, places_with}
 use Rattle.statement_match.proofs.entry_index.EntryIndex.places.Given as goal
 
 abbrev pub invariant-loop-mark : goal.invariant-loop-mark

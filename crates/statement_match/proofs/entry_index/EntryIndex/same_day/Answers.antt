@@ -1,12 +1,4 @@
-use Rattle.std.proofs.Common.{◌≡◌, ◌∙◌, ap, ◌==◌, List, rules}
-use Rattle.std.specs.Prelude.{option_map}
-use Rattle.std.specs.List.{filter, find}
-use Rattle.statement_lines.specs.EntryStates.{is_held}
-use Rattle.statement_lines.specs.Keys.{day_key}
-use Rattle.statement_lines.specs.Lookups.{elements}
-use Rattle.statement_lines.specs.declared.book_entry.BookEntry.{BookEntry}
-use Rattle.statement_lines.proofs.Found.{find_both, find_elements}
-use Rattle.statement_match.specs.DaySums.{same_day}
+use Rattle.statement_match.proofs.Names.{◌≡◌, ◌∙◌, ap, ◌==◌, List, rules, option_map, filter, find, is_held, day_key, elements, BookEntry, find_both, find_elements, same_day}
 use Rattle.statement_match.proofs.FirstDay.{day_of_found}
 use Rattle.statement_match.proofs.entry_index.EntryIndex.same_day.Goals as goal
 

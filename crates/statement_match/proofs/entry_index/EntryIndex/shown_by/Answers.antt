@@ -1,9 +1,4 @@
-use Rattle.std.proofs.Common.{◌∙◌, ap, List, flat_map}
-use Rattle.std.specs.Prelude.{option_to_list, slice_get}
-use Rattle.std.specs.List.{filter}
-use Rattle.statement_lines.specs.Marks.{is_shown}
-use Rattle.statement_lines.specs.Places.{places_with}
-use Rattle.statement_lines.specs.declared.book_entry.BookEntry.{BookEntry}
+use Rattle.statement_match.proofs.Names.{◌∙◌, ap, List, flat_map, option_to_list, slice_get, filter, is_shown, places_with, BookEntry}
 use Rattle.statement_lines.proofs.Shown.{all_shown}
 use Rattle.statement_match.proofs.entry_index.EntryIndex.shown_by.Goals as goal
 

@@ -1,13 +1,4 @@
-use Rattle.std.proofs.Common.{◌≡◌, ◌∙◌, ap, ◌==◌, List, rules, arith}
-use Rattle.std.proofs.lemmas.Int.{ints, to_z-of_z}
-use Rattle.std.specs.List.{filter}
-use Rattle.firm_rows.specs.Sums.{sum_of}
-use Rattle.statement_lines.specs.EntryStates.{is_held}
-use Rattle.statement_lines.specs.Keys.{day_key}
-use Rattle.statement_lines.specs.Lookups.{elements}
-use Rattle.statement_lines.specs.declared.book_entry.BookEntry.{BookEntry}
-use Rattle.statement_lines.proofs.Found.{filter_both}
-use Rattle.statement_match.specs.DaySums.{amount_of, together_on}
+use Rattle.statement_match.proofs.Names.{◌≡◌, ◌∙◌, ap, ◌==◌, List, rules, arith, ints, to_z-of_z, filter, sum_of, is_held, day_key, elements, BookEntry, filter_both, amount_of, together_on}
 use Rattle.statement_match.proofs.entry_index.EntryIndex.sum_on.Goals as goal
 
 pub returns : goal.returns

@@ -1,7 +1,4 @@
-use Rattle.std.proofs.Common.{◌∙◌, ap, subst, ℕ, List, ◌↔◌}
-use Rattle.std.specs.List.{Contains}
-use Rattle.statement_lines.specs.declared.book_entry.BookEntry.{BookEntry}
-use Rattle.statement_match.specs.DaySums.{day_sums, day_with, held_days}
+use Rattle.statement_match.proofs.Names.{◌∙◌, ap, subst, ℕ, List, ◌↔◌, Contains, BookEntry, day_sums, day_with, held_days}
 use Rattle.statement_match.proofs.FirstDay.{sums_are}
 use Rattle.statement_match.proofs.entry_index.EntryIndex.sums_by_day.Goals as goal
 

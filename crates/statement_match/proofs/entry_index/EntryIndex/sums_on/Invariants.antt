@@ -1,5 +1,4 @@
-use Rattle.std.proofs.Common.{◌≡◌, take}
-use Rattle.statement_match.specs.DaySums.{day_sums}
+use Rattle.statement_match.proofs.Names.{◌≡◌, take, day_sums}
 use Rattle.statement_match.proofs.entry_index.EntryIndex.sums_on.Given as goal
 
 abbrev pub invariant-loop-day : goal.invariant-loop-day

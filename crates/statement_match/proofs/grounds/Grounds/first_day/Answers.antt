@@ -1,8 +1,4 @@
-use Rattle.std.proofs.Common.{◌≡◌, ◌∙◌, sym, ap, Some, List, arith}
-use Rattle.std.proofs.lemmas.Int.{ints, to_z-of_z}
-use Rattle.statement_lines.specs.declared.book_entry.BookEntry.{BookEntry}
-use Rattle.statement_match.specs.DaySums.{day_with, first_day, same_day}
-use Rattle.statement_match.specs.Grounds.{Grounds}
+use Rattle.statement_match.proofs.Names.{◌≡◌, ◌∙◌, sym, ap, Some, List, arith, ints, to_z-of_z, BookEntry, day_with, first_day, same_day, Grounds}
 use Rattle.statement_match.proofs.FirstDay.{day_is}
 use Rattle.statement_match.proofs.grounds.Grounds.first_day.Goals as goal
 

@@ -1,9 +1,4 @@
-use Rattle.std.proofs.Common.{◌≡◌, ◌∙◌, ap, ◌==◌, ℕ, rules}
-use Rattle.std.specs.List.{filter}
-use Rattle.trust_base.specs.declared.line.Line.{Line}
-use Rattle.statement_lines.specs.Keys.{amount_key, waiting_key}
-use Rattle.statement_lines.specs.Lookups.{elements}
-use Rattle.statement_match.specs.Grounds.{Grounds, numbered, plain_pairs}
+use Rattle.statement_match.proofs.Names.{◌≡◌, ◌∙◌, ap, ◌==◌, ℕ, rules, filter, Line, amount_key, waiting_key, elements, Grounds, numbered, plain_pairs}
 use Rattle.statement_match.proofs.Numbered.{pairs_found}
 use Rattle.statement_match.proofs.grounds.Grounds.lines_of_amount.Goals as goal
 

@@ -1,9 +1,4 @@
-use Rattle.std.proofs.Common.{◌≡◌, ◌∙◌, ap, subst}
-use Rattle.std.specs.List.{filter}
-use Rattle.statement_lines.specs.Lookups.{elements}
-use Rattle.statement_lines.specs.Marks.{is_shown}
-use Rattle.statement_lines.specs.Relations.{stands}
-use Rattle.statement_match.specs.Grounds.{LineGrounds}
+use Rattle.statement_match.proofs.Names.{◌≡◌, ◌∙◌, ap, subst, filter, elements, is_shown, stands, LineGrounds}
 use Rattle.statement_match.proofs.Candidates.{amount_kept, held_kept, named_kept, shown_kept}
 use Rattle.statement_match.proofs.grounds.LineGrounds.candidates.Goals as goal
 

@@ -1,6 +1,4 @@
-use Rattle.std.proofs.Common.{arith}
-use Rattle.std.proofs.lemmas.Str.{is_utf8-from_IsUtf8}
-use Rattle.trust_base.specs.Names.{is_label_text}
+use Rattle.trust_base.proofs.Names.{arith, is_utf8-from_IsUtf8, is_label_text}
 use Rattle.trust_base.proofs.NameFacts.{is_utf8-of_other}
 use Rattle.trust_base.proofs.label.LabelFormForm.admits.Goals as goal
 

@@ -1,4 +1,4 @@
-use Rattle.std.proofs.Common.{arith}
+use Rattle.trust_base.proofs.Names.{arith}
 use Rattle.trust_values.proofs.DayFacts.{day-bounds}
 use Rattle.trust_values.proofs.CivilDayFacts.{civil_day-bound}
 use Rattle.trust_base.proofs.refusal.Refusal.push_leading.Goals as goal

@@ -1,12 +1,4 @@
-use Rattle.std.proofs.Common.{◌≡◌, ◌∙◌, ap, refl, rules, subst, sym}
-use Rattle.trust_desk.specs.declared.requests.Reply.{Reply}
-use Rattle.trust_desk.specs.declared.requests.Request.{Request}
-use Rattle.trust_desk.specs.declared.requests.Request.TheVariants.{Import}
-use Rattle.trust_desk.specs.Answered.{IsAnswered}
-use Rattle.trust_desk.specs.Counts.{counted_reply}
-use Rattle.trust_desk.specs.FirmStep.{Steps}
-use Rattle.trust_desk.specs.Heard.{Asks, Heard, kind_of}
-use Rattle.trust_desk.specs.Replies.{is_fault_reply, reply_for}
+use Rattle.trust_desk.proofs.Names.{◌≡◌, ◌∙◌, ap, refl, rules, subst, sym, Reply, Request, Import, IsAnswered, counted_reply, Steps, Asks, Heard, kind_of, is_fault_reply, reply_for}
 use Rattle.trust_desk.proofs.Answered.{answered-ask, answered-import, end-counted, end-fault}
 use Rattle.trust_desk.proofs.Calls.{kept-as}
 use Rattle.trust_desk.proofs.Crashes.{leave-as}

@@ -1,20 +1,7 @@
-use Rattle.std.proofs.Common.{◌∙◌, ap, sym, subst, ◌≡◌, false, refl}
-use Rattle.std.proofs.lemmas.Result.{err_from_is_err_and}
-use Rattle.matter_rows.specs.Rows.{Rows}
-use Rattle.matter_parts.specs.Changes.{IsChange}
-use Rattle.trust_matter.specs.Step.{MayRefuse, refusal}
-use Rattle.firm_rows.specs.Firm.{Firm, of, after_change}
-use Rattle.trust_desk.specs.Calls.{KeepsBook}
-use Rattle.trust_desk.specs.Heard.{asked_on}
-use Rattle.trust_desk.specs.Counts.{counted_refusal}
-use Rattle.trust_desk.specs.Plan.{IsPlanned}
+use Rattle.trust_desk.proofs.Names.{◌∙◌, ap, sym, subst, ◌≡◌, false, refl, err_from_is_err_and, Rows, IsChange, MayRefuse, refusal, Firm, of, after_change, KeepsBook, asked_on, counted_refusal, IsPlanned, MayLeaveChange, is_fault_end, is_fault, after_ask, false≢true}
 use Rattle.trust_desk.proofs.Calls.{read-kept, write-kept, kept-then, kept-as}
 use Rattle.trust_desk.proofs.Refused.{at-part, plan-refused, plan-uncounted, plan-accepted, refused-still, fault-told}
-use Rattle.trust_desk.specs.Crashes.{MayLeaveChange, is_fault_end}
-use Rattle.trust_base.specs.Refusals.{is_fault}
-use Rattle.trust_desk.specs.FirmStep.{after_ask}
 use Rattle.trust_desk.proofs.Crashes.{leave-as, read-leaves, written-leaves, leave-failed}
-use Rattle.std.proofs.lemmas.Bool.{false≢true}
 use Rattle.trust_desk.proofs.desk.Desk.answer_ask.Goals as goal
 
 pub returns-in_err-planned-clause-end : goal.returns-in_err-planned-clause-end

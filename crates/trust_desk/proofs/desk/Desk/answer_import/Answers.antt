@@ -1,9 +1,6 @@
-use Rattle.std.proofs.Common.{◌∙◌, refl, sym}
-use Rattle.std.proofs.lemmas.Result.{err_from_is_err_and}
-use Rattle.trust_desk.specs.Counts.{counted_refusal}
+use Rattle.trust_desk.proofs.Names.{◌∙◌, refl, sym, err_from_is_err_and, counted_refusal, false≢true}
 use Rattle.trust_desk.proofs.Calls.{kept-as, kept-still}
 use Rattle.trust_desk.proofs.ImportSteps.{import-unfit, unfit-uncounted, import-stopped, import-untold, import-told, import-makes}
-use Rattle.std.proofs.lemmas.Bool.{false≢true}
 use Rattle.trust_desk.proofs.Crashes.{leave-as, leave-failed, leave-still}
 use Rattle.trust_desk.proofs.desk.Desk.answer_import.Goals as goal
 

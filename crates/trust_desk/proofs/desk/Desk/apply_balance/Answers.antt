@@ -1,11 +1,4 @@
-use Rattle.std.proofs.Common.{◌∙◌, Err, Ok, ap, sym, subst}
-use Rattle.std.proofs.lemmas.Result.{err_from_is_err_and}
-use Rattle.firm_rows.specs.declared.ledger.Verdict.{Verdict}
-use Rattle.firm_rows.specs.Firm.{Firm}
-use Rattle.firm_rows.specs.FirmChange.{after, by_balance}
-use Rattle.firm_rows.specs.FirmLines.{balance_verdict, kept_balance}
-use Rattle.trust_desk.specs.Applied.{IsItemApplied}
-use Rattle.trust_desk.specs.ItemStep.{balance_item, counted_by}
+use Rattle.trust_desk.proofs.Names.{◌∙◌, Err, Ok, ap, sym, subst, err_from_is_err_and, Verdict, Firm, after, by_balance, balance_verdict, kept_balance, IsItemApplied, balance_item, counted_by}
 use Rattle.trust_desk.proofs.ItemsApplied.{item-unwritten, item-written}
 use Rattle.trust_desk.proofs.OnceBank.{after-balance, counted-balance}
 use Rattle.trust_desk.proofs.desk.Desk.apply_balance.Goals as goal

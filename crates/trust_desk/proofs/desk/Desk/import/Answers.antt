@@ -1,5 +1,4 @@
-use Rattle.std.specs.Prelude.{option_map}
-use Rattle.statement_csv.specs.Items.{items}
+use Rattle.trust_desk.proofs.Names.{option_map, items}
 use Rattle.trust_desk.proofs.ItemsRead.{imports-others}
 use Rattle.trust_desk.proofs.desk.Desk.import.Goals as goal
 

@@ -1,9 +1,6 @@
-use Rattle.std.proofs.Common.{refl, ap, sym, ◌∙◌}
-use Rattle.statement_csv.specs.Items.{items}
+use Rattle.trust_desk.proofs.Names.{refl, ap, sym, ◌∙◌, items, false≢true, is_stopped}
 use Rattle.trust_base.specs.declared.refusal.Refusal.TheVariants.{Memory}
 use Rattle.trust_desk.proofs.ImportSteps.{front-applied, stopped-by}
-use Rattle.std.proofs.lemmas.Bool.{false≢true}
-use Rattle.trust_desk.specs.Crashes.{is_stopped}
 use Rattle.trust_desk.proofs.Crashes.{leave-as, leave-failed}
 use Rattle.trust_desk.proofs.MadeRows.{front-of-items}
 use Rattle.trust_desk.proofs.desk.Desk.import_bytes.Goals as goal

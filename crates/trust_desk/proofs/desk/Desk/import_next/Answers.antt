@@ -1,6 +1,4 @@
-use Rattle.std.proofs.Common.{Option, refl, subst}
-use Rattle.statement_csv.specs.Reading.{Gives}
-use Rattle.statement_csv.specs.declared.item.Item.{Item}
+use Rattle.trust_desk.proofs.Names.{Option, refl, subst, Gives, Item}
 use Rattle.trust_desk.proofs.Crashes.{leave-as}
 use Rattle.trust_desk.proofs.desk.Desk.import_next.Goals as goal
 

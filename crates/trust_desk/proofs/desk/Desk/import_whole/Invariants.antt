@@ -1,9 +1,4 @@
-use Rattle.std.proofs.Common.{◌≡◌, ◌+◌}
-use Rattle.std.specs.Prelude.{option_map, ⊤}
-use Rattle.statement_csv.specs.Items.{items}
-use Rattle.trust_desk.specs.Calls.{KeepsBook}
-use Rattle.trust_desk.specs.Crashes.{IsAfterFirst, MayLeave}
-use Rattle.trust_desk.specs.Imports.{AreBelow, IsAmid}
+use Rattle.trust_desk.proofs.Names.{◌≡◌, ◌+◌, None, option_map, ⊤, items, KeepsBeside, IsAfterFirst, MayLeave, AreBelow, IsAmid}
 use Rattle.trust_desk.proofs.desk.Desk.import_whole.Given as goal
 
 -- the items so far were applied and counted, and none was stopped by the store
@@ -14,7 +9,7 @@ invariant-loop-turn g l =
     record {
       amid : IsAmid l.fn.day (B.clean l.self × B.stands l.fn.self) (firm l.fn.self) (firm l.self) (option_map items (g.R.Read.remaining l.fn.reader)) l.lines.left l.reply;
       room : AreBelow (l.turn + 1) l.reply;
-      kept : KeepsBook B.clean B.sure B.stands B.lasts B.refusals (λ n. n) l.fn.self l.self;
+      kept : KeepsBeside B.firm B.clean B.sure B.stands B.lasts B.refusals (λ n. n) l.fn.self None l.self l.own;
       crash : B.sure l.self → B.clean l.fn.self → B.stands l.fn.self → MayLeave B.clean B.leaves ⊤ (IsAfterFirst l.fn.day (firm l.fn.self) (option_map items (g.R.Read.remaining l.fn.reader))) (firm l.fn.self) (firm l.self) l.fn.self l.self;
       day : l.day ≡ l.fn.day;
     }

@@ -1,16 +1,9 @@
-use Rattle.std.proofs.Common.{ℕ, ◌≡◌, ◌∙◌, ◌+◌, ◌++◌, ◌∷◌, [], List, ap, refl, sym, arith, take, length, length-append, subst, false}
-use Rattle.trust_desk.specs.declared.requests.Reply.{Reply}
-use Rattle.trust_desk.specs.Counts.{counted_replies}
-use Rattle.trust_desk.specs.Heard.{heard, Heard, Asks}
+use Rattle.trust_desk.proofs.Names.{ℕ, ◌≡◌, ◌∙◌, ◌+◌, ◌++◌, ◌∷◌, [], List, ap, refl, sym, arith, take, length, length-append, subst, false, Reply, counted_replies, heard, Heard, Asks, AreNoFaults, AreNoFaultsButLast, IsMadeInRun, MayLeave, before_fault, RunsSoundly, is_fault_reply, KeepsBook}
 use Rattle.trust_desk.proofs.Calls.{kept-then, kept-as, kept-still}
 use Rattle.trust_desk.proofs.Runs.{run-more, counted-push, sound-runs-are-runs, heard-more}
 use Rattle.trust_desk.proofs.Own.{own-run}
-use Rattle.trust_desk.specs.Crashes.{AreNoFaults, AreNoFaultsButLast, IsMadeInRun, MayLeave, before_fault}
-use Rattle.trust_desk.specs.FirmStep.{RunsSoundly}
-use Rattle.trust_desk.specs.Replies.{is_fault_reply}
 use Rattle.trust_desk.proofs.Crashes.{leave-as, leave-then, leave-still}
 use Rattle.trust_desk.proofs.MadeRows.{AreRun, made-before, made-last, none-at_all, none-before, none-last, plain-step, run-before}
-use Rattle.trust_desk.specs.Calls.{KeepsBook}
 use Rattle.trust_desk.proofs.desk.Desk.run.Goals as goal
 
 pub loop-request-preserved : goal.loop-request-preserved

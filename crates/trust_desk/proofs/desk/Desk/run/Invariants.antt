@@ -1,9 +1,4 @@
-use Rattle.std.proofs.Common.{◌≡◌, take, length}
-use Rattle.trust_desk.specs.Calls.{KeepsBook}
-use Rattle.trust_desk.specs.Crashes.{AreNoFaults, AreNoFaultsButLast, IsMadeInRun, MayLeave, before_fault}
-use Rattle.trust_desk.specs.Heard.{heard}
-use Rattle.trust_desk.specs.FirmStep.{RunsSoundly}
-use Rattle.trust_desk.specs.Counts.{counted_replies}
+use Rattle.trust_desk.proofs.Names.{◌≡◌, take, length, KeepsBook, AreNoFaults, AreNoFaultsButLast, IsMadeInRun, MayLeave, before_fault, heard, RunsSoundly, counted_replies}
 use Rattle.trust_desk.proofs.MadeRows.{AreRun}
 use Rattle.trust_desk.proofs.desk.Desk.run.Given as goal
 

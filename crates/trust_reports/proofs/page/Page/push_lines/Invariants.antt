@@ -1,4 +1,4 @@
-use Rattle.std.proofs.Common.{◌≡◌, ◌++◌, take, flat_map}
+use Rattle.trust_reports.proofs.Names.{◌≡◌, ◌++◌, take, flat_map}
 use Rattle.trust_reports.proofs.page.Page.push_lines.Given as goal
 
 -- the text so far

@@ -1,4 +1,4 @@
-use Rattle.std.proofs.Common.{◌≡◌, ◌++◌, replicate}
+use Rattle.trust_reports.proofs.Names.{◌≡◌, ◌++◌, replicate}
 use Rattle.trust_reports.proofs.page.Page.push_spaces.Given as goal
 
 abbrev pub invariant-loop-space : goal.invariant-loop-space

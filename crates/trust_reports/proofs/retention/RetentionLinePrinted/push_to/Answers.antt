@@ -1,5 +1,4 @@
-use Rattle.std.proofs.Common.{[], ◌∷◌, codes}
-use Rattle.trust_base.specs.Texts.{day_text, matter_text}
+use Rattle.trust_reports.proofs.Names.{[], ◌∷◌, codes, day_text, matter_text}
 use Rattle.trust_reports.specs.TextsOfLists.{purge_fields, retention_line}
 use Rattle.trust_reports.proofs.TextFacts.{fields_more}
 use Rattle.trust_reports.proofs.retention.RetentionLinePrinted.push_to.Goals as goal

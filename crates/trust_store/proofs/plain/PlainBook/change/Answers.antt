@@ -1,8 +1,4 @@
-use Rattle.std.proofs.Common.{None, refl, sym, subst, ◌∙◌}
-use Rattle.matter_parts.specs.Changes.{changed}
-use Rattle.firm_rows.specs.FirmChange.{OfMatter}
-use Rattle.firm_rows.specs.FirmSound.{FirmSound}
-use Rattle.trust_store.specs.Kept.{rows_in}
+use Rattle.trust_store.proofs.Names.{None, refl, sym, subst, ◌∙◌, changed, OfMatter, FirmSound, rows_in}
 use Rattle.trust_store.proofs.KeptMatters.{change_in, kept-whole, written_firm}
 use Rattle.trust_store.proofs.plain.PlainBook.change.Goals as goal
 

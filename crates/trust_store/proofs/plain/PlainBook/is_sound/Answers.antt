@@ -1,5 +1,4 @@
-use Rattle.std.proofs.Common.{subst}
-use Rattle.firm_rows.specs.FirmSound.{FirmSound}
+use Rattle.trust_store.proofs.Names.{subst, FirmSound}
 use Rattle.trust_store.proofs.plain.PlainBook.is_sound.Goals as goal
 
 pub returns : goal.returns

@@ -1,6 +1,4 @@
-use Rattle.std.proofs.Common.{subst}
-use Rattle.matter_rows.specs.Rows.{Rows}
-use Rattle.matter_parts.specs.Parts.{IsWhole}
+use Rattle.trust_store.proofs.Names.{subst, Rows, IsWhole}
 use Rattle.trust_store.proofs.KeptMatters.{firm_rows}
 use Rattle.trust_store.proofs.plain.PlainBookBook.matter.Goals as goal
 

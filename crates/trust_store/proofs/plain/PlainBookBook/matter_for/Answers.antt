@@ -1,6 +1,4 @@
-use Rattle.std.proofs.Common.{subst}
-use Rattle.matter_rows.specs.Rows.{Rows}
-use Rattle.trust_store.specs.Named.{IsPartFor}
+use Rattle.trust_store.proofs.Names.{subst, Rows, IsPartFor}
 use Rattle.trust_store.proofs.KeptMatters.{firm_rows}
 use Rattle.trust_store.proofs.plain.PlainBookBook.matter_for.Goals as goal
 

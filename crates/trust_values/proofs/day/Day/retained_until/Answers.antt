@@ -1,6 +1,4 @@
-use Rattle.std.proofs.Common.{arith, sym, subst, ◌∙◌, ℕ, ◌+◌, ◌≡◌, ◌≤◌, ap}
-use Rattle.trust_values.specs.Limits.{IsCivilDay, year_of}
-use Rattle.trust_values.specs.Retention.{retained_until}
+use Rattle.trust_values.proofs.Names.{arith, sym, subst, ◌∙◌, ℕ, ◌+◌, ◌≡◌, ◌≤◌, ap, IsCivilDay, year_of, retained_until}
 use Rattle.trust_values.proofs.DayFacts.{day-bounds}
 use Rattle.trust_values.proofs.RetentionFacts.{retained-civil-leap, retained-civil-other, retained-leap, retained-other, retained-year}
 use Rattle.trust_values.proofs.day.Day.retained_until.Goals as goal

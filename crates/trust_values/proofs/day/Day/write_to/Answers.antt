@@ -1,4 +1,4 @@
-use Rattle.std.proofs.Common.{arith}
+use Rattle.trust_values.proofs.Names.{arith}
 use Rattle.trust_values.proofs.DayFacts.{day-bounds}
 use Rattle.trust_values.proofs.day.Day.write_to.Goals as goal
 

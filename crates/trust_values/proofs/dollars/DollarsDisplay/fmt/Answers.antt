@@ -1,4 +1,4 @@
-use Rattle.std.proofs.Common.{rules, FitsSigned}
+use Rattle.trust_values.proofs.Names.{rules, FitsSigned}
 use Rattle.std.specs.Int.{w128}
 use Rattle.std.proofs.lemmas.Int.{to_z-of_z}
 use Rattle.trust_values.proofs.AmountFacts.{below-zero-text, not-below-zero-text, printed-text}

@@ -1,4 +1,4 @@
-use Rattle.std.proofs.Common.{rules}
+use Rattle.trust_values.proofs.Names.{rules}
 use Rattle.trust_values.proofs.EntryFacts.{four-digits}
 use Rattle.trust_values.proofs.entry_no.EntryNo.digits.Goals as goal
 

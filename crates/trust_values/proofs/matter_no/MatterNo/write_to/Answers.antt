@@ -1,5 +1,4 @@
-use Rattle.std.proofs.Common.{rules}
-use Rattle.byte_streams.proofs.FixedFacts.{six-digits}
+use Rattle.trust_values.proofs.Names.{rules, six-digits}
 use Rattle.trust_values.proofs.matter_no.MatterNo.write_to.Goals as goal
 
 pub returns-clause-ok : goal.returns-clause-ok

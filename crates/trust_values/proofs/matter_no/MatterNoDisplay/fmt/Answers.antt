@@ -1,4 +1,4 @@
-use Rattle.byte_streams.proofs.FixedFacts.{printed-six}
+use Rattle.trust_values.proofs.Names.{printed-six}
 use Rattle.trust_values.proofs.matter_no.MatterNoDisplay.fmt.Goals as goal
 
 pub returns-clause-writes : goal.returns-clause-writes

@@ -1,0 +1,22 @@
+use Rattle.cashier.proofs.Names.{◌∙◌, inl, inr, sym}
+use Rattle.cashier.proofs.CallFacts.{book-kept}
+use Rattle.cashier.proofs.StreamFacts.{stream-ends, stream-no-store}
+use Rattle.cashier.proofs.program.run_plan.Goals as goal
+
+pub returns-in-Stream-clause-ends : goal.returns-in-Stream-clause-ends
+returns-in-Stream-clause-ends g c = λ words means clean stands. inr (inr (inr (inl (record {
+  today = c.args.plan.now.today;
+  means = rw c.in-Stream.is at means;
+  ends = record { end = c.serve_stream.result; outcome = sym c.outcome_of_stream.ensures; ends = stream-ends c.serve_stream.ensures clean stands };
+}))))
+
+pub returns-in-Stream-clause-kept : goal.returns-in-Stream-clause-kept
+returns-in-Stream-clause-kept g c = λ words means.
+    book-kept (λ before after counted. inl (λ store. absurd (stream-no-store _ (sym c.outcome_of_stream.ensures ∙ store)))) c.serve_stream.ensures.kept
+
+pub returns-in-Stream-clause-crash : goal.returns-in-Stream-clause-crash
+returns-in-Stream-clause-crash g c = λ words means sure clean stands. inr (inr (inr (inl (record {
+  today = c.args.plan.now.today;
+  means = rw c.in-Stream.is at means;
+  messages = (c.serve_stream.result, sym c.outcome_of_stream.ensures, c.serve_stream.ensures);
+}))))

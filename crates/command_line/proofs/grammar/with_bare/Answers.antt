@@ -1,8 +1,0 @@
-use Rattle.std.proofs.Common.{rules, ap, ◌∙◌}
-use Rattle.std.proofs.lemmas.Result.{IfOk-weaker}
-use Rattle.clap.specs.Words.{App, app_of, with_subcommand}
-use Rattle.command_line.proofs.grammar.with_bare.Goals as goal
-
-pub returns : goal.returns
-returns c = IfOk-weaker c.subcommand.result _ _
-    (λ command added. added.shape (search rules) ∙ ap (with_subcommand (app_of c.args.command)) (ap (λ (a : App). a.top) c.new.ensures.app)) c.subcommand.ensures

@@ -1,6 +1,0 @@
-use Rattle.std.proofs.Common.{◌≡◌, take}
-use Rattle.matter_parts.specs.Parts.{entries_kept}
-use Rattle.matter_parts.proofs.entries.entries_copied.Given as goal
-
-abbrev pub invariant-loop-one : goal.invariant-loop-one
-invariant-loop-one l = l.entries.items ≡ entries_kept (take l.one-index l.kept)

@@ -1,0 +1,69 @@
+use Rattle.trust_desk.proofs.Names.{◌≡◌, ℕ, List, [], ◌++◌, Ok, fold, ap, rules, ◌∙◌, Firm, JournalKept, no_journal, trial_kept, with_moved, with_trial_own, with_trial_row, Retained, none_retained, with_row_retained, own_card_text, exception_line, exceptions_text, journal_text, retention_text, trial_text, own_card_report}
+use Rattle.trust_desk.proofs.BookReads.{handed-before}
+use Rattle.trust_desk.proofs.ReportTexts.{exceptions-told, journal-told, retention-told, trial-told}
+use Rattle.trust_desk.proofs.desk.find_report.Goals as goal
+
+pub returns-in_ok-each_exception-in-Exceptions-clause-told : goal.returns-in_ok-each_exception-in-Exceptions-clause-told
+returns-in_ok-each_exception-in-Exceptions-clause-told g c =
+    λ clean stands.
+    let firm : Firm = g.B.Book.firm c.args.book.now in
+    let read = c.in_ok-each_exception-in-Exceptions.ensures.handed clean stands in
+    let kept : c.each_exception.new.sink ≡ fold (λ text line. text ++ exception_line line) (exceptions_text c.args.today []) firm.exceptions =
+    read.all ∙ ap (λ (text : List ℕ). fold (λ text line. text ++ exception_line line) text firm.exceptions) c.in_ok-exceptions-in-Exceptions.ensures in
+    let told = c.finish.ensures ∙ exceptions-told c.args.today firm c.each_exception.new.sink kept in
+    rw c.in-Exceptions.is (λ i. Ok (told i))
+
+pub returns-in_ok-trial_text-in-Trial-clause-told : goal.returns-in_ok-trial_text-in-Trial-clause-told
+returns-in_ok-trial_text-in-Trial-clause-told g c =
+    λ clean stands.
+    let B = g.B.Book in
+    let firm : Firm = B.firm c.args.book.now in
+    let first = c.in_ok-each_row-in-Trial.ensures in
+    let second = c.in_ok-each_firm_line-in-Trial.ensures in
+    let served = second.read.was_clean clean in
+    let rows = first.handed served stands in
+    let lines = handed-before (λ (f : Firm). f.firm_lines) (first.read.same served stands) (second.handed clean (first.read.still_stands served stands)) in
+    let kept : c.each_firm_line.new.sink ≡ trial_kept firm =
+    lines.all ∙ ap (λ s. fold with_trial_own s firm.firm_lines) (rows.all ∙ ap (λ s. fold with_trial_row s firm.rows) c.new-trial.ensures) in
+    let balance = c.finish-balance.ensures in
+    let written : c.trial_text.new.out.items ≡ trial_text c.args.today c.finish-balance.result.lines.items c.finish-balance.result.own c.finish-balance.result.total = search rules in
+    let told =
+    written
+    ∙ ((λ i. trial_text c.args.today (balance.lines i) (balance.own i) (balance.total i))
+    ∙ trial-told c.args.today firm c.each_firm_line.new.sink (B.sound c.args.book.now stands) rows.countable lines.countable kept) in
+    rw c.in-Trial.is (λ i. Ok (told i))
+
+pub returns-in_ok-journal_text-in-Journal-clause-told : goal.returns-in_ok-journal_text-in-Journal-clause-told
+returns-in_ok-journal_text-in-Journal-clause-told g c =
+    λ clean stands.
+    let firm : Firm = g.B.Book.firm c.args.book.now in
+    let read = c.in_ok-each_movement-in-Journal.ensures.handed clean stands in
+    let kept : c.each_movement.new.sink ≡ fold with_moved no_journal firm.movements =
+    read.all ∙ ap (λ (s : JournalKept). fold with_moved s firm.movements) c.new-journal.ensures in
+    let told =
+    c.in_ok-journal_text-in-Journal.ensures.ok
+    ∙ ((λ i. c.new-text.ensures.items i ++ journal_text c.args.today ((c.deref-in-Journal.ensures.value ∙ c.finish-in-Journal.ensures) i))
+    ∙ journal-told c.args.today firm c.each_movement.new.sink read.countable kept) in
+    rw c.in-Journal.is (λ i. Ok (told i))
+
+pub returns-in_ok-retention_text-in-Retention-clause-told : goal.returns-in_ok-retention_text-in-Retention-clause-told
+returns-in_ok-retention_text-in-Retention-clause-told g c =
+    λ clean stands.
+    let firm : Firm = g.B.Book.firm c.args.book.now in
+    let read = c.in_ok-each_row-in-Retention.ensures.handed clean stands in
+    let kept : c.each_row-in-Retention.new.sink ≡ fold with_row_retained (none_retained c.args.today) firm.rows =
+    read.all ∙ ap (λ (s : Retained). fold with_row_retained s firm.rows) c.new-retention.ensures in
+    let told =
+    c.in_ok-retention_text-in-Retention.ensures.ok
+    ∙ ((λ i. c.new-text.ensures.items i ++ retention_text c.args.today ((c.deref-in-Retention.ensures.value ∙ c.finish-in-Retention.ensures) i))
+    ∙ retention-told c.args.today firm c.each_row-in-Retention.new.sink kept) in
+    rw c.in-Retention.is (λ i. Ok (told i))
+
+pub returns-in_ok-own_card_text-in-OwnLedger-clause-told : goal.returns-in_ok-own_card_text-in-OwnLedger-clause-told
+unfolding own_card_report
+returns-in_ok-own_card_text-in-OwnLedger-clause-told g c =
+    λ clean stands.
+    let told =
+    c.in_ok-own_card_text-in-OwnLedger.ensures.ok
+    ∙ (λ i. c.new-text.ensures.items i ++ own_card_text c.args.today (c.in_ok-ledger-in-OwnLedger.ensures.found clean stands i)) in
+    rw c.in-OwnLedger.is (λ i. Ok (told i))

@@ -1,0 +1,124 @@
+//! The exceptions of a book: their text, and how one is dismissed.
+
+ghost use Rattle.std.specs.Prelude.{◌≡◌, ◌++◌, ◌||◌, [], IfOk, false};
+ghost use Rattle.trust_base.specs.LineOrder.{is_same_line};
+ghost use Rattle.trust_store.specs.Calls.{IsRead};
+ghost use Rattle.trust_reports.specs.TextsOfLists.{exception_line, exceptions_text};
+ghost use Rattle.trust_desk.specs.Calls.{KeepsBook};
+ghost use Rattle.trust_desk.specs.Dismissing.{EndsDismiss, after_dismissing, is_exception};
+ghost use Rattle.trust_desk.specs.Counts.{counted_end};
+ghost use Rattle.trust_desk.specs.Replies.{is_fault_reply};
+ghost use Rattle.trust_desk.specs.Crashes.{MayLeaveChange, is_fault_end};
+
+use crate::requests::{Body, Reply, is_not_of_firm};
+use firm_rows::ExceptionSink;
+use std::alloc::{AllocError, Global};
+use std::marker::Model;
+use trust_base::{Day, Line, OwnedBytes, Refusal, Rule, StoreFault};
+use trust_matter::Caller;
+use trust_reports::{exception_line, exceptions_text};
+use trust_store::Book;
+
+/// Writes the exceptions on a business day, each as it is received.
+///
+/// Contracts see it as the text so far.
+#[derive(Drop)]
+pub struct ExceptionsSink {
+    text: Vec<u8>,
+}
+
+impl Model for ExceptionsSink {
+    ghost use Rattle.std.specs.Prelude.{ℕ, List};
+
+    ghost Value = { List ℕ };
+
+    ghost view = { λ s. s.text.items };
+}
+
+impl ExceptionsSink {
+    /// Begins with the heading. The only error is out of memory.
+    pub fn new(alloc: Global, today: Day) -> Result<ExceptionsSink, AllocError>
+        ensures { IfOk result (λ sink. sink ≡ exceptions_text today []) }
+    {
+        let mut text = Vec::new(alloc);
+        exceptions_text(today, &[], &mut text)?;
+        Ok(ExceptionsSink { text })
+    }
+
+    /// Returns the text.
+    pub fn finish(self) -> Vec<u8>
+        ensures { result.items ≡ self }
+    {
+        self.text
+    }
+}
+
+impl ExceptionSink for ExceptionsSink {
+    ghost noted = { λ text line. text ++ exception_line line };
+
+    fn exception(&mut self, line: &Line) -> Result<(), AllocError> {
+        exception_line(line, &mut self.text)
+    }
+}
+
+// Searches for a line among those that it receives.
+#[derive(Drop)]
+struct LineSearch<'a> {
+    line: &'a Line,
+    is_found: bool,
+}
+
+impl ExceptionSink for LineSearch<'_> {
+    ghost noted = { λ s line. record s { is_found = s.is_found || is_same_line line s.line.now } };
+
+    fn exception(&mut self, line: &Line) -> Result<(), AllocError> {
+        self.is_found = self.is_found || line.compare(self.line).is_eq();
+        Ok(())
+    }
+}
+
+// Whether a line is one of a book's exceptions.
+fn is_exception<B: Book>(book: &mut B, line: &Line) -> Result<bool, StoreFault>
+    ensures found { B.clean book.new → B.stands book.old
+        → IfOk result (λ is. is ≡ is_exception line.now (B.firm book.old).exceptions) }
+    ensures read { IsRead B.firm B.clean B.sure B.stands B.lasts B.leaves B.refusals result book.old book.new }
+{
+    let mut search = LineSearch {
+        line,
+        is_found: false,
+    };
+    book.each_exception(&mut search)?;
+    Ok(search.is_found)
+}
+
+/// Dismisses a line from the exceptions of a book: it is not an exception any more. Nothing else changes.
+///
+/// Refuses a caller who is not the cashier (`NotAllowed`), and a line that is not an exception (`NoEntry`). Returns
+/// `Store` or `Memory` if the book failed or memory ran out. On an error nothing has changed.
+pub(crate) fn dismiss<B: Book>(
+    alloc: Global,
+    book: &mut B,
+    caller: &Caller,
+    line: &Line,
+) -> Result<Reply, Refusal>
+    ensures end { B.clean book.new → B.stands book.old
+        → EndsDismiss caller.now line.now (B.firm book.old) (B.firm book.new) result }
+    ensures ok { IfOk result (λ reply. is_fault_reply reply ≡ false) }
+    ensures kept { KeepsBook B.clean B.sure B.stands B.lasts B.refusals (counted_end result) book.old book.new }
+    ensures crash { B.sure book.new → B.stands book.old → MayLeaveChange B.clean B.leaves
+        (is_fault_end result ≡ false) (B.firm book.old)
+        (after_dismissing caller.now line.now (B.firm book.old)) book.old book.new }
+{
+    if is_not_of_firm(caller) {
+        return Err(Refusal::NotAllowed(Rule::Firm));
+    }
+    if !is_exception(book, line)? {
+        return Err(Refusal::NoEntry);
+    }
+    let text = Vec::from_slice(alloc, b"{\"dismissed\":1}")?;
+    book.dismiss(alloc, line)?;
+    Ok(Reply {
+        status: 200,
+        body: Body::Json(OwnedBytes::new(text)),
+    })
+}

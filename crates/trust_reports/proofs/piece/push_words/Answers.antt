@@ -1,7 +1,0 @@
-use Rattle.std.proofs.Common.{subst, sym}
-use Rattle.std.specs.Str.{IsUtf8}
-use Rattle.trust_reports.proofs.TextFacts.{IsUtf8-words}
-use Rattle.trust_reports.proofs.piece.push_words.Goals as goal
-
-pub unreachable-requires : goal.unreachable-requires
-unreachable-requires c = c.in_default.ensures.cases.0 (subst IsUtf8 (sym c.as_slice-words.ensures.value) (IsUtf8-words _ c.as_slice-words.ensures.form))
