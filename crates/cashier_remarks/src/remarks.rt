@@ -126,14 +126,9 @@ fn words_of(why: NoBook) -> &'static str {
     }
 }
 
-// Writes why no book is available at a path.
-fn write_no_book<W: fmt::Write>(f: &mut fmt::Formatter<W>, path: &str, why: NoBook) -> fmt::Result {
-    let words = words_of(why);
-    if path.is_empty() {
-        write!(f, "the empty path {words}")
-    } else {
-        write!(f, "{path} {words}")
-    }
+// Writes about the book at a path.
+fn write_of_path<W: fmt::Write>(f: &mut fmt::Formatter<W>, path: &str, words: &str) -> fmt::Result {
+    write!(f, "{path} {words}")
 }
 
 impl fmt::Display for Remark<'_> {
@@ -164,12 +159,20 @@ impl fmt::Display for Remark<'_> {
             Remark::EarlierEnd(fault) => write_earlier_end(f, *fault),
             Remark::Flaw(flaw) => write_flaw(f, *flaw),
             Remark::Unread(unread) => write_unread(f, unread),
-            Remark::NewBook(path) => write!(f, "{path} was not there: a new book was begun"),
-            Remark::EmptyBook(path) => write!(
+            Remark::NewBook(path) => write_of_path(f, path, "was not there: a new book was begun"),
+            Remark::EmptyBook(path) => write_of_path(
                 f,
-                "{path} was empty: a new book was begun; if it had one, put the last backup in its place"
+                path,
+                "was empty: a new book was begun; if it had one, put the last backup in its place",
             ),
-            Remark::NoBook { path, why } => write_no_book(f, path, *why),
+            Remark::NoBook { path, why } => {
+                let path = if path.is_empty() {
+                    "the empty path"
+                } else {
+                    path
+                };
+                write_of_path(f, path, words_of(*why))
+            }
             _ => self.write_size(f),
         }
     }

@@ -1,5 +1,5 @@
 -- What is wrong with words, by the errors of the parser on them and on their fronts.
-use Rattle.command_line.proofs.Names.{◌≡◌, ◌≢◌, ◌∙◌, ◌+◌, ◌<◌, ◌||◌, inl, inr, ap, ap₂, sym, refl, subst, Bool, ℕ, List, [], Option, Some, None, IfNone, IfSome, codes, get_or, length, min, option_map, slice_get, take, slice_get-get_or, slice_get-map, list_any, option_or, Row, Text, fault_of, found_of, matches_of, rows_of, subcommand_of, subcommand_rows_of, ErrorKind, ArgMatches, Found, first_value, clap_on_literals, first_value-rows, Bor, day_of, matter_of, HasCommand, HasWrongValue, IsFront, IsRepeated, IsStrayed, IsStray, IsTakenSoFar, IsWrong, IsWrongOperand, IsWrongToday, IsWrongValue, LacksValue, LacksValueAt, Names, front_by, last_setting, names_day, setting_named, verb_name, IsCount, IsPort, FailsAs, IsParse, IsRefused, db_rule, operand_rule, options_app, program, quiet_rule, report_apps, run_apps, today_rule, words_of, Front}
+use Rattle.command_line.proofs.Names.{arith, ◌≡◌, ◌≢◌, ◌∙◌, ◌+◌, ◌<◌, ◌||◌, inl, inr, ap, ap₂, sym, refl, subst, Bool, ℕ, List, [], Option, Some, None, IfNone, IfSome, get_or, length, min, option_map, slice_get, take, slice_get-get_or, slice_get-map, list_any, option_or, Row, Text, fault_of, found_of, matches_of, rows_of, subcommand_of, subcommand_rows_of, ErrorKind, ArgMatches, clap_on_literals, Bor, HasCommand, HasWrongValue, IsFront, IsRepeated, IsStrayed, IsStray, IsTakenSoFar, IsWrong, IsWrongValue, LacksValue, LacksValueAt, Names, front_by, last_setting, names_day, setting_named, verb_name, FailsAs, IsParse, IsRefused, db_rule, operand_rule, options_app, program, quiet_rule, report_apps, run_apps, today_rule, words_of, Front}
 use Rattle.std.proofs.lemmas.List.{get_or-map, length-map, take-map, take_min}
 use Rattle.std.proofs.lemmas.List.Folds.{list_any_more}
 use Rattle.std.proofs.lemmas.List.Sums.{fold_more}
@@ -7,35 +7,12 @@ use Rattle.clap.specs.declared.error.kind.ErrorKind.TheVariants as kind
 use Rattle.command_line.specs.declared.advice.Setting.{Setting}
 use Rattle.command_line.specs.declared.advice.Verb.{Verb}
 use Rattle.command_line.specs.declared.advice.Wrong.{Wrong}
-use Rattle.command_line.specs.declared.advice.Wrong.TheVariants as wrong
 use Rattle.command_line.specs.declared.faults.Front.TheVariants as fronts
 
 -- without words a command is wanted
 pub none-taken : FailsAs [] kind.MissingSubcommand
 unfolding clap_on_literals program options_app today_rule db_rule quiet_rule operand_rule run_apps report_apps
 none-taken = inl refl
-
--- a value of the day that is none
-pub wrong-today : (f : Found) (text : Bor (List ℕ)) (w : Wrong) → first_value f (codes "today") ≡ Some text.now → (w ≡ wrong.NoDay text) × (day_of text.now ≡ None)
-    → IsWrongToday (rows_of f) w
-wrong-today f text w v is = rw is.0 (sym (first_value-rows f (codes "today")) ∙ v, is.1)
-
--- an operand that is no day, no matter's number, no port or no count
-pub wrong-day : (f : Found) (name : Text) (text : Bor (List ℕ)) (w : Wrong) → name ≡ codes "reconcile" → first_value f (codes "DAY") ≡ Some text.now
-    → (w ≡ wrong.NoDay text) × (day_of text.now ≡ None) → IsWrongOperand name (rows_of f) w
-wrong-day f name text w n v is = rw is.0 (n, sym (first_value-rows f (codes "DAY")) ∙ v, is.1)
-
-pub wrong-matter : (f : Found) (name : Text) (text : Bor (List ℕ)) (w : Wrong) → name ≡ codes "ledger" → first_value f (codes "MATTER") ≡ Some text.now
-    → (w ≡ wrong.NoMatter text) × (text.now ≢ codes "FIRM") × (matter_of text.now ≡ None) → IsWrongOperand name (rows_of f) w
-wrong-matter f name text w n v is = rw is.0 (n, sym (first_value-rows f (codes "MATTER")) ∙ v, is.1, is.2)
-
-pub wrong-port : (f : Found) (name : Text) (text : Bor (List ℕ)) (w : Wrong) → name ≡ codes "serve" → first_value f (codes "PORT") ≡ Some text.now
-    → (w ≡ wrong.NoPort text) × ((port : ℕ) → ¬ IsPort text.now port) → IsWrongOperand name (rows_of f) w
-wrong-port f name text w n v is = rw is.0 (n, sym (first_value-rows f (codes "PORT")) ∙ v, is.1)
-
-pub wrong-count : (f : Found) (name : Text) (text : Bor (List ℕ)) (w : Wrong) → name ≡ codes "serve" → first_value f (codes "COUNT") ≡ Some text.now
-    → (w ≡ wrong.NoCount text) × ((count : ℕ) → ¬ IsCount text.now count) → IsWrongOperand name (rows_of f) w
-wrong-count f name text w n v is = rw is.0 (n, sym (first_value-rows f (codes "COUNT")) ∙ v, is.1)
 
 -- a wrong value of a parse is one of the words
 pub has-wrong-value : (words : List Text) (m : ArgMatches) (w : Wrong) → IsParse words m → IsWrongValue (rows_of (found_of m)) (subcommand_rows_of m) w
@@ -50,23 +27,7 @@ has-wrong-value words m w parse value = record {
 pub front-fits : (words : List Text) (f : Option ErrorKind) → IfNone f (fault_of program words ≡ []) → IfSome f (IsRefused words)
     → IsFront words (front_by f)
 front-fits words None n s = inl n
-front-fits words (Some kind.MissingRequiredArgument) n s = elim s [ inl m ↦ cc | inr h ↦ inr h ]
-front-fits words (Some kind.MissingSubcommand) n s = elim s [ inl m ↦ cc | inr h ↦ h ]
-front-fits words (Some kind.InvalidValue) n s = elim s [ inl m ↦ cc | inr h ↦ h ]
-front-fits words (Some kind.UnknownArgument) n s = elim s [ inl m ↦ cc | inr h ↦ inl h ]
-front-fits words (Some kind.InvalidSubcommand) n s = elim s [ inl m ↦ cc | inr h ↦ inr (inl h) ]
-front-fits words (Some kind.TooManyValues) n s = elim s [ inl m ↦ cc | inr h ↦ inr (inr h) ]
-front-fits words (Some kind.NoEquals) n s = tt
-front-fits words (Some kind.ValueValidation) n s = tt
-front-fits words (Some kind.TooFewValues) n s = tt
-front-fits words (Some kind.WrongNumberOfValues) n s = tt
-front-fits words (Some kind.ArgumentConflict) n s = elim s [ inl m ↦ cc | inr h ↦ h ]
-front-fits words (Some kind.DisplayHelp) n s = tt
-front-fits words (Some kind.DisplayHelpOnMissingArgumentOrSubcommand) n s = tt
-front-fits words (Some kind.DisplayVersion) n s = tt
-front-fits words (Some kind.Io) n s = tt
-front-fits words (Some kind.Format) n s = tt
-front-fits words (Some kind.OutOfMemory) n s = tt
+front-fits words (Some k) n s = grind (arith, s)
 
 -- words that do not stray, repeat no option and do not fail otherwise are taken so far
 so-far : (words : List Text) (front : Front) → front ≢ fronts.Strays → front ≢ fronts.Repeats → front ≢ fronts.Fails → IsFront words front → IsTakenSoFar words
@@ -162,21 +123,11 @@ named-more words i d before here less so is =
     ap₂ option_or (sym at) so
     ∙ sym (fold_more (λ (o : Option Setting) (word : Text). option_or (setting_named word) o) None (words_of words) i [] within)
 
--- nothing else is a wrong value
-none-of : (rows : List Row) (met : Option (Text × List Row)) (w : Wrong) → (IsWrongToday rows w → ⊥) → ((name : Text) (values : List Row) → IsWrongOperand name values w → ⊥)
-    → IsWrongValue rows met w → ⊥
-none-of rows None w a b h = a h
-none-of rows (Some met) w a b h = elim h [ inl x ↦ a x | inr x ↦ b met.0 met.1 x ]
-
 -- a wrong value is wrong
 pub value-wrong : (words : List Text) (w : Wrong) → HasWrongValue words w → IsWrong words w
-value-wrong words (wrong.NoDay text) h = h
-value-wrong words (wrong.NoMatter text) h = h
-value-wrong words (wrong.NoPort text) h = h
-value-wrong words (wrong.NoCount text) h = h
-value-wrong words (wrong.Word text) h = absurd (none-of (matches_of program words) _ (wrong.Word text) (λ x. x) (λ n v x. x) h.value)
-value-wrong words (wrong.Repeated s) h = absurd (none-of (matches_of program words) _ (wrong.Repeated s) (λ x. x) (λ n v x. x) h.value)
-value-wrong words (wrong.NoValue s) h = absurd (none-of (matches_of program words) _ (wrong.NoValue s) (λ x. x) (λ n v x. x) h.value)
-value-wrong words wrong.MissingDay h = absurd (none-of (matches_of program words) _ wrong.MissingDay (λ x. x) (λ n v x. x) h.value)
-value-wrong words wrong.MissingCommand h = absurd (none-of (matches_of program words) _ wrong.MissingCommand (λ x. x) (λ n v x. x) h.value)
-value-wrong words wrong.MissingWord h = absurd (none-of (matches_of program words) _ wrong.MissingWord (λ x. x) (λ n v x. x) h.value)
+value-wrong words w h = by (subcommand_of program words) w h h.value
+  where
+    by : (met : Option (Text × List Row)) (w : Wrong) → HasWrongValue words w
+        → IsWrongValue (matches_of program words) met w → IsWrong words w
+    by None w h value = grind (arith, h, value)
+    by (Some met) w h value = grind (arith, h, value)

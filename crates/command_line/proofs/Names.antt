@@ -16,7 +16,7 @@ pub use Rattle.std.specs.Str.{bytes_eq}
 pub use Rattle.trust_base.specs.Texts.{day_of, matter_of}
 pub use Rattle.command_line.specs.Advice.{HasCommand, HasWrongValue, IsFront, IsRepeated, IsStray, IsStrayed, IsTakenSoFar, IsWrong, IsWrongOperand, IsWrongToday, IsWrongValue, LacksValue, LacksValueAt, Names, front_by, last_setting, names_day, setting_named, verb_name}
 pub use Rattle.command_line.specs.Numerals.{IsCount, IsNumberBetween, IsPort}
-pub use Rattle.command_line.specs.Program.{CheckReadsNothing, FailsAs, Gives, ImportIsNoSheet, ImportIsNoStream, IsParse, IsRefused, IsReportCommand, IsServing, IsTask, LeavesNoPlan, MatchReadsNothing, Means, MeansCheck, MeansNothing, MeansSheet, MeansStream, MeetsTask, ReportReadsNothing, ServeReadsNothing, db_of, fault_by, is_flag_set, quiet_of, report_name, task_text, with_commands, with_operands, words_of}
+pub use Rattle.command_line.specs.Program.{CheckReadsNothing, FailsAs, Gives, ImportIsNoSheet, ImportIsNoStream, IsParse, IsRefused, IsServing, IsTask, LeavesNoPlan, MatchReadsNothing, Means, MeansCheck, MeansNothing, MeansSheet, MeansStream, MeetsTask, ReportReadsNothing, ServeReadsNothing, db_of, fault_by, is_flag_set, quiet_of, report_name, task_text, with_commands, with_operands, words_of}
 unfoldable pub use Rattle.command_line.specs.Program.{db_rule, operand_rule, options_app, program, quiet_rule, report_apps, run_apps, today_rule}
 pub use Rattle.command_line.specs.declared.command.Task.{Task}
 pub use Rattle.command_line.specs.declared.faults.Front.{Front}

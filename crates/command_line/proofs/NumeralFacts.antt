@@ -1,6 +1,5 @@
 -- Texts of numbers, read back, and numbers that are given by the text of an operand.
-use Rattle.command_line.proofs.Names.{◌≡◌, ◌∙◌, ◌<◌, ◌^◌, false, ℕ, List, Ok, Option, Some, None, IfNone, IfSome, Result, ap, subst, sym, arith, bytes_eq, bytes_eq-Decides, IsNumberBetween}
-use Rattle.std.specs.Prelude.{IsSomeAnd}
+use Rattle.command_line.proofs.Names.{◌≡◌, ◌∙◌, ◌<◌, ◌^◌, false, ℕ, List, Ok, Result, ap, sym, arith, bytes_eq, bytes_eq-Decides, IsNumberBetween}
 use Rattle.std.specs.Fmt.{decimal}
 use Rattle.std.proofs.lemmas.Fmt.{parse-decimal}
 use Rattle.std.specs.Str.Parse.{ParsesUnsigned}

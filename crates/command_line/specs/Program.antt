@@ -116,11 +116,6 @@ HasReportOperands values (reports.Ledger matter) =
     option_and_then matter_of (first_of (codes "MATTER") values) ≡ Some matter
 HasReportOperands values reports.OwnLedger = first_of (codes "MATTER") values ≡ Some (codes "FIRM")
 
--- a command of this name with these values prints the report
-pub record IsReportCommand (name : Text) (values : List Row) (report : ReportCommand) : Type 0 where
-  pub named : name ≡ report_name report
-  pub operands : HasReportOperands values report
-
 -- the name of a task's command
 abbrev pub task_text : Task → Text
 task_text tasks.Sheet = codes "sheet"

@@ -5,9 +5,8 @@ ghost use Rattle.std.specs.Str.{bytes_eq};
 ghost use Rattle.clap.specs.Words.{app_of, first_of, found_of, rows_of, with_subcommand};
 ghost use Rattle.trust_base.specs.Texts.{day_of};
 ghost use Rattle.command_line.specs.Numerals.{IsCount, IsNumberBetween, IsPort};
-ghost use Rattle.command_line.specs.Program.{IsParse, IsRefused, IsReportCommand, IsTask, LeavesNoPlan, Means};
+ghost use Rattle.command_line.specs.Program.{IsParse, IsRefused, IsTask, LeavesNoPlan, Means};
 ghost use Rattle.command_line.specs.Program.{command_app, db_of, fault_by, program, quiet_of, words_of};
-ghost use Rattle.command_line.specs.declared.command.ReportCommand.{ReportCommand};
 ghost use Rattle.command_line.specs.declared.command.Task.{Task};
 
 use clap::error::ErrorKind;
@@ -138,6 +137,7 @@ pub fn count_of(text: &str) -> Option<u32>
 }
 
 // Returns the day that is the first value of an argument; `None` without a value, or if it is not a day.
+#[tactic(auto, using(crate::proofs::Values::values_read))]
 fn day_operand(values: &ArgMatches, id: &str) -> Option<Day>
     ensures { result ≡ option_and_then day_of (first_of id.now (rows_of (found_of values.now))) }
 {
@@ -151,30 +151,8 @@ pub fn is_firm(text: &str) -> bool
     text == "FIRM"
 }
 
-// Returns the report of a command, given by its name and its values.
-fn report_command_of(name: &str, values: &ArgMatches) -> Option<ReportCommand>
-    ensures some { IfSome result (IsReportCommand name.now (rows_of (found_of values.now))) }
-    ensures none { IfNone result
-        ((report : ReportCommand) → ¬ IsReportCommand name.now (rows_of (found_of values.now)) report) }
-{
-    match name {
-        "reconcile" => Some(ReportCommand::Reconcile(day_operand(values, "DAY")?)),
-        "trial" => Some(ReportCommand::Trial),
-        "journal" => Some(ReportCommand::Journal),
-        "retention" => Some(ReportCommand::Retention),
-        "exceptions" => Some(ReportCommand::Exceptions),
-        "ledger" => {
-            let card = values.get_str("MATTER")?;
-            if is_firm(card) {
-                return Some(ReportCommand::OwnLedger);
-            }
-            Some(ReportCommand::Ledger(MatterNo::read(card.as_bytes())?))
-        }
-        _ => None,
-    }
-}
-
 // Returns the task of a command, given by its name and its values.
+#[tactic(auto, using(crate::proofs::Values::values_read))]
 fn task_of<'a>(name: &str, values: &ArgMatches<'a>) -> Option<Task<'a>>
     ensures some { IfSome result (IsTask name.now (rows_of (found_of values.now))) }
     ensures none { IfNone result ((task : Task) → ¬ IsTask name.now (rows_of (found_of values.now)) task) }
@@ -189,7 +167,19 @@ fn task_of<'a>(name: &str, values: &ArgMatches<'a>) -> Option<Task<'a>>
             count: count_of(values.get_str("COUNT")?)?,
         }),
         "check" => Some(Task::Check),
-        _ => Some(Task::Report(report_command_of(name, values)?)),
+        "reconcile" => Some(Task::Report(ReportCommand::Reconcile(day_operand(values, "DAY")?))),
+        "trial" => Some(Task::Report(ReportCommand::Trial)),
+        "journal" => Some(Task::Report(ReportCommand::Journal)),
+        "retention" => Some(Task::Report(ReportCommand::Retention)),
+        "exceptions" => Some(Task::Report(ReportCommand::Exceptions)),
+        "ledger" => {
+            let card = values.get_str("MATTER")?;
+            if is_firm(card) {
+                return Some(Task::Report(ReportCommand::OwnLedger));
+            }
+            Some(Task::Report(ReportCommand::Ledger(MatterNo::read(card.as_bytes())?)))
+        }
+        _ => None,
     }
 }
 
@@ -248,6 +238,7 @@ fn program_command<'a>(alloc: Global) -> Result<Command<'a>, AllocError>
 ///
 /// Returns `OutOfMemory` if memory runs out. The contract cannot say that it never does otherwise: by clap's
 /// contract, a parse of any words may end with it, and nothing shows whether memory really ran out.
+#[tactic(auto, using(crate::proofs::LineFacts::is_free_program))]
 pub fn parse<'a>(alloc: Global, words: &'a [&'a str]) -> Result<ArgMatches<'a>, ErrorKind>
     ensures ok { IfOk result (IsParse (words_of words.entry.now)) }
     ensures err { IfErr result (IsRefused (words_of words.entry.now)) }
@@ -268,6 +259,7 @@ pub fn parse<'a>(alloc: Global, words: &'a [&'a str]) -> Result<ArgMatches<'a>, 
 ///
 /// Returns `Memory` if memory runs out. For the same reason as in `parse`, the contract cannot say that it never does
 /// otherwise. Reading the values of a parse does not allocate.
+#[tactic(auto, using(crate::proofs::Values::values_read))]
 pub fn command_of<'a>(alloc: Global, words: &'a [&'a str]) -> Result<Plan<'a>, CliFault>
     ensures plan { IfOk result (λ p. Means (words_of words.entry.now) p.today p.task) }
     ensures none { IfErr result (LeavesNoPlan (words_of words.entry.now)) }

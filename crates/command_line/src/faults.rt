@@ -222,6 +222,7 @@ fn no_count<'a>(text: &'a str) -> Option<Wrong<'a>>
 }
 
 // Returns the wrong operand of a command, given by its name and its values.
+#[tactic(auto, using(crate::proofs::Values::values_read))]
 fn wrong_operand<'a>(name: &str, values: &ArgMatches<'a>) -> Option<Wrong<'a>>
     ensures { IfSome result (IsWrongOperand name.now (rows_of (found_of values.now))) }
 {
@@ -237,6 +238,7 @@ fn wrong_operand<'a>(name: &str, values: &ArgMatches<'a>) -> Option<Wrong<'a>>
 }
 
 // Returns the value of `--today` if it is wrong.
+#[tactic(auto, using(crate::proofs::Values::values_read))]
 fn wrong_today<'a>(values: &ArgMatches<'a>) -> Option<Wrong<'a>>
     ensures { IfSome result (IsWrongToday (rows_of (found_of values.now))) }
 {

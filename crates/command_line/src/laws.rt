@@ -1,4 +1,5 @@
 //! Laws over the definitions. Each is the contract of a function that does nothing.
+#![tactic(auto, using(crate::proofs::Values::one_name))]
 
 ghost use Rattle.command_line.specs.Program.{ImportIsNoSheet, ImportIsNoStream, MatchReadsNothing, ReportReadsNothing};
 ghost use Rattle.command_line.specs.Program.{CheckReadsNothing, ServeReadsNothing};

@@ -1,5 +1,5 @@
 -- The journal of each matter, and that of the firm.
-use Rattle.firm_audit.proofs.Names.{◌≡◌, ℕ, zero, suc, ◌+◌, ◌-◌, ◌<◌, Bool, true, false, List, [], ◌∷◌, Option, Some, None, cond, map, take, refl, sym, ap, ◌∙◌, subst, arith, filter, ◌==◌, ◌&&◌, is_some, ℤ, pos, ◌≤ℤ◌, AllByRecursion, false≢true, nat_tests, ints, Rows, entry_at, last_of, unopened, events_of, events_in, within, Kept, AreNumbered, entries_kept, Movement, is_of_matter, is_of_entry, event_of, events_moved, moved_for, sum-filter, KeptMatter, rows_kept, IsKeptWhole, rows_in, moved_of, RiseWithin, moved_sum, AreCovered, AreMoved, IsJournal, IsOwned, IsJournalOf}
+use Rattle.firm_audit.proofs.Names.{inl, inr, cases_Bool, ◌≡◌, ℕ, zero, suc, ◌+◌, ◌-◌, ◌<◌, Bool, false, List, [], ◌∷◌, Option, Some, None, map, take, refl, sym, ap, ◌∙◌, subst, arith, filter, ◌==◌, ◌&&◌, ℤ, pos, ◌≤ℤ◌, AllByRecursion, false≢true, nat_tests, ints, Rows, entry_at, last_of, unopened, events_of, events_in, within, Kept, AreNumbered, entries_kept, Movement, is_of_matter, is_of_entry, event_of, events_moved, moved_for, sum-filter, KeptMatter, rows_kept, IsKeptWhole, rows_in, moved_of, RiseWithin, moved_sum, AreCovered, AreMoved, IsJournal, IsOwned, IsJournalOf}
 use Rattle.matter_rows.specs.declared.entry.Entry.{Entry}
 use Rattle.matter_rows.specs.Balances.{ledger}
 use Rattle.firm_rows.specs.declared.movement.Owner.{Owner}
@@ -9,28 +9,25 @@ use Rattle.firm_audit.proofs.KeptRows.{at-each}
 -- A matter's own movements.
 
 -- the movements of an entry are among those of its matter
+not-its : (m n : ℕ) (o : Owner) → is_of_matter m o ≡ false → is_of_entry m n o ≡ false
+not-its m n (owner.Matter k j) other = rw other refl
+not-its m n owner.Firm other = refl
+
 pub moved-twice : (m n : ℕ) (vs : List Movement) → filter (λ v. is_of_entry m n v.owner) (moved_of m vs) ≡ filter (λ v. is_of_entry m n v.owner) vs
 moved-twice m n [] = refl
-moved-twice m n (v ∷ vs) = cases v.owner refl (moved-twice m n vs)
-  where
-    named : (b c : Bool) → (is_of_entry m n v.owner ≡ (b && c)) → filter (λ v. is_of_entry m n v.owner) (moved_of m vs) ≡ filter (λ v. is_of_entry m n v.owner) vs → filter (λ v. is_of_entry m n v.owner) (cond b (v ∷ moved_of m vs) (moved_of m vs)) ≡ cond (b && c) (v ∷ filter (λ v. is_of_entry m n v.owner) vs) (filter (λ v. is_of_entry m n v.owner) vs)
-    named true true is more = rw is (ap (λ xs. v ∷ xs) more)
-    named true false is more = rw is more
-    named false c is more = more
-
-    cases : (o : Owner) → v.owner ≡ o → filter (λ v. is_of_entry m n v.owner) (moved_of m vs) ≡ filter (λ v. is_of_entry m n v.owner) vs → filter (λ v. is_of_entry m n v.owner) (cond (is_of_matter m o) (v ∷ moved_of m vs) (moved_of m vs)) ≡ cond (is_of_entry m n o) (v ∷ filter (λ v. is_of_entry m n v.owner) vs) (filter (λ v. is_of_entry m n v.owner) vs)
-    cases (owner.Matter k j) is more = named (k == m) (j == n) (ap (is_of_entry m n) is) more
-    cases owner.Firm is more = more
+moved-twice m n (v ∷ vs) = elim (cases_Bool (is_of_matter m v.owner)) [
+  | inl t ↦ rw (t, moved-twice m n vs) refl
+  | inr f ↦ rw (f, not-its m n v.owner f) (moved-twice m n vs)
+]
 
 -- the first movements of a matter are those among the first of all
 pub taken-among : {A : Type 0} (p : A → Bool) (k : ℕ) (xs : List A) → (j : ℕ) × (filter p (take k xs) ≡ take j (filter p xs))
 taken-among p zero xs = (0, refl)
 taken-among p (suc k) [] = (0, refl)
-taken-among p (suc k) (x ∷ xs) = cases (p x) (taken-among p k xs)
-  where
-    cases : (b : Bool) → (j : ℕ) × (filter p (take k xs) ≡ take j (filter p xs)) → (j : ℕ) × (cond b (x ∷ filter p (take k xs)) (filter p (take k xs)) ≡ take j (cond b (x ∷ filter p xs) (filter p xs)))
-    cases true more = (suc more.0, ap (λ ys. x ∷ ys) more.1)
-    cases false more = more
+taken-among p (suc k) (x ∷ xs) = let more = taken-among p k xs in elim (cases_Bool (p x)) [
+  | inl t ↦ (suc more.0, rw t (ap (λ ys. x ∷ ys) more.1))
+  | inr f ↦ (more.0, rw f more.1)
+]
 
 pub moved_for-is : (m : ℕ) (vs : List Movement) → moved_for m vs ≡ moved_sum (moved_of m vs)
 moved_for-is m vs = sym (sum-filter (λ v. is_of_matter m v.owner) (λ v. v.amount) vs)
@@ -43,36 +40,31 @@ covered-by m vs covered k =
 -- Movements of what is not there.
 
 -- no movement is of an entry that is not there
+not-of : (m n : ℕ) (ks : List KeptMatter) (o : Owner) → IsOwned ks o → entry_at (rows_in m ks).entries n ≡ None → is_of_entry m n o ≡ false
+not-of m n ks (owner.Matter k j) there none = elim (cases_Bool ((k == m) && (j == n))) [
+  | inl t ↦
+      let same : k ≡ m = grind (arith, nat_tests) in
+      let entry : j ≡ n = grind (arith, nat_tests) in
+      absurd (false≢true (rw (same, entry, none) at there))
+  | inr f ↦ f
+]
+not-of m n ks owner.Firm there none = refl
+
 pub none-moved : (m n : ℕ) (ks : List KeptMatter) (vs : List Movement) → AllByRecursion (λ v. IsOwned ks v.owner) vs → entry_at (rows_in m ks).entries n ≡ None → filter (λ v. is_of_entry m n v.owner) vs ≡ []
 none-moved m n ks [] all none = refl
-none-moved m n ks (v ∷ vs) all none = cases v.owner all.0 (none-moved m n ks vs all.1 none)
-  where
-    cases : (o : Owner) → IsOwned ks o → filter (λ v. is_of_entry m n v.owner) vs ≡ [] → cond (is_of_entry m n o) (v ∷ filter (λ v. is_of_entry m n v.owner) vs) (filter (λ v. is_of_entry m n v.owner) vs) ≡ []
-    cases (owner.Matter k j) there more = named (k == m) (j == n) refl refl
-      where
-        named : (b c : Bool) → (k == m) ≡ b → (j == n) ≡ c → cond (b && c) (v ∷ filter (λ v. is_of_entry m n v.owner) vs) (filter (λ v. is_of_entry m n v.owner) vs) ≡ []
-        named true true bi ci =
-            let same : k ≡ m = grind (arith, nat_tests) in
-            let same_entry : j ≡ n = grind (arith, nat_tests) in
-            absurd (false≢true (sym (ap is_some ((λ i. entry_at (rows_in (same i) ks).entries (same_entry i)) ∙ none)) ∙ there))
-        named true false bi ci = more
-        named false c bi ci = more
-    cases owner.Firm there more = more
+none-moved m n ks (v ∷ vs) all none = rw (not-of m n ks v.owner all.0 none) (none-moved m n ks vs all.1 none)
 
 -- nor of a matter that was never opened
+not-of_matter : (m : ℕ) (ks : List KeptMatter) (o : Owner) → IsOwned ks o → rows_in m ks ≡ unopened → is_of_matter m o ≡ false
+not-of_matter m ks (owner.Matter k j) there none = elim (cases_Bool (k == m)) [
+  | inl t ↦ let same : k ≡ m = grind (arith, nat_tests) in absurd (false≢true (rw (same, none) at there))
+  | inr f ↦ f
+]
+not-of_matter m ks owner.Firm there none = refl
+
 pub none-moved_of : (m : ℕ) (ks : List KeptMatter) (vs : List Movement) → AllByRecursion (λ v. IsOwned ks v.owner) vs → rows_in m ks ≡ unopened → moved_of m vs ≡ []
 none-moved_of m ks [] all none = refl
-none-moved_of m ks (v ∷ vs) all none = cases v.owner all.0 (none-moved_of m ks vs all.1 none)
-  where
-    cases : (o : Owner) → IsOwned ks o → moved_of m vs ≡ [] → cond (is_of_matter m o) (v ∷ moved_of m vs) (moved_of m vs) ≡ []
-    cases (owner.Matter k j) there more = named (k == m) refl
-      where
-        named : (b : Bool) → (k == m) ≡ b → cond b (v ∷ moved_of m vs) (moved_of m vs) ≡ []
-        named true bi =
-            let same : k ≡ m = grind (arith, nat_tests) in
-            absurd (false≢true (sym (ap is_some ((λ i. entry_at (rows_in (same i) ks).entries j) ∙ ap (λ (r : Rows). entry_at r.entries j) none)) ∙ there))
-        named false bi = more
-    cases owner.Firm there more = more
+none-moved_of m ks (v ∷ vs) all none = rw (not-of_matter m ks v.owner all.0 none) (none-moved_of m ks vs all.1 none)
 
 -- A matter's journal beside its rows.
 
@@ -85,17 +77,17 @@ pub record IsMovedAs (vs : List Movement) (m : ℕ) (rows : Rows) : Type 0 where
 -- kept entries have their numbers
 events-at : (m base n i : ℕ) (ks : List Kept) (own : List Movement) (e : Entry) → AreNumbered base ks → AreMoved m ks own → entry_at (entries_kept ks) n ≡ Some e → 0 < n → i + 1 ≡ base + n → events_moved m i own ≡ events_of e
 events-at m base n i [] own e numbered all there some at = absurd (cc)
-events-at m base n i (k ∷ ks) own e numbered all there some at = cases (n == 1) refl there (events-at m (base + 1) (n - 1) i ks own e numbered.1 all.1)
-  where
-    cases : (b : Bool) → (n == 1) ≡ b → cond b (Some k.entry) (entry_at (entries_kept ks) (n - 1)) ≡ Some e → (entry_at (entries_kept ks) (n - 1) ≡ Some e → 0 < n - 1 → i + 1 ≡ (base + 1) + (n - 1) → events_moved m i own ≡ events_of e) → events_moved m i own ≡ events_of e
-    cases true is here later =
-        let own_number : i ≡ k.number = grind (arith, nat_tests, numbered.0) in
-        let own_entry : k.entry ≡ e = cc in
-        ap (λ j. events_moved m j own) own_number ∙ (all.0 ∙ ap events_of own_entry)
-    cases false is here later =
-        let more : 0 < n - 1 = grind (arith, nat_tests) in
-        let next : i + 1 ≡ (base + 1) + (n - 1) = grind (arith, nat_tests) in
-        later here more next
+events-at m base n i (k ∷ ks) own e numbered all there some at = elim (cases_Bool (n == 1)) [
+  | inl first ↦
+      let here = rw first at there in
+      let own_number : i ≡ k.number = grind (arith, nat_tests, numbered.0) in
+      let own_entry : k.entry ≡ e = cc in
+      rw (own_number, ← own_entry) all.0
+  | inr later ↦
+      let more : 0 < n - 1 = grind (arith, nat_tests) in
+      let next : i + 1 ≡ (base + 1) + (n - 1) = grind (arith, nat_tests) in
+      events-at m (base + 1) (n - 1) i ks own e numbered.1 all.1 (rw later at there) more next
+]
 
 moved-as : (vs : List Movement) (k : KeptMatter) → IsKeptWhole k → IsJournal k (moved_of k.number vs) → IsMovedAs vs k.number (rows_kept k.matter)
 moved-as vs k whole journal = record {

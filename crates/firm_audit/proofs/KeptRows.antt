@@ -1,7 +1,6 @@
 -- The rows of sound matters that are kept by number.
-use Rattle.firm_audit.proofs.Names.{◌≡◌, ◌≢◌, ℕ, ◌≤◌, Bool, true, false, List, [], ◌∷◌, ◌++◌, cond, refl, sym, ap, ◌∙◌, subst, arith, nat_lt, ◌==◌, AllByRecursion, nat_tests, Rows, unopened, Sound, pairs, put, KeptMatter, rows_kept, joined, IsBefore, Ascends, IsKeptWhole, rows_in, joined_pass, joined_fail}
+use Rattle.firm_audit.proofs.Names.{◌≡◌, ◌≢◌, ℕ, ◌≤◌, Bool, true, false, List, [], ◌∷◌, ◌++◌, cond, refl, sym, ap, ◌∙◌, subst, arith, nat_lt, ◌==◌, AllByRecursion, nat_tests, Rows, unopened, pairs, put, KeptMatter, rows_kept, joined, IsBefore, Ascends, rows_in, joined_pass, joined_fail}
 use Rattle.firm_rows.proofs.Joined.{passing}
-use Rattle.firm_rows.proofs.Kept.{unopened-sound}
 use Rattle.firm_rows.proofs.Order.{put-again, put-other}
 
 -- A matter by its number.
@@ -23,13 +22,6 @@ at-each P m (k ∷ ks) none all = cases (nat_lt k.number m) (k.number == m) refl
     cases true c is none again = again none
     cases false true is none again = let same : k.number ≡ m = grind (arith, nat_tests) in subst (λ (n : ℕ). P n (rows_kept k.matter)) same all.0
     cases false false is none again = none refl
-
-pub sound_in : (m : ℕ) (ks : List KeptMatter) → AllByRecursion IsKeptWhole ks → Sound (rows_in m ks)
-sound_in m ks all = at-each (λ m rows. Sound rows) m ks (λ _. unopened-sound) (sounds ks all)
-  where
-    sounds : (ks : List KeptMatter) → AllByRecursion IsKeptWhole ks → AllByRecursion (λ k. Sound (rows_kept k.matter)) ks
-    sounds [] all = tt
-    sounds (k ∷ ks) all = (all.0.sound, sounds ks all.1)
 
 -- The joined rows.
 

@@ -1,8 +1,9 @@
 -- Rows that pass are those of a sound firm.
-use Rattle.firm_audit.proofs.Names.{◌≡◌, ℕ, sym, ap, ◌∙◌, subst, Rows, entry_at, events_in, Sound, Firm, of, put, joined, AreKeptWhole, rows_in, firm_of_all, rows_of-joined, IsJournalOf, IsOwnMoney, AreAscending}
+use Rattle.firm_audit.proofs.Names.{◌≡◌, ℕ, sym, ap, ◌∙◌, subst, Rows, entry_at, events_in, Sound, Firm, of, put, joined, AreKeptWhole, rows_in, firm_of_all, rows_of-joined, sound_in, IsJournalOf, IsOwnMoney, AreAscending}
+use Rattle.firm_rows.proofs.Kept.{unopened-sound}
 use Rattle.firm_rows.specs.FirmSound.{FirmSound}
 use Rattle.trust_store.specs.declared.all_rows.AllRows.{AllRows}
-use Rattle.firm_audit.proofs.KeptRows.{sound_in, joined-in_order}
+use Rattle.firm_audit.proofs.KeptRows.{joined-in_order}
 use Rattle.firm_audit.proofs.Journals.{IsMovedAs, moved-in, events-in}
 
 module _ (rows : AllRows) (kept : AreKeptWhole rows.matters.items) (journal : IsJournalOf rows.matters.items rows.movements.items) (own : IsOwnMoney rows.movements.items rows.firm_lines.items) (order : AreAscending rows.exceptions.items rows.balances.items) where
@@ -22,7 +23,7 @@ module _ (rows : AllRows) (kept : AreKeptWhole rows.matters.items) (journal : Is
       exceptions = order.exceptions;
       balances = order.balances;
     };
-    matters = λ m. subst Sound (own_rows m) (sound_in m rows.matters.items kept.whole);
+    matters = λ m. subst Sound (own_rows m) (sound_in m rows.matters.items unopened-sound kept.whole);
     events = λ m n. events-in m n rows.matters.items rows.movements.items kept.whole journal ∙ ap (λ (r : Rows). events_in (entry_at r.entries n)) (own_rows m);
     own = own.moved;
     in_time = λ m. record { rising = (moved m).in_time.0; by_last = (moved m).in_time.1 };

@@ -5,28 +5,17 @@ ghost use Rattle.std.specs.Option.{option_copied};
 ghost use Rattle.matter_rows.specs.Rows.{last_of};
 ghost use Rattle.matter_rows.specs.Balances.{ledger};
 ghost use Rattle.matter_parts.specs.Parts.{entries_kept};
-ghost use Rattle.firm_rows.specs.Firm.{is_of_matter};
 ghost use Rattle.trust_store.specs.Kept.{IsKeptWhole};
 ghost use Rattle.firm_audit.specs.Audited.{moved_of, RiseWithin, moved_sum, AreCovered, AreMoved, IsJournal};
 
 use crate::Flaw;
 use crate::event::is_moved;
-use firm_rows::{Movement, Owner};
+use firm_rows::Movement;
 use matter_parts::{Kept, balances};
 use matter_rows::Head;
 use std::alloc::{AllocError, Global};
 use trust_base::{EntryNo, MatterNo};
-use trust_store::KeptMatter;
-
-// Whether it is a movement of this matter.
-fn is_of_matter(owner: &Owner, number: MatterNo) -> bool
-    ensures { result ≡ is_of_matter number owner.now }
-{
-    match owner {
-        Owner::Matter { matter, entry: _ } => matter.get() == number.get(),
-        Owner::Firm => false,
-    }
-}
+use trust_store::{KeptMatter, is_of_matter};
 
 // The movements of a matter, in order.
 fn movements_of(

@@ -1,19 +1,22 @@
-// The lists that go with the figures as of a day.
+// The days of an entry, and the lists that go with the figures as of a day.
 
-ghost use Rattle.std.specs.Prelude.{◌≡◌, ◌++◌, ◌<◌, length, slice_index_or, IfOk, OnOk, OnErr};
+ghost use Rattle.std.specs.Prelude.{◌≡◌, ◌&&◌, ◌++◌, ◌<◌, cond, not, pos, ◌+ℤ◌, ◌-ℤ◌, ◌≤ℤ◌, length, slice_index_or, IfOk, OnOk, OnErr};
 ghost use Rattle.std.specs.List.Sorted.{IsSortedBy};
+ghost use Rattle.trust_base.specs.TheConstants.{MAX_AMOUNT};
+ghost use Rattle.matter_rows.specs.Clearings.{cleared_amount};
 ghost use Rattle.firm_rows.specs.Firm.{EntryRow};
 ghost use Rattle.firm_figures.specs.declared.day_lists.Issued.{Issued};
 ghost use Rattle.firm_figures.specs.Doubles.{issued_cmp, is_before_issued, is_double_in, doubles_in, issued_in};
+ghost use Rattle.firm_figures.specs.Figures.{is_by, booked_on, undone_on, returned_on, banked_on, back_on};
 ghost use Rattle.firm_figures.specs.Listing.{entry_line, early_lines, listed, with_waiting};
+ghost use Rattle.firm_figures.specs.Reconciling.{outstanding_share, transit_share};
 ghost use Rattle.firm_figures.specs.Openings.{AreClosings, latest_before, openings_after};
 
-use crate::figures::{EntryDays, is_by};
 use firm_rows::StatementRow;
 use std::alloc::{AllocError, Global};
 use std::cmp::Ordering;
 use trust_base::{BankAmount, Day, EntryNo, Label, Line, MatterNo};
-use trust_matter::Entry;
+use trust_matter::{DepositState, Entry, PaymentState};
 
 /// An entry with one of its days, and its signed amount in cents.
 #[derive(Clone, Copy, Debug)]
@@ -52,6 +55,127 @@ pub struct OpeningLine {
     pub closing: BankAmount,
 }
 
+/// The days of an entry, and the amount of its bank line. A day is missing if that has not happened.
+#[derive(Clone, Copy)]
+pub(crate) struct EntryDays {
+    /// When its money was booked: a deposit made, a payment issued.
+    pub(crate) booked: Option<Day>,
+    /// When that was undone: a deposit cancelled, a payment voided.
+    pub(crate) undone: Option<Day>,
+    /// When the bank's return of a deposit was booked.
+    pub(crate) returned: Option<Day>,
+    /// The day of the bank line that cleared it.
+    pub(crate) banked: Option<Day>,
+    /// The day of the bank line that took a deposit back.
+    pub(crate) back: Option<Day>,
+    /// The amount of its bank line, in cents: positive for a deposit, negative for a payment.
+    pub(crate) amount: i64,
+}
+
+/// What is so of an entry as of a day.
+#[derive(Clone, Copy)]
+pub(crate) struct Standing {
+    /// It was booked by then, and neither undone nor at the bank.
+    pub(crate) is_waiting: bool,
+    /// It was at the bank by then, but booked only later.
+    pub(crate) is_banked_early: bool,
+    /// It was taken back at the bank by then, but that was booked only later.
+    pub(crate) is_back_early: bool,
+}
+
+/// Whether there is a day, and it is on or before `p`.
+pub(crate) fn is_by(day: Option<Day>, p: Day) -> bool
+    ensures { result ≡ is_by p day }
+{
+    match day {
+        Some(day) => day.get() <= p.get(),
+        None => false,
+    }
+}
+
+impl EntryDays {
+    /// The days and the amount of this entry.
+    pub(crate) fn of(entry: &Entry) -> EntryDays
+        ensures booked { result.booked ≡ booked_on entry.now }
+        ensures undone { result.undone ≡ undone_on entry.now }
+        ensures returned { result.returned ≡ returned_on entry.now }
+        ensures banked { result.banked ≡ banked_on entry.now }
+        ensures back { result.back ≡ back_on entry.now }
+        ensures amount { result.amount ≡ cleared_amount entry.now }
+        ensures low { pos 0 ≤ℤ (result.amount +ℤ pos MAX_AMOUNT) }
+    {
+        let mut days = EntryDays {
+            booked: None,
+            undone: None,
+            returned: None,
+            banked: None,
+            back: None,
+            amount: 0,
+        };
+        match entry {
+            Entry::Deposit(deposit) => {
+                days.booked = Some(deposit.book);
+                days.amount = deposit.amount.get() as i64;
+                match &deposit.state {
+                    DepositState::Held => {}
+                    DepositState::Cleared(clearing) => days.banked = Some(clearing.bank_day),
+                    DepositState::Cancelled(day) => days.undone = Some(*day),
+                    DepositState::Returned(returned) => {
+                        days.banked = Some(returned.clearing.bank_day);
+                        days.back = Some(returned.returning.bank_day);
+                        days.returned = Some(returned.undone);
+                    }
+                }
+            }
+            Entry::Payment(payment) => {
+                days.amount = -(payment.amount.get() as i64);
+                match &payment.state {
+                    PaymentState::Proposed | PaymentState::Declined => {}
+                    PaymentState::Issued(day) => days.booked = Some(*day),
+                    PaymentState::Cleared(paid) => {
+                        days.booked = Some(paid.issued);
+                        days.banked = Some(paid.clearing.bank_day);
+                    }
+                    PaymentState::Voided(voided) => {
+                        days.booked = Some(voided.issued);
+                        days.undone = Some(voided.undone);
+                    }
+                }
+            }
+            Entry::Fee(_) | Entry::Claim(_) => {}
+        }
+        days
+    }
+
+    /// What is so of it as of the day.
+    pub(crate) fn standing(&self, p: Day) -> Standing
+        ensures waiting { result.is_waiting
+            ≡ (is_by p self.now.booked && (not (is_by p self.now.undone) && not (is_by p self.now.banked))) }
+        ensures banked { result.is_banked_early ≡ (is_by p self.now.banked && not (is_by p self.now.booked)) }
+        ensures back { result.is_back_early ≡ (is_by p self.now.back && not (is_by p self.now.returned)) }
+    {
+        let is_booked = is_by(self.booked, p);
+        let is_banked = is_by(self.banked, p);
+        Standing {
+            is_waiting: is_booked && !is_by(self.undone, p) && !is_banked,
+            is_banked_early: is_banked && !is_booked,
+            is_back_early: is_by(self.back, p) && !is_by(self.returned, p),
+        }
+    }
+
+    /// That amount if it has come, less that amount if it has gone again.
+    pub(crate) fn amount_left(&self, has_come: bool, has_gone: bool) -> i128
+        ensures { result ≡ (cond has_come self.now.amount (pos 0) -ℤ cond has_gone self.now.amount (pos 0)) }
+    {
+        let amount = self.amount as i128;
+        match (has_come, has_gone) {
+            (true, false) => amount,
+            (false, true) => -amount,
+            _ => 0,
+        }
+    }
+}
+
 // Appends an entry with this day, if there is one.
 fn push_line(
     lines: &mut Vec<EntryLine>,
@@ -87,12 +211,13 @@ pub(crate) fn push_early(
     ensures err { OnErr result (lines.new.items ≡ lines.old.items) }
 {
     let days = EntryDays::of(entry);
-    let banked = if days.is_banked_early(p) {
+    let standing = days.standing(p);
+    let banked = if standing.is_banked_early {
         days.banked
     } else {
         None
     };
-    let back = if days.is_back_early(p) {
+    let back = if standing.is_back_early {
         days.back
     } else {
         None
@@ -120,7 +245,7 @@ pub(crate) fn push_waiting(
     ensures err { OnErr result (listed p lists.new ≡ listed p lists.old) }
 {
     let days = EntryDays::of(entry);
-    let waits = days.is_waiting(p);
+    let waits = days.standing(p).is_waiting;
     match entry {
         Entry::Deposit(_) if waits => {
             push_line(&mut lists.transit, matter, number, days.booked, days.amount)
@@ -129,6 +254,19 @@ pub(crate) fn push_waiting(
             push_line(&mut lists.out, matter, number, days.booked, days.amount)
         }
         _ => Ok(()),
+    }
+}
+
+/// What the entry adds to the deposits in transit, and to the outstanding payments.
+pub(crate) fn waiting_amounts(entry: &Entry, p: Day) -> (i128, i128)
+    ensures transit { result.0 ≡ transit_share p entry.now }
+    ensures outstanding { result.1 ≡ outstanding_share p entry.now }
+{
+    let waits = EntryDays::of(entry).standing(p).is_waiting;
+    match entry {
+        Entry::Deposit(deposit) if waits => (deposit.amount.get() as i128, 0),
+        Entry::Payment(payment) if waits => (0, payment.amount.get() as i128),
+        _ => (0, 0),
     }
 }
 

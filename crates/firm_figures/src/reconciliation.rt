@@ -6,14 +6,14 @@ ghost use Rattle.firm_rows.specs.Firm.{EntryRow};
 ghost use Rattle.firm_figures.specs.Figures.{names_balance};
 ghost use Rattle.firm_figures.specs.Listing.{listed};
 ghost use Rattle.firm_figures.specs.Openings.{AreClosings};
-ghost use Rattle.firm_figures.specs.Reconciling.{figures_kept, less, with_entry_told};
+ghost use Rattle.firm_figures.specs.Reconciling.{with_entry_told};
 ghost use Rattle.firm_figures.specs.Reconciliations.{ReconciliationKept, nothing_kept, with_row_kept, with_movement_kept, with_own_kept, with_exception_kept, with_balance_noted, kept_told, told};
 
 use crate::day_lists::{
-    Issued, OpeningLine, ReconciliationLists, doubles_of, openings_after, push_early, push_issued,
-    push_waiting,
+    EntryDays, Issued, OpeningLine, ReconciliationLists, doubles_of, is_by, openings_after,
+    push_early, push_issued, push_waiting, waiting_amounts,
 };
-use crate::figures::{EntryDays, Figures, Sums, added, is_by, less, together, waiting_amounts};
+use crate::figures::{Figures, Sums, added, less, together};
 use firm_rows::{
     BalanceKind, BalanceSink, ExceptionSink, FirmLine, FirmLineSink, MatterRow, MatterRowSink,
     Movement, MovementSink, StatementRow,
@@ -137,10 +137,12 @@ impl ReconciliationSink {
     {
         let p = self.day;
         let days = EntryDays::of(entry);
+        let standing = days.standing(p);
         let (transit, outstanding) = waiting_amounts(entry, p);
-        let entries = days.amount_left(is_by(days.booked, p), days.is_taken_back(p));
+        let is_taken_back = is_by(days.undone, p) || is_by(days.returned, p);
+        let entries = days.amount_left(is_by(days.booked, p), is_taken_back);
         let matched = days.amount_left(is_by(days.banked, p), is_by(days.back, p));
-        let early = days.amount_left(days.is_banked_early(p), days.is_back_early(p));
+        let early = days.amount_left(standing.is_banked_early, standing.is_back_early);
         self.sums.transit = together(self.sums.transit, transit);
         self.sums.outstanding = together(self.sums.outstanding, outstanding);
         self.sums.entries = together(self.sums.entries, entries);
@@ -155,34 +157,6 @@ impl ReconciliationSink {
         self.purged
     }
 
-    // The figures, if this is the day's closing balance.
-    fn figures(&self, closing: i64) -> Figures
-        ensures { result ≡ figures_kept self.now.figures closing }
-    {
-        let adjusted = less(added(self.sums.transit, closing), self.sums.outstanding);
-        Figures {
-            closing,
-            transit: self.sums.transit,
-            outstanding: self.sums.outstanding,
-            adjusted,
-            journal: self.sums.journal,
-            ledgers: together(self.sums.entries, self.sums.own),
-            difference: less(adjusted, self.sums.journal),
-            exceptions: self.sums.exceptions,
-            early: self.sums.early,
-            gap: self.gap(closing),
-        }
-    }
-
-    // The part of the closing balance that nothing explains.
-    fn gap(&self, closing: i64) -> i128
-        ensures { let figures = self.now.figures in
-            result ≡ less (less (less closing figures.matched) figures.own) figures.exceptions }
-    {
-        let unmatched = less(closing as i128, self.sums.matched);
-        less(less(unmatched, self.sums.own), self.sums.exceptions)
-    }
-
     /// The reconciliation, or None if no closing balance of the day was added. The closings must have been added in
     /// order of day, as they are in a firm. The only error is out of memory.
     pub fn finish(self, alloc: Global) -> Result<Option<Reconciliation>, AllocError>
@@ -191,7 +165,22 @@ impl ReconciliationSink {
         let Some(closing) = self.sums.closing else {
             return Ok(None);
         };
-        let figures = self.figures(closing);
+        let sums = self.sums;
+        let adjusted = less(added(sums.transit, closing), sums.outstanding);
+        let unmatched = less(closing as i128, sums.matched);
+        let figures = Figures {
+            closing,
+            transit: sums.transit,
+            outstanding: sums.outstanding,
+            adjusted,
+            journal: sums.journal,
+            ledgers: together(sums.entries, sums.own),
+            difference: less(adjusted, sums.journal),
+            exceptions: sums.exceptions,
+            early: sums.early,
+            // The part of the closing balance that nothing explains.
+            gap: less(less(unmatched, sums.own), sums.exceptions),
+        };
         let openings = openings_after(alloc, &self.closings, &self.openings)?;
         Ok(Some(Reconciliation {
             figures,

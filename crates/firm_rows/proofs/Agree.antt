@@ -14,13 +14,9 @@ of_row g (EntryRow number entry) = g entry
 -- the shares of a matter's rows are those of its entries
 pub rows-entries : (g : Entry → ℤ) (m : ℕ) (joined : List (ℕ × Row)) → sum_of (at (λ p. p.0) (λ p. of_row g p.1) m) joined ≡ sum_of g (among (rows_of m joined)).entries
 rows-entries g m [] = refl
-rows-entries g m ((k, row) ∷ joined) = cases (k == m) row (rows-entries g m joined)
-  where
-    cases : (b : Bool) (r : Row) → sum_of (at (λ p. p.0) (λ p. of_row g p.1) m) joined ≡ sum_of g (entries_among (rows_of m joined)) → cond b (of_row g r) (pos 0) +ℤ sum_of (at (λ p. p.0) (λ p. of_row g p.1) m) joined ≡ sum_of g (entries_among (map (λ p. p.1) (cond b ((k, r) ∷ filter (λ p. p.0 == m) joined) (filter (λ p. p.0 == m) joined))))
-    cases true (HeadRow head) more = omega (arith, ints, more)
-    cases true (SeatRow seat) more = omega (arith, ints, more)
-    cases true (EntryRow number entry) more = omega (arith, ints, more)
-    cases false r more = omega (arith, ints, more)
+rows-entries g m ((k, HeadRow head) ∷ joined) = grind (arith, ints, rows-entries g m joined)
+rows-entries g m ((k, SeatRow seat) ∷ joined) = grind (arith, ints, rows-entries g m joined)
+rows-entries g m ((k, EntryRow number entry) ∷ joined) = grind (arith, ints, rows-entries g m joined)
 
 -- and those of all rows are those of all entries
 pub all-entries : (g : Entry → ℤ) (joined : List (ℕ × Row)) → sum_of g (entries_among (map (λ p. p.1) joined)) ≡ sum_of (λ p. of_row g p.1) joined
@@ -90,19 +86,14 @@ module _ (h : Event → ℤ) where
 
   pub split : (vs : List Movement) → sum_of share vs ≡ sum_of of_matters vs +ℤ sum_of of_firm vs
   split [] = refl
-  split (v ∷ vs) = cases (is_of_firm v.owner) (split vs)
+  split (v ∷ vs) = omega (arith, ints, split vs, parts (is_of_firm v.owner) (share v))
     where
-      cases : (b : Bool) → sum_of share vs ≡ sum_of of_matters vs +ℤ sum_of of_firm vs → share v +ℤ sum_of share vs ≡ (cond b (pos 0) (share v) +ℤ sum_of of_matters vs) +ℤ (cond b (share v) (pos 0) +ℤ sum_of of_firm vs)
-      cases true more = omega (arith, ints, more)
-      cases false more = omega (arith, ints, more)
+      parts : (b : Bool) (z : ℤ) → z ≡ cond b (pos 0) z +ℤ cond b z (pos 0)
+      parts b z = grind (arith, ints)
 
   pub own-part : (vs : List Movement) → sum_of of_firm vs ≡ sum_of h (firm_events vs)
   own-part [] = refl
-  own-part (v ∷ vs) = cases (is_of_firm v.owner) (own-part vs)
-    where
-      cases : (b : Bool) → sum_of of_firm vs ≡ sum_of h (firm_events vs) → cond b (share v) (pos 0) +ℤ sum_of of_firm vs ≡ sum_of h (map event_of (cond b (v ∷ filter (λ v. is_of_firm v.owner) vs) (filter (λ v. is_of_firm v.owner) vs)))
-      cases true more = omega (arith, ints, more)
-      cases false more = omega (arith, ints, more)
+  own-part (v ∷ vs) = grind (arith, ints, own-part vs)
 
   pub own-lines : (ls : List FirmLine) → sum_of h (map line_event ls) ≡ sum_of (λ l. h (line_event l)) ls
   own-lines [] = refl
@@ -122,8 +113,7 @@ module _ (h : Event → ℤ) where
   matter-at m (v ∷ vs) = omega (arith, ints, matter-at m vs, one v.owner)
     where
       one : (o : Owner) → cond (matter_of o == m) (cond (is_of_firm o) (pos 0) (share v)) (pos 0) ≡ cond (is_of_matter m o) (share v) (pos 0)
-      one (owner.Matter k n) = refl
-      one owner.Firm = elim (0 == m) as (λ b. cond b (pos 0) (pos 0) ≡ pos 0) [ true ↦ refl | false ↦ refl ]
+      one o = grind (arith)
 
   entry-at : (m n : ℕ) (vs : List Movement) → sum_of (at (λ v. entry_of v.owner) (of_matter m) n) vs ≡ sum_of h (events_moved m n vs)
   unfolding entry_of
@@ -131,10 +121,7 @@ module _ (h : Event → ℤ) where
   entry-at m n (v ∷ vs) = one v.owner refl (entry-at m n vs)
     where
       both : (b c : Bool) → sum_of (at (λ v. entry_of v.owner) (of_matter m) n) vs ≡ sum_of h (events_moved m n vs) → cond c (cond b (share v) (pos 0)) (pos 0) +ℤ sum_of (at (λ v. entry_of v.owner) (of_matter m) n) vs ≡ sum_of h (map event_of (cond (b && c) (v ∷ filter (λ v. is_of_entry m n v.owner) vs) (filter (λ v. is_of_entry m n v.owner) vs)))
-      both true true more = omega (arith, ints, more)
-      both true false more = omega (arith, ints, more)
-      both false true more = omega (arith, ints, more)
-      both false false more = omega (arith, ints, more)
+      both b c more = grind (arith, ints)
 
       one : (o : Owner) → v.owner ≡ o → sum_of (at (λ v. entry_of v.owner) (of_matter m) n) vs ≡ sum_of h (events_moved m n vs) → cond (entry_of o == n) (cond (is_of_matter m o) (share v) (pos 0)) (pos 0) +ℤ sum_of (at (λ v. entry_of v.owner) (of_matter m) n) vs ≡ sum_of h (map event_of (cond (is_of_entry m n o) (v ∷ filter (λ v. is_of_entry m n v.owner) vs) (filter (λ v. is_of_entry m n v.owner) vs)))
       one (owner.Matter k j) is more = both (k == m) (j == n) more
@@ -147,8 +134,7 @@ module _ (h : Event → ℤ) where
       ∙ numbered-all events_share 1 es
     where
       maybe-events : (o : Option Entry) → sum_of h (events_in o) ≡ maybe events_share o
-      maybe-events None = refl
-      maybe-events (Some e) = refl
+      maybe-events o = grind (arith)
 
       at-each : (n : ℕ) → sum_of (at (λ v. entry_of v.owner) (of_matter m) n) vs ≡ sum_of (at (λ p. p.0) (λ p. events_share p.1) n) (numbered 1 es)
       at-each n = entry-at m n vs ∙ (ap (sum_of h) (told n) ∙ (maybe-events (entry_at es n) ∙ sym (numbered-at events_share n 0 es ∙ ap (λ i. maybe events_share (entry_at es i)) (less-none n))))

@@ -12,9 +12,7 @@ balances-sorted row rows up = with-sorted balance_cmp balance_total row rows up
 -- What a search finds.
 
 both-equal : (r s : Ordering) → ordering_then r s ≡ Equal → (r ≡ Equal) × (s ≡ Equal)
-both-equal Less s is = absurd (cc)
-both-equal Equal s is = (refl, is)
-both-equal Greater s is = absurd (cc)
+both-equal r s is = (grind (arith), grind (arith))
 
 -- a balance that ties with another is of its kind and day
 pub tied-on : (row x : StatementRow) → balance_cmp x row ≡ Equal → is_balance_on row.kind row.day x ≡ true
@@ -29,9 +27,5 @@ tied-on row x is =
 -- so where none of its kind and day is kept, none ties with it
 pub none-tied : (row : StatementRow) (rows : List StatementRow) (i : ℕ) (d : StatementRow) → kept_balance row.kind row.day rows ≡ None → i < length rows → balance_cmp (get_or rows i d) row ≢ Equal
 none-tied row [] i d none lt is = omega (arith, lt)
-none-tied row (x ∷ xs) i d none lt is = cases (is_balance_on row.kind row.day x) refl none (none-tied row xs) i lt is
-  where
-    cases : (b : Bool) → is_balance_on row.kind row.day x ≡ b → option_map (λ (r : StatementRow). r.amount) (cond b (Some x) (find (is_balance_on row.kind row.day) xs)) ≡ None → ((i : ℕ) (d : StatementRow) → kept_balance row.kind row.day xs ≡ None → i < length xs → balance_cmp (get_or xs i d) row ≢ Equal) → (i : ℕ) → i < length (x ∷ xs) → balance_cmp (get_or (x ∷ xs) i d) row ≡ Equal → ⊥
-    cases true on none more i lt is = absurd (cc)
-    cases false off none more zero lt is = false≢true (sym off ∙ tied-on row x is)
-    cases false off none more (suc i) lt is = more i d none (omega (arith, lt)) is
+none-tied row (x ∷ xs) zero d none lt is = grind (arith, tied-on row x is)
+none-tied row (x ∷ xs) (suc i) d none lt is = none-tied row xs i d (grind (arith)) (omega (arith, lt)) is

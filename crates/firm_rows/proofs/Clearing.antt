@@ -15,50 +15,34 @@ pub record IsClear (rows : Rows) : Type 0 where
 module _ (m : ℕ) (t : Owner → Bool) (h : (o : Owner) → is_of_matter m o ≡ true → t o ≡ false) where
   pub passing-kept : (vs : List Movement) → filter (λ v. t v.owner) (moved_without m vs) ≡ filter (λ v. t v.owner) vs
   passing-kept [] = refl
-  passing-kept (v ∷ vs) = cases (is_of_matter m v.owner) refl (passing-kept vs)
-    where
-      cases : (b : Bool) → is_of_matter m v.owner ≡ b → filter (λ v. t v.owner) (moved_without m vs) ≡ filter (λ v. t v.owner) vs → filter (λ v. t v.owner) (cond (not b) (v ∷ moved_without m vs) (moved_without m vs)) ≡ cond (t v.owner) (v ∷ filter (λ v. t v.owner) vs) (filter (λ v. t v.owner) vs)
-      cases true is more = rw (h v.owner is) more
-      cases false is more = elim (t v.owner) as (λ c. cond c (v ∷ filter (λ v. t v.owner) (moved_without m vs)) (filter (λ v. t v.owner) (moved_without m vs)) ≡ cond c (v ∷ filter (λ v. t v.owner) vs) (filter (λ v. t v.owner) vs)) [ true ↦ ap (λ xs. v ∷ xs) more | false ↦ more ]
+  passing-kept (v ∷ vs) = grind (arith, passing-kept vs, h v.owner)
 
 -- a test that only movements of the matter pass
 module _ (m : ℕ) (t : Owner → Bool) (h : (o : Owner) → is_of_matter m o ≡ false → t o ≡ false) where
   pub passing-gone : (vs : List Movement) → filter (λ v. t v.owner) (moved_without m vs) ≡ []
   passing-gone [] = refl
-  passing-gone (v ∷ vs) = cases (is_of_matter m v.owner) refl (passing-gone vs)
-    where
-      cases : (b : Bool) → is_of_matter m v.owner ≡ b → filter (λ v. t v.owner) (moved_without m vs) ≡ [] → filter (λ v. t v.owner) (cond (not b) (v ∷ moved_without m vs) (moved_without m vs)) ≡ []
-      cases true is more = more
-      cases false is more = rw (h v.owner is) more
+  passing-gone (v ∷ vs) = grind (arith, passing-gone vs, h v.owner)
 
 -- Whose they are.
 
 entry-other : (m k n : ℕ) (o : Owner) → k ≢ m → is_of_matter m o ≡ true → is_of_entry k n o ≡ false
-entry-other m k n (owner.Matter i j) apart is = let f : (i == k) ≡ false = grind (arith, nat_tests) in rw f refl
-entry-other m k n owner.Firm apart is = refl
+entry-other m k n o apart is = grind (arith, nat_tests)
 
 matter-other : (m k : ℕ) (o : Owner) → k ≢ m → is_of_matter m o ≡ true → is_of_matter k o ≡ false
-matter-other m k (owner.Matter i j) apart is = grind (arith, nat_tests)
-matter-other m k owner.Firm apart is = refl
+matter-other m k o apart is = grind (arith, nat_tests)
 
 firm-other : (m : ℕ) (o : Owner) → is_of_matter m o ≡ true → is_of_firm o ≡ false
-firm-other m (owner.Matter i j) is = refl
-firm-other m owner.Firm is = sym is
+firm-other m o is = grind (arith)
 
 entry-own : (m n : ℕ) (o : Owner) → is_of_matter m o ≡ false → is_of_entry m n o ≡ false
-entry-own m n (owner.Matter i j) is = rw is refl
-entry-own m n owner.Firm is = refl
+entry-own m n o is = grind (arith)
 
 -- Sums so far: those of the movements that stay are those of some place of the old list.
 
 own-sum : (m k : ℕ) (vs : List Movement) → moved_for m (take k (moved_without m vs)) ≡ pos 0
 own-sum m zero vs = refl
 own-sum m (suc k) [] = refl
-own-sum m (suc k) (v ∷ vs) = cases (is_of_matter m v.owner) refl (own-sum m (suc k) vs) (own-sum m k vs)
-  where
-    cases : (b : Bool) → is_of_matter m v.owner ≡ b → moved_for m (take (suc k) (moved_without m vs)) ≡ pos 0 → moved_for m (take k (moved_without m vs)) ≡ pos 0 → moved_for m (take (suc k) (cond (not b) (v ∷ moved_without m vs) (moved_without m vs))) ≡ pos 0
-    cases true is past here = past
-    cases false is past here = rw is (omega (arith, ints, here))
+own-sum m (suc k) (v ∷ vs) = grind (arith, ints, own-sum m (suc k) vs, own-sum m k vs)
 
 -- up to a place the list without them is the list up to some place without them
 place-kept : (m k : ℕ) (vs : List Movement) → (j : ℕ) × (take k (moved_without m vs) ≡ moved_without m (take j vs))
@@ -73,11 +57,7 @@ place-kept m (suc k) (v ∷ vs) = cases (is_of_matter m v.owner) refl (place-kep
 -- another matter's sum is what it was
 other-sum : (m k : ℕ) (vs : List Movement) → k ≢ m → moved_for k (moved_without m vs) ≡ moved_for k vs
 other-sum m k [] apart = refl
-other-sum m k (v ∷ vs) apart = cases (is_of_matter m v.owner) refl (other-sum m k vs apart)
-  where
-    cases : (b : Bool) → is_of_matter m v.owner ≡ b → moved_for k (moved_without m vs) ≡ moved_for k vs → moved_for k (cond (not b) (v ∷ moved_without m vs) (moved_without m vs)) ≡ amount_for k v +ℤ moved_for k vs
-    cases true is more = let f = matter-other m k v.owner apart is in rw f (omega (arith, ints, more))
-    cases false is more = omega (arith, ints, more)
+other-sum m k (v ∷ vs) apart = grind (arith, ints, other-sum m k vs apart, matter-other m k v.owner apart)
 
 -- Soundness.
 
@@ -119,11 +99,7 @@ module _ (m : ℕ) (rows : Rows) (firm : Firm) (sound : FirmSound firm) (is : Is
     where
       gone : (vs : List Movement) → moved_for m (moved_without m vs) ≡ pos 0
       gone [] = refl
-      gone (v ∷ vs) = one (is_of_matter m v.owner) refl (gone vs)
-        where
-          one : (b : Bool) → is_of_matter m v.owner ≡ b → moved_for m (moved_without m vs) ≡ pos 0 → moved_for m (cond (not b) (v ∷ moved_without m vs) (moved_without m vs)) ≡ pos 0
-          one true is more = more
-          one false is more = rw is (omega (arith, ints, more))
+      gone (v ∷ vs) = grind (arith, ints, gone vs)
 
   covered : (k n : ℕ) → pos 0 ≤ℤ moved_for k (take n after.movements)
   covered k n =

@@ -11,8 +11,7 @@ use Rattle.firm_rows.proofs.OwnLines.{own_line-sound, statement-sound}
 -- The line that made a change.
 
 of-matched : (n : ℕ) (line : Option Line) (firm : Firm) → of n (matched_by line firm) ≡ of n firm
-of-matched n None firm = refl
-of-matched n (Some line) firm = refl
+of-matched n line firm = grind (arith)
 
 in_order-matched : (line : Option Line) (firm : Firm) → IsInOrder firm → IsInOrder (matched_by line firm)
 in_order-matched None firm order = order
@@ -25,13 +24,7 @@ sound-matched (Some line) firm sound = match-sound line firm sound
 -- The rows of one matter.
 
 pub changes-one : ChangesOne
-changes-one n (OfMatter m line change) firm = of-matched n line (after_change m change firm) ∙ cases (n == m) refl
-  where
-    cases : (b : Bool) → (n == m) ≡ b → of n (after_change m change firm) ≡ cond b (changed change (of n firm)) (of n firm)
-    cases true same_test =
-        let same : n ≡ m = grind (arith, nat_tests) in
-        subst (λ (k : ℕ). of k (after_change m change firm) ≡ changed change (of k firm)) (sym same) (changes-own m change firm)
-    cases false other_test = changes-no_other n m change firm (grind (arith, nat_tests))
+changes-one n (OfMatter m line change) firm = grind (arith, nat_tests, of-matched n line (after_change m change firm), changes-own m change firm, changes-no_other n m change firm)
 changes-one n (Repeated line) firm = refl
 changes-one n (Unmatched line) firm = refl
 changes-one n (OfFirm line) firm = refl

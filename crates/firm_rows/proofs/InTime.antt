@@ -19,8 +19,7 @@ days-own : (m : ℕ) (v : change.EntryMovement) → days_moved m (joined_movemen
 days-own m v = let t : (m == m) ≡ true = grind (arith, nat_tests) in rw t refl
 
 days-other : (m k : ℕ) (o : Option change.EntryMovement) → k ≢ m → days_moved k (joined_movement m o) ≡ []
-days-other m k None apart = refl
-days-other m k (Some v) apart = let f : (m == k) ≡ false = grind (arith, nat_tests) in rw f refl
+days-other m k o apart = grind (arith, nat_tests)
 
 -- the movements of another matter stay
 pub days-same : (m k : ℕ) (xs : List Movement) (o : Option change.EntryMovement) → k ≢ m → days_moved k (xs ++ joined_movement m o) ≡ days_moved k xs

@@ -1,6 +1,7 @@
 -- The joined rows: what a filter by the matter keeps, and what is put there.
-use Rattle.firm_rows.proofs.Names.{◌≡◌, ◌≢◌, ℕ, ◌+◌, ◌<◌, ◌≤◌, Bool, true, false, List, [], ◌∷◌, ◌++◌, Option, Some, None, cond, map, refl, ap, ◌∙◌, arith, append-nil, ◌⊎◌, inl, inr, nat_lt, ◌==◌, cases_lt, nat_tests, filter-append, Rows, Entry, Row, SeatRow, EntryRow, pairs, head_pairs, seat_pairs, entry_pairs, put, rows_of, among}
+use Rattle.firm_rows.proofs.Names.{◌≡◌, ◌≢◌, ℕ, ◌+◌, ◌<◌, ◌≤◌, Bool, true, false, List, [], ◌∷◌, ◌++◌, Option, Some, None, cond, map, refl, ap, ◌∙◌, arith, append-nil, ◌⊎◌, inl, inr, nat_lt, ◌==◌, cases_lt, nat_tests, filter-append, Rows, Entry, Row, SeatRow, EntryRow, pairs, head_pairs, seat_pairs, entry_pairs, put, rows_of, among, AllByRecursion}
 use Rattle.std.specs.Prelude.{filter}
+use Rattle.firm_rows.proofs.Ordered.{all-append, all-map, filter-all, filter-none}
 use Rattle.trust_matter.specs.head.Head.{Head}
 use Rattle.trust_matter.specs.seat.Seat.{Seat}
 
@@ -8,72 +9,51 @@ use Rattle.trust_matter.specs.seat.Seat.{Seat}
 abbrev pub passing : (ℕ → Bool) → List (ℕ × Row) → List (ℕ × Row)
 passing t xs = filter (λ p. t p.0) xs
 
-heads_pass : (t : ℕ → Bool) (m : ℕ) (o : Option Head) → t m ≡ true → passing t (head_pairs m o) ≡ head_pairs m o
-heads_pass t m None h = refl
-heads_pass t m (Some head) h = rw h refl
+-- the pairs of lesser numbers, and those of greater
+abbrev pub before : ℕ → List (ℕ × Row) → List (ℕ × Row)
+before m xs = passing (λ x. nat_lt x m) xs
 
-seats_pass : (t : ℕ → Bool) (m : ℕ) (ss : List Seat) → t m ≡ true → passing t (seat_pairs m ss) ≡ seat_pairs m ss
-seats_pass t m [] h = refl
-seats_pass t m (s ∷ ss) h = rw h (ap (λ xs. (m, SeatRow s) ∷ xs) (seats_pass t m ss h))
+abbrev pub behind : ℕ → List (ℕ × Row) → List (ℕ × Row)
+behind m xs = passing (λ x. nat_lt m x) xs
 
-entries_pass : (t : ℕ → Bool) (m n : ℕ) (es : List Entry) → t m ≡ true → passing t (entry_pairs m n es) ≡ entry_pairs m n es
-entries_pass t m n [] h = refl
-entries_pass t m n (e ∷ es) h = rw h (ap (λ xs. (m, EntryRow n e) ∷ xs) (entries_pass t m (n + 1) es h))
+-- each pair of a matter has its number
+heads_own : (m : ℕ) (o : Option Head) → AllByRecursion (λ p. p.0 ≡ m) (head_pairs m o)
+heads_own m None = tt
+heads_own m (Some head) = (refl, tt)
 
-heads_fail : (t : ℕ → Bool) (m : ℕ) (o : Option Head) → t m ≡ false → passing t (head_pairs m o) ≡ []
-heads_fail t m None h = refl
-heads_fail t m (Some head) h = rw h refl
+seats_own : (m : ℕ) (ss : List Seat) → AllByRecursion (λ p. p.0 ≡ m) (seat_pairs m ss)
+seats_own m [] = tt
+seats_own m (s ∷ ss) = (refl, seats_own m ss)
 
-seats_fail : (t : ℕ → Bool) (m : ℕ) (ss : List Seat) → t m ≡ false → passing t (seat_pairs m ss) ≡ []
-seats_fail t m [] h = refl
-seats_fail t m (s ∷ ss) h = rw h (seats_fail t m ss h)
+entries_own : (m n : ℕ) (es : List Entry) → AllByRecursion (λ p. p.0 ≡ m) (entry_pairs m n es)
+entries_own m n [] = tt
+entries_own m n (e ∷ es) = (refl, entries_own m (n + 1) es)
 
-entries_fail : (t : ℕ → Bool) (m n : ℕ) (es : List Entry) → t m ≡ false → passing t (entry_pairs m n es) ≡ []
-entries_fail t m n [] h = refl
-entries_fail t m n (e ∷ es) h = rw h (entries_fail t m (n + 1) es h)
+pairs_own : (m : ℕ) (rows : Rows) → AllByRecursion (λ p. p.0 ≡ m) (pairs m rows)
+pairs_own m rows = all-append _ _ _ (heads_own m rows.head) (all-append _ _ _ (seats_own m rows.seats) (entries_own m 1 rows.entries))
 
 pub passing-append : (t : ℕ → Bool) (xs ys : List (ℕ × Row)) → passing t (xs ++ ys) ≡ passing t xs ++ passing t ys
 passing-append t xs ys = filter-append (λ p. t p.0) xs ys
 
 pub pairs_pass : (t : ℕ → Bool) (m : ℕ) (rows : Rows) → t m ≡ true → passing t (pairs m rows) ≡ pairs m rows
-pairs_pass t m rows h =
-    passing-append t (head_pairs m rows.head) (seat_pairs m rows.seats ++ entry_pairs m 1 rows.entries)
-    ∙ (λ i. heads_pass t m rows.head h i ++ (passing-append t (seat_pairs m rows.seats) (entry_pairs m 1 rows.entries) ∙ (λ j. seats_pass t m rows.seats h j ++ entries_pass t m 1 rows.entries h j)) i)
+pairs_pass t m rows h = filter-all _ _ (all-map _ _ _ (λ p is. ap t is ∙ h) (pairs_own m rows))
 
 pub pairs_fail : (t : ℕ → Bool) (m : ℕ) (rows : Rows) → t m ≡ false → passing t (pairs m rows) ≡ []
-pairs_fail t m rows h =
-    passing-append t (head_pairs m rows.head) (seat_pairs m rows.seats ++ entry_pairs m 1 rows.entries)
-    ∙ (λ i. heads_fail t m rows.head h i ++ (passing-append t (seat_pairs m rows.seats) (entry_pairs m 1 rows.entries) ∙ (λ j. seats_fail t m rows.seats h j ++ entries_fail t m 1 rows.entries h j)) i)
+pairs_fail t m rows h = filter-none _ _ (all-map _ _ _ (λ p is. ap t is ∙ h) (pairs_own m rows))
 
 -- what passes one test and then another
 pub passing_twice : (t s : ℕ → Bool) (xs : List (ℕ × Row)) → ((x : ℕ) → t x ≡ true → s x ≡ true) → passing t (passing s xs) ≡ passing t xs
 passing_twice t s [] h = refl
-passing_twice t s (x ∷ xs) h = cases (s x.0) (t x.0) refl refl (passing_twice t s xs h)
-  where
-    cases : (b c : Bool) → s x.0 ≡ b → t x.0 ≡ c → passing t (passing s xs) ≡ passing t xs → passing t (cond b (x ∷ passing s xs) (passing s xs)) ≡ cond c (x ∷ passing t xs) (passing t xs)
-    cases true true sb tb ih = rw tb (ap (λ ys. x ∷ ys) ih)
-    cases true false sb tb ih = rw tb ih
-    cases false true sb tb ih = absurd (let e = h x.0 tb in (cc))
-    cases false false sb tb ih = ih
+passing_twice t s (x ∷ xs) h = grind (arith, passing_twice t s xs h, h x.0)
 
 pub passing_never : (t s : ℕ → Bool) (xs : List (ℕ × Row)) → ((x : ℕ) → s x ≡ true → t x ≡ false) → passing t (passing s xs) ≡ []
 passing_never t s [] h = refl
-passing_never t s (x ∷ xs) h = cases (s x.0) refl (passing_never t s xs h)
-  where
-    cases : (b : Bool) → s x.0 ≡ b → passing t (passing s xs) ≡ [] → passing t (cond b (x ∷ passing s xs) (passing s xs)) ≡ []
-    cases true sb ih = rw (h x.0 sb) ih
-    cases false sb ih = ih
+passing_never t s (x ∷ xs) h = grind (arith, passing_never t s xs h, h x.0)
 
 -- two tests in either order
 pub passing_swap : (t s : ℕ → Bool) (xs : List (ℕ × Row)) → passing t (passing s xs) ≡ passing s (passing t xs)
 passing_swap t s [] = refl
-passing_swap t s (x ∷ xs) = cases (s x.0) (t x.0) refl refl (passing_swap t s xs)
-  where
-    cases : (b c : Bool) → s x.0 ≡ b → t x.0 ≡ c → passing t (passing s xs) ≡ passing s (passing t xs) → passing t (cond b (x ∷ passing s xs) (passing s xs)) ≡ passing s (cond c (x ∷ passing t xs) (passing t xs))
-    cases true true sb tb ih = rw tb (rw sb (ap (λ ys. x ∷ ys) ih))
-    cases true false sb tb ih = rw tb ih
-    cases false true sb tb ih = rw sb ih
-    cases false false sb tb ih = ih
+passing_swap t s (x ∷ xs) = grind (arith, passing_swap t s xs)
 
 -- a matter's own rows come back
 entries_back : (m n : ℕ) (es : List Entry) → among (map (λ p. p.1) (entry_pairs m n es)) ≡ record { head = None; seats = []; entries = es }
@@ -91,30 +71,28 @@ back m (Some head) ss es = let again = seats_back m ss es in λ i. record { head
 pub among_own : (m : ℕ) (rows : Rows) → among (rows_of m (pairs m rows)) ≡ rows
 among_own m rows = ap (λ ps. among (map (λ p. p.1) ps)) (pairs_pass (λ x. x == m) m rows (grind (arith, nat_tests))) ∙ back m rows.head rows.seats rows.entries
 
--- what is put there is found there
+-- what is put there, and what a test says of it
+pub passing-put : (t : ℕ → Bool) (m : ℕ) (rows : Rows) (xs : List (ℕ × Row))
+    → passing t (put m rows xs) ≡ passing t (before m xs) ++ (passing t (pairs m rows) ++ passing t (behind m xs))
+passing-put t m rows xs =
+    passing-append t (before m xs) (pairs m rows ++ behind m xs)
+    ∙ ap (λ ys. passing t (before m xs) ++ ys) (passing-append t (pairs m rows) (behind m xs))
+
+-- the pairs that are put there are those of the matter
+pub own-put : (m : ℕ) (rows : Rows) (xs : List (ℕ × Row)) → passing (λ x. x == m) (put m rows xs) ≡ pairs m rows
+own-put m rows xs =
+    passing-put (λ x. x == m) m rows xs
+    ∙ ((λ i. passing_never (λ x. x == m) (λ x. nat_lt x m) xs (λ x h. grind (arith, nat_tests)) i ++ (pairs_pass (λ x. x == m) m rows (grind (arith, nat_tests)) i ++ passing_never (λ x. x == m) (λ x. nat_lt m x) xs (λ x h. grind (arith, nat_tests)) i)) ∙ append-nil _)
+
+-- and are found there
 pub rows_of-put_same : (m : ℕ) (rows : Rows) (xs : List (ℕ × Row)) → among (rows_of m (put m rows xs)) ≡ rows
 rows_of-put_same m rows xs =
-    ap (λ ps. among (map (λ p. p.1) ps))
-    (passing-append (λ x. x == m) (passing (λ x. nat_lt x m) xs) (pairs m rows ++ passing (λ x. nat_lt m x) xs)
-    ∙ ((λ i. passing_never (λ x. x == m) (λ x. nat_lt x m) xs (λ x h. grind (arith, nat_tests)) i ++ passing-append (λ x. x == m) (pairs m rows) (passing (λ x. nat_lt m x) xs) i)
-    ∙ (ap (λ ys. passing (λ x. x == m) (pairs m rows) ++ ys) (passing_never (λ x. x == m) (λ x. nat_lt m x) xs (λ x h. grind (arith, nat_tests))) ∙ append-nil _)))
-    ∙ among_own m rows
+    ap (λ ps. among (map (λ p. p.1) ps)) (own-put m rows xs) ∙ back m rows.head rows.seats rows.entries
 
 -- and nothing else is changed
 pub rows_of-put_other : (n m : ℕ) (rows : Rows) (xs : List (ℕ × Row)) → n ≢ m → rows_of n (put m rows xs) ≡ rows_of n xs
 rows_of-put_other n m rows xs apart = ap (λ ps. map (λ p. p.1) ps) (parts (cases_lt n m))
   where
-    whole : passing (λ x. x == n) (put m rows xs) ≡ passing (λ x. x == n) (passing (λ x. nat_lt x m) xs) ++ passing (λ x. x == n) (passing (λ x. nat_lt m x) xs)
-    whole = passing-append (λ x. x == n) (passing (λ x. nat_lt x m) xs) (pairs m rows ++ passing (λ x. nat_lt m x) xs) ∙ ap (λ ys. passing (λ x. x == n) (passing (λ x. nat_lt x m) xs) ++ ys) (passing-append (λ x. x == n) (pairs m rows) (passing (λ x. nat_lt m x) xs) ∙ ap (λ ys. ys ++ passing (λ x. x == n) (passing (λ x. nat_lt m x) xs)) (pairs_fail (λ x. x == n) m rows (grind (arith, nat_tests))))
-
     parts : (n < m) ⊎ (m ≤ n) → passing (λ x. x == n) (put m rows xs) ≡ passing (λ x. x == n) xs
-    parts (inl lt) = whole ∙ ((λ i. passing_twice (λ x. x == n) (λ x. nat_lt x m) xs (λ x h. grind (arith, nat_tests)) i ++ passing_never (λ x. x == n) (λ x. nat_lt m x) xs (λ x h. grind (arith, nat_tests)) i) ∙ append-nil _)
-    parts (inr le) = whole ∙ (λ i. passing_never (λ x. x == n) (λ x. nat_lt x m) xs (λ x h. grind (arith, nat_tests)) i ++ passing_twice (λ x. x == n) (λ x. nat_lt m x) xs (λ x h. grind (arith, nat_tests)) i)
-
--- the pairs that are put there are those of the matter
-pub own-put : (m : ℕ) (rows : Rows) (xs : List (ℕ × Row)) → passing (λ x. x == m) (put m rows xs) ≡ pairs m rows
-own-put m rows xs =
-    passing-append (λ x. x == m) (passing (λ x. nat_lt x m) xs) (pairs m rows ++ passing (λ x. nat_lt m x) xs)
-    ∙ ((λ i. passing_never (λ x. x == m) (λ x. nat_lt x m) xs (λ x h. grind (arith, nat_tests)) i ++ passing-append (λ x. x == m) (pairs m rows) (passing (λ x. nat_lt m x) xs) i)
-    ∙ ((ap (λ ys. passing (λ x. x == m) (pairs m rows) ++ ys) (passing_never (λ x. x == m) (λ x. nat_lt m x) xs (λ x h. grind (arith, nat_tests))) ∙ append-nil _)
-    ∙ pairs_pass (λ x. x == m) m rows (grind (arith, nat_tests))))
+    parts (inl lt) = passing-put (λ x. x == n) m rows xs ∙ ((λ i. passing_twice (λ x. x == n) (λ x. nat_lt x m) xs (λ x h. grind (arith, nat_tests)) i ++ (pairs_fail (λ x. x == n) m rows (grind (arith, nat_tests)) i ++ passing_never (λ x. x == n) (λ x. nat_lt m x) xs (λ x h. grind (arith, nat_tests)) i)) ∙ append-nil _)
+    parts (inr le) = passing-put (λ x. x == n) m rows xs ∙ (λ i. passing_never (λ x. x == n) (λ x. nat_lt x m) xs (λ x h. grind (arith, nat_tests)) i ++ (pairs_fail (λ x. x == n) m rows (grind (arith, nat_tests)) i ++ passing_twice (λ x. x == n) (λ x. nat_lt m x) xs (λ x h. grind (arith, nat_tests)) i))

@@ -13,22 +13,18 @@ use Rattle.firm_rows.proofs.Told.{events-append, firm-append, joined-other, join
 pub ledger-least : Covered → (rows : Rows) → Sound rows → pos 0 ≤ℤ ledger rows.entries
 ledger-least covered rows sound = let c = covered rows.entries sound.backed in omega (arith, ints, c.total, c.held)
 
--- a list with one element more, or none: up to a place it is the old list so far, or the whole
-pub take-more : {A : Type 0} (xs : List A) (y : A) (k : ℕ) → (take k (xs ++ y ∷ []) ≡ take k xs) ⊎ (take k (xs ++ y ∷ []) ≡ xs ++ y ∷ [])
-take-more xs y k = cases (cases_lt k (length xs + 1))
+-- what is so of a list up to a place, and of the whole with one element more, is so of that up to the place
+pub take-more : {A : Type 0} (P : List A → Type 0) (xs : List A) (y : A) (k : ℕ) → P (take k xs) → P (xs ++ y ∷ []) → P (take k (xs ++ y ∷ []))
+take-more P xs y k some whole = cases (cases_lt k (length xs + 1))
   where
-    cases : (k < length xs + 1) ⊎ (length xs + 1 ≤ k) → (take k (xs ++ y ∷ []) ≡ take k xs) ⊎ (take k (xs ++ y ∷ []) ≡ xs ++ y ∷ [])
-    cases (inl lt) = inl (take-append-le k xs (y ∷ []) (omega arith))
-    cases (inr le) = inr (let long = length-append xs (y ∷ []) in take_all k (xs ++ y ∷ []) (omega (arith, long)))
+    cases : (k < length xs + 1) ⊎ (length xs + 1 ≤ k) → P (take k (xs ++ y ∷ []))
+    cases (inl lt) = subst P (sym (take-append-le k xs (y ∷ []) (omega arith))) some
+    cases (inr le) = let long = length-append xs (y ∷ []) in subst P (sym (take_all k (xs ++ y ∷ []) (omega (arith, long)))) whole
 
 -- the sums so far, where the whole is at least zero
 covered-more : (k : ℕ) (m : ℕ) (xs : List Movement) (n : ℕ) (o : Option change.EntryMovement) → ((j : ℕ) → pos 0 ≤ℤ moved_for k (take j xs)) → pos 0 ≤ℤ moved_for k (xs ++ joined_movement m o) → pos 0 ≤ℤ moved_for k (take n (xs ++ joined_movement m o))
 covered-more k m xs n None so_far whole = subst (λ (ys : List Movement). pos 0 ≤ℤ moved_for k (take n ys)) (sym (append-nil xs)) (so_far n)
-covered-more k m xs n (Some v) so_far whole = cases (take-more xs _ n)
-  where
-    cases : (take n (xs ++ joined_movement m (Some v)) ≡ take n xs) ⊎ (take n (xs ++ joined_movement m (Some v)) ≡ xs ++ joined_movement m (Some v)) → pos 0 ≤ℤ moved_for k (take n (xs ++ joined_movement m (Some v)))
-    cases (inl is) = subst (λ (ys : List Movement). pos 0 ≤ℤ moved_for k ys) (sym is) (so_far n)
-    cases (inr is) = subst (λ (ys : List Movement). pos 0 ≤ℤ moved_for k ys) (sym is) whole
+covered-more k m xs n (Some v) so_far whole = take-more (λ (ys : List Movement). pos 0 ≤ℤ moved_for k ys) xs _ n (so_far n) whole
 
 -- an edit that fits these rows and leaves them sound, and what it moves, which is not before their last day
 pub record IsKept (rows : Rows) (e : Edit) (last : ℕ) : Type 0 where

@@ -1,5 +1,5 @@
 -- A line of the bank, the firm's rows and its exceptions.
-use Rattle.firm_rows.proofs.Names.{List, Line, Firm, after_match, after_stray, FirmSound, IsInOrder}
+use Rattle.firm_rows.proofs.Names.{List, Line, StatementRow, Firm, after_match, after_stray, FirmSound, IsInOrder}
 use Rattle.trust_base.specs.LineOrder.{line_cmp}
 use Rattle.trust_base.proofs.LineFacts.{line_total, line_same}
 use Rattle.firm_rows.specs.Exceptions.{WithLineAdds, WithoutLineTakes, WithLineAgain}
@@ -26,9 +26,10 @@ stray-stays-in_order line firm order = record { rows = order.rows; exceptions = 
 
 -- And sound.
 
--- exceptions are no matter's rows, and move nothing
-with-exceptions : (firm : Firm) (lines : List Line) → FirmSound firm → IsInOrder (record firm { exceptions = lines }) → FirmSound (record firm { exceptions = lines })
-with-exceptions firm lines sound order = record {
+-- exceptions and balances are no matter's rows, and move nothing
+pub with-others : (firm : Firm) (lines : List Line) (balances : List StatementRow) → FirmSound firm
+    → IsInOrder (record firm { exceptions = lines; balances = balances }) → FirmSound (record firm { exceptions = lines; balances = balances })
+with-others firm lines balances sound order = record {
   in_order = order;
   matters = sound.matters;
   events = sound.events;
@@ -40,7 +41,7 @@ with-exceptions firm lines sound order = record {
 }
 
 pub match-sound : (line : Line) (firm : Firm) → FirmSound firm → FirmSound (after_match line firm)
-match-sound line firm sound = with-exceptions firm _ sound (match-in_order line firm sound.in_order)
+match-sound line firm sound = with-others firm _ firm.balances sound (match-in_order line firm sound.in_order)
 
 pub stray-stays-sound : (line : Line) (firm : Firm) → FirmSound firm → FirmSound (after_stray line firm)
-stray-stays-sound line firm sound = with-exceptions firm _ sound (stray-stays-in_order line firm sound.in_order)
+stray-stays-sound line firm sound = with-others firm _ firm.balances sound (stray-stays-in_order line firm sound.in_order)

@@ -1,5 +1,5 @@
 -- What is kept of the firm's own lines and of the balances stays kept.
-use Rattle.firm_rows.proofs.Names.{◌≡◌, ℕ, Bool, true, false, cond, List, [], ◌∷◌, Option, Some, None, refl, sym, ap, ◌∙◌, ℤ, find, ◌||◌, ◌&&◌, ◌==◌, list_any, option_map, option_or, Ordering, Less, Equal, Greater, is_lt, nat_cmp, ordering_reverse, ordering_then, false≢true, Decides-eqb, Decides-int_eq, tied_back, tied_itself, Line, Edit, StatementRow, is_kept_as, as_firm_line, place_of, balance_cmp, balance_row, is_balance_on, kept_balance, with_balance, Firm, after_edit, after_change, OfMatter, Repeated, Unmatched, OfFirm, OfBalance, matched_by}
+use Rattle.firm_rows.proofs.Names.{◌≡◌, ℕ, Bool, true, false, cond, List, [], ◌∷◌, Option, Some, None, refl, sym, ap, ◌∙◌, ℤ, find, ◌||◌, ◌&&◌, ◌==◌, list_any, option_map, option_or, Ordering, Less, Equal, Greater, is_lt, nat_cmp, ordering_reverse, ordering_then, false≢true, arith, nat_tests, Decides-eqb, Decides-int_eq, tied_back, tied_itself, Line, Edit, StatementRow, is_kept_as, as_firm_line, place_of, balance_cmp, balance_row, is_balance_on, kept_balance, with_balance, Firm, after_edit, after_change, OfMatter, Repeated, Unmatched, OfFirm, OfBalance, matched_by}
 use Rattle.std.proofs.Common.{filter}
 use Rattle.std.proofs.Math.Bool.{or-true}
 use Rattle.std.proofs.lemmas.List.Folds.{find-append, list_any-append}
@@ -11,18 +11,10 @@ use Rattle.firm_rows.proofs.Balances.{balance_total, tied-on}
 
 -- an edit of a matter, purging too, leaves the firm's own lines and the balances
 pub edit-leaves : (m : ℕ) (e : Edit) (last : ℕ) (firm : Firm) → ((after_edit m e last firm).firm_lines ≡ firm.firm_lines) × ((after_edit m e last firm).balances ≡ firm.balances)
-edit-leaves m edit.Nothing last firm = (refl, refl)
-edit-leaves m (edit.Open opening) last firm = (refl, refl)
-edit-leaves m (edit.Seat seat) last firm = (refl, refl)
-edit-leaves m (edit.Unseat person) last firm = (refl, refl)
-edit-leaves m (edit.Close day) last firm = (refl, refl)
-edit-leaves m (edit.Clear day) last firm = (refl, refl)
-edit-leaves m (edit.Append entry) last firm = (refl, refl)
-edit-leaves m (edit.Exchange entry) last firm = (refl, refl)
+edit-leaves m e last firm = (grind (arith), grind (arith))
 
 matched-leaves : (line : Option Line) (firm : Firm) → ((matched_by line firm).firm_lines ≡ firm.firm_lines) × ((matched_by line firm).balances ≡ firm.balances)
-matched-leaves None firm = (refl, refl)
-matched-leaves (Some line) firm = (refl, refl)
+matched-leaves o firm = (grind (arith), grind (arith))
 
 -- A line of the firm's own.
 
@@ -45,31 +37,13 @@ lines-stay line (OfBalance k l) firm kept = kept
 find-filter : {X : Type 0} (p q : X → Bool) (b : Bool) → ((x : X) → p x ≡ true → q x ≡ b) → (xs : List X) → find p (filter q xs) ≡ cond b (find p xs) None
 find-filter p q true tells [] = refl
 find-filter p q false tells [] = refl
-find-filter {X = X} p q b tells (x ∷ xs) = cases b (p x) (q x) refl refl (tells x) (find-filter p q b tells xs)
-  where
-    cases : (b c d : Bool) → p x ≡ c → q x ≡ d → (p x ≡ true → q x ≡ b) → find p (filter q xs) ≡ cond b (find p xs) None
-        → find p (cond d (x ∷ filter q xs) (filter q xs)) ≡ cond b (cond c (Some x) (find p xs)) None
-    cases true true true on passes tell again = rw on refl
-    cases true true false on fails tell again = absurd (false≢true (sym fails ∙ tell on))
-    cases false true true on passes tell again = absurd (false≢true (sym (tell on) ∙ passes))
-    cases false true false on fails tell again = again
-    cases true false true off passes tell again = rw off again
-    cases true false false off fails tell again = again
-    cases false false true off passes tell again = rw off again
-    cases false false false off fails tell again = again
+find-filter p q b tells (x ∷ xs) = grind (arith, find-filter p q b tells xs, tells x)
 
 -- A balance.
 
-both-tests : (a b : Bool) → (a && b) ≡ true → (a ≡ true) × (b ≡ true)
-both-tests true true is = (refl, refl)
-both-tests true false is = absurd (false≢true is)
-both-tests false b is = absurd (false≢true is)
-
 -- of the kind and day
 on-parts : (kind : BalanceKind) (day : ℕ) (row : StatementRow) → is_balance_on kind day row ≡ true → (place_of row.kind ≡ place_of kind) × (row.day ≡ day)
-on-parts kind day row is =
-    let tests = both-tests (place_of row.kind == place_of kind) (row.day == day) is in
-    ((Decides-eqb (place_of row.kind) (place_of kind)).0 tests.0, (Decides-eqb row.day day).0 tests.1)
+on-parts kind day row is = (grind (arith, nat_tests), grind (arith, nat_tests))
 
 -- all of one kind and day stand alike beside another
 alike : (kind : BalanceKind) (day : ℕ) (one other row : StatementRow) → is_balance_on kind day one ≡ true → is_balance_on kind day other ≡ true → balance_cmp one row ≡ balance_cmp other row
@@ -119,8 +93,7 @@ module _ (kind : BalanceKind) (day : ℕ) (amount : ℤ) (row : StatementRow) (r
   )
 
   first : (o : Option StatementRow) (more : Option StatementRow) → option_map (λ (r : StatementRow). r.amount) o ≡ Some amount → option_map (λ (r : StatementRow). r.amount) (option_or o more) ≡ Some amount
-  first None more is = absurd (cc)
-  first (Some x) more is = is
+  first o more is = grind (arith)
 
   found : (r : Ordering) → balance_cmp own row ≡ r → kept_balance kind day rows ≡ Some amount → option_map (λ (x : StatementRow). x.amount) (option_or (find p before) (find p (row ∷ behind))) ≡ Some amount
   found Less is kept = first (find p before) (find p (row ∷ behind)) (ap (option_map (λ (x : StatementRow). x.amount)) (low is) ∙ kept)

@@ -1,14 +1,7 @@
 -- The rows of each matter stand together, also after a change.
 use Rattle.firm_rows.proofs.Names.{◌≡◌, ◌≢◌, ℕ, ◌<◌, ◌≤◌, Bool, true, List, [], ◌++◌, sym, ap, ◌∙◌, subst, arith, append_assoc, append-nil, ◌⊎◌, inl, inr, nat_lt, cases_lt, nat_tests, Edit, Rows, MatterChange, changed_by, Row, Firm, of, pairs, put, rewritten_by, cleared_by, after_change, IsInOrder}
-use Rattle.firm_rows.proofs.Joined.{passing, passing-append, passing_twice, passing_never, passing_swap, pairs_pass, pairs_fail}
+use Rattle.firm_rows.proofs.Joined.{before, behind, passing, passing-append, passing-put, passing_twice, passing_never, passing_swap, pairs_pass, pairs_fail}
 use Rattle.firm_rows.proofs.Changed.{each-matter, EditCases, edit-cases, of-cleared_by, of_other-cleared_by}
-
--- the pairs of lesser numbers, and those of greater
-abbrev before : ℕ → List (ℕ × Row) → List (ℕ × Row)
-before m xs = passing (λ x. nat_lt x m) xs
-
-abbrev behind : ℕ → List (ℕ × Row) → List (ℕ × Row)
-behind m xs = passing (λ x. nat_lt m x) xs
 
 -- what passes a test passes it again
 passing_kept : (t s : ℕ → Bool) (xs : List (ℕ × Row)) → ((x : ℕ) → s x ≡ true → t x ≡ true) → passing t (passing s xs) ≡ passing s xs
@@ -36,13 +29,11 @@ put-rear k rows xs ys all none =
 pub put-again : (m : ℕ) (rows : Rows) (xs : List (ℕ × Row)) → put m rows (put m rows xs) ≡ put m rows xs
 put-again m rows xs =
     let front =
-    passing-append (λ x. nat_lt x m) (before m xs) (pairs m rows ++ behind m xs)
-    ∙ ((λ i. passing_kept (λ x. nat_lt x m) (λ x. nat_lt x m) xs (λ x h. h) i ++ passing-append (λ x. nat_lt x m) (pairs m rows) (behind m xs) i)
-    ∙ ((λ i. before m xs ++ (pairs_fail (λ x. nat_lt x m) m rows (grind (arith, nat_tests)) i ++ passing_never (λ x. nat_lt x m) (λ x. nat_lt m x) xs (λ x h. grind (arith, nat_tests)) i)) ∙ append-nil (before m xs))) in
+    passing-put (λ x. nat_lt x m) m rows xs
+    ∙ ((λ i. passing_kept (λ x. nat_lt x m) (λ x. nat_lt x m) xs (λ x h. h) i ++ (pairs_fail (λ x. nat_lt x m) m rows (grind (arith, nat_tests)) i ++ passing_never (λ x. nat_lt x m) (λ x. nat_lt m x) xs (λ x h. grind (arith, nat_tests)) i)) ∙ append-nil (before m xs)) in
     let rear =
-    passing-append (λ x. nat_lt m x) (before m xs) (pairs m rows ++ behind m xs)
-    ∙ ((λ i. passing_never (λ x. nat_lt m x) (λ x. nat_lt x m) xs (λ x h. grind (arith, nat_tests)) i ++ passing-append (λ x. nat_lt m x) (pairs m rows) (behind m xs) i)
-    ∙ (λ i. pairs_fail (λ x. nat_lt m x) m rows (grind (arith, nat_tests)) i ++ passing_kept (λ x. nat_lt m x) (λ x. nat_lt m x) xs (λ x h. h) i)) in
+    passing-put (λ x. nat_lt m x) m rows xs
+    ∙ (λ i. passing_never (λ x. nat_lt m x) (λ x. nat_lt x m) xs (λ x h. grind (arith, nat_tests)) i ++ (pairs_fail (λ x. nat_lt m x) m rows (grind (arith, nat_tests)) i ++ passing_kept (λ x. nat_lt m x) (λ x. nat_lt m x) xs (λ x h. h) i)) in
     λ i. front i ++ (pairs m rows ++ rear i)
 
 -- the rows of another matter stand together still

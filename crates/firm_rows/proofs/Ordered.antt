@@ -7,9 +7,7 @@ use Rattle.std.proofs.lemmas.Map.Keys.{Less-from_sorted}
 -- What an answer says.
 
 pub lt-Less : (r : Ordering) → is_lt r ≡ true → r ≡ Less
-lt-Less Less is = refl
-lt-Less Equal is = absurd (false≢true is)
-lt-Less Greater is = absurd (false≢true is)
+lt-Less r is = grind (arith)
 
 -- Lists and tests.
 
@@ -22,11 +20,11 @@ module _ {K : Type 0} where
   all-append P [] ys all more = more
   all-append P (x ∷ xs) ys all more = (all.0, all-append P xs ys all.1 more)
 
-  filter-all : (p : K → Bool) (xs : List K) → AllByRecursion (λ x. p x ≡ true) xs → filter p xs ≡ xs
+  pub filter-all : (p : K → Bool) (xs : List K) → AllByRecursion (λ x. p x ≡ true) xs → filter p xs ≡ xs
   filter-all p [] all = refl
   filter-all p (x ∷ xs) all = rw (all.0) (ap (λ ys. x ∷ ys) (filter-all p xs all.1))
 
-  filter-none : (p : K → Bool) (xs : List K) → AllByRecursion (λ x. p x ≡ false) xs → filter p xs ≡ []
+  pub filter-none : (p : K → Bool) (xs : List K) → AllByRecursion (λ x. p x ≡ false) xs → filter p xs ≡ []
   filter-none p [] all = refl
   filter-none p (x ∷ xs) all = rw (all.0) (filter-none p xs all.1)
 
@@ -132,9 +130,7 @@ module _ {K : Type 0} (R : K → K → Ordering) (o : IsTotalOrder R) where
   -- The comparisons with a key rise along a list in order, as a binary search asks.
 
   at-most-two : (r : Ordering) → ordering_index r ≤ 2
-  at-most-two Less = omega arith
-  at-most-two Equal = omega arith
-  at-most-two Greater = omega arith
+  at-most-two r = grind (arith)
 
   rise : (x y k : K) (r : Ordering) → R y k ≡ r → R x y ≡ Less → ordering_index (R x k) ≤ ordering_index r
   rise x y k Less is lt = let low : R x k ≡ Less = o.trans x y k lt is in rw low (omega arith)
@@ -182,9 +178,7 @@ module _ {K : Type 0} (R : K → K → Ordering) (o : IsTotalOrder R) (exact : (
       there c = (filter-contains (λ y. not (is_eq (R y k))) ks x c, λ is. false≢true (sym (not-true (is_eq (R x k)) (filter-passed (λ y. not (is_eq (R y k))) ks x c)) ∙ tied is))
 
       apart : (r : Ordering) → R x k ≡ r → x ≢ k → not (is_eq r) ≡ true
-      apart Less is other = refl
-      apart Equal is other = absurd (other (exact x k is))
-      apart Greater is other = refl
+      apart r is other = grind (arith, exact x k, other)
 
       back : Contains ks x × (x ≢ k) → Contains (without R k ks) x
       back (c, other) = contains-filter (λ y. not (is_eq (R y k))) ks x c (apart (R x k) refl other)

@@ -8,6 +8,8 @@ use Rattle.firm_rows.proofs.InTime.{RiseTo, days-append}
 use Rattle.firm_rows.proofs.Told.{events-append, firm-append}
 use Rattle.firm_rows.proofs.Kept.{take-more}
 use Rattle.firm_rows.proofs.Balances.{balances-sorted}
+use Rattle.firm_rows.proofs.Lines.{with-others}
+use Rattle.firm_rows.specs.FirmLines.{with_balance}
 
 module _ (l : FirmLine) (firm : Firm) (sound : FirmSound firm) (may : IsOwnBalance (balance_of firm.firm_lines +ℤ l.amount)) where
   abbrev new : List Movement
@@ -24,23 +26,15 @@ module _ (l : FirmLine) (firm : Firm) (sound : FirmSound firm) (may : IsOwnBalan
   moved-same m = omega (arith, ints, sum-append (amount_for m) firm.movements new)
 
   covered : (m k : ℕ) → pos 0 ≤ℤ moved_for m (take k (firm.movements ++ new))
-  covered m k = cases (take-more firm.movements (own_movement l) k)
-    where
-      cases : (take k (firm.movements ++ new) ≡ take k firm.movements) ⊎ (take k (firm.movements ++ new) ≡ firm.movements ++ new) → pos 0 ≤ℤ moved_for m (take k (firm.movements ++ new))
-      cases (inl is) = subst (λ (vs : List Movement). pos 0 ≤ℤ moved_for m vs) (sym is) (sound.covered m k)
-      cases (inr is) =
-          let all : take (length firm.movements) firm.movements ≡ firm.movements = take_all (length firm.movements) firm.movements (omega arith) in
-          let whole : pos 0 ≤ℤ moved_for m firm.movements = subst (λ (vs : List Movement). pos 0 ≤ℤ moved_for m vs) all (sound.covered m (length firm.movements)) in
-          subst (λ (vs : List Movement). pos 0 ≤ℤ moved_for m vs) (sym is) (subst (λ z. pos 0 ≤ℤ z) (sym (moved-same m)) whole)
+  covered m k =
+      let all : take (length firm.movements) firm.movements ≡ firm.movements = take_all (length firm.movements) firm.movements (omega arith) in
+      let whole : pos 0 ≤ℤ moved_for m firm.movements = subst (λ (vs : List Movement). pos 0 ≤ℤ moved_for m vs) all (sound.covered m (length firm.movements)) in
+      take-more (λ (vs : List Movement). pos 0 ≤ℤ moved_for m vs) firm.movements (own_movement l) k (sound.covered m k) (omega (arith, ints, moved-same m, whole))
 
   within : (k : ℕ) → IsOwnBalance (balance_of (take k (firm.firm_lines ++ l ∷ [])))
-  within k = cases (take-more firm.firm_lines l k)
-    where
-      cases : (take k (firm.firm_lines ++ l ∷ []) ≡ take k firm.firm_lines) ⊎ (take k (firm.firm_lines ++ l ∷ []) ≡ firm.firm_lines ++ l ∷ []) → IsOwnBalance (balance_of (take k (firm.firm_lines ++ l ∷ [])))
-      cases (inl is) = subst (λ (ls : List FirmLine). IsOwnBalance (balance_of ls)) (sym is) (sound.within k)
-      cases (inr is) =
-          let more : balance_of firm.firm_lines +ℤ l.amount ≡ balance_of (firm.firm_lines ++ l ∷ []) = omega (arith, ints, sum-append (λ (x : FirmLine). x.amount) firm.firm_lines (l ∷ [])) in
-          subst (λ (ls : List FirmLine). IsOwnBalance (balance_of ls)) (sym is) (subst IsOwnBalance more may)
+  within k =
+      let more : balance_of firm.firm_lines +ℤ l.amount ≡ balance_of (firm.firm_lines ++ l ∷ []) = omega (arith, ints, sum-append (λ (x : FirmLine). x.amount) firm.firm_lines (l ∷ [])) in
+      take-more (λ (ls : List FirmLine). IsOwnBalance (balance_of ls)) firm.firm_lines l k (sound.within k) (subst IsOwnBalance more may)
 
   pub own_line-sound : FirmSound (with_firm_line l firm)
   own_line-sound = record {
@@ -60,9 +54,7 @@ own-balance z b is holds = let passed : is_own_balance z ≡ true = is ∙ holds
 
 -- a line that may be booked leaves a balance that the firm may have
 and-last : (a b c : Bool) → (a && b && c) ≡ true → c ≡ true
-and-last true true c is = is
-and-last true false c is = absurd (cc)
-and-last false b c is = absurd (cc)
+and-last a b c is = grind (arith)
 
 -- so a line that is decided fits
 pub firm_line-fits : FirmLineFits
@@ -91,13 +83,8 @@ balance-fits firm kind line v is = subst (λ (u : Verdict). FitsFirm firm (by_ba
 
 -- balances are no matter's rows, and move nothing
 pub statement-sound : (row : StatementRow) (firm : Firm) → FirmSound firm → FirmSound (with_statement row firm)
-statement-sound row firm sound = record {
-  in_order = record { rows = sound.in_order.rows; exceptions = sound.in_order.exceptions; balances = balances-sorted row firm.balances sound.in_order.balances };
-  matters = sound.matters;
-  events = sound.events;
-  own = sound.own;
-  in_time = λ m. record { rising = (sound.in_time m).rising; by_last = (sound.in_time m).by_last };
-  ledgers = sound.ledgers;
-  covered = sound.covered;
-  within = sound.within;
-}
+statement-sound row firm sound = with-others firm firm.exceptions (with_balance row firm.balances) sound (record {
+  rows = sound.in_order.rows;
+  exceptions = sound.in_order.exceptions;
+  balances = balances-sorted row firm.balances sound.in_order.balances;
+})

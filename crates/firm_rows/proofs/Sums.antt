@@ -26,16 +26,7 @@ module _ {A : Type 0} (key : A → ℕ) (f : A → ℤ) where
   below-zero (x ∷ xs) = let no : nat_lt (key x) 0 ≡ false = grind (arith, nat_tests) in rw no (omega (arith, ints, below-zero xs))
 
   below-one : (n : ℕ) (x : A) → below (suc n) x ≡ below n x +ℤ at n x
-  below-one n x = cases (nat_lt (key x) (suc n)) (nat_lt (key x) n) (key x == n) refl refl refl
-    where
-      cases : (b c d : Bool) → nat_lt (key x) (suc n) ≡ b → nat_lt (key x) n ≡ c → (key x == n) ≡ d → cond b (f x) (pos 0) ≡ cond c (f x) (pos 0) +ℤ cond d (f x) (pos 0)
-      cases true true true b c d = absurd (grind (arith, nat_tests))
-      cases true true false b c d = omega (arith, ints)
-      cases true false true b c d = omega (arith, ints)
-      cases true false false b c d = absurd (grind (arith, nat_tests))
-      cases false true _ b c d = absurd (grind (arith, nat_tests))
-      cases false false true b c d = absurd (grind (arith, nat_tests))
-      cases false false false b c d = omega (arith, ints)
+  below-one n x = grind (arith, ints, nat_tests)
 
   pub below-suc : (n : ℕ) (xs : List A) → sum_of (below (suc n)) xs ≡ sum_of (below n) xs +ℤ sum_of (at n) xs
   below-suc n [] = omega (arith, ints)
@@ -75,11 +66,7 @@ sum-same f g (x ∷ xs) same = omega (arith, ints, sum-same f g xs same, same x)
 -- a sum over what passes a test is the sum of what each adds that passes
 pub sum-filter : {A : Type 0} (p : A → Bool) (f : A → ℤ) (xs : List A) → sum_of f (filter p xs) ≡ sum_of (λ x. cond (p x) (f x) (pos 0)) xs
 sum-filter p f [] = refl
-sum-filter p f (x ∷ xs) = cases (p x) (sum-filter p f xs)
-  where
-    cases : (b : Bool) → sum_of f (filter p xs) ≡ sum_of (λ x. cond (p x) (f x) (pos 0)) xs → sum_of f (cond b (x ∷ filter p xs) (filter p xs)) ≡ cond b (f x) (pos 0) +ℤ sum_of (λ x. cond (p x) (f x) (pos 0)) xs
-    cases true more = omega (arith, ints, more)
-    cases false more = omega (arith, ints, more)
+sum-filter p f (x ∷ xs) = grind (arith, ints, sum-filter p f xs)
 
 -- a sum over lists joined end to end
 pub sum-flat : {A B : Type 0} (g : A → List B) (f : B → ℤ) (xs : List A) → sum_of f (flat_map g xs) ≡ sum_of (λ x. sum_of f (g x)) xs

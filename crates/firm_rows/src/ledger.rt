@@ -1,6 +1,6 @@
 // The firm's own ledger, the balances that the bank reports, and the verdicts on their lines.
 
-ghost use Rattle.std.specs.Prelude.{◌≡◌, List, [], ◌∷◌, ◌++◌, IfOk, OnOk, OnErr, ◌+ℤ◌};
+ghost use Rattle.std.specs.Prelude.{◌≡◌, ◌↔◌, List, [], ◌∷◌, ◌++◌, IsTrue, IfOk, OnOk, OnErr, ◌+ℤ◌};
 ghost use Rattle.std.specs.List.{list_any};
 ghost use Rattle.firm_rows.specs.declared.ledger.FirmLine.{FirmLine};
 ghost use Rattle.firm_rows.specs.FirmLines.{balance_of, IsOwnBalance, is_own_balance, is_kept_as, is_bookable, firm_verdict, balance_verdict, as_firm_line};
@@ -142,38 +142,12 @@ impl Model for FirmLedger {
     ghost invariant = { λ l. (l.balance ≡ balance_of l.lines.items) × IsOwnBalance l.balance };
 }
 
-// Copies of the lines.
-fn lines_copied(alloc: Global, lines: &[FirmLine]) -> Result<Vec<FirmLine>, AllocError>
-    ensures { IfOk result (λ copies. copies.items ≡ lines.now) }
-{
-    let mut copies = Vec::new(alloc);
-    for line in lines {
-        copies.push(line.copied()?)?;
-    }
-    Ok(copies)
-}
-
-// Whether the firm may have this much as its own money.
-fn is_own_balance(cents: i64) -> bool
-    ensures { result ≡ is_own_balance cents }
+/// Whether the firm may have this much as its own money, in cents.
+pub fn is_own_balance(cents: i64) -> bool
+    ensures value { result ≡ is_own_balance cents }
+    ensures within { IsTrue result ↔ IsOwnBalance cents }
 {
     0 <= cents && cents <= MAX_OWN as i64
-}
-
-// Whether a line with this date, bank reference and amount is stored.
-fn is_kept(lines: &[FirmLine], line: &Line) -> bool
-    ensures { result ≡ list_any (is_kept_as line.now) lines.now }
-{
-    lines.iter().any(|l| l.is_kept_as(line))
-}
-
-// Whether the line may be booked on this day, if the stored lines add up to `balance`.
-fn is_bookable(balance: i64, line: &Line, today: Day) -> bool
-    requires { IsOwnBalance balance }
-    ensures { (lines : List FirmLine) → balance ≡ balance_of lines → result ≡ is_bookable lines line.now today }
-{
-    let amount = line.amount.get();
-    line.date.get() <= today.get() && amount != 0 && is_own_balance(balance + amount)
 }
 
 impl FirmLedger {
@@ -206,7 +180,10 @@ impl FirmLedger {
     pub fn copied(&self, alloc: Global) -> Result<FirmLedger, AllocError>
         ensures { IfOk result (λ same. same ≡ self.now) }
     {
-        let lines = lines_copied(alloc, &self.lines)?;
+        let mut lines = Vec::new(alloc);
+        for line in &self.lines {
+            lines.push(line.copied()?)?;
+        }
         Ok(FirmLedger {
             lines,
             balance: self.balance,
@@ -226,6 +203,21 @@ impl FirmLedger {
     }
 }
 
+// Whether a line with this date, bank reference and amount is stored.
+fn is_kept(lines: &[FirmLine], line: &Line) -> bool
+    ensures { result ≡ list_any (is_kept_as line.now) lines.now }
+{
+    lines.iter().any(|l| l.is_kept_as(line))
+}
+
+// Whether the line may be booked on this day.
+fn is_bookable(ledger: &FirmLedger, line: &Line, today: Day) -> bool
+    ensures { result ≡ is_bookable ledger.now line.now today }
+{
+    let amount = line.amount.get();
+    line.date.get() <= today.get() && amount != 0 && is_own_balance(ledger.balance() + amount)
+}
+
 /// The verdict on a line of the firm's own on a business day. It is a repeat if the ledger has a line with its date,
 /// bank reference and amount. It is applied if it is not dated after the business day, moves something, and leaves the
 /// ledger between 0 and 50,000 cents. Otherwise it is unmatched. Allocates nothing.
@@ -235,7 +227,7 @@ pub fn decide_firm_line(ledger: &FirmLedger, line: &Line, today: Day) -> Verdict
     if is_kept(ledger.lines(), line) {
         return Verdict::Repeat;
     }
-    if is_bookable(ledger.balance(), line, today) {
+    if is_bookable(ledger, line, today) {
         Verdict::Applied
     } else {
         Verdict::Unmatched

@@ -9,6 +9,7 @@ mod sink;
 
 pub use ledger::{
     BalanceKind, FirmLedger, FirmLine, StatementRow, Verdict, decide_balance, decide_firm_line,
+    is_own_balance,
 };
 pub use limits::MAX_OWN;
 pub use movement::{Movement, Owner};

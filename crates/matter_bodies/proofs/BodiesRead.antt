@@ -1,16 +1,15 @@
 -- The bodies read back as their objects.
-use Rattle.matter_bodies.proofs.Names.{ℕ, ℤ, List, [], ◌∷◌, map, length, refl, rules, arith, Data, string, Seat, array_of, seat_object, role_name}
+use Rattle.matter_bodies.proofs.Names.{◌≡◌, ℕ, ℤ, List, [], ◌∷◌, Some, map, length, refl, rules, true, arith, Data, string, compact_text, Seat, array_of, object_of, seat_object, role_name}
+use Rattle.serde_json.specs.Read.{read}
 use Rattle.std.specs.Prelude.{codes}
 use Rattle.matter_rows.specs.declared.head.Holder.{Holder}
 use Rattle.matter_rows.specs.declared.head.Holder.TheVariants as holder
 use Rattle.matter_rows.specs.declared.claim.Against.{Against}
 use Rattle.matter_rows.specs.declared.claim.Against.TheVariants as against
 use Rattle.matter_rows.specs.declared.entry.Entry.TheVariants as entry
-use Rattle.matter_rows.specs.declared.head.Holder.{Holder}
-use Rattle.matter_rows.specs.declared.head.Holder.TheVariants as holder
 use Rattle.matter_bodies.specs.Bodies.{holder_value, purged_on, purge_members, matter_members, sums_of, receipt_members, entry_members, import_members, claim_left_value}
 use Rattle.matter_bodies.specs.BodyLaws.{PurgeReadsBack, MatterReadsBack, ReceiptReadsBack, EntryReadsBack, ImportReadsBack}
-use Rattle.matter_bodies.proofs.ReadBack.{Reads, AllRead, AllValuesRead, read-compact_text, null-reads, string-reads, count-reads, or_null-reads, object-reads, array-reads}
+use Rattle.matter_bodies.proofs.ReadBack.{Reads, AllRead, ascend, AllValuesRead, read-compact_text, null-reads, string-reads, count-reads, or_null-reads, object-reads, array-reads}
 
 seat-reads : (s : Seat) → Reads 1 (seat_object s)
 seat-reads s =
@@ -21,43 +20,35 @@ seats-read : (ss : List Seat) → AllValuesRead 1 (map seat_object ss)
 seats-read [] = tt
 seats-read (s ∷ ss) = (seat-reads s, seats-read ss)
 
+-- what is read of an object whose keys ascend, and whose values are no deeper than a list of seats
+body-reads : (ms : List (List ℕ × Data)) → AllRead 2 ms → ascend [] ms ≡ true → read (compact_text (object_of ms)) ≡ Some (object_of ms)
+body-reads ms r h = read-compact_text 3 _ (omega arith) (object-reads 2 ms r h)
+
 claim_left-reads : (n : ℕ) (a : Against) (left : ℤ) → Reads n (claim_left_value a left)
 claim_left-reads n (against.General c) left = string-reads n _
 claim_left-reads n (against.Fee k) left = null-reads n
 
 pub receipt-reads : ReceiptReadsBack
-receipt-reads m n (entry.Deposit d) =
-    let all : AllRead 0 (receipt_members m n (entry.Deposit d)) = search (rules, string-reads) in
-    read-compact_text 1 _ (omega arith) (object-reads 0 (receipt_members m n (entry.Deposit d)) all refl)
+receipt-reads m n (entry.Deposit d) = body-reads (receipt_members m n (entry.Deposit d)) (search (rules, string-reads)) refl
 receipt-reads m n (entry.Payment p) =
-    let all : AllRead 0 (receipt_members m n (entry.Payment p)) = search (rules, string-reads, or_null-reads) in
-    read-compact_text 1 _ (omega arith) (object-reads 0 (receipt_members m n (entry.Payment p)) all refl)
-receipt-reads m n (entry.Fee f) =
-    let all : AllRead 0 (receipt_members m n (entry.Fee f)) = search (rules, string-reads) in
-    read-compact_text 1 _ (omega arith) (object-reads 0 (receipt_members m n (entry.Fee f)) all refl)
+    body-reads (receipt_members m n (entry.Payment p)) (search (rules, string-reads, or_null-reads)) refl
+receipt-reads m n (entry.Fee f) = body-reads (receipt_members m n (entry.Fee f)) (search (rules, string-reads)) refl
 receipt-reads m n (entry.Claim c) =
-    let all : AllRead 0 (receipt_members m n (entry.Claim c)) = search (rules, string-reads, or_null-reads) in
-    read-compact_text 1 _ (omega arith) (object-reads 0 (receipt_members m n (entry.Claim c)) all refl)
+    body-reads (receipt_members m n (entry.Claim c)) (search (rules, string-reads, or_null-reads)) refl
 
 pub entry-reads : EntryReadsBack
 entry-reads m n (entry.Deposit d) left =
-    let all : AllRead 0 (entry_members m n (entry.Deposit d) left) = search (rules, string-reads, or_null-reads) in
-    read-compact_text 1 _ (omega arith) (object-reads 0 (entry_members m n (entry.Deposit d) left) all refl)
+    body-reads (entry_members m n (entry.Deposit d) left) (search (rules, string-reads, or_null-reads)) refl
 entry-reads m n (entry.Payment p) left =
-    let all : AllRead 0 (entry_members m n (entry.Payment p) left) = search (rules, string-reads, or_null-reads) in
-    read-compact_text 1 _ (omega arith) (object-reads 0 (entry_members m n (entry.Payment p) left) all refl)
-entry-reads m n (entry.Fee f) left =
-    let all : AllRead 0 (entry_members m n (entry.Fee f) left) = search (rules, string-reads) in
-    read-compact_text 1 _ (omega arith) (object-reads 0 (entry_members m n (entry.Fee f) left) all refl)
+    body-reads (entry_members m n (entry.Payment p) left) (search (rules, string-reads, or_null-reads)) refl
+entry-reads m n (entry.Fee f) left = body-reads (entry_members m n (entry.Fee f) left) (search (rules, string-reads)) refl
 entry-reads m n (entry.Claim c) left =
-    let all : AllRead 0 (entry_members m n (entry.Claim c) left) = search (rules, string-reads, or_null-reads, claim_left-reads) in
-    read-compact_text 1 _ (omega arith) (object-reads 0 (entry_members m n (entry.Claim c) left) all refl)
+    body-reads (entry_members m n (entry.Claim c) left) (search (rules, string-reads, or_null-reads, claim_left-reads)) refl
 
 pub import-reads : ImportReadsBack
 import-reads applied exceptions repeated statement unreadable a e r u =
-    let members = import_members applied exceptions repeated statement unreadable in
-    let all : AllRead 0 members = search (rules, string-reads, count-reads, or_null-reads) in
-    read-compact_text 1 _ (omega arith) (object-reads 0 members all refl)
+    body-reads (import_members applied exceptions repeated statement unreadable)
+    (search (rules, string-reads, count-reads, or_null-reads)) refl
 
 -- whose it is
 holder-reads : (n : ℕ) (o : Holder) → Reads n (holder_value o)
@@ -66,13 +57,10 @@ holder-reads n (holder.Purged day) = search rules
 
 pub purge-reads : PurgeReadsBack
 purge-reads m rows =
-    let members = purge_members m (purged_on rows.head) in
-    let all : AllRead 0 members = search (rules, string-reads, or_null-reads) in
-    read-compact_text 1 _ (omega arith) (object-reads 0 members all refl)
+    body-reads (purge_members m (purged_on rows.head)) (search (rules, string-reads, or_null-reads)) refl
 
 pub matter-reads : MatterReadsBack
 matter-reads m rows few =
-    let members = matter_members m rows.head rows.seats (length rows.entries) (sums_of rows.entries) in
     let seats : Reads 2 (array_of (map seat_object rows.seats)) = array-reads 1 (map seat_object rows.seats) (seats-read rows.seats) in
-    let all : AllRead 2 members = search (rules, string-reads, holder-reads, count-reads, or_null-reads) in
-    read-compact_text 3 _ (omega arith) (object-reads 2 members all refl)
+    body-reads (matter_members m rows.head rows.seats (length rows.entries) (sums_of rows.entries))
+    (search (rules, string-reads, holder-reads, count-reads, or_null-reads)) refl

@@ -17,18 +17,18 @@ low-person b h = grind (arith, nat_tests)
 low-printed : (b : ℕ) → is_printed_byte b ≡ true → b < 128
 low-printed b h = grind (arith, nat_tests)
 
-pub IsUtf8-label : (bs : List ℕ) → IsLabel bs → IsUtf8 bs
+pub utf8_label : (bs : List ℕ) → IsLabel bs → IsUtf8 bs
 unfolding is_label_text
-IsUtf8-label bs h = let text : is_utf8 bs ≡ true = grind arith in IsUtf8-from_is_utf8 bs text
+utf8_label bs h = let text : is_utf8 bs ≡ true = grind arith in IsUtf8-from_is_utf8 bs text
 
-pub IsUtf8-person : (bs : List ℕ) → IsPerson bs → IsUtf8 bs
+pub utf8_person : (bs : List ℕ) → IsPerson bs → IsUtf8 bs
 unfolding is_person_text
-IsUtf8-person bs h =
+utf8_person bs h =
     let bytes : list_all is_person_byte bs ≡ true = grind arith in
     IsUtf8-from_ascii bs (IsAscii-list_all is_person_byte low-person bs bytes)
 
-pub IsUtf8-bank_text : (bs : List ℕ) → IsBankText bs → IsUtf8 bs
+pub utf8_bank_text : (bs : List ℕ) → IsBankText bs → IsUtf8 bs
 unfolding is_bank_text
-IsUtf8-bank_text bs h =
+utf8_bank_text bs h =
     let bytes : list_all is_printed_byte bs ≡ true = grind arith in
     IsUtf8-from_ascii bs (IsAscii-list_all is_printed_byte low-printed bs bytes)

@@ -41,6 +41,7 @@ enum Value<'a> {
 // A key and its value.
 type Member<'a> = (&'a str, Value<'a>);
 
+#[tactic(auto, using(crate::proofs::TextFacts::utf8_label))]
 fn label(label: &Label) -> Value<'_>
     ensures { data_of result ≡ text_data label.now }
 {
@@ -59,6 +60,7 @@ fn label_or_null(found: Option<&Label>) -> Value<'_>
     }
 }
 
+#[tactic(auto, using(crate::proofs::TextFacts::utf8_bank_text))]
 fn reference(reference: &BankText) -> Value<'_>
     ensures { data_of result ≡ text_data reference.now }
 {
@@ -105,6 +107,7 @@ fn role_name(role: Role) -> &'static str
 }
 
 // Writes an object with a person and a role.
+#[tactic(auto, using(crate::proofs::TextFacts::utf8_person))]
 fn write_seat(out: &mut Writer, seat: &Seat) -> Result<(), AllocError>
     ensures before { out.new.before ≡ out.old.before }
     ensures tokens { OnOk result (out.new.tokens ≡ out.old.tokens ++ value_tokens (seat_object seat.now)) }

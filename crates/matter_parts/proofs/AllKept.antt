@@ -1,19 +1,33 @@
 -- What a matter keeps that keeps all entries in the order of their numbers.
 use Rattle.matter_parts.proofs.Names.{◌≡◌, ◌≢◌, ℕ, ◌+◌, ◌-◌, ◌<◌, ◌≤◌, ◌||◌, ltb, Bool, true, false, cond, List, [], ◌∷◌, ◌++◌, length, refl, ap, sym, ◌∙◌, arith, Option, Some, None, eqb, is_some, nat_tests, length-map, Entry, Rows, entry_at, with_entry, within, Kept, Left, Part, kept_in, entries_kept, AreNumbered, IsWhole, HoldsAll, entry_put, left_written, other_written}
+use Rattle.std.proofs.lemmas.List.{map-append}
 
 -- An entry behind the others.
 
-pub entries-end : (a : ℕ) (ks : List Kept) (new : Kept) → AreNumbered a ks → new.number ≡ a + length ks → entries_kept (entry_put ks new) ≡ entries_kept ks ++ new.entry ∷ []
-entries-end a [] new numbered next = refl
-entries-end a (k ∷ ks) new numbered next =
+pub put-end : (a : ℕ) (ks : List Kept) (new : Kept) → AreNumbered a ks → new.number ≡ a + length ks → entry_put ks new ≡ ks ++ new ∷ []
+put-end a [] new numbered next = refl
+put-end a (k ∷ ks) new numbered next =
     let other : eqb k.number new.number ≡ false = let own = numbered.0 in grind (arith, nat_tests) in
-    rw other (ap (λ l. k.entry ∷ l) (entries-end (a + 1) ks new numbered.1 (omega arith)))
+    rw other (ap (λ l. k ∷ l) (put-end (a + 1) ks new numbered.1 (omega arith)))
+
+pub entries-end : (a : ℕ) (ks : List Kept) (new : Kept) → AreNumbered a ks → new.number ≡ a + length ks → entries_kept (entry_put ks new) ≡ entries_kept ks ++ new.entry ∷ []
+entries-end a ks new numbered next = ap entries_kept (put-end a ks new numbered next) ∙ map-append
+    (λ (k : Kept). k.entry) ks (new ∷ [])
+
+-- the numbers stay, of an entry that is behind the others or in the place of one
+pub numbered-put : (a : ℕ) (ks : List Kept) (new : Kept) → AreNumbered a ks → a ≤ new.number → new.number ≤ a + length ks → AreNumbered a (entry_put ks new)
+numbered-put a [] new numbered low high = (omega arith, tt)
+numbered-put a (k ∷ ks) new numbered low high =
+    let own : k.number ≡ a = numbered.0 in
+    elim (eqb k.number new.number) as (λ b. eqb k.number new.number ≡ b → AreNumbered a (cond b (new ∷ ks) (k ∷ entry_put ks new))) [
+      | true ↦ λ s. (grind (arith, nat_tests), numbered.1)
+      | false ↦ λ s.
+          let apart : a ≢ new.number = grind (arith, nat_tests) in
+          (own, numbered-put (a + 1) ks new numbered.1 (omega arith) (omega arith))
+    ] refl
 
 pub numbered-end : (a : ℕ) (ks : List Kept) (new : Kept) → AreNumbered a ks → new.number ≡ a + length ks → AreNumbered a (entry_put ks new)
-numbered-end a [] new numbered next = (omega arith, tt)
-numbered-end a (k ∷ ks) new numbered next =
-    let other : eqb k.number new.number ≡ false = let own = numbered.0 in grind (arith, nat_tests) in
-    rw other (numbered.0, numbered-end (a + 1) ks new numbered.1 (omega arith))
+numbered-end a ks new numbered next = numbered-put a ks new numbered (omega (arith, next)) (omega (arith, next))
 
 -- An entry in the place of another.
 
@@ -32,21 +46,10 @@ entries-at a n (k ∷ ks) old new numbered there place =
     ] refl there
 
 pub numbered-at : (a n : ℕ) (ks : List Kept) (old : Entry) (new : Kept) → AreNumbered a ks → entry_at (entries_kept ks) n ≡ Some old → new.number + 1 ≡ a + n → AreNumbered a (entry_put ks new)
-numbered-at a n [] old new numbered there place = cc
-numbered-at a n (k ∷ ks) old new numbered there place =
-    let own : k.number ≡ a = numbered.0 in
-    let inside = within (entries_kept (k ∷ ks)) n old there in
-    elim (eqb n 1) as (λ b. eqb n 1 ≡ b → cond b (Some k.entry) (entry_at (entries_kept ks) (n - 1)) ≡ Some old → AreNumbered a (entry_put (k ∷ ks) new)) [
-      | true ↦ λ s g.
-          let one : n ≡ 1 = grind (arith, nat_tests) in
-          let same : eqb k.number new.number ≡ true = grind (arith, nat_tests) in
-          rw same ((omega (arith, place, one)), numbered.1)
-      | false ↦ λ s g.
-          let apart : n ≢ 1 = grind (arith, nat_tests) in
-          let low : 0 < n = inside.0 in
-          let other : eqb k.number new.number ≡ false = grind (arith, nat_tests) in
-          rw other (numbered.0, numbered-at (a + 1) (n - 1) ks old new numbered.1 g (omega arith))
-    ] refl there
+numbered-at a n ks old new numbered there place =
+    let inside = within (entries_kept ks) n old there in
+    let count = length-map ks (λ (k : Kept). k.entry) in
+    numbered-put a ks new numbered (omega (arith, place, inside.0)) (omega (arith, place, inside.1, count))
 
 -- What is left of an entry, written.
 

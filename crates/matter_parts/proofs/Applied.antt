@@ -35,6 +35,13 @@ stays-with es at old x n k here same elsewhere is =
       left = λ apart. omega (arith, ints, is.left, left-with es at old x n k.entry here, draw-apart n x apart, draw-apart n old (λ q. apart (sym same ∙ q)));
     }
 
+-- an entry names what it named when it was made
+target-made : (e : Entry) → target (as_made e) ≡ target e
+target-made (entry.Deposit d) = refl
+target-made (entry.Payment p) = refl
+target-made (entry.Fee f) = refl
+target-made (entry.Claim c) = refl
+
 -- the entry that is put is the one of its number, and what was kept of another stays
 record IsPut (es fs : List Entry) (x : Numbered) : Type 0 where
   own : entry_at fs x.number ≡ Some x.entry
@@ -43,12 +50,19 @@ record IsPut (es fs : List Entry) (x : Numbered) : Type 0 where
 put-append : (es : List Entry) (x : Numbered) → x.number ≡ length es + 1 → IsPut es (es ++ x.entry ∷ []) x
 put-append es x place =
     let end : eqb x.number (length es + 1) ≡ true = grind (arith, nat_tests) in
-    record { own = rw (entry_at-append es x.entry x.number) (rw end refl); stays = λ n k apart is. stays-append es x.entry n k (λ q. apart (q ∙ sym place)) is }
+    record {
+      own = entry_at-append es x.entry x.number ∙ rw end refl;
+      stays = λ n k apart is. stays-append es x.entry n k (λ q. apart (q ∙ sym place)) is;
+    }
 
-put-with : (es : List Entry) (x : Numbered) (old : Entry) → entry_at es x.number ≡ Some old → target old ≡ target x.entry → IsPut es (with_entry es x.number x.entry) x
-put-with es x old here same =
+put-exchange : (es : List Entry) (x : Numbered) (old : Entry) → IsExchange es x old → IsPut es (with_entry es x.number x.entry) x
+put-exchange es x old is =
     let own : eqb x.number x.number ≡ true = grind (arith, nat_tests) in
-    record { own = rw (entry_at-with es x.number old x.entry x.number here) (rw own refl); stays = λ n k apart is. stays-with es x.number old x.entry n k here same apart is }
+    let same : target old ≡ target x.entry = sym (target-made old) ∙ ap target (sym is.same) ∙ target-made x.entry in
+    record {
+      own = entry_at-with es x.number old x.entry x.number is.there ∙ rw own refl;
+      stays = λ n k apart here. stays-with es x.number old x.entry n k is.there same apart here;
+    }
 
 put-kept : (ks : List Kept) (es fs : List Entry) (x : Numbered) (v : TotalsAfter) → AreKept ks es → IsPut es fs x → pos v.left ≡ left_of fs x.number x.entry → (n : ℕ) (k : Kept) → put_in ks (kept_as x v) n ≡ Some k → IsNearly fs (target x.entry) n k
 put-kept ks es fs x v kept put left n k h =
@@ -99,16 +113,6 @@ applied-written m m' rows fs x v day p put figures lefts a = record {
   kept = λ n k h. written fs (target x.entry) v.other n (put_in m.kept (kept_as x v) n)
       (put-kept m.kept rows.entries fs x v p.kept put lefts.0 n) lefts.1 k (sym (applied-kept m m' x v day a n) ∙ h);
 }
-
--- an entry names what it named when it was made
-target-made : (e : Entry) → target (as_made e) ≡ target e
-target-made (entry.Deposit d) = refl
-target-made (entry.Payment p) = refl
-target-made (entry.Fee f) = refl
-target-made (entry.Claim c) = refl
-
-put-exchange : (es : List Entry) (x : Numbered) (old : Entry) → IsExchange es x old → IsPut es (with_entry es x.number x.entry) x
-put-exchange es x old is = put-with es x old is.there (sym (target-made old) ∙ ap target (sym is.same) ∙ target-made x.entry)
 
 -- What was held is held.
 
@@ -197,81 +201,45 @@ after-exchange m m' c x v day is moves on a = as-told m m' m' c (edit.Exchange x
 })
 
 -- a change of the head and the seats alone
-record IsSeated (m : Part) (e : Edit) (day : ℕ) (m' : Part) : Type 0 where
-  kept : (rows : Rows) → edited rows.entries e ≡ rows.entries
-  figures : m'.figures ≡ m.figures
-  same : m'.kept ≡ m.kept
-  parts : (rows : Rows) → Sound rows → IsPart m rows → IsPlace rows e → (m'.head ≡ head_after rows.head e day) × (m'.seats ≡ seats_after rows.seats e)
-
-after-seated : (m m' : Part) (c : MatterChange) → IsSeated m c.edit c.last m' → IsAfter m c m'
-after-seated m m' c is =
-    let part : (rows : Rows) → Sound rows → IsPart m rows → IsChange rows c → IsPart m' (changed_by c.edit c.last rows) = λ rows s p ch.
-    let ends = is.parts rows s p ch.place in
-    let P : Figures → Type 0 = λ f. AreFigures f rows.entries in
-    let Q : List Kept → Type 0 = λ ks. AreKept ks rows.entries in
-    let F : List Entry → Type 0 = λ es. AreFigures m'.figures es in
-    let K : List Entry → Type 0 = λ es. AreKept m'.kept es in
-    record {
-      head = ends.0;
-      seats = ends.1;
-      figures = subst F (sym (is.kept rows)) (subst P (sym is.figures) p.figures);
-      kept = subst K (sym (is.kept rows)) (subst Q (sym is.same) p.kept);
-    } in
-    record {
-      part = part;
-      held = λ rows s p ch n h. rw (is.same, is.figures) h;
-      whole = λ rows s w ch.
-          let N : List Kept → Type 0 = λ ks. AreNumbered 1 ks in
-          record { part = part rows s w.part ch; entries = ap entries_kept is.same ∙ w.entries ∙ sym (is.kept rows); numbered = subst N (sym is.same) w.numbered };
-    }
+after-seated : (m m' : Part) (c : MatterChange) (e : Edit) (day : ℕ) (head : Option Head) (seats : List Seat) → c.edit ≡ e → day ≡ c.last → m' ≡ record m { head = head; seats = seats } → ((es : List Entry) → edited es e ≡ es) → ((rows : Rows) → Sound rows → IsPart m rows → IsPlace rows e → (head ≡ head_after rows.head e day) × (seats ≡ seats_after rows.seats e)) → IsAfter m c m'
+after-seated m m' c e day head seats is on made kept parts =
+    let F : List Entry → Type 0 = AreFigures m.figures in
+    let K : List Entry → Type 0 = AreKept m.kept in
+    let part : (rows : Rows) → Sound rows → IsPart m rows → IsPlace rows e → IsPart (record m { head = head; seats = seats }) (changed_by e day rows) = λ rows s p place.
+    let ends = parts rows s p place in
+    let same = sym (kept rows.entries) in
+    record { head = ends.0; seats = ends.1; figures = subst F same p.figures; kept = subst K same p.kept } in
+    as-told m m' (record m { head = head; seats = seats }) c e c.moves day is refl on made (record {
+      part = λ rows s p ch. part rows s p ch.place;
+      held = λ rows s p ch n h. h;
+      whole = λ rows s w ch. record { part = part rows s w.part ch.place; entries = w.entries ∙ sym (kept rows.entries); numbered = w.numbered };
+    })
 
 pub after-nothing : (m : Part) (c : MatterChange) → c.edit ≡ edit.Nothing → IsAfter m c m
-after-nothing m c is = as-told m m m c edit.Nothing c.moves c.last is refl refl refl
-    (after-seated m m (change-by c edit.Nothing c.last c.moves) (record { kept = λ rows. refl; figures = refl; same = refl; parts = λ rows s p place. (p.head, p.seats) }))
+after-nothing m c is = after-seated m m c edit.Nothing c.last m.head m.seats is refl refl (λ es. refl) (λ rows s p place. (p.head, p.seats))
 
 no-seats : (h : Option Head) (seats : List Seat) (es : List Entry) → h ≡ None → IsHeaded h seats es → seats ≡ []
 no-seats None seats es none headed = headed.0
 no-seats (Some h) seats es none headed = cc
 
 pub after-open : (m m' : Part) (c : MatterChange) (o : Opening) → c.edit ≡ edit.Open o → m' ≡ record m { head = Some o.head; seats = m.seats ++ o.seat ∷ [] } → IsAfter m c m'
-after-open m m' c o is made = as-told m m' _ c (edit.Open o) c.moves c.last is refl refl made
-    (after-seated m _ (change-by c (edit.Open o) c.last c.moves) (record {
-      kept = λ rows. refl;
-      figures = refl;
-      same = refl;
-      parts = λ rows s p place. (refl, ap (λ l. l ++ o.seat ∷ []) (p.seats ∙ no-seats rows.head rows.seats rows.entries place s.headed));
-    }))
+after-open m m' c o is made = after-seated m m' c (edit.Open o) c.last _ _ is refl made (λ es. refl)
+    (λ rows s p place. (refl, ap (λ l. l ++ o.seat ∷ []) (p.seats ∙ no-seats rows.head rows.seats rows.entries place s.headed)))
 
 pub after-seat : (m m' : Part) (c : MatterChange) (seat : Seat) (day : ℕ) → c.edit ≡ edit.Seat seat → day ≡ c.last → m' ≡ record m { head = seen_on m.head day; seats = m'.seats } → (AreInOrder m.seats → role_in m.seats seat.person ≡ None → m'.seats ≡ seats_with m.seats seat) → IsAfter m c m'
-after-seat m m' c seat day is on made seats = as-told m m' _ c (edit.Seat seat) c.moves day is refl on made
-    (after-seated m _ (change-by c (edit.Seat seat) day c.moves) (record {
-      kept = λ rows. refl;
-      figures = refl;
-      same = refl;
-      parts = λ rows s p place.
-          let O : List Seat → Type 0 = AreInOrder in
-          let R : List Seat → Type 0 = λ l. role_in l seat.person ≡ None in
-          let e = seats (subst O (sym p.seats) s.seated) (subst R (sym p.seats) place.1) in
-          (ap (λ h. seen_on h day) p.head, e ∙ ap (λ l. seats_with l seat) p.seats);
-    }))
+after-seat m m' c seat day is on made seats = after-seated m m' c (edit.Seat seat) day (seen_on m.head day) m'.seats is on made (λ es. refl) (λ rows s p place.
+    let O : List Seat → Type 0 = AreInOrder in
+    let R : List Seat → Type 0 = λ l. role_in l seat.person ≡ None in
+    let e = seats (subst O (sym p.seats) s.seated) (subst R (sym p.seats) place.1) in
+    (ap (λ h. seen_on h day) p.head, e ∙ ap (λ l. seats_with l seat) p.seats))
 
 pub after-unseat : (m m' : Part) (c : MatterChange) (person : List ℕ) (day : ℕ) → c.edit ≡ edit.Unseat person → day ≡ c.last → m' ≡ record m { head = seen_on m.head day; seats = seats_without m.seats person } → IsAfter m c m'
-after-unseat m m' c person day is on made = as-told m m' _ c (edit.Unseat person) c.moves day is refl on made
-    (after-seated m _ (change-by c (edit.Unseat person) day c.moves) (record {
-      kept = λ rows. refl;
-      figures = refl;
-      same = refl;
-      parts = λ rows s p place. (ap (λ h. seen_on h day) p.head, ap (λ l. seats_without l person) p.seats);
-    }))
+after-unseat m m' c person day is on made = after-seated m m' c (edit.Unseat person) day _ _ is on made (λ es. refl)
+    (λ rows s p place. (ap (λ h. seen_on h day) p.head, ap (λ l. seats_without l person) p.seats))
 
 pub after-close : (m m' : Part) (c : MatterChange) (on last : ℕ) → c.edit ≡ edit.Close on → last ≡ c.last → m' ≡ record m { head = closed_head m.head on last } → IsAfter m c m'
-after-close m m' c on last is seen made = as-told m m' _ c (edit.Close on) c.moves last is refl seen made
-    (after-seated m _ (change-by c (edit.Close on) last c.moves) (record {
-      kept = λ rows. refl;
-      figures = refl;
-      same = refl;
-      parts = λ rows s p place. (ap (λ h. closed_head h on last) p.head, p.seats);
-    }))
+after-close m m' c on last is seen made = after-seated m m' c (edit.Close on) last _ m.seats is seen made (λ es. refl)
+    (λ rows s p place. (ap (λ h. closed_head h on last) p.head, p.seats))
 
 held-none : (m : Part) (rows : Rows) (n : ℕ) → IsPart m rows → is_held m n ≡ true → ltb 0 n ≡ true
 held-none m rows n p h = cases (kept_in m.kept n) refl h

@@ -1,5 +1,5 @@
 -- The whole of sound rows passes each test, and what passes each is that.
-use Rattle.matter_parts.proofs.Names.{◌≡◌, ◌≤◌, List, length, refl, sym, subst, arith, Option, length-map, Head, Seat, Entry, Rows, closed_on, AreInOrder, Sound, AreInForm, Figures, Kept, Part, IsWhole, AreEmptyIfClosed, AreFigures, entries_kept, AreInPlace, IsSoundWhole, WholeIsSound, rows_kept}
+use Rattle.matter_parts.proofs.Names.{◌≡◌, ◌≤◌, ◌↔◌, ◌∙◌, Bool, true, false, false≢true, List, length, refl, sym, subst, arith, Option, length-map, Head, Seat, Entry, Rows, closed_on, AreInOrder, Sound, AreInForm, Figures, Kept, Part, IsWhole, AreEmptyIfClosed, AreFigures, entries_kept, AreInPlace, IsSoundWhole, WholeIsSound, rows_kept}
 use Rattle.matter_parts.proofs.WholeRows.{form-of, empty-of, backed-of, sound-of}
 use Rattle.matter_parts.proofs.InPlace.{in-place, kept-of, numbered-of}
 
@@ -46,21 +46,19 @@ whole-sound m rows sound whole =
       whole = subst (λ (r : Rows). IsWhole m r) (sym same) whole;
     }
 
--- From the values that were tested.
+-- what fails a test that sound rows pass is not sound
+pub fails : (m : Part) (b : Bool) (T : Type 0) → b ≡ false → ((b ≡ true) ↔ T) → (IsSoundWhole m → T) → (false ≡ true) ↔ IsSoundWhole m
+fails m b T failed test passed =
+    (λ h. absurd (false≢true h), λ s. absurd (false≢true (sym failed ∙ test.1 (passed s))))
 
-pub record AreOf (m : Part) (h : Option Head) (ss : List Seat) (es : List Entry) (f : Figures) (ks : List Kept) : Type 0 where
-  pub head : h ≡ m.head
-  pub seats : ss ≡ m.seats
-  pub entries : es ≡ entries_kept m.kept
-  pub figures : f ≡ m.figures
-  pub kept : ks ≡ m.kept
+-- From the values that were tested.
 
 abbrev Values : Type 0
 Values = Option Head × List Seat × List Entry × Figures × List Kept
 
-module _ (m : Part) (h : Option Head) (ss : List Seat) (es : List Entry) (f : Figures) (ks : List Kept) (of : AreOf m h ss es f ks) where
+module _ (m : Part) (h : Option Head) (ss : List Seat) (es : List Entry) (f : Figures) (ks : List Kept) (head : h ≡ m.head) (seats : ss ≡ m.seats) (entries : es ≡ entries_kept m.kept) (figures : f ≡ m.figures) (kept : ks ≡ m.kept) where
   own : ◌≡◌ {A = Values} (m.head, m.seats, entries_kept m.kept, m.figures, m.kept) (h, ss, es, f, ks)
-  own = λ i. (sym of.head i, sym of.seats i, sym of.entries i, sym of.figures i, sym of.kept i)
+  own = λ i. (sym head i, sym seats i, sym entries i, sym figures i, sym kept i)
 
   pub order-in : IsSoundWhole m → AreInOrder ss
   order-in s = subst (λ (v : Values). AreInOrder v.1) own (to-tests m s).order
@@ -76,9 +74,6 @@ module _ (m : Part) (h : Option Head) (ss : List Seat) (es : List Entry) (f : Fi
 
   pub place-in : IsSoundWhole m → AreInPlace es 1 ks
   place-in s = subst (λ (v : Values). AreInPlace v.2 1 v.4) own (to-tests m s).place
-
-  pub few-in : IsSoundWhole m → length es ≤ 9_999
-  few-in s = subst (λ (v : Values). length v.2 ≤ 9_999) own s.sound.backed.few
 
   few-kept : length es ≤ 9_999 → length m.kept ≤ 9_999
   few-kept few =

@@ -1,9 +1,9 @@
 -- Entries with the numbers 1, 2 and so on: each stands at the place of its number.
 use Rattle.matter_parts.proofs.Names.{filter, position, position_or_len, slice_get, zero, suc, ◌≡◌, ℕ, ◌+◌, ◌-◌, ◌<◌, ◌≤◌, not, ltb, Bool, true, false, cond, List, [], ◌∷◌, ◌++◌, take, length, get_or, refl, ap, sym, ◌∙◌, subst, arith, Some, None, eqb, set, nat_tests, append-nil, take_all, filter_more, place-none, place-some, Kept, IsNextPlace, entry_put, AreNumbered, kept_in}
 use Rattle.std.proofs.lemmas.List.Folds.{find_at}
-use Rattle.std.proofs.lemmas.List.Sums.{position_or_len_is}
+use Rattle.std.proofs.lemmas.List.Sums.{passes_at_first, position_or_len_is}
 use Rattle.std.proofs.lemmas.Option.{slice_get_past, slice_get_read}
-use Rattle.matter_parts.proofs.AllKept.{numbered-left}
+use Rattle.matter_parts.proofs.AllKept.{numbered-left, numbered-put}
 use Rattle.matter_parts.proofs.Keepers.{is_number, left-set, with-set}
 
 pub number-at : (a i : ℕ) (ks : List Kept) (d : Kept) → AreNumbered a ks → i < length ks → (get_or ks i d).number ≡ a + i
@@ -55,21 +55,17 @@ pub numbered-push : (a : ℕ) (ks : List Kept) (new : Kept) → AreNumbered a ks
 numbered-push a [] new numbered next = (omega (arith, next), tt)
 numbered-push a (k ∷ ks) new numbered next = (numbered.0, numbered-push (a + 1) ks new numbered.1 (omega (arith, next)))
 
-numbered-put : (a : ℕ) (ks : List Kept) (new : Kept) → AreNumbered a ks → position_or_len (is_number new.number) ks < length ks → AreNumbered a (entry_put ks new)
-numbered-put a [] new numbered inside = absurd (omega arith)
-numbered-put a (k ∷ ks) new numbered inside =
-    let own : k.number ≡ a = numbered.0 in
-    elim (eqb k.number new.number) as (λ b. eqb k.number new.number ≡ b → cond (not b) (1 + position_or_len (is_number new.number) ks) 0 < suc (length ks) → AreNumbered a (cond b (new ∷ ks) (k ∷ entry_put ks new))) [
-      | true ↦ λ s g. (grind (arith, nat_tests), numbered.1)
-      | false ↦ λ s g. (own, numbered-put (a + 1) ks new numbered.1 (omega arith))
-    ] refl inside
-
 pub numbered-set : (ks : List Kept) (new : Kept) (i : ℕ) → AreNumbered 1 ks → Some i ≡ position (is_number new.number) ks → AreNumbered 1 (set ks i new)
 numbered-set ks new i numbered is =
     let place = place-some (is_number new.number) ks i is in
+    let at : i ≡ position_or_len (is_number new.number) ks = place.1 in
+    let inside : position_or_len (is_number new.number) ks < length ks = let low = place.0 in omega (arith, at, low) in
+    let own = number-at 1 (position_or_len (is_number new.number) ks) ks new numbered inside in
+    let found = passes_at_first (is_number new.number) ks new inside in
+    let number : (get_or ks (position_or_len (is_number new.number) ks) new).number ≡ new.number = grind (arith, nat_tests) in
     let P : List Kept → Type 0 = AreNumbered 1 in
-    let Q : ℕ → Type 0 = λ j. j < length ks in
-    subst P (sym (with-set ks new i is)) (numbered-put 1 ks new numbered (subst Q place.1 place.0))
+    subst P (sym (with-set ks new i is))
+    (numbered-put 1 ks new numbered (omega (arith, own, number)) (omega (arith, own, number, inside)))
 
 pub numbered-left-set : (ks : List Kept) (n left i : ℕ) (k : Kept) → AreNumbered 1 ks → Some i ≡ position (is_number n) ks → k ≡ get_or ks i k → AreNumbered 1 (set ks i (record k { left = left }))
 numbered-left-set ks n left i k numbered is at =

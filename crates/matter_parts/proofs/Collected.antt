@@ -1,13 +1,7 @@
 -- A matter that is made of whole rows, entry by entry.
 use Rattle.matter_parts.proofs.Names.{◌≡◌, ◌≢◌, ℕ, ◌+◌, ◌<◌, ◌≤◌, true, false, cond, List, [], ◌∷◌, ◌++◌, take, length, get_or, refl, ap, sym, ◌∙◌, arith, subst, Some, eqb, ℤ, pos, ◌-ℤ◌, ints, nat_tests, take_more, take_all, length_push, Entry, Rows, entry_at, left_of, total_of, draw_on, worth, MAX_TOTAL, IsBalance, natural, entry-at, Kept, Figures, entry_put, Part, IsWhole, AreFigures, kept_in, entries_kept, AreNumbered, AreKept, IsEntryOf, AreAllKept}
-use Rattle.matter_parts.proofs.AllKept.{entries-end, numbered-end}
+use Rattle.matter_parts.proofs.AllKept.{entries-end, numbered-end, put-end}
 use Rattle.matter_parts.proofs.Keepers.{AreSmallLefts, put_in, kept-with, small-with}
-
-with-next : (a : ℕ) (ks : List Kept) (new : Kept) → AreNumbered a ks → new.number ≡ a + length ks → entry_put ks new ≡ ks ++ new ∷ []
-with-next a [] new numbered next = refl
-with-next a (k ∷ ks) new numbered next =
-    let other : eqb k.number new.number ≡ false = let own = numbered.0 in grind (arith, nat_tests) in
-    rw other (ap (λ l. k ∷ l) (with-next (a + 1) ks new numbered.1 (omega arith)))
 
 -- the first i entries, kept
 pub record IsCollected (es : List Entry) (i : ℕ) (ks : List Kept) : Type 0 where
@@ -33,7 +27,7 @@ pub collected-more : (es : List Entry) (i : ℕ) (ks : List Kept) (new : Kept) (
 collected-more es i ks new ls so inside number small is made =
     let count : length ks ≡ i = so.count in
     let next : new.number ≡ 1 + length ks = omega (arith, number, count) in
-    let put : ls ≡ entry_put ks new = made ∙ sym (with-next 1 ks new so.numbered next) in
+    let put : ls ≡ entry_put ks new = made ∙ sym (put-end 1 ks new so.numbered next) in
     let I : ℕ → Type 0 = λ n. IsEntryOf es n new in
     let N : List Kept → Type 0 = λ l. AreNumbered 1 l in
     record {

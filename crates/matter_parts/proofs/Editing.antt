@@ -39,17 +39,6 @@ deposit-may es d s held room few = record {
 
 -- The edits.
 
--- a new entry comes next, an exchanged one names what the old one named
-abbrev pub IsPlace : List Entry → Edit → Type 0
-IsPlace es (edit.Append x) = x.number ≡ length es + 1
-IsPlace es (edit.Exchange x) = (old : Entry) × (entry_at es x.number ≡ Some old) × (target old ≡ target x.entry)
-IsPlace es edit.Nothing = Unit {0}
-IsPlace es (edit.Open o) = Unit {0}
-IsPlace es (edit.Seat s) = Unit {0}
-IsPlace es (edit.Unseat p) = Unit {0}
-IsPlace es (edit.Close d) = Unit {0}
-IsPlace es (edit.Clear d) = Unit {0}
-
 abbrev pub MayEdit : List Entry → ℕ → ℕ → Edit → Type 0
 MayEdit es t n (edit.Append x) = (x.number ≡ length es + 1) × MayAdd es x.entry × ((target x.entry ≡ 0) ⊎ (target x.entry ≡ t))
 MayEdit es t n (edit.Exchange x) = (old : Entry) × MayTake es x.number old x.entry × ((target x.entry ≡ 0) ⊎ (target x.entry ≡ t)) × (x.number ≡ n)

@@ -1,5 +1,5 @@
 -- Kept entries that have the numbers of their places, and what the entries leave of each.
-use Rattle.matter_parts.proofs.Names.{◌≡◌, ℕ, ◌+◌, ◌-◌, ◌<◌, ◌≤◌, ◌↔◌, cond, true, false, List, [], ◌∷◌, length, drop, get_or, eqb, sym, subst, arith, Some, refl, ap, ℤ, pos, ◌-ℤ◌, nat_tests, ints, Entry, entry_at, left_of, worth, Kept, AreKept, AreNumbered, entries_kept, kept_in, AreDrawn, AreInPlace, IsInPlace}
+use Rattle.matter_parts.proofs.Names.{◌≡◌, ℕ, ◌+◌, ◌-◌, ◌<◌, ◌≤◌, ◌↔◌, cond, true, false, List, [], ◌∷◌, length, drop, get_or, eqb, sym, subst, arith, Some, refl, ap, ℤ, pos, to_z, of_z, w64, length-map, IsSmallSum, ◌-ℤ◌, nat_tests, ints, Entry, entry_at, left_of, worth, Kept, AreKept, AreNumbered, entries_kept, kept_in, AreDrawn, AreInPlace, IsInPlace}
 use Rattle.matter_rows.proofs.Tested.{rest-at, rest-none}
 
 -- Tested one after the other.
@@ -34,6 +34,15 @@ module _ (es : List Entry) (drawn : List ℤ) (i : ℕ) (k : Kept) (z : ℤ) (ar
       let sum = are.sums i inside in
       let left = tested.1 in
       record { number = tested.0; left = omega (arith, ints, sum, left, is) }
+
+-- what is drawn on an entry that is kept, as it is read
+pub read-at : (es : List Entry) (ks : List Kept) (drawn : List ℤ) (i : ℕ) → es ≡ entries_kept ks → AreDrawn drawn es → i < length ks → (i < length es) × IsSmallSum (to_z w64 (of_z w64 (get_or drawn i (pos 0)))) × (to_z w64 (of_z w64 (get_or drawn i (pos 0))) ≡ get_or drawn i (pos 0))
+read-at es ks drawn i same are test =
+    let count = length-map ks (λ (k : Kept). k.entry) in
+    let both : length es ≡ length (entries_kept ks) = ap length same in
+    let inside : i < length es = omega (arith, count, both, test) in
+    let small = are.small i inside in
+    (inside, record { low = omega (arith, ints, small.low, small.high); high = omega (arith, ints, small.low, small.high) }, omega (arith, ints, small.low, small.high))
 
 -- As a matter that keeps them all.
 

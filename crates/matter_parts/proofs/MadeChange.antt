@@ -36,7 +36,7 @@ change-is m rows t n c p s step moved movement =
       seen = step.seen;
       movement = same;
       moved = subst P (sym same) step.moves.moved;
-      figures = all.1;
-      lefts = all.2;
+      figures = all.0;
+      lefts = all.1;
       dated = subst D (sym same) step.moves.dated;
     }

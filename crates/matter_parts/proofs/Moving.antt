@@ -66,3 +66,8 @@ exchange-written m x k j v is h =
 
 pub written-exchange : (m : Part) (x : Numbered) (k : Kept) (v : TotalsAfter) → Some k ≡ kept_at m x.number → EntryMoved m m.figures.entries (counted k) x.entry v → ExchangeMoved m x k v
 written-exchange m x k v is h = record { kept = sym is; figures = h.figures; left = h.left; other = h.other }
+
+pub written-append : (m : Part) (x : Numbered) (v : TotalsAfter) → x.number ≡ m.figures.entries + 1 → EntryMoved m (m.figures.entries + 1) uncounted x.entry v → AppendMoved m x v
+written-append m x v number h =
+    let left = h.left in
+    record { number = number; figures = h.figures; left = omega (arith, ints, left); other = h.other }

@@ -1,27 +1,14 @@
 -- Store is never answered for a part of backed rows.
-use Rattle.matter_parts.proofs.Names.{◌≡◌, ℕ, Bool, true, List, refl, sym, subst, Option, Some, None, ◌⊎◌, inl, inr, arith, length, ints, Entry, passes, names, funds, is_against, is_fee, is_settled, Rows, entry_at, target, fund_no, against_no, AreBacked, held-balance, pending-balance, disputed-balance, available-balance, fees-balance, claims-balance, Figures, Edit, TotalsAfter, AreSmallTotals, EditMoved, Part, no_figures, AreSmall, IsPart, AreFigures, is_held_or_none}
+use Rattle.matter_parts.proofs.Names.{◌≡◌, ℕ, Bool, true, List, [], refl, sym, subst, Option, Some, None, ◌⊎◌, inl, inr, arith, length, Entry, passes, names, funds, is_against, is_fee, is_settled, Rows, entry_at, target, fund_no, against_no, AreBacked, Figures, Edit, TotalsAfter, AreSmallTotals, EditMoved, NoneMoved, Part, no_figures, IsPart, is_held_or_none}
 use Rattle.matter_rows.specs.declared.entry.Entry.TheVariants as entry
 use Rattle.matter_rows.specs.declared.payment.Fund.{Fund}
 use Rattle.matter_rows.specs.declared.payment.Fund.TheVariants as fund
 use Rattle.matter_rows.specs.declared.claim.Against.{Against}
 use Rattle.matter_rows.specs.declared.claim.Against.TheVariants as against
 use Rattle.matter_parts.specs.declared.edit.Edit.TheVariants as edit
-use Rattle.matter_parts.proofs.Existence.{IsKeptOrNone, small-none, exist-append, exist-exchange, held-kept}
-use Rattle.matter_parts.proofs.Editing.{MayEdit}
-
-small-kept : (f : Figures) (es : List Entry) → AreFigures f es → AreBacked es → AreSmall f
-small-kept f es a s = record {
-  entries = let e = a.entries in let r = s.few in omega (arith, e, r);
-  pending = let b = pending-balance es s in omega (arith, ints, a.pending, b.is, b.small);
-  held = let b = held-balance es s in omega (arith, ints, a.held, b.is, b.small);
-  available = let b = available-balance es s in omega (arith, ints, a.available, b.is, b.small);
-  disputed = let b = disputed-balance es s in omega (arith, ints, a.disputed, b.is, b.small);
-  fees = let b = fees-balance es s in omega (arith, ints, a.fees, b.is, b.small);
-  claims = let b = claims-balance es s in omega (arith, ints, a.claims, b.is, b.small);
-}
-
-small-none-kept : AreSmall no_figures
-small-none-kept = record { entries = omega arith; pending = omega arith; held = omega arith; available = omega arith; disputed = omega arith; fees = omega arith; claims = omega arith }
+use Rattle.matter_parts.proofs.Existence.{IsKeptOrNone, small-figures, small-none, exist-append, exist-exchange, held-kept}
+use Rattle.matter_parts.proofs.Editing.{MayEdit, backed-none}
+use Rattle.matter_parts.proofs.Moved.{figures-none}
 
 passes-some : (kind : Entry → Bool) (o : Option Entry) → passes kind o ≡ true → (e : Entry) × (o ≡ Some e)
 passes-some kind None h = cc
@@ -51,23 +38,29 @@ named-kept m es r t few named held (inr same) =
       | inr there ↦ let P : ℕ → Type 0 = λ n. is_held_or_none m n ≡ true in inr (held-kept m es (target r) there.0 few there.1 (subst P (sym same) held))
     ]
 
+-- no entry is written
+no-entry : (m : Part) (rows : Rows) → AreBacked rows.entries → IsPart m rows → ((v : TotalsAfter) → AreSmallTotals v → NoneMoved m v → ⊥) → ⊥
+no-entry m rows s p no-move =
+    let small = small-figures m.figures rows.entries p.figures s in
+    no-move (record { figures = m.figures; left = 0; other = None })
+    (record { figures = small; left = omega arith; other = small-none })
+    (record { figures = refl; left = refl; other = refl })
+
 pub never-store : (m : Part) (rows : Rows) (t n : ℕ) (e : Edit) → AreBacked rows.entries → IsPart m rows → MayEdit rows.entries t n e → is_held_or_none m t ≡ true → is_held_or_none m n ≡ true → ((v : TotalsAfter) → AreSmallTotals v → EditMoved m e v → ⊥) → ⊥
-never-store m rows t n edit.Nothing s p may ht hn no-move =
-    no-move (record { figures = m.figures; left = 0; other = None }) (record { figures = small-kept m.figures rows.entries p.figures s; left = omega arith; other = small-none }) (record { figures = refl; left = refl; other = refl })
-never-store m rows t n (edit.Open o) s p may ht hn no-move =
-    no-move (record { figures = m.figures; left = 0; other = None }) (record { figures = small-kept m.figures rows.entries p.figures s; left = omega arith; other = small-none }) (record { figures = refl; left = refl; other = refl })
-never-store m rows t n (edit.Seat x) s p may ht hn no-move =
-    no-move (record { figures = m.figures; left = 0; other = None }) (record { figures = small-kept m.figures rows.entries p.figures s; left = omega arith; other = small-none }) (record { figures = refl; left = refl; other = refl })
-never-store m rows t n (edit.Unseat q) s p may ht hn no-move =
-    no-move (record { figures = m.figures; left = 0; other = None }) (record { figures = small-kept m.figures rows.entries p.figures s; left = omega arith; other = small-none }) (record { figures = refl; left = refl; other = refl })
-never-store m rows t n (edit.Close d) s p may ht hn no-move =
-    no-move (record { figures = m.figures; left = 0; other = None }) (record { figures = small-kept m.figures rows.entries p.figures s; left = omega arith; other = small-none }) (record { figures = refl; left = refl; other = refl })
-never-store m rows t n (edit.Clear d) s p may ht hn no-move =
-    no-move (record { figures = no_figures; left = 0; other = None }) (record { figures = small-none-kept; left = omega arith; other = small-none }) (record { figures = refl; left = refl; other = refl })
-never-store m rows t n (edit.Append x) s p may ht hn no-move =
+never-store m rows t n edit.Nothing s p may ht hn = no-entry m rows s p
+never-store m rows t n (edit.Open o) s p may ht hn = no-entry m rows s p
+never-store m rows t n (edit.Seat x) s p may ht hn = no-entry m rows s p
+never-store m rows t n (edit.Unseat q) s p may ht hn = no-entry m rows s p
+never-store m rows t n (edit.Close d) s p may ht hn = no-entry m rows s p
+never-store m rows t n (edit.Clear d) s p may ht hn = λ no-move.
+    let small = small-figures no_figures [] figures-none backed-none in
+    no-move (record { figures = no_figures; left = 0; other = None })
+    (record { figures = small; left = omega arith; other = small-none })
+    (record { figures = refl; left = refl; other = refl })
+never-store m rows t n (edit.Append x) s p may ht hn = λ no-move.
     let v = exist-append m rows.entries x p.figures p.kept s may.0 may.1 (named-kept m rows.entries x.entry t p.figures.entries may.1.named ht may.2) in
     no-move v.0 v.1 v.2
-never-store m rows t n (edit.Exchange x) s p may ht hn no-move =
+never-store m rows t n (edit.Exchange x) s p may ht hn = λ no-move.
     let P : ℕ → Type 0 = λ k. is_held_or_none m k ≡ true in
     let own = held-kept m rows.entries x.number may.0 p.figures.entries may.1.at (subst P (sym may.3) hn) in
     let v = exist-exchange m rows.entries x may.0 own.0 p.figures p.kept s may.1 own.1 (named-kept m rows.entries x.entry t p.figures.entries may.1.named ht may.2) in

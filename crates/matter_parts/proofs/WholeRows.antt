@@ -50,17 +50,13 @@ empty-of (Some h) seats es f s a = empty-at h.closed es h f s.backed.named a s.h
 
 -- Rows that pass are sound.
 
-ranged-of : (head : Option Head) (seats : List Seat) (es : List Entry) → AreInForm head seats es → AllByRecursion IsRanged es
-ranged-of None seats es form = let P : List Entry → Type 0 = AllByRecursion IsRanged in subst P (sym form.1) tt
-ranged-of (Some h) seats es form = all-map (IsSoundEntry h es) IsRanged es (λ e i. i.ranged) form.0.entries
+-- each entry has what a sound one has
+each-of : (P : List Entry → Entry → Type 0) (head : Option Head) (seats : List Seat) (es : List Entry) → ((h : Head) (e : Entry) → IsSoundEntry h es e → P es e) → AreInForm head seats es → AllByRecursion (P es) es
+each-of P None seats es own form = let Q : List Entry → Type 0 = λ l. AllByRecursion (P l) l in subst Q (sym form.1) tt
+each-of P (Some h) seats es own form = all-map (IsSoundEntry h es) (P es) es (own h) form.0.entries
 
 pub named-of : (head : Option Head) (seats : List Seat) (es : List Entry) → AreInForm head seats es → AllByRecursion (λ e. names es e ≡ true) es
-named-of None seats es form = let P : List Entry → Type 0 = λ l. AllByRecursion (λ e. names l e ≡ true) l in subst P (sym form.1) tt
-named-of (Some h) seats es form = all-map (IsSoundEntry h es) (λ e. names es e ≡ true) es (λ e i. i.named) form.0.entries
-
-funded-of : (head : Option Head) (seats : List Seat) (es : List Entry) → AreInForm head seats es → AllByRecursion (IsFundedInTime es) es
-funded-of None seats es form = let P : List Entry → Type 0 = λ l. AllByRecursion (IsFundedInTime l) l in subst P (sym form.1) tt
-funded-of (Some h) seats es form = all-map (IsSoundEntry h es) (IsFundedInTime es) es (λ e i. i.funded) form.0.entries
+named-of head seats es form = each-of (λ l e. names l e ≡ true) head seats es (λ h e i. i.named) form
 
 -- what is left of each entry is a total
 lefts-of : (es : List Entry) (ks : List Kept) → entries_kept ks ≡ es → AreNumbered 1 ks → AreKept ks es → (n : ℕ) (e : Entry) → entry_at es n ≡ Some e → pos 0 ≤ℤ left_of es n e
@@ -82,7 +78,7 @@ lefts-of es ks entries numbered own n e at =
 pub backed-of : (head : Option Head) (seats : List Seat) (es : List Entry) (f : Figures) (ks : List Kept) → length es ≤ 9_999 → AreInForm head seats es → pos f.available ≡ available es → entries_kept ks ≡ es → AreNumbered 1 ks → AreKept ks es → AreBacked es
 backed-of head seats es f ks few form is entries numbered own = record {
   few = few;
-  ranged = ranged-of head seats es form;
+  ranged = each-of (λ l e. IsRanged e) head seats es (λ h e i. i.ranged) form;
   named = named-of head seats es form;
   available = omega (arith, ints, is);
   left = lefts-of es ks entries numbered own;
@@ -103,7 +99,7 @@ rest-of (Some day) es h f named a empty between all =
     }
 
 pub sound-of : (head : Option Head) (seats : List Seat) (es : List Entry) (f : Figures) → AreInOrder seats → AreInForm head seats es → AreBacked es → AreFigures f es → AreEmptyIfClosed (closed_on head) f → Sound (rows-of head seats es)
-sound-of None seats es f order form backed a empty = record { backed = backed; seated = order; headed = form; funded = funded-of None seats es form; bare = tt }
+sound-of None seats es f order form backed a empty = record { backed = backed; seated = order; headed = form; funded = each-of (λ l e. IsFundedInTime l e) None seats es (λ h e i. i.funded) form; bare = tt }
 sound-of (Some h) seats es f order form backed a empty =
     let form-h : IsSoundHead h es = form.0 in
     record {
@@ -118,7 +114,7 @@ sound-of (Some h) seats es f order form backed a empty =
         },
         rest-of h.closed es h f backed.named a empty form-h.closed (all-map (IsSoundEntry h es) (IsByIfClosed h.closed) es (λ e i. i.by_close) form-h.entries),
       );
-      funded = funded-of (Some h) seats es form;
+      funded = each-of (λ l e. IsFundedInTime l e) (Some h) seats es (λ g e i. i.funded) form;
       bare = form.1;
     }
 

@@ -1,14 +1,12 @@
-//! Deposits: their states, what they add to the balances, and what they move.
+//! Deposits: their states, and the lines of the bank that clear them or take them back.
 
 ghost use Rattle.std.specs.Prelude.{◌≡◌, IfOk, ◌+◌, ◌-◌, ◌<◌, ◌≤◌, ◌≤ℤ◌, ◌-ℤ◌, ◌+ℤ◌, true, ◌++◌, ◌↔◌, ◌&&◌, IsTrue};
 ghost use Rattle.std.specs.List.{AllByRecursion};
-ghost use Rattle.matter_rows.specs.Shares.{shares_of, no_shares, AreSmallShares};
 ghost use Rattle.matter_rows.specs.Clearings.{has_amount_back, clearing_by, is_deposit_cleared_by, is_line_again, deposit_by};
 ghost use Rattle.matter_rows.specs.Sound.{deposit_days, deposit_bank, AreRising, IsBackInTime};
 
 use crate::clearing::{Clearing, clearing_by};
 use crate::entry::Entry;
-use crate::shares::{Shares, no_shares};
 use crate::soundness::is_up_to;
 use std::alloc::AllocError;
 use trust_base::{Cents, Day, Label, Line};
@@ -124,27 +122,6 @@ impl Deposit {
             state,
             ..*self
         })
-    }
-
-    // What the deposit adds to each balance.
-    #[tactic(auto, unfolding(crate::specs::Shares::held_share, crate::specs::Shares::available_share, crate::specs::Shares::disputed_share, crate::specs::Shares::fee_share, crate::specs::Shares::claim_share, crate::specs::Shares::pending_share))]
-    pub(crate) fn shares(&self) -> Shares
-        ensures is { result ≡ shares_of (Entry.Deposit self.now) }
-        ensures small { AreSmallShares result }
-    {
-        let none = no_shares();
-        let amount = self.amount.get() as i64;
-        match &self.state {
-            DepositState::Held => Shares {
-                held: amount,
-                ..none
-            },
-            DepositState::Cleared(_) => Shares {
-                available: amount,
-                ..none
-            },
-            DepositState::Cancelled(_) | DepositState::Returned(_) => none,
-        }
     }
 
     // Whether the line has the negative of the deposit's amount.

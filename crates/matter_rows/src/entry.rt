@@ -1,7 +1,7 @@
 //! The entries of a matter, of all kinds.
 
 ghost use Rattle.std.specs.Prelude.{◌≡◌, IfOk, ◌+◌, ◌-◌, ◌<◌, ◌≤◌, ◌≤ℤ◌, ◌-ℤ◌, ◌+ℤ◌, length, ◌≢◌, ◌↔◌, IsTrue, true, ◌++◌, ◌&&◌};
-ghost use Rattle.matter_rows.specs.Shares.{shares_of, worth, draw, target, AreSmallShares, IsSmallShare, number_or_none, draw_on};
+ghost use Rattle.matter_rows.specs.Shares.{shares_of, no_shares, worth, draw, target, AreSmallShares, IsSmallShare, number_or_none, draw_on};
 ghost use Rattle.matter_rows.specs.Events.{events_of, nth_moved};
 ghost use Rattle.matter_rows.specs.Sound.{Sound, IsRanged, IsBy, IsRising, IsFundedInTime};
 ghost use Rattle.matter_rows.specs.Clearings.{has_its_amount, is_return};
@@ -15,7 +15,7 @@ use crate::fee::Fee;
 use crate::head::Head;
 use crate::movement::EntryMovement;
 use crate::payment::{Fund, Payment, PaymentState};
-use crate::shares::Shares;
+use crate::shares::{Shares, no_shares};
 use crate::soundness::is_up_to;
 use std::alloc::AllocError;
 use trust_base::{Day, EntryNo, Line};
@@ -44,14 +44,36 @@ impl Entry {
 
     /// What the entry adds to each balance, in cents, and to the count of pending payments. No share is larger than
     /// twice the greatest amount, positive or negative.
+    #[tactic(auto, unfolding(crate::specs::Shares::held_share, crate::specs::Shares::available_share, crate::specs::Shares::disputed_share, crate::specs::Shares::fee_share, crate::specs::Shares::claim_share, crate::specs::Shares::pending_share))]
     pub fn shares(&self) -> Shares
         ensures is { result ≡ shares_of self.now }
         ensures small { AreSmallShares result }
     {
+        let none = no_shares();
         match self {
-            Entry::Deposit(d) => d.shares(),
+            Entry::Deposit(d) => {
+                let amount = d.amount.get() as i64;
+                match &d.state {
+                    DepositState::Held => Shares {
+                        held: amount,
+                        ..none
+                    },
+                    DepositState::Cleared(_) => Shares {
+                        available: amount,
+                        ..none
+                    },
+                    DepositState::Cancelled(_) | DepositState::Returned(_) => none,
+                }
+            }
             Entry::Payment(p) => p.shares(),
-            Entry::Fee(f) => f.shares(),
+            Entry::Fee(f) => {
+                let amount = f.amount.get() as i64;
+                Shares {
+                    available: -amount,
+                    fees: amount,
+                    ..none
+                }
+            }
             Entry::Claim(c) => c.shares(),
         }
     }

@@ -1,10 +1,7 @@
-//! Fees: what they set apart.
+//! Fees.
 
-ghost use Rattle.std.specs.Prelude.{◌≡◌, IfOk, ◌+◌, ◌-◌, ◌<◌, ◌≤◌, ◌≤ℤ◌, ◌-ℤ◌, ◌+ℤ◌};
-ghost use Rattle.matter_rows.specs.Shares.{shares_of, no_shares, AreSmallShares};
+ghost use Rattle.std.specs.Prelude.{◌≡◌, IfOk};
 
-use crate::entry::Entry;
-use crate::shares::{Shares, no_shares};
 use std::alloc::AllocError;
 use trust_base::{Cents, Day, Label};
 
@@ -24,20 +21,5 @@ impl Fee {
             description: self.description.copied()?,
             ..*self
         })
-    }
-
-    // What the fee adds to each balance.
-    #[tactic(auto, unfolding(crate::specs::Shares::held_share, crate::specs::Shares::available_share, crate::specs::Shares::disputed_share, crate::specs::Shares::fee_share, crate::specs::Shares::claim_share, crate::specs::Shares::pending_share))]
-    pub(crate) fn shares(&self) -> Shares
-        ensures is { result ≡ shares_of (Entry.Fee self.now) }
-        ensures small { AreSmallShares result }
-    {
-        let none = no_shares();
-        let amount = self.amount.get() as i64;
-        Shares {
-            available: -amount,
-            fees: amount,
-            ..none
-        }
     }
 }

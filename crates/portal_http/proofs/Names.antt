@@ -3,12 +3,12 @@ pub use Rattle.firm_rows.specs.Firm.{Firm}
 pub use Rattle.portal_messages.specs.Inputs.{Began, IsNext, stays}
 pub use Rattle.portal_messages.specs.declared.message.Message.{Message}
 unfoldable pub use Rattle.portal_requests.specs.Requests.{heard_of, request}
-pub use Rattle.std.proofs.Common.{Bool, Err, IfSome, List, None, Ok, Option, Result, Some, [], ap, append_assoc, arith, codes, false, inl, inr, length, length-append, map, refl, subst, suc, sym, take, true, ℕ, ◌++◌, ◌+◌, ◌<◌, ◌∙◌, ◌∷◌, ◌≡◌, ◌≤◌, ◌⊎◌}
+pub use Rattle.std.proofs.Common.{Bool, Err, IfSome, List, None, Ok, Option, Some, [], ap, append_assoc, arith, codes, false, inl, inr, length, length-append, map, refl, subst, suc, sym, take, true, ℕ, ◌++◌, ◌+◌, ◌<◌, ◌∙◌, ◌∷◌, ◌≡◌, ◌≤◌, ◌⊎◌}
 pub use Rattle.std.proofs.KnownBytes.{Appends-nil, Appends-trans}
 pub use Rattle.std.proofs.Math.Seq.{take-append-add}
 pub use Rattle.std.proofs.lemmas.List.{append-nil, map-append}
 pub use Rattle.std.specs.Io.KnownBytes.{Appends, Keeps}
-pub use Rattle.std.specs.Prelude.{MatchBool, OnErr, ⊤}
+pub use Rattle.std.specs.Prelude.{MatchBool, ⊤}
 pub use Rattle.trust_base.specs.declared.refusal.Refusal.{Refusal}
 pub use Rattle.trust_base.specs.declared.refusal.Refusal.TheVariants.{Memory, Store}
 pub use Rattle.trust_desk.proofs.AlwaysCovered.{runs-covered}

@@ -5,9 +5,6 @@ use Rattle.trust_desk.specs.declared.requests.Request.{Request}
 use Rattle.trust_desk.proofs.Steps.{nothing-done}
 use Rattle.portal_requests.proofs.HeardFacts.{heard-asks, heard-unread}
 
-asked-step : (day : ℕ) (firm new : Firm) (m : Message) (r : Request) (reply : Reply) → request m ≡ Ok r → Steps day firm (Asks r) reply new → Steps day firm (heard_of m) reply new
-asked-step day firm new m r reply e step = subst (λ (h : Heard). Steps day firm h reply new) (sym (heard-asks m r e)) step
-
 -- a message that was refused before it became a request, or that could not be held
 refused-step : (day : ℕ) (firm : Firm) (m : Message) (why : Refusal) (reply : Reply) → (why ≡ Memory) ⊎ ((is_fault why ≡ false) × (request m ≡ Err why)) → reply ≡ refused why → Steps day firm (heard_of m) reply firm
 refused-step day firm m why reply (inl e) is =
@@ -21,12 +18,6 @@ refused-step day firm m why reply (inr other) is =
     cases T false e = (refl, refl)
 
 -- What a crash may leave.
-
-asked-leaves : {B : Type 0} {clean : B → Type 0} {leaves : B → Firm → Type 0} (day : ℕ) (firm : Firm) (old new : B) (m : Message) (r : Request) (reply : Reply) → request m ≡ Ok r
-    → MayLeave clean leaves (is_fault_reply reply ≡ false) (IsMade day firm (Asks r)) firm (firm_step day firm (Asks r)).firm old new
-    → MayLeave clean leaves (is_fault_reply reply ≡ false) (IsMade day firm (heard_of m)) firm (firm_step day firm (heard_of m)).firm old new
-asked-leaves {clean} {leaves} day firm old new m r reply e may =
-    subst (λ (h : Heard). MayLeave clean leaves (is_fault_reply reply ≡ false) (IsMade day firm h) firm (firm_step day firm h).firm old new) (sym (heard-asks m r e)) may
 
 refused-leaves : {B : Type 0} {clean : B → Type 0} {leaves : B → Firm → Type 0} (day : ℕ) (firm : Firm) (b : B) (m : Message) (why : Refusal) (reply : Reply) → (why ≡ Memory) ⊎ ((is_fault why ≡ false) × (request m ≡ Err why)) → reply ≡ refused why
     → MayLeave clean leaves (is_fault_reply reply ≡ false) (IsMade day firm (heard_of m)) firm (firm_step day firm (heard_of m)).firm b b
@@ -42,24 +33,22 @@ refused-counted m why reply n (inr other) is = cases why other.0 ∙ ap (λ (x :
     cases Store e = absurd (cc)
     cases _ e = refl
 
--- A message was answered over a book.
+-- What the desk heard was answered over a book.
 
 module _ {B : Type 0} (clean sure stands lasts : B → Type 0) (leaves : B → Firm → Type 0) (firm : B → Firm) (refusals : B → ℕ) (day : ℕ) where
-  pub record IsAnswered (m : Message) (reply : Reply) (old new : B) : Type 0 where
-    pub step : clean new → stands old → Steps day (firm old) (heard_of m) reply (firm new)
+  pub record IsAnswered (h : Heard) (reply : Reply) (old new : B) : Type 0 where
+    pub step : clean new → stands old → Steps day (firm old) h reply (firm new)
     pub kept : KeepsBook clean sure stands lasts refusals (counted_reply reply) old new
-    pub crash : sure new → clean old → stands old → MayLeave clean leaves (is_fault_reply reply ≡ false) (IsMade day (firm old) (heard_of m)) (firm old) (firm_step day (firm old) (heard_of m)).firm old new
+    pub crash : sure new → clean old → stands old
+        → MayLeave clean leaves (is_fault_reply reply ≡ false) (IsMade day (firm old) h) (firm old) (firm_step day (firm old) h).firm old new
 
   pub asked-answered : (m : Message) (r : Request) (reply : Reply) (old new : B) → request m ≡ Ok r → (clean new → stands old → Steps day (firm old) (Asks r) reply (firm new)) → KeepsBook clean sure stands lasts refusals (counted_reply reply) old new
       → (sure new → clean old → stands old → MayLeave clean leaves (is_fault_reply reply ≡ false) (IsMade day (firm old) (Asks r)) (firm old) (firm_step day (firm old) (Asks r)).firm old new)
-      → IsAnswered m reply old new
-  asked-answered m r reply old new e step kept crash = record {
-    step = λ clean stands. asked-step day (firm old) (firm new) m r reply e (step clean stands);
-    kept = kept;
-    crash = λ sure clean stands. asked-leaves day (firm old) old new m r reply e (crash sure clean stands);
-  }
+      → IsAnswered (heard_of m) reply old new
+  asked-answered m r reply old new e step kept crash =
+      subst (λ (h : Heard). IsAnswered h reply old new) (sym (heard-asks m r e)) (record { step = step; kept = kept; crash = crash })
 
-  pub refused-answered : (m : Message) (why : Refusal) (reply : Reply) (b : B) → (why ≡ Memory) ⊎ ((is_fault why ≡ false) × (request m ≡ Err why)) → reply ≡ refused why → IsAnswered m reply b b
+  pub refused-answered : (m : Message) (why : Refusal) (reply : Reply) (b : B) → (why ≡ Memory) ⊎ ((is_fault why ≡ false) × (request m ≡ Err why)) → reply ≡ refused why → IsAnswered (heard_of m) reply b b
   refused-answered m why reply b unread is = record {
     step = λ clean stands. refused-step day (firm b) m why reply unread is;
     kept = kept-as (λ clean stands. refused-counted m why reply (refusals b) unread is) (kept-still b);

@@ -1,7 +1,7 @@
 -- What an accept may return, and what is known of ports.
 use Rattle.std.specs.Prelude.{ℕ, List, Option}
-use Rattle.portal_http.specs.declared.listener.AcceptFault.{AcceptFault}
-use Rattle.portal_http.specs.declared.listener.AcceptFault.TheVariants as fault
+use Rattle.portal_http.specs.declared.server.AcceptFault.{AcceptFault}
+use Rattle.portal_http.specs.declared.server.AcceptFault.TheVariants as fault
 
 -- what an accept returns: a client, with the bytes that it sends, if known, and its writer; a client that is gone or
 -- whose connection could not be made; or a refusal of the network

@@ -6,15 +6,14 @@
 #![tactic(auto)]
 
 pub mod laws;
-mod listener;
 mod server;
 mod stream;
 
-pub use listener::{
-    AcceptFault, ClientListener, Connection, Network, SystemListener, SystemNetwork,
-};
 pub use portal_messages::{Input, Message, Next, Stop, read_message};
 pub use portal_requests::{Routes, request_of};
-pub use server::{Answered, ServeEnd, serve_connection, serve_connections};
+pub use server::{
+    AcceptFault, Answered, ClientListener, Connection, Network, ServeEnd, SystemListener,
+    SystemNetwork, serve_connection, serve_connections,
+};
 pub use stream::{StreamEnd, bytes_of, serve_stream, write_reply};
 pub use trust_desk::Desk;

@@ -1,6 +1,6 @@
 // A stream that is being read, what comes next in it, and what the fields of a head say of its body.
 
-ghost use Rattle.std.specs.Prelude.{◌≡◌, ◌≤◌, ◌<◌, [], map, length, take, drop, codes, slice_range, true, All};
+ghost use Rattle.std.specs.Prelude.{◌≡◌, ◌≤◌, ◌<◌, [], map, length, take, codes, true, All};
 ghost use Rattle.std.specs.Prelude.{IfOk, IfErr, OnOk, MatchBool, MatchOption, None, Result, Some};
 ghost use Rattle.std.specs.List.{list_all};
 ghost use Rattle.std.specs.Str.{str_eq_ignore_ascii_case};
@@ -279,22 +279,6 @@ pub(crate) struct Source<R> {
     pub(crate) ended: bool,
 }
 
-// Removes the bytes before `end` and returns those from `from` on. They stay in their own memory; only the bytes
-// after `end` are copied. Fails if memory runs out.
-fn take_body(buffer: &mut Vec<u8>, from: usize, end: usize) -> Result<Vec<u8>, AllocError>
-    requires ordered { from ≤ end }
-    requires within { end ≤ length buffer.old.items }
-    ensures body { IfOk result (λ body. body.items ≡ slice_range buffer.old.items from end) }
-    ensures rest { OnOk result (buffer.new.items ≡ drop end buffer.old.items) }
-{
-    let alloc = *buffer.allocator();
-    let rest = Vec::from_slice(alloc, buffer.as_slice().split_at(end).1)?;
-    let mut body = mem::replace(buffer, rest);
-    body.rotate_left(from);
-    body.truncate(end - from);
-    Ok(body)
-}
-
 impl<R: Read> Source<R> {
     ghost use Rattle.portal_messages.specs.Sources.{Grew, IsHeadNext};
 
@@ -389,12 +373,16 @@ impl<R: Read> Source<R> {
         if !self.fill_to(end)? {
             return Ok(Next::Framing(Refusal::BadMessage));
         }
-        let body = OwnedBytes::new(take_body(&mut self.buffer, head.len, end)?);
+        // The body stays in the memory that it was read into; only the bytes after it are copied.
+        let rest = Vec::from_slice(alloc, self.buffer.as_slice().split_at(end).1)?;
+        let mut body = mem::replace(&mut self.buffer, rest);
+        body.rotate_left(head.len);
+        body.truncate(size);
         Ok(Next::Message(Message {
             method,
             target,
             callers,
-            body,
+            body: OwnedBytes::new(body),
         }))
     }
 }

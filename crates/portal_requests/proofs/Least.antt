@@ -11,15 +11,11 @@ use Rattle.portal_requests.specs.LeastRefusal.{LeastRefusal, RefusesAt}
 abbrev IsOfField : Refusal → Type 0
 IsOfField r = (f : Field) × (r ≡ BadField f)
 
-abbrev refusal_in : Refusal → Result Request Refusal → Refusal
-refusal_in r (Ok asked) = r
-refusal_in r (Err why) = why
-
 abbrev refusing : Refusal → Result Request Refusal
 refusing r = Err r
 
 err-same : (why r : Refusal) → refusing why ≡ refusing r → r ≡ why
-err-same why r e = sym (ap (refusal_in why) e)
+err-same why r e = cc
 
 matter-field : (caller : Caller) (named : Option ℕ) (asked : Result Ask Field) (r : Refusal) → of_matter caller named asked ≡ Err r → IsOfField r
 matter-field caller None asked r e = (field.Matter, err-same (BadField field.Matter) r e)
@@ -31,11 +27,8 @@ day-field caller None r e = (field.Day, err-same (BadField field.Day) r e)
 day-field caller (Some day) r e = absurd (cc)
 
 report-field : (p : ReportPlace) (caller : Caller) (path : List ℕ) (r : Refusal) → reported p caller path ≡ Err r → IsOfField r
-report-field report.Exceptions caller path r e = absurd (cc)
-report-field report.TrialBalance caller path r e = absurd (cc)
-report-field report.Journal caller path r e = absurd (cc)
 report-field report.Reconciliation caller path r e = day-field caller (day_of (day_part path)) r e
-report-field report.Retention caller path r e = absurd (cc)
+report-field _ caller path r e = absurd (cc)
 
 line-field : (caller : Caller) (o : Option Line) (r : Refusal) → dismissing caller o ≡ Err r → IsOfField r
 line-field caller None r e = (field.Body, err-same (BadField field.Body) r e)
@@ -60,9 +53,7 @@ module _ (m : Message) where
     where
       none : (s : Refusal) → number_of s < 4 → RefusesAt None c m s → ⊥
       none NoRoute lt is = absurd (omega arith)
-      none BadMethod lt is = is
       none NoCaller lt is = absurd (omega arith)
-      none (BadField f) lt is = is
       none _ lt is = is
 
   other-method : (p : Place) (c : Option Caller) → bytes_eq m.method (method_of p) ≡ false → Tells (Some p) c (Err BadMethod)
@@ -82,7 +73,6 @@ module _ (m : Message) where
       none NoRoute lt is = cc
       none BadMethod lt is = cc
       none NoCaller lt is = absurd (omega arith)
-      none (BadField f) lt is = is
       none _ lt is = is
 
   bad-field : (p : Place) (caller : Caller) (f : Field) → bytes_eq m.method (method_of p) ≡ true → asked_at p caller (path_of m.target) m.body ≡ Err (BadField f) → Tells (Some p) (Some caller) (Err (BadField f))
@@ -123,12 +113,9 @@ module _ (m : Message) where
       cases true same = called-tells p (caller_of m.callers) same
       cases false other = other-method p (caller_of m.callers) other
 
-  tells : Tells (place_of (path_of m.target)) (caller_of m.callers) (request m)
-  unfolding request
-  tells = routed-tells (place_of (path_of m.target))
-
   tells-of : (r : Result Request Refusal) → request m ≡ r → Tells (place_of (path_of m.target)) (caller_of m.callers) r
-  tells-of r e = subst (Tells (place_of (path_of m.target)) (caller_of m.callers)) e tells
+  unfolding request
+  tells-of r e = subst (Tells (place_of (path_of m.target)) (caller_of m.callers)) e (routed-tells (place_of (path_of m.target)))
 
 pub least-refusal : LeastRefusal
 least-refusal = ((λ m r e. tells-of m (Err r) e), (λ m asked e. tells-of m (Ok asked) e))

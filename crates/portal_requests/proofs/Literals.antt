@@ -38,11 +38,10 @@ module _ {K : Type 0} (IsOf : K → Type 0) where
 
   rows-suffix : (Is : List ℕ → Type 0) (suffix : List ℕ) (rs : RowsOf K) → AllRows Is rs → AllRows Is (with_suffix suffix rs)
   rows-suffix Is suffix [] all = tt
-  rows-suffix Is suffix ((t, key) ∷ rest) all = cases (same_text (segment t) suffix) (rows-suffix Is suffix rest all.1)
-    where
-      cases : (c : Bool) → AllRows Is (with_suffix suffix rest) → AllRows Is (cond c ((t, key) ∷ with_suffix suffix rest) (with_suffix suffix rest))
-      cases true more = (all.0, more)
-      cases false more = more
+  rows-suffix Is suffix ((t, key) ∷ rest) all =
+      let more = rows-suffix Is suffix rest all.1 in
+      elim (same_text (segment t) suffix) as (λ c. AllRows Is (cond c ((t, key) ∷ with_suffix suffix rest) (with_suffix suffix rest)))
+      [ true ↦ (all.0, more) | false ↦ more ]
 
   rows-param : (Is : List ℕ → Type 0) (rs : RowsOf K) (path : List ℕ) → AllRows Is rs → AllRows Is (param_step rs path).1
   unfolding param_step
@@ -100,8 +99,6 @@ module _ {K : Type 0} (IsOf : K → Type 0) where
 
   pub placed-rows : (Is : List ℕ → Type 0) (t : List ℕ) (key : K) (rs : RowsOf K) → (IsOf key → Is t) → AllRows Is rs → AllRows Is (placed (t, key) rs)
   placed-rows Is t key [] is all = (is, tt)
-  placed-rows Is t key ((u, k) ∷ rest) is all = cases (comes_before t u) (placed-rows Is t key rest is all.1)
-    where
-      cases : (c : Bool) → AllRows Is (placed (t, key) rest) → AllRows Is (cond c ((t, key) ∷ (u, k) ∷ rest) ((u, k) ∷ placed (t, key) rest))
-      cases true more = (is, all)
-      cases false more = (all.0, more)
+  placed-rows Is t key ((u, k) ∷ rest) is all =
+      elim (comes_before t u) as (λ c. AllRows Is (cond c ((t, key) ∷ (u, k) ∷ rest) ((u, k) ∷ placed (t, key) rest)))
+      [ true ↦ (is, all) | false ↦ (all.0, placed-rows Is t key rest is all.1) ]

@@ -14,9 +14,7 @@ use Rattle.portal_requests.proofs.Literals.{AllRows, Starts, first-starts, place
 abbrev pub is_of_firm : Place → Bool
 is_of_firm (place.Matter p) = false
 is_of_firm (place.Entry p) = false
-is_of_firm (place.Report p) = true
-is_of_firm (place.Statement p) = true
-is_of_firm place.Dismissal = true
+is_of_firm _ = true
 
 -- a route that leads there
 abbrev pub LeadsToFirm : RouteOf Place → Type 0
@@ -68,11 +66,9 @@ to-firm path (Some r) p is found e = first-starts LeadsToFirm firm_front the_rou
 front-unnamed : (path : List ℕ) → OfFirm path → named_in path ≡ None
 front-unnamed [] is = absurd is
 front-unnamed (a ∷ []) is = absurd is.1
-front-unnamed (a ∷ b ∷ rest) is = subst (λ (n : ℕ). named_in (n ∷ b ∷ rest) ≡ None) (sym is.0) (subst (λ (n : ℕ). named_in (47 ∷ n ∷ rest) ≡ None) (sym is.1.0) (cases (nat_le 15 (length (47 ∷ 102 ∷ rest)))))
-  where
-    cases : (b : Bool) → cond b (cond (has_matter (47 ∷ 102 ∷ rest)) (matter_of (take 6 (drop 9 (47 ∷ 102 ∷ rest)))) None) None ≡ None
-    cases true = refl
-    cases false = refl
+front-unnamed (a ∷ b ∷ rest) is = subst (λ (n : ℕ). named_in (n ∷ b ∷ rest) ≡ None) (sym is.0) (subst (λ (n : ℕ). named_in (47 ∷ n ∷ rest) ≡ None) (sym is.1.0)
+    (elim (nat_le 15 (length (47 ∷ 102 ∷ rest))) as (λ b. cond b (cond (has_matter (47 ∷ 102 ∷ rest)) (matter_of (take 6 (drop 9 (47 ∷ 102 ∷ rest)))) None) None ≡ None)
+    [ true ↦ refl | false ↦ refl ]))
 
 firm-unnamed : (path : List ℕ) (p : Place) → is_of_firm p ≡ true → place_of path ≡ Some p → named_in path ≡ None
 firm-unnamed path p is e = cases (is_utf8 path) e
@@ -91,20 +87,13 @@ of-named n caller (Some m) (Ok a) = refl
 
 -- what is asked of the firm names none
 report-named : (n : ℕ) (p : ReportPlace) (caller : Caller) (path : List ℕ) → names n (heard_as None (reported p caller path)) ≡ false
-report-named n report.Exceptions caller path = refl
-report-named n report.TrialBalance caller path = refl
-report-named n report.Journal caller path = refl
-report-named n report.Reconciliation caller path = cases (day_of (day_part path))
-  where
-    cases : (o : Option ℕ) → names n (heard_as None (as_of caller o)) ≡ false
-    cases None = refl
-    cases (Some day) = refl
-report-named n report.Retention caller path = refl
+report-named n report.Reconciliation caller path =
+    elim (day_of (day_part path)) as (λ o. names n (heard_as None (as_of caller o)) ≡ false) [ None ↦ refl | Some day ↦ refl ]
+report-named n _ caller path = refl
 
 statement-named : (n : ℕ) (p : StatementPlace) (caller : Caller) (o : Option ℕ) (body : List ℕ) → names n (heard_as o (Ok (with_statement p caller body))) ≡ false
 statement-named n statement.Import caller o body = refl
-statement-named n statement.Match caller o body = refl
-statement-named n statement.Unmatched caller o body = refl
+statement-named n _ caller o body = refl
 
 dismissal-named : (n : ℕ) (caller : Caller) (o : Option Line) → names n (heard_as None (dismissing caller o)) ≡ false
 dismissal-named n caller None = refl
@@ -122,14 +111,11 @@ called-named n p None path body e = refl
 called-named n p (Some caller) path body e = at-named n p caller path body e
 
 placed-named : (n : ℕ) (p : Place) (m : Message) → place_of (path_of m.target) ≡ Some p → names n (heard_as (named_in (path_of m.target)) (placed p m)) ≡ is_the n (named_in (path_of m.target))
-placed-named n p m e = cases (bytes_eq m.method (method_of p))
-  where
-    path : List ℕ
-    path = path_of m.target
-
-    cases : (b : Bool) → names n (heard_as (named_in path) (cond b (called p (caller_of m.callers) path m.body) (Err BadMethod))) ≡ is_the n (named_in path)
-    cases true = called-named n p (caller_of m.callers) path m.body e
-    cases false = refl
+placed-named n p m e =
+    let path = path_of m.target in
+    elim (bytes_eq m.method (method_of p))
+    as (λ b. names n (heard_as (named_in path) (cond b (called p (caller_of m.callers) path m.body) (Err BadMethod))) ≡ is_the n (named_in path))
+    [ true ↦ called-named n p (caller_of m.callers) path m.body e | false ↦ refl ]
 
 routed-named : (n : ℕ) (o : Option Place) (m : Message) → place_of (path_of m.target) ≡ o → names n (heard_as (named_in (path_of m.target)) (routed o m)) ≡ is_the n (named_in (path_of m.target))
 routed-named n None m e = refl

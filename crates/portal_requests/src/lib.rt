@@ -1,7 +1,6 @@
 //! Turns a message into what it asks: the request given by its route, method, caller, path and body, or a refusal.
 #![tactic(auto)]
 
-mod asks;
 pub mod laws;
 mod request;
 mod routes;

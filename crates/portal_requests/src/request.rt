@@ -1,19 +1,32 @@
-// The request of a message: what its path names, and who sends it.
+// The request of a message: what its path names, who sends it, and what its body asks.
 
-ghost use Rattle.std.specs.Prelude.{◌≡◌, IfOk, Ok, drop};
+ghost use Rattle.std.specs.Prelude.{◌≡◌, ◌⊎◌, Err, IfErr, IfOk, None, Ok, Some, drop};
+ghost use Rattle.std.specs.Option.{option_copied};
+ghost use Rattle.serde_json.specs.View.{members_view, view};
+ghost use Rattle.trust_matter.specs.declared.ask.Ask.{Ask};
+ghost use Rattle.trust_matter.specs.declared.claim.SplitAsk.{SplitAsk};
+ghost use Rattle.ask_fields.specs.Fields.{Reads};
 ghost use Rattle.portal_requests.specs.Answers.{Answers};
-ghost use Rattle.portal_requests.specs.Asked.{entry_ask, matter_ask};
+ghost use Rattle.portal_requests.specs.Asked.{claiming_in, depositing_in, dropping_in, earning_in, entry_ask, matter_ask, opening_in};
+ghost use Rattle.portal_requests.specs.Asked.{proposing_in, seating_in, splitting_in};
+ghost use Rattle.portal_requests.specs.Bodies.{body_in, has_keys, is_key, is_object, optional_text_at, text_at, text_in, texts};
 ghost use Rattle.portal_requests.specs.Callers.{caller_of};
+ghost use Rattle.portal_requests.specs.Dismissals.{dismissing_in};
 ghost use Rattle.portal_requests.specs.Paths.{behind_slash, entry_part, named_in, up_to_slash};
 ghost use Rattle.portal_requests.specs.Requests.{of_matter, reported, request, with_statement};
 
-use crate::asks::{read_dismissal, read_entry_ask, read_matter_ask};
 use crate::routes::{EntryPlace, MatterPlace, Place, ReportPlace, Routes, StatementPlace, method};
+use ask_fields::{
+    ClaimTexts, PaymentTexts, read_claiming, read_depositing, read_dropping, read_earning,
+    read_opening, read_proposing, read_seating, read_split,
+};
 use portal_messages::{Message, path};
+use serde_json::{Map, Value};
+use statement_csv::line_of_texts;
 use std::alloc::{AllocError, Global};
-use trust_base::{Day, Field, MatterNo, OwnedBytes, PersonId, Refusal};
+use trust_base::{Day, EntryNo, Field, MatterNo, OwnedBytes, PersonId, Refusal};
 use trust_desk::Request;
-use trust_matter::Caller;
+use trust_matter::{Ask, Caller, SplitAsk};
 
 /// Returns the matter that a path names, whether or not it has a route: the path is `/matters/` and the six digits of
 /// the matter, and ends there or goes on with `/`.
@@ -78,6 +91,238 @@ fn read_caller(alloc: Global, values: &[OwnedBytes]) -> Result<Option<Caller>, A
     match PersonId::read(alloc, value)? {
         Some(person) => Ok(Some(Caller::Person(person))),
         None => Ok(None),
+    }
+}
+
+fn is_key(keys: &[&str], key: &str) -> bool
+    ensures { result ≡ is_key (texts keys.now) key.now }
+{
+    for known in keys {
+        if key == *known {
+            return true;
+        }
+    }
+    false
+}
+
+// Whether each key of the object is one of these.
+fn has_keys(keys: &[&str], members: &Map<String, Value>) -> bool
+    ensures { result ≡ has_keys (texts keys.now) (members_view members.now.entries) }
+{
+    for (key, _member) in members.iter() {
+        if !is_key(keys, key.as_str()) {
+            return false;
+        }
+    }
+    true
+}
+
+// Whether a value is an object with no other keys than these.
+fn is_object(keys: &[&str], value: &Value) -> bool
+    ensures { result ≡ is_object (texts keys.now) (view value.now) }
+{
+    match value.as_object() {
+        Some(members) => has_keys(keys, members),
+        None => false,
+    }
+}
+
+// Returns the bytes to parse; for an empty body, those of an empty object.
+fn object_text(body: &[u8]) -> &[u8]
+    ensures { result.now ≡ text_in body.now }
+{
+    if body.is_empty() { b"{}" } else { body }
+}
+
+// Parses the object in a body. An empty body counts as an object without keys. Refuses with `BadField` of the body if
+// it is no object or has another key than these, or `Memory` if memory runs out.
+fn read_body(alloc: Global, keys: &[&str], body: &[u8]) -> Result<Value, Refusal>
+    ensures ok { IfOk result (λ fields. body_in (texts keys.now) body.now ≡ Some (view fields)) }
+    ensures err { IfErr result (λ why. (why ≡ Refusal.Memory)
+        ⊎ (why ≡ Refusal.BadField Field.Body) × (body_in (texts keys.now) body.now ≡ None)) }
+{
+    let value = match Value::from_slice(alloc, object_text(body)) {
+        Ok(value) => value,
+        Err(why) => {
+            if why.is_memory() {
+                return Err(Refusal::Memory);
+            }
+            return Err(Refusal::BadField(Field::Body));
+        }
+    };
+    if is_object(keys, &value) {
+        Ok(value)
+    } else {
+        Err(Refusal::BadField(Field::Body))
+    }
+}
+
+// Returns the bytes of the text under a key; empty if there is no text.
+fn text<'a>(value: &'a Value, key: &str) -> &'a [u8]
+    ensures { result.now ≡ text_at key.now (view value.now) }
+{
+    match value.get(key).and_then(Value::as_str) {
+        Some(text) => text.as_bytes(),
+        None => &[],
+    }
+}
+
+// Like `text`, for a field that may be missing or null; both give `None`.
+fn optional_text<'a>(value: &'a Value, key: &str) -> Option<&'a [u8]>
+    ensures { option_copied result ≡ optional_text_at key.now (view value.now) }
+{
+    match value.get(key) {
+        None | Some(Value::Null) => None,
+        Some(_) => Some(text(value, key)),
+    }
+}
+
+fn read_opening_in(alloc: Global, body: &[u8]) -> Result<Ask, Refusal>
+    ensures { Reads (opening_in body.now) result }
+{
+    let fields = read_body(alloc, &["client", "lawyer"], body)?;
+    read_opening(alloc, text(&fields, "client"), text(&fields, "lawyer"))
+}
+
+fn read_seating_in(alloc: Global, body: &[u8]) -> Result<Ask, Refusal>
+    ensures { Reads (seating_in body.now) result }
+{
+    let fields = read_body(alloc, &["person", "role"], body)?;
+    read_seating(alloc, text(&fields, "person"), text(&fields, "role"))
+}
+
+fn read_dropping_in(alloc: Global, body: &[u8]) -> Result<Ask, Refusal>
+    ensures { Reads (dropping_in body.now) result }
+{
+    let fields = read_body(alloc, &["person"], body)?;
+    read_dropping(alloc, text(&fields, "person"))
+}
+
+// Returns what a place asks of a matter, with the fields of a body.
+fn read_matter_ask(alloc: Global, place: MatterPlace, body: &[u8]) -> Result<Ask, Refusal>
+    ensures { Reads (matter_ask place body.now) result }
+{
+    let bare = match place {
+        MatterPlace::Show => return Ok(Ask::Show),
+        MatterPlace::Open => return read_opening_in(alloc, body),
+        MatterPlace::AddSeat => return read_seating_in(alloc, body),
+        MatterPlace::DropSeat => return read_dropping_in(alloc, body),
+        MatterPlace::Accounting => return Ok(Ask::Accounting),
+        MatterPlace::Close => Ask::CloseMatter,
+        MatterPlace::Purge => Ask::Purge,
+    };
+    // Without fields.
+    read_body(alloc, &[], body)?;
+    Ok(bare)
+}
+
+fn read_depositing_in(alloc: Global, number: EntryNo, body: &[u8]) -> Result<Ask, Refusal>
+    ensures { Reads (depositing_in number body.now) result }
+{
+    let fields = read_body(alloc, &["amount", "source", "description"], body)?;
+    let (amount, source) = (text(&fields, "amount"), text(&fields, "source"));
+    read_depositing(alloc, number, amount, source, text(&fields, "description"))
+}
+
+fn read_proposing_in(alloc: Global, number: EntryNo, body: &[u8]) -> Result<Ask, Refusal>
+    ensures { Reads (proposing_in number body.now) result }
+{
+    let keys = ["amount", "from", "of", "payee", "purpose", "instrument"];
+    let fields = read_body(alloc, &keys, body)?;
+    let texts = PaymentTexts {
+        amount: text(&fields, "amount"),
+        from: text(&fields, "from"),
+        of: optional_text(&fields, "of"),
+        payee: text(&fields, "payee"),
+        purpose: text(&fields, "purpose"),
+        instrument: text(&fields, "instrument"),
+    };
+    read_proposing(alloc, number, &texts)
+}
+
+fn read_earning_in(alloc: Global, number: EntryNo, body: &[u8]) -> Result<Ask, Refusal>
+    ensures { Reads (earning_in number body.now) result }
+{
+    let fields = read_body(alloc, &["amount", "description"], body)?;
+    read_earning(
+        alloc,
+        number,
+        text(&fields, "amount"),
+        text(&fields, "description"),
+    )
+}
+
+fn read_claiming_in(alloc: Global, number: EntryNo, body: &[u8]) -> Result<Ask, Refusal>
+    ensures { Reads (claiming_in number body.now) result }
+{
+    let keys = ["amount", "on", "of", "claimant", "reason"];
+    let fields = read_body(alloc, &keys, body)?;
+    let texts = ClaimTexts {
+        amount: text(&fields, "amount"),
+        on: text(&fields, "on"),
+        of: optional_text(&fields, "of"),
+        claimant: optional_text(&fields, "claimant"),
+        reason: text(&fields, "reason"),
+    };
+    read_claiming(alloc, number, &texts)
+}
+
+// Returns what is the client's of a claim.
+fn read_split_in(alloc: Global, number: EntryNo, body: &[u8]) -> Result<SplitAsk, Refusal>
+    ensures ok { IfOk result (λ split. (way : SplitAsk → Ask) → splitting_in way number body.now ≡ Ok (way split)) }
+    ensures err { IfErr result (λ why. (way : SplitAsk → Ask) → Reads (splitting_in way number body.now) (Err why)) }
+{
+    let fields = read_body(alloc, &["to_client"], body)?;
+    read_split(number, text(&fields, "to_client"))
+}
+
+// Returns what a place asks of the entry that a text names, with the fields of a body.
+fn read_entry_ask(
+    alloc: Global,
+    place: EntryPlace,
+    entry: &[u8],
+    body: &[u8],
+) -> Result<Ask, Refusal>
+    ensures { Reads (entry_ask place entry.now body.now) result }
+{
+    let number = EntryNo::read(entry).ok_or(Refusal::BadField(Field::Entry))?;
+    let bare = match place {
+        EntryPlace::Show => return Ok(Ask::ShowEntry(number)),
+        EntryPlace::Deposit => return read_depositing_in(alloc, number, body),
+        EntryPlace::Propose => return read_proposing_in(alloc, number, body),
+        EntryPlace::Fee => return read_earning_in(alloc, number, body),
+        EntryPlace::Claim => return read_claiming_in(alloc, number, body),
+        EntryPlace::Offer => return Ok(Ask::Offer(read_split_in(alloc, number, body)?)),
+        EntryPlace::Accept => return Ok(Ask::Accept(read_split_in(alloc, number, body)?)),
+        EntryPlace::Award => return Ok(Ask::Award(read_split_in(alloc, number, body)?)),
+        EntryPlace::Cancel => Ask::CancelDeposit(number),
+        EntryPlace::Approve => Ask::Approve(number),
+        EntryPlace::Decline => Ask::Decline(number),
+        EntryPlace::Void => Ask::VoidPayment(number),
+    };
+    // Without fields.
+    read_body(alloc, &[], body)?;
+    Ok(bare)
+}
+
+// Returns the request to dismiss the line in a body. Refuses with `BadField` of the body if it has none, or `Memory`
+// if memory runs out.
+fn read_dismissal(alloc: Global, caller: Caller, body: &[u8]) -> Result<Request, Refusal>
+    ensures { Answers (dismissing_in caller body.now) result }
+{
+    let keys = ["date", "reference", "bank_ref", "amount", "text"];
+    let fields = read_body(alloc, &keys, body)?;
+    let line = line_of_texts(
+        alloc,
+        text(&fields, "date"),
+        text(&fields, "reference"),
+        text(&fields, "bank_ref"),
+        text(&fields, "amount"),
+        text(&fields, "text"),
+    )?;
+    match line {
+        Some(line) => Ok(Request::Dismiss { caller, line }),
+        None => Err(Refusal::BadField(Field::Body)),
     }
 }
 

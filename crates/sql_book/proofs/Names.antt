@@ -1,8 +1,7 @@
 -- The names that the proofs of this crate cite, passed on from one place. Declares nothing.
 pub use Rattle.firm_rows.specs.Firm.{Firm, after_edit}
-pub use Rattle.firm_rows.specs.FirmChange.{FirmChange, FitsFirm, OfBalance, OfFirm, OfMatter, Repeated, Unmatched, after, by_balance, by_firm_line, by_line}
+pub use Rattle.firm_rows.specs.FirmChange.{FirmChange, FitsFirm, OfBalance, OfFirm, OfMatter, Repeated, Unmatched, after}
 pub use Rattle.firm_rows.specs.FirmLines.{as_firm_line, balance_row}
-pub use Rattle.firm_rows.specs.declared.ledger.Verdict.{Verdict}
 pub use Rattle.sql_making.specs.Books.{AreNewBook, IsBook, IsNewBook, versions_in}
 pub use Rattle.sql_making.specs.Then.{IsMoved, IsOldBook, Stood}
 pub use Rattle.sql_rows.specs.Columns.{balance_columns, firm_line_columns}
@@ -26,6 +25,6 @@ pub use Rattle.std.proofs.Common.{Err, IsTrue, List, None, Ok, OnErr, OnOk, Resu
 pub use Rattle.trust_base.specs.declared.refusal.StoreFault.{StoreFault}
 pub use Rattle.trust_store.proofs.Writes.{fit_write, write_always, write_if}
 pub use Rattle.trust_store.specs.Crashes.{LeavesAlone}
-pub use Rattle.sql_book.specs.Books.{HeldBook, IsLasting, IsServing, IsStanding, MayLeave, at, firm_of}
+pub use Rattle.sql_book.specs.Books.{HeldBook, IsLasting, IsStanding, MayLeave, at, firm_of}
 pub use Rattle.sql_book.specs.Then.{StoodSound, firm_then}
 pub use Rattle.sql_book.specs.Writes.{FitsBook, IsBookWrite, IsBookWriteIf}

@@ -4,21 +4,7 @@ use Rattle.sql_tables.specs.declared.statements.Statement.TheVariants as stateme
 
 made_of_step : (s : Statement) (a b : Lists) → IsStep s a b → IsMade (step_of s) a b
 made_of_step (statement.Head h) a b is = is
-made_of_step (statement.Totals t) a b is = is
-made_of_step (statement.Closed c) a b is = is
-made_of_step (statement.Purged c) a b is = is
-made_of_step (statement.Seat s) a b is = is
-made_of_step (statement.SeatGone s) a b is = is
-made_of_step (statement.Entry e) a b is = is
-made_of_step (statement.Left e) a b is = is
-made_of_step (statement.Movement m) a b is = is
-made_of_step (statement.FirmLine f) a b is = is
-made_of_step (statement.Exception e) a b is = is
-made_of_step (statement.ExceptionGone e) a b is = is
-made_of_step (statement.Balance c) a b is = is
-made_of_step (statement.SeatsGone m) a b is = is
-made_of_step (statement.EntriesGone m) a b is = is
-made_of_step (statement.MovementsGone m) a b is = is
+made_of_step _ a b is = is
 
 -- lists that follow the statements are made by their steps
 pub made_of_steps : (script : List Statement) (a b : Lists) → AreSteps script a b → AreMade (map step_of script) a b

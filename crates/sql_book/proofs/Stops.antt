@@ -2,7 +2,7 @@
 use Rattle.sql_book.proofs.Names.{◌≡◌, inl, inr, map, length, sym, ap, subst, refl, ◌∙◌, arith, Schema, Trees, Ghosts, Database, IsDatabase, Held, state, Firm, LeavesAlone, Layout, Made, Moved, book_schema, lists_in, AreSound, firm_from, EmptyTablesStand, StandsSound, firm_in, no_lists, IsBook, IsNewBook, AreNewBook, IsOldBook, HeldBook, at, firm_of, IsStanding, IsLasting, MayLeave, firm_then, StoodSound}
 use Rattle.sql_tables.specs.Rows.{head_in, seat_in, entry_in, movement_in, firm_line_in, exception_in, balance_in}
 use Rattle.sql_making.proofs.NewBook.{is_book, new_book_stands}
-use Rattle.sql_making.proofs.Ends.{never_both}
+use Rattle.sql_schema.proofs.Apart.{never_both}
 use Rattle.sql_book.specs.Opening.{IsKeptBook, IsMovedBook, IsTaken}
 use Rattle.sql_book.specs.Stops.{IsOpenedOver, HoldsLeft, IsNext, HoldsNewBook, HoldsOldFirm, HoldsFirm, IsOfFirm, BooksAreTaken, StopsInMovingLeaveBooks}
 use Rattle.sql_book.proofs.OneSchema.{one_database}
@@ -12,8 +12,7 @@ use Rattle.sql_book.proofs.Moves.{moved_stands, moved_firm}
 pub one_layout : (l k : Layout) → book_schema l ≡ book_schema k → l ≡ k
 one_layout Made Made same = refl
 one_layout Moved Moved same = refl
-one_layout Made Moved same = absurd (omega (arith, ap (λ (s : Schema). length s.tables) same))
-one_layout Moved Made same = absurd (omega (arith, ap (λ (s : Schema). length s.tables) same))
+one_layout _ _ same = absurd (omega (arith, ap (λ (s : Schema). length s.tables) same))
 
 -- a connection sees the database whose trees were left
 sees : {T : Type 0} (h : Ghosts T) (trees : Trees) (conn : Held T) (db : Database) → IsOpenedOver h trees conn → trees ≡ db.trees → IsDatabase db → (state h conn).now ≡ db

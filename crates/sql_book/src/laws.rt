@@ -9,6 +9,7 @@ use sqlite::Alter;
 /// If a book stands for a sound firm and a run stops during any call, then opening the files again finds a book:
 /// `SqlBook::adopt` does not return `NotABook`. Its tables stand for the rows of a sound firm, among those that the
 /// call says a crash may leave: the rows before it or after it, and only those after it if the call was acknowledged.
+#[tactic(auto, using(crate::proofs::Stops::leaves_book))]
 pub fn stops_leave_books<S: Alter + Drop, T: Alter + Drop>()
     ensures { StopsLeaveBooks S.Store T.Store }
 {}

@@ -1,10 +1,11 @@
 -- What a statement of the batch that copies, empties or sets makes of one table. The schema is that of this version
 -- then.
-use Rattle.sql_making.proofs.Names.{◌≡◌, ◌≢◌, ℕ, ℤ, ◌<ℤ◌, true, false, not, List, [], ◌∷◌, ◌++◌, map, filter, slice_get, Option, Some, Ok, refl, sym, ap, ap₂, subst, subst₂, ◌∙◌, append-nil, AllByRecursion, IsPermutation-map, Null, Int, Row, Trees, rowid, put_row, Query, IsAnswer, Output, output, overlay, Table, Enforced, Program, Insert, Delete, Chosen, ids_of, cast_row, edit_of, taken_by, with_rowid, numbered, without_all, put_all, IsKeyedBy, map-map, map_same, at_end, last_table, matches_are, Database, understood, Written, Edited, stamped, count_of, rowids_for, Counts, Task, State, ExecutesIn, IsPlain, command_of, one_step, Moved, book_schema, no_lets, goes_last, row_put, rows_gone, idle, went, same_value, inserts, deletes, removed}
+use Rattle.sql_making.proofs.Names.{◌≡◌, ◌≢◌, ℕ, ℤ, ◌<ℤ◌, true, false, not, List, [], ◌∷◌, ◌++◌, map, filter, slice_get, Option, Some, Ok, refl, sym, ap, ap₂, subst, subst₂, ◌∙◌, append-nil, AllByRecursion, IsPermutation-map, Null, Int, Row, Trees, rowid, put_row, Query, IsAnswer, Output, output, overlay, Table, Enforced, Program, Insert, Delete, Chosen, ids_of, cast_row, edit_of, taken_by, with_rowid, numbered, without_all, put_all, IsKeyedBy, map-map, map_same, at_end, last_table, matches_are, Database, Written, Edited, stamped, count_of, rowids_for, Counts, Task, State, ExecutesIn, one_step, Moved, book_schema, no_lets, goes_last, row_put, rows_gone, idle, went, same_value, inserts, deletes, removed}
 use Rattle.std.specs.List.Sorted.{IsPermutation}
 use Rattle.std.proofs.lemmas.List.{append_assoc}
 use Rattle.sqlite_schema.specs.declared.command.Source.TheVariants as source
 use Rattle.sql_tables.specs.Picking.{picked}
+use Rattle.sql_tables.proofs.Calls.{IsCommand}
 use Rattle.sql_making.proofs.Creates.{runs_in_batch}
 
 -- the schema stays, and so do the rows of every other table
@@ -50,7 +51,7 @@ uncounts : (it : Task) (db next : Trees) (counter : Option Row) (top : ℤ) → 
 uncounts it db next counter top uncounted h = same_value (rw uncounted at h)
 
 module _ (at : ℕ) (table : Table) (place : slice_get (book_schema Moved).tables at ≡ Some table) (no_clock : stamped table [] ≡ []) (uncounted : table.is_counted ≡ false)
-    (q : Query) (part : List ℕ) (is : command_of (understood (book_schema Moved) part) ≡ Insert at (source.Query (record { lets = []; body = q }))) (plain : IsPlain (understood (book_schema Moved) part))
+    (q : Query) (part : List ℕ) (told : IsCommand (book_schema Moved) part (Insert at (source.Query (record { lets = []; body = q }))))
     (old new : State) (count : ℕ) (has : old.now.schema ≡ book_schema Moved) (h : ExecutesIn true part [] old new (Ok count)) where
   abbrev base : List Row
   base = old.now.trees table.tree
@@ -66,7 +67,7 @@ module _ (at : ℕ) (table : Table) (place : slice_get (book_schema Moved).table
 
   pub copies : Copies
   copies =
-      let w = runs_in_batch part old new (book_schema Moved) has (Insert at (source.Query (record { lets = []; body = q }))) is plain count h in
+      let w = runs_in_batch part old new (book_schema Moved) has (Insert at (source.Query (record { lets = []; body = q }))) told.is told.plain count h in
       let did = inserts old new (book_schema Moved) has at table place [] _ count _ w in
       let db = old.now.trees in
       let given = went did.1 in
@@ -101,18 +102,18 @@ none_left : {X : Type 0} (xs : List X) → filter (λ _. not true) xs ≡ []
 none_left [] = refl
 none_left (x ∷ xs) = none_left xs
 
-module _ (at : ℕ) (table : Table) (place : slice_get (book_schema Moved).tables at ≡ Some table) (no_terms : table.stamps.terms ≡ []) (no_formats : table.stamps.formats ≡ []) (part : List ℕ) (plain : IsPlain (understood (book_schema Moved) part))
-    (old new : State) (count : ℕ) (has : old.now.schema ≡ book_schema Moved) (h : ExecutesIn true part [] old new (Ok count)) where
+module _ (at : ℕ) (table : Table) (place : slice_get (book_schema Moved).tables at ≡ Some table) (no_terms : table.stamps.terms ≡ []) (no_formats : table.stamps.formats ≡ []) (part : List ℕ)
+    (told : IsCommand (book_schema Moved) part (Delete at (record { lets = []; body = picked table.tree [] }))) (old new : State) (count : ℕ) (has : old.now.schema ≡ book_schema Moved) (h : ExecutesIn true part [] old new (Ok count)) where
   pub record Empties : Type 0 where
     pub elsewhere_kept : IsElsewhere table.tree old.now new.now
     pub rows : List Row
     pub answer : IsAnswer (picked table.tree []) (overlay old.now.trees []) [] rows
     pub left : new.now.trees table.tree ≡ without_all (old.now.trees table.tree) (ids_of rows)
 
-  pub empties : command_of (understood (book_schema Moved) part) ≡ Delete at (record { lets = []; body = picked table.tree [] }) → Empties
-  empties is =
+  pub empties : Empties
+  empties =
       let q : Program = record { lets = []; body = picked table.tree [] } in
-      let w = runs_in_batch part old new (book_schema Moved) has (Delete at q) is plain count h in
+      let w = runs_in_batch part old new (book_schema Moved) has (Delete at q) told.is told.plain count h in
       let did = deletes old new (book_schema Moved) has at table place [] _ count q w in
       let gone = removed old.step_limit (book_schema Moved) table [] no_terms no_formats old.now.trees q did.0 (λ olds. idle Moved table.tree olds []) did.1 in
       record {

@@ -15,5 +15,4 @@ pub mod Tables
 pub mod Version
 pub mod Steps
 pub mod MovedWhole
-pub mod Ends
 mod Names

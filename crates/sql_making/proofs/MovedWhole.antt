@@ -1,5 +1,6 @@
 -- What the whole text makes of a database of version 1.
-use Rattle.sql_making.proofs.Names.{◌≡◌, ℕ, ℤ, true, List, [], ◌∷◌, map, length, Ok, refl, sym, ap, subst, ◌∙◌, AllByRecursion, Value, Int, Row, column, Ghosts, Trees, Schema, IsKeyedBy, map-map, Database, IsDatabase, ExecutesAllInside, Held, state, State, ExecutesIn, Moved, book_schema, version_now, Head, head_row, head_in, Seat, seat_row, seat_in, Entry, entry_row, entry_in, Holds, SeatsHold, EntriesHold, MovementsHold, FirmLinesHold, ExceptionsHold, BalancesHold, old_schema, version_then, move_text, version_set_part, after_entries_made, after_heads_emptied, old_head_row, old_head_in, Stood, numbered_versions, IsOldBook, SameRows, IsMoved}
+use Rattle.sql_making.proofs.Names.{◌≡◌, ℕ, ℤ, true, List, [], ◌∷◌, map, length, Ok, refl, sym, ap, subst, ◌∙◌, AllByRecursion, Value, Int, Row, column, Ghosts, Trees, Schema, IsKeyedBy, map-map, Database, IsDatabase, ExecutesAllInside, Held, state, State, ExecutesIn, Moved, book_schema, version_now, Head, head_row, head_in, Seat, seat_row, seat_in, Entry, entry_row, entry_in, SeatsHold, EntriesHold, MovementsHold, FirmLinesHold, ExceptionsHold, BalancesHold, old_schema, version_then, move_text, version_set_part, after_entries_made, after_heads_emptied, old_head_row, old_head_in, numbered_versions, IsOldBook, IsMoved}
+use Rattle.sql_tables.proofs.Others.{now_holds, now_read}
 use Rattle.sql_making.proofs.Parts.{IsFirst}
 use Rattle.sql_making.proofs.Whole.{Turns, turn}
 use Rattle.sql_making.proofs.MovedCreates.{Creates, HasCreated, creates}
@@ -51,29 +52,18 @@ module _ {S : Type 0} (g : Ghosts S) (new : Held S) where
       twelve_start : (db one two three : Trees) → AllByRecursion (λ t. one t.tree ≡ db t.tree) old_schema.tables → AllByRecursion (λ t. two t.tree ≡ one t.tree) stage.with_matter.tables
           → AllByRecursion (λ t. three t.tree ≡ two t.tree) stage.with_seat.tables → one 13 ≡ [] → two 14 ≡ [] → three 16 ≡ [] → twelve three ≡ start db
       twelve_start db one two three a b c x y z =
-          let book = c.0 ∙ b.0 ∙ a.0 in
-          let old_heads = c.1.0 ∙ b.1.0 ∙ a.1.0 in
-          let old_seats = c.1.1.0 ∙ b.1.1.0 ∙ a.1.1.0 in
-          let old_entries = c.1.1.1.0 ∙ b.1.1.1.0 ∙ a.1.1.1.0 in
-          let movements = c.1.1.1.1.0 ∙ b.1.1.1.1.0 ∙ a.1.1.1.1.0 in
-          let counts = c.1.1.1.1.1.0 ∙ b.1.1.1.1.1.0 ∙ a.1.1.1.1.1.0 in
-          let firm_lines = c.1.1.1.1.1.1.0 ∙ b.1.1.1.1.1.1.0 ∙ a.1.1.1.1.1.1.0 in
-          let exceptions = c.1.1.1.1.1.1.1.0 ∙ b.1.1.1.1.1.1.1.0 ∙ a.1.1.1.1.1.1.1.0 in
-          let balances = c.1.1.1.1.1.1.1.1.0 ∙ b.1.1.1.1.1.1.1.1.0 ∙ a.1.1.1.1.1.1.1.1.0 in
-          let heads = c.1.1.1.1.1.1.1.1.1.0 ∙ b.1.1.1.1.1.1.1.1.1.0 ∙ x in
-          let seats = c.1.1.1.1.1.1.1.1.1.1.0 ∙ y in
           λ i. record {
-            book = book i;
-            old_heads = old_heads i;
-            old_seats = old_seats i;
-            old_entries = old_entries i;
-            movements = movements i;
-            counts = counts i;
-            firm_lines = firm_lines i;
-            exceptions = exceptions i;
-            balances = balances i;
-            heads = heads i;
-            seats = seats i;
+            book = (c.0 ∙ b.0 ∙ a.0) i;
+            old_heads = (c.1.0 ∙ b.1.0 ∙ a.1.0) i;
+            old_seats = (c.1.1.0 ∙ b.1.1.0 ∙ a.1.1.0) i;
+            old_entries = (c.1.1.1.0 ∙ b.1.1.1.0 ∙ a.1.1.1.0) i;
+            movements = (c.1.1.1.1.0 ∙ b.1.1.1.1.0 ∙ a.1.1.1.1.0) i;
+            counts = (c.1.1.1.1.1.0 ∙ b.1.1.1.1.1.0 ∙ a.1.1.1.1.1.0) i;
+            firm_lines = (c.1.1.1.1.1.1.0 ∙ b.1.1.1.1.1.1.0 ∙ a.1.1.1.1.1.1.0) i;
+            exceptions = (c.1.1.1.1.1.1.1.0 ∙ b.1.1.1.1.1.1.1.0 ∙ a.1.1.1.1.1.1.1.0) i;
+            balances = (c.1.1.1.1.1.1.1.1.0 ∙ b.1.1.1.1.1.1.1.1.0 ∙ a.1.1.1.1.1.1.1.1.0) i;
+            heads = (c.1.1.1.1.1.1.1.1.1.0 ∙ b.1.1.1.1.1.1.1.1.1.0 ∙ x) i;
+            seats = (c.1.1.1.1.1.1.1.1.1.1.0 ∙ y) i;
             entries = z i;
           }
 
@@ -163,84 +153,63 @@ module _ {S : Type 0} (g : Ghosts S) (new : Held S) where
 
 -- ---- in the words of the book
 
-now_holds : {X : Type 0} (to_row : X → Row) (of_row : Row → X) (key : X → ℤ) (back : (x : X) → of_row (to_row x) ≡ x) (rows : List Row) (xs : List X) → rows ≡ map to_row xs → IsKeyedBy key xs
-    → Holds to_row of_row key rows
-now_holds to_row of_row key back rows xs is up =
-    let read : map of_row rows ≡ xs = ap (map of_row) is ∙ Rattle.sqlite_keyed.proofs.ListLemmas.map_back to_row of_row back xs in
-    record { stored = is ∙ ap (map to_row) (sym read); rise = subst (IsKeyedBy key) (sym read) up }
-
-module _ (db last : Database) (heads seats entries old_heads old_seats old_entries book : List Row) (schema : last.schema ≡ book_schema Moved)
-    (now : twelve last.trees ≡ record (twelve db.trees) { heads = heads; seats = seats; entries = entries; old_heads = old_heads; old_seats = old_seats; old_entries = old_entries; book = book }) where
-  abbrev field : (Twelve → List Row) → Type 0
-  field f = f (twelve last.trees) ≡ f (record (twelve db.trees) { heads = heads; seats = seats; entries = entries; old_heads = old_heads; old_seats = old_seats; old_entries = old_entries; book = book })
-
-  at : (f : Twelve → List Row) → field f
-  at f = ap f now
-
-  -- a head that was read from a row of version 1 is that of the row that was made of it
-  heads_of : heads ≡ map new_head_row (map old_head_in (db.trees 1)) → heads ≡ map head_row (map old_head_in (db.trees 1))
-  heads_of is = is ∙ map-map new_head_row old_head_in (db.trees 1) ∙ sym (map-map head_row old_head_in (db.trees 1))
-
-  pub same_rows : Stood db → map (λ (r : Row). column r 1) book ≡ Int version_now ∷ [] → heads ≡ map new_head_row (map old_head_in (db.trees 1)) → seats ≡ map seat_row (map seat_in (db.trees 2)) → entries ≡ map entry_row (map entry_in (db.trees 4))
-      → old_heads ≡ [] → old_seats ≡ [] → old_entries ≡ [] → SameRows db last
-  same_rows s version hs ss es no_hs no_ss no_es =
-      let new_heads = at (λ t. t.heads) ∙ heads_of hs in
-      let new_seats = at (λ t. t.seats) ∙ ss ∙ sym s.seats.stored in
-      let new_entries = at (λ t. t.entries) ∙ es ∙ sym s.entries.stored in
-      let movements = at (λ t. t.movements) in
-      let firm_lines = at (λ t. t.firm_lines) in
-      let exceptions = at (λ t. t.exceptions) in
-      let balances = at (λ t. t.balances) in
-      let heads_read : map head_in (last.trees 13) ≡ map old_head_in (db.trees 1) =
-      ap (map head_in) new_heads ∙ Rattle.sqlite_keyed.proofs.ListLemmas.map_back head_row head_in (λ _. refl) (map old_head_in (db.trees 1)) in
-      record {
-        stands = record {
-          schema = schema;
-          version = ap (map (λ (r : Row). column r 1)) (at (λ t. t.book)) ∙ version;
-          heads = now_holds head_row head_in (λ (x : Head). x.no) (λ _. refl) (last.trees 13) (map old_head_in (db.trees 1)) new_heads s.heads.rise;
-          seats = subst SeatsHold (sym new_seats) s.seats;
-          entries = subst EntriesHold (sym new_entries) s.entries;
-          movements = subst MovementsHold (sym movements) s.movements;
-          firm_lines = subst FirmLinesHold (sym firm_lines) s.firm_lines;
-          exceptions = subst ExceptionsHold (sym exceptions) s.exceptions;
-          balances = subst BalancesHold (sym balances) s.balances;
-        };
-        lists = λ i. record {
-          heads = heads_read i;
-          seats = map seat_in (new_seats i);
-          entries = map entry_in (new_entries i);
-          movements = map Rattle.sql_tables.specs.Rows.movement_in (movements i);
-          firm_lines = map Rattle.sql_tables.specs.Rows.firm_line_in (firm_lines i);
-          exceptions = map Rattle.sql_tables.specs.Rows.exception_in (exceptions i);
-          balances = map Rattle.sql_tables.specs.Rows.balance_in (balances i);
-        };
-        seats = new_seats;
-        entries = new_entries;
-        no_old_heads = at (λ t. t.old_heads) ∙ no_hs;
-        no_old_seats = at (λ t. t.old_seats) ∙ no_ss;
-        no_old_entries = at (λ t. t.old_entries) ∙ no_es;
-      }
+-- a head that was read from a row of version 1 is that of the row that was made of it
+heads_of : (rows : List Row) → map new_head_row (map old_head_in rows) ≡ map head_row (map old_head_in rows)
+heads_of rows = map-map new_head_row old_head_in rows ∙ sym (map-map head_row old_head_in rows)
 
 pub is_moved : {S : Type 0} (g : Ghosts S) (new old : Held S) → IsOldBook (state g old).now → ExecutesAllInside g 0 move_text old new (Ok tt) → IsMoved (state g old).now (state g new).now
 is_moved g new old book h =
     let m = moves g new old book.schema h in
-    let db = (state g old).now in
-    let version = m.version book.id (Int version_then) book.version in
+    let db = (state g old).now.trees in
+    let last = (state g new).now.trees in
+    let version = ap (λ (t : Twelve). map (λ (r : Row). column r 1) t.book) m.now ∙ m.version book.id (Int version_then) book.version in
+    let movements = ap (λ (t : Twelve). t.movements) m.now in
+    let firm_lines = ap (λ (t : Twelve). t.firm_lines) m.now in
+    let exceptions = ap (λ (t : Twelve). t.exceptions) m.now in
+    let balances = ap (λ (t : Twelve). t.balances) m.now in
     record {
-      book = record { schema = m.schema; version = ap (λ (t : Twelve). map (λ (r : Row). column r 1) t.book) m.now ∙ version };
+      book = record { schema = m.schema; version = version };
       listed = m.listed;
       keeps = record {
-        movements = ap (λ (t : Twelve). t.movements) m.now;
-        firm_lines = ap (λ (t : Twelve). t.firm_lines) m.now;
-        exceptions = ap (λ (t : Twelve). t.exceptions) m.now;
-        balances = ap (λ (t : Twelve). t.balances) m.now;
+        movements = movements;
+        firm_lines = firm_lines;
+        exceptions = exceptions;
+        balances = balances;
         counts = ap (λ (t : Twelve). t.counts) m.now;
       };
       same = λ s.
-          let hs = map old_head_in (db.trees 1) in
-          let ss = map seat_in (db.trees 2) in
-          let es = map entry_in (db.trees 4) in
-          same_rows db (state g new).now m.heads m.seats m.entries m.old_heads m.old_seats m.old_entries m.book m.schema m.now s version
-          (m.heads_are hs s.heads.stored s.heads.rise) (m.seats_are ss s.seats.stored s.seats.rise) (m.entries_are es s.entries.stored s.entries.rise)
-          (m.no_old_heads hs s.heads.stored s.heads.rise) (m.no_old_seats ss s.seats.stored s.seats.rise) (m.no_old_entries es s.entries.stored s.entries.rise);
+          let hs = map old_head_in (db 1) in
+          let ss = map seat_in (db 2) in
+          let es = map entry_in (db 4) in
+          let heads : last 13 ≡ map head_row hs = ap (λ (t : Twelve). t.heads) m.now ∙ m.heads_are hs s.heads.stored s.heads.rise ∙ heads_of (db 1) in
+          let seats : last 14 ≡ db 2 = ap (λ (t : Twelve). t.seats) m.now ∙ m.seats_are ss s.seats.stored s.seats.rise ∙ sym s.seats.stored in
+          let entries : last 16 ≡ db 4 = ap (λ (t : Twelve). t.entries) m.now ∙ m.entries_are es s.entries.stored s.entries.rise ∙ sym s.entries.stored in
+          let heads_read : map head_in (last 13) ≡ hs = now_read head_in (λ _. refl) heads in
+          record {
+            stands = record {
+              schema = m.schema;
+              version = version;
+              heads = now_holds (λ _. refl) hs heads s.heads.rise;
+              seats = subst SeatsHold (sym seats) s.seats;
+              entries = subst EntriesHold (sym entries) s.entries;
+              movements = subst MovementsHold (sym movements) s.movements;
+              firm_lines = subst FirmLinesHold (sym firm_lines) s.firm_lines;
+              exceptions = subst ExceptionsHold (sym exceptions) s.exceptions;
+              balances = subst BalancesHold (sym balances) s.balances;
+            };
+            lists = λ i. record {
+              heads = heads_read i;
+              seats = map seat_in (seats i);
+              entries = map entry_in (entries i);
+              movements = map Rattle.sql_tables.specs.Rows.movement_in (movements i);
+              firm_lines = map Rattle.sql_tables.specs.Rows.firm_line_in (firm_lines i);
+              exceptions = map Rattle.sql_tables.specs.Rows.exception_in (exceptions i);
+              balances = map Rattle.sql_tables.specs.Rows.balance_in (balances i);
+            };
+            seats = seats;
+            entries = entries;
+            no_old_heads = ap (λ (t : Twelve). t.old_heads) m.now ∙ m.no_old_heads hs s.heads.stored s.heads.rise;
+            no_old_seats = ap (λ (t : Twelve). t.old_seats) m.now ∙ m.no_old_seats ss s.seats.stored s.seats.rise;
+            no_old_entries = ap (λ (t : Twelve). t.old_entries) m.now ∙ m.no_old_entries es s.entries.stored s.entries.rise;
+          };
     }

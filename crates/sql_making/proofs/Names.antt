@@ -5,9 +5,9 @@ pub use Rattle.sql_schema.specs.Schema.{book_schema, book_table, entry_place, en
 pub use Rattle.sql_schema.specs.declared.layout.Layout.{Layout}
 pub use Rattle.sql_schema.specs.declared.layout.Layout.TheVariants.{Made, Moved}
 pub use Rattle.sql_tables.proofs.Calls.{fails_kept, kept_either, kept_unchanged, no_lets, shown_unchanged, when_shown}
-pub use Rattle.sql_tables.proofs.Casts.{cast_int, cast_kept, cast_null, goes_last}
+pub use Rattle.sql_tables.proofs.Casts.{cast_int, cast_null, goes_last}
 pub use Rattle.sql_tables.proofs.Kept.{all_kept, row_put, rows_gone}
-pub use Rattle.sql_tables.proofs.Tables.{idle}
+pub use Rattle.sql_tables.proofs.KindLemmas.{idle}
 pub use Rattle.sql_tables.proofs.Together.{ok_then, when_err, when_ok}
 pub use Rattle.sql_tables.proofs.Writes.{deletes, inserts, removed, same_value, updated, updates, went}
 pub use Rattle.sql_tables.specs.Reading.{IsKept, IsSelect}
@@ -41,7 +41,7 @@ pub use Rattle.sqlite_schema.specs.declared.schema.Keys.TheVariants.{Enforced}
 pub use Rattle.sqlite_schema.specs.declared.schema.Schema.{Schema}
 pub use Rattle.sqlite_schema.specs.declared.schema.Table.{Table}
 pub use Rattle.sqlite_sql.specs.Program.{overlay}
-pub use Rattle.sqlite_sql.specs.Query.{IsAnswer, Output, Query, end, inner, output}
+pub use Rattle.sqlite_sql.specs.Query.{IsAnswer, Output, Query, output}
 pub use Rattle.sqlite_sql.specs.Term.{col, lit}
 unfoldable pub use Rattle.sqlite_tied.specs.Compute.{everything}
 pub use Rattle.sqlite_trees.specs.Tree.{Trees, has_rowid, put_row, rowid, without_rowid}
@@ -51,10 +51,10 @@ pub use Rattle.sqlite_value.proofs.OrderLemmas.{value_cmp-Int}
 pub use Rattle.sqlite_value.specs.Order.{Row, column}
 pub use Rattle.sqlite_value.specs.declared.value.Value.{Value}
 pub use Rattle.sqlite_value.specs.declared.value.Value.TheVariants.{Int, Null}
-pub use Rattle.std.proofs.Common.{Bool, Err, IfErr, IfOk, IsPermutation, IsSome, IsTrue, List, MatchBool, None, Ok, OnErr, OnOk, Option, Result, Some, [], ap, append-nil, ap₂, arith, codes, drop, false, filter, get_or, inl, inr, int_eq, length, map, map-id, negsuc, not, of_z, pos, refl, rules, slice_get, subst, subst₂, suc, sym, to_z, true, w64, zero, ℕ, ℤ, ◌++◌, ◌<ℤ◌, ◌<◌, ◌∙◌, ◌∷◌, ◌≡◌, ◌≢◌, ◌≤◌, ◌⊎◌}
+pub use Rattle.std.proofs.Common.{Bool, Err, IfErr, IfOk, IsPermutation, IsSome, IsTrue, List, MatchBool, None, Ok, OnErr, OnOk, Option, Result, Some, [], ap, append-nil, ap₂, arith, codes, drop, false, filter, get_or, inl, inr, int_eq, length, map, map-id, not, of_z, pos, refl, rules, slice_get, subst, subst₂, suc, sym, to_z, true, w64, zero, ℕ, ℤ, ◌++◌, ◌<ℤ◌, ◌<◌, ◌∙◌, ◌∷◌, ◌≡◌, ◌≢◌, ◌≤◌, ◌⊎◌}
 pub use Rattle.std.proofs.lemmas.List.Concat.{flat_map_single}
 pub use Rattle.std.proofs.lemmas.List.Sorted.{IsPermutation-map, IsPermutation-sym}
 pub use Rattle.std.specs.List.{AllByRecursion}
 pub use Rattle.sql_making.specs.Books.{HasFailed, IsBlank, IsBook, IsNewBook, no_schema, version_text, versions_in}
 pub use Rattle.sql_making.specs.Text.{after_entries_made, after_heads_emptied, entries_copied_part, entries_emptied_part, heads_copied_part, heads_emptied_part, move_text, seats_copied_part, seats_emptied_part, version_set_part}
-pub use Rattle.sql_making.specs.Then.{HasVersions, IsMoved, IsOldBook, SameRows, Stood, numbered_versions, old_head_in, old_head_row}
+pub use Rattle.sql_making.specs.Then.{HasVersions, IsMoved, IsOldBook, numbered_versions, old_head_in, old_head_row}

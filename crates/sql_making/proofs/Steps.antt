@@ -1,21 +1,13 @@
 -- What each statement that copies or empties makes of its table.
-use Rattle.sql_making.proofs.Names.{◌≡◌, ℕ, ℤ, pos, true, List, [], ◌∷◌, map, Ok, refl, sym, ap, ap₂, ◌∙◌, map-id, Null, Row, value_cmp-Int, Trees, IsAnswer, overlay, cast_row, IsKeyedBy, at_end, last_table, answer_by_keys, State, ExecutesIn, Moved, book_schema, matter_place, matter_table, seat_place, seat_table, entry_place, entry_table, old_matter_table, old_seat_table, old_entry_table, Head, head_row, head_shown, Seat, seat_row, seat_values, Entry, entry_row, entry_values, no_lets, cast_int, cast_kept, all_kept, heads_copied_part, seats_copied_part, entries_copied_part, heads_emptied_part, seats_emptied_part, entries_emptied_part, old_head_row}
+use Rattle.sql_making.proofs.Names.{Int, ◌≡◌, ℕ, ℤ, pos, true, List, [], ◌∷◌, map, Ok, refl, sym, ap, ◌∙◌, map-id, Null, Row, value_cmp-Int, Trees, IsAnswer, overlay, IsKeyedBy, at_end, last_table, answer_by_keys, State, ExecutesIn, Moved, book_schema, matter_place, matter_table, seat_place, seat_table, entry_place, entry_table, old_matter_table, old_seat_table, old_entry_table, Head, head_row, head_shown, Seat, seat_row, seat_values, Entry, entry_row, entry_values, no_lets, all_kept, heads_copied_part, seats_copied_part, entries_copied_part, heads_emptied_part, seats_emptied_part, entries_emptied_part, old_head_row}
 use Rattle.sqlite_typed.proofs.TestLemmas.{last_key}
-use Rattle.sql_making.proofs.Means.{heads_copied_query, heads_copied_is, heads_copied_plain, seats_copied_query, seats_copied_is, seats_copied_plain, entries_copied_query, entries_copied_is, entries_copied_plain, heads_emptied_is, heads_emptied_plain, seats_emptied_is, seats_emptied_plain, entries_emptied_is, entries_emptied_plain}
+use Rattle.sql_tables.proofs.Casts.{row_kept}
+use Rattle.sql_making.proofs.Means.{heads_copied_query, heads_copied_means, seats_copied_query, seats_copied_means, entries_copied_query, entries_copied_means, heads_emptied_means, seats_emptied_means, entries_emptied_means}
 use Rattle.sql_making.proofs.Changes.{IsElsewhere, copies, filled, empties, emptied}
 
 -- a head with the column that was added
 abbrev pub new_head_row : Head → Row
 new_head_row h = head_row (record h { purged = pos 0 })
-
-head_kept : (h : Head) → cast_row (matter_table Moved) (new_head_row h) ≡ new_head_row h
-head_kept h = ap₂ ◌∷◌ (cast_int h.no) (cast_kept (matter_table Moved).columns (Null ∷ head_shown (record h { purged = pos 0 })) refl)
-
-seat_kept : (s : Seat) → cast_row (seat_table Moved) (seat_row s) ≡ seat_row s
-seat_kept s = ap₂ ◌∷◌ (cast_int s.id) (cast_kept (seat_table Moved).columns (seat_values s) refl)
-
-entry_kept : (e : Entry) → cast_row (entry_table Moved) (entry_row e) ≡ entry_row e
-entry_kept e = ap₂ ◌∷◌ (cast_int e.id) (cast_kept (entry_table Moved).columns (entry_values e) refl)
 
 heads_shown : (db : Trees) (xs : List Head) → db 1 ≡ map old_head_row xs → IsKeyedBy (λ (x : Head). x.no) xs → (rows : List Row) → IsAnswer heads_copied_query (overlay db []) [] rows → rows ≡ map new_head_row xs
 heads_shown db xs stored rise rows answer =
@@ -46,42 +38,42 @@ Clears {X} key to_row tree db next = (xs : List X) → db tree ≡ map to_row xs
 module _ (old new : State) (count : ℕ) (has : old.now.schema ≡ book_schema Moved) where
   pub copies_heads : ExecutesIn true heads_copied_part [] old new (Ok count) → IsElsewhere 13 old.now new.now × Fills (λ (x : Head). x.no) old_head_row new_head_row 1 13 old.now.trees new.now.trees
   copies_heads h =
-      let it = copies (matter_place Moved) (matter_table Moved) refl refl refl heads_copied_query heads_copied_part heads_copied_is heads_copied_plain old new count has h in (
+      let it = copies (matter_place Moved) (matter_table Moved) refl refl refl heads_copied_query heads_copied_part heads_copied_means old new count has h in (
         it.elsewhere_kept,
         λ xs stored rise empty.
-            filled (matter_place Moved) (matter_table Moved) refl refl refl heads_copied_query heads_copied_part heads_copied_is heads_copied_plain old new count has h (λ (x : Head). x.no) new_head_row (λ x. refl) head_kept xs it
+            filled (matter_place Moved) (matter_table Moved) refl refl refl heads_copied_query heads_copied_part heads_copied_means old new count has h (λ (x : Head). x.no) new_head_row (λ x. refl) (λ h. row_kept (matter_table Moved) (Int h.no) (Null ∷ head_shown (record h { purged = pos 0 })) refl refl) xs it
             empty (heads_shown old.now.trees xs stored rise it.rows it.answer) rise,
       )
 
   pub copies_seats : ExecutesIn true seats_copied_part [] old new (Ok count) → IsElsewhere 14 old.now new.now × Fills (λ (x : Seat). x.id) seat_row seat_row 2 14 old.now.trees new.now.trees
   copies_seats h =
-      let it = copies (seat_place Moved) (seat_table Moved) refl refl refl seats_copied_query seats_copied_part seats_copied_is seats_copied_plain old new count has h in (
+      let it = copies (seat_place Moved) (seat_table Moved) refl refl refl seats_copied_query seats_copied_part seats_copied_means old new count has h in (
         it.elsewhere_kept,
         λ xs stored rise empty.
-            filled (seat_place Moved) (seat_table Moved) refl refl refl seats_copied_query seats_copied_part seats_copied_is seats_copied_plain old new count has h (λ (x : Seat). x.id) seat_row (λ x. refl) seat_kept xs it
+            filled (seat_place Moved) (seat_table Moved) refl refl refl seats_copied_query seats_copied_part seats_copied_means old new count has h (λ (x : Seat). x.id) seat_row (λ x. refl) (λ x. row_kept (seat_table Moved) (Int x.id) (seat_values x) refl refl) xs it
             empty (seats_shown old.now.trees xs stored rise it.rows it.answer) rise,
       )
 
   pub copies_entries : ExecutesIn true entries_copied_part [] old new (Ok count) → IsElsewhere 16 old.now new.now × Fills (λ (x : Entry). x.id) entry_row entry_row 4 16 old.now.trees new.now.trees
   copies_entries h =
-      let it = copies (entry_place Moved) (entry_table Moved) refl refl refl entries_copied_query entries_copied_part entries_copied_is entries_copied_plain old new count has h in (
+      let it = copies (entry_place Moved) (entry_table Moved) refl refl refl entries_copied_query entries_copied_part entries_copied_means old new count has h in (
         it.elsewhere_kept,
         λ xs stored rise empty.
-            filled (entry_place Moved) (entry_table Moved) refl refl refl entries_copied_query entries_copied_part entries_copied_is entries_copied_plain old new count has h (λ (x : Entry). x.id) entry_row (λ x. refl) entry_kept xs it
+            filled (entry_place Moved) (entry_table Moved) refl refl refl entries_copied_query entries_copied_part entries_copied_means old new count has h (λ (x : Entry). x.id) entry_row (λ x. refl) (λ x. row_kept (entry_table Moved) (Int x.id) (entry_values x) refl refl) xs it
             empty (entries_shown old.now.trees xs stored rise it.rows it.answer) rise,
       )
 
   pub empties_entries : ExecutesIn true entries_emptied_part [] old new (Ok count) → IsElsewhere 4 old.now new.now × Clears (λ (x : Entry). x.id) entry_row 4 old.now.trees new.now.trees
   empties_entries h =
-      let it = empties 3 old_entry_table refl refl refl entries_emptied_part entries_emptied_plain old new count has h entries_emptied_is in
-      (it.elsewhere_kept, λ xs stored rise. emptied 3 old_entry_table refl refl refl entries_emptied_part entries_emptied_plain old new count has h (λ (x : Entry). x.id) entry_row (λ x. refl) xs rise stored it)
+      let it = empties 3 old_entry_table refl refl refl entries_emptied_part entries_emptied_means old new count has h in
+      (it.elsewhere_kept, λ xs stored rise. emptied 3 old_entry_table refl refl refl entries_emptied_part entries_emptied_means old new count has h (λ (x : Entry). x.id) entry_row (λ x. refl) xs rise stored it)
 
   pub empties_seats : ExecutesIn true seats_emptied_part [] old new (Ok count) → IsElsewhere 2 old.now new.now × Clears (λ (x : Seat). x.id) seat_row 2 old.now.trees new.now.trees
   empties_seats h =
-      let it = empties 2 old_seat_table refl refl refl seats_emptied_part seats_emptied_plain old new count has h seats_emptied_is in
-      (it.elsewhere_kept, λ xs stored rise. emptied 2 old_seat_table refl refl refl seats_emptied_part seats_emptied_plain old new count has h (λ (x : Seat). x.id) seat_row (λ x. refl) xs rise stored it)
+      let it = empties 2 old_seat_table refl refl refl seats_emptied_part seats_emptied_means old new count has h in
+      (it.elsewhere_kept, λ xs stored rise. emptied 2 old_seat_table refl refl refl seats_emptied_part seats_emptied_means old new count has h (λ (x : Seat). x.id) seat_row (λ x. refl) xs rise stored it)
 
   pub empties_heads : ExecutesIn true heads_emptied_part [] old new (Ok count) → IsElsewhere 1 old.now new.now × Clears (λ (x : Head). x.no) old_head_row 1 old.now.trees new.now.trees
   empties_heads h =
-      let it = empties 1 old_matter_table refl refl refl heads_emptied_part heads_emptied_plain old new count has h heads_emptied_is in
-      (it.elsewhere_kept, λ xs stored rise. emptied 1 old_matter_table refl refl refl heads_emptied_part heads_emptied_plain old new count has h (λ (x : Head). x.no) old_head_row (λ x. refl) xs rise stored it)
+      let it = empties 1 old_matter_table refl refl refl heads_emptied_part heads_emptied_means old new count has h in
+      (it.elsewhere_kept, λ xs stored rise. emptied 1 old_matter_table refl refl refl heads_emptied_part heads_emptied_means old new count has h (λ (x : Head). x.no) old_head_row (λ x. refl) xs rise stored it)

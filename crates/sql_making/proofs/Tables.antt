@@ -1,10 +1,9 @@
 -- The rows of all tables of a database that rows were moved in. Written by tools/moving-tables.
-use Rattle.std.proofs.Common.{◌≡◌, ◌≢◌, inl, inr, ℕ, ◌==◌, true, false, List, cond, ap, arith}
-use Rattle.std.proofs.lemmas.Bool.{cases_Bool}
-use Rattle.std.proofs.lemmas.Bool.Decides.{nat_tests}
+use Rattle.std.proofs.Common.{◌≡◌, ℕ, List}
 use Rattle.sqlite_value.specs.Order.{Row}
 use Rattle.sqlite_trees.specs.Tree.{Trees}
 use Rattle.sqlite.specs.Effect.{Database}
+use Rattle.sql_tables.proofs.Others.{with_rows, one_kept}
 use Rattle.sql_making.proofs.Changes.{IsElsewhere}
 
 pub record Twelve : Type 0 where
@@ -37,34 +36,18 @@ twelve db = record {
   entries = db 16;
 }
 
--- the tables with the rows of one of them changed
-abbrev with_rows : Trees → ℕ → List Row → Trees
-with_rows db tree rows t = cond (t == tree) rows (db t)
-
-same_table : (t tree : ℕ) → (t == tree) ≡ true → t ≡ tree
-same_table t tree is = grind (arith, nat_tests)
-
-other_table : (t tree : ℕ) → (t == tree) ≡ false → t ≢ tree
-other_table t tree is = grind (arith, nat_tests)
-
-kept : (t tree : ℕ) (db next : Trees) → (t ≢ tree → next t ≡ db t) → next t ≡ with_rows db tree (next tree) t
-kept t tree db next same = elim (cases_Bool (t == tree)) [
-  | inl b ↦ rw b (ap next (same_table t tree b))
-  | inr b ↦ rw b (same (other_table t tree b))
-]
-
 pub others_kept : (tree : ℕ) (old new : Database) → IsElsewhere tree old new → twelve new.trees ≡ twelve (with_rows old.trees tree (new.trees tree))
 others_kept tree old new it = λ i. record {
-  book = kept 0 tree old.trees new.trees it.others.0 i;
-  old_heads = kept 1 tree old.trees new.trees it.others.1.0 i;
-  old_seats = kept 2 tree old.trees new.trees it.others.1.1.0 i;
-  old_entries = kept 4 tree old.trees new.trees it.others.1.1.1.0 i;
-  movements = kept 6 tree old.trees new.trees it.others.1.1.1.1.0 i;
-  counts = kept 7 tree old.trees new.trees it.others.1.1.1.1.1.0 i;
-  firm_lines = kept 8 tree old.trees new.trees it.others.1.1.1.1.1.1.0 i;
-  exceptions = kept 9 tree old.trees new.trees it.others.1.1.1.1.1.1.1.0 i;
-  balances = kept 11 tree old.trees new.trees it.others.1.1.1.1.1.1.1.1.0 i;
-  heads = kept 13 tree old.trees new.trees it.others.1.1.1.1.1.1.1.1.1.0 i;
-  seats = kept 14 tree old.trees new.trees it.others.1.1.1.1.1.1.1.1.1.1.0 i;
-  entries = kept 16 tree old.trees new.trees it.others.1.1.1.1.1.1.1.1.1.1.1.0 i;
+  book = one_kept 0 tree old.trees new.trees it.others.0 i;
+  old_heads = one_kept 1 tree old.trees new.trees it.others.1.0 i;
+  old_seats = one_kept 2 tree old.trees new.trees it.others.1.1.0 i;
+  old_entries = one_kept 4 tree old.trees new.trees it.others.1.1.1.0 i;
+  movements = one_kept 6 tree old.trees new.trees it.others.1.1.1.1.0 i;
+  counts = one_kept 7 tree old.trees new.trees it.others.1.1.1.1.1.0 i;
+  firm_lines = one_kept 8 tree old.trees new.trees it.others.1.1.1.1.1.1.0 i;
+  exceptions = one_kept 9 tree old.trees new.trees it.others.1.1.1.1.1.1.1.0 i;
+  balances = one_kept 11 tree old.trees new.trees it.others.1.1.1.1.1.1.1.1.0 i;
+  heads = one_kept 13 tree old.trees new.trees it.others.1.1.1.1.1.1.1.1.1.0 i;
+  seats = one_kept 14 tree old.trees new.trees it.others.1.1.1.1.1.1.1.1.1.1.0 i;
+  entries = one_kept 16 tree old.trees new.trees it.others.1.1.1.1.1.1.1.1.1.1.1.0 i;
 }

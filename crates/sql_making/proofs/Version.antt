@@ -1,22 +1,10 @@
 -- What UPDATE makes of the version.
-use Rattle.sql_making.proofs.Names.{◌≡◌, ℕ, ℤ, true, List, [], ◌∷◌, map, Ok, refl, sym, ap, subst, ◌∙◌, arith, int_eq, IsPermutation, flat_map_single, IsPermutation-map, Value, Null, Int, Row, column, value_cmp-Int, Trees, has_rowid, without_rowid, Output, output, IsAnswer, overlay, Program, Given, ids_of, edit_of, edited, map-map, Database, IsDatabase, State, ExecutesIn, one_permutation, Moved, book_schema, book_table, version_now, cast_int, updates, updated, versions_in, version_set_part, numbered_versions, idle}
+use Rattle.sql_making.proofs.Names.{col, lit, ◌≡◌, ℕ, ℤ, true, List, [], ◌∷◌, map, Ok, refl, ap, subst, ◌∙◌, arith, int_eq, IsPermutation, Value, Null, Int, Row, column, value_cmp-Int, Trees, has_rowid, without_rowid, Program, Given, ids_of, edit_of, edited, Database, IsDatabase, State, ExecutesIn, one_permutation, Moved, book_schema, book_table, version_now, cast_int, updates, updated, versions_in, version_set_part, numbered_versions, idle}
 use Rattle.std.proofs.lemmas.Int.{ints}
 use Rattle.sql_making.proofs.Creates.{runs_in_batch}
-use Rattle.sql_making.proofs.Means.{version_set_query, version_set_is, version_set_plain}
+use Rattle.sql_making.proofs.Means.{version_set_query, version_set_means}
 use Rattle.sql_making.proofs.Changes.{IsElsewhere, elsewhere}
-
--- what the UPDATE shows of a row: its number, and the row in its place
-shown : Row → Row
-shown r = column r 0 ∷ column r 0 ∷ Int version_now ∷ []
-
-answered : (db : Trees) (rows : List Row) → IsAnswer version_set_query (overlay db []) [] rows → IsPermutation (map (λ (r : Row). column r 0 ∷ column r 0 ∷ Int version_now ∷ []) (db 0)) rows
-answered db rows a =
-    let q = version_set_query in
-    let env = λ (r : Row). [] ∷ r ∷ [] in
-    let staged : a.staged ≡ map env (db 0) = a.grouped ∙ flat_map_single env (db 0) in
-    let kept : a.kept ≡ map (λ r. output q (env r)) (db 0) = a.distinct ∙ ap (map (output q)) staged ∙ map-map (output q) env (db 0) in
-    let same = IsPermutation-map (λ (o : Output). o.1) _ a.ordered (subst (λ k. IsPermutation k a.ordered) kept a.same) in
-    subst (IsPermutation _) (sym a.shown) (subst (λ l. IsPermutation l (map (λ (o : Output). o.1) a.ordered)) (map-map (λ (o : Output). o.1) (λ r. output q (env r)) (db 0)) same)
+use Rattle.sql_making.proofs.VersionRead.{answered}
 
 -- one row, with what is seen of it
 one_row : (rows : List Row) (id v : Value) → map (λ (r : Row). column r 0 ∷ column r 1 ∷ []) rows ≡ (id ∷ v ∷ []) ∷ [] → (r : Row) × (rows ≡ r ∷ []) × (column r 0 ≡ id)
@@ -42,13 +30,13 @@ pub sets_version : (old new : State) (count : ℕ) → old.now.schema ≡ book_s
 sets_version old new count has h =
     let q : Program = record { lets = []; body = version_set_query } in
     let db = old.now.trees in
-    let w = runs_in_batch version_set_part old new (book_schema Moved) has _ version_set_is version_set_plain count h in
+    let w = runs_in_batch version_set_part old new (book_schema Moved) has _ version_set_means.is version_set_means.plain count h in
     let did = updates old new (book_schema Moved) has 0 (book_table Moved) refl [] _ count q w in
     let set = updated old.step_limit (book_schema Moved) (book_table Moved) [] refl refl db q did.0 (λ rows answers olds. idle Moved 0 olds (edit_of db (book_table Moved) (ids_of rows) Given 1 rows).news) did.1 in (
       elsewhere 0 old.now new.now did.0.trees did.2 set.2.tables,
       λ id v told.
           let r = one_row (db 0) (Int id) v told in
-          let same = answered db set.0 (set.1.answer Null) in
+          let same = answered (col 1 0 ∷ lit (Int version_now) ∷ []) [] db set.0 (set.1.answer Null) in
           let rows : set.0 ≡ (Int id ∷ Int id ∷ Int version_now ∷ []) ∷ [] = one_permutation _ set.0 (subst (λ l. IsPermutation l set.0)
           (ap (map (λ (r : Row). column r 0 ∷ column r 0 ∷ Int version_now ∷ [])) r.1 ∙ ap (λ c. (c ∷ c ∷ Int version_now ∷ []) ∷ []) r.2) same) in
           ap (λ (d : Database). map (λ (r : Row). column r 1) (d.trees 0)) did.2 ∙ ap (map (λ (r : Row). column r 1)) set.2.rows ∙ put_version db id r.0 r.1 r.2 set.0 rows,
@@ -56,4 +44,4 @@ sets_version old new count has h =
 
 -- and the database lists what it holds
 pub sets_listed : (old new : State) (count : ℕ) → old.now.schema ≡ book_schema Moved → ExecutesIn true version_set_part [] old new (Ok count) → IsDatabase new.now
-sets_listed old new count has h = let w = runs_in_batch version_set_part old new (book_schema Moved) has _ version_set_is version_set_plain count h in w.sound
+sets_listed old new count has h = let w = runs_in_batch version_set_part old new (book_schema Moved) has _ version_set_means.is version_set_means.plain count h in w.sound

@@ -1,6 +1,9 @@
 -- What the text that reads the versions answers under the schema of a book of either version, and why it fails.
-use Rattle.sql_making.proofs.Names.{◌≡◌, ◌⊎◌, inl, inr, ℕ, ◌<◌, ◌≤◌, ℤ, pos, negsuc, true, false, List, [], ◌∷◌, length, get_or, None, Option, Result, Ok, Err, IsSome, map, codes, refl, sym, ap, subst, subst₂, ◌∙◌, arith, IsPermutation, flat_map_single, IsPermutation-map, IsPermutation-sym, Value, Null, Int, Row, column, Trees, lit, col, Query, Output, inner, end, output, IsAnswer, overlay, Schema, Command, Select, map-map, everything, Error, timed, Database, RefusesToRead, understood, reads_listing, IsSourceOf, State, Shown, Fails, FailsToQuery, FailsToShow, IsNotRun, IsNoStatement, IsPlain, command_of, reads_as, one_permutation, Layout, Made, Moved, old_schema, book_schema, IsSelect, HasFailed, version_text, versions_in, HasVersions, numbered_versions}
+use Rattle.sql_making.proofs.Names.{◌≡◌, ◌⊎◌, inl, inr, ℕ, ◌<◌, ◌≤◌, ℤ, true, false, List, [], ◌∷◌, length, get_or, None, Option, Result, Ok, Err, IsSome, map, codes, refl, sym, ap, subst, subst₂, ◌∙◌, arith, IsPermutation, flat_map_single, IsPermutation-map, IsPermutation-sym, Value, Null, Int, Row, column, Trees, col, Query, Output, output, IsAnswer, overlay, Schema, Command, Select, map-map, everything, Error, timed, Database, RefusesToRead, understood, reads_listing, IsSourceOf, State, Shown, Fails, FailsToQuery, FailsToShow, IsNotRun, IsNoStatement, IsPlain, command_of, reads_as, one_permutation, Layout, Made, Moved, old_schema, book_schema, IsSelect, HasFailed, version_text, versions_in, HasVersions, numbered_versions}
 use Rattle.sqlite_value.specs.declared.keys.Collation.TheVariants.{Binary}
+use Rattle.sqlite_value.specs.declared.keys.Key.{Key}
+use Rattle.sqlite_sql.specs.Term.{Term, eval_all}
+use Rattle.sql_tables.specs.Picking.{changing}
 use Rattle.sqlite_trees.specs.declared.error.StoreError.{StoreError}
 use Rattle.sqlite_trees.specs.declared.error.StoreError.TheVariants.{OutOfMemory, Io, Corrupt, Full, Broken, Unstorable}
 use Rattle.sqlite_typing.specs.Types.{accepts_program}
@@ -10,17 +13,7 @@ use Rattle.sqlite.specs.declared.error.ErrorCode.TheVariants as code
 use Rattle.sqlite.specs.declared.error.Error.TheVariants.{SqliteFailure}
 
 abbrev query : Query
-query = record {
-  from = inner 0 end;
-  filter = [];
-  group = None;
-  project = col 1 0 ∷ col 1 1 ∷ [];
-  distinct = false;
-  collations = [];
-  order = (col 1 0, record { collation = Binary; descending = false }) ∷ [];
-  limit = lit (Int (negsuc 0));
-  offset = lit (Int (pos 0));
-}
+query = record (changing 0 [] (col 1 1 ∷ [])) { order = (col 1 0, record { collation = Binary; descending = false }) ∷ [] }
 
 abbrev command : Command
 command = Select (record { lets = []; body = query }) (codes "rowid" ∷ codes "version" ∷ [])
@@ -55,19 +48,22 @@ pub version_selects : IsSelect version_text
 unfolding everything
 version_selects = refl
 
--- an answer has one row for each of the table, in some order
-answered : (db : Trees) (rows : List Row) → IsAnswer query (overlay db []) [] rows → IsPermutation (map (λ (r : Row). column r 0 ∷ column r 1 ∷ []) (db 0)) rows
-answered db rows a =
+-- an answer has one row for each of the first table, in some order
+pub answered : (cells : List Term) (order : List (Term × Key)) (db : Trees) (rows : List Row)
+    → IsAnswer (record (changing 0 [] cells) { order = order }) (overlay db []) [] rows
+    → IsPermutation (map (λ (r : Row). eval_all (col 1 0 ∷ cells) ([] ∷ r ∷ [])) (db 0)) rows
+answered cells order db rows a =
+    let q : Query = record (changing 0 [] cells) { order = order } in
     let env = λ (r : Row). [] ∷ r ∷ [] in
     let staged : a.staged ≡ map env (db 0) = a.grouped ∙ flat_map_single env (db 0) in
-    let kept : a.kept ≡ map (λ r. output query (env r)) (db 0) = a.distinct ∙ ap (map (output query)) staged ∙ map-map (output query) env (db 0) in
+    let kept : a.kept ≡ map (λ r. output q (env r)) (db 0) = a.distinct ∙ ap (map (output q)) staged ∙ map-map (output q) env (db 0) in
     let same = IsPermutation-map (λ (o : Output). o.1) _ a.ordered (subst (λ k. IsPermutation k a.ordered) kept a.same) in
-    subst (IsPermutation _) (sym a.shown) (subst (λ l. IsPermutation l (map (λ (o : Output). o.1) a.ordered)) (map-map (λ (o : Output). o.1) (λ r. output query (env r)) (db 0)) same)
+    subst (IsPermutation _) (sym a.shown) (subst (λ l. IsPermutation l (map (λ (o : Output). o.1) a.ordered)) (map-map (λ (o : Output). o.1) (λ r. output q (env r)) (db 0)) same)
 
 pub version_shown : (old new : State) (rows : List Row) → HasVersions old.now.schema → Shown version_text [] old new rows → IsPermutation (numbered_versions old.now.trees) rows
 version_shown old new rows has h =
     let a = asks old.now.schema has in
-    answered old.now.trees rows ((reads_as version_text [] old new old.now.schema refl command a.is a.plain a.unlisted rows h).answer Null)
+    answered (col 1 1 ∷ []) query.order old.now.trees rows ((reads_as version_text [] old new old.now.schema refl command a.is a.plain a.unlisted rows h).answer Null)
 
 -- one row on either side is that row on the other
 pub one_stored : (stored rows : List Row) (r : Row) → IsPermutation stored rows → rows ≡ r ∷ [] → stored ≡ r ∷ []

@@ -1,19 +1,16 @@
 -- What the last statement of the text makes of the tables.
-use Rattle.sql_making.proofs.Names.{◌≡◌, ◌≢◌, ℕ, pos, true, List, [], ◌∷◌, drop, None, Ok, refl, sym, ap, subst, ◌∙◌, arith, AllByRecursion, Null, Int, Row, Trees, lit, Table, Command, Insert, Chosen, Edit, edit_of, edited, taken_by, Enforced, everything, Database, understood, Tally, Does, Written, Edited, State, ExecutesIn, mode_of, IsPlain, command_of, statement_of, one_step, Made, book_schema, book_table, version_now, version_part, IsBlank, IsNewBook, went, same_value, cast_int, cast_null}
+use Rattle.sql_making.proofs.Names.{◌≡◌, ◌≢◌, ℕ, pos, true, List, [], ◌∷◌, drop, None, Ok, refl, sym, ap, subst, ◌∙◌, arith, AllByRecursion, Null, Int, Row, Trees, lit, Table, Command, Insert, Chosen, Edit, edit_of, edited, taken_by, Enforced, everything, Database, understood, Tally, Does, Written, Edited, State, ExecutesIn, mode_of, statement_of, one_step, Made, book_schema, book_table, version_now, version_part, IsBlank, IsNewBook, went, same_value, cast_int, cast_null}
 use Rattle.sqlite_schema.specs.declared.command.Source.TheVariants.{Values}
 use Rattle.sqlite_rules.specs.Action.{works}
+use Rattle.sql_tables.proofs.Calls.{IsCommand}
 use Rattle.sql_making.proofs.Creates.{runs_in_batch}
 
 abbrev command : Command
 command = Insert 0 (Values (lit Null ∷ lit (Int version_now) ∷ []) 2)
 
-version_is : command_of (understood (book_schema Made) version_part) ≡ command
+version_means : IsCommand (book_schema Made) version_part command
 unfolding understood everything
-version_is = refl
-
-version_plain : IsPlain (understood (book_schema Made) version_part)
-unfolding understood everything
-version_plain = (refl, refl)
+version_means = record { is = refl; plain = (refl, refl) }
 
 abbrev source : Row
 source = Null ∷ Int version_now ∷ []
@@ -35,7 +32,7 @@ pub adds_version : (old new : State) (count : ℕ) → old.now.schema ≡ (book_
 adds_version old new count has blank h =
     let db = old.now.trees in
     let empty : AllByRecursion (λ t. db t.tree ≡ []) (book_schema Made).tables = subst (λ s. AllByRecursion (λ (t : Table). db t.tree ≡ []) s.tables) has blank in
-    let w = runs_in_batch version_part old new (book_schema Made) has command version_is version_plain count h in
+    let w = runs_in_batch version_part old new (book_schema Made) has command version_means.is version_means.plain count h in
     let text = statement_of version_part (understood (book_schema Made) version_part) in
     let done = went (subst (λ s. Does old.step_limit (mode_of old) [] (record old.now { schema = s }) text None command (Ok (w.tally, new.now))) has w.changed) in
     let now = ap (λ (p : Tally × Database). p.1) (same_value (went (went done.2).2).2) in

@@ -1,10 +1,8 @@
 -- The balance of a kind and day among the rows of its table.
-use Rattle.sql_reads.proofs.Names.{◌≡◌, inl, inr, ℕ, ℤ, pos, nat_abs, ◌≤◌, Bool, true, false, ◌==◌, ◌&&◌, List, [], ◌∷◌, map, filter, find, length, Option, Some, None, option_map, int_eq, Less, Equal, nat_cmp, refl, sym, ap, ap₂, ◌∙◌, arith, AllByRecursion, cases_Bool, and_parts, nat_tests, length-map, Int, Row, column, sort_by, all_weaker, filter_none, filter-map, IsPermutation-filter, StatementRow, Balance, balance_cmp, balance_shown, is_balance_at, kind_column, balance_from, IsWrittenBalance, int_eq-nat, find-sort_by}
+use Rattle.sql_reads.proofs.Names.{◌≡◌, inl, inr, ℕ, ℤ, pos, nat_abs, ◌≤◌, Bool, true, false, ◌==◌, ◌&&◌, List, [], ◌∷◌, map, filter, find, length, Option, option_map, int_eq, Less, Equal, nat_cmp, refl, sym, ap, ap₂, ◌∙◌, arith, AllByRecursion, cases_Bool, and_parts, nat_tests, length-map, Int, Row, column, sort_by, all_weaker, filter_none, filter-map, StatementRow, Balance, balance_cmp, balance_shown, is_balance_at, kind_column, balance_from, IsWrittenBalance, int_eq-nat, find-sort_by, slice_get-filter, slice_get, filter_same, None, Some}
 use Rattle.std.specs.List.Sorted.{IsStrictlySortedBy}
-use Rattle.std.proofs.lemmas.List.Sorted.{length_permutation}
 use Rattle.std.proofs.lemmas.Cmp.{int_cmp_total, on_total, then_total}
 use Rattle.std.specs.Cmp.{IsTotalOrder}
-use Rattle.sqlite_keyed.proofs.SortLemmas.{IsPermutation-sort_by}
 use Rattle.firm_rows.specs.declared.ledger.BalanceKind.{BalanceKind}
 use Rattle.firm_rows.specs.declared.ledger.BalanceKind.TheVariants.{Opening, Closing}
 use Rattle.firm_rows.specs.FirmLines.{place_of, is_balance_on, kept_balance}
@@ -21,19 +19,13 @@ find_mapped p f (x ∷ xs) = elim (cases_Bool (p (f x))) [ inl b ↦ rw b refl |
 
 module _ {X : Type 0} (p q : X → Bool) where
   pub find_same : (xs : List X) → AllByRecursion (λ x. p x ≡ q x) xs → find p xs ≡ find q xs
-  find_same [] all = refl
-  find_same (x ∷ xs) all = elim (cases_Bool (q x)) [
-    | inl b ↦ rw (all.0, b) refl
-    | inr b ↦ rw (all.0, b) (find_same xs all.1)
-  ]
+  find_same xs all =
+      sym (slice_get-filter p xs) ∙ ap (λ l. slice_get l 0) (filter_same p q xs all) ∙ slice_get-filter q xs
 
 -- The tests agree.
 
 same_kind : (a b : BalanceKind) → (place_of a == place_of b) ≡ int_eq (kind_column a) (kind_column b)
-same_kind Opening Opening = refl
-same_kind Opening Closing = refl
-same_kind Closing Opening = refl
-same_kind Closing Closing = refl
+same_kind a b = grind arith
 
 same_test : (k : BalanceKind) (day : ℕ) (b : Balance) → IsWrittenBalance b → is_balance_on k day (balance_from b) ≡ is_balance_at (kind_column k) (pos day) b
 same_test k day b written =
@@ -74,9 +66,8 @@ kept_is_found k day bs written up =
     let ys = sort_by balance_cmp bs in
     let one : length (filter (is_balance_on k day) (map balance_from ys)) ≤ 1 = few_on k day (map balance_from ys) up in
     let mapped : length (filter (is_balance_on k day) (map balance_from ys)) ≡ length (filter p ys) = ap length (filter-map (is_balance_on k day) balance_from ys) ∙ length-map (filter p ys) balance_from in
-    let sorted : length (filter p bs) ≡ length (filter p ys) = length_permutation _ _ (IsPermutation-filter p _ _ (IsPermutation-sort_by balance_cmp table_total bs)) in
     let found : find (is_balance_on k day) (map balance_from ys) ≡ option_map balance_from (find q bs) =
-    find_mapped (is_balance_on k day) balance_from ys ∙ ap (option_map balance_from) (find-sort_by balance_cmp p bs (omega (arith, one, mapped, sorted)) ∙ find_same p q bs same) in
+    find_mapped (is_balance_on k day) balance_from ys ∙ ap (option_map balance_from) (find-sort_by balance_cmp table_total p bs (omega (arith, one, mapped)) ∙ find_same p q bs same) in
     ap (option_map (λ row. row.amount)) found ∙ amounts (find q bs)
   where
     amounts : (o : Option Balance) → option_map (λ (row : StatementRow). row.amount) (option_map balance_from o) ≡ option_map (λ (b : Balance). b.amount) o

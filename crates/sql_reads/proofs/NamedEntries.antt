@@ -1,5 +1,5 @@
 -- Some of the entries of a matter, and a part that keeps those that are named.
-use Rattle.sql_reads.proofs.Names.{◌≡◌, inl, inr, zero, suc, ℕ, ◌+◌, ◌≤◌, ◌==◌, ◌||◌, ltb, Bool, true, false, cond, List, [], ◌∷◌, ◌++◌, Option, Some, None, is_some, true≢false, refl, sym, ap, ap₂, subst, ◌∙◌, arith, cases_Bool, nat_tests, Seat, Rows, unopened, number_or_none, target_in, Figures, Kept, AreFigures, AreNumbered, IsPart, IsWhole, Part, entry_in, is_held, is_it, is_named, kept_in, named_part, target_by, of, IsPartFor, Lists, AreSound, firm_from, HeadWithTotals, KeepsAlso, KeepsOnly, is_named_by, part_at, with_totals_at}
+use Rattle.sql_reads.proofs.Names.{◌≡◌, inl, inr, zero, suc, ℕ, ◌+◌, ◌≤◌, ◌==◌, ◌||◌, ltb, Bool, true, false, cond, List, [], ◌∷◌, ◌++◌, Option, Some, None, is_some, true≢false, refl, sym, ap, ap₂, subst, ◌∙◌, arith, cases_Bool, nat_tests, Seat, Rows, unopened, number_or_none, target_in, Figures, Kept, AreFigures, AreNumbered, IsPart, IsWhole, Part, entry_in, is_held, is_it, is_named, kept_in, named_part, target_by, of, IsPartFor, Lists, AreSound, firm_from, HeadWithTotals, KeepsAlso, KeepsOnly, is_named_by, part_at, with_totals_at, found_passes}
 use denote.Ref.{Bor}
 use Rattle.std.specs.Option.{option_copied, option_or}
 use Rattle.std.proofs.lemmas.List.Folds.{find-append}
@@ -9,23 +9,16 @@ use Rattle.trust_store.proofs.PartsFor.{part-for, unopened-for}
 use Rattle.sql_reads.proofs.Parts.{head_found, none_rows, parts_whole}
 
 or_false : (b : Bool) → (b || false) ≡ b
-or_false true = refl
-or_false false = refl
+or_false b = grind arith
 
 or_true : (b : Bool) → (b || true) ≡ true
-or_true true = refl
-or_true false = refl
+or_true b = grind arith
 
 or_turned : (a b c d : Bool) → ((a || c) || (b || d)) ≡ (a || (b || (c || d)))
-or_turned true b c d = refl
-or_turned false true true d = refl
-or_turned false true false d = refl
-or_turned false false true d = refl
-or_turned false false false d = refl
+or_turned a b c d = grind arith
 
 or_assoc : (a b c : Bool) → ((a || b) || c) ≡ (a || (b || c))
-or_assoc true b c = refl
-or_assoc false b c = refl
+or_assoc a b c = grind arith
 
 cond_none : (b : Bool) (o : Option Kept) → o ≡ None → cond b o None ≡ o
 cond_none true o none = refl
@@ -37,14 +30,7 @@ or_none (Some k) = refl
 
 -- the entry that is found under a number has it
 found_number : (ks : List Kept) (n : ℕ) (k : Kept) → kept_in ks n ≡ Some k → (k.number == n) ≡ true
-found_number [] n k found = absurd (let e = found in cc)
-found_number (j ∷ ks) n k found = elim (cases_Bool (j.number == n)) [
-  | inl own ↦
-      let here = rw own at found in
-      let same : j ≡ k = cc in
-      subst (λ (x : Kept). (x.number == n) ≡ true) same own
-  | inr other ↦ found_number ks n k (rw other at found)
-]
+found_number ks n k found = found_passes (λ (x : Kept). x.number == n) ks k found
 
 not_some : (o : Option Kept) → is_some o ≡ false → o ≡ None
 not_some None is = refl

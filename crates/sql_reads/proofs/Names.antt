@@ -9,7 +9,7 @@ pub use Rattle.matter_rows.specs.Rows.{Rows, unopened}
 pub use Rattle.matter_rows.specs.Shares.{number_or_none, target_in}
 pub use Rattle.matter_rows.specs.declared.seat.Seat.{Seat}
 pub use Rattle.sql_rows.proofs.KeyedRows.{apart_below, int_eq-itself, int_eq-nat}
-pub use Rattle.sql_rows.proofs.RowOrder.{all-find, find-sort_by}
+pub use Rattle.sql_rows.proofs.RowOrder.{all-find, find-sort_by, found_passes}
 pub use Rattle.sql_rows.specs.Columns.{kind_column}
 pub use Rattle.sql_rows.specs.Heads.{HasHead, HasTotals, IsHead, IsHolder, client_column, closed_column, purged_column}
 pub use Rattle.sql_rows.specs.Meaning.{AreSound, IsWrittenBalance, IsWrittenHead, balance_from, day_or_none, exception_from, figures_from, firm_from, firm_line_from, head_from, kept_from, matter_from, matters_from, movement_from, part_from, seat_from}
@@ -31,22 +31,24 @@ pub use Rattle.sqlite.specs.Held.{Held, state}
 pub use Rattle.sqlite.specs.State.{Fails, HasCleanDisk, IsRolledBack, IsUnchanged, ShowsRows, State, Survives}
 unfoldable pub use Rattle.sqlite.specs.State.{Begins, CommitsShowing, FailsToQuery, Shown}
 pub use Rattle.sqlite.specs.Values.{bound}
-pub use Rattle.sqlite_keyed.proofs.ListLemmas.{IsPermutation-filter, all_both, all_of, all_unmap, all_weaker, filter-map, filter_none, slice_get-filter}
+pub use Rattle.sqlite_keyed.proofs.ListLemmas.{all_both, all_unmap, all_weaker, filter-map, filter_all, filter_none, none_from_any, slice_get-filter}
+pub use Rattle.sqlite_keyed.proofs.SliceLemmas.{any_is_found}
 pub use Rattle.sqlite_keyed.specs.Keyed.{IsKeyedBy}
 pub use Rattle.sqlite_keyed.specs.Lists.{sort_by}
 pub use Rattle.sqlite_schema.specs.declared.schema.Schema.{Schema}
 pub use Rattle.sqlite_sql.specs.Program.{overlay}
 pub use Rattle.sqlite_sql.specs.Query.{IsAnswer, Query}
+pub use Rattle.sqlite_trees.proofs.ListLemmas.{filter_same}
 pub use Rattle.sqlite_value.specs.Order.{Row, bytes, column}
 pub use Rattle.sqlite_value.specs.declared.value.Value.TheVariants.{Int, Null, Text}
-pub use Rattle.std.proofs.Common.{Bool, Equal, Err, IfOk, IfSome, IsErr, IsOk, IsTrue, Less, List, None, Ok, OnOk, Option, Result, SFits, Some, [], add-one, ap, append-nil, append_assoc, ap₂, arith, cond, false, filter, find, fold, get_or, inl, inr, int_eq, int_lt, is_some, length, length-append, ltb, map, nat_abs, nat_cmp, negsuc, not, of_z, option_copied, option_map, pos, refl, rules, slice_get, subst, suc, sym, take, to_z, true, true≢false, w64, zero, ℕ, ℤ, ◌&&◌, ◌++◌, ◌+◌, ◌<ℤ◌, ◌<◌, ◌==◌, ◌||◌, ◌∙◌, ◌∷◌, ◌≡◌, ◌≤◌, ◌⊎◌}
+pub use Rattle.std.proofs.Common.{Bool, Equal, Err, IfOk, IfSome, IsErr, IsOk, IsTrue, Less, List, None, Ok, OnOk, Option, Result, SFits, Some, [], add-one, ap, append-nil, append_assoc, ap₂, arith, cond, false, filter, find, fold, get_or, inl, inr, int_eq, int_lt, is_some, length, length-append, ltb, map, nat_abs, nat_cmp, negsuc, not, of_z, option_copied, option_map, pos, refl, rules, subst, suc, sym, take, to_z, true, true≢false, w64, zero, ℕ, ℤ, ◌&&◌, ◌++◌, ◌+◌, ◌<ℤ◌, ◌<◌, ◌==◌, ◌||◌, ◌∙◌, ◌∷◌, ◌≡◌, ◌≤◌, ◌⊎◌}
 pub use Rattle.std.proofs.lemmas.Bool.{and_parts, cases_Bool}
 pub use Rattle.std.proofs.lemmas.Bool.Decides.{nat_tests}
 pub use Rattle.std.proofs.lemmas.Int.{ints}
 pub use Rattle.std.proofs.lemmas.List.{length-map, map-append, take_all}
 pub use Rattle.std.proofs.lemmas.Result.{IfOk-weaker, on_ok_weaker}
 pub use Rattle.std.proofs.lemmas.Simd.{map-map}
-pub use Rattle.std.specs.List.{AllByRecursion}
+pub use Rattle.std.specs.List.{AllByRecursion, slice_get}
 pub use Rattle.trust_base.specs.declared.refusal.StoreFault.{StoreFault}
 pub use Rattle.trust_base.specs.declared.refusal.StoreFault.TheVariants.{Store}
 pub use Rattle.trust_store.proofs.KeptMatters.{firm_rows, joined-ranged}

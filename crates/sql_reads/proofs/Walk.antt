@@ -1,5 +1,5 @@
 -- The matters of a book, one behind another.
-use Rattle.sql_reads.proofs.Names.{◌≡◌, inl, inr, ℕ, ℤ, pos, nat_abs, ◌+◌, ◌≤◌, ◌<ℤ◌, int_lt, Bool, true, false, List, [], ◌∷◌, ◌++◌, map, filter, find, length, fold, Some, None, Result, Ok, IsErr, refl, sym, ap, ◌∙◌, subst, arith, length-append, AllByRecursion, ints, cases_Bool, IsKeyedBy, all_of, all_unmap, all_weaker, entries_kept, IsRowInRange, MOST_ROWS, HeadRow, pairs, seat_pairs, entry_pairs, HandedOver, FoldsFront, AreHanded, IsKeptWhole, joined, kept_pairs, rows_kept, joined-ranged, begun, all_more, some_more, ended, kept-numbered, Lists, is_past, AreSound, IsWrittenHead, head_from, kept_from, matter_from, matters_from, part_from, seat_from, all-find, entry_rows, numbered_from, rows_at}
+use Rattle.sql_reads.proofs.Names.{◌≡◌, inl, inr, ℕ, ℤ, pos, nat_abs, ◌+◌, ◌≤◌, ◌<ℤ◌, int_lt, Bool, true, false, List, [], ◌∷◌, ◌++◌, map, filter, find, length, fold, Some, None, Result, Ok, IsErr, sym, ap, ◌∙◌, subst, arith, length-append, AllByRecursion, ints, cases_Bool, IsKeyedBy, all_unmap, all_weaker, entries_kept, IsRowInRange, MOST_ROWS, HeadRow, pairs, seat_pairs, entry_pairs, HandedOver, FoldsFront, AreHanded, IsKeptWhole, joined, kept_pairs, rows_kept, joined-ranged, begun, all_more, some_more, ended, kept-numbered, Lists, is_past, AreSound, IsWrittenHead, head_from, kept_from, matter_from, matters_from, part_from, seat_from, all-find, entry_rows, numbered_from, rows_at, found_passes, filter_none, is_some, any_is_found, none_from_any, filter_all}
 use Rattle.firm_rows.specs.Firm.{Row}
 use Rattle.trust_store.specs.declared.plain.KeptMatter.{KeptMatter}
 use Rattle.sql_tables.specs.Rows as table
@@ -7,16 +7,8 @@ use Rattle.sql_reads.proofs.Fed.{of_err}
 
 -- Heads behind a number.
 
-filter_whole : {X : Type 0} (p : X → Bool) (xs : List X) → AllByRecursion (λ x. p x ≡ true) xs → filter p xs ≡ xs
-filter_whole p [] all = refl
-filter_whole p (x ∷ xs) all = rw all.0 (ap (λ l. x ∷ l) (filter_whole p xs all.1))
-
 pub none_past : {X : Type 0} (p : X → Bool) (xs : List X) → find p xs ≡ None → filter p xs ≡ []
-none_past p [] none = refl
-none_past p (x ∷ xs) none = elim (cases_Bool (p x)) [
-  | inl b ↦ absurd (let e = rw b at none in cc)
-  | inr b ↦ rw b (none_past p xs (rw b at none))
-]
+none_past p xs none = filter_none p xs (none_from_any p xs (any_is_found p xs ∙ ap is_some none))
 
 lt_past : (a b : ℤ) → a <ℤ b → int_lt a b ≡ true
 lt_past a b lt = grind (arith, ints)
@@ -40,18 +32,17 @@ next_past after [] h up found = absurd (let e = found in cc)
 next_past after (x ∷ xs) h up found = elim (cases_Bool (is_past after x)) [
   | inl b ↦
       let same : x ≡ h = (let e = rw b at found in cc) in
-      let one = filter_whole (is_past after) xs
+      let one = filter_all (is_past after) xs
       (all_weaker (λ (y : table.Head). x.no <ℤ y.no) (λ y. is_past after y ≡ true)
       (λ y lt. past_after after x.no y.no b lt) xs up.0) in
-      let two = filter_whole (is_past x.no) xs
+      let two = filter_all (is_past x.no) xs
       (all_weaker (λ (y : table.Head). x.no <ℤ y.no) (λ y. is_past x.no y ≡ true)
       (λ y lt. lt_past x.no y.no lt) xs up.0) in
       subst (λ (y : table.Head). filter (is_past after) (x ∷ xs) ≡ y ∷ filter (is_past y.no) (x ∷ xs)) same
       (rw (b, not_past x.no) (ap (λ l. x ∷ l) (one ∙ sym two)))
   | inr b ↦
       let later : find (is_past after) xs ≡ Some h = rw b at found in
-      let none = all_of (λ (y : table.Head). Unit {0}) (λ y. tt) xs in
-      let here = (all-find (λ (y : table.Head). Unit {0}) (is_past after) xs h none later).1 in
+      let here = found_passes (is_past after) xs h later in
       rw (b, past_before after h.no x.no here b) (next_past after xs h up.1 later)
 ]
 
@@ -61,7 +52,7 @@ begin_past from z k low is = grind (arith, ints)
 -- every head is behind a number below zero
 pub all_past : (from : ℤ) (hs : List table.Head) → from <ℤ pos 0 → AllByRecursion IsWrittenHead hs → filter (is_past from) hs ≡ hs
 all_past from hs low written =
-    filter_whole (is_past from) hs
+    filter_all (is_past from) hs
     (all_weaker IsWrittenHead (λ h. is_past from h ≡ true) (λ h w. begin_past from h.no (nat_abs h.no) low w.0) hs written)
 
 -- The rows of one matter.
@@ -111,8 +102,8 @@ module _ {K : Type 0} (step : K → ℕ × Row → K) (a : Lists) (sound : AreSo
       own_rows : rows_at a (numbered_from h) ≡ pairs (nat_abs h.no) (rows_kept (part_from a h))
       own_rows =
           let whole = all_unmap IsKeptWhole (matter_from a) a.heads sound.meant.matters.whole in
-          rows_are a h (all-find IsWrittenHead (is_past after) a.heads h sound.meant.written.heads found).0
-          (all-find (λ x. IsKeptWhole (matter_from a x)) (is_past after) a.heads h whole found).0
+          rows_are a h (all-find IsWrittenHead (is_past after) a.heads h sound.meant.written.heads found)
+          (all-find (λ x. IsKeptWhole (matter_from a x)) (is_past after) a.heads h whole found)
 
       from : joined (past a after) ≡ rows_at a (numbered_from h) ++ joined (past a h.no)
       from =
@@ -123,7 +114,7 @@ module _ {K : Type 0} (step : K → ℕ × Row → K) (a : Lists) (sound : AreSo
       so = subst (λ xs. HandedOver step old all xs now) from so_far.handed
 
       number : pos (nat_abs h.no) ≡ h.no
-      number = sym (all-find IsWrittenHead (is_past after) a.heads h sound.meant.written.heads found).0.0
+      number = sym (all-find IsWrittenHead (is_past after) a.heads h sound.meant.written.heads found).0
 
       -- the next matter
       pub reached : (new : K) (rows : ℕ) → new ≡ fold step now (rows_at a (numbered_from h))

@@ -11,38 +11,25 @@ use Rattle.matter_rows.specs.declared.entry.Entry.TheVariants as entry
 deposit_back : (s : DepositState) (d : Deposit)
     → entry_from (parts_of (entry.Deposit (record d { state = s }))) ≡ entry.Deposit (record d { state = s })
 deposit_back deposit.Held d = refl
-deposit_back (deposit.Cleared c) d = refl
-deposit_back (deposit.Cancelled day) d = refl
-deposit_back (deposit.Returned r) d = refl
+deposit_back _ d = refl
 
 payment_back : (f : Fund) (s : PaymentState) (p : Payment)
     → entry_from (parts_of (entry.Payment (record p { state = s; fund = f })))
     ≡ entry.Payment (record p { state = s; fund = f })
 payment_back fund.General payment.Proposed p = refl
-payment_back fund.General payment.Declined p = refl
-payment_back fund.General (payment.Issued day) p = refl
-payment_back fund.General (payment.Cleared c) p = refl
-payment_back fund.General (payment.Voided v) p = refl
+payment_back fund.General _ p = refl
 payment_back (fund.Fee k) payment.Proposed p = refl
-payment_back (fund.Fee k) payment.Declined p = refl
-payment_back (fund.Fee k) (payment.Issued day) p = refl
-payment_back (fund.Fee k) (payment.Cleared c) p = refl
-payment_back (fund.Fee k) (payment.Voided v) p = refl
+payment_back (fund.Fee k) _ p = refl
 payment_back (fund.Claim k) payment.Proposed p = refl
-payment_back (fund.Claim k) payment.Declined p = refl
-payment_back (fund.Claim k) (payment.Issued day) p = refl
-payment_back (fund.Claim k) (payment.Cleared c) p = refl
-payment_back (fund.Claim k) (payment.Voided v) p = refl
+payment_back (fund.Claim k) _ p = refl
 
 claim_back : (a : Against) (s : ClaimState) (c : Claim)
     → entry_from (parts_of (entry.Claim (record c { state = s; against = a })))
     ≡ entry.Claim (record c { state = s; against = a })
 claim_back (against.General t) claim.Open c = refl
-claim_back (against.General t) (claim.Offered part) c = refl
-claim_back (against.General t) (claim.Settled s) c = refl
+claim_back (against.General t) _ c = refl
 claim_back (against.Fee k) claim.Open c = refl
-claim_back (against.Fee k) (claim.Offered part) c = refl
-claim_back (against.Fee k) (claim.Settled s) c = refl
+claim_back (against.Fee k) _ c = refl
 
 -- an entry is read from its columns
 pub entry_back : (e : Entry) → entry_from (parts_of e) ≡ e

@@ -1,10 +1,10 @@
 -- The balances of a firm, as their table keeps them and in their order.
-use Rattle.sql_rows.proofs.Names.{◌≡◌, ℕ, ℤ, pos, nat_abs, eqb, Bool, true, false, ◌&&◌, cond, List, [], ◌∷◌, map, Some, None, find, option_map, refl, sym, ap, ap₂, ◌∙◌, arith, int_cmp, is_eq, AllByRecursion, IsTotalOrder, tied_then, nat_cmp, ordering_then, nat_tests, int_cmp_total, on_total, then_total, IsKeyedBy, next_key, sort_by, all_weaker, all-append, all_unmap, IsPermutation-sort_by, BalanceKind, place_of, with_balance, is_balance_on, kept_balance, Balance, balance_cmp, add_balance, kind_column, balance_columns, IsWrittenBalance, balance_from, balance_kind_from}
+use Rattle.sql_rows.proofs.Names.{◌≡◌, ℕ, ℤ, pos, nat_abs, eqb, false, ◌&&◌, List, [], ◌∷◌, map, None, find, sym, ap, ap₂, ◌∙◌, arith, int_cmp, is_eq, AllByRecursion, IsTotalOrder, tied_then, nat_cmp, ordering_then, nat_tests, int_cmp_total, on_total, then_total, IsKeyedBy, next_key, sort_by, all_weaker, all-append, all_unmap, IsPermutation-sort_by, BalanceKind, place_of, with_balance, is_balance_on, kept_balance, Balance, balance_cmp, add_balance, kind_column, balance_columns, IsWrittenBalance, balance_from, balance_kind_from, none_from_any, is_some, any_is_found, is_some-map, all-permutation}
 use Rattle.firm_rows.specs.declared.ledger.BalanceKind.TheVariants.{Opening, Closing}
 use Rattle.firm_rows.specs.declared.ledger.StatementRow.{StatementRow}
 use Rattle.firm_rows.specs.FirmLines as firm
 use Rattle.firm_rows.proofs.Balances.{balance_total}
-use Rattle.sql_rows.proofs.RowOrder.{all_permuted, read-push, read_cmp, then_assoc}
+use Rattle.sql_rows.proofs.RowOrder.{read-push, read_cmp, then_assoc}
 
 -- The order of the rows is that of the balances, and then that of the rowids.
 
@@ -14,10 +14,7 @@ row_total =
     (then_total (on_total (λ (b : Balance). b.day) int_cmp_total) (on_total (λ (b : Balance). b.id) int_cmp_total))
 
 kind_cmp : (k l : BalanceKind) → int_cmp (kind_column k) (kind_column l) ≡ nat_cmp (place_of k) (place_of l)
-kind_cmp Opening Opening = refl
-kind_cmp Opening Closing = refl
-kind_cmp Closing Opening = refl
-kind_cmp Closing Closing = refl
+kind_cmp k l = grind arith
 
 of_kind : (b : Balance) → IsWrittenBalance b → b.kind ≡ kind_column (balance_kind_from b.kind)
 of_kind b is = ap (λ (x : Balance). x.kind) is
@@ -56,24 +53,18 @@ on_tied row x =
 
 none_on : (row : StatementRow) (rows : List StatementRow) → kept_balance row.kind row.day rows ≡ None
     → AllByRecursion (λ x. is_eq (firm.balance_cmp x row) ≡ false) rows
-none_on row [] none = tt
-none_on row (x ∷ xs) none = go (is_balance_on row.kind row.day x) refl none (none_on row xs)
-  where
-    go : (b : Bool) → is_balance_on row.kind row.day x ≡ b
-        → option_map (λ (r : StatementRow). r.amount) (cond b (Some x) (find (is_balance_on row.kind row.day) xs))
-        ≡ None
-        → (kept_balance row.kind row.day xs ≡ None → AllByRecursion (λ y. is_eq (firm.balance_cmp y row) ≡ false) xs)
-        → AllByRecursion (λ y. is_eq (firm.balance_cmp y row) ≡ false) (x ∷ xs)
-    go true on none more = absurd (cc)
-    go false off none more = (sym (on_tied row x) ∙ off, more none)
+none_on row rows none =
+    let test = is_balance_on row.kind row.day in
+    let found = is_some-map (λ (r : StatementRow). r.amount) (find test rows) in
+    all_weaker (λ x. test x ≡ false) _ (λ x off. sym (on_tied row x) ∙ off) rows
+    (none_from_any test rows (any_is_found test rows ∙ sym found ∙ ap is_some none))
 
 -- the row that is put behind the others
 abbrev added : StatementRow → List Balance → Balance
 added row bs = record (balance_columns row) { id = next_key key bs }
 
 kind_back : (k : BalanceKind) → balance_kind_from (kind_column k) ≡ k
-kind_back Opening = refl
-kind_back Closing = refl
+kind_back k = grind arith
 
 back : (row : StatementRow) (bs : List Balance) → balance_from (added row bs) ≡ row
 back row bs = λ i. record row { kind = kind_back row.kind i }
@@ -87,7 +78,7 @@ pub balances_with : (row : StatementRow) (bs : List Balance) → IsKeyedBy key b
     → balances_from (add_balance (balance_columns row) bs) ≡ with_balance row (balances_from bs)
 balances_with row bs up all none =
     let apart : AllByRecursion (λ b. is_eq (firm.balance_cmp (balance_from b) row) ≡ false) bs =
-    all_permuted _ (sort_by balance_cmp bs) bs (IsPermutation-sort_by balance_cmp row_total bs)
+    all-permutation _ (sort_by balance_cmp bs) bs (IsPermutation-sort_by balance_cmp row_total bs)
     (all_unmap _ balance_from (sort_by balance_cmp bs) (none_on row (balances_from bs) none)) in
     read-push key balance_cmp row_total firm.balance_cmp balance_total balance_from IsWrittenBalance balances_agree bs
     (added row bs) up all (is_written row bs)

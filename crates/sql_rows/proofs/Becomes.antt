@@ -1,10 +1,10 @@
 -- What a change of one matter makes of the firm for which the tables stand.
-use Rattle.sql_rows.proofs.Names.{◌≡◌, ℕ, ℤ, pos, List, [], ◌++◌, map, find, Option, Some, None, option_map, refl, sym, ap, subst, ◌∙◌, AllByRecursion, IsKeyedBy, sort_by, all_weaker, Head, Entry, Rows, unopened, Sound, Figures, Kept, Part, IsWhole, AreKept, AreFigures, AreNumbered, entries_kept, no_figures, MatterChange, IsChange, changed, edited, head_after, seats_after, of, after_change, kept_movements, joined_movement, unopened-sound, rows_in, firm_of, IsKeptAs, AreKeptWhole, put_head, is_head, seats_of, entries_of, Lists, head_columns, AreMeant, HasHeadAt, IsWrittenMovement, firm_from, matters_from, part_from, head_from, figures_from, seat_from, kept_from, movement_from, firm_line_from, exception_from, balance_from, head_at}
+use Rattle.sql_rows.proofs.Names.{◌≡◌, ℕ, ℤ, pos, List, [], ◌++◌, map, find, Option, Some, None, refl, sym, ap, subst, ◌∙◌, AllByRecursion, IsKeyedBy, all_weaker, Head, Entry, Rows, unopened, Sound, Figures, Kept, Part, IsWhole, AreKept, AreFigures, AreNumbered, entries_kept, no_figures, MatterChange, IsChange, changed, edited, head_after, seats_after, of, after_change, kept_movements, joined_movement, unopened-sound, rows_in, IsKeptAs, AreKeptWhole, put_head, is_head, seats_of, entries_of, Lists, head_columns, AreMeant, HasHeadAt, IsWrittenMovement, firm_from, matters_from, part_from, head_from, figures_from, seat_from, kept_from, movement_from, head_at, rules, ◌∷◌, cond_both, nat_lt, ◌==◌, IsKeptWhole, KeptMatter, sort_by, rows_kept}
 use Rattle.matter_parts.specs.declared.edit.Edit.TheVariants as edit
 use Rattle.trust_store.proofs.KeptMatters.{change_in, kept-whole, written_firm}
 use Rattle.sql_tables.specs.Rows as table
 use Rattle.sql_rows.proofs.HeadOrder.{key, rows_found}
-use Rattle.sql_rows.proofs.Heads.{heads_put, rows_at, found_number, part_found, whole_found, HasDays, written_put_head, has_put_head, still_has_head}
+use Rattle.sql_rows.proofs.Heads.{heads_put, rows_at, found_number, part_found, HasDays, written_put_head, has_put_head, still_has_head}
 use Rattle.sql_rows.proofs.KeyedRows.{none_of}
 use Rattle.sql_rows.proofs.Placed.{EntriesPlaced, SeatsPlaced}
 use Rattle.sql_rows.proofs.Seats.{no_seats}
@@ -30,15 +30,7 @@ nothing_whole = record {
   part = record {
     head = refl;
     seats = refl;
-    figures = record {
-      entries = refl;
-      pending = refl;
-      held = refl;
-      available = refl;
-      disputed = refl;
-      fees = refl;
-      claims = refl;
-    };
+    figures = search rules;
     kept = λ n k there. absurd (cc);
   };
   entries = refl;
@@ -53,51 +45,25 @@ whole_at a m up meant = cases (find (is_head (pos m)) a.heads) refl
     cases : (o : Option table.Head) → find (is_head (pos m)) a.heads ≡ o
         → IsWhole (part_at m a) (rows_in m (matters_from a))
     cases None none =
-        let seats : seats_of (pos m) a.seats ≡ [] = no_seats a.heads (pos m) a.seats none meant.seated in
         let entries : entries_of (pos m) a.entries ≡ [] =
         ap (sort_by table.entry_cmp) (none_of (λ (e : table.Entry). e.matter) a.heads (pos m) a.entries none
         meant.entered) in
-        let rows : rows_in m (matters_from a) ≡ unopened =
-        rows_at a m up meant.written.heads ∙ ap (rows_found (part_from a)) none in
-        let is : part_at m a ≡ record { head = None; seats = []; figures = no_figures; kept = [] } =
-        (λ i. record {
-          head = option_map head_from (none i);
-          seats = map seat_from (seats i);
-          figures = figures_found (none i);
-          kept = map kept_from (entries i);
-        }) in
-        subst (IsWhole (part_at m a)) (sym rows) (subst (λ (p : Part). IsWhole p unopened) (sym is) nothing_whole)
+        rw (rows_at a m up meant.written.heads, none, no_seats a.heads (pos m) a.seats none meant.seated, entries)
+        nothing_whole
     cases (Some h) found =
-        let no_is : h.no ≡ pos m = found_number a m h found in
-        let is : part_at m a ≡ part_from a h =
-        (λ i. record {
-          head = option_map head_from (found i);
-          seats = map seat_from (seats_of (sym no_is i) a.seats);
-          figures = figures_found (found i);
-          kept = map kept_from (entries_of (sym no_is i) a.entries);
-        }) in
-        subst (λ (p : Part). IsWhole p (rows_in m (matters_from a))) (sym is)
-        (part_found a m h up meant.written.heads meant.matters found)
+        rw (found, ← found_number a m h found) (part_found a m h up meant.written.heads meant.matters found)
 
 -- and they are sound
-pub sound_at : (a : Lists) (m : ℕ) → IsKeyedBy key a.heads → AreMeant a → Sound (rows_in m (matters_from a))
-sound_at a m up meant = cases (find (is_head (pos m)) a.heads) refl
-  where
-    cases : (o : Option table.Head) → find (is_head (pos m)) a.heads ≡ o → Sound (rows_in m (matters_from a))
-    cases None none =
-        subst Sound (sym (rows_at a m up meant.written.heads ∙ ap (rows_found (part_from a)) none)) unopened-sound
-    cases (Some h) found =
-        subst Sound (sym (rows_at a m up meant.written.heads ∙ ap (rows_found (part_from a)) found))
-        (whole_found a m h meant.matters found).sound
+pub sound_in : (m : ℕ) (ks : List KeptMatter) → AllByRecursion IsKeptWhole ks → Sound (rows_in m ks)
+sound_in m [] all = unopened-sound
+sound_in m (k ∷ ks) all = cond_both (nat_lt k.number m) (rows_in m ks) _ Sound (λ _. sound_in m ks all.1)
+    (λ _. cond_both (k.number == m) (rows_kept k.matter) unopened Sound (λ _. all.0.sound) (λ _. unopened-sound))
 
 -- a change of the firm's is one of its rows
 pub change_at : (a : Lists) (m : ℕ) (c : MatterChange) → AreMeant a → IsChange (of m (firm_from a)) c
     → IsChange (rows_in m (matters_from a)) c
 change_at a m c meant may =
-    change_in m (matters_from a) (map movement_from a.movements) (map firm_line_from a.firm_lines)
-    (map exception_from (sort_by table.exception_cmp a.exceptions))
-    (map balance_from (sort_by table.balance_cmp a.balances))
-    (firm_from a) c meant.matters.ascends refl may
+    change_in m (matters_from a) _ _ _ _ (firm_from a) c meant.matters.ascends refl may
 
 -- The matter after a change of its head and seats.
 
@@ -130,45 +96,6 @@ whole_after new rows c may head seats figures are = record {
   entries = are.entries;
   numbered = are.numbered;
 }
-
--- The firm after it.
-
--- the head of the matter is put in and its part is what the change makes of it; the other parts stay; the movements are
--- those that the change leaves and what it moves; the firm's own tables stay
-record IsMatterPut (m : ℕ) (c : MatterChange) (a b : Lists) (new : table.Head) : Type 0 where
-  own : new.no ≡ pos m
-  heads : b.heads ≡ put_head new a.heads
-  others : (h : table.Head) → (h.no ≡ pos m → ⊥) → part_from b h ≡ part_from a h
-  whole : IsWhole (part_from b new) (changed c (rows_in m (matters_from a)))
-  movements : map movement_from b.movements
-      ≡ kept_movements m c.edit (map movement_from a.movements ++ joined_movement m c.movement)
-  firm_lines : b.firm_lines ≡ a.firm_lines
-  exceptions : b.exceptions ≡ a.exceptions
-  balances : b.balances ≡ a.balances
-
--- the firm is that after the change, and its matters are whole
-matter_becomes : (m : ℕ) (c : MatterChange) (a b : Lists) (new : table.Head) → IsKeyedBy key a.heads → AreMeant a
-    → IsChange (of m (firm_from a)) c → (c.edit ≡ edit.Nothing → ⊥) → IsMatterPut m c a b new
-    → (firm_from b ≡ after_change m c (firm_from a)) × AreKeptWhole (matters_from b)
-matter_becomes m c a b new up meant may some is =
-    let ks = matters_from a in
-    let moves = map movement_from a.movements in
-    let own = map firm_line_from a.firm_lines in
-    let lines = map exception_from (sort_by table.exception_cmp a.exceptions) in
-    let balances = map balance_from (sort_by table.balance_cmp a.balances) in
-    let here : IsChange (rows_in m ks) c = change_at a m c meant may in
-    let kept : IsKeptAs m (changed c (rows_in m ks)) ks (matters_from b) = record {
-      part = part_from b new;
-      whole = is.whole;
-      kept = heads_put a b m new up meant.written.heads is.own is.heads is.others;
-    } in (
-      (λ i. firm_of (matters_from b) (map movement_from b.movements) (map firm_line_from (is.firm_lines i))
-          (map exception_from (sort_by table.exception_cmp (is.exceptions i)))
-          (map balance_from (sort_by table.balance_cmp (is.balances i))))
-          ∙ written_firm m c ks (matters_from b) moves (map movement_from b.movements) own lines balances
-          meant.matters.ascends here kept is.movements (firm_from a) some refl,
-      kept-whole m (changed c (rows_in m ks)) ks (matters_from b) here.sound kept meant.matters,
-    )
 
 -- The rows of the other tables.
 
@@ -205,6 +132,30 @@ module _ (m : ℕ) (c : MatterChange) (a : Lists) (h : Head) (seats : List table
   abbrev end : Lists
   end = with_matter a new seats entries movements
 
+  -- the firm is that after the change, and its matters are whole
+  matter_becomes : IsKeyedBy key a.heads → AreMeant a → IsChange (of m (firm_from a)) c
+      → (c.edit ≡ edit.Nothing → ⊥) → ArePlaced m a seats entries movements
+      → IsWhole (part_from end new) (changed c (rows_in m (matters_from a)))
+      → map movement_from movements
+      ≡ kept_movements m c.edit (map movement_from a.movements ++ joined_movement m c.movement)
+      → (firm_from end ≡ after_change m c (firm_from a)) × AreKeptWhole (matters_from end)
+  matter_becomes up meant may some placed whole moved =
+      let ks = matters_from a in
+      let here : IsChange (rows_in m ks) c = change_at a m c meant may in
+      let kept : IsKeptAs m (changed c (rows_in m ks)) ks (matters_from end) = record {
+        part = part_from end new;
+        whole = whole;
+        kept = heads_put a end m new up meant.written.heads refl refl (λ x other. λ i. record {
+          head = Some (head_from x);
+          seats = map seat_from (placed.seats_placed.others x.no other i);
+          figures = figures_from x;
+          kept = map kept_from (placed.entries_placed.others x.no other i);
+        });
+      } in (
+        written_firm m c ks (matters_from end) _ _ _ _ _ meant.matters.ascends here kept moved (firm_from a) some refl,
+        kept-whole m (changed c (rows_in m ks)) ks (matters_from end) here.sound kept meant.matters,
+      )
+
   -- tables with these rows stand for the firm after the change, where the matter's rows are those after it
   pub matter_done : (b : Lists) → b ≡ end → IsKeyedBy key a.heads → AreMeant a → IsChange (of m (firm_from a)) c
       → (c.edit ≡ edit.Nothing → ⊥) → HasDays h → ArePlaced m a seats entries movements
@@ -213,22 +164,7 @@ module _ (m : ℕ) (c : MatterChange) (a : Lists) (h : Head) (seats : List table
       ≡ kept_movements m c.edit (map movement_from a.movements ++ joined_movement m c.movement)
       → IsMatterMade m c a b
   matter_done b same up meant may some days placed whole moved =
-      let put : IsMatterPut m c a end new = record {
-        own = refl;
-        heads = refl;
-        others = λ x other. λ i. record {
-          head = Some (head_from x);
-          seats = map seat_from (placed.seats_placed.others x.no other i);
-          figures = figures_from x;
-          kept = map kept_from (placed.entries_placed.others x.no other i);
-        };
-        whole = whole;
-        movements = moved;
-        firm_lines = refl;
-        exceptions = refl;
-        balances = refl;
-      } in
-      let done = matter_becomes m c a end new up meant may some put in
+      let done = matter_becomes up meant may some placed whole moved in
       let here : HasHeadAt end.heads (pos m) = has_put_head new a.heads in
       let still : (k : ℤ) → HasHeadAt a.heads k → HasHeadAt end.heads k = still_has_head new a.heads in
       let rows : AreMeant end = record {

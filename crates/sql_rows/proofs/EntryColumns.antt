@@ -1,5 +1,5 @@
 -- The columns of an entry have what its kind and state want.
-use Rattle.sql_rows.proofs.Names.{◌≡◌, ℕ, pos, refl, ap, subst, ◌∙◌, Deposit, DepositState, Payment, PaymentState, Claim, ClaimState, Against, Entry, Kept, parts_of, entry_columns, HasEntry}
+use Rattle.sql_rows.proofs.Names.{◌≡◌, ℕ, pos, refl, ap, subst, ◌∙◌, Deposit, DepositState, Payment, PaymentState, Claim, ClaimState, Against, Entry, Kept, parts_of, entry_columns, HasEntry, rules}
 use Rattle.matter_rows.specs.declared.deposit.DepositState.TheVariants as deposit
 use Rattle.matter_rows.specs.declared.payment.PaymentState.TheVariants as payment
 use Rattle.matter_rows.specs.declared.claim.ClaimState.TheVariants as claim
@@ -14,32 +14,22 @@ HasItself m n left e = HasEntry e (parts_of e).day (parts_of e).amount (entry_co
 deposit_has :
     (m n left : ℕ) (s : DepositState) (d : Deposit)
     → HasItself m n left (entry.Deposit (record d { state = s }))
-deposit_has m n left deposit.Held d = (refl, (refl, refl, refl, refl, refl))
-deposit_has m n left (deposit.Cleared c) d = (refl, (refl, refl, refl, refl, (refl, (refl, refl))))
-deposit_has m n left (deposit.Cancelled on) d = (refl, (refl, refl, refl, refl, (refl, refl)))
-deposit_has m n left (deposit.Returned r) d =
-    (refl, (refl, refl, refl, refl, (refl, ((refl, refl), (refl, refl), refl))))
+deposit_has m n left deposit.Held d = search rules
+deposit_has m n left _ d = search rules
 
 payment_has :
     (m n left : ℕ) (s : PaymentState) (p : Payment)
     → HasItself m n left (entry.Payment (record p { state = s }))
-payment_has m n left payment.Proposed p = (refl, (refl, refl, (refl, refl), refl, refl, refl, refl))
-payment_has m n left payment.Declined p = (refl, (refl, refl, (refl, refl), refl, refl, refl, refl))
-payment_has m n left (payment.Issued on) p = (refl, (refl, refl, (refl, refl), refl, refl, refl, (refl, refl)))
-payment_has m n left (payment.Cleared s) p =
-    (refl, (refl, refl, (refl, refl), refl, refl, refl, (refl, refl, (refl, refl))))
-payment_has m n left (payment.Voided s) p = (refl, (refl, refl, (refl, refl), refl, refl, refl, (refl, refl, refl)))
+payment_has m n left payment.Proposed p = search rules
+payment_has m n left _ p = search rules
 
 claim_has :
     (m n left : ℕ) (a : Against) (s : ClaimState) (c : Claim)
     → HasItself m n left (entry.Claim (record c { state = s; against = a }))
-claim_has m n left (against.General t) claim.Open c = (refl, (refl, refl, (refl, refl), refl, refl))
-claim_has m n left (against.General t) (claim.Offered part) c = (refl, (refl, refl, (refl, refl), refl, (refl, refl)))
-claim_has m n left (against.General t) (claim.Settled s) c =
-    (refl, (refl, refl, (refl, refl), refl, (refl, refl, refl)))
-claim_has m n left (against.Fee k) claim.Open c = (refl, (refl, refl, (refl, refl), refl, refl))
-claim_has m n left (against.Fee k) (claim.Offered part) c = (refl, (refl, refl, (refl, refl), refl, (refl, refl)))
-claim_has m n left (against.Fee k) (claim.Settled s) c = (refl, (refl, refl, (refl, refl), refl, (refl, refl, refl)))
+claim_has m n left (against.General t) claim.Open c = search rules
+claim_has m n left (against.General t) _ c = search rules
+claim_has m n left (against.Fee k) claim.Open c = search rules
+claim_has m n left (against.Fee k) _ c = search rules
 
 has_itself : (m n left : ℕ) (e : Entry) → HasItself m n left e
 has_itself m n left (entry.Deposit d) = deposit_has m n left d.state d

@@ -1,5 +1,5 @@
 -- The entry of a number among the rows of the table is that of the matter that they stand for.
-use Rattle.sql_rows.proofs.Names.{◌≡◌, inl, inr, ℕ, ℤ, pos, nat_abs, ◌≤◌, ◌+◌, Bool, cond, eqb, List, [], ◌∷◌, map, filter, find, length, Some, option_map, int_eq, refl, ap, ◌∙◌, arith, AllByRecursion, cases_Bool, length_permutation, sort_by, IsPermutation-filter, at_most_one, IsPermutation-sort_by, kept_in, AreNumbered, entry_cmp, is_entry_at, is_entry_of, entries_of, kept_from}
+use Rattle.sql_rows.proofs.Names.{◌≡◌, inl, inr, ℕ, ℤ, pos, nat_abs, ◌+◌, Bool, cond, eqb, List, [], ◌∷◌, map, filter, find, Some, option_map, int_eq, refl, ap, ◌∙◌, AllByRecursion, cases_Bool, sort_by, at_most_one, kept_in, AreNumbered, entry_cmp, is_entry_at, is_entry_of, kept_from}
 use Rattle.sql_tables.specs.Rows.{Entry}
 use Rattle.sql_rows.proofs.EntryOrder.{HasNumber, entry_total, kept_of, number_is, numbers_of, numbers_rise, same_test}
 use Rattle.sql_rows.proofs.RowOrder.{find-sort_by}
@@ -33,9 +33,6 @@ kept_is_found m n es have numbered =
     let ys = sort_by entry_cmp xs in
     let q = has_no (pos n) in
     let ys_have = numbers_of m es have in
-    let few : length (filter q ys) ≤ 1 =
-    at_most_one (λ (e : Entry). e.no) (pos n) q (λ e h. h) ys (numbers_rise 1 ys ys_have numbered) in
-    let sorting = IsPermutation-sort_by entry_cmp entry_total xs in
-    let same = length_permutation _ _ (IsPermutation-filter q _ _ sorting) in
-    by_numbers n 1 (entries_of m es) ys_have numbered
-    ∙ ap (option_map kept_from) (find-sort_by entry_cmp q xs (omega (arith, few, same)) ∙ find_both m (pos n) es)
+    let few = at_most_one (λ (e : Entry). e.no) (pos n) q (λ e h. h) ys (numbers_rise 1 ys ys_have numbered) in
+    by_numbers n 1 ys ys_have numbered
+    ∙ ap (option_map kept_from) (find-sort_by entry_cmp entry_total q xs few ∙ find_both m (pos n) es)

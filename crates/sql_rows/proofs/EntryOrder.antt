@@ -48,7 +48,7 @@ have_numbers es all = all_weaker IsWrittenEntry HasNumber written_number es all
 -- those of a matter too
 pub numbers_of : (m : ℤ) (es : List Entry) → AllByRecursion HasNumber es → AllByRecursion HasNumber (entries_of m es)
 numbers_of m es all =
-    all-sort_by entry_cmp HasNumber (filter (is_entry_of m) es) (all-filter HasNumber (is_entry_of m) es all)
+    all-sort_by entry_cmp entry_total HasNumber (filter (is_entry_of m) es) (all-filter HasNumber (is_entry_of m) es all)
 
 -- the number that a row is read with is that of its column
 pub number_is : (e : Entry) (i : ℕ) → HasNumber e → nat_abs e.no ≡ i → e.no ≡ pos i

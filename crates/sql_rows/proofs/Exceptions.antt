@@ -1,5 +1,5 @@
 -- The exceptions of a firm, as their table keeps them and in their order.
-use Rattle.sql_rows.proofs.Names.{◌≡◌, ℤ, pos, nat_abs, Bool, true, false, not, ◌&&◌, cond, List, [], ◌∷◌, ◌++◌, map, refl, sym, ap, ◌∙◌, true≢false, int_cmp, Ordering, Less, Equal, Greater, is_eq, IsPermutation, Contains, AllByRecursion, list_any, IsTotalOrder, tied_then, ordering_then, cond_both, int_cmp_total, nat_list_cmp_total, on_total, then_total, list_any-IsPermutation, IsPermutation-sym, IsKeyedBy, next_key, sort_by, delete_where, all_weaker, all_both, all-append, none_from_any, IsPermutation-sort_by, Line, with_line, without_line, text_cmp, Exception, exception_cmp, is_exception, note_exception, exception_columns, IsWrittenException, exception_from}
+use Rattle.sql_rows.proofs.Names.{◌≡◌, ℤ, pos, nat_abs, Bool, true, false, not, ◌&&◌, cond, List, [], ◌∷◌, ◌++◌, map, refl, sym, ap, ◌∙◌, int_cmp, Ordering, Equal, is_eq, IsPermutation, Contains, AllByRecursion, list_any, IsTotalOrder, tied_then, ordering_then, cond_both, int_cmp_total, nat_list_cmp_total, on_total, then_total, list_any-IsPermutation, IsPermutation-sym, IsKeyedBy, next_key, sort_by, delete_where, all_weaker, all_both, all-append, none_from_any, IsPermutation-sort_by, Line, with_line, without_line, text_cmp, Exception, exception_cmp, is_exception, note_exception, exception_columns, IsWrittenException, exception_from, arith}
 use Rattle.std.specs.List.Sorted.{IsStrictlySortedBy}
 use Rattle.std.proofs.lemmas.Map.Views.{Contains-from_any}
 use Rattle.trust_base.specs.LineOrder.{line_cmp, is_same_line}
@@ -25,20 +25,12 @@ dated e is = ap (λ (x : Exception). x.day) is
 five_then : (d r b m t i : Ordering)
     → ordering_then d (ordering_then r (ordering_then b (ordering_then m (ordering_then t i))))
     ≡ ordering_then (ordering_then d (ordering_then r (ordering_then b (ordering_then m t)))) i
-five_then d r b m t i =
-    ap (ordering_then d)
-    (ap (ordering_then r) (ap (ordering_then b) (then_assoc m t i) ∙ then_assoc b (ordering_then m t) i)
-    ∙ then_assoc r (ordering_then b (ordering_then m t)) i)
-    ∙ then_assoc d (ordering_then r (ordering_then b (ordering_then m t))) i
+five_then d r b m t i = simp then_assoc
 
 five_tied : (d r b m t : Ordering)
     → (is_eq d && (is_eq r && (is_eq b && (is_eq m && is_eq t))))
     ≡ is_eq (ordering_then d (ordering_then r (ordering_then b (ordering_then m t))))
-five_tied d r b m t =
-    ap (λ x. is_eq d && x)
-    (ap (λ x. is_eq r && x) (ap (λ x. is_eq b && x) (tied_then m t) ∙ tied_then b (ordering_then m t))
-    ∙ tied_then r (ordering_then b (ordering_then m t)))
-    ∙ tied_then d (ordering_then r (ordering_then b (ordering_then m t)))
+five_tied d r b m t = simp tied_then
 
 -- by all but the day
 abbrev behind_day : Line → Line → Ordering
@@ -90,16 +82,14 @@ exceptions_without line es up all =
 -- With a line.
 
 tied : (o : Ordering) → is_eq o ≡ true → o ≡ Equal
-tied Less h = absurd (true≢false (sym h))
-tied Equal h = refl
-tied Greater h = absurd (true≢false (sym h))
+tied o h = grind arith
 
 there_already : (line : Line) (es : List Exception) → AllByRecursion IsWrittenException es
     → list_any (is_exception (exception_columns line)) es ≡ true → Contains (lines_from es) line
 there_already line es all any =
     let same : IsPermutation es (sort_by exception_cmp es) =
     IsPermutation-sym _ _ (IsPermutation-sort_by exception_cmp exception_total es) in
-    let sorted = all-sort_by exception_cmp _ es (are_of_line line es all) in
+    let sorted = all-sort_by exception_cmp exception_total _ es (are_of_line line es all) in
     Contains-from_any (λ x y h. sym (line_same y x (tied (line_cmp y x) h))) line (lines_from es)
     (any_read (is_exception (exception_columns line)) (λ l. is_same_line l line) exception_from
     (sort_by exception_cmp es) sorted

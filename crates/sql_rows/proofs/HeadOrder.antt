@@ -1,5 +1,5 @@
 -- The matters by number, after a head was put in, and what is found of one.
-use Rattle.sql_rows.proofs.Names.{◌≡◌, inl, inr, ℕ, ℤ, pos, ◌<ℤ◌, List, [], ◌∷◌, map, find, Option, Some, None, refl, sym, ap, ap₂, ◌∙◌, arith, nat_lt, ◌==◌, AllByRecursion, ints, cases_Bool, nat_tests, IsKeyedBy, insert_by, delete_where, Less-from_lt, all_weaker, Rows, unopened, Part, rows_kept, rows_in, matters_with, put_head, is_head}
+use Rattle.sql_rows.proofs.Names.{◌≡◌, inl, inr, ℕ, ℤ, pos, ◌<ℤ◌, List, [], ◌∷◌, map, find, Option, Some, None, refl, sym, ap, ap₂, ◌∙◌, arith, nat_lt, ◌==◌, AllByRecursion, ints, cases_Bool, nat_tests, IsKeyedBy, insert_by, delete_where, Less-from_lt, all_weaker, Rows, unopened, Part, rows_kept, rows_in, matters_with, put_head, is_head, filter_all, not, none_past}
 use Rattle.std.specs.Prelude.{nat_abs}
 use Rattle.trust_store.specs.declared.plain.KeptMatter.{KeptMatter}
 use Rattle.sql_tables.specs.Rows.{Head}
@@ -21,8 +21,7 @@ made_by part h = record { number = nat_abs h.no; matter = part h }
 
 pub none_gone : (n : ℤ) (hs : List Head) → AllByRecursion (λ (h : Head). n <ℤ h.no) hs
     → delete_where (is_head n) hs ≡ hs
-none_gone n [] up = refl
-none_gone n (h ∷ hs) up = rw (apart_above h.no n up.0) (ap (λ l. h ∷ l) (none_gone n hs up.1))
+none_gone n hs up = filter_all _ hs (all_weaker _ _ (λ h above. ap not (apart_above h.no n above)) hs up)
 
 pub goes_first : (new : Head) (hs : List Head) → AllByRecursion (λ (h : Head). new.no <ℤ h.no) hs
     → insert_by key hs new ≡ new ∷ hs
@@ -84,11 +83,6 @@ abbrev pub rows_found : (Head → Part) → Option Head → Rows
 rows_found part None = unopened
 rows_found part (Some h) = rows_kept (part h)
 
-none_above : (m : ℕ) (hs : List Head) → AllByRecursion (λ (y : Head). pos m <ℤ y.no) hs
-    → find (is_head (pos m)) hs ≡ None
-none_above m [] above = refl
-none_above m (y ∷ ys) above = rw (apart_above y.no (pos m) above.0) (none_above m ys above.1)
-
 -- the rows of a matter among those that the heads make
 pub rows_in-made : (part : Head → Part) (hs : List Head) (m : ℕ) → IsKeyedBy key hs → AllByRecursion IsNumbered hs
     → rows_in m (map (made_by part) hs) ≡ rows_found part (find (is_head (pos m)) hs)
@@ -107,7 +101,7 @@ rows_in-made part (x ∷ hs) m up numbered =
             rw (high, e, here) refl
         | inr off ↦
             let gt = lt_ints (pos m) x.no m k refl is (grind (arith, nat_tests)) in
-            let none = none_above m (x ∷ hs) (
+            let none = none_past key (x ∷ hs) (pos m) (
               gt,
               all_weaker (λ (y : Head). x.no <ℤ y.no) (λ (y : Head). pos m <ℤ y.no)
                   (λ y lt. omega (arith, ints, lt, gt)) hs up.0,

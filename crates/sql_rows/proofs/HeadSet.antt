@@ -27,7 +27,7 @@ module _ (n : ℤ) (f : Head → Head) (same : (h : Head) → (f h).no ≡ h.no)
     | inr off ↦
         let later : find (is_head n) hs ≡ Some h = rw off at found in
         let low : x.no <ℤ (f h).no =
-        subst (λ k. x.no <ℤ k) (sym (same h)) (all-find (λ (y : Head). x.no <ℤ y.no) (is_head n) hs h up.0 later).0 in
+        subst (λ k. x.no <ℤ k) (sym (same h)) (all-find (λ (y : Head). x.no <ℤ y.no) (is_head n) hs h up.0 later) in
         rw (off, apart_below x.no (f h).no low)
         (rw (Less-from_lt x.no (f h).no low) (ap (λ l. x ∷ l) (changed_is_put h hs up.1 later)))
   ]

@@ -1,5 +1,5 @@
 -- What is found of a matter's head, what is written of one, and the matters after one was put in.
-use Rattle.sql_rows.proofs.Names.{◌≡◌, inl, inr, ℕ, ℤ, pos, ◌≤◌, true, false, List, [], ◌∷◌, map, find, Option, Some, None, option_map, refl, sym, ap, subst, ◌∙◌, arith, int_eq, ◌==◌, IfSome, AllByRecursion, cases_Bool, nat_tests, IsKeyedBy, delete_where, all-insert_by, has_key-insert_by, has_key-delete_where, same_int, all-filter, Head, Client, Purged, Seat, Entry, Rows, seen_on, closed_head, cleared_head, Sound, IsBare, Edit, Figures, IsWhole, head_after, changed_by, rows_kept, rows_in, matters_with, IsKeptWhole, AreKeptWhole, put_head, is_head, Lists, HasHead, client_column, closed_column, head_columns, purged_column, part_from, matter_from, matters_from, head_from, holder_from, day_or_none, IsWrittenHead, HasHeadAt, IsTypedEdit, head_at}
+use Rattle.sql_rows.proofs.Names.{◌≡◌, inl, inr, ℕ, ℤ, pos, ◌≤◌, true, false, List, [], ◌∷◌, map, find, Option, Some, None, option_map, refl, sym, ap, subst, ◌∙◌, arith, int_eq, ◌==◌, IfSome, AllByRecursion, cases_Bool, nat_tests, IsKeyedBy, delete_where, all-insert_by, has_key-insert_by, has_key-delete_where, same_int, all-filter, Head, Client, Purged, Seat, Entry, Rows, IsBare, Figures, IsWhole, rows_in, matters_with, IsKeptWhole, AreKeptWhole, put_head, is_head, Lists, HasHead, client_column, closed_column, head_columns, purged_column, part_from, matter_from, matters_from, head_from, holder_from, day_or_none, IsWrittenHead, HasHeadAt, head_at, all_unmap, all_weaker, cond_both}
 use Rattle.std.specs.Prelude.{nat_abs}
 use Rattle.matter_rows.specs.declared.head.Holder.{Holder}
 use Rattle.matter_parts.specs.declared.edit.Edit.TheVariants as edit
@@ -12,8 +12,7 @@ use Rattle.sql_rows.proofs.RowOrder.{all-find, found_passes}
 
 -- written heads have numbers
 are_numbered : (hs : List table.Head) → AllByRecursion IsWrittenHead hs → AllByRecursion IsNumbered hs
-are_numbered [] all = tt
-are_numbered (h ∷ hs) all = (all.0.0, are_numbered hs all.1)
+are_numbered hs = all_weaker IsWrittenHead IsNumbered (λ h is. is.0) hs
 
 -- after a head was put in and the parts of other matters stay, the matter is there with it, and the others as they were
 pub heads_put : (a b : Lists) (m : ℕ) (new : table.Head) → IsKeyedBy key a.heads → AllByRecursion IsWrittenHead a.heads
@@ -43,26 +42,15 @@ head_found a m up written = shown (find (is_head (pos m)) a.heads)
 pub found_number : (a : Lists) (m : ℕ) (h : table.Head) → find (is_head (pos m)) a.heads ≡ Some h → h.no ≡ pos m
 found_number a m h found = same_int h.no (pos m) (found_passes (is_head (pos m)) a.heads h found)
 
--- its matter is one of the whole ones
-pub whole_found : (a : Lists) (m : ℕ) (h : table.Head) → AreKeptWhole (matters_from a)
-    → find (is_head (pos m)) a.heads ≡ Some h → IsKeptWhole (matter_from a h)
-whole_found a m h kept found =
-    (all-find (λ (x : table.Head). IsKeptWhole (matter_from a x)) (is_head (pos m)) a.heads h
-    (all_unmade a.heads kept.whole) found).0
-  where
-    all_unmade : (hs : List table.Head) → AllByRecursion IsKeptWhole (map (matter_from a) hs)
-        → AllByRecursion (λ (x : table.Head). IsKeptWhole (matter_from a x)) hs
-    all_unmade [] all = tt
-    all_unmade (x ∷ hs) all = (all.0, all_unmade hs all.1)
-
--- and whole for its rows
+-- its matter is one of the whole ones, and whole for its rows
 pub part_found : (a : Lists) (m : ℕ) (h : table.Head) → IsKeyedBy key a.heads → AllByRecursion IsWrittenHead a.heads
     → AreKeptWhole (matters_from a) → find (is_head (pos m)) a.heads ≡ Some h
     → IsWhole (part_from a h) (rows_in m (matters_from a))
 part_found a m h up written kept found =
-    let rows : rows_in m (matters_from a) ≡ rows_kept (part_from a h) =
-    rows_at a m up written ∙ ap (rows_found (part_from a)) found in
-    subst (IsWhole (part_from a h)) (sym rows) (whole_found a m h kept found).whole
+    let whole : IsKeptWhole (matter_from a h) =
+    all-find (λ (x : table.Head). IsKeptWhole (matter_from a x)) (is_head (pos m)) a.heads h
+    (all_unmap IsKeptWhole (matter_from a) a.heads kept.whole) found in
+    subst (IsWhole (part_from a h)) (sym (rows_at a m up written ∙ ap (rows_found (part_from a)) found)) whole.whole
 
 -- The head that is written is read back, where its days are above 0.
 
@@ -110,63 +98,21 @@ head_written m h f days = (
 
 -- a head that was read has such days
 holder_read : (h : table.Head) → IsHeld (holder_from h)
-holder_read h = elim (cases_Bool (nat_abs h.purged == 0)) [
-  | inl e ↦ rw e tt
-  | inr e ↦ rw e (some_day (nat_abs h.purged) e)
-]
+holder_read h =
+    cond_both (nat_abs h.purged == 0) (Client h.client) (Purged (nat_abs h.purged)) IsHeld (λ _. tt)
+    (λ e. some_day (nat_abs h.purged) e)
 
 closed_read : (n : ℕ) → IsDated (day_or_none n)
-closed_read n = elim (cases_Bool (n == 0)) [
-  | inl e ↦ rw e tt
-  | inr e ↦ rw e (some_day n e)
-]
+closed_read n = cond_both (n == 0) None (Some n) IsDated (λ _. tt) (λ e. some_day n e)
 
-days_read : (h : table.Head) → HasDays (head_from h)
+pub days_read : (h : table.Head) → HasDays (head_from h)
 days_read h = record { holder = holder_read h; closed = closed_read (nat_abs h.closed) }
 
 -- a matter with a seat was not purged
-seated_held : (o : Holder) (closed : Option ℕ) (last : ℕ) (s : Seat) (es : List Entry)
+pub seated_held : (o : Holder) (closed : Option ℕ) (last : ℕ) (s : Seat) (es : List Entry)
     → IsBare o closed last (s ∷ []) es → IsHeld o
 seated_held (Client name) closed last s es bare = tt
 seated_held (Purged day) closed last s es bare = absurd (let none = bare.1.1.0 in cc)
-
--- a head, if there is one, has its days
-abbrev pub HasDaysIfSome : Option Head → Type 0
-HasDaysIfSome o = IfSome o HasDays
-
-seen_days : (o : Option Head) (last : ℕ) → HasDaysIfSome o → HasDaysIfSome (seen_on o last)
-seen_days None last days = tt
-seen_days (Some h) last days = record { holder = days.holder; closed = days.closed }
-
-closed_has_days : (o : Option Head) (day last : ℕ) → 1 ≤ day → HasDaysIfSome o → HasDaysIfSome (closed_head o day last)
-closed_has_days None day last one days = tt
-closed_has_days (Some h) day last one days = record { holder = days.holder; closed = one }
-
-cleared_has_days : (o : Option Head) (day last : ℕ) → 1 ≤ day → HasDaysIfSome o
-    → HasDaysIfSome (cleared_head o day last)
-cleared_has_days None day last one days = tt
-cleared_has_days (Some h) day last one days = record { holder = one; closed = days.closed }
-
--- so the head after an edit that leaves sound rows has its days, where that before it had them
-pub days_after : (rows : Rows) (e : Edit) (last : ℕ) → IsTypedEdit e → Sound (changed_by e last rows)
-    → HasDaysIfSome rows.head → HasDaysIfSome (head_after rows.head e last)
-days_after rows edit.Nothing last typed sound days = days
-days_after rows (edit.Open o) last typed sound days =
-    record {
-      holder = seated_held o.head.holder o.head.closed o.head.last o.seat rows.entries sound.bare;
-      closed = typed;
-    }
-days_after rows (edit.Close day) last typed sound days = closed_has_days rows.head day last typed days
-days_after rows (edit.Clear day) last typed sound days = cleared_has_days rows.head day last typed days
-days_after rows _ last typed sound days = seen_days rows.head last days
-
--- the head that is found has its days
-pub days_found : (a : Lists) (m : ℕ) → HasDaysIfSome (head_at m a)
-days_found a m = shown (find (is_head (pos m)) a.heads)
-  where
-    shown : (o : Option table.Head) → HasDaysIfSome (option_map head_from o)
-    shown None = tt
-    shown (Some h) = days_read h
 
 -- The heads after one was put in.
 

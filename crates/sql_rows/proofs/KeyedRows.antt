@@ -1,5 +1,5 @@
 -- Rows of a table by their numbers: which are there, and which are left where some are taken out.
-use Rattle.sql_rows.proofs.Names.{◌≡◌, inl, inr, ℕ, ℤ, pos, ◌<ℤ◌, ◌<◌, ◌≤◌, Bool, true, false, not, ◌&&◌, List, [], ◌∷◌, filter, find, None, is_some, refl, sym, ap, ◌∙◌, subst, arith, int_eq, int_cmp, Ordering, Less, Equal, Greater, true≢false, ◌==◌, AllByRecursion, ints, cases_Bool, nat_tests, has_key, insert_by, delete_where, same_int, int_eq_apart, filter-filter, HasHeadAt}
+use Rattle.sql_rows.proofs.Names.{◌≡◌, inl, inr, ℕ, ℤ, pos, ◌<ℤ◌, ◌<◌, ◌≤◌, Bool, true, false, not, ◌&&◌, List, [], ◌∷◌, filter, find, None, is_some, refl, sym, ap, ◌∙◌, subst, arith, int_eq, int_cmp, Ordering, Less, Greater, true≢false, ◌==◌, AllByRecursion, ints, cases_Bool, nat_tests, has_key, insert_by, delete_where, same_int, int_eq_apart, filter-filter, HasHeadAt, all_weaker, filter_none}
 use Rattle.sql_tables.specs.Rows as table
 
 -- Numbers.
@@ -44,21 +44,17 @@ has_key-put key (x ∷ xs) new = cases (int_cmp (key x) (key new)) refl (has_key
     cases : (o : Ordering) → int_cmp (key x) (key new) ≡ o → has_key key (insert_by key xs new) (key new) ≡ true
         → has_key key (insert_by key (x ∷ xs) new) (key new) ≡ true
     cases Less is more = rw is (elim (cases_Bool (int_eq (key x) (key new))) [ inl e ↦ rw e refl | inr e ↦ rw e more ])
-    cases Equal is more = rw is (rw (int_eq-itself (key new)) refl)
-    cases Greater is more = rw is (rw (int_eq-itself (key new)) refl)
+    cases _ is more = rw is (rw (int_eq-itself (key new)) refl)
 
 -- where no head has the number, no row names it
 pub none_of : {X : Type 0} (number : X → ℤ) (heads : List table.Head) (k : ℤ) (xs : List X)
     → find (table.is_head k) heads ≡ None → AllByRecursion (λ x. HasHeadAt heads (number x)) xs
     → filter (λ x. int_eq (number x) k) xs ≡ []
-none_of number heads k [] none all = refl
-none_of number heads k (x ∷ xs) none all = elim (cases_Bool (int_eq (number x) k)) [
-  | inl e ↦
-      let here : HasHeadAt heads k = subst (HasHeadAt heads) (same_int (number x) k e) all.0 in
-      let gone : is_some (find (table.is_head k) heads) ≡ false = ap is_some none in
-      absurd (true≢false (sym here ∙ gone))
-  | inr e ↦ rw e (none_of number heads k xs none all.1)
-]
+none_of number heads k xs none all =
+    filter_none _ xs
+    (all_weaker _ _ (λ x has. int_eq_apart (number x) k (λ e.
+    let here : HasHeadAt heads k = subst (HasHeadAt heads) e has in
+    true≢false (sym here ∙ ap is_some none))) xs all)
 
 -- Rows that are taken out.
 

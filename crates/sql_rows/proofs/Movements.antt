@@ -1,10 +1,11 @@
 -- The firm's movements, after one was added and after those of a matter are gone.
-use Rattle.sql_rows.proofs.Names.{◌≡◌, inl, inr, ℕ, ℤ, pos, ◌≤◌, true, false, List, [], ◌∷◌, ◌++◌, map, Option, Some, None, refl, sym, ap, ◌∙◌, arith, append-nil, int_eq, ◌==◌, AllByRecursion, map-append, cases_Bool, nat_tests, delete_where, all-append, all-filter, EntryMovement, Movement, is_of_matter, moved_without, joined_movement, is_movement_of, Lists, movement_columns, matter_column, entry_column, movement_from, owner_from, IsWrittenMovement, AreMade, movement_steps}
+use Rattle.sql_rows.proofs.Names.{◌≡◌, ℕ, ℤ, pos, ◌≤◌, false, List, [], ◌∷◌, ◌++◌, map, Option, Some, None, refl, sym, ap, ◌∙◌, arith, append-nil, int_eq, ◌==◌, AllByRecursion, map-append, nat_tests, delete_where, all-append, EntryMovement, Movement, is_of_matter, moved_without, joined_movement, is_movement_of, Lists, movement_columns, matter_column, entry_column, movement_from, owner_from, IsWrittenMovement, AreMade, movement_steps, all_weaker, not}
 use Rattle.std.specs.Prelude.{nat_abs, cond}
 use Rattle.firm_rows.specs.declared.movement.Owner.{Owner}
 use Rattle.firm_rows.specs.declared.movement.Owner.TheVariants as owner
 use Rattle.sql_tables.specs.Rows as table
 use Rattle.sql_rows.proofs.KeyedRows.{int_eq-nat, not_zero}
+use Rattle.sql_rows.proofs.RowOrder.{read-filter_agrees}
 
 -- matter 0 is the firm
 abbrev IsOwnerNumbered : Owner → Type 0
@@ -63,18 +64,7 @@ same_matter m owner.Firm z one is = rw is (int_eq-nat 0 m ∙ (let e : (0 == m) 
 -- those that are left stand for the movements without those of the matter
 pub movements_gone : (m : ℕ) (ms : List table.Movement) → 1 ≤ m → AllByRecursion IsWrittenMovement ms
     → map movement_from (delete_where (is_movement_of (pos m)) ms) ≡ moved_without m (map movement_from ms)
-movements_gone m [] one all = refl
-movements_gone m (x ∷ ms) one all =
-    let test : int_eq x.matter (pos m) ≡ is_of_matter m (owner_from x) =
-    same_matter m (owner_from x) x.matter one (ap (λ (y : table.Movement). y.matter) all.0) in
-    let more = movements_gone m ms one all.1 in
-    elim (cases_Bool (int_eq x.matter (pos m))) [
-      | inl e ↦ let gone : is_of_matter m (owner_from x) ≡ true = sym test ∙ e in rw (e, gone) more
-      | inr e ↦ let stays : is_of_matter m (owner_from x) ≡ false = sym test ∙ e in
-          rw (e, stays) (ap (λ l. movement_from x ∷ l) more)
-    ]
-
--- and each is what would be written
-pub written_movements_gone : (m : ℤ) (ms : List table.Movement) → AllByRecursion IsWrittenMovement ms
-    → AllByRecursion IsWrittenMovement (delete_where (is_movement_of m) ms)
-written_movements_gone m ms all = all-filter IsWrittenMovement _ ms all
+movements_gone m ms one all =
+    read-filter_agrees movement_from _ _ ms
+    (all_weaker IsWrittenMovement _ (λ x is. ap not
+    (same_matter m (owner_from x) x.matter one (ap (λ (y : table.Movement). y.matter) is))) ms all)

@@ -15,7 +15,7 @@ pub use Rattle.matter_parts.specs.declared.edit.Edit.{Edit}
 pub use Rattle.matter_parts.specs.declared.edit.Numbered.{Numbered}
 pub use Rattle.matter_parts.specs.declared.figures.Figures.{Figures}
 pub use Rattle.matter_parts.specs.declared.kept.Kept.{Kept}
-pub use Rattle.matter_rows.specs.Rows.{Rows, cleared_head, closed_head, closed_on, entry_at, role_in, seats_with, seats_without, seen_on, unopened}
+pub use Rattle.matter_rows.specs.Rows.{Rows, closed_on, entry_at, role_in, seats_with, seats_without, seen_on, unopened}
 pub use Rattle.matter_rows.specs.Sound.{IsBare, IsHeaded, Sound}
 pub use Rattle.matter_rows.specs.declared.claim.Against.{Against}
 pub use Rattle.matter_rows.specs.declared.claim.Claim.{Claim}
@@ -31,31 +31,34 @@ pub use Rattle.matter_rows.specs.declared.payment.PaymentState.{PaymentState}
 pub use Rattle.matter_rows.specs.declared.seat.Seat.{Seat}
 pub use Rattle.sql_tables.specs.Lists.{Lists}
 pub use Rattle.sql_tables.specs.Rows.{Balance, Exception, add_balance, add_seat, balance_cmp, change_head, entries_of, entry_cmp, exception_cmp, is_entry, is_entry_at, is_entry_of, is_exception, is_head, is_movement_of, is_seat, is_seat_of, note_exception, put_entry, put_head, put_left, same_text, seat_cmp, seats_of, text_cmp, with_left}
-pub use Rattle.sqlite_keyed.proofs.KeyedLemmas.{IsKeyedBy-delete_where, IsKeyedBy-insert_by, Less-from_lt, all-insert_by, has_key-delete_where, has_key-insert_by, int_eq_apart, same_int}
-pub use Rattle.sqlite_keyed.proofs.ListLemmas.{IsPermutation-filter, all-append, all-filter, all_both, all_map, all_of, all_unmap, all_weaker, ascending-append, ascending-filter, ascending_weaker, filter-filter, filter-map, filter_all, map-map, map_same, none_from_any}
+pub use Rattle.sqlite_keyed.proofs.KeyedLemmas.{IsKeyedBy-delete_where, IsKeyedBy-insert_by, Less-from_lt, all-insert_by, has_key-delete_where, has_key-insert_by, int_eq_apart, none_past, same_int}
+pub use Rattle.sqlite_keyed.proofs.ListLemmas.{IsPermutation-filter, all-append, all-filter, all-slice_get, all_both, all_map, all_of, all_unmap, all_weaker, ascending-append, ascending-filter, ascending_weaker, filter-filter, filter-map, filter_all, filter_none, map-map, map_same, none_from_any, slice_get-filter}
 pub use Rattle.sqlite_keyed.proofs.RuleLemmas.{at_most_one, first_of_both}
-pub use Rattle.sqlite_keyed.proofs.SortLemmas.{HasNoTies, IsPermutation-sort_by, sort_by-map, sorted_is-sort_by}
+pub use Rattle.sqlite_keyed.proofs.SliceLemmas.{any_is_found, is_some-map}
+pub use Rattle.sqlite_keyed.proofs.SortLemmas.{HasNoTies, IsPermutation-sort_by, sort_by-map, sorted_is-sort_by, sorted_unique}
 pub use Rattle.sqlite_keyed.specs.Keyed.{IsKeyedBy, has_key, insert_by, next_key}
 pub use Rattle.sqlite_keyed.specs.Lists.{delete_where, insert_sorted, sort_by, update_where}
+pub use Rattle.sqlite_trees.proofs.ListLemmas.{all-permutation, ascending-get_or, filter_same}
 pub use Rattle.sqlite_trees.specs.Tree.{IsAscending}
-pub use Rattle.std.proofs.Common.{Bool, Contains, Equal, Err, Greater, IfErr, IsPermutation, IsSorted, Less, List, None, Ok, Option, Ordering, Result, Some, [], add-one, ap, append-nil, ap₂, arith, cond, eqb, false, filter, find, inl, inr, int_cmp, int_eq, is_eq, is_gt, is_lt, is_some, length, map, nat_abs, not, option_map, pos, refl, rules, subst, suc, sym, true, true≢false, zero, ℕ, ℤ, ◌&&◌, ◌++◌, ◌+◌, ◌<ℤ◌, ◌<◌, ◌||◌, ◌∙◌, ◌∷◌, ◌≡◌, ◌≤ℤ◌, ◌≤◌, ◌⊎◌}
+pub use Rattle.std.proofs.Common.{Bool, Contains, Equal, Err, Greater, IfErr, IsPermutation, IsSorted, Less, List, None, Ok, Option, Ordering, Result, Some, [], ap, append-nil, ap₂, arith, cond, eqb, false, filter, find, get_or, inl, inr, int_cmp, int_eq, is_eq, is_gt, is_lt, is_some, length, map, nat_abs, not, option_map, pos, refl, rules, subst, sym, true, true≢false, ℕ, ℤ, ◌&&◌, ◌++◌, ◌+◌, ◌<ℤ◌, ◌<◌, ◌||◌, ◌∙◌, ◌∷◌, ◌≡◌, ◌≤ℤ◌, ◌≤◌, ◌⊎◌}
 pub use Rattle.std.proofs.lemmas.Bool.{cases_Bool, cond_both, false≢true}
 pub use Rattle.std.proofs.lemmas.Bool.Decides.{nat_tests}
 pub use Rattle.std.proofs.lemmas.Cmp.{int_cmp_total, nat_list_cmp_total, on_total, then_total}
 pub use Rattle.std.proofs.lemmas.Int.{ints}
 pub use Rattle.std.proofs.lemmas.List.{map-append}
-pub use Rattle.std.proofs.lemmas.List.Elements.{All-from_recursion, filter-append, filter_passes, recursion_from_All}
-pub use Rattle.std.proofs.lemmas.List.Sorted.{All-permutation, IsPermutation-append_comm, IsPermutation-append_left, IsPermutation-cons, IsPermutation-filter_both, IsPermutation-middle, IsPermutation-refl, IsPermutation-sym, IsPermutation-to_front, IsPermutation-trans, length_permutation, list_any-IsPermutation}
+pub use Rattle.std.proofs.lemmas.List.Elements.{filter-append, filter_passes, recursion_from_All}
+pub use Rattle.std.proofs.lemmas.List.Sorted.{IsPermutation-append_comm, IsPermutation-append_left, IsPermutation-cons, IsPermutation-filter_both, IsPermutation-middle, IsPermutation-push_more, IsPermutation-refl, IsPermutation-sym, IsPermutation-trans, length_permutation, list_any-IsPermutation}
 pub use Rattle.std.specs.Cmp.{IsTotalOrder, tied_then}
-pub use Rattle.std.specs.List.{AllByRecursion, list_any}
+pub use Rattle.std.specs.List.{AllByRecursion, list_any, slice_get}
 pub use Rattle.std.specs.Ordering.{nat_cmp, ordering_reverse, ordering_then}
 pub use Rattle.std.specs.Prelude.{IfSome, IsSome, nat_lt, ◌==◌}
 pub use Rattle.trust_base.specs.declared.line.Line.{Line}
-pub use Rattle.trust_store.specs.Kept.{AreKeptWhole, IsKeptAs, IsKeptWhole, firm_of, matters_with, rows_in, rows_kept}
+pub use Rattle.trust_store.specs.Kept.{AreKeptWhole, IsKeptAs, IsKeptWhole, matters_with, rows_in, rows_kept}
+pub use Rattle.trust_store.specs.declared.plain.KeptMatter.{KeptMatter}
 pub use Rattle.sql_rows.specs.Columns.{balance_columns, entry_column, exception_columns, firm_line_columns, kind_column, matter_column, movement_columns, role_column, seat_columns}
 pub use Rattle.sql_rows.specs.Entries.{HasEntry, entry_columns, parts_of}
 pub use Rattle.sql_rows.specs.Heads.{HasHead, client_column, closed_column, head_columns, purged_column, totals_columns}
 pub use Rattle.sql_rows.specs.Meaning.{AreKeyed, AreMeant, AreSound, AreWritten, HasHeadAt, IsWrittenBalance, IsWrittenEntry, IsWrittenException, IsWrittenFirmLine, IsWrittenHead, IsWrittenMovement, IsWrittenSeat, balance_from, balance_kind_from, day_or_none, entry_from, exception_from, figures_from, firm_from, firm_line_from, head_from, holder_from, kept_from, matter_from, matters_from, movement_from, owner_from, part_from, role_from, seat_from}
 pub use Rattle.sql_rows.specs.Scripts.{IsMeant, IsScriptMeant, IsTypedEdit, LineScriptsAreMeant, ScriptsAreMeant}
 pub use Rattle.sql_rows.specs.Standing.{EmptyTablesStand, EntriesReadBack}
-pub use Rattle.sql_rows.specs.Steps.{AreMade, SetClosed, SetPurged, Step, edit_steps, entry_steps, head_at, head_steps, left_steps, line_steps, matter_steps, movement_steps, totals_steps}
+pub use Rattle.sql_rows.specs.Steps.{AreMade, Step, edit_steps, entry_steps, head_at, head_steps, left_steps, line_steps, matter_steps, movement_steps, totals_steps}

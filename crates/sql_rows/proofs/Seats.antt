@@ -1,5 +1,5 @@
 -- The seats of a matter by person, after one is added or given up, and after all are gone.
-use Rattle.sql_rows.proofs.Names.{◌≡◌, ℕ, ℤ, pos, ◌<ℤ◌, false, not, List, [], ◌∷◌, ◌++◌, map, filter, find, None, refl, sym, ap, ◌∙◌, Ordering, is_eq, AllByRecursion, IsTotalOrder, int_cmp_total, nat_list_cmp_total, on_total, then_total, filter-append, IsKeyedBy, next_key, sort_by, delete_where, all_of, ascending-filter, IsPermutation-sort_by, Seat, role_in, seats_with, seats_without, seat_cmp, text_cmp, seats_of, is_seat, is_seat_of, add_seat, same_text, seat_columns, role_column, seat_from, role_from, IsWrittenSeat, HasHeadAt}
+use Rattle.sql_rows.proofs.Names.{◌≡◌, ℕ, ℤ, pos, ◌<ℤ◌, false, not, List, [], ◌∷◌, ◌++◌, map, filter, find, None, refl, sym, ap, ◌∙◌, Ordering, is_eq, AllByRecursion, IsTotalOrder, int_cmp_total, nat_list_cmp_total, on_total, then_total, filter-append, IsKeyedBy, next_key, sort_by, delete_where, all_of, ascending-filter, IsPermutation-sort_by, Seat, role_in, seats_with, seats_without, seat_cmp, text_cmp, seats_of, is_seat, is_seat_of, add_seat, same_text, seat_columns, role_column, seat_from, role_from, IsWrittenSeat, HasHeadAt, arith, all-permutation}
 use Rattle.std.specs.Str.{bytes_eq}
 use Rattle.std.proofs.lemmas.Map.Text.{is_eq-slice_cmp}
 use Rattle.matter_rows.specs.declared.seat.Role.{Role}
@@ -8,7 +8,7 @@ use Rattle.matter_rows.proofs.Seating.{no-seat}
 use Rattle.sql_tables.specs.Rows as table
 use Rattle.sql_rows.proofs.KeyedRows.{filter-delete_both, filter-delete_where, int_eq-itself, none_of, off_first}
 use Rattle.sql_rows.proofs.Placed.{SeatsPlaced, placed_added, placed_left}
-use Rattle.sql_rows.proofs.RowOrder.{all_permuted, read-filter, read-push}
+use Rattle.sql_rows.proofs.RowOrder.{read-filter, read-push}
 
 -- the rowid
 abbrev pub key : table.Seat → ℤ
@@ -21,8 +21,7 @@ seat_total = then_total (on_total (λ (s : table.Seat). s.person) nat_list_cmp_t
 -- The columns of a seat give it back, whatever its number.
 
 role_back : (r : Role) → role_from (role_column r) ≡ r
-role_back role.Client = refl
-role_back role.Lawyer = refl
+role_back r = grind arith
 
 seat_back : (m : ℕ) (s : Seat) (id : ℤ) → seat_from (record (seat_columns m s) { id = id }) ≡ s
 seat_back m s id = λ i. record { person = s.person; role = role_back s.role i }
@@ -67,7 +66,7 @@ seats_added m s seats up none =
     let xs = filter (is_seat_of (pos m)) seats in
     let own : filter (is_seat_of (pos m)) (add_seat (seat_columns m s) seats) ≡ xs ++ new ∷ [] =
     filter-append (is_seat_of (pos m)) seats (new ∷ []) ∙ ap (λ l. xs ++ l) (rw (int_eq-itself (pos m)) refl) in
-    let apart = all_permuted _ _ xs (IsPermutation-sort_by seat_cmp seat_total xs)
+    let apart = all-permutation _ _ xs (IsPermutation-sort_by seat_cmp seat_total xs)
     (untied_with s.person (seats_of (pos m) seats) none) in
     ap (λ l. map seat_from (sort_by seat_cmp l)) own
     ∙ read-push key seat_cmp seat_total by_person person_total seat_from IsAny (λ a b _ _. refl) xs new

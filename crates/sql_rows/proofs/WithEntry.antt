@@ -3,7 +3,7 @@ use Rattle.sql_rows.proofs.Names.{◌≡◌, inl, inr, ℕ, pos, ◌≤◌, List
 use Rattle.matter_parts.specs.declared.edit.Edit.TheVariants as edit
 use Rattle.matter_parts.proofs.Applied.{IsAfter, after-append, after-exchange}
 use Rattle.sql_tables.specs.Rows as table
-use Rattle.sql_rows.proofs.Becomes.{ArePlaced, part_at, whole_at, sound_at, change_at, with_matter, IsMatterMade, matter_done}
+use Rattle.sql_rows.proofs.Becomes.{ArePlaced, part_at, whole_at, sound_in, change_at, with_matter, IsMatterMade, matter_done}
 use Rattle.sql_rows.proofs.EntriesMade.{entry_made}
 use Rattle.sql_rows.proofs.EntryFits.{IsEntryChange, fits-change}
 use Rattle.sql_rows.proofs.EntryOrder.{kept_of}
@@ -99,8 +99,8 @@ with_entry_made m c x a b w one keyed meant may made =
     let head : Some (head_from new) ≡ seen_on (head_at m a) c.last = head_seen m c x a first.h w first.days first.is in
     let written = part_written m c x a end first.h head (refl {a = a.seats}) put.own in
     let whole : IsWhole (part_from end new) (changed c rows) =
-    (write_after (part_at m a) (part_from end new) c x w written).whole rows (sound_at a m keyed.heads meant) old
-    here in
+    (write_after (part_at m a) (part_from end new) c x w written).whole rows
+    (sound_in m (matters_from a) meant.matters.whole) old here in
     let placed : ArePlaced m a a.seats es ms = record {
       seats_placed = placed_same (λ (s : table.Seat). s.matter) table.seat_cmp IsWrittenSeat m a.seats meant.written.seats;
       entries_placed = put.placed;

@@ -1,12 +1,12 @@
 -- What the steps of a change of a matter make that writes no entry: one of the head and the seats, or a purge.
-use Rattle.sql_rows.proofs.Names.{◌≡◌, ℕ, pos, ◌≤◌, List, [], ◌++◌, map, Option, Some, None, refl, sym, ap, subst, ◌∙◌, append-nil, AllByRecursion, IsKeyedBy, delete_where, Head, Seat, Entry, EntryMovement, Rows, role_in, seats_with, seats_without, Sound, IsHeaded, Edit, IsWhole, MatterChange, IsChange, IsPlace, changed, edited, head_after, seats_after, movement_of, of, kept_movements, joined_movement, moved_without, rows_in, seats_of, entries_of, is_seat, is_seat_of, is_entry_of, is_movement_of, add_seat, Lists, seat_columns, head_columns, AreKeyed, AreMeant, AreWritten, IsWrittenSeat, IsWrittenEntry, IsWrittenMovement, firm_from, matters_from, part_from, head_from, seat_from, kept_from, movement_from, IsTypedEdit, AreMade, edit_steps, matter_steps}
+use Rattle.sql_rows.proofs.Names.{◌≡◌, ℕ, pos, ◌≤◌, List, [], ◌++◌, map, Option, Some, None, refl, sym, ap, subst, ◌∙◌, append-nil, AllByRecursion, IsKeyedBy, delete_where, Head, Seat, Entry, EntryMovement, Rows, role_in, seats_with, seats_without, Sound, IsHeaded, Edit, IsWhole, MatterChange, IsChange, IsPlace, changed, edited, head_after, seats_after, movement_of, of, kept_movements, joined_movement, moved_without, rows_in, seats_of, entries_of, is_seat, is_seat_of, is_entry_of, is_movement_of, add_seat, Lists, seat_columns, head_columns, AreKeyed, AreMeant, AreWritten, IsWrittenSeat, IsWrittenEntry, IsWrittenMovement, firm_from, matters_from, part_from, head_from, seat_from, kept_from, movement_from, IsTypedEdit, AreMade, edit_steps, matter_steps, all-filter}
 use Rattle.matter_parts.specs.declared.edit.Edit.TheVariants as edit
 use Rattle.sql_tables.specs.Rows as table
-use Rattle.sql_rows.proofs.Becomes.{AreEntries, ArePlaced, part_at, whole_at, sound_at, change_at, whole_entries, whole_after, no_entries, with_matter, IsMatterMade, matter_done}
+use Rattle.sql_rows.proofs.Becomes.{AreEntries, ArePlaced, part_at, whole_at, sound_in, change_at, whole_entries, whole_after, no_entries, with_matter, IsMatterMade, matter_done}
 use Rattle.sql_rows.proofs.EntryWritten.{kept_gone, placed_gone}
 use Rattle.sql_rows.proofs.HeadFirst.{head_first}
 use Rattle.sql_rows.proofs.Heads.{head_back}
-use Rattle.sql_rows.proofs.Movements.{movements_gone, written_movements_gone}
+use Rattle.sql_rows.proofs.Movements.{movements_gone}
 use Rattle.sql_rows.proofs.Placed.{EntriesPlaced, SeatsPlaced, placed_same}
 use Rattle.sql_rows.proofs.Seats as seats
 
@@ -123,7 +123,7 @@ entries_placed m _ es written = placed_same (λ (x : table.Entry). x.matter) tab
 
 movements_written : (m : ℕ) (e : Edit) (ms : List table.Movement) → AllByRecursion IsWrittenMovement ms
     → AllByRecursion IsWrittenMovement (movements_by m e ms)
-movements_written m (edit.Clear day) ms written = written_movements_gone (pos m) ms written
+movements_written m (edit.Clear day) ms written = all-filter IsWrittenMovement _ ms written
 movements_written m _ ms written = written
 
 placed_by : (m : ℕ) (e : Edit) (a : Lists) → AreWritten a
@@ -155,7 +155,8 @@ without_entry_made m c a b w one keyed meant typed may made =
     ∙ ap (λ o. head_after o e c.last) old.part.head in
     let whole : IsWhole (part_from end new) (changed c rows) =
     whole_after (part_from end new) rows c here head
-    (seats_shown m e a.seats rows w keyed.seats old.part.seats (sound_at a m keyed.heads meant) here.place) refl
+    (seats_shown m e a.seats rows w keyed.seats old.part.seats (sound_in m (matters_from a) meant.matters.whole)
+    here.place) refl
     (entries_shown m e a.entries rows w (whole_entries (part_at m a) rows old)) in
     matter_done m c a first.h (seats_by m e a.seats) (entries_by m e a.entries) (movements_by m e a.movements) b same
     keyed.heads meant may some first.days (placed_by m e a meant.written) whole

@@ -6,17 +6,20 @@ ghost use Rattle.sql_rows.specs.Standing.{EmptyTablesStand, EntriesReadBack};
 use firm_rows::laws::firm_stays_sound;
 
 /// Tables without rows stand for the firm without rows, which is sound.
+#[tactic(auto, using(crate::proofs::Empty::empty_stands))]
 pub fn empty_tables_stand()
     ensures { EmptyTablesStand }
 {}
 
 /// An entry read back from its columns is the one that was written, with its number and the amount left of it.
+#[tactic(auto, using(crate::proofs::Back::entries_back))]
 pub fn entries_read_back()
     ensures { EntriesReadBack }
 {}
 
 /// The script for a bank line that is repeated or matches nothing, for a line of the firm's own, and for a balance
 /// leaves tables that stand for the firm after the change, which is sound.
+#[tactic(auto, using(crate::proofs::LineScripts::line_scripts))]
 pub fn line_scripts_are_meant()
     ensures { LineScriptsAreMeant }
 {
@@ -24,6 +27,7 @@ pub fn line_scripts_are_meant()
 }
 
 /// The script for any change of the firm leaves tables that stand for the firm after the change, which is sound.
+#[tactic(auto, using(crate::proofs::ScriptsMeant::scripts_meant))]
 pub fn scripts_are_meant()
     ensures { ScriptsAreMeant }
 {

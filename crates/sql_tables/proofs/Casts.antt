@@ -1,5 +1,5 @@
 -- Values that a statement gives are stored as they are, and rowids go up.
-use Rattle.sql_tables.proofs.Names.{◌≡◌, ℤ, pos, ◌+ℤ◌, ◌<ℤ◌, Bool, true, false, cond, ◌&&◌, List, [], ◌∷◌, ◌++◌, map, fold, refl, ap, ap₂, subst, ◌∙◌, AllByRecursion, Null, Int, Real, Text, Blob, Row, rowid, cast, cast_all, id_in, IsKeyedBy, next_key, insert_by, above_all, Less-from_lt, IsKeyedBy-insert_by}
+use Rattle.sql_tables.proofs.Names.{◌≡◌, ℤ, pos, ◌+ℤ◌, ◌<ℤ◌, Bool, true, false, cond, ◌&&◌, List, [], ◌∷◌, ◌++◌, map, fold, refl, ap, ap₂, subst, ◌∙◌, AllByRecursion, Null, Int, Text, Row, rowid, Table, cast, cast_all, cast_row, id_in, IsKeyedBy, next_key, insert_by, above_all, Less-from_lt, IsKeyedBy-insert_by}
 use Rattle.sqlite_value.specs.declared.value.Value.{Value}
 use Rattle.sqlite_sql.specs.Ops.{unary}
 use Rattle.sqlite_schema.specs.declared.schema.Kind.{Kind}
@@ -35,22 +35,17 @@ are_fit (c ∷ cs) (v ∷ vs) = is_fit c.kind v && are_fit cs vs
 cast_fit : (k : Kind) (v : Value) → is_fit k v ≡ true → cast k v ≡ v
 cast_fit kind.Integer Null h = cast_null
 cast_fit kind.Integer (Int n) h = cast_int n
-cast_fit kind.Integer (Real x) h = absurd cc
-cast_fit kind.Integer (Text t) h = absurd cc
-cast_fit kind.Integer (Blob t) h = absurd cc
-cast_fit kind.Text Null h = absurd cc
-cast_fit kind.Text (Int n) h = absurd cc
-cast_fit kind.Text (Real x) h = absurd cc
 cast_fit kind.Text (Text t) h = refl
-cast_fit kind.Text (Blob t) h = absurd cc
-cast_fit kind.Real v h = absurd cc
-cast_fit kind.Blob v h = refl
-cast_fit kind.Any v h = refl
+cast_fit _ _ h = absurd cc
 
 pub cast_kept : (cs : List Column) (vs : Row) → are_fit cs vs ≡ true → cast_all cs vs ≡ vs
 cast_kept [] vs h = refl
 cast_kept (c ∷ cs) [] h = refl
 cast_kept (c ∷ cs) (v ∷ vs) h = ap₂ ◌∷◌ (cast_fit c.kind v (first_of_both _ _ h)) (cast_kept cs vs (second_of_both _ _ h))
+
+-- so is a row: its rowid, and the values behind it
+pub row_kept : (t : Table) (v : Value) (vs : Row) → is_fit kind.Integer v ≡ true → are_fit t.columns vs ≡ true → cast_row t (v ∷ vs) ≡ v ∷ vs
+row_kept t v vs first others = ap₂ ◌∷◌ (cast_fit kind.Integer v first) (cast_kept t.columns vs others)
 
 pub next_is : {X : Type 0} (key : X → ℤ) (to_row : X → Row) → ((x : X) → rowid (to_row x) ≡ Int (key x)) → (xs : List X) (a : ℤ)
     → fold (λ _ r. id_in (rowid r) +ℤ pos 1) a (map to_row xs) ≡ fold (λ _ x. key x +ℤ pos 1) a xs

@@ -1,6 +1,6 @@
 -- The rows that a write takes out and puts in, as a list of records in the order of their rowids.
 use Rattle.sql_tables.proofs.Names.{◌≡◌, inl, inr, ℤ, ◌<ℤ◌, Bool, true, false, not, cond, ◌&&◌, ◌||◌, List, [], ◌∷◌, map, filter, fold, drop, None, refl, sym, ap, ap₂, subst, ◌∙◌, arith, int_eq, Less, true≢false, ordering_reverse, AllByRecursion, list_any, ints, Int, Row, value_cmp, value_cmp_total, value_cmp-Int, rowid, put_row, IsAscending, IsTable, Table, Has, ids_of, AreConflicts, conflicts, Given, id_in, without_all, put_all, numbered, are_fresh, IsKeyedBy, insert_by, without_key, update_where, delete_where, same_int, Less-from_lt, IsKeyedBy-update_where, IsKeyedBy-delete_where, all_has, some_has, some_from, has_kept, has_filtered, has_contained, contains_had, map-map, map_same, ascending-map, ascending_weaker, IsPermutation, list_any-IsPermutation, Contains-permutation, IsPermutation-map, IsPermutation-sym}
-use Rattle.std.proofs.lemmas.Bool.{cases_Bool}
+use Rattle.std.proofs.lemmas.Bool.{cases_Bool, false_from_ne_true}
 use Rattle.sqlite_trees.proofs.TreeLemmas.{IsTable-put_row}
 use Rattle.sqlite_schema.specs.declared.schema.Index.{Index}
 use Rattle.sqlite_rules.proofs.TableLemmas.{put_all_has, put_all_keeps, put_all_adds}
@@ -26,9 +26,8 @@ has_all : {X : Type 0} (P : X → Type 0) (xs : List X) → ((x : X) → Has xs 
 has_all P [] h = tt
 has_all P (x ∷ xs) h = (h x (inl refl), has_all P xs (λ y k. h y (inr k)))
 
-apart_from : (b : Bool) → (b ≡ true → ⊥) → b ≡ false
-apart_from true h = absurd (h refl)
-apart_from false h = refl
+self : (n : ℤ) → int_eq n n ≡ true
+self n = grind (arith, ints)
 
 -- lists in a strict order that have the same elements are the same
 module _ {X : Type 0} (R : X → X → Type 0) (never : (a b : X) → R a b → R b a → ⊥) where
@@ -83,9 +82,6 @@ module _ {X : Type 0} (key : X → ℤ) where
     abbrev is_found : X → Bool
     is_found x = list_any (λ i. int_eq (key x) i) (ids_of found)
 
-    self : (n : ℤ) → int_eq n n ≡ true
-    self n = grind (arith, ints)
-
     meets : (x : X) → Has xs x → p x ≡ true → is_found x ≡ true
     meets x h met_it =
         let here : Has found (rowid (to_row x) ∷ []) = are.complete (to_row x) (mapped_has to_row xs x h) (all_has _ xs x tests h ∙ met_it) in
@@ -108,7 +104,7 @@ module _ {X : Type 0} (key : X → ℤ) where
         ∙ ap (map to_row) (removes_if (ids_of found) xs
         ∙ same_on _ _ xs (has_all _ xs (λ x h. elim (cases_Bool (p x)) [
           | inl met_it ↦ rw (meets x h met_it, met_it)
-          | inr lacks ↦ let lost : is_found x ≡ false = apart_from _ (λ met_it. true≢false (sym (met x h met_it) ∙ lacks)) in rw (lost, lacks)
+          | inr lacks ↦ let lost : is_found x ≡ false = false_from_ne_true _ (λ met_it. true≢false (sym (met x h met_it) ∙ lacks)) in rw (lost, lacks)
         ])))
 
   -- one row more, in its place
@@ -118,13 +114,10 @@ module _ {X : Type 0} (key : X → ℤ) where
   -- the rows that pass are taken out, whose rowids come in some order
   module _ (to_row : X → Row) (keyed : (x : X) → rowid (to_row x) ≡ Int (key x)) (p : X → Bool) (xs : List X) (up : IsKeyedBy key xs) (ids : List ℤ)
       (are : IsPermutation (map key (filter p xs)) ids) where
-    equals : (n : ℤ) → int_eq n n ≡ true
-    equals n = grind (arith, ints)
-
     passing : (x : X) → Has xs x → list_any (λ i. int_eq (key x) i) (map key (filter p xs)) ≡ p x
     passing x h = elim (cases_Bool (p x)) [
-      | inl met_it ↦ some_from (λ i. int_eq (key x) i) _ (key x) (mapped_has key (filter p xs) x (has_kept p xs x h met_it)) (equals (key x)) ∙ sym met_it
-      | inr lacks ↦ apart_from _ (λ met_it.
+      | inl met_it ↦ some_from (λ i. int_eq (key x) i) _ (key x) (mapped_has key (filter p xs) x (has_kept p xs x h met_it)) (self (key x)) ∙ sym met_it
+      | inr lacks ↦ false_from_ne_true _ (λ met_it.
           let i = some_has (λ i. int_eq (key x) i) (map key (filter p xs)) met_it in
           let y = has_mapped key (filter p xs) i.0 i.1 in
           let own = has_filtered p xs y.0 y.1 in
@@ -217,7 +210,7 @@ module _ {X : Type 0} (key : X → ℤ) where
 -- A row that conflicts with none of the rows is found by no test, and one that is found conflicts.
 module _ {X : Type 0} (to_row : X → Row) (indexes : List Index) (table : Table) (new : Row) (p : X → Bool) (xs : List X) (tests : AllByRecursion (λ x. conflicts None indexes table new (to_row x) ≡ p x) xs) where
   pub none_found : AreConflicts None indexes table (map to_row xs) new [] → list_any p xs ≡ false
-  none_found are = apart_from _ (λ some.
+  none_found are = false_from_ne_true _ (λ some.
       let i = some_has p xs some in
       absurd (are.complete (to_row i.0) (mapped_has to_row xs i.0 i.1) (all_has _ xs i.0 tests i.1 ∙ i.2)))
 

@@ -7,8 +7,8 @@ pub mod Kept
 pub mod Writes
 pub mod CountedUp
 pub mod KindLemmas
-pub mod Tables
 pub mod Others
+pub mod Tables
 pub mod ReadLemmas
 pub mod ScriptLemmas
 mod Names

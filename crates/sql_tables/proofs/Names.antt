@@ -12,7 +12,7 @@ pub use Rattle.sqlite.specs.State.{Executes, ExecutesInside, FailsToShow, HasCle
 unfoldable pub use Rattle.sqlite.specs.State.{CommitsShowing, FailsToQuery, IsNotRun, Shown}
 pub use Rattle.sqlite.specs.declared.error.Error.{Error}
 pub use Rattle.sqlite_keyed.proofs.KeyedLemmas.{IsKeyedBy-delete_where, IsKeyedBy-insert_by, IsKeyedBy-update_where, Less-from_lt, above_all, same_int}
-pub use Rattle.sqlite_keyed.proofs.ListLemmas.{ascending-map, ascending_weaker, map-map, map_back, map_same}
+pub use Rattle.sqlite_keyed.proofs.ListLemmas.{ascending-map, ascending_weaker, map-map, map_same}
 pub use Rattle.sqlite_keyed.specs.Keyed.{IsKeyedBy, insert_by, next_key}
 pub use Rattle.sqlite_keyed.specs.Lists.{delete_where, sort_by, update_where, without_key}
 pub use Rattle.sqlite_rules.proofs.ListLemmas.{all_has, contains_had, has_contained, has_filtered, has_kept, some_from, some_has}
@@ -35,7 +35,7 @@ pub use Rattle.sqlite_schema.specs.declared.schema.Schema.{Schema}
 pub use Rattle.sqlite_schema.specs.declared.schema.Table.{Table}
 pub use Rattle.sqlite_sql.specs.Program.{overlay}
 pub use Rattle.sqlite_sql.specs.Query.{IsAnswer, Output, Query, output}
-pub use Rattle.sqlite_sql.specs.Term.{Term, col, eval_all, holds, op2}
+pub use Rattle.sqlite_sql.specs.Term.{Term, col, eval_all, holds}
 pub use Rattle.sqlite_sql.specs.declared.ops.CompareOp.TheVariants.{Eq, Gt}
 pub use Rattle.sqlite_trees.specs.Tree.{IsAscending, IsTable, Trees, put_row, rowid}
 pub use Rattle.sqlite_typed.proofs.AnswerLemmas.{answer_by_keys, answer_sorted, at_end, last_table, matches_are, no_tie, no_tie_after}
@@ -43,7 +43,7 @@ pub use Rattle.sqlite_typed.proofs.TestLemmas.{at_ints, at_texts, last_key, last
 pub use Rattle.sqlite_value.proofs.OrderLemmas.{value_cmp-Int, value_cmp-Text, value_cmp_total}
 pub use Rattle.sqlite_value.specs.Order.{Row}
 unfoldable pub use Rattle.sqlite_value.specs.Order.{value_cmp}
-pub use Rattle.sqlite_value.specs.declared.value.Value.TheVariants.{Blob, Int, Null, Real, Text}
+pub use Rattle.sqlite_value.specs.declared.value.Value.TheVariants.{Int, Null, Text}
 pub use Rattle.std.proofs.Common.{Bool, Err, IfErr, IfOk, IsOk, IsTrue, Less, List, MatchBool, None, Ok, OnErr, OnOk, Option, Result, Some, [], ap, ap₂, arith, cond, drop, false, filter, fold, get_or, if◌then◌else◌, inl, inr, int_eq, is_lt, length, map, map-id, not, pos, refl, rules, slice_get, subst, subst₂, sym, take, true, true≢false, unwrap_or, ℕ, ℤ, ◌&&◌, ◌++◌, ◌+ℤ◌, ◌+◌, ◌/◌, ◌<ℤ◌, ◌<◌, ◌==◌, ◌||◌, ◌∙◌, ◌∷◌, ◌≡◌, ◌≢◌, ◌⊎◌}
 pub use Rattle.std.proofs.lemmas.Int.{ints}
 pub use Rattle.std.proofs.lemmas.List.Sorted.{Contains-permutation, IsPermutation-map, IsPermutation-sym, list_any-IsPermutation}
@@ -53,7 +53,7 @@ pub use Rattle.std.specs.Ordering.{int_cmp, on, ordering_reverse}
 pub use Rattle.sql_tables.specs.Performing.{HasRun, IsPerformed}
 pub use Rattle.sql_tables.specs.Picking.{changing, picked}
 pub use Rattle.sql_tables.specs.Reading.{IsKept, IsSelect, LeavesAll, is_selection, selects}
-pub use Rattle.sql_tables.specs.Rows.{Balance, Entry, Exception, FirmLine, Head, Movement, Seat, add_balance, add_seat, balance_cmp, balance_in, balance_row, balance_shown, balance_values, balances_in, change_head, entries_in, entries_of, entry_cmp, entry_in, entry_row, entry_values, exception_cmp, exception_in, exception_row, exception_values, exceptions_in, firm_line_in, firm_line_row, firm_line_values, firm_lines_in, head_in, head_row, head_shown, head_values, heads_in, is_balance_at, is_entry, is_entry_at, is_entry_of, is_exception, is_head, is_movement_of, is_past, is_seat, is_seat_of, movement_in, movement_row, movement_values, movements_in, next_shown, no_shown, note_exception, numbered_shown, put_entry, put_head, put_left, same_text, seat_cmp, seat_in, seat_row, seat_shown, seat_values, seats_in, seats_of, text_cmp, totals_values, with_closing, with_left, with_purge, with_totals}
-pub use Rattle.sql_tables.specs.Script.{Call, Does, DoesAll, RanInside, call_of, calls_of}
+pub use Rattle.sql_tables.specs.Rows.{Balance, Entry, Exception, FirmLine, Head, Movement, Seat, balance_cmp, balance_row, balance_shown, balance_values, balances_in, entries_in, entries_of, entry_cmp, entry_row, entry_values, exception_cmp, exception_row, exception_values, exceptions_in, firm_line_row, firm_line_values, firm_lines_in, head_row, head_shown, heads_in, is_balance_at, is_entry, is_entry_at, is_entry_of, is_exception, is_head, is_movement_of, is_past, is_seat, is_seat_of, movement_row, movement_values, movements_in, next_shown, no_shown, numbered_shown, seat_cmp, seat_row, seat_shown, seat_values, seats_in, seats_of, text_cmp, with_closing, with_left, with_purge, with_totals}
+pub use Rattle.sql_tables.specs.Script.{Call, Does, RanInside, call_of, calls_of}
 pub use Rattle.sql_tables.specs.Standing.{Changed, Counted, Holds, Stands}
-pub use Rattle.sql_tables.specs.Texts.{balance_insert_terms, balance_insert_text, balance_read_query, balance_scan_query, closed_write_text, entries_read_query, entry_read_query, entry_write_terms, entry_write_text, exception_delete_text, exception_insert_terms, exception_insert_text, exception_scan_query, firm_insert_terms, firm_insert_text, firm_scan_query, head_read_query, head_scan_query, head_write_terms, head_write_text, journal_insert_terms, journal_insert_text, journal_scan_query, left_write_text, next_head_query, purge_entries_text, purge_journal_text, purge_seats_text, purged_write_text, seat_delete_text, seat_insert_terms, seat_insert_text, seats_read_query, totals_write_text}
+pub use Rattle.sql_tables.specs.Texts.{balance_read_query, balance_scan_query, entries_read_query, entry_read_query, exception_scan_query, firm_scan_query, head_read_query, head_scan_query, journal_scan_query, next_head_query, seats_read_query}

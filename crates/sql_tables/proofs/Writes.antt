@@ -1,9 +1,9 @@
 -- What a statement that writes makes of the trees, over any schema.
 use Rattle.sql_tables.proofs.Names.{◌≡◌, ◌≢◌, ◌⊎◌, inl, inr, ℕ, ℤ, ◌/◌, true, false, List, [], ◌∷◌, length, slice_get, Option, Some, None, Result, Ok, Err, refl, sym, ap, subst, subst₂, ◌∙◌, AllByRecursion, Row, Trees, rowid, put_row, Term, Schema, Table, Enforced, Program, Command, Insert, InsertOr, Update, Delete, Ignore, Replace, is_present, IsJudged, passes_checks, Values, Chosen, Given, cast_row, ids_of, works, AreConflicts, edit_of, without_all, with_rowid, taken_by, is_chosen, Applies, Database, Answers, value_rows, Written, Task, stamped, mended, Inserts, InsertsOr, Deletes, Updates, Tries, TriesEach, Judged, Clears, Puts, Edited, count_of, nothing, Counts, rowids_for, State, mode_of, Writes, one_step}
 use Rattle.sqlite_schema.specs.declared.command.Conflict.{Conflict}
-use Rattle.sqlite_schema.specs.declared.schema.Constraint.TheVariants.{Datatype, NotNull, Check, PrimaryKey, Unique, ForeignKey}
+use Rattle.sqlite_schema.specs.declared.schema.Constraint.TheVariants.{Datatype, NotNull, Check}
 use Rattle.sqlite_rules.specs.declared.error.Refusal.{Refusal}
-use Rattle.sqlite_rules.specs.declared.error.Refusal.TheVariants.{Violates, Mismatch, NoRowid, BadReference, TooDeep}
+use Rattle.sqlite_rules.specs.declared.error.Refusal.TheVariants.{Violates, Mismatch}
 use Rattle.sqlite_schema.specs.declared.command.Source.{Source}
 use Rattle.sqlite.specs.Does.{Tally, OnRows, AtPlace}
 
@@ -173,13 +173,8 @@ module _ (limit : Option ℕ) (schema : Schema) (table : Table) (params : Row) (
   judged new db w (Some (Violates Datatype)) present fine some is h = absurd (let e = h in cc)
   judged new db w (Some (Violates NotNull)) present fine some is h = absurd (let e = sym present ∙ is in cc)
   judged new db w (Some (Violates Check)) present fine some is h = absurd (let e = sym fine ∙ is in cc)
-  judged new db w (Some (Violates PrimaryKey)) present fine some is h = absurd is
-  judged new db w (Some (Violates Unique)) present fine some is h = absurd is
-  judged new db w (Some (Violates ForeignKey)) present fine some is h = absurd is
   judged new db w (Some Mismatch) present fine some is h = absurd (let e = h in cc)
-  judged new db w (Some NoRowid) present fine some is h = absurd is
-  judged new db w (Some BadReference) present fine some is h = absurd is
-  judged new db w (Some TooDeep) present fine some is h = absurd is
+  judged new db w _ present fine some is h = absurd is
 
   tries_or_not : (new : Row) (db : Trees) (w : Written) → is_present table new ≡ true → passes_checks table new ≡ true → IsIdle (cast_row table new ∷ []) → Tries it Ignore [] new db (Ok w)
       → Ignores db w.trees new

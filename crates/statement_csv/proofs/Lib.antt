@@ -5,5 +5,4 @@ pub mod ItemFacts
 pub mod LimitFacts
 pub mod NamedFacts
 pub mod ReadingFacts
-pub mod ReferenceFacts
 mod Names

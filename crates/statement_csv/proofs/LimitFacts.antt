@@ -1,7 +1,7 @@
 -- How a statement's bytes are given.
 use Rattle.statement_csv.proofs.Names.{◌≡◌, ◌≤◌, ◌+◌, ℕ, List, [], ◌++◌, length, drop, Option, Some, None, refl, sym, ap, subst, ◌∙◌, add-zero, arith, drop-drop, drop_at, length-append, length-drop, Consumes, IsAtEnd, prepend_known, MAX_FILE_BYTES, IsAfter, IsHeldBack, IsReading, IsWithin, beyond}
-use Rattle.statement_csv.specs.declared.lines.Course.{Course}
-use Rattle.statement_csv.specs.declared.lines.Course.TheVariants as course
+use Rattle.statement_csv.specs.declared.item.Course.{Course}
+use Rattle.statement_csv.specs.declared.item.Course.TheVariants as course
 
 -- the bytes that a read gave come after those that were given before
 pub after-more : (whole old new : Option (List ℕ)) (given : ℕ) (bs : List ℕ) → IsAfter whole old given → Consumes old new bs → IsAfter whole new (given + length bs)

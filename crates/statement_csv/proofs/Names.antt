@@ -4,7 +4,7 @@ pub use Rattle.csv.specs.Reading.{ReadRecord, default_config, has_failed, reader
 unfoldable pub use Rattle.csv.specs.Reading.{Reached, strip_bom}
 pub use Rattle.csv.specs.Records.{fields_of}
 unfoldable pub use Rattle.csv.specs.Records.{field_at}
-pub use Rattle.std.proofs.Common.{Bool, Bor, IfSome, List, None, Option, Some, [], add-zero, ap, arith, cond, drop, false, inl, inr, length, option_and_then, option_map, refl, rules, slice_index, slice_range, subst, suc, sym, take, true, unwrap_or, zero, ℕ, ◌&&◌, ◌++◌, ◌+◌, ◌-◌, ◌==◌, ◌∙◌, ◌∷◌, ◌≡◌, ◌≤◌}
+pub use Rattle.std.proofs.Common.{Bool, IfSome, List, None, Option, Some, [], add-zero, ap, arith, cond, drop, false, inl, inr, length, option_and_then, option_map, refl, rules, slice_index, slice_range, subst, suc, sym, take, true, unwrap_or, zero, ℕ, ◌&&◌, ◌++◌, ◌+◌, ◌-◌, ◌==◌, ◌∙◌, ◌∷◌, ◌≡◌, ◌≤◌}
 pub use Rattle.std.proofs.lemmas.Bool.{cases_Bool}
 pub use Rattle.std.proofs.lemmas.Bool.Decides.{nat_tests}
 pub use Rattle.std.proofs.lemmas.List.{drop-drop, drop_at, length-append, length-drop, length-take}

@@ -2,10 +2,10 @@
 use Rattle.std.specs.Prelude.{◌≡◌, ◌<◌, ◌≤◌, ℕ, List, [], ◌∷◌, drop, length, Option, Some, ⊤}
 use Rattle.std.specs.Io.KnownBytes.{IsAtEnd, prepend_known}
 use Rattle.trust_base.specs.declared.limits.TheConstants.{MAX_FILE_BYTES}
-use Rattle.statement_csv.specs.declared.lines.ReadFault.{ReadFault}
-use Rattle.statement_csv.specs.declared.lines.ReadFault.TheVariants as fault
-use Rattle.statement_csv.specs.declared.lines.Course.{Course}
-use Rattle.statement_csv.specs.declared.lines.Course.TheVariants as course
+use Rattle.statement_csv.specs.declared.item.ReadFault.{ReadFault}
+use Rattle.statement_csv.specs.declared.item.ReadFault.TheVariants as fault
+use Rattle.statement_csv.specs.declared.item.Course.{Course}
+use Rattle.statement_csv.specs.declared.item.Course.TheVariants as course
 
 -- the statement is too long, if its bytes are known
 abbrev pub IsTooLong : Option (List ℕ) → Type 0

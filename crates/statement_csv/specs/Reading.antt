@@ -10,10 +10,10 @@ use Rattle.trust_base.specs.declared.limits.TheConstants.{MAX_FILE_BYTES}
 use Rattle.statement_csv.specs.Items.{items, items_after_header, items_from}
 use Rattle.statement_csv.specs.Limits.{IsTooLong, IsWithin, Source, cause_of, left_of}
 use Rattle.statement_csv.specs.declared.item.Item.{Item}
-use Rattle.statement_csv.specs.declared.lines.ReadFault.{ReadFault}
-use Rattle.statement_csv.specs.declared.lines.ReadFault.TheVariants as fault
-use Rattle.statement_csv.specs.declared.lines.Stage.{Stage}
-use Rattle.statement_csv.specs.declared.lines.Stage.TheVariants as stage
+use Rattle.statement_csv.specs.declared.item.ReadFault.{ReadFault}
+use Rattle.statement_csv.specs.declared.item.ReadFault.TheVariants as fault
+use Rattle.statement_csv.specs.declared.item.Stage.{Stage}
+use Rattle.statement_csv.specs.declared.item.Stage.TheVariants as stage
 
 -- what contracts see of a statement that is being read
 pub record Reading : Type 0 where

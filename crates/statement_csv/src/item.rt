@@ -1,15 +1,25 @@
-// The lines and items of a statement.
+// The items of a statement, one at a time, from a reader that stops at the length limit.
 
-ghost use Rattle.std.specs.Prelude.{◌≡◌, ◌≢◌, ℕ, IfNone, IfOk, IfSome, [], get_or};
+ghost use Rattle.std.specs.Prelude.{◌≡◌, ◌≢◌, ◌↔◌, ◌+◌, ◌∷◌, ◌++◌, [], List, ℕ, Err, IfErr, IfOk, IsSome, is_none, IsTrue, None, Ok};
+ghost use Rattle.std.specs.Prelude.{OnErr, OnOk, Option, Some, get_or, option_map, option_to_list, false, true};
+ghost use Rattle.std.specs.Io.KnownBytes.{Consumes, IsAtEnd, Keeps};
 ghost use Rattle.csv.specs.Records.{fields_of};
-ghost use Rattle.trust_base.specs.Limits.{IsEntryNo, IsMatterNo};
+ghost use Rattle.statement_csv.specs.declared.item.ReadFault.{ReadFault};
+ghost use Rattle.statement_csv.specs.declared.item.ReadFault.TheVariants.{BadHeader, Limit};
+ghost use Rattle.statement_csv.specs.Headers.{is_header};
 ghost use Rattle.statement_csv.specs.Items.{item_of, line_in};
+ghost use Rattle.statement_csv.specs.Limits.{IsTooLong, IsWithin};
 ghost use Rattle.statement_csv.specs.Lines.{line_of_texts as line_in_texts};
-ghost use Rattle.statement_csv.specs.References.{entry_named, owner_of, reference_text};
+ghost use Rattle.statement_csv.specs.Reading.{Gives, GivesRecord, HasRead, IsLive, LacksHeader, Stands, ToldBy, cause_at};
+ghost use Rattle.statement_csv.specs.Reading.{items_left, records_left};
+ghost use Rattle.statement_csv.specs.References.{owner_of};
 
-use csv::ByteRecord;
+use csv::{ByteRecord, Reader, ReaderBuilder};
 use std::alloc::{AllocError, Global};
-use trust_base::{BankAmount, BankText, Day, EntryNo, Line, LineText, MatterNo};
+use std::io;
+use std::io::{Error, ErrorKind, Read};
+use std::marker::{Brand, Model, PhantomData};
+use trust_base::{BankAmount, BankText, Day, EntryNo, Line, LineText, MAX_FILE_BYTES, MatterNo};
 use trust_matter::BankLine;
 
 /// What one record after the header of a statement means.
@@ -79,45 +89,42 @@ pub(crate) enum LineOwner {
     Nobody,
 }
 
-// The entry named by a reference: `M`, the six digits of the matter, `-`, the four digits of the entry.
-#[tactic(auto, unfolding(crate::specs::References::entry_named))]
-fn read_named(reference: &[u8]) -> Option<NamedEntry>
-    ensures value { result ≡ entry_named reference.now }
-    ensures some { IfSome result (λ named. reference_text named.matter named.entry ≡ reference.now) }
-    ensures none { IfNone result ((m e : ℕ) → IsMatterNo m → IsEntryNo e → reference_text m e ≢ reference.now) }
-{
-    if reference.len() != 12 || reference[0] != b'M' || reference[7] != b'-' {
-        return None;
-    }
-    let matter = MatterNo::read(&reference[1..7])?;
-    let entry = EntryNo::read(&reference[8..12])?;
-    Some(NamedEntry { matter, entry })
-}
-
-// Who a line with this reference belongs to.
-#[tactic(auto, unfolding(crate::specs::References::owner_of))]
+// Who a line with this reference belongs to. An entry's reference is `M`, the six digits of the matter, `-`, and the four
+// digits of the entry.
+#[tactic(auto, unfolding(crate::specs::References::owner_of, crate::specs::References::entry_named))]
 fn read_owner(reference: &[u8]) -> LineOwner
     ensures { result ≡ owner_of reference.now }
 {
     if reference == b"OPEN".as_slice() {
-        LineOwner::Opening
-    } else if reference == b"CLOSE".as_slice() {
-        LineOwner::Closing
-    } else if reference == b"FIRM".as_slice() {
-        LineOwner::Firm
-    } else {
-        match read_named(reference) {
-            Some(named) => LineOwner::Entry(named),
-            None => LineOwner::Nobody,
-        }
+        return LineOwner::Opening;
+    }
+    if reference == b"CLOSE".as_slice() {
+        return LineOwner::Closing;
+    }
+    if reference == b"FIRM".as_slice() {
+        return LineOwner::Firm;
+    }
+    if reference.len() != 12 || reference[0] != b'M' || reference[7] != b'-' {
+        return LineOwner::Nobody;
+    }
+    let Some(matter) = MatterNo::read(&reference[1..7]) else {
+        return LineOwner::Nobody;
+    };
+    match EntryNo::read(&reference[8..12]) {
+        Some(entry) => LineOwner::Entry(NamedEntry { matter, entry }),
+        None => LineOwner::Nobody,
     }
 }
 
 /// The field at this index; empty if there is none.
-pub(crate) fn field(row: &ByteRecord, place: usize) -> &[u8]
+#[tactic(auto, unfolding(csv::specs::Records::field_at), using(crate::proofs::FieldFacts::field_steps))]
+pub fn field(row: &ByteRecord, place: usize) -> &[u8]
     ensures { result.now ≡ get_or (fields_of row.now) place [] }
 {
-    row.get(place).unwrap_or(&[])
+    match row.get(place) {
+        Some(field) => field,
+        None => &[],
+    }
 }
 
 /// The line from the texts of its five fields. None if any of them is invalid. The only error is out of memory.
@@ -187,4 +194,386 @@ pub fn read_item(alloc: Global, row: &ByteRecord, number: u64) -> Result<Item, A
         }),
         LineOwner::Nobody => Item::Stray(line),
     })
+}
+
+/// Why no item was returned.
+#[derive(Clone, Copy, PartialEq, Eq, Debug)]
+pub enum ReadFault {
+    /// The first record is not the header of a statement, or there is no record.
+    BadHeader,
+    /// The statement has more than 4,194,304 bytes.
+    Limit,
+    /// A read failed. An interrupted read counts as failed.
+    Reader,
+    /// Out of memory.
+    Memory,
+}
+
+/// The bytes of a whole statement, as its reader's contract gives them before the first read. None if they are unknown.
+///
+/// A proof chooses them at a call that passes `Brand`. Without a choice they are unknown.
+pub trait Whole {
+    ghost bytes: { Option (List ℕ) };
+}
+
+impl Whole for Brand {
+    ghost use Rattle.std.specs.Prelude.{None};
+
+    ghost bytes = { None };
+}
+
+// How the reading stands.
+#[derive(Clone, Copy, PartialEq, Eq, Debug)]
+enum Course {
+    // More bytes may come.
+    Open,
+    // The inner reader ended.
+    Ended,
+    // This byte came after the last one that a statement may have.
+    Longer(u8),
+    // A read failed.
+    Failed,
+}
+
+/// Reads a statement of at most 4,194,304 bytes. If one more byte comes, or a read of the inner reader fails, it
+/// returns an error, and from then on it returns errors without reading.
+///
+/// Contracts see the remaining bytes, if they are known, and how the reading stands.
+#[derive(Drop)]
+pub(crate) struct Limited<R: Read, K: Whole> {
+    inner: R,
+    given: usize,
+    course: Course,
+    whole: PhantomData<K>,
+}
+
+impl<R: Read, K: Whole> Model for Limited<R, K> {
+    ghost use Rattle.statement_csv.specs.Limits.{IsReading, Source, source_in};
+
+    ghost Value = { Source };
+
+    ghost view = { λ a. source_in a.course (R.remaining a.inner) };
+
+    ghost invariant = { λ a. IsReading K.bytes (R.remaining a.inner) a.given a.course };
+}
+
+// The next byte of a reader. None at its end.
+fn next_byte<R: Read>(inner: &mut R) -> io::Result<Option<u8>>
+    ensures byte { IfOk result
+        (λ next. Consumes (R.remaining inner.old) (R.remaining inner.new) (option_to_list next)) }
+    ensures end { IfOk result (λ next. next ≡ None → IsAtEnd (R.remaining inner.new)) }
+    ensures err { OnErr result (Keeps (R.remaining inner.old) (R.remaining inner.new)) }
+{
+    let mut one = [0u8];
+    match inner.read(&mut one)? {
+        0 => Ok(None),
+        _ => Ok(Some(one[0])),
+    }
+}
+
+impl<R: Read, K: Whole> Limited<R, K> {
+    ghost use Rattle.statement_csv.specs.Limits.{IsHeldBack, IsTooLong, IsWithin, cause_of};
+    ghost use Rattle.statement_csv.specs.declared.item.ReadFault.TheVariants.{Limit};
+    ghost use Rattle.statement_csv.specs.declared.item.Course.TheVariants.{Ended, Open};
+
+    /// A reader of a statement from its start.
+    pub(crate) fn new(inner: R) -> Limited<R, K>
+        requires { Keeps K.bytes (R.remaining inner) }
+        ensures left { result.left ≡ R.remaining inner }
+        ensures course { result.course ≡ Open }
+    {
+        Limited {
+            inner,
+            given: 0,
+            course: Course::Open,
+            whole: PhantomData,
+        }
+    }
+
+    /// Whether the inner reader ended within the length limit. In either case no byte past the limit was returned.
+    pub(crate) fn has_ended(&self) -> bool
+        ensures value { IsTrue result ↔ (self.now.course ≡ Ended) }
+        ensures within { IsTrue result → IsWithin K.bytes }
+        ensures held { IsHeldBack K.bytes self.now.left }
+    {
+        matches!(self.course, Course::Ended)
+    }
+
+    /// Why reading cannot go on: a byte came past the length limit, a read failed, or otherwise memory ran out.
+    pub(crate) fn cause(&self) -> ReadFault
+        ensures value { result ≡ cause_of self.now.course }
+        ensures limit { (result ≡ Limit) → IsTooLong K.bytes }
+    {
+        match self.course {
+            Course::Longer(_) => ReadFault::Limit,
+            Course::Failed => ReadFault::Reader,
+            Course::Open | Course::Ended => ReadFault::Memory,
+        }
+    }
+}
+
+impl<R: Read, K: Whole> Read for Limited<R, K> {
+    ghost use Rattle.statement_csv.specs.Limits.{left_of};
+
+    ghost remaining = { left_of };
+
+    fn read(&mut self, buf: &mut [u8]) -> io::Result<usize> {
+        match self.course {
+            Course::Open => {}
+            Course::Ended => return Ok(0),
+            Course::Longer(_) | Course::Failed => return Err(Error::from(ErrorKind::Other)),
+        }
+        let room = MAX_FILE_BYTES - self.given;
+        if room > 0 {
+            let most = room.min(buf.len());
+            match self.inner.read(&mut buf[..most]) {
+                Ok(0) => {
+                    if most > 0 {
+                        self.course = Course::Ended;
+                    }
+                    Ok(0)
+                }
+                Ok(n) => {
+                    self.given += n;
+                    Ok(n)
+                }
+                Err(e) => {
+                    self.course = Course::Failed;
+                    Err(e)
+                }
+            }
+        } else {
+            match next_byte(&mut self.inner) {
+                Ok(None) => {
+                    self.course = Course::Ended;
+                    Ok(0)
+                }
+                Ok(Some(byte)) => {
+                    self.course = Course::Longer(byte);
+                    Err(Error::from(ErrorKind::Other))
+                }
+                Err(e) => {
+                    self.course = Course::Failed;
+                    Err(e)
+                }
+            }
+        }
+    }
+}
+
+// How far the reading has come.
+#[derive(Clone, Copy, PartialEq, Eq, Debug)]
+enum Stage {
+    // The header comes next.
+    Header,
+    // Items come next.
+    Items,
+    // The end was reached.
+    Ended,
+    // A fault ended it.
+    Stopped(ReadFault),
+}
+
+/// The items of a statement, read record by record through `csv`. It holds one record at a time, never the file.
+///
+/// Contracts see the fault that ended the reading, whether the end was reached, and the remaining items if the reader's
+/// bytes are known. In a proof, `K` names the whole statement, so that `next` can speak about its length.
+pub struct Lines<R: Read, K: Whole = Brand> {
+    alloc: Global,
+    records: Reader<Limited<R, K>>,
+    row: ByteRecord,
+    number: u64,
+    stage: Stage,
+}
+
+impl<R: Read, K: Whole> Model for Lines<R, K> {
+    ghost use Rattle.statement_csv.specs.Reading.{IsSound, Reading, reading_of};
+
+    ghost Value = { Reading };
+
+    ghost view = { λ a. reading_of a.stage a.number a.records };
+
+    ghost invariant = { λ a. IsSound K.bytes a.stage a.number a.records };
+}
+
+// A single call, so that a caller's proof sees no fields when a value is dropped.
+impl<R: Read + Drop, K: Whole> Drop for Lines<R, K> {
+    fn drop(self) {
+        let Self {
+            alloc: _,
+            records: _,
+            row: _,
+            number: _,
+            stage: _,
+        } = self;
+    }
+}
+
+// Reads the next record. Returns whether there was one.
+fn read_row<R: Read, K: Whole>(
+    records: &mut Reader<Limited<R, K>>,
+    row: &mut ByteRecord,
+) -> Result<bool, ReadFault>
+    requires { IsLive records.old }
+    ensures live { IfOk result (λ found. IsTrue found → IsLive records.new) }
+    ensures gives { IfOk result
+        (λ found. GivesRecord (records_left records.old) (records_left records.new) found (fields_of row.new)) }
+    ensures end { (result ≡ Ok false) → IsWithin K.bytes }
+    ensures read { IfOk result (λ found. IsTrue found → (rows : List (List (List ℕ)))
+        → HasRead K.bytes rows records.old → HasRead K.bytes (rows ++ fields_of row.new ∷ []) records.new) }
+    ensures told { IfErr result (λ fault. ToldBy K.bytes fault) }
+    ensures cause { IfErr result (λ fault. fault ≡ cause_at records.new) }
+{
+    let Ok(found) = records.read_byte_record(row) else {
+        return Err(records.get_ref().cause());
+    };
+    // `csv` finds no record only if its reader ended, but its contract does not say so.
+    if !records.get_ref().has_ended() && !found {
+        return Err(records.get_ref().cause());
+    }
+    Ok(found)
+}
+
+// Whether a record is the header of a statement.
+#[tactic(auto, using(crate::proofs::HeaderFacts::is_header_fields))]
+fn is_header(row: &ByteRecord) -> bool
+    ensures { result ≡ is_header (fields_of row.now) }
+{
+    (row.len() == 5)
+        & (field(row, 0) == b"date".as_slice())
+        & (field(row, 1) == b"reference".as_slice())
+        & (field(row, 2) == b"bank_ref".as_slice())
+        & (field(row, 3) == b"amount".as_slice())
+        & (field(row, 4) == b"text".as_slice())
+}
+
+// Reads the next item, which has this number. The header is read first if it is still to come.
+fn read_next<R: Read, K: Whole>(
+    alloc: Global,
+    records: &mut Reader<Limited<R, K>>,
+    row: &mut ByteRecord,
+    awaits_header: bool,
+    number: u64,
+) -> Result<Option<Item>, ReadFault>
+    requires live { IsLive records.old }
+    requires stands { Stands K.bytes awaits_header number records.old }
+    ensures live { IfOk result (λ found. IsSome found → IsLive records.new) }
+    ensures stands { IfOk result (λ found. IsSome found → Stands K.bytes false (number + 1) records.new) }
+    ensures gives { IfOk result
+        (λ found. Gives (option_map (items_left awaits_header number) (records_left records.old))
+        (option_map (items_left false (number + 1)) (records_left records.new)) found) }
+    ensures end { (result ≡ Ok None) → IsWithin K.bytes }
+    ensures told { IfErr result (λ fault. ToldBy K.bytes fault) }
+    ensures cause { IfErr result (λ fault. fault ≢ BadHeader → fault ≡ cause_at records.new) }
+    ensures header { (result ≡ Err BadHeader)
+        → LacksHeader (option_map (items_left awaits_header number) (records_left records.old)) }
+{
+    if awaits_header {
+        let is_given = read_row(records, row)?;
+        if !is_given {
+            return Err(ReadFault::BadHeader);
+        }
+        if !is_header(row) {
+            return Err(ReadFault::BadHeader);
+        }
+    }
+    if !read_row(records, row)? {
+        return Ok(None);
+    }
+    match read_item(alloc, row, number) {
+        Ok(item) => Ok(Some(item)),
+        Err(_) => Err(records.get_ref().cause()),
+    }
+}
+
+impl<R: Read> Lines<R> {
+    ghost use Rattle.statement_csv.specs.Items.{items};
+
+    /// The items of a statement, from its start. Allocates nothing.
+    pub fn new(alloc: Global, reader: R) -> Lines<R>
+        ensures fault { result.fault ≡ None }
+        ensures is_ended { result.is_ended ≡ false }
+        ensures left { result.left ≡ option_map items (R.remaining reader) }
+    {
+        Lines::of_whole(alloc, reader)
+    }
+}
+
+impl<R: Read, K: Whole> Lines<R, K> {
+    ghost use Rattle.statement_csv.specs.Items.{items};
+    ghost use Rattle.statement_csv.specs.Reading.{Gives, GivesWithin, LacksHeader};
+
+    /// The same, if a proof names the statement's bytes by `K`. Allocates nothing.
+    pub fn of_whole(alloc: Global, reader: R) -> Lines<R, K>
+        requires { Keeps K.bytes (R.remaining reader) }
+        ensures fault { result.fault ≡ None }
+        ensures is_ended { result.is_ended ≡ false }
+        ensures left { result.left ≡ option_map items (R.remaining reader) }
+    {
+        Lines {
+            alloc,
+            records: ReaderBuilder::new()
+                .has_headers(false)
+                .flexible(true)
+                .from_reader(alloc, Limited::new(reader)),
+            row: ByteRecord::new(alloc),
+            number: 1,
+            stage: Stage::Header,
+        }
+    }
+
+    /// Returns the next item, or None at the end and from then on. After a fault it returns the same fault from then
+    /// on: `BadHeader` if the first record is not `date,reference,bank_ref,amount,text` or is missing, `Limit` if there
+    /// is a byte past 4,194,304, `Reader` if a read failed, `Memory` if memory ran out. Every item lies within the
+    /// first 4,194,304 bytes.
+    ///
+    /// No clause says that `Reader` and `Memory` occur only then: the contract of `csv` says nothing about its reader
+    /// after an error.
+    pub fn next(&mut self) -> Result<Option<Item>, ReadFault>
+        ensures next { IfOk result (λ found. Gives self.old.left self.new.left found) }
+        ensures front { IfOk result (λ found. IsSome found → GivesWithin K.bytes self.new.left) }
+        ensures within { (result ≡ Ok None) → IsWithin K.bytes }
+        ensures course { IfOk result (λ found. (self.new.fault ≡ None) × (self.new.is_ended ≡ is_none found)) }
+        ensures stays_ended { (self.old.is_ended ≡ true) → result ≡ Ok None }
+
+        ensures fault { IfErr result (λ fault. self.new.fault ≡ Some fault) }
+        ensures again { (fault : ReadFault) → self.old.fault ≡ Some fault → result ≡ Err fault }
+        ensures header { (result ≡ Err BadHeader) → LacksHeader self.old.left }
+        ensures limit { (result ≡ Err Limit) → IsTooLong K.bytes }
+    {
+        let awaits_header = match self.stage {
+            Stage::Header => true,
+            Stage::Items => false,
+            Stage::Ended => return Ok(None),
+            Stage::Stopped(fault) => return Err(fault),
+        };
+        match read_next(
+            self.alloc,
+            &mut self.records,
+            &mut self.row,
+            awaits_header,
+            self.number,
+        ) {
+            Ok(Some(item)) => match self.number.checked_add(1) {
+                Some(number) => {
+                    self.number = number;
+                    self.stage = Stage::Items;
+                    Ok(Some(item))
+                }
+                // Cannot happen: a statement has fewer records than bytes.
+                None => {
+                    self.stage = Stage::Stopped(ReadFault::Memory);
+                    Err(ReadFault::Memory)
+                }
+            },
+            Ok(None) => {
+                self.stage = Stage::Ended;
+                Ok(None)
+            }
+            Err(fault) => {
+                self.stage = Stage::Stopped(fault);
+                Err(fault)
+            }
+        }
+    }
 }

@@ -3,7 +3,5 @@
 
 mod item;
 pub mod laws;
-mod lines;
 
-pub use item::{Item, line_of_texts, read_item};
-pub use lines::{Lines, ReadFault, Whole};
+pub use item::{Item, Lines, ReadFault, Whole, field, line_of_texts, read_item};

@@ -1,7 +1,6 @@
 -- What is alike has one number.
-use Rattle.statement_lines.proofs.Names.{◌≡◌, ◌∙◌, sym, ap, ℕ, ◌==◌, true, false, not, List, [], Option, Some, None, nat_le, option_map, unsigned_abs, int_eq, bytes_eq, and_parts, cond-false, cond-true, eqb-true, eq-eqb, Decides-int_eq, bytes_eq-Decides, Line, amount_key, booking_key, claim_key, line_key, text_key, waiting_key, claimed_reference, exception_reference, is_named_like, is_open, is_open_fit, is_open_like, fits, is_other_business, shows, Waiting}
-use Rattle.std.proofs.Common.{◌&&◌}
-use Rattle.std.specs.Prelude.{find, unwrap_or}
+use Rattle.statement_lines.proofs.Names.{◌≡◌, ◌∙◌, sym, ap, ℕ, ◌==◌, true, false, List, [], Some, None, unsigned_abs, int_eq, bytes_eq, and_parts, eqb-true, eq-eqb, Decides-int_eq, bytes_eq-Decides, Line, amount_key, booking_key, claim_key, line_key, text_key, waiting_key, claimed_reference, exception_reference, is_named_like, is_open, is_open_fit, is_open_like, fits, Waiting, arith, refl}
+use Rattle.std.specs.Prelude.{find}
 use Rattle.statement_lines.specs.declared.booking.Booking.{Booking}
 use Rattle.statement_lines.specs.Bookings.{booking_of, is_beside, is_same_booking}
 use Rattle.statement_lines.proofs.Found.{Narrows}
@@ -31,22 +30,15 @@ open_like_narrows line x is =
 
 pub named_like_narrows : (line : Line) → Narrows (is_named_like line) (λ x. line_key x == line_key line)
 named_like_narrows line x is =
-    let closed = and_parts (is_same_booking (booking_of line) (booking_of x) && bytes_eq line.text x.text)
-    (not (is_open x)) is in
-    let alike = and_parts (is_same_booking (booking_of line) (booking_of x)) (bytes_eq line.text x.text) closed.0 in
-    same_narrows line (booking_of x) alike.0
+    let alike : is_same_booking (booking_of line) (booking_of x) ≡ true = grind (arith, is) in
+    same_narrows line (booking_of x) alike
 
 -- a line has the amount of an entry that it fits
 fit_key : (today : ℕ) (line : Line) (w : Waiting) → fits today line w ≡ true → line.amount ≡ w.amount
 unfolding fits
 fit_key today line w is =
-    let shown = and_parts (nat_le line.date today && int_eq line.amount w.amount && nat_le w.since line.date
-    && not (is_other_business line)) (shows line w) is in
-    let own = and_parts (nat_le line.date today && int_eq line.amount w.amount && nat_le w.since line.date)
-    (not (is_other_business line)) shown.0 in
-    let since = and_parts (nat_le line.date today && int_eq line.amount w.amount) (nat_le w.since line.date) own.0 in
-    let amount = and_parts (nat_le line.date today) (int_eq line.amount w.amount) since.0 in
-    (Decides-int_eq line.amount w.amount).0 amount.1
+    let amount : int_eq line.amount w.amount ≡ true = grind (arith, is) in
+    (Decides-int_eq line.amount w.amount).0 amount
 
 pub fits_narrows : (today : ℕ) (line : Line) → Narrows (fits today line) (λ w. waiting_key w == amount_key line)
 fits_narrows today line w is =
@@ -67,19 +59,14 @@ claims_narrows exceptions reference x is =
 -- the reference that a record has by itself, where its exception is found
 pub claimed_closed : (exceptions : List Line) (line : Line) → is_open line ≡ false
     → claimed_reference exceptions line ≡ line.reference
-claimed_closed exceptions line closed =
-    cond-false (is_open line) (unwrap_or (exception_reference exceptions line) []) line.reference closed
+claimed_closed exceptions line closed = rw closed refl
 
 pub claimed_named : (exceptions : List Line) (line x : Line) → is_open line ≡ true
     → find (is_named_like line) exceptions ≡ Some x → claimed_reference exceptions line ≡ x.reference
 unfolding exception_reference
-claimed_named exceptions line x opened found =
-    cond-true (is_open line) (unwrap_or (exception_reference exceptions line) []) line.reference opened
-    ∙ ap (λ (o : Option Line). unwrap_or (option_map (λ (y : Line). y.reference) o) []) found
+claimed_named exceptions line x opened found = rw (opened, found) refl
 
 pub claimed_none : (exceptions : List Line) (line : Line) → is_open line ≡ true
     → find (is_named_like line) exceptions ≡ None → claimed_reference exceptions line ≡ []
 unfolding exception_reference
-claimed_none exceptions line opened found =
-    cond-true (is_open line) (unwrap_or (exception_reference exceptions line) []) line.reference opened
-    ∙ ap (λ (o : Option Line). unwrap_or (option_map (λ (y : Line). y.reference) o) []) found
+claimed_none exceptions line opened found = rw (opened, found) refl

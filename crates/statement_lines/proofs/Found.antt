@@ -1,6 +1,8 @@
 -- What a test finds among the elements that have a number, where all that pass it have that.
-use Rattle.statement_lines.proofs.Names.{◌≡◌, ◌∙◌, sym, ap, ℕ, Bool, true, false, cond, List, [], ◌∷◌, length, Some, refl, ◌&&◌, ◌||◌, option_map, count_by, filter, find, list_any, length-map, elements}
+use Rattle.statement_lines.proofs.Names.{◌≡◌, ◌∙◌, sym, ap, ℕ, Bool, true, false, List, [], ◌∷◌, length, refl, inl, inr, ◌&&◌, ◌||◌, option_map, count_by, filter, find, list_any, cases_Bool, length-map, elements}
+use Rattle.std.proofs.Math.Bool.{and-false, and-true}
 use Rattle.std.proofs.lemmas.List.Sums.{length-filter}
+use Rattle.std.proofs.lemmas.Map.Views.{any-filter_same}
 use denote.Ref.{Bor}
 
 -- all that pass p pass q
@@ -8,35 +10,28 @@ abbrev pub Narrows : {T : Type 0} → (T → Bool) → (T → Bool) → Type 0
 Narrows {T} p q = (x : T) → p x ≡ true → q x ≡ true
 
 module _ {T : Type 0} (p q : T → Bool) (narrows : Narrows p q) where
+  misses : (x : T) → q x ≡ false → p x ≡ false
+  misses x off = elim (cases_Bool (p x)) [
+    | inl t ↦ let on = narrows x t in cc
+    | inr f ↦ f
+  ]
+
   pub any_among : (xs : List T) → list_any p (filter q xs) ≡ list_any p xs
-  any_among [] = refl
-  any_among (x ∷ xs) = cases (p x) (q x) refl refl (any_among xs)
-    where
-      cases : (b c : Bool) → p x ≡ b → q x ≡ c → list_any p (filter q xs) ≡ list_any p xs
-          → list_any p (cond c (x ∷ filter q xs) (filter q xs)) ≡ list_any p (x ∷ xs)
-      cases b true px qx more = ap (λ r. p x || r) more
-      cases true false px qx more = absurd (let h = narrows x px in cc)
-      cases false false px qx more = rw px more
+  any_among = any-filter_same p q true narrows
 
   pub filter_among : (xs : List T) → filter p (filter q xs) ≡ filter p xs
   filter_among [] = refl
-  filter_among (x ∷ xs) = cases (p x) (q x) refl refl (filter_among xs)
-    where
-      cases : (b c : Bool) → p x ≡ b → q x ≡ c → filter p (filter q xs) ≡ filter p xs
-          → filter p (cond c (x ∷ filter q xs) (filter q xs)) ≡ filter p (x ∷ xs)
-      cases b true px qx more = ap (λ r. cond (p x) (x ∷ r) r) more
-      cases true false px qx more = absurd (let h = narrows x px in cc)
-      cases false false px qx more = rw px more
+  filter_among (x ∷ xs) = elim (cases_Bool (q x)) [
+    | inl t ↦ rw (t, filter_among xs) refl
+    | inr f ↦ rw (f, misses x f) (filter_among xs)
+  ]
 
   pub find_among : (xs : List T) → find p (filter q xs) ≡ find p xs
   find_among [] = refl
-  find_among (x ∷ xs) = cases (p x) (q x) refl refl (find_among xs)
-    where
-      cases : (b c : Bool) → p x ≡ b → q x ≡ c → find p (filter q xs) ≡ find p xs
-          → find p (cond c (x ∷ filter q xs) (filter q xs)) ≡ find p (x ∷ xs)
-      cases b true px qx more = ap (λ r. cond (p x) (Some x) r) more
-      cases true false px qx more = absurd (let h = narrows x px in cc)
-      cases false false px qx more = rw px more
+  find_among (x ∷ xs) = elim (cases_Bool (q x)) [
+    | inl t ↦ rw (t, find_among xs) refl
+    | inr f ↦ rw (f, misses x f) (find_among xs)
+  ]
 
   pub count_among : (xs : List T) → count_by p (filter q xs) ≡ count_by p xs
   count_among xs = sym (length-filter p (filter q xs)) ∙ ap length (filter_among xs) ∙ length-filter p xs
@@ -45,13 +40,10 @@ module _ {T : Type 0} (p q : T → Bool) (narrows : Narrows p q) where
 module _ {T : Type 0} (p : T → Bool) where
   pub filter_elements : (found : List (ℕ × Bor T)) → elements (filter (λ e. p e.1.now) found) ≡ filter p (elements found)
   filter_elements [] = refl
-  filter_elements (e ∷ found) = cases (p e.1.now) (filter_elements found)
-    where
-      cases : (b : Bool) → elements (filter (λ d. p d.1.now) found) ≡ filter p (elements found)
-          → elements (cond b (e ∷ filter (λ d. p d.1.now) found) (filter (λ d. p d.1.now) found))
-          ≡ cond b (e.1.now ∷ filter p (elements found)) (filter p (elements found))
-      cases true more = ap (λ ys. e.1.now ∷ ys) more
-      cases false more = more
+  filter_elements (e ∷ found) = elim (cases_Bool (p e.1.now)) [
+    | inl t ↦ rw (t, filter_elements found) refl
+    | inr f ↦ rw f (filter_elements found)
+  ]
 
   pub count_elements : (found : List (ℕ × Bor T)) → count_by (λ e. p e.1.now) found ≡ count_by p (elements found)
   count_elements found =
@@ -66,13 +58,10 @@ module _ {T : Type 0} (p : T → Bool) where
   pub find_elements : (found : List (ℕ × Bor T))
       → option_map (λ e. e.1.now) (find (λ e. p e.1.now) found) ≡ find p (elements found)
   find_elements [] = refl
-  find_elements (e ∷ found) = cases (p e.1.now) (find_elements found)
-    where
-      cases : (b : Bool) → option_map (λ d. d.1.now) (find (λ d. p d.1.now) found) ≡ find p (elements found)
-          → option_map (λ d. d.1.now) (cond b (Some e) (find (λ d. p d.1.now) found))
-          ≡ cond b (Some e.1.now) (find p (elements found))
-      cases true more = refl
-      cases false more = more
+  find_elements (e ∷ found) = elim (cases_Bool (p e.1.now)) [
+    | inl t ↦ rw t refl
+    | inr f ↦ rw f (find_elements found)
+  ]
 
 -- where those were found that have the number
 module _ {T : Type 0} (p q : T → Bool) (narrows : Narrows p q) (found : List (ℕ × Bor T)) (all : List T)
@@ -116,23 +105,14 @@ module _ {T : Type 0} (p q : T → Bool) (narrows : Narrows p q) (found : List (
 module _ {T : Type 0} (p q : T → Bool) where
   pub filter_both : (xs : List T) → filter p (filter q xs) ≡ filter (λ x. p x && q x) xs
   filter_both [] = refl
-  filter_both (x ∷ xs) = cases (p x) (q x) refl (filter_both xs)
-    where
-      cases : (b c : Bool) → p x ≡ b → filter p (filter q xs) ≡ filter (λ y. p y && q y) xs
-          → filter p (cond c (x ∷ filter q xs) (filter q xs))
-          ≡ cond (b && c) (x ∷ filter (λ y. p y && q y) xs) (filter (λ y. p y && q y) xs)
-      cases true true px more = rw px (ap (λ ys. x ∷ ys) more)
-      cases true false px more = more
-      cases false true px more = rw px more
-      cases false false px more = more
+  filter_both (x ∷ xs) = elim (cases_Bool (q x)) [
+    | inl t ↦ rw (t, and-true (p x), filter_both xs) refl
+    | inr f ↦ rw (f, and-false (p x)) (filter_both xs)
+  ]
 
   pub find_both : (xs : List T) → find p (filter q xs) ≡ find (λ x. p x && q x) xs
   find_both [] = refl
-  find_both (x ∷ xs) = cases (p x) (q x) refl (find_both xs)
-    where
-      cases : (b c : Bool) → p x ≡ b → find p (filter q xs) ≡ find (λ y. p y && q y) xs
-          → find p (cond c (x ∷ filter q xs) (filter q xs)) ≡ cond (b && c) (Some x) (find (λ y. p y && q y) xs)
-      cases true true px more = rw px refl
-      cases true false px more = more
-      cases false true px more = rw px more
-      cases false false px more = more
+  find_both (x ∷ xs) = elim (cases_Bool (q x)) [
+    | inl t ↦ rw (t, and-true (p x), find_both xs) refl
+    | inr f ↦ rw (f, and-false (p x)) (find_both xs)
+  ]

@@ -1,5 +1,5 @@
 -- The elements with a number stand side by side in a list that is sorted by it.
-use Rattle.statement_lines.proofs.Names.{◌≡◌, ◌∙◌, sym, ap, ℕ, zero, suc, ◌+◌, ◌<◌, ◌≤◌, ◌==◌, Bool, true, false, not, cond, List, [], ◌∷◌, ◌++◌, map, length, get_or, take, drop, refl, arith, ◌&&◌, nat_le, nat_lt, is_lt, nat_cmp, filter, IsPartitionPoint, IsStableByKey, ties, nat_tests, get_or-drop, length-drop, map-append, take_more, filter_agree, IsKeyed, elements, has_key}
+use Rattle.statement_lines.proofs.Names.{◌≡◌, ◌∙◌, sym, ap, ℕ, zero, suc, ◌+◌, ◌<◌, ◌≤◌, ◌==◌, Bool, true, false, not, cond, List, [], ◌∷◌, ◌++◌, map, length, get_or, take, drop, refl, inl, inr, arith, ◌&&◌, nat_le, nat_lt, is_lt, nat_cmp, filter, IsPartitionPoint, IsStableByKey, ties, nat_tests, cases_Bool, get_or-drop, length-drop, map-append, take_more, filter_agree, IsKeyed, elements, has_key}
 use Rattle.std.specs.declared.cmp.Ordering.TheVariants.{Less, Equal, Greater}
 use denote.Ref.{Bor}
 
@@ -89,23 +89,14 @@ looked_up key [] [] same k = refl
 looked_up key [] (e ∷ entries) same k = absurd (cc)
 looked_up key (x ∷ all) [] same k = absurd (cc)
 looked_up {T} key (x ∷ all) (e ∷ entries) same k =
-    ap (λ n. elements (cond (n == k) (e ∷ filter (has_key k) entries) (filter (has_key k) entries))) number
-    ∙ cases (key x == k) (looked_up key all entries rest k)
-  where
-    number : e.0 ≡ key x
-    number = ap (λ (es : List (ℕ × T)). (get_or es 0 (key x, x)).0) same
-
-    element : e.1.now ≡ x
-    element = ap (λ (es : List (ℕ × T)). (get_or es 0 (key x, x)).1) same
-
-    rest : IsKeyed key all entries
-    rest = ap (λ (es : List (ℕ × T)). drop 1 es) same
-
-    cases : (b : Bool) → elements (filter (has_key k) entries) ≡ filter (λ y. key y == k) all
-        → elements (cond b (e ∷ filter (has_key k) entries) (filter (has_key k) entries))
-        ≡ cond b (x ∷ filter (λ y. key y == k) all) (filter (λ y. key y == k) all)
-    cases true more = ap (λ y. y ∷ elements (filter (has_key k) entries)) element ∙ ap (λ ys. x ∷ ys) more
-    cases false more = more
+    let number : e.0 ≡ key x = ap (λ (es : List (ℕ × T)). (get_or es 0 (key x, x)).0) same in
+    let element : e.1.now ≡ x = ap (λ (es : List (ℕ × T)). (get_or es 0 (key x, x)).1) same in
+    let rest : IsKeyed key all entries = ap (λ (es : List (ℕ × T)). drop 1 es) same in
+    let more = looked_up key all entries rest k in
+    elim (cases_Bool (key x == k)) [
+      | inl t ↦ rw (number, t, element, more) refl
+      | inr f ↦ rw (number, f) more
+    ]
 
 -- one more element, with its number
 pub keyed_more : {T : Type 0} (key : T → ℕ) (all : List T) (i : ℕ) (entries new : List (ℕ × Bor T)) (x : Bor T) (n : ℕ)

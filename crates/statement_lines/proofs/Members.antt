@@ -1,21 +1,20 @@
 -- What is among the elements of lists that are made of others.
-use Rattle.statement_lines.proofs.Names.{◌≡◌, ◌∙◌, sym, ap, subst, zero, suc, Bool, true, false, cond, List, [], ◌∷◌, map, Some, refl, inl, inr, arith, Contains, filter, find, flat_map, Contains-append_cases, Contains-append_left, Contains-append_right}
+use Rattle.statement_lines.proofs.Names.{◌≡◌, ◌∙◌, sym, ap, subst, zero, suc, Bool, true, false, cond, List, [], ◌∷◌, map, Some, refl, inl, inr, arith, cases_Bool, Contains, filter, find, flat_map, Contains-append_cases, Contains-append_left, Contains-append_right}
 
 pub later : {A : Type 0} (x y : A) (xs : List A) → Contains xs y → Contains (x ∷ xs) y
 later x y xs (k, lt, is) = (suc k, omega arith, is)
-
-there_if_picked : {A : Type 0} (b : Bool) (x y : A) (xs : List A) → Contains xs y → Contains (cond b (x ∷ xs) xs) y
-there_if_picked true x y xs h = later x y xs h
-there_if_picked false x y xs h = h
 
 pub filter_has : {A : Type 0} (p : A → Bool) (xs : List A) (y : A) → p y ≡ true → Contains xs y
     → Contains (filter p xs) y
 filter_has p [] y hit (k, lt, is) = absurd (omega arith)
 filter_has p (x ∷ xs) y hit (zero, lt, is) =
-    let T = λ (b : Bool). Contains (cond b (x ∷ filter p xs) (filter p xs)) y in
-    subst T (sym (ap p is ∙ hit)) (zero, omega arith, is)
+    let first : p x ≡ true = ap p is ∙ hit in rw first (zero, omega arith, is)
 filter_has p (x ∷ xs) y hit (suc k, lt, is) =
-    there_if_picked (p x) x y (filter p xs) (filter_has p xs y hit (k, omega arith, is))
+    let more = filter_has p xs y hit (k, omega arith, is) in
+    elim (cases_Bool (p x)) [
+      | inl t ↦ rw t (later x y (filter p xs) more)
+      | inr f ↦ rw f more
+    ]
 
 pub map_has : {A B : Type 0} (f : A → B) (xs : List A) (y : A) → Contains xs y → Contains (map f xs) (f y)
 map_has f [] y (k, lt, is) = absurd (omega arith)
@@ -65,10 +64,8 @@ filter_from {A} p (x ∷ xs) y there = cases (p x) refl there (filter_from p xs 
 pub find_has : {A : Type 0} (p : A → Bool) (xs : List A) (y : A) → Contains xs y → p y ≡ true
     → (z : A) × (find p xs ≡ Some z)
 find_has p [] y (k, lt, is) hit = absurd (omega arith)
-find_has {A} p (x ∷ xs) y (zero, lt, is) hit =
-    (x, ap (λ b. cond b (Some x) (find p xs)) (ap p is ∙ hit))
-find_has {A} p (x ∷ xs) y (suc k, lt, is) hit = cases (p x) (find_has p xs y (k, omega arith, is) hit)
-  where
-    cases : (b : Bool) → ((z : A) × (find p xs ≡ Some z)) → (z : A) × (cond b (Some x) (find p xs) ≡ Some z)
-    cases true more = (x, refl)
-    cases false more = more
+find_has p (x ∷ xs) y (zero, lt, is) hit = let first : p x ≡ true = ap p is ∙ hit in (x, rw first refl)
+find_has p (x ∷ xs) y (suc k, lt, is) hit = elim (cases_Bool (p x)) [
+  | inl t ↦ (x, rw t refl)
+  | inr f ↦ rw f (find_has p xs y (k, omega arith, is) hit)
+]

@@ -3,7 +3,7 @@ pub use Rattle.csv.specs.Reading.{ReadRecord, Ready, default_config, reader_conf
 unfoldable pub use Rattle.csv.specs.Reading.{Reached, strip_bom}
 pub use Rattle.csv.specs.Records.{fields_of}
 unfoldable pub use Rattle.statement_csv.specs.Items.{items_from}
-pub use Rattle.std.proofs.Common.{Bool, Bor, List, None, Option, Some, [], add-one, ap, append-nil, append_assoc, arith, cond, drop, false, fold, get_or, inl, inr, length, map, not, option_copied, refl, rules, subst, suc, sym, take, true, unwrap_or, zero, ℕ, ◌++◌, ◌+◌, ◌-◌, ◌<◌, ◌==◌, ◌∙◌, ◌∷◌, ◌≡◌, ◌≢◌, ◌≤◌}
+pub use Rattle.std.proofs.Common.{Bool, Bor, List, None, Option, Some, [], add-one, add-zero, ap, append-nil, append_assoc, arith, cond, drop, false, fold, get_or, inl, inr, length, map, not, option_copied, refl, rules, subst, suc, sym, take, true, unwrap_or, zero, ℕ, ◌++◌, ◌+◌, ◌-◌, ◌<◌, ◌==◌, ◌∙◌, ◌∷◌, ◌≡◌, ◌≢◌, ◌≤◌}
 pub use Rattle.std.proofs.lemmas.Bool.{and_parts, cases_Bool, cond-false, cond-true, eq-eqb, eqb-true}
 pub use Rattle.std.proofs.lemmas.Bool.Decides.{Decides-int_eq, nat_tests}
 pub use Rattle.std.proofs.lemmas.List.{at_drop_more, drop_all, drop_more, get_or-drop, length-drop, length-map, map-append, map-id, take_all, take_more, take_rest}
@@ -24,13 +24,12 @@ pub use Rattle.statement_lines.specs.Marks.{entry_marks, is_shown, line_marks, m
 unfoldable pub use Rattle.statement_lines.specs.Marks.{marks_from, window_marks}
 pub use Rattle.statement_lines.specs.Numbers.{is_among, without_zeros}
 unfoldable pub use Rattle.statement_lines.specs.Numbers.{is_number, is_telling, line_numbers, telling_behind}
-pub use Rattle.statement_lines.specs.OpenLines.{claimed_reference, is_claimed, is_named_like, is_open, is_open_fit, is_open_like}
+pub use Rattle.statement_lines.specs.OpenLines.{claimed_reference, is_named_like, is_open, is_open_fit, is_open_like}
 unfoldable pub use Rattle.statement_lines.specs.OpenLines.{exception_reference}
 pub use Rattle.statement_lines.specs.Records.{Records, Rows, line_at, lines_from, no_records, rows_of, with_record}
 unfoldable pub use Rattle.statement_lines.specs.Records.{numbers_from, records_of}
 pub use Rattle.statement_lines.specs.RowsLeft.{Adds, HasLeft, Holds, left_of, outcome_if}
-unfoldable pub use Rattle.statement_lines.specs.Showing.{begins_with_reference, fits, has_reference, has_reference as has_reference_text, is_other_business, shows}
-pub use Rattle.statement_lines.specs.Sides.{Sides}
+unfoldable pub use Rattle.statement_lines.specs.Showing.{begins_with_reference, fits, has_reference, has_reference as has_reference_text, shows}
 pub use Rattle.statement_lines.specs.Tokens.{goes_on, tokens}
 unfoldable pub use Rattle.statement_lines.specs.Tokens.{begins, numeral_len, numeral_len as numeral_length, token_in_front, tokens_behind}
 pub use Rattle.statement_lines.specs.Waiting.{Waiting}

@@ -1,5 +1,5 @@
 -- What is met of the lines of a statement while its records are passed.
-use Rattle.statement_lines.proofs.Names.{◌≡◌, ◌∙◌, sym, ap, ℕ, zero, suc, ◌+◌, ◌<◌, ◌≤◌, ◌==◌, Bool, true, false, List, [], ◌∷◌, ◌++◌, drop, map, append-nil, append_assoc, cond, Bor, Option, Some, None, option_copied, refl, inl, inr, arith, add-one, cases_Bool, nat_tests, Line, items_from, Rows, line_at, lines_from, numbers_from, outcome_if, row_as, rows_by, Outcome}
+use Rattle.statement_lines.proofs.Names.{◌≡◌, ◌∙◌, sym, ap, ℕ, zero, suc, ◌+◌, ◌<◌, ◌≤◌, ◌==◌, true, false, List, [], ◌∷◌, ◌++◌, drop, map, append-nil, append_assoc, Bor, Option, Some, None, option_copied, refl, inl, inr, arith, add-one, cases_Bool, nat_tests, Line, items_from, Rows, line_at, lines_from, numbers_from, outcome_if, row_as, rows_by, Outcome}
 use Rattle.std.specs.List.{slice_get}
 use Rattle.std.specs.Option.{is_some}
 
@@ -60,11 +60,7 @@ not-here (Some line) number next never = elim (cases_Bool (line == number)) [
 ]
 
 here : (number : ℕ) (next : Option Outcome) → outcome_if (Some number) number next ≡ next
-here number next = by (number == number) (grind (arith, nat_tests))
-  where
-    by : (b : Bool) → b ≡ true → cond b next None ≡ next
-    by true e = refl
-    by false e = cc
+here number next = let same : (number == number) ≡ true = grind (arith, nat_tests) in rw same refl
 
 -- a record was passed
 pub met-more : (outcome_of : Line → Outcome) (numbers : List ℕ) (outcomes : List Outcome) (all : Rows)

@@ -1,10 +1,9 @@
 -- All entries that a line shows are found by its marks.
-use Rattle.statement_lines.proofs.Names.{◌≡◌, ◌∙◌, sym, ap, subst, ℕ, zero, suc, ◌+◌, ◌-◌, ◌<◌, ◌≤◌, ◌==◌, Bool, true, false, cond, List, [], ◌∷◌, ◌++◌, length, get_or, take, map, refl, arith, option_to_list, slice_get, AllPairs, Contains, filter, flat_map, list_any, IsStrictlyIncreasing, bytes_eq, and_parts, eqb-true, eq-eqb, nat_tests, bytes_eq-Decides, Contains-append_left, Contains-append_right, Line, text_key, entry_marks, is_shown, line_marks, mark_of, marks_at, marks_from, reference_mark, window_marks, is_among, line_numbers, begins_with_reference, has_reference, shows, Waiting, BookEntry}
+use Rattle.statement_lines.proofs.Names.{◌≡◌, ◌∙◌, sym, ap, subst, ℕ, zero, suc, ◌+◌, ◌-◌, ◌<◌, ◌≤◌, ◌==◌, Bool, true, false, cond, List, [], ◌∷◌, ◌++◌, length, get_or, take, map, refl, inl, inr, arith, cases_Bool, option_to_list, slice_get, AllPairs, Contains, filter, flat_map, list_any, IsStrictlyIncreasing, bytes_eq, and_parts, eqb-true, eq-eqb, nat_tests, bytes_eq-Decides, Contains-append_left, Contains-append_right, Line, text_key, entry_marks, is_shown, line_marks, mark_of, marks_at, marks_from, reference_mark, window_marks, is_among, line_numbers, begins_with_reference, has_reference, shows, Waiting, BookEntry}
 use Rattle.std.proofs.lemmas.List.Folds.{Any-from_list_any}
 use Rattle.std.proofs.lemmas.List.Kept.{AllPairs-from_increasing}
 use Rattle.std.proofs.lemmas.Map.Made.{Contains-tail}
 use Rattle.statement_lines.specs.Places.{places_with}
-use Rattle.statement_lines.proofs.Marked.{marks_from-cons, window_marks-cons}
 use Rattle.statement_lines.proofs.Members.{filter_has, flat_map_has, later, map_has}
 
 -- The elements at rising places, among which are those of all that pass.
@@ -43,12 +42,10 @@ none_there {X} f n (p ∷ ps) none rise =
 none_passes : {X : Type 0} (q : X → Bool) (xs : List X)
     → ((i : ℕ) (d : X) → i < length xs → q (get_or xs i d) ≡ true → ⊥) → filter q xs ≡ []
 none_passes q [] none = refl
-none_passes {X} q (x ∷ xs) none =
-    cases (q x) refl (none_passes q xs (λ i d lt hit. none (suc i) d (omega (arith, lt)) hit))
-  where
-    cases : (b : Bool) → q x ≡ b → filter q xs ≡ [] → cond b (x ∷ filter q xs) (filter q xs) ≡ []
-    cases true hit more = absurd (none 0 x (omega arith) hit)
-    cases false miss more = more
+none_passes q (x ∷ xs) none = elim (cases_Bool (q x)) [
+  | inl hit ↦ absurd (none 0 x (omega arith) hit)
+  | inr miss ↦ rw miss (none_passes q xs (λ i d lt hit. none (suc i) d (omega (arith, lt)) hit))
+]
 
 not_among_none : (m : ℕ) → Contains [] m → ⊥
 not_among_none m (k, lt, is) = omega (arith, lt)
@@ -102,36 +99,30 @@ module _ {X : Type 0} (q : X → Bool) (f : ℕ → List X) where
 
 reference_in : (reference text : List ℕ) → length reference ≡ 12 → has_reference reference text ≡ true
     → Contains (window_marks text) (text_key 0 reference)
-unfolding has_reference begins_with_reference
+unfolding has_reference begins_with_reference window_marks
 reference_in reference [] long hit = absurd (cc)
-reference_in reference (b ∷ rest) long hit =
-    subst (λ (ms : List ℕ). Contains ms (text_key 0 reference)) (sym (window_marks-cons b rest))
-    (cases (begins_with_reference reference (b ∷ rest)) refl (λ more. reference_in reference rest long more))
-  where
-    cases : (c : Bool) → begins_with_reference reference (b ∷ rest) ≡ c
-        → (has_reference reference rest ≡ true → Contains (window_marks rest) (text_key 0 reference))
-        → Contains (text_key 0 (take 12 (b ∷ rest)) ∷ window_marks rest) (text_key 0 reference)
-    cases true begins further =
-        let starts = and_parts _ _ begins in
-        let same : reference ≡ take (length reference) (b ∷ rest) =
-        (bytes_eq-Decides reference (take (length reference) (b ∷ rest))).0 starts.0 in
-        let front : reference ≡ take 12 (b ∷ rest) = same ∙ ap (λ (n : ℕ). take n (b ∷ rest)) long in
-        (zero, omega arith, ap (text_key 0) (sym front))
-    cases false other further =
-        let more : has_reference reference rest ≡ true = cc in
-        later (text_key 0 (take 12 (b ∷ rest))) (text_key 0 reference) (window_marks rest) (further more)
+reference_in reference (b ∷ rest) long hit = elim (cases_Bool (begins_with_reference reference (b ∷ rest))) [
+  | inl begins ↦
+      let starts = and_parts _ _ begins in
+      let same : reference ≡ take (length reference) (b ∷ rest) =
+      (bytes_eq-Decides reference (take (length reference) (b ∷ rest))).0 starts.0 in
+      let front : reference ≡ take 12 (b ∷ rest) = same ∙ ap (λ (n : ℕ). take n (b ∷ rest)) long in
+      (zero, omega arith, ap (text_key 0) (sym front))
+  | inr other ↦
+      let more : has_reference reference rest ≡ true = cc in
+      later (text_key 0 (take 12 (b ∷ rest))) (text_key 0 reference) (window_marks rest) (reference_in reference rest long more)
+]
 
 reference_shared : (line : Line) (w : Waiting) → has_reference w.reference line.text ≡ true
     → Contains (line_marks line) (reference_mark w.reference)
-reference_shared line w hit = cases (length w.reference == 12) refl
-  where
-    cases : (b : Bool) → (length w.reference == 12) ≡ b
-        → Contains (line_marks line) (cond b (text_key 0 w.reference) 0)
-    cases true long =
-        later 0 (text_key 0 w.reference) (map (text_key 0) (line_numbers line) ++ window_marks line.text)
-        (Contains-append_right (map (text_key 0) (line_numbers line)) (window_marks line.text) (text_key 0 w.reference)
-        (reference_in w.reference line.text (eqb-true (length w.reference) 12 long) hit))
-    cases false other = (zero, omega arith, refl)
+reference_shared line w hit = elim (cases_Bool (length w.reference == 12)) [
+  | inl long ↦
+      rw long
+      (later 0 (text_key 0 w.reference) (map (text_key 0) (line_numbers line) ++ window_marks line.text)
+      (Contains-append_right (map (text_key 0) (line_numbers line)) (window_marks line.text) (text_key 0 w.reference)
+      (reference_in w.reference line.text (eqb-true (length w.reference) 12 long) hit)))
+  | inr other ↦ rw other (zero, omega arith, refl)
+]
 
 number_shared : (line : Line) (w : Waiting) → list_any (is_among w.numbers) (line_numbers line) ≡ true
     → (k : ℕ) × Contains (line_marks line) k × Contains (entry_marks w) k
@@ -154,32 +145,29 @@ number_shared line w hit =
 mark_shared : (line : Line) (w : Waiting) → shows line w ≡ true
     → (k : ℕ) × Contains (line_marks line) k × Contains (entry_marks w) k
 unfolding shows
-mark_shared line w hit = cases (list_any (is_among w.numbers) (line_numbers line)) refl
-  where
-    cases : (b : Bool) → list_any (is_among w.numbers) (line_numbers line) ≡ b
-        → (k : ℕ) × Contains (line_marks line) k × Contains (entry_marks w) k
-    cases true number = number_shared line w number
-    cases false none =
-        let reference : has_reference w.reference line.text ≡ true = cc in
-        (reference_mark w.reference, reference_shared line w reference, (zero, omega arith, refl))
+mark_shared line w hit = elim (cases_Bool (list_any (is_among w.numbers) (line_numbers line))) [
+  | inl number ↦ number_shared line w number
+  | inr none ↦
+      let reference : has_reference w.reference line.text ≡ true = cc in
+      (reference_mark w.reference, reference_shared line w reference, (zero, omega arith, refl))
+]
 
 -- The places found.
 
 marks_there : (n : ℕ) (entries : List BookEntry) (i : ℕ) (d : BookEntry) (k : ℕ) → i < length entries
     → Contains (entry_marks (get_or entries i d).entry) k → Contains (marks_from n entries) (k, n + i)
+unfolding marks_from
 marks_there n [] i d k lt there = absurd (omega arith)
 marks_there n (e ∷ es) zero d k lt there =
     let number : n ≡ n + 0 = omega arith in
     subst (λ (m : ℕ). Contains (marks_from n (e ∷ es)) (k, m)) number
-    (subst (λ (ms : List (ℕ × ℕ)). Contains ms (k, n)) (sym (marks_from-cons n e es))
     (Contains-append_left (marks_at n e) (marks_from (n + 1) es) (k, n)
-    (map_has {B = ℕ × ℕ} (λ mark. (mark, n)) (entry_marks e.entry) k there)))
+    (map_has {B = ℕ × ℕ} (λ mark. (mark, n)) (entry_marks e.entry) k there))
 marks_there n (e ∷ es) (suc i) d k lt there =
     let number : n + 1 + i ≡ n + suc i = omega arith in
     subst (λ (m : ℕ). Contains (marks_from n (e ∷ es)) (k, m)) number
-    (subst (λ (ms : List (ℕ × ℕ)). Contains ms (k, n + 1 + i)) (sym (marks_from-cons n e es))
     (Contains-append_right (marks_at n e) (marks_from (n + 1) es) (k, n + 1 + i)
-    (marks_there (n + 1) es i d k (omega arith) there)))
+    (marks_there (n + 1) es i d k (omega arith) there))
 
 places_have : (line : Line) (entries : List BookEntry) (i : ℕ) (d : BookEntry) → i < length entries
     → is_shown line (get_or entries i d) ≡ true → Contains (flat_map (places_with entries) (line_marks line)) i

@@ -1,6 +1,6 @@
 // The statement that is written of records.
 
-ghost use Rattle.std.specs.Prelude.{◌≡◌, ◌++◌, ◌∷◌, [], ℕ, List, IfOk, OnOk, Option, None, Some, get_or, if◌then◌else◌};
+ghost use Rattle.std.specs.Prelude.{◌≡◌, ◌++◌, ◌∷◌, [], ℕ, List, IfOk, OnOk, Option, None, Some, if◌then◌else◌};
 ghost use Rattle.std.specs.Prelude.{map, option_copied, slice_get};
 ghost use Rattle.csv.specs.Records.{fields_of};
 ghost use Rattle.trust_base.specs.declared.line.Line.{Line};
@@ -14,16 +14,10 @@ use crate::outcome::Outcome;
 use crate::records::Records;
 use crate::rows::rows_behind_header;
 use csv::{ByteRecord, Writer, WriterBuilder};
+use statement_csv::field;
 use std::alloc::{AllocError, Global};
 use std::io::Write;
 use trust_base::BankText;
-
-// The field at a place, or an empty one.
-fn field(row: &ByteRecord, place: usize) -> &[u8]
-    ensures { result.now ≡ get_or (fields_of row.now) place [] }
-{
-    row.get(place).unwrap_or(&[])
-}
 
 // Writes a record with these fields.
 fn write_fields<W: Write + Drop>(writer: &mut Writer<W>, fields: &[&[u8]]) -> Result<(), AllocError>

@@ -1,15 +1,8 @@
 -- A line that was filled, once the book has it.
-use Rattle.statement_match.proofs.Names.{◌≡◌, ◌∙◌, ap, ℕ, ◌≤◌, Bool, true, false, not, List, arith, nat_lt, Contains, count_by, cond-false, cond-true, le-leb, or_left, or_parts, nat_tests, length-filter, Line, Booking, booking_of, is_same_booking, Held, is_open, is_open_like, becomes, is_booked, is_booked_in_parts, is_doubled, is_in_book}
+use Rattle.statement_match.proofs.Names.{◌≡◌, ◌∙◌, ap, ℕ, ◌≤◌, true, false, not, List, arith, nat_lt, Contains, count_by, cond-false, cond-true, le-leb, or_left, or_parts, nat_tests, Line, Booking, booking_of, is_same_booking, Held, is_open, is_open_like, becomes, is_booked, is_booked_in_parts, is_doubled, is_in_book}
 use Rattle.statement_lines.specs.declared.outcome.Outcome.TheVariants as outcome
-use Rattle.statement_match.proofs.Filling.{becomes-is, sure_of}
-use Rattle.statement_match.proofs.Picks.{one_passes}
-
--- a booking that passes is counted
-counted : (p : Booking → Bool) (bookings : List Booking) (b : Booking) → Contains bookings b → p b ≡ true
-    → 1 ≤ count_by p bookings
-counted p bookings b (k, lt, is) hit =
-    let long = length-filter p bookings in
-    let some = one_passes p bookings k b lt (ap p is ∙ hit) in omega (arith, long, some)
+use Rattle.statement_match.proofs.Filling.{sure_of}
+use Rattle.statement_match.proofs.Picks.{is_counted}
 
 -- a line that is not doubled is open once
 open_once : (held : Held) (lines : List Line) (line : Line) → is_doubled held lines line ≡ false
@@ -23,7 +16,7 @@ in_book : (held : Held) (lines : List Line) (line : Line) (b : Booking) → coun
     → Contains held.bookings b → is_same_booking (booking_of line) b ≡ true → is_in_book held lines line ≡ true
 unfolding is_in_book
 in_book held lines line b few there same =
-    let some = counted (is_same_booking (booking_of line)) held.bookings b there same in
+    let some = is_counted (is_same_booking (booking_of line)) held.bookings b there same in
     let enough : count_by (is_open_like line) lines ≤ count_by (is_same_booking (booking_of line)) held.bookings =
     omega (arith, few, some) in
     or_left (is_booked held lines line) (is_booked_in_parts held lines line)
@@ -33,9 +26,9 @@ in_book held lines line b few there same =
 pub filled_is_booked : (today later : ℕ) (held new : Held) (lines : List Line) (line : Line) (reference : List ℕ)
     (b : Booking) → becomes today held lines line ≡ outcome.Filled reference → Contains new.bookings b
     → is_same_booking (booking_of line) b ≡ true → becomes later new lines line ≡ outcome.InBook
+unfolding becomes
 filled_is_booked today later held new lines line reference b filled there same =
     let sure = (sure_of today held lines line reference filled).1 in
     let once = open_once held lines line sure.single in
-    becomes-is later new lines line
-    ∙ cond-false (not (is_open line)) _ _ (ap not sure.nameless)
+    cond-false (not (is_open line)) _ _ (ap not sure.nameless)
     ∙ cond-true (is_in_book new lines line) _ _ (in_book new lines line b once there same)

@@ -1,9 +1,8 @@
 -- No two entries that wait in a sound firm have one reference.
-use Rattle.statement_match.proofs.Names.{◌≡◌, ◌∙◌, sym, ap, subst, ℕ, zero, suc, ◌+◌, ◌<◌, true, List, [], ◌∷◌, length, get_or, Option, Some, None, inl, inr, arith, Contains, nat_tests, Contains-append_cases, DepositState, PaymentState, Entry, EntryRow, Firm, HeadRow, Row, SeatRow, entry_pairs, head_pairs, of, pairs, put, seat_pairs, entry_named, named, reference_text, Waiting, filter_has, flat_map_from, deposit_waiting, entry_waiting, held_of, payment_waiting, row_waiting, HasMatterNumbers, NoneIsNamedTwiceByFirms, WaitApart}
+use Rattle.statement_match.proofs.Names.{◌≡◌, ◌∙◌, sym, ap, subst, ℕ, zero, suc, ◌+◌, ◌<◌, true, List, [], ◌∷◌, length, get_or, Option, Some, None, inl, inr, arith, Contains, nat_tests, Contains-append_cases, same_Some, DepositState, PaymentState, Entry, EntryRow, Firm, HeadRow, Row, SeatRow, entry_pairs, head_pairs, of, pairs, put, seat_pairs, entry_named, named, reference_text, Waiting, filter_has, deposit_waiting, entry_waiting, held_of, payment_waiting, row_waiting, HasMatterNumbers, NoneIsNamedTwiceByFirms, WaitApart}
 use Rattle.std.specs.Prelude.{◌==◌}
 use Rattle.trust_base.specs.Limits.{IsEntryNo, IsMatterNo}
 use Rattle.matter_rows.specs.Rows.{Rows, entry_at}
-use Rattle.matter_rows.specs.declared.entry.Entry.TheVariants as entry
 use Rattle.matter_rows.specs.declared.head.Head.{Head}
 use Rattle.matter_rows.specs.declared.seat.Seat.{Seat}
 use Rattle.matter_rows.proofs.Collected.{entry-at-place}
@@ -11,7 +10,7 @@ use Rattle.matter_rows.proofs.Entries.{within}
 use Rattle.firm_rows.specs.FirmSound.{FirmSound}
 use Rattle.firm_rows.proofs.Joined.{own-put}
 use Rattle.statement_csv.proofs.NamedFacts.{named-found}
-use Rattle.statement_match.proofs.Waits.{by_waiting, none_there, the_one}
+use Rattle.statement_match.proofs.Waits.{by_waiting, none_there, row_of, the_one}
 use Rattle.statement_match.proofs.Writing.{none_is_named_twice}
 
 -- The rows of a matter.
@@ -57,11 +56,6 @@ in_pairs m n e rows there =
             ap (entry_at rows.entries) (sym number) ∙ entry-at-place rows.entries place.0 e place.2 place.3
       ]
     ]
-
-row_of : (firm : Firm) (w : Waiting) → Contains (held_of firm).waiting w
-    → (p : ℕ × Row) × Contains firm.rows p × Contains (row_waiting p) w
-unfolding held_of
-row_of firm w there = flat_map_from row_waiting firm.rows w there
 
 -- The entry of a row.
 
@@ -147,29 +141,15 @@ same_named m n k j m_is n_is k_is j_is same =
     let names : named m n ≡ named k j = cc in
     (ap (λ x. x.matter) names, ap (λ x. x.entry) names)
 
-same_entry : (firm : Firm) (m n k j : ℕ) (e f : Entry) → m ≡ k → n ≡ j
-    → entry_at (of m firm).entries n ≡ Some e → entry_at (of k firm).entries j ≡ Some f → e ≡ f
-same_entry firm m n k j e f matter number first second =
-    let both : Some e ≡ Some f =
-    sym first ∙ (λ i. entry_at (of (matter i) firm).entries (number i)) ∙ second in cc
-
-same_waiting : (m n k j : ℕ) (e f : Entry) (w v : Waiting) → m ≡ k → n ≡ j → e ≡ f
-    → Contains (entry_waiting m n e) w → Contains (entry_waiting k j f) v → w ≡ v
-same_waiting m n k j e f w v matter number made first second =
-    let moved : Contains (entry_waiting k j f) w =
-    subst (λ (x : Entry). Contains (entry_waiting k j x) w) made
-    (subst (λ (x : ℕ). Contains (entry_waiting k x e) w) number
-    (subst (λ (x : ℕ). Contains (entry_waiting x n e) w) matter first)) in
-    (entry_once k j f w v moved second).0
-
 pub wait_apart : WaitApart
 wait_apart firm sound numbers w v w_there v_there same =
     let a = of_entry firm w sound numbers w_there in
     let b = of_entry firm v sound numbers v_there in
     let names = same_named a.matter a.number b.matter b.number a.is_matter a.is_number b.is_matter b.is_number
     (sym a.is ∙ same ∙ b.is) in
-    let made = same_entry firm a.matter a.number b.matter b.number a.made b.made names.0 names.1 a.there b.there in
-    same_waiting a.matter a.number b.matter b.number a.made b.made w v names.0 names.1 made a.waits b.waits
+    let there = rw (names.0, names.1) at a.there in
+    let made = same_Some a.made b.made (sym there ∙ b.there) in
+    (entry_once b.matter b.number b.made w v (rw (names.0, names.1, made) at a.waits) b.waits).0
 
 pub none_is_named_twice_by_firms : NoneIsNamedTwiceByFirms
 none_is_named_twice_by_firms today firm lines i k d x reference sound numbers li lk differ filled there is =

@@ -1,10 +1,10 @@
 -- All entries that stand in some way to a line are among those of its amount, those of its reference, those that it
 -- shows, or those of a day.
-use Rattle.statement_match.proofs.Names.{◌≡◌, ◌∙◌, sym, ap, subst, ℕ, zero, suc, ℤ, pos, negsuc, ◌==◌, true, not, ◌&&◌, neg_ℤ, List, refl, inl, inr, ◌⊎◌, nat_le, nat_lt, unsigned_abs, filter, int_eq, and_parts, eq-eqb, Decides-int_eq, bytes_eq-Decides, Line, is_cleared, is_held, is_waiting, amount_key, day_key, entry_key, reference_key, text_key, elements, is_shown, has_amount_back, has_its_amount, is_of_no_amount, names, stands, fits, is_other_business, is_out, shows, BookEntry, Narrows, filtered, filtered_kept, Bor}
+use Rattle.statement_match.proofs.Names.{◌≡◌, ◌∙◌, sym, ap, Bool, ℕ, zero, suc, ℤ, pos, negsuc, ◌==◌, true, not, ◌&&◌, neg_ℤ, List, refl, inl, inr, ◌⊎◌, nat_le, nat_lt, unsigned_abs, filter, int_eq, and_parts, eq-eqb, Decides-int_eq, bytes_eq-Decides, Line, is_cleared, is_held, is_waiting, amount_key, day_key, entry_key, reference_key, text_key, elements, is_shown, has_amount_back, has_its_amount, is_of_no_amount, names, stands, fits, is_other_business, is_out, shows, BookEntry, Narrows, filtered, filtered_kept, Bor}
 use Rattle.statement_lines.specs.declared.relation.Relation.{Relation}
 use Rattle.statement_lines.specs.declared.relation.Relation.TheVariants as relation
 
--- Of its amount.
+-- What entries of its amount, and those that it names, have.
 
 unsigned_abs-neg : (x : ℤ) → unsigned_abs (neg_ℤ x) ≡ unsigned_abs x
 unsigned_abs-neg (pos zero) = refl
@@ -22,133 +22,81 @@ back_amount line e is =
     (ap unsigned_abs (sym ((Decides-int_eq (neg_ℤ line.amount) e.entry.amount).0 parts.1))
     ∙ unsigned_abs-neg line.amount)
 
-of_its_amount_narrows : (today : ℕ) (line : Line)
-    → Narrows (stands relation.OfItsAmount today line) (λ e. entry_key e == amount_key line)
-unfolding stands
-of_its_amount_narrows today line e is =
-    its_amount line e (and_parts (is_waiting e.state) (has_its_amount line e) is).1
-
-returned_narrows : (today : ℕ) (line : Line)
-    → Narrows (stands relation.MaybeReturned today line) (λ e. entry_key e == amount_key line)
-unfolding stands
-returned_narrows today line e is =
-    back_amount line e (and_parts (has_amount_back line e) (is_cleared e.state) is).0
-
--- Of its reference.
-
 named_alike : (line : Line) (e : BookEntry) → names line e ≡ true
     → (reference_key e == text_key 0 line.reference) ≡ true
 named_alike line e is =
     eq-eqb (reference_key e) (text_key 0 line.reference)
     (ap (text_key 0) (sym ((bytes_eq-Decides line.reference e.entry.reference).0 is)))
 
-named_narrows : (today : ℕ) (line : Line)
-    → Narrows (stands relation.Named today line) (λ e. reference_key e == text_key 0 line.reference)
-unfolding stands
-named_narrows today line e is = named_alike line e is
+-- The entries among which those that stand in a way to a line are.
 
-named_other_narrows : (today : ℕ) (line : Line)
-    → Narrows (stands relation.NamedOfAnotherAmount today line) (λ e. reference_key e == text_key 0 line.reference)
-unfolding stands
-named_other_narrows today line e is =
-    named_alike line e (and_parts (names line e) (is_of_no_amount line e) is).0
+abbrev among : Relation → Line → BookEntry → Bool
+among relation.OfItsAmount line e = entry_key e == amount_key line
+among relation.MaybeReturned line e = entry_key e == amount_key line
+among relation.Named line e = reference_key e == text_key 0 line.reference
+among relation.NamedOfAnotherAmount line e = reference_key e == text_key 0 line.reference
+among (relation.HeldOn day) line e = day_key e == day
+among _ line e = is_shown line e
 
--- Shown.
-
-fitted_narrows : (today : ℕ) (line : Line) → Narrows (stands relation.Fitted today line) (is_shown line)
+narrows : (r : Relation) (today : ℕ) (line : Line) → Narrows (stands r today line) (among r line)
 unfolding stands fits
-fitted_narrows today line e is =
+narrows relation.OfItsAmount today line e is =
+    its_amount line e (and_parts (is_waiting e.state) (has_its_amount line e) is).1
+narrows relation.MaybeReturned today line e is =
+    back_amount line e (and_parts (has_amount_back line e) (is_cleared e.state) is).0
+narrows relation.Named today line e is = named_alike line e is
+narrows relation.NamedOfAnotherAmount today line e is =
+    named_alike line e (and_parts (names line e) (is_of_no_amount line e) is).0
+narrows (relation.HeldOn day) today line e is = (and_parts (is_held e.state) (e.day == day) is).1
+narrows relation.Fitted today line e is =
     let fit = and_parts (is_waiting e.state) (fits today line e.entry) is in
     (and_parts (nat_le line.date today && int_eq line.amount e.entry.amount && nat_le e.entry.since line.date
     && not (is_other_business line)) (shows line e.entry) fit.1).1
-
-not_waiting_narrows : (today : ℕ) (line : Line) → Narrows (stands relation.NotWaiting today line) (is_shown line)
-unfolding stands
-not_waiting_narrows today line e is =
+narrows relation.NotWaiting today line e is =
     (and_parts (not (is_waiting e.state) && has_its_amount line e) (shows line e.entry) is).1
-
-issued_after_narrows : (today : ℕ) (line : Line) → Narrows (stands relation.IssuedAfter today line) (is_shown line)
-unfolding stands
-issued_after_narrows today line e is =
+narrows relation.IssuedAfter today line e is =
     (and_parts (is_waiting e.state && has_its_amount line e && nat_lt line.date e.entry.since) (shows line e.entry)
     is).1
-
-other_amount_narrows : (today : ℕ) (line : Line) → Narrows (stands relation.OfAnotherAmount today line) (is_shown line)
-unfolding stands
-other_amount_narrows today line e is =
+narrows relation.OfAnotherAmount today line e is =
     (and_parts (is_waiting e.state && not (has_its_amount line e)) (shows line e.entry) is).1
 
 -- The entries found.
+
+kept : (r : Relation) (today : ℕ) (line : Line) (entries : List BookEntry) (found : List (ℕ × Bor BookEntry))
+    → elements found ≡ filter (among r line) entries
+    → filter (stands r today line) (elements found) ≡ filter (stands r today line) entries
+kept r today line entries found same =
+    filtered (stands r today line) (among r line) (narrows r today line) found entries same
 
 pub amount_kept : (r : Relation) (today : ℕ) (line : Line) (entries : List BookEntry) (found : List (ℕ × Bor BookEntry))
     → (r ≡ relation.OfItsAmount) ⊎ (r ≡ relation.MaybeReturned)
     → elements found ≡ filter (λ e. entry_key e == amount_key line) entries
     → filter (stands r today line) (elements found) ≡ filter (stands r today line) entries
 amount_kept r today line entries found is same =
-    filtered (stands r today line) (λ e. entry_key e == amount_key line) narrows found entries same
-  where
-    Of : Relation → Type 0
-    Of s = Narrows (stands s today line) (λ e. entry_key e == amount_key line)
-
-    narrows : Of r
-    narrows =
-        elim is [
-          | inl a ↦ subst Of (sym a) (of_its_amount_narrows today line)
-          | inr a ↦ subst Of (sym a) (returned_narrows today line)
-        ]
+    kept r today line entries found (elim is [ inl a ↦ rw a same | inr a ↦ rw a same ])
 
 pub named_kept : (r : Relation) (today : ℕ) (line : Line) (entries : List BookEntry) (found : List (ℕ × Bor BookEntry))
     → (r ≡ relation.Named) ⊎ (r ≡ relation.NamedOfAnotherAmount)
     → elements found ≡ filter (λ e. reference_key e == text_key 0 line.reference) entries
     → filter (stands r today line) (elements found) ≡ filter (stands r today line) entries
 named_kept r today line entries found is same =
-    filtered (stands r today line) (λ e. reference_key e == text_key 0 line.reference) narrows found entries same
-  where
-    Of : Relation → Type 0
-    Of s = Narrows (stands s today line) (λ e. reference_key e == text_key 0 line.reference)
-
-    narrows : Of r
-    narrows =
-        elim is [
-          | inl a ↦ subst Of (sym a) (named_narrows today line)
-          | inr a ↦ subst Of (sym a) (named_other_narrows today line)
-        ]
+    kept r today line entries found (elim is [ inl a ↦ rw a same | inr a ↦ rw a same ])
 
 pub shown_kept : (r : Relation) (today : ℕ) (line : Line) (entries : List BookEntry) (found : List (ℕ × Bor BookEntry))
     → (r ≡ relation.Fitted) ⊎ ((r ≡ relation.NotWaiting) ⊎ ((r ≡ relation.IssuedAfter) ⊎ (r ≡ relation.OfAnotherAmount)))
     → filter (is_shown line) (elements found) ≡ filter (is_shown line) entries
     → filter (stands r today line) (elements found) ≡ filter (stands r today line) entries
 shown_kept r today line entries found is same =
-    filtered_kept (stands r today line) (is_shown line) narrows found entries same
-  where
-    Of : Relation → Type 0
-    Of s = Narrows (stands s today line) (is_shown line)
-
-    narrows : Of r
-    narrows =
-        elim is [
-          | inl a ↦ subst Of (sym a) (fitted_narrows today line)
-          | inr b ↦ elim b [
-            | inl a ↦ subst Of (sym a) (not_waiting_narrows today line)
-            | inr c ↦ elim c [
-              | inl a ↦ subst Of (sym a) (issued_after_narrows today line)
-              | inr a ↦ subst Of (sym a) (other_amount_narrows today line)
-            ]
-          ]
-        ]
-
--- Of a day.
-
-held_on_narrows : (day today : ℕ) (line : Line)
-    → Narrows (stands (relation.HeldOn day) today line) (λ e. day_key e == day)
-unfolding stands
-held_on_narrows day today line e is = (and_parts (is_held e.state) (e.day == day) is).1
+    filtered_kept (stands r today line) (among r line) (narrows r today line) found entries (elim is [
+      | inl a ↦ rw a same
+      | inr b ↦ elim b [
+        | inl a ↦ rw a same
+        | inr c ↦ elim c [ inl a ↦ rw a same | inr a ↦ rw a same ]
+      ]
+    ])
 
 pub held_kept : (r : Relation) (day today : ℕ) (line : Line) (entries : List BookEntry) (found : List (ℕ × Bor BookEntry))
     → r ≡ relation.HeldOn day
     → elements found ≡ filter (λ e. day_key e == day) entries
     → filter (stands r today line) (elements found) ≡ filter (stands r today line) entries
-held_kept r day today line entries found is same =
-    subst (λ (s : Relation). filter (stands s today line) (elements found) ≡ filter (stands s today line) entries) (sym is)
-    (filtered (stands (relation.HeldOn day) today line) (λ e. day_key e == day) (held_on_narrows day today line) found
-    entries same)
+held_kept r day today line entries found is same = kept r today line entries found (rw is same)

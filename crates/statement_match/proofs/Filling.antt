@@ -1,5 +1,6 @@
 -- When a line is filled.
-use Rattle.statement_match.proofs.Names.{◌≡◌, ◌∙◌, sym, ap, ℕ, ◌==◌, Bool, true, false, not, cond, ◌&&◌, List, Option, Some, None, refl, arith, count_by, find, and_parts, and_from, cond-true, cond-false, eqb-true, eq-eqb, not_from_false, Line, Waiting, fits, Held, exception_reference, is_claimed, is_open, is_open_fit, Outcome, becomes, fill, filled_with, is_beside_booked, is_doubled, is_fitted_once, is_in_book, unless_exception, IsSure, FillsWhatIsSure, FillsWithWaiting, TwoEntriesAreLeft, TwoLinesAreLeft}
+use Rattle.statement_match.proofs.Names.{◌≡◌, ◌∙◌, sym, ap, ℕ, ◌==◌, Bool, true, false, not, cond, ◌&&◌, List, Option, Some, None, refl, arith, count_by, find, and_parts, eqb-true, Line, Waiting, fits, Held, exception_reference, is_claimed, is_open, is_open_fit, Outcome, becomes, fill, filled_with, is_beside_booked, is_doubled, is_fitted_once, is_in_book, unless_exception, IsSure, FillsWhatIsSure, FillsWithWaiting, TwoEntriesAreLeft, TwoLinesAreLeft}
+use Rattle.std.proofs.lemmas.Bool.{not-false, not-true}
 use Rattle.statement_lines.specs.declared.outcome.Outcome.TheVariants as outcome
 use Rattle.statement_match.proofs.Picks.{found_is_there, found_passes, is_the_one}
 
@@ -13,31 +14,7 @@ pub first_gave : {A : Type 0} (b : Bool) (x y z : A) → (y ≡ z → ⊥) → c
 first_gave true x y z not e = (refl, e)
 first_gave false x y z not e = absurd (not e)
 
-pub false_from_not : (b : Bool) → not b ≡ true → b ≡ false
-false_from_not true e = absurd (cc)
-false_from_not false e = refl
-
-pub true_from_not : (b : Bool) → not b ≡ false → b ≡ true
-true_from_not true e = refl
-true_from_not false e = absurd (cc)
-
 -- What becomes of a line, by its cases.
-
-pub becomes-is : (today : ℕ) (held : Held) (lines : List Line) (line : Line)
-    → becomes today held lines line
-    ≡ cond (not (is_open line)) outcome.AsItIs
-    (cond (is_in_book held lines line) outcome.InBook
-    (unless_exception (exception_reference held.exceptions line)
-    (cond (is_doubled held lines line) outcome.Doubled (fill today held lines line))))
-unfolding becomes
-becomes-is today held lines line = refl
-
-pub fill-is : (today : ℕ) (held : Held) (lines : List Line) (line : Line)
-    → fill today held lines line
-    ≡ cond (not (is_beside_booked held line) && count_by (fits today line) held.waiting == 1)
-    (filled_with today held lines (find (fits today line) held.waiting)) outcome.Left
-unfolding fill
-fill-is today held lines line = refl
 
 no_exception : (found : Option (List ℕ)) (other : Outcome) (reference : List ℕ)
     → unless_exception found other ≡ outcome.Filled reference
@@ -59,7 +36,7 @@ filled_entry today held lines (Some w) reference e =
       w,
       refl,
       eqb-true (count_by (is_open_fit today w) lines) 1 parts.0,
-      false_from_not (is_claimed held.exceptions lines w.reference) parts.1,
+      not-true (is_claimed held.exceptions lines w.reference) parts.1,
       let same = chosen.1 in cc,
     )
 
@@ -67,26 +44,25 @@ filled_entry today held lines (Some w) reference e =
 pub sure_of : (today : ℕ) (held : Held) (lines : List Line) (line : Line) (reference : List ℕ)
     → becomes today held lines line ≡ outcome.Filled reference
     → (w : Waiting) × IsSure today held lines line w × (reference ≡ w.reference)
+unfolding becomes fill
 sure_of today held lines line reference e =
     let filling = outcome.Filled reference in
-    let all = sym (becomes-is today held lines line) ∙ e in
-    let opened = second_gave (not (is_open line)) outcome.AsItIs _ filling (λ clash. cc) all in
+    let opened = second_gave (not (is_open line)) outcome.AsItIs _ filling (λ clash. cc) e in
     let new = second_gave (is_in_book held lines line) outcome.InBook _ filling (λ clash. cc) opened.1 in
     let unnamed = no_exception (exception_reference held.exceptions line) _ reference new.1 in
     let single = second_gave (is_doubled held lines line) outcome.Doubled _ filling (λ clash. cc) unnamed.1 in
-    let tried = sym (fill-is today held lines line) ∙ single.1 in
     let one = first_gave
     (not (is_beside_booked held line) && count_by (fits today line) held.waiting == 1) _ outcome.Left filling
-    (λ clash. cc) tried in
+    (λ clash. cc) single.1 in
     let parts = and_parts (not (is_beside_booked held line)) (count_by (fits today line) held.waiting == 1) one.0 in
     let found = filled_entry today held lines (find (fits today line) held.waiting) reference one.1 in (
       found.0,
       record {
-        nameless = true_from_not (is_open line) opened.0;
+        nameless = not-false (is_open line) opened.0;
         new = new.0;
         unnamed = unnamed.0;
         single = single.0;
-        apart = false_from_not (is_beside_booked held line) parts.0;
+        apart = not-true (is_beside_booked held line) parts.0;
         fits_one = eqb-true (count_by (fits today line) held.waiting) 1 parts.1;
         fits_it = found.1;
         fitted_once = found.2;
@@ -98,22 +74,10 @@ sure_of today held lines line reference e =
 -- a line that is sure of an entry is filled with it
 pub filled_if_sure : (today : ℕ) (held : Held) (lines : List Line) (line : Line) (w : Waiting)
     → IsSure today held lines line w → becomes today held lines line ≡ outcome.Filled w.reference
+unfolding becomes fill
 filled_if_sure today held lines line w sure =
-    let once = eq-eqb (count_by (is_open_fit today w) lines) 1 sure.fitted_once in
-    let free = not_from_false (is_claimed held.exceptions lines w.reference) sure.unclaimed in
-    let apart = not_from_false (is_beside_booked held line) sure.apart in
-    let one = eq-eqb (count_by (fits today line) held.waiting) 1 sure.fits_one in
-    becomes-is today held lines line
-    ∙ cond-false (not (is_open line)) _ _ (ap not sure.nameless)
-    ∙ cond-false (is_in_book held lines line) _ _ sure.new
-    ∙ ap (λ found. unless_exception found
-    (cond (is_doubled held lines line) outcome.Doubled (fill today held lines line))) sure.unnamed
-    ∙ cond-false (is_doubled held lines line) _ _ sure.single
-    ∙ fill-is today held lines line
-    ∙ cond-true (not (is_beside_booked held line) && count_by (fits today line) held.waiting == 1) _ _
-    (and_from _ _ apart one)
-    ∙ ap (filled_with today held lines) sure.fits_it
-    ∙ cond-true (is_fitted_once today lines w && not (is_claimed held.exceptions lines w.reference)) _ _ (and_from _ _ once free)
+    rw (sure.nameless, sure.new, sure.unnamed, sure.single, sure.apart)
+    (rw (sure.fits_one, sure.fits_it, sure.fitted_once, sure.unclaimed) refl)
 
 pub fills_what_is_sure : FillsWhatIsSure
 fills_what_is_sure today held lines line reference = (

@@ -1,9 +1,9 @@
 -- What a firm has, matter by matter.
-use Rattle.statement_match.proofs.Names.{◌≡◌, ◌∙◌, sym, ap, ℕ, zero, suc, Bool, true, false, cond, List, [], ◌∷◌, ◌++◌, map, refl, inl, inr, ◌⊎◌, arith, Contains, filter, Entry, EntryRow, Firm, HeadRow, Row, SeatRow, reference_text, Waiting, filter_has, flat_map_from, flat_map_has, held_of, own_booking, row_bookings, row_waiting, with_matters, HasLess, IsPart, NoneOf, With, Without, FilledWaits, IsHeldRow, IsIssuedRow, OtherMattersOnlyTakeAway}
+use Rattle.statement_match.proofs.Names.{◌≡◌, ◌∙◌, sym, ap, ℕ, Bool, true, false, cond, List, [], ◌∷◌, ◌++◌, map, refl, inl, inr, ◌⊎◌, Contains, filter, Entry, EntryRow, Firm, HeadRow, Row, SeatRow, reference_text, Waiting, filter_has, flat_map_has, held_of, own_booking, row_bookings, row_waiting, with_matters, HasLess, IsPart, NoneOf, With, Without, FilledWaits, IsHeldRow, IsIssuedRow, OtherMattersOnlyTakeAway}
 use Rattle.std.specs.List.{flat_map}
 use Rattle.statement_match.proofs.Filling.{fills_with_waiting}
 use Rattle.statement_match.proofs.Less.{more_only_takes_away}
-use Rattle.statement_match.proofs.Waits.{by_waiting, none_there}
+use Rattle.statement_match.proofs.Waits.{by_waiting, none_there, row_of}
 
 -- Parts of lists.
 
@@ -76,14 +76,9 @@ row_from m (EntryRow n e) w there =
     ))
     e there
 
-waits_in : (firm : Firm) (w : Waiting) → Contains (held_of firm).waiting w
-    → (p : ℕ × Row) × Contains firm.rows p × Contains (row_waiting p) w
-unfolding held_of
-waits_in firm w there = flat_map_from row_waiting firm.rows w there
-
 pub filled_waits : FilledWaits
 filled_waits today firm lines line reference e =
     let filled = fills_with_waiting today (held_of firm) lines line reference e in
-    let row = waits_in firm filled.0 filled.1 in
+    let row = row_of firm filled.0 filled.1 in
     let told = row_from row.0.0 row.0.1 filled.0 row.2 in
     (row.0.0, told.0, row.0.1, row.1, sym filled.3 ∙ told.1, told.2)

@@ -1,5 +1,6 @@
 -- No line that is written before a filled one has its reference.
-use Rattle.statement_match.proofs.Names.{◌≡◌, ◌≢◌, ◌∙◌, sym, ap, subst, ℕ, zero, suc, ◌<◌, List, [], ◌∷◌, ◌++◌, length, get_or, append_assoc, refl, inl, inr, ◌⊎◌, arith, Contains, cases_order, Contains-append_cases, Contains-append_right, Line, Held, Outcome, becomes, AreNamedApart, with_reference, written, written_as, written_of}
+use Rattle.statement_match.proofs.Names.{◌≡◌, ◌≢◌, ◌∙◌, sym, ap, subst, ℕ, zero, suc, ◌<◌, List, [], ◌∷◌, ◌++◌, length, get_or, append_assoc, refl, inl, inr, ◌⊎◌, arith, Contains, Contains-append_cases, Contains-append_right, Line, Held, Outcome, becomes, AreNamedApart, with_reference, written, written_as, written_of}
+use Rattle.std.proofs.lemmas.Bool.{cases_eq}
 use Rattle.statement_lines.specs.declared.outcome.Outcome.TheVariants as outcome
 use Rattle.statement_match.proofs.Writing.{none_is_named_twice}
 
@@ -12,12 +13,6 @@ one_or_none line (outcome.Retried r) = inr (with_reference r line, refl)
 one_or_none line outcome.Doubled = inl refl
 one_or_none line (outcome.Filled r) = inr (with_reference r line, refl)
 one_or_none line outcome.Left = inl refl
-
-cons_first : (z f : Line) (zs fs : List Line) → z ∷ zs ≡ f ∷ fs → z ≡ f
-cons_first z f zs fs e = cc
-
-cons_rest : (z f : Line) (zs fs : List Line) → z ∷ zs ≡ f ∷ fs → zs ≡ fs
-cons_rest z f zs fs e = cc
 
 no_front : (front rest : List Line) (x : Line) → [] ≡ front ++ x ∷ rest → ⊥
 no_front [] rest x e = cc
@@ -89,12 +84,12 @@ module _ (today : ℕ) (held : Held) (all : List Line) (d x y : Line) where
       → z ∷ written_of today held all ls ≡ front ++ x ∷ rest → Contains front y → StemApart (l ∷ ls)
   first_or_later l ls z [] rest one later whole (k, lt, is) = absurd (omega arith)
   first_or_later l ls z (f ∷ fs) rest one later whole (zero, lt, is) =
-      let first = cons_first z f (written_of today held all ls) (fs ++ x ∷ rest) whole in
-      let more = cons_rest z f (written_of today held all ls) (fs ++ x ∷ rest) whole in
+      let first : z ≡ f = cc in
+      let more : written_of today held all ls ≡ fs ++ x ∷ rest = cc in
       let here : Contains (z ∷ []) y = (0, omega arith, first ∙ is) in
       in_front l ls (subst (λ (ws : List Line). Contains ws y) (sym one) here) (behind fs rest ls more)
   first_or_later l ls z (f ∷ fs) rest one later whole (suc k, lt, is) =
-      let more = cons_rest z f (written_of today held all ls) (fs ++ x ∷ rest) whole in
+      let more : written_of today held all ls ≡ fs ++ x ∷ rest = cc in
       one_further l ls (later fs more (k, omega arith, is))
 
   pub stem_apart : (xs front rest : List Line) → written_of today held all xs ≡ front ++ x ∷ rest
@@ -153,15 +148,11 @@ front_apart today held lines front rest line y reference apart (j, inside, at) f
     let filled_at : becomes today held lines (get_or lines j line) ≡ outcome.Filled reference =
     ap (becomes today held lines) at ∙ filled in
     let stem = stem_apart today held lines line x y lines front rest split there in
-    elim (cases_order j stem.second) [
+    elim (cases_eq j stem.second) [
       | inl same ↦
           none_is_named_twice today held lines j stem.first line x reference apart inside stem.first_in
           (λ again. stem.apart (sym again ∙ same)) filled_at stem.first_of refl
       | inr differ ↦
           none_is_named_twice today held lines j stem.second line y reference apart inside stem.second_in
-          (λ again. by_order j stem.second differ again) filled_at stem.second_of is
+          differ filled_at stem.second_of is
     ]
-  where
-    by_order : (a b : ℕ) → (a < b) ⊎ (b < a) → a ≡ b → ⊥
-    by_order a b (inl lt) same = omega (arith, lt, same)
-    by_order a b (inr lt) same = omega (arith, lt, same)

@@ -1,16 +1,5 @@
--- The steps of the loops that list entries and records.
-use Rattle.statement_match.proofs.Names.{◌≡◌, ◌∙◌, sym, ap, ℕ, zero, suc, ◌+◌, ◌<◌, ◌≤◌, Bool, true, false, cond, List, [], ◌∷◌, ◌++◌, length, length-append, get_or, take, map, append-nil, refl, arith, filter, map-append, take-append-le, take_all, filter_more, Line, Waiting, is_open_fit, fit_numbers}
-
-pub fit_numbers-cons : (today : ℕ) (w : Waiting) (numbers : List ℕ) (place : ℕ) (line : Line) (lines : List Line)
-    → fit_numbers today w numbers place (line ∷ lines)
-    ≡ cond (is_open_fit today w line) (get_or numbers place 0 ∷ fit_numbers today w numbers (place + 1) lines)
-    (fit_numbers today w numbers (place + 1) lines)
-unfolding fit_numbers
-fit_numbers-cons today w numbers place line lines = refl
-
-pub fit_numbers-nil : (today : ℕ) (w : Waiting) (numbers : List ℕ) (place : ℕ) → fit_numbers today w numbers place [] ≡ []
-unfolding fit_numbers
-fit_numbers-nil today w numbers place = refl
+-- The steps of the loop that lists entries.
+use Rattle.statement_match.proofs.Names.{◌≡◌, ◌∙◌, sym, ap, ℕ, zero, suc, ◌+◌, ◌<◌, ◌≤◌, Bool, true, false, cond, List, [], ◌∷◌, ◌++◌, length, length-append, get_or, take, map, append-nil, refl, arith, filter, map-append, take-append-le, take_all, filter_more}
 
 -- The first texts of what passes a test.
 

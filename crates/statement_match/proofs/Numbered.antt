@@ -1,26 +1,16 @@
 -- The lines with their numbers.
 use Rattle.statement_match.proofs.Names.{◌≡◌, ◌∙◌, sym, ap, ℕ, ◌+◌, ◌<◌, ◌≤◌, ◌==◌, Bool, true, false, cond, List, [], ◌∷◌, ◌++◌, length, get_or, drop, map, append_assoc, append-nil, refl, filter, at_drop_more, drop_all, map-append, Line, amount_key, waiting_key, elements, is_open_fit, Waiting, open_fit_narrows, filter_among, numbered, numbered_key, plain_pairs, fit_numbers, Bor}
-use Rattle.statement_match.proofs.Listed.{fit_numbers-cons, fit_numbers-nil}
-
-numbered-cons : (numbers : List ℕ) (place : ℕ) (line : Line) (lines : List Line)
-    → numbered numbers place (line ∷ lines) ≡ (get_or numbers place 0, line) ∷ numbered numbers (place + 1) lines
-unfolding numbered
-numbered-cons numbers place line lines = refl
-
-numbered-nil : (numbers : List ℕ) (place : ℕ) → numbered numbers place [] ≡ []
-unfolding numbered
-numbered-nil numbers place = refl
 
 pub numbered_more : (numbers : List ℕ) (lines : List Line) (i number : ℕ) (line : Bor Line) (found new : List (ℕ × Bor Line))
     → i < length lines → number ≡ get_or numbers i 0 → line.now ≡ get_or lines i line.now
     → new ≡ found ++ (number, line) ∷ []
     → plain_pairs found ++ numbered numbers i (drop i lines)
     ≡ plain_pairs new ++ numbered numbers (i + 1) (drop (i + 1) lines)
+unfolding numbered
 numbered_more numbers lines i number line found new lt number_is line_is added =
     let rest = numbered numbers (i + 1) (drop (i + 1) lines) in
     ap (λ (ps : List (ℕ × Line)). plain_pairs found ++ ps)
     (at_drop_more (numbered numbers i) lines i line.now lt
-    ∙ numbered-cons numbers i (get_or lines i line.now) (drop (i + 1) lines)
     ∙ ap (λ (n : ℕ). (n, get_or lines i line.now) ∷ rest) (sym number_is)
     ∙ ap (λ (l : Line). (number, l) ∷ rest) (sym line_is))
     ∙ sym (append_assoc (plain_pairs found) ((number, line.now) ∷ []) rest)
@@ -30,23 +20,20 @@ numbered_more numbers lines i number line found new lt number_is line_is added =
 
 pub numbered_done : (numbers : List ℕ) (lines : List Line) (i : ℕ) (found : List (ℕ × Bor Line)) → length lines ≤ i
     → plain_pairs found ++ numbered numbers i (drop i lines) ≡ plain_pairs found
+unfolding numbered
 numbered_done numbers lines i found past =
     ap (λ (ls : List Line). plain_pairs found ++ numbered numbers i ls) (drop_all i lines past)
-    ∙ ap (λ (ps : List (ℕ × Line)). plain_pairs found ++ ps) (numbered-nil numbers i) ∙ append-nil (plain_pairs found)
+    ∙ append-nil (plain_pairs found)
 
 -- The numbers of those that fit an entry.
 
 fit_pairs : (today : ℕ) (w : Waiting) (numbers : List ℕ) (place : ℕ) (lines : List Line)
     → map {A = ℕ × Line} (λ x. x.0) (filter (λ x. is_open_fit today w x.1) (numbered numbers place lines))
     ≡ fit_numbers today w numbers place lines
-fit_pairs today w numbers place [] =
-    ap (λ (ps : List (ℕ × Line)). map (λ x. x.0) (filter (λ x. is_open_fit today w x.1) ps)) (numbered-nil numbers place)
-    ∙ sym (fit_numbers-nil today w numbers place)
+unfolding numbered fit_numbers
+fit_pairs today w numbers place [] = refl
 fit_pairs today w numbers place (line ∷ lines) =
-    ap (λ (ps : List (ℕ × Line)). map (λ x. x.0) (filter (λ x. is_open_fit today w x.1) ps))
-    (numbered-cons numbers place line lines)
-    ∙ cases (is_open_fit today w line) (fit_pairs today w numbers (place + 1) lines)
-    ∙ sym (fit_numbers-cons today w numbers place line lines)
+    cases (is_open_fit today w line) (fit_pairs today w numbers (place + 1) lines)
   where
     picked : List (ℕ × Line)
     picked = filter (λ x. is_open_fit today w x.1) (numbered numbers (place + 1) lines)

@@ -4,10 +4,7 @@ use Rattle.byte_streams.specs.Digits.{fixed_digits}
 use Rattle.byte_streams.proofs.FixedFacts.{length-fixed}
 
 digit_printed : (n : ℕ) → is_printed_byte (48 + n % 10) ≡ true
-digit_printed n =
-    let low : 0x20 ≤ 48 + n % 10 = omega arith in
-    let high : 48 + n % 10 ≤ 0x7E = omega arith in
-    and_from _ _ (le-leb 0x20 (48 + n % 10) low) (le-leb (48 + n % 10) 0x7E high)
+digit_printed n = and_from _ _ (le-leb 0x20 (48 + n % 10) (omega arith)) (le-leb (48 + n % 10) 0x7E (omega arith))
 
 digits_printed : (k n : ℕ) → list_all is_printed_byte (fixed_digits k n) ≡ true
 unfolding fixed_digits

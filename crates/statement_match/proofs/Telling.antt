@@ -1,46 +1,25 @@
 -- The steps of the loops over the records of a statement.
-use Rattle.statement_match.proofs.Names.{◌≡◌, ◌∙◌, sym, ap, ℕ, suc, ◌+◌, ◌-◌, ◌<◌, ◌≤◌, List, [], ◌∷◌, ◌++◌, length, get_or, drop, append_assoc, append-nil, refl, arith, at_drop_more, drop_all, get_or-map, Line, Records, Known, Outcome, becomes, outcomes, reason_for, told_by, told_from, told_of_line, told_unreadable, unreadable_line}
+use Rattle.statement_match.proofs.Names.{◌≡◌, ◌∙◌, sym, ap, ℕ, suc, ◌+◌, ◌-◌, ◌<◌, ◌≤◌, List, [], ◌∷◌, ◌++◌, length, get_or, drop, append_assoc, append-nil, arith, at_drop_more, drop_all, get_or-map, Line, Records, Known, Outcome, becomes, outcomes, reason_for, told_by, told_from, told_of_line, told_unreadable, unreadable_line}
 
 -- Unreadable records.
-
-told_unreadable-suc : (before k : ℕ)
-    → told_unreadable before (suc k) ≡ unreadable_line (before + 1) ∷ told_unreadable (before + 1) k
-unfolding told_unreadable
-told_unreadable-suc before k = refl
-
-told_unreadable-zero : (before : ℕ) → told_unreadable before 0 ≡ []
-unfolding told_unreadable
-told_unreadable-zero before = refl
 
 pub unreadable_more : (before last : ℕ) (told : List (List ℕ)) → before < last
     → told ++ told_unreadable before (last - before)
     ≡ (told ++ unreadable_line (before + 1) ∷ []) ++ told_unreadable (before + 1) (last - (before + 1))
+unfolding told_unreadable
 unreadable_more before last told lt =
     let e : last - before ≡ suc (last - (before + 1)) = omega arith in
     ap (λ k. told ++ told_unreadable before k) e
-    ∙ ap (λ ts. told ++ ts) (told_unreadable-suc before (last - (before + 1)))
     ∙ sym (append_assoc told (unreadable_line (before + 1) ∷ []) (told_unreadable (before + 1) (last - (before + 1))))
 
 pub unreadable_done : (before last : ℕ) (told : List (List ℕ)) → last ≤ before
     → told ++ told_unreadable before (last - before) ≡ told
+unfolding told_unreadable
 unreadable_done before last told past =
     let e : last - before ≡ 0 = omega arith in
-    ap (λ k. told ++ told_unreadable before k) e ∙ ap (λ ts. told ++ ts) (told_unreadable-zero before) ∙ append-nil told
+    ap (λ k. told ++ told_unreadable before k) e ∙ append-nil told
 
 -- The records.
-
-told_from-cons : (today : ℕ) (known : Known) (records : Records) (before place : ℕ) (line : Line) (lines : List Line)
-    → told_from today known records before place (line ∷ lines)
-    ≡ told_unreadable before (get_or records.numbers place 0 - 1 - before)
-    ++ (told_of_line today known records (get_or records.numbers place 0) line
-    ++ told_from today known records (get_or records.numbers place 0) (place + 1) lines)
-unfolding told_from
-told_from-cons today known records before place line lines = refl
-
-told_from-nil : (today : ℕ) (known : Known) (records : Records) (before place : ℕ)
-    → told_from today known records before place [] ≡ told_unreadable before (records.count - before)
-unfolding told_from
-told_from-nil today known records before place = refl
 
 pub told_more : (today : ℕ) (known : Known) (records : Records) (before i : ℕ) (lines : List Line) (d : Line)
     (told : List (List ℕ)) → i < length lines
@@ -48,14 +27,13 @@ pub told_more : (today : ℕ) (known : Known) (records : Records) (before i : �
     ≡ ((told ++ told_unreadable before (get_or records.numbers i 0 - 1 - before))
     ++ told_of_line today known records (get_or records.numbers i 0) (get_or lines i d))
     ++ told_from today known records (get_or records.numbers i 0) (i + 1) (drop (i + 1) lines)
+unfolding told_from
 told_more today known records before i lines d told lt =
     let number = get_or records.numbers i 0 in
     let gap = told_unreadable before (number - 1 - before) in
     let here = told_of_line today known records number (get_or lines i d) in
     let rest = told_from today known records number (i + 1) (drop (i + 1) lines) in
-    ap (λ ts. told ++ ts)
-    (at_drop_more (told_from today known records before i) lines i d lt
-    ∙ told_from-cons today known records before i (get_or lines i d) (drop (i + 1) lines))
+    ap (λ ts. told ++ ts) (at_drop_more (told_from today known records before i) lines i d lt)
     ∙ sym (append_assoc told gap (here ++ rest))
     ∙ sym (append_assoc (told ++ gap) here rest)
 
@@ -63,9 +41,9 @@ pub told_done : (today : ℕ) (known : Known) (records : Records) (before i : �
     (told : List (List ℕ)) → length lines ≤ i
     → told ++ told_from today known records before i (drop i lines)
     ≡ told ++ told_unreadable before (records.count - before)
+unfolding told_from
 told_done today known records before i lines told past =
     ap (λ ls. told ++ told_from today known records before i ls) (drop_all i lines past)
-    ∙ ap (λ ts. told ++ ts) (told_from-nil today known records before i)
 
 -- one record more, by what becomes of each line
 pub told_step : (today : ℕ) (known : Known) (records : Records) (os : List Outcome) (before i number : ℕ) (line : Line)

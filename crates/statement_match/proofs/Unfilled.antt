@@ -1,8 +1,12 @@
 -- Lines that are not filled, and the lines that are written where none has a reference.
-use Rattle.statement_match.proofs.Names.{◌≡◌, ◌≢◌, ◌∙◌, sym, ap, subst, ℕ, zero, suc, ◌<◌, ◌==◌, Bool, true, false, not, cond, ◌&&◌, List, [], ◌∷◌, length, get_or, Option, Some, None, refl, inl, inr, arith, nat_lt, Contains, count_by, filter, find, list_any, unwrap_or, int_eq, bytes_eq, and_from, and_left, and_right, cases_order, cond-false, cond-true, eq-eqb, false_from_ne_true, lt-leb, or_from, or_parts, Decides-int_eq, get_or_default, length-filter, bytes_eq-Decides, Line, Booking, booking_of, is_beside, is_same_booking, Waiting, fits, Held, claimed_reference, exception_reference, is_claimed, is_open, is_open_fit, is_open_like, Outcome, later, becomes, fill, filled_with, is_beside_booked, is_booked, is_booked_in_parts, is_doubled, is_fitted_once, is_in_book, unless_exception, IsSure, with_reference, written_as}
+use Rattle.statement_match.proofs.Names.{◌≡◌, ◌≢◌, ◌∙◌, sym, ap, ℕ, Bool, true, false, cond, List, [], ◌∷◌, length, get_or, None, refl, arith, nat_lt, Contains, count_by, filter, find, list_any, unwrap_or, int_eq, bytes_eq, and_from, and_left, and_right, eq-eqb, false_from_ne_true, lt-leb, or_from, or_parts, Decides-int_eq, get_or_default, length-filter, bytes_eq-Decides, Line, Booking, booking_of, is_beside, is_same_booking, Waiting, fits, Held, claimed_reference, exception_reference, is_claimed, is_open, is_open_fit, is_open_like, Outcome, becomes, is_beside_booked, is_booked, is_booked_in_parts, is_doubled, is_in_book, IsSure, with_reference, written_as}
+use Rattle.std.proofs.lemmas.Bool.{ltb-false}
+use Rattle.std.proofs.lemmas.List.Elements.{All-contains_itself, All-weaker}
+use Rattle.std.proofs.lemmas.List.Folds.{list_any_none}
+use Rattle.statement_lines.proofs.Found.{find_among}
 use Rattle.statement_lines.specs.declared.outcome.Outcome.TheVariants as outcome
-use Rattle.statement_match.proofs.Filling.{becomes-is, fill-is, filled_if_sure}
-use Rattle.statement_match.proofs.Picks.{found_passes, length_filter-cons, one_passes, two_pass}
+use Rattle.statement_match.proofs.Filling.{filled_if_sure}
+use Rattle.statement_match.proofs.Picks.{any_counted, found_passes, is_counted, one_place}
 use Rattle.statement_match.proofs.Waits.{none_there, the_one}
 use Rattle.statement_match.proofs.Writing.{by_last, chosen}
 
@@ -21,37 +25,24 @@ fits_none today held lines line other w (i, i_in, i_is) opened unfilled (k, k_in
     let fit_k : passes (get_or lines k line) ≡ true =
     ap passes k_at ∙ and_from (is_open other) (fits today other w) sure.nameless
     (found_passes (fits today other) held.waiting w sure.fits_it) in
-    let count = sure.fitted_once in
-    elim (cases_order i k) [
-      | inl same ↦
-          let one : line ≡ other = sym i_is ∙ ap (λ j. get_or lines j line) same ∙ k_at in
-          unfilled w.reference (ap (becomes today held lines) one ∙ filled_if_sure today held lines other w sure)
-      | inr apart ↦ elim apart [
-        | inl before ↦ let two = two_pass passes lines i k line before k_in fit_i fit_k in omega (arith, count, two)
-        | inr behind ↦ let two = two_pass passes lines k i line behind i_in fit_k fit_i in omega (arith, count, two)
-      ]
-    ])
+    let same = one_place passes lines i k line sure.fitted_once i_in k_in fit_i fit_k in
+    let one : line ≡ other = sym i_is ∙ ap (λ j. get_or lines j line) same ∙ k_at in
+    unfilled w.reference (ap (becomes today held lines) one ∙ filled_if_sure today held lines other w sure))
 
 -- What is written of a line without a reference.
 
 -- the outcome of one that is neither written as it is nor an exception's
 abbrev IsFresh : Outcome → Type 0
 IsFresh outcome.AsItIs = ⊥
-IsFresh outcome.InBook = Unit {0}
 IsFresh (outcome.Retried r) = ⊥
-IsFresh outcome.Doubled = Unit {0}
-IsFresh (outcome.Filled r) = Unit {0}
-IsFresh outcome.Left = Unit {0}
+IsFresh _ = Unit {0}
 
 fresh : (today : ℕ) (held : Held) (lines : List Line) (line : Line) → is_open line ≡ true
     → exception_reference held.exceptions line ≡ None → IsFresh (becomes today held lines line)
+unfolding becomes
 fresh today held lines line opened unnamed =
-    let last = cond (is_doubled held lines line) outcome.Doubled (fill today held lines line) in
-    let is : becomes today held lines line ≡ cond (is_in_book held lines line) outcome.InBook last =
-    becomes-is today held lines line ∙ cond-false (not (is_open line)) _ _ (ap not opened)
-    ∙ ap (λ o. cond (is_in_book held lines line) outcome.InBook (unless_exception o last)) unnamed in
-    subst IsFresh (sym is)
-    (chosen IsFresh (is_in_book held lines line) outcome.InBook last tt
+    rw (opened, unnamed)
+    (chosen IsFresh (is_in_book held lines line) outcome.InBook _ tt
     (by_last IsFresh today held lines line tt tt (λ r. tt)))
 
 of_fresh : (line x : Line) (o : Outcome) → IsFresh o → Contains (written_as line o) x
@@ -73,35 +64,19 @@ written_is_filled today held lines line x opened unnamed there =
 
 -- No record has a reference by itself.
 
-none_pass : {A : Type 0} (p : A → Bool) (xs : List A) → ((x : A) → Contains xs x → p x ≡ false)
-    → list_any p xs ≡ false
-none_pass p [] none = refl
-none_pass p (x ∷ xs) none =
-    or_from (p x) (list_any p xs) (none x (zero, omega arith, refl))
-    (none_pass p xs (λ y there. none y (later x y xs there)))
-
 pub none_claims : (exceptions lines : List Line) (reference : List ℕ)
     → ((x : Line) → Contains lines x → is_open x ≡ true)
     → ((x : Line) → Contains lines x → exception_reference exceptions x ≡ None)
     → bytes_eq [] reference ≡ false → is_claimed exceptions lines reference ≡ false
 none_claims exceptions lines reference opened unnamed some =
-    none_pass (λ x. bytes_eq (claimed_reference exceptions x) reference) lines (λ x there.
+    let claims : Line → Bool = λ x. bytes_eq (claimed_reference exceptions x) reference in
+    list_any_none claims lines (All-weaker (Contains lines) (λ x. claims x ≡ false) (λ x there.
     let none : claimed_reference exceptions x ≡ [] =
     ap (λ b. cond b (unwrap_or (exception_reference exceptions x) []) x.reference) (opened x there)
     ∙ ap (λ o. unwrap_or o []) (unnamed x there) in
-    ap (λ (r : List ℕ). bytes_eq r reference) none ∙ some)
+    ap (λ (r : List ℕ). bytes_eq r reference) none ∙ some) lines (All-contains_itself lines))
 
 -- Where no line of the book is beside it.
-
-none_same : (a : Booking) (bookings : List Booking) → list_any (is_beside a) bookings ≡ false
-    → length (filter (is_same_booking a) bookings) ≡ 0
-none_same a [] e = refl
-none_same a (b ∷ bookings) e =
-    let parts = or_parts (is_beside a b) (list_any (is_beside a) bookings) e in
-    let long = length_filter-cons (is_same_booking a) b bookings in
-    let off =
-    cond-false {A = ℕ} (is_same_booking a b) 1 0 (and_left (is_beside a b) (int_eq a.amount b.amount) parts.0) in
-    let more = none_same a bookings parts.1 in omega (arith, long, off, more)
 
 none_like : (a : Booking) (bookings : List Booking) → list_any (is_beside a) bookings ≡ false
     → list_any (is_same_booking a) bookings ≡ false
@@ -122,16 +97,14 @@ like_itself line opened =
 not_in_book : (held : Held) (lines : List Line) (line : Line) → Contains lines line → is_open line ≡ true
     → is_beside_booked held line ≡ false → is_in_book held lines line ≡ false
 unfolding is_in_book
-not_in_book held lines line (k, lt, is) opened apart =
+not_in_book held lines line there opened apart =
     let like = is_open_like line in
-    let some = one_passes like lines k line lt (ap like is ∙ like_itself line opened) in
-    let long = length-filter like lines in
-    let none = none_same (booking_of line) held.bookings apart in
-    let short = length-filter (is_same_booking (booking_of line)) held.bookings in
-    let less : count_by (is_same_booking (booking_of line)) held.bookings < count_by like lines =
-    omega (arith, some, long, none, short) in
+    let same = is_same_booking (booking_of line) in
+    let some = is_counted like lines line there (like_itself line opened) in
+    let none = ltb-false 0 (count_by same held.bookings)
+    (any_counted same held.bookings ∙ none_like (booking_of line) held.bookings apart) in
     or_from (is_booked held lines line) (is_booked_in_parts held lines line)
-    (lt-leb (count_by like lines) (count_by (is_same_booking (booking_of line)) held.bookings) less)
+    (lt-leb (count_by like lines) (count_by same held.bookings) (omega (arith, some, none)))
     (and_left _ _ (and_right _ (is_beside_booked held line) apart))
 
 not_doubled : (held new : Held) (lines : List Line) (line : Line) → is_beside_booked held line ≡ false
@@ -142,15 +115,6 @@ not_doubled held new lines line apart single =
     (none_like (booking_of line) held.bookings apart)
 
 -- Another book.
-
-find_kept : {A : Type 0} (p : A → Bool) (xs : List A) → find p xs ≡ find p (filter p xs)
-find_kept p [] = refl
-find_kept {A} p (x ∷ xs) = by (p x) refl (find_kept p xs)
-  where
-    by : (b : Bool) → p x ≡ b → find p xs ≡ find p (filter p xs)
-        → cond b (Some x) (find p xs) ≡ find p (cond b (x ∷ filter p xs) (filter p xs))
-    by true hit more = sym (cond-true {A = Option A} (p x) (Some x) (find p (filter p xs)) hit)
-    by false miss more = more
 
 -- a line that is sure of an entry over one book is so over another, where what it fits waits in the order of the one,
 -- no line of that book is beside it, it is no exception, and no record has the entry's reference
@@ -169,7 +133,8 @@ sure_before today held new lines line w there same apart unnamed unclaimed sure 
       apart = apart;
       fits_one = sym (length-filter p held.waiting) ∙ ap length (sym same) ∙ length-filter p new.waiting
           ∙ sure.fits_one;
-      fits_it = find_kept p held.waiting ∙ ap (find p) (sym same) ∙ sym (find_kept p new.waiting) ∙ sure.fits_it;
+      fits_it = sym (find_among p p (λ w is. is) held.waiting) ∙ ap (find p) (sym same)
+          ∙ find_among p p (λ w is. is) new.waiting ∙ sure.fits_it;
       fitted_once = sure.fitted_once;
       unclaimed = unclaimed;
     }

@@ -1,5 +1,5 @@
 -- An entry that waits is a held deposit or an issued payment.
-use Rattle.statement_match.proofs.Names.{◌≡◌, ℕ, zero, suc, [], ◌∷◌, refl, arith, Contains, DepositState, PaymentState, Entry, reference_text, Waiting, waiting_deposit, waiting_payment, deposit_waiting, entry_waiting, payment_waiting}
+use Rattle.statement_match.proofs.Names.{◌≡◌, ℕ, zero, suc, [], ◌∷◌, refl, arith, Contains, DepositState, PaymentState, Entry, Firm, Row, flat_map_from, held_of, row_waiting, reference_text, Waiting, waiting_deposit, waiting_payment, deposit_waiting, entry_waiting, payment_waiting}
 use Rattle.matter_rows.specs.declared.deposit.Deposit.{Deposit}
 use Rattle.matter_rows.specs.declared.deposit.DepositState.TheVariants as deposit
 use Rattle.matter_rows.specs.declared.payment.Payment.{Payment}
@@ -39,3 +39,9 @@ module _ (P : Entry → Type 0) (m n : ℕ) (w : Waiting)
   by_waiting (entry.Payment p) there = by_payment p p.state refl there
   by_waiting (entry.Fee f) there = absurd (none_there w there)
   by_waiting (entry.Claim c) there = absurd (none_there w there)
+
+-- an entry that waits is of a row
+pub row_of : (firm : Firm) (w : Waiting) → Contains (held_of firm).waiting w
+    → (p : ℕ × Row) × Contains firm.rows p × Contains (row_waiting p) w
+unfolding held_of
+row_of firm w there = flat_map_from row_waiting firm.rows w there

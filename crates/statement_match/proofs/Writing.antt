@@ -1,8 +1,8 @@
 -- What is written of the lines of a statement.
-use Rattle.statement_match.proofs.Names.{◌≡◌, ◌≢◌, ◌∙◌, sym, ap, subst, ℕ, ◌+◌, ◌<◌, ◌==◌, Bool, true, false, not, cond, ◌&&◌, List, [], ◌∷◌, ◌++◌, length, get_or, Option, Some, None, refl, inl, inr, arith, Contains, count_by, find, unwrap_or, bytes_eq, and_from, cases_order, list_any_at, bytes_eq-Decides, Line, Waiting, fits, Held, claimed_reference, exception_reference, is_claimed, is_open, is_open_fit, Outcome, claimed_closed, becomes, fill, filled_with, is_beside_booked, is_doubled, is_fitted_once, is_in_book, unless_exception, AreWritten, None_left, Kept, Named, LeftOut, AreNamedApart, IsSure, NoneIsNamedTwice, OnlyReferencesChange, with_reference, written_as, written_of}
+use Rattle.statement_match.proofs.Names.{◌≡◌, ◌≢◌, ◌∙◌, sym, ap, subst, ℕ, ◌<◌, ◌==◌, Bool, true, false, not, cond, ◌&&◌, List, [], ◌∷◌, ◌++◌, length, get_or, Option, Some, None, refl, Contains, count_by, find, unwrap_or, bytes_eq, and_from, list_any_at, bytes_eq-Decides, Line, Waiting, fits, Held, claimed_reference, exception_reference, is_claimed, is_open, is_open_fit, Outcome, claimed_closed, becomes, fill, filled_with, is_beside_booked, is_doubled, is_fitted_once, is_in_book, unless_exception, AreWritten, None_left, Kept, Named, LeftOut, AreNamedApart, IsSure, NoneIsNamedTwice, OnlyReferencesChange, with_reference, written_as, written_of}
 use Rattle.statement_lines.specs.declared.outcome.Outcome.TheVariants as outcome
-use Rattle.statement_match.proofs.Filling.{becomes-is, fill-is, second_gave, sure_of}
-use Rattle.statement_match.proofs.Picks.{found_is_there, found_passes, two_pass}
+use Rattle.statement_match.proofs.Filling.{second_gave, sure_of}
+use Rattle.statement_match.proofs.Picks.{found_is_there, found_passes, one_place}
 use Rattle.statement_match.proofs.Waits.{none_there, the_one}
 
 -- What holds of both choices holds of the one that is taken.
@@ -14,11 +14,11 @@ chosen P false x y px py = py
 -- what holds of a line that is left and of one that is filled holds behind the search for its entry
 pub by_fill : (P : Outcome → Type 0) (today : ℕ) (held : Held) (lines : List Line) (line : Line) → P outcome.Left
     → ((r : List ℕ) → P (outcome.Filled r)) → P (fill today held lines line)
+unfolding fill
 by_fill P today held lines line left filled =
-    subst P (sym (fill-is today held lines line))
-    (chosen P (not (is_beside_booked held line) && count_by (fits today line) held.waiting == 1)
+    chosen P (not (is_beside_booked held line) && count_by (fits today line) held.waiting == 1)
     (filled_with today held lines (find (fits today line) held.waiting)) outcome.Left
-    (by (find (fits today line) held.waiting)) left)
+    (by (find (fits today line) held.waiting)) left
   where
     by : (found : Option Waiting) → P (filled_with today held lines found)
     by None = left
@@ -37,16 +37,12 @@ by_last P today held lines line doubled left filled =
 
 abbrev pub HasOpenness : Line → Outcome → Type 0
 HasOpenness line outcome.AsItIs = is_open line ≡ false
-HasOpenness line outcome.InBook = is_open line ≡ true
-HasOpenness line (outcome.Retried r) = is_open line ≡ true
-HasOpenness line outcome.Doubled = is_open line ≡ true
-HasOpenness line (outcome.Filled r) = is_open line ≡ true
-HasOpenness line outcome.Left = is_open line ≡ true
+HasOpenness line _ = is_open line ≡ true
 
 pub openness : (today : ℕ) (held : Held) (lines : List Line) (line : Line)
     → HasOpenness line (becomes today held lines line)
-openness today held lines line =
-    subst (HasOpenness line) (sym (becomes-is today held lines line)) (by (is_open line) refl)
+unfolding becomes
+openness today held lines line = by (is_open line) refl
   where
     unless : (found : Option (List ℕ)) → is_open line ≡ true → HasOpenness line
         (unless_exception found (cond (is_doubled held lines line) outcome.Doubled (fill today held lines line)))
@@ -91,12 +87,8 @@ claimed_open exceptions line reference e found =
 
 -- an outcome that is no exception's
 IsNoRetry : Outcome → Type 0
-IsNoRetry outcome.AsItIs = Unit {0}
-IsNoRetry outcome.InBook = Unit {0}
 IsNoRetry (outcome.Retried r) = ⊥
-IsNoRetry outcome.Doubled = Unit {0}
-IsNoRetry (outcome.Filled r) = Unit {0}
-IsNoRetry outcome.Left = Unit {0}
+IsNoRetry _ = Unit {0}
 
 retried_by : (found : Option (List ℕ)) (other : Outcome) (reference : List ℕ) → IsNoRetry other
     → unless_exception found other ≡ outcome.Retried reference → found ≡ Some reference
@@ -108,11 +100,10 @@ retried_by (Some r) other reference h e = cc
 pub retried_of : (today : ℕ) (held : Held) (lines : List Line) (line : Line) (reference : List ℕ)
     → becomes today held lines line ≡ outcome.Retried reference
     → exception_reference held.exceptions line ≡ Some reference
-unfolding IsNoRetry
+unfolding IsNoRetry becomes
 retried_of today held lines line reference e =
     let again = outcome.Retried reference in
-    let all = sym (becomes-is today held lines line) ∙ e in
-    let opened = second_gave (not (is_open line)) outcome.AsItIs _ again (λ clash. cc) all in
+    let opened = second_gave (not (is_open line)) outcome.AsItIs _ again (λ clash. cc) e in
     let new = second_gave (is_in_book held lines line) outcome.InBook _ again (λ clash. cc) opened.1 in
     retried_by (exception_reference held.exceptions line) _ reference
     (by_last IsNoRetry today held lines line tt tt (λ r. tt)) new.1
@@ -141,16 +132,7 @@ not_both today held lines i k d w v apart li lk differ one other e =
     (found_passes (fits today (get_or lines k d)) held.waiting v other.fits_it) in
     let P = λ (u : Waiting). is_open_fit today u (get_or lines k d) ≡ true in
     let fit_k = subst P same fit_v in
-    let count = one.fitted_once in
-    elim (cases_order i k) [
-      | inl h ↦ differ h
-      | inr h ↦ elim h [
-        | inl before ↦
-            let two = two_pass (is_open_fit today w) lines i k d before lk fit_i fit_k in omega (arith, count, two)
-        | inr after ↦
-            let two = two_pass (is_open_fit today w) lines k i d after li fit_k fit_i in omega (arith, count, two)
-      ]
-    ]
+    differ (one_place (is_open_fit today w) lines i k d one.fitted_once li lk fit_i fit_k)
 
 clash_by : (today : ℕ) (held : Held) (lines : List Line) (i k : ℕ) (d x : Line) (w : Waiting) (o : Outcome)
     → AreNamedApart held.waiting → i < length lines → k < length lines → i ≢ k

@@ -1,5 +1,5 @@
 -- No step leaves a firm unsound.
-use Rattle.trust_desk.proofs.Names.{◌≡◌, ℕ, List, [], ◌∷◌, Option, Some, None, refl, Refusal, BankLine, LineEffect, Asked, line_on, last_after, HasAmount, refusal, edit_on, sound-covered, step, Line, BalanceKind, Firm, of, after_edit, after, by_balance, by_firm_line, FirmSound, edit-sound, ledger-least, balance-fits, firm_line-fits, Item, after_told, after_item, after_items, balance_on, firm_line_on, Heard, Kind, OfMatter, OfItems, Dismisses, OnlyTold, NotRead, kind_of, asked_on, after_asked, after_ask, firm_step, kind_step, dismiss_refusal, dismissed_unless, AlwaysSound}
+use Rattle.trust_desk.proofs.Names.{◌≡◌, ℕ, List, [], ◌∷◌, Option, Some, None, refl, Refusal, BankLine, LineEffect, Asked, line_on, last_after, HasAmount, refusal, edit_on, sound-covered, step, Line, BalanceKind, Firm, of, after_edit, after, by_balance, by_firm_line, FirmSound, edit-sound, ledger-least, balance-fits, firm_line-fits, Item, after_told, after_item, after_items, balance_on, firm_line_on, Heard, Kind, OfMatter, OfItems, Dismisses, kind_of, asked_on, after_asked, after_ask, firm_step, kind_step, dismiss_refusal, dismissed_unless, AlwaysSound}
 use Rattle.trust_matter.specs.declared.line_verdict.LineEffect.TheVariants as told
 use Rattle.firm_rows.specs.declared.ledger.BalanceKind.TheVariants as kind
 use Rattle.firm_rows.proofs.FirmChanges.{change-stays-sound}
@@ -59,8 +59,7 @@ sound-kind_step : (day : ℕ) (firm : Firm) (k : Kind) → KindHasAmounts k → 
 sound-kind_step day firm (OfMatter m caller ask) amount sound = sound-after_ask m (asked_on day caller ask) firm amount sound
 sound-kind_step day firm (OfItems refused items) amount sound = sound-after_items day firm items sound
 sound-kind_step day firm (Dismisses caller line) amount sound = sound-dismissed (dismiss_refusal caller line firm) line firm sound
-sound-kind_step day firm (OnlyTold text) amount sound = sound
-sound-kind_step day firm (NotRead n r) amount sound = sound
+sound-kind_step day firm _ amount sound = sound
 
 pub sound-firm_step : (day : ℕ) (firm : Firm) (h : Heard) → HasAmounts h → FirmSound firm → FirmSound (firm_step day firm h).firm
 sound-firm_step day firm h amounts sound = sound-kind_step day firm (kind_of h) amounts sound
@@ -73,11 +72,8 @@ covered-by day firm [] sound = covered firm sound
 covered-by day firm (it ∷ items) sound = (covered firm sound, covered-by day (after_item day firm it) items (sound-after_item day firm it sound))
 
 covered-in : (day : ℕ) (firm : Firm) (k : Kind) → FirmSound firm → KindIsCovered day firm k
-covered-in day firm (OfMatter m caller ask) sound = covered firm sound
 covered-in day firm (OfItems refused items) sound = covered-by day firm items sound
-covered-in day firm (Dismisses caller line) sound = covered firm sound
-covered-in day firm (OnlyTold text) sound = covered firm sound
-covered-in day firm (NotRead n r) sound = covered firm sound
+covered-in day firm _ sound = covered firm sound
 
 pub always-covered : NeverBelowZero
 always-covered day firm [] sound amounts = covered firm sound
@@ -85,7 +81,6 @@ always-covered day firm (h ∷ hs) sound amounts = (covered-in day firm (kind_of
 
 pub runs-covered : RunsNeverBelowZero
 runs-covered day firm new [] [] sound run = (run, covered firm sound)
-runs-covered day firm new [] (reply ∷ replies) sound run = absurd run
-runs-covered day firm new (h ∷ hs) [] sound run = absurd run
 runs-covered day firm new (h ∷ hs) (reply ∷ replies) sound run =
     (run.0, run.1, covered-in day firm (kind_of h) sound, runs-covered day run.0 new hs replies run.2 run.3)
+runs-covered day firm new _ _ sound run = absurd run

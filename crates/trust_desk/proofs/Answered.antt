@@ -1,15 +1,11 @@
 -- How a request is answered, by what the calls of the book were.
-use Rattle.trust_desk.proofs.Names.{◌≡◌, ◌⊎◌, inl, inr, ◌∙◌, ℕ, Bool, true, false, Ok, Err, Result, refl, ap, sym, subst, IfOk, is_fault, Refusal, Ask, Caller, Firm, of, Reply, IsAnswered, KeepsBook, counted_end, counted_reply, IsMade, IsOfItems, KindIsMade, MayLeave, MayLeaveChange, is_fault_end, Steps, Stopped, after_ask, after_asked, firm_step, kind_step, Heard, Kind, OfMatter, asked_on, kind_of, Ends, is_fault_reply, refused, replied, reply_for}
-use Rattle.trust_desk.proofs.Calls.{uncounted}
-use Rattle.trust_desk.proofs.Crashes.{leave-as}
-use Rattle.trust_desk.proofs.MadeRows.{plain-step}
+use Rattle.trust_desk.proofs.Names.{◌≡◌, ◌⊎◌, inl, inr, ◌∙◌, ℕ, Bool, true, false, Ok, Err, Result, refl, ap, sym, subst, IfOk, cond-false, false≢true, is_fault, refused_by, Refusal, StoreFault, Ask, Asked, Caller, refusal, IsDecided, MatterChange, Firm, FirmChange, of, after, after_change, after_edit, IsRead, IsWrite, Reply, IsAnswered, counted_end, counted_reply, is_store, IsMade, KindIsMade, is_fault_end, Steps, Stopped, after_ask, after_asked, firm_step, kind_step, Heard, Kind, OfMatter, asked_on, kind_of, is_fault_reply, refused, replied, reply_for, reply_of}
+use Rattle.trust_desk.proofs.Calls.{uncounted, kept-as, kept-then, read-kept, write-kept}
+use Rattle.trust_desk.proofs.Crashes.{leave-as, leave-failed, read-leaves, written-leaves}
+use Rattle.trust_desk.proofs.Refused.{IsTold, fault-counted, fault-told}
 use Rattle.trust_desk.proofs.Steps.{nothing-done, steps-fault, steps-plain}
 
 -- Replies.
-
-reply-plain : (result : Result Reply Refusal) → is_fault_end result ≡ false → IfOk result (λ reply. is_fault_reply reply ≡ false) → is_fault_reply (reply_for result) ≡ false
-reply-plain (Ok reply) fine plain = plain
-reply-plain (Err r) fine plain = fine
 
 pub end-counted : (result : Result Reply Refusal) → IfOk result (λ reply. is_fault_reply reply ≡ false) → (n : ℕ) → counted_end result n ≡ counted_reply (reply_for result) n
 end-counted (Ok reply) plain n = uncounted reply.body plain n
@@ -20,55 +16,89 @@ end-fault (Ok reply) fine = refl
 end-fault (Err r) fine = fine
 
 -- a refusal is the step's or a fault, and nothing changes
-refused-steps : (day : ℕ) (firm new : Firm) (h : Heard) (r : Refusal) → (is_fault r ≡ true) ⊎ ((refused r ≡ (firm_step day firm h).reply) × (firm ≡ (firm_step day firm h).firm)) → new ≡ firm → Steps day firm h (refused r) new
+pub refused-steps : (day : ℕ) (firm new : Firm) (h : Heard) (r : Refusal) → (is_fault r ≡ true) ⊎ ((refused r ≡ (firm_step day firm h).reply) × (firm ≡ (firm_step day firm h).firm)) → new ≡ firm → Steps day firm h (refused r) new
 refused-steps day firm new h r why same = cases (is_fault r) refl
   where
     cases : (b : Bool) → is_fault r ≡ b → Steps day firm h (refused r) new
     cases true is = steps-fault day firm new h r is (subst (λ (f : Firm). Stopped day firm h f) (sym same) (nothing-done day firm h))
     cases false is = elim why [ inl fault ↦ absurd (cc) | inr step ↦ steps-plain day firm new h (refused r) is step.0 (same ∙ step.1) ]
 
--- Answers.
+-- An ask of a matter.
 
-module _ {B : Type 0} {firm : B → Firm} {clean sure stands lasts : B → Type 0} {leaves : B → Firm → Type 0} {refusals : B → ℕ} {old new : B} (day : ℕ) (h : Heard) where
-  -- an ask of a matter
-  pub answered-ask : (m : ℕ) (caller : Caller) (ask : Ask) (result : Result Reply Refusal) → kind_of h ≡ OfMatter m caller ask
-      → (clean new → stands old → Ends (firm old) m (asked_on day caller ask) (firm new) result) → IfOk result (λ reply. is_fault_reply reply ≡ false)
-      → KeepsBook clean sure stands lasts refusals (counted_end result) old new
-      → (sure new → stands old → MayLeaveChange clean leaves (is_fault_end result ≡ false) (firm old) (after_ask m (asked_on day caller ask) (firm old)) old new)
-      → IsAnswered firm clean sure stands lasts leaves refusals day h result old new
-  answered-ask m caller ask result kind ends plain kept crash = record {
-    step = λ served stood. steps result plain (ends served stood);
-    plain = plain;
-    kept = kept;
-    crash = λ is stood before.
-        leave-as (λ fine. fine) (λ f made. subst (λ (x : Kind). KindIsMade day (firm old) x f) (sym kind) made) (λ fine. sym leaves_it) (crash is stood);
-  }
-    where
-      leaves_it : after_ask m (asked_on day caller ask) (firm old) ≡ (firm_step day (firm old) h).firm
-      leaves_it = sym (ap (λ (k : Kind). (kind_step day (firm old) k).firm) kind)
+-- what was decided makes its step
+pub change-makes : (firm : Firm) (m : ℕ) (a : Asked) (c : MatterChange) → IsDecided (of m firm) a c → after_change m c firm ≡ after_ask m a firm
+change-makes firm m a c d = (λ i. after_edit m (d.edit i) (d.last i) firm) ∙ sym (ap (λ o. after_asked o m a firm) d.accepted)
 
-      steps : (r : Result Reply Refusal) → IfOk r (λ reply. is_fault_reply reply ≡ false) → Ends (firm old) m (asked_on day caller ask) (firm new) r → Steps day (firm old) h (reply_for r) (firm new)
-      steps (Ok reply) fine is = steps-plain day (firm old) (firm new) h reply fine (is.says ∙ sym (ap (λ (k : Kind). (kind_step day (firm old) k).reply) kind)) (is.leaves ∙ leaves_it)
-      steps (Err r) fine is =
-          refused-steps day (firm old) (firm new) h r (elim is.why [
-            | inl fault ↦ inl fault
-            | inr found ↦ inr (
-              sym (ap (λ o. replied o m (of m (firm old)) (asked_on day caller ask)) found) ∙ sym (ap (λ (k : Kind). (kind_step day (firm old) k).reply) kind),
-              sym (ap (λ o. after_asked o m (asked_on day caller ask) (firm old)) found) ∙ leaves_it,
-            )
-          ]) is.leaves
+module _ (day : ℕ) (h : Heard) (m : ℕ) (caller : Caller) (ask : Ask) (kind : kind_of h ≡ OfMatter m caller ask) where
+  abbrev a : Asked
+  a = asked_on day caller ask
 
-  -- an import, whose rows are those that it left
-  pub answered-import : (result : Result Reply Refusal) → IsOfItems (kind_of h) → (clean new → stands old → Steps day (firm old) h (reply_for result) (firm new))
-      → IfOk result (λ reply. is_fault_reply reply ≡ false) → KeepsBook clean sure stands lasts refusals (counted_end result) old new
-      → (sure new → clean old → stands old → MayLeave clean leaves (is_fault_end result ≡ false) (IsMade day (firm old) h) (firm old) (firm new) old new)
-      → IsAnswered firm clean sure stands lasts leaves refusals day h result old new
-  answered-import result items step plain kept crash = record {
-    step = step;
-    plain = plain;
-    kept = kept;
-    crash = λ is stood before.
-        let made = crash is (before items) stood in
-        leave-as (λ fine. fine) (λ f found. found)
-        (λ fine. sym (plain-step day (firm old) (firm new) h (reply_for result) (reply-plain result fine plain) (step (made.serves (before items) fine) stood))) made;
-  }
+  leaves_it : (f : Firm) → after_ask m a f ≡ (firm_step day f h).firm
+  leaves_it f = sym (ap (λ (k : Kind). (kind_step day f k).firm) kind)
+
+  says_it : (f : Firm) → reply_of m (of m f) a ≡ (firm_step day f h).reply
+  says_it f = sym (ap (λ (k : Kind). (kind_step day f k).reply) kind)
+
+  makes_it : (f found : Firm) → found ≡ after_ask m a f → IsMade day f h found
+  makes_it f found made = subst (λ (k : Kind). KindIsMade day f k found) (sym kind) made
+
+  refuses : (f : Firm) (r : Refusal) → IsTold (refusal (of m f) a) r
+      → (is_fault r ≡ true) ⊎ ((refused r ≡ (firm_step day f h).reply) × (f ≡ (firm_step day f h).firm))
+  refuses f r tells = elim tells.why [
+    | inl fault ↦ inl fault
+    | inr is ↦ inr (
+      sym (ap (λ o. replied o m (of m f) a) is) ∙ says_it f,
+      sym (ap (λ o. after_asked o m a f) is) ∙ leaves_it f,
+    )
+  ]
+
+  module _ {B : Type 0} {firm : B → Firm} {clean sure stands lasts : B → Type 0} {leaves : B → Firm → Type 0} {refusals : B → ℕ} {old new : B} where
+    -- it is refused, by what was read
+    pub ask-refused : {T : Type 0} {read : T} (r : Refusal) → IsRead firm clean sure stands lasts leaves refusals (Ok read) old new
+        → (clean new → stands old → IsTold (refusal (of m (firm old)) a) r)
+        → IsAnswered firm clean sure stands lasts leaves refusals day h (Err r) old new
+    ask-refused r read tells = record {
+      step = λ served stood. refused-steps day (firm old) (firm new) h r (refuses (firm old) r (tells served stood)) (read.same served stood);
+      plain = tt;
+      kept = kept-as (λ is stood.
+          let served = read.serves is in
+          sym (cond-false (is_store r) _ _ (tells served (stood (read.was_clean served))).told)) (read-kept read);
+      crash = λ is stood before.
+          leave-as (λ plain. refl) (λ f made. made)
+          (λ plain. elim (refuses (firm old) r (tells (read.serves is) stood)) [ inl fault ↦ absurd (cc) | inr same ↦ sym same.1 ])
+          (read-leaves read is stood);
+    }
+
+    -- its change is written
+    pub ask-written : {T U : Type 0} {read : T} {done : U} {change : FirmChange} {now : B} (reply : Reply) → is_fault_reply reply ≡ false
+        → IsRead firm clean sure stands lasts leaves refusals (Ok read) old now → IsWrite firm clean sure stands lasts leaves refusals change (Ok done) now new
+        → (clean now → stands old → (reply ≡ reply_of m (of m (firm old)) a) × (after change (firm old) ≡ after_ask m a (firm old)))
+        → IsAnswered firm clean sure stands lasts leaves refusals day h (Ok reply) old new
+    ask-written {change} reply plain read write tells = record {
+      step = λ served stood.
+          let was = write.was_clean served in
+          let is = tells was stood in
+          steps-plain day (firm old) (firm new) h reply plain (is.0 ∙ says_it (firm old))
+          (write.ok served (read.still_stands was stood) ∙ (ap (after change) (read.same was stood) ∙ (is.1 ∙ leaves_it (firm old))));
+      plain = plain;
+      kept = kept-then (read-kept read) (write-kept write);
+      crash = λ is stood before.
+          leave-as (λ fine. refl) (makes_it (firm old)) (λ fine. sym (leaves_it (firm old))) (written-leaves read write (λ served. (tells served stood).1) is stood);
+    }
+
+    -- or the store or memory stops that
+    pub ask-unwritten : {T U : Type 0} {read : T} {change : FirmChange} {now : B} (fault : StoreFault)
+        → IsRead firm clean sure stands lasts leaves refusals (Ok read) old now → IsWrite {T = U} firm clean sure stands lasts leaves refusals change (Err fault) now new
+        → (clean now → stands old → after change (firm old) ≡ after_ask m a (firm old))
+        → IsAnswered firm clean sure stands lasts leaves refusals day h (Err (refused_by fault)) old new
+    ask-unwritten fault read write makes = record {
+      step = λ served stood.
+          let was = write.was_clean served in
+          refused-steps day (firm old) (firm new) h (refused_by fault) (inl (fault-told fault))
+          (write.err served (read.still_stands was stood) ∙ read.same was stood);
+      plain = tt;
+      kept = kept-as (λ is stood. fault-counted fault (refusals old)) (kept-then (read-kept read) (write-kept write));
+      crash = λ is stood before.
+          leave-failed (λ fine. false≢true (sym fine ∙ fault-told fault)) (makes_it (firm old))
+          (written-leaves read write (λ served. makes served stood) is stood);
+    }

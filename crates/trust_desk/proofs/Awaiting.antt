@@ -1,5 +1,5 @@
 -- An entry that waits for a line of the bank: the line is applied, and lines of other entries leave it as it is.
-use Rattle.trust_desk.proofs.Names.{◌≡◌, ◌≢◌, ◌∙◌, sym, ap, ℕ, zero, suc, Bool, true, false, not, cond, ◌||◌, List, [], ◌∷◌, Option, Some, None, refl, arith, eqb, nat_lt, is_none, Contains, cond-false, Decides-int_eq, nat_tests, Line, Head, Deposit, DepositState, Payment, PaymentState, Entry, Rows, entry_at, is_gone, is_held_state, is_issued_state, is_of_nobody, is_purged, last_of, seen_on, cleared_amount, has_amount_back, has_its_amount, is_cleared_state, is_deposit_cleared_by, is_deposit_returned_by, is_line_again, is_payment_cleared_by, is_return, exceeds, IsBare, IsBareIfPurged, IsHeaded, Sound, entry_at-with, Numbered, changed_by, BankLine, DatedEdit, Reason, LineFacts, after_line_effect, amount_in, awaits_no_line, dated_by, first_reason, has_no_line, is_of_another_amount, is_uncovered, last_by, line_effect, line_facts, line_on, matched, reasons, rows_after_line, told_by, Waiting, entry_waiting, by_waiting, counted_as}
+use Rattle.trust_desk.proofs.Names.{◌≡◌, ◌≢◌, ◌∙◌, sym, ap, ℕ, Bool, true, false, not, cond, ◌||◌, List, [], ◌∷◌, Option, Some, None, refl, arith, eqb, nat_lt, is_none, Contains, cond-false, Decides-int_eq, nat_tests, Line, Head, Deposit, Payment, Entry, Rows, entry_at, is_gone, is_held_state, is_issued_state, is_of_nobody, is_purged, last_of, seen_on, cleared_amount, has_amount_back, has_its_amount, is_cleared_state, is_deposit_cleared_by, is_deposit_returned_by, is_line_again, is_payment_cleared_by, is_return, exceeds, IsBare, IsBareIfPurged, IsHeaded, Sound, entry_at-with, Numbered, changed_by, BankLine, DatedEdit, Reason, LineFacts, after_line_effect, amount_in, awaits_no_line, dated_by, first_reason, has_no_line, is_of_another_amount, is_uncovered, last_by, line_effect, line_facts, line_on, matched, reasons, rows_after_line, told_by, Waiting, entry_waiting, by_waiting}
 use Rattle.std.proofs.Common.{◌&&◌}
 use Rattle.matter_rows.specs.declared.head.Holder.{Holder}
 use Rattle.matter_rows.specs.declared.head.Holder.TheVariants as holder
@@ -10,7 +10,6 @@ use Rattle.matter_rows.specs.declared.entry.Entry.TheVariants as entry
 use Rattle.matter_parts.specs.declared.edit.Edit.TheVariants as edit
 use Rattle.trust_matter.specs.declared.line_verdict.LineEffect.TheVariants as told
 use Rattle.trust_matter.specs.declared.line_verdict.Reason.TheVariants as reason
-use Rattle.trust_desk.specs.declared.importing.Counted.TheVariants as counted
 
 -- What an entry waits for.
 
@@ -96,10 +95,6 @@ line_applies rows l today e dated stands awaits =
     applied_by f e stands.there dated stands.opened awaits
     ∙ ap (λ o. told.Applied (record { edit = told_by l.entry o l.line today; last = last_by f })) stands.there
 
-pub line_applied : (rows : Rows) (l : BankLine) (today : ℕ) (e : Entry) → nat_lt today l.line.date ≡ false
-    → Stands rows l.entry e → Awaits e l.line → counted_as (line_on rows l today) ≡ counted.Applied
-line_applied rows l today e dated stands awaits = ap counted_as (line_applies rows l today e dated stands awaits)
-
 none_in : (es : List Entry) (n : ℕ) (e : Entry) → es ≡ [] → entry_at es n ≡ Some e → ⊥
 none_in es n e none at = let clash : None ≡ Some e = sym (ap (λ xs. entry_at xs n) none) ∙ at in cc
 
@@ -140,15 +135,11 @@ exchange_keeps rows x last n old e at other stands =
 told_keeps : (o : Option Entry) (rows : Rows) (l : BankLine) (today last n : ℕ) (e : Entry)
     → entry_at rows.entries l.entry ≡ o → l.entry ≢ n → Stands rows n e
     → Stands (changed_by (told_by l.entry o l.line today) last rows) n e
-told_keeps None rows l today last n e at other stands = record { opened = stands.opened; there = stands.there }
 told_keeps (Some (entry.Deposit d)) rows l today last n e at other stands =
     exchange_keeps rows _ last n (entry.Deposit d) e at other stands
 told_keeps (Some (entry.Payment p)) rows l today last n e at other stands =
     exchange_keeps rows _ last n (entry.Payment p) e at other stands
-told_keeps (Some (entry.Fee f)) rows l today last n e at other stands =
-    record { opened = stands.opened; there = stands.there }
-told_keeps (Some (entry.Claim c)) rows l today last n e at other stands =
-    record { opened = stands.opened; there = stands.there }
+told_keeps _ rows l today last n e at other stands = record { opened = stands.opened; there = stands.there }
 
 -- what holds of the rows, and behind what the line tells of the entry, holds after the line
 by_effect : (P : Rows → Type 0) (b : Bool) (r : Option Reason) (d : DatedEdit) (rows : Rows) → P rows
@@ -173,11 +164,9 @@ seen_purged (Some h) last = refl
 
 told_purged : (o : Option Entry) (rows : Rows) (l : BankLine) (today last : ℕ)
     → is_purged (changed_by (told_by l.entry o l.line today) last rows).head ≡ is_purged rows.head
-told_purged None rows l today last = refl
 told_purged (Some (entry.Deposit d)) rows l today last = seen_purged rows.head last
 told_purged (Some (entry.Payment p)) rows l today last = seen_purged rows.head last
-told_purged (Some (entry.Fee f)) rows l today last = refl
-told_purged (Some (entry.Claim c)) rows l today last = refl
+told_purged _ rows l today last = refl
 
 pub line_unpurged : (rows : Rows) (l : BankLine) (today : ℕ) → is_purged rows.head ≡ false
     → is_purged (rows_after_line rows l today).head ≡ false
@@ -186,9 +175,6 @@ line_unpurged rows l today kept =
     by_effect (λ rs. is_purged rs.head ≡ false) (is_line_again f.entry f.line) (first_reason (reasons f)) (dated_by f)
     rows kept (told_purged (entry_at rows.entries l.entry) rows l today (last_by f) ∙ kept)
 
-open_unpurged : (head : Option Head) → is_gone head ≡ false → is_purged head ≡ false
+pub open_unpurged : (head : Option Head) → is_gone head ≡ false → is_purged head ≡ false
 open_unpurged None opened = absurd (cc)
 open_unpurged (Some h) opened = opened
-
-pub stands_unpurged : (rows : Rows) (n : ℕ) (e : Entry) → Stands rows n e → is_purged rows.head ≡ false
-stands_unpurged rows n e stands = open_unpurged rows.head stands.opened

@@ -12,36 +12,28 @@ use Rattle.trust_desk.proofs.Crashes.{leave-as, leave-failed, leave-then, read-l
 
 balance-apart : (k : BalanceKind) (line : Line) (v : Verdict) (firm : Firm) → (after (by_balance k line v) firm).firm_lines ≡ firm.firm_lines
 balance-apart k line own.Applied firm = refl
-balance-apart k line own.Repeat firm = refl
-balance-apart k line own.Unmatched firm = refl
+balance-apart k line _ firm = refl
 
 told-apart : (l : BankLine) (e : LineEffect) (firm : Firm) → (after_told l e firm).firm_lines ≡ firm.firm_lines
 told-apart l (told.Applied e) firm = (edit-leaves l.matter e.edit e.last firm).0
-told-apart l told.Repeat firm = refl
-told-apart l (told.Unmatched r) firm = refl
+told-apart l _ firm = refl
 
 -- an item that is no line of the firm's own
 abbrev pub IsApart : Item → Type 0
-IsApart (item.Opening line) = ⊤
-IsApart (item.Closing line) = ⊤
-IsApart (item.OfMatter l) = ⊤
 IsApart (item.OfFirm line) = ⊥
-IsApart (item.Stray line) = ⊤
-IsApart (item.Unreadable number) = ⊤
+IsApart _ = ⊤
 
 item-lines : (day : ℕ) (it : Item) (firm : Firm) → IsApart it → (after_item day firm it).firm_lines ≡ firm.firm_lines
 item-lines day (item.Opening line) firm apart = balance-apart kind.Opening line (balance_on firm kind.Opening line day) firm
 item-lines day (item.Closing line) firm apart = balance-apart kind.Closing line (balance_on firm kind.Closing line day) firm
 item-lines day (item.OfMatter l) firm apart = told-apart l (line_on (of l.matter firm) l day) firm
 item-lines day (item.OfFirm line) firm apart = absurd apart
-item-lines day (item.Stray line) firm apart = refl
-item-lines day (item.Unreadable number) firm apart = refl
+item-lines day _ firm apart = refl
 
 -- what one more line of the firm's own leaves of them
 pub verdict-lines : (line : Line) (v : Verdict) (firm : Firm) → lines_after line v firm.firm_lines ≡ (after (by_firm_line line v) firm).firm_lines
 verdict-lines line own.Applied firm = refl
-verdict-lines line own.Repeat firm = refl
-verdict-lines line own.Unmatched firm = refl
+verdict-lines line _ firm = refl
 
 -- what a ledger that agrees tells of a line
 pub agreed-tells : (day : ℕ) (line : Line) (lines : List FirmLine) (firm : Firm) (v : Verdict) → v ≡ firm_verdict lines line day → lines ≡ firm.firm_lines
@@ -78,18 +70,6 @@ kept-beside firm known left agrees k = record {
   cause = λ sure stood. k.cause sure (λ served. (stood served).0);
 }
 
-module _ {B : Type 0} {firm : B → Firm} {clean sure stands lasts : B → Type 0} {leaves : B → Firm → Type 0} {refusals : B → ℕ} {old new : B} (known left : Option (List FirmLine)) where
-  -- an item that is applied to the book, if what is known then is right
-  pub item-beside : {day : ℕ} {it : Item} {result : Result Counted StoreFault} → (clean new → stands old → AgreesWith known (firm old) → AgreesWith left (firm new))
-      → IsItemApplied firm clean sure stands lasts leaves refusals day it result old new
-      → IsAppliedBeside firm clean sure stands lasts leaves refusals day it result old known new left
-  item-beside agrees a = record {
-    step = λ served stood. a.step served stood.0;
-    err = λ served stood. a.err served stood.0;
-    kept = kept-beside firm known left agrees a.kept;
-    crash = λ sure stood. a.crash sure stood.0;
-  }
-
 -- the book alone
 pub kept-alone : {B : Type 0} (firm : B → Firm) (clean sure stands lasts : B → Type 0) (refusals : B → ℕ) {count : ℕ → ℕ} {old new : B} {left : Option (List FirmLine)}
     → KeepsBeside firm clean sure stands lasts refusals count old None new left → KeepsBook clean sure stands lasts refusals count old new
@@ -105,8 +85,12 @@ module _ {B : Type 0} {firm : B → Firm} {clean sure stands lasts : B → Type 
   -- an item that is no line of the firm's own
   pub item-apart : {it : Item} {result : Result Counted StoreFault} → IsApart it → IsItemApplied firm clean sure stands lasts leaves refusals day it result old new
       → IsAppliedBeside firm clean sure stands lasts leaves refusals day it result old known new known
-  item-apart {it} {result} apart a =
-      item-beside known known (λ served stood right. agrees-still known (firm old) (firm new) (lines-still day it result (firm old) (firm new) apart (a.step served stood) (a.err served stood)) right) a
+  item-apart {it} {result} apart a = record {
+    step = λ served stood. a.step served stood.0;
+    err = λ served stood. a.err served stood.0;
+    kept = kept-beside firm known known (λ served stood right. agrees-still known (firm old) (firm new) (lines-still day it result (firm old) (firm new) apart (a.step served stood) (a.err served stood)) right) a.kept;
+    crash = λ sure stood. a.crash sure stood.0;
+  }
 
   -- an item that is written by what is known, with no read
   pub beside-written : {T : Type 0} {done : T} {change : FirmChange} (it : Item) (k : Counted) → IsWrite firm clean sure stands lasts leaves refusals change (Ok done) old new

@@ -1,6 +1,7 @@
 -- A line that is dismissed from the exceptions.
-use Rattle.trust_desk.proofs.Names.{◌≡◌, Bool, true, false, cond, List, [], ◌∷◌, Option, Some, None, refl, ap, ◌∙◌, fold, Line, Refusal, first, Firm, without_line, dismiss_refusal, dismissed_unless, is_exception}
+use Rattle.trust_desk.proofs.Names.{◌≡◌, Bool, true, false, cond, List, [], ◌∷◌, Option, Some, None, refl, sym, ap, ◌∙◌, fold, Line, Refusal, first, Firm, without_line, dismiss_refusal, dismissed_unless, is_exception}
 use Rattle.std.specs.Prelude.{not, ◌||◌}
+use Rattle.std.proofs.Math.Bool.{or_assoc, or-false}
 use Rattle.trust_base.specs.LineOrder.{is_same_line}
 use Rattle.trust_base.specs.declared.refusal.Refusal.TheVariants as refusals
 use Rattle.trust_base.specs.declared.refusal.Rule.TheVariants as rule
@@ -10,21 +11,13 @@ use Rattle.trust_desk.specs.Dismissed.{DismissedOnce, DismissingMovesNothing, Ke
 
 -- A line that is looked for.
 
-or-assoc : (a b c : Bool) → ((a || b) || c) ≡ (a || (b || c))
-or-assoc true b c = refl
-or-assoc false b c = refl
-
-or-false : (a : Bool) → a ≡ (a || false)
-or-false true = refl
-or-false false = refl
-
 -- what one more line makes of the search
 abbrev pub looked : LineSearch → Line → LineSearch
 looked s x = record s { is_found = s.is_found || is_same_line x s.line.now }
 
 pub looked-all : (s : LineSearch) (lines : List Line) → (fold looked s lines).is_found ≡ (s.is_found || is_exception s.line.now lines)
-looked-all s [] = or-false s.is_found
-looked-all s (x ∷ xs) = looked-all (looked s x) xs ∙ or-assoc s.is_found (is_same_line x s.line.now) (is_exception s.line.now xs)
+looked-all s [] = sym (or-false s.is_found)
+looked-all s (x ∷ xs) = looked-all (looked s x) xs ∙ or_assoc s.is_found (is_same_line x s.line.now) (is_exception s.line.now xs)
 
 -- The laws.
 
@@ -43,11 +36,7 @@ none-left : (line : Line) (lines : List Line) → is_exception line (without_lin
 none-left line [] = refl
 none-left line (x ∷ xs) = left-of line x (is_same_line x line) (without_line line xs) refl (none-left line xs)
 
-refused-again : (b : Bool) → b ≡ false → first ((false, refusals.NotAllowed rule.Firm) ∷ (not b, refusals.NoEntry) ∷ []) ≡ Some refusals.NoEntry
-refused-again true e = absurd (cc)
-refused-again false e = refl
-
 pub dismissed-once : DismissedOnce
 dismissed-once day firm line fit =
     ap (λ o. dismiss_refusal Cashier line (dismissed_unless o line firm)) fit
-    ∙ refused-again (is_exception line (without_line line firm.exceptions)) (none-left line firm.exceptions)
+    ∙ ap (λ b. first ((false, refusals.NotAllowed rule.Firm) ∷ (not b, refusals.NoEntry) ∷ [])) (none-left line firm.exceptions)

@@ -1,5 +1,5 @@
 -- Lines that are filled are applied.
-use Rattle.trust_desk.proofs.Names.{◌≡◌, ◌≢◌, ◌∙◌, sym, ap, subst, ℕ, suc, ◌+◌, ◌<◌, Bool, true, false, not, cond, List, [], ◌∷◌, length, Some, None, refl, arith, IfSome, nat_le, nat_lt, Contains, int_eq, bytes_eq, and_parts, Decides-int_eq, nat_tests, Line, Rows, Entry, BankLine, line_on, rows_after_line, Firm, of, FirmSound, item_by, item_of_line, Item, Waiting, fits, is_other_business, shows, entry_waiting, held_of, HasMatterNumbers, IsSure, with_reference, of_entry, wait_apart, sure_of, front_apart, OwnLine, own_if, own_of_item, after_item, after_items, counted_as, counted_of, FilledLinesAreApplied, items_of, solo_rows}
+use Rattle.trust_desk.proofs.Names.{cond_both, later, eqb-true, ◌≡◌, ◌≢◌, ◌∙◌, sym, ap, subst, ℕ, ◌+◌, ◌<◌, Bool, true, false, not, cond, List, [], ◌∷◌, length, Some, None, refl, arith, IfSome, nat_le, nat_lt, Contains, int_eq, bytes_eq, and_parts, Decides-int_eq, nat_tests, Line, Rows, Entry, BankLine, line_on, rows_after_line, Firm, of, FirmSound, item_by, item_of_line, Item, Waiting, fits, is_other_business, shows, entry_waiting, held_of, HasMatterNumbers, IsSure, with_reference, of_entry, wait_apart, sure_of, front_apart, OwnLine, own_of_item, after_item, after_items, counted_as, counted_of, FilledLinesAreApplied, items_of, solo_rows}
 use Rattle.std.proofs.Common.{◌==◌, codes}
 use Rattle.trust_base.specs.Limits.{IsEntryNo, IsMatterNo}
 use Rattle.statement_csv.specs.References.{entry_named, owner_by, owner_of, reference_text}
@@ -7,7 +7,7 @@ use Rattle.statement_csv.specs.declared.item.Item.TheVariants as item
 use Rattle.statement_csv.proofs.NamedFacts.{named-found, named-text}
 use Rattle.statement_match.proofs.Picks.{found_is_there, found_passes}
 use Rattle.trust_desk.specs.declared.importing.Counted.TheVariants as counted
-use Rattle.trust_desk.proofs.Awaiting.{Awaits, Stands, entry_awaits, line_applied, line_keeps, sound_stands}
+use Rattle.trust_desk.proofs.Awaiting.{Awaits, Stands, entry_awaits, line_applies, line_keeps, sound_stands}
 use Rattle.trust_desk.proofs.OwnItems.{of-after_item}
 
 -- The item of a line.
@@ -61,16 +61,10 @@ module _ (P : Rows → Type 0) (m today : ℕ) (firm : Firm) where
   own_keeps : (it : Item)
       → ((l : BankLine) → it ≡ item.OfMatter l → l.matter ≡ m → P (rows_after_line (of m firm) l today))
       → P (of m firm) → P (solo_rows (of m firm) (own_of_item m today it))
-  own_keeps (item.Opening line) own now = now
-  own_keeps (item.Closing line) own now = now
-  own_keeps (item.OfMatter l) own now = cases (l.matter == m) refl
-    where
-      cases : (b : Bool) → (l.matter == m) ≡ b → P (solo_rows (of m firm) (own_if b (OwnLine l today)))
-      cases true test = let same : l.matter ≡ m = grind (arith, nat_tests) in own l refl same
-      cases false test = now
-  own_keeps (item.OfFirm line) own now = now
-  own_keeps (item.Stray line) own now = now
-  own_keeps (item.Unreadable number) own now = now
+  own_keeps (item.OfMatter l) own now =
+      cond_both (l.matter == m) (OwnLine l today ∷ []) [] (λ owns. P (solo_rows (of m firm) owns))
+      (λ test. own l refl (eqb-true l.matter m test)) (λ test. now)
+  own_keeps _ own now = now
 
   pub item_keeps : (it : Item)
       → ((l : BankLine) → it ≡ item.OfMatter l → l.matter ≡ m → P (rows_after_line (of m firm) l today))
@@ -88,11 +82,7 @@ lines_keep m n today number firm e (y ∷ ys) other stands =
     line_keeps (of m firm) l today n e (λ (n_is : l.entry ≡ n).
     other y (0, omega arith, refl) (sym (named_by number y l is) ∙ (λ i. reference_text (m_is i) (n_is i)))) stands in
     lines_keep m n today (number + 1) (after_item today firm it) e ys
-    (λ z there. other z (suc there.0, further there.1, there.2))
-    (item_keeps (λ rows. Stands rows n e) m today firm it own stands)
-  where
-    further : {k : ℕ} → k < length ys → suc k < suc (length ys)
-    further lt = omega (arith, lt)
+    (λ z there. other z (later y z ys there)) (item_keeps (λ rows. Stands rows n e) m today firm it own stands)
 
 -- A filled line.
 
@@ -173,7 +163,7 @@ ready_item today number firm x w ready bank =
 pub ready_counted : (today : ℕ) (firm : Firm) (x : Line) (w : Waiting) (ready : IsReady today firm x w)
     → counted_as (line_on (of ready.matter firm) (ready_line ready) today) ≡ counted.Applied
 ready_counted today firm x w ready =
-    line_applied (of ready.matter firm) (ready_line ready) today ready.made ready.dated ready.stands ready.awaits
+    ap counted_as (line_applies (of ready.matter firm) (ready_line ready) today ready.made ready.dated ready.stands ready.awaits)
 
 pub filled_lines_are_applied : FilledLinesAreApplied
 filled_lines_are_applied today firm lines front rest line reference sound numbers there bank filled split =

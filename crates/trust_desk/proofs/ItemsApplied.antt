@@ -1,7 +1,35 @@
--- How an item is applied, by the calls of the book.
-use Rattle.trust_desk.proofs.Names.{◌≡◌, ◌∙◌, ℕ, Ok, Err, ap, sym, false≢true, StoreFault, Firm, FirmChange, after, Item, counted, IsRead, IsWrite, Counted, IsItemApplied, after_item, counted_of}
+-- How an item is applied, by what is decided of it and by the calls of the book.
+use Rattle.trust_desk.proofs.Names.{◌≡◌, ◌∙◌, ℕ, Ok, Err, refl, ap, sym, false≢true, Line, StoreFault, BankLine, LineEffect, Rows, LineDecides, BalanceKind, Verdict, Firm, FirmChange, of, after, by_balance, by_line, Item, counted, counted_fault, IsRead, IsWrite, Counted, IsItemApplied, after_item, after_told, balance_item, balance_on, counted_as, counted_by, counted_of, counted_verdict}
+use Rattle.trust_base.specs.declared.refusal.StoreFault.TheVariants as faults
+use Rattle.trust_matter.specs.declared.line_verdict.LineVerdict.{LineVerdict}
+use Rattle.trust_matter.specs.declared.line_verdict.LineVerdict.TheVariants as verdict
+use Rattle.firm_rows.specs.declared.ledger.BalanceKind.TheVariants as kind
+use Rattle.statement_csv.specs.declared.item.Item.TheVariants as item
 use Rattle.trust_desk.proofs.Calls.{kept-as, kept-then, read-kept, write-kept}
 use Rattle.trust_desk.proofs.Crashes.{leave-failed, read-leaves, written-leaves}
+
+-- A verdict.
+
+-- what is written is the step
+pub verdict-tells : (day : ℕ) (firm : Firm) (l : BankLine) (v : LineVerdict) → LineDecides (of l.matter firm) l day (Ok v)
+    → (counted_verdict v ≡ counted_of day firm (item.OfMatter l)) × (after (by_line l v) firm ≡ after_item day firm (item.OfMatter l))
+verdict-tells day firm l (verdict.Applied c) d = (sym (ap counted_as d.applied), sym (ap (λ (e : LineEffect). after_told l e firm) d.applied))
+verdict-tells day firm l verdict.Repeat d = (sym (ap counted_as d), sym (ap (λ (e : LineEffect). after_told l e firm) d))
+verdict-tells day firm l (verdict.Unmatched r) d = (sym (ap counted_as d), sym (ap (λ (e : LineEffect). after_told l e firm) d))
+
+-- a fault of the decision is no fault of the store
+pub decision-uncounted : (rows : Rows) (l : BankLine) (day : ℕ) (fault : StoreFault) (n : ℕ) → LineDecides rows l day (Err fault) → counted_fault fault n ≡ n
+decision-uncounted rows l day faults.Memory n d = refl
+decision-uncounted rows l day faults.Store n d = absurd d
+
+-- A balance.
+
+pub balance-tells : (k : BalanceKind) (day : ℕ) (firm : Firm) (line : Line) (v : Verdict) → v ≡ balance_on firm k line day
+    → (counted_by v ≡ counted_of day firm (balance_item k line)) × (after (by_balance k line v) firm ≡ after_item day firm (balance_item k line))
+balance-tells kind.Opening day firm line v is = (ap counted_by is, ap (λ (u : Verdict). after (by_balance kind.Opening line u) firm) is)
+balance-tells kind.Closing day firm line v is = (ap counted_by is, ap (λ (u : Verdict). after (by_balance kind.Closing line u) firm) is)
+
+-- The calls of the book.
 
 module _ {B : Type 0} {firm : B → Firm} {clean sure stands lasts : B → Type 0} {leaves : B → Firm → Type 0} {refusals : B → ℕ} {old new : B} (day : ℕ) (it : Item) where
   -- what was read tells how the item is counted, and what is written for it

@@ -58,18 +58,15 @@ amid-none day clean firm told left counts whole none = record {
 pub room-none : (counts : ImportReply) → counts ≡ none_counted → AreBelow 1 counts
 room-none counts none = let one : AreBelow 1 none_counted = record { applied = omega arith; repeated = omega arith; exceptions = omega arith; unreadable = omega arith } in subst (AreBelow 1) (sym none) one
 
--- what is said where the one holds is said where the other does
-pub takes-where : {day : ℕ} {p q : Type 0} {now next : Firm} {left more : Told} {before after : ImportReply} → (p → q) → TakesOne day q now next left more before after → TakesOne day p now next left more before after
-takes-where at takes = record { item = takes.item; gives = takes.gives; counted = record { kind = takes.counted.kind; counts = takes.counted.counts; step = λ is. takes.counted.step (at is) } }
-
-pub amid-more : (day : ℕ) (was clean : Type 0) (first now next : Firm) (told left more : Told) (before after : ImportReply)
-    → (clean → was) → IsAmid day was first now told left before → TakesOne day clean now next left more before after → IsAmid day clean first next told more after
-amid-more day was clean first now next told left more before after was_clean amid takes = record {
+-- with one more item; what is said of it holds where `at` does
+pub amid-more : (day : ℕ) (was at clean : Type 0) (first now next : Firm) (told left more : Told) (before after : ImportReply)
+    → (clean → was) → (clean → at) → IsAmid day was first now told left before → TakesOne day at now next left more before after → IsAmid day clean first next told more after
+amid-more day was at clean first now next told left more before after was_clean is_at amid takes = record {
   front = amid.front ++ takes.item ∷ [];
   read = read-more told left more amid.front takes.item amid.read takes.gives;
   step = λ is.
       let so_far = amid.step (was_clean is) in
-      let step = takes.counted.step is in
+      let step = takes.counted.step (is_at is) in
       let kind = takes.counted.kind in
       let it = takes.item in (
         takes.counted.counts
@@ -101,9 +98,7 @@ below-more n m it kind before after below is more = subst (AreBelow m) (sym is) 
   where
     cases : (k : Counted) → AreBelow m (count_item it k before)
     cases counted.Applied = record { applied = omega (arith, below.applied, more); repeated = omega (arith, below.repeated, more); exceptions = omega (arith, below.exceptions, more); unreadable = omega (arith, below.unreadable, more) }
-    cases counted.Repeated = record { applied = omega (arith, below.applied, more); repeated = omega (arith, below.repeated, more); exceptions = omega (arith, below.exceptions, more); unreadable = omega (arith, below.unreadable, more) }
-    cases counted.Exception = record { applied = omega (arith, below.applied, more); repeated = omega (arith, below.repeated, more); exceptions = omega (arith, below.exceptions, more); unreadable = omega (arith, below.unreadable, more) }
-    cases counted.Unreadable = record { applied = omega (arith, below.applied, more); repeated = omega (arith, below.repeated, more); exceptions = omega (arith, below.exceptions, more); unreadable = omega (arith, below.unreadable, more) }
+    cases _ = record { applied = omega (arith, below.applied, more); repeated = omega (arith, below.repeated, more); exceptions = omega (arith, below.exceptions, more); unreadable = omega (arith, below.unreadable, more) }
 
 -- What matters see of it.
 

@@ -1,13 +1,10 @@
-pub mod Purging
 pub mod DismissedLines
 pub mod Refused
-pub mod Items
 pub mod ItemsApplied
 pub mod Beside
 pub mod Calls
 pub mod Crashes
 pub mod MadeRows
-pub mod Counting
 pub mod ItemsRead
 pub mod OwnItems
 pub mod Own
@@ -21,13 +18,11 @@ pub mod Once
 pub mod OnceBank
 pub mod OnceRuns
 pub mod OfRows
-pub mod Statuses
 pub mod Awaiting
 pub mod FilledLines
 pub mod MatchedAgain
 pub mod Gathered
 pub mod SecondMatch
-mod BookReads
 mod ReconciliationAnswers
 mod ReportTexts
 pub use Rattle.trust_reports.proofs.Cards

@@ -1,5 +1,5 @@
 -- Lines that were filled are in the book behind the import of what was written.
-use Rattle.trust_desk.proofs.Names.{◌≡◌, ◌∙◌, sym, ap, subst, ℕ, zero, suc, ◌+◌, ◌-◌, Bool, true, false, cond, ◌||◌, List, [], ◌∷◌, ◌++◌, map, Option, Some, None, refl, inl, inr, arith, eqb, pos, ◌-ℤ◌, Contains, filter, flat_map, int_eq, bytes_eq, and_from, and_parts, eq-eqb, eqb-true, false≢true, or_cases, Decides-int_eq, Contains-append_left, Line, DepositState, PaymentState, Entry, entry_at, is_purged, is_clearing_by, is_deposit_cleared_by, is_deposit_returned_by, is_line_again, is_payment_cleared_by, DatedEdit, Reason, IsSameLine, dated_by, first_reason, line_facts, line_on, matched, reasons, rows_after_line, EntryRow, Firm, HeadRow, Row, SeatRow, entries_among, of, rows_of, item_of_line, Item, booking_of, is_same_booking, Waiting, booked_by, deposit_bookings, entry_bookings, held_of, payment_bookings, row_bookings, with_reference, written, wait_apart, sure_of, front_apart, has_filled, filter_from, flat_map_has, later, map_from, own_of_items, after_item, after_items, FilledLinesAreInBook, items_of, solo_rows}
+use Rattle.trust_desk.proofs.Names.{◌≡◌, ◌∙◌, sym, ap, subst, ℕ, zero, suc, ◌+◌, ◌-◌, Bool, true, false, cond, ◌||◌, List, [], ◌∷◌, ◌++◌, Option, Some, None, refl, inl, inr, arith, eqb, pos, ◌-ℤ◌, Contains, filter, flat_map, int_eq, bytes_eq, and_from, and_parts, eq-eqb, eqb-true, false≢true, or_cases, Decides-int_eq, Contains-append_left, Line, DepositState, PaymentState, Entry, entry_at, is_purged, is_clearing_by, is_deposit_cleared_by, is_deposit_returned_by, is_line_again, is_payment_cleared_by, DatedEdit, Reason, IsSameLine, dated_by, first_reason, line_facts, line_on, matched, reasons, rows_after_line, EntryRow, Firm, HeadRow, Row, SeatRow, entries_among, of, rows_of, item_of_line, Item, booking_of, is_same_booking, Waiting, booked_by, deposit_bookings, entry_bookings, held_of, payment_bookings, row_bookings, with_reference, written, wait_apart, sure_of, front_apart, has_filled, filter_from, flat_map_has, later, map_from, own_of_items, after_item, after_items, FilledLinesAreInBook, items_of, solo_rows}
 use Rattle.std.proofs.Common.{◌&&◌, ◌==◌, ℤ}
 use Rattle.std.proofs.lemmas.Slice.Eq.{bytes_eq-Decides}
 use Rattle.matter_rows.specs.declared.clearing.Clearing.{Clearing}
@@ -10,7 +10,7 @@ use Rattle.trust_matter.specs.declared.line_verdict.LineEffect.TheVariants as to
 use Rattle.statement_csv.specs.declared.item.Item.TheVariants as item
 use Rattle.statement_lines.specs.declared.booking.Booking.{Booking}
 use Rattle.statement_match.proofs.Again.{filled_is_booked}
-use Rattle.trust_desk.proofs.Awaiting.{line_unpurged, stands_unpurged}
+use Rattle.trust_desk.proofs.Awaiting.{line_unpurged, open_unpurged}
 use Rattle.trust_desk.proofs.LineFacts.{repeat-later}
 use Rattle.trust_desk.proofs.Once.{was-applied}
 use Rattle.trust_desk.proofs.FilledLines.{IsReady, filled_ready, item_keeps, ready_behind, ready_counted, ready_item, ready_line}
@@ -38,13 +38,11 @@ deposit_booked : (amount : ℕ) (s : DepositState) (line : Line)
     → ((is_deposit_cleared_by s line && int_eq (pos amount) line.amount)
     || (is_deposit_returned_by s line && int_eq (pos 0 -ℤ pos amount) line.amount)) ≡ true
     → IsBooked (deposit_bookings amount s) line
-deposit_booked amount deposit.Held line is = absurd (false≢true is)
 deposit_booked amount (deposit.Cleared c) line is =
     elim (or_cases (is_clearing_by c line && int_eq (pos amount) line.amount) false is) [
       | inl h ↦ (booked_by c (pos amount), (0, omega arith, refl), same_booking c (pos amount) line h)
       | inr h ↦ absurd (false≢true h)
     ]
-deposit_booked amount (deposit.Cancelled day) line is = absurd (false≢true is)
 deposit_booked amount (deposit.Returned r) line is =
     elim (or_cases (is_clearing_by r.clearing line && int_eq (pos amount) line.amount)
     (is_clearing_by r.returning line && int_eq (pos 0 -ℤ pos amount) line.amount) is) [
@@ -55,26 +53,23 @@ deposit_booked amount (deposit.Returned r) line is =
         same_booking r.returning (pos 0 -ℤ pos amount) line h,
       )
     ]
+deposit_booked amount _ line is = absurd (false≢true is)
 
 payment_booked : (amount : ℕ) (s : PaymentState) (line : Line)
     → (is_payment_cleared_by s line && int_eq (pos 0 -ℤ pos amount) line.amount) ≡ true
     → IsBooked (payment_bookings amount s) line
-payment_booked amount payment.Proposed line is = absurd (false≢true is)
-payment_booked amount payment.Declined line is = absurd (false≢true is)
-payment_booked amount (payment.Issued day) line is = absurd (false≢true is)
 payment_booked amount (payment.Cleared c) line is = (
   booked_by c.clearing (pos 0 -ℤ pos amount),
   (0, omega arith, refl),
   same_booking c.clearing (pos 0 -ℤ pos amount) line is,
 )
-payment_booked amount (payment.Voided v) line is = absurd (false≢true is)
+payment_booked amount _ line is = absurd (false≢true is)
 
 -- an entry that had the line has it among its bookings
 again_booked : (e : Entry) (line : Line) → is_line_again (Some e) line ≡ true → IsBooked (entry_bookings e) line
 again_booked (entry.Deposit d) line is = deposit_booked d.amount d.state line is
 again_booked (entry.Payment p) line is = payment_booked p.amount p.state line is
-again_booked (entry.Fee f) line is = absurd (false≢true is)
-again_booked (entry.Claim c) line is = absurd (false≢true is)
+again_booked _ line is = absurd (false≢true is)
 
 -- What an entry has booked the firm has.
 
@@ -148,7 +143,7 @@ ready_booked today firm x w items ready =
     let owns = own_of_items m today items in
     let rows : of m end ≡ solo_rows (rows_after_line (of m firm) l today) owns =
     of-after_items m today one items ∙ ap (λ rs. solo_rows rs owns) (of-after_line l today firm) in
-    let open_now = stands_unpurged (of m firm) ready.number ready.made ready.stands in
+    let open_now = open_unpurged (of m firm).head ready.stands.opened in
     let open_one : is_purged (of m one).head ≡ false =
     ap (λ rs. is_purged rs.head) (of-after_line l today firm) ∙ line_unpurged (of m firm) l today open_now in
     let open_end : is_purged (solo_rows (rows_after_line (of m firm) l today) owns).head ≡ false =

@@ -12,14 +12,14 @@ pub use Rattle.firm_rows.specs.declared.ledger.FirmLine.{FirmLine}
 pub use Rattle.firm_rows.specs.declared.ledger.Verdict.{Verdict}
 pub use Rattle.matter_bodies.specs.Bodies.{entry_body, matter_body, receipt_body}
 pub use Rattle.matter_bodies.specs.declared.bodies.ImportReply.{ImportReply}
-pub use Rattle.matter_parts.specs.Changes.{AreLefts, IsChange, IsPlace, MatterChange, changed, changed_by, edited, last_after}
-pub use Rattle.matter_parts.specs.Parts.{IsPart, IsWhole, Part, entry_in, is_held, is_held_or_none, kept_at, kept_in, left_kept, no_figures}
+pub use Rattle.matter_parts.specs.Changes.{IsChange, MatterChange, changed, changed_by, last_after}
+pub use Rattle.matter_parts.specs.Parts.{HoldsOn, IsPart, IsWhole, Part, entry_in, is_held, is_held_or_none, kept_at, no_figures}
 pub use Rattle.matter_parts.specs.declared.edit.Edit.{Edit}
 pub use Rattle.matter_parts.specs.declared.edit.Numbered.{Numbered}
 pub use Rattle.matter_parts.specs.declared.kept.Kept.{Kept}
 pub use Rattle.matter_rows.proofs.Covered.{sound-covered}
-pub use Rattle.matter_rows.proofs.Entries.{entry_at-append, entry_at-with, within}
-pub use Rattle.matter_rows.specs.Balances.{exceeds, left_in, left_of}
+pub use Rattle.matter_rows.proofs.Entries.{entry_at-with, within}
+pub use Rattle.matter_rows.specs.Balances.{exceeds}
 pub use Rattle.matter_rows.specs.Clearings.{cleared_amount, cleared_payment, deposit_by, has_amount_back, has_its_amount, is_cleared_state, is_clearing_by, is_deposit_cleared_by, is_deposit_returned_by, is_line_again, is_payment_cleared_by, is_return}
 pub use Rattle.matter_rows.specs.Rows.{Rows, entry_at, is_gone, is_held_state, is_issued_state, is_of_nobody, is_purged, last_of, seen_on, with_entry}
 pub use Rattle.matter_rows.specs.Sound.{IsBare, IsBareIfPurged, IsHeaded, Sound}
@@ -46,7 +46,7 @@ pub use Rattle.statement_match.specs.Laws.{IsSure, with_reference, written}
 unfoldable pub use Rattle.statement_match.specs.Showing.{fits, is_other_business, shows}
 pub use Rattle.statement_match.specs.Waiting.{Waiting}
 pub use Rattle.std.proofs.Common.{Bool, Err, List, None, Ok, Option, Result, Some, [], ap, append-nil, append_assoc, arith, cond, eqb, false, fold, get_or, inl, inr, length, length-append, map, not, pos, refl, rules, subst, suc, sym, take, true, zero, ℕ, ◌++◌, ◌+◌, ◌-ℤ◌, ◌-◌, ◌<◌, ◌||◌, ◌∙◌, ◌∷◌, ◌≡◌, ◌≢◌, ◌≤◌, ◌⊎◌}
-pub use Rattle.std.proofs.lemmas.Bool.{and_from, and_parts, cond-false, eq-eqb, eqb-true, false≢true, or_cases, or_from, or_parts}
+pub use Rattle.std.proofs.lemmas.Bool.{and_from, and_parts, cond-false, cond-true, cond_both, eqb-false, eq-eqb, eqb-true, false≢true, or_cases, or_from, or_parts}
 pub use Rattle.std.proofs.lemmas.Bool.Decides.{Decides-int_eq, nat_tests}
 pub use Rattle.std.proofs.lemmas.List.Elements.{Contains-append_left, Contains-append_right, Contains-get_or, filter-append}
 pub use Rattle.std.proofs.lemmas.Result.{IfOk-weaker, err_from_is_err_and}
@@ -88,14 +88,14 @@ pub use Rattle.trust_desk.specs.Calls.{KeepsBook}
 pub use Rattle.trust_desk.specs.Counts.{counted_body, counted_end, counted_refusal, counted_replies, counted_reply, is_store}
 pub use Rattle.trust_desk.specs.Crashes.{AreFront, AreNoFaults, AreNoFaultsButLast, IsAfterFirst, IsAfterNext, IsMade, IsMadeInRun, IsOfItems, KindIsMade, MayLeave, MayLeaveChange, before_fault, is_fault_end, is_stopped}
 pub use Rattle.trust_desk.specs.Dismissing.{dismiss_refusal, dismiss_reply, dismissed_unless, is_exception}
-pub use Rattle.trust_desk.specs.FirmStep.{HasItsStatus, IsFaultReply, IsStopped, IsUnstopped, KindStopped, RefusalsHaveTheirStatus, Runs, RunsSoundly, SoundRunsAreRuns, Steps, Stopped, after_ask, after_asked, firm_step, kind_step}
+pub use Rattle.trust_desk.specs.FirmStep.{HasItsStatus, IsFaultReply, IsStopped, IsUnstopped, KindStopped, Runs, RunsSoundly, SoundRunsAreRuns, Steps, Stopped, after_ask, after_asked, firm_step, kind_step}
 pub use Rattle.trust_desk.specs.Heard.{Asks, Dismisses, Heard, Kind, NotRead, OfItems, OfMatter, OnlyTold, Own, OwnAsk, OwnLine, OwnRefusal, asked_on, concerns, heard, is_the, kind_concerns, kind_names, kind_of, kind_own, names, own_if, own_of, own_of_item, own_of_items, project, told}
-pub use Rattle.trust_desk.specs.ImportStep.{EndsItems, IsAfterFront, counts_text, import_refusal, import_reply, imported, is_not_of_firm, items_in, items_unless}
+pub use Rattle.trust_desk.specs.ImportStep.{IsAfterFront, counts_text, import_refusal, import_reply, imported, is_not_of_firm, items_unless}
 pub use Rattle.trust_desk.specs.Imports.{AlwaysSound, AreBelow, AreFirst, AreRead, Imports, IsAmid, IsStop, IsUnnamed, KeepsAllUnnamed, TakesOne, Told}
-pub use Rattle.trust_desk.specs.ItemStep.{EveryItemIsCounted, after_balance, after_item, after_items, after_told, balance_item, balance_on, count_item, count_sum, counted_as, counted_by, counted_of, counted_verdict, counts_after, firm_line_on, names_item, none_counted}
+pub use Rattle.trust_desk.specs.ItemStep.{after_balance, after_item, after_items, after_told, balance_item, balance_on, count_item, count_sum, counted_as, counted_by, counted_of, counted_verdict, counts_after, firm_line_on, names_item, none_counted}
 pub use Rattle.trust_desk.specs.Matching.{AreNameless, FilledLinesAreApplied, FilledLinesAreInBook, SecondMatchFillsNothing, items_of}
 pub use Rattle.trust_desk.specs.OnceOnly.{BalanceOnce, DayRun, FirmLineOnce, IsBalanceOver, IsRepeated, IsSameFirmLine, IsUnmatched, LineOnceOnly, OnceOnly, RunsOn}
-pub use Rattle.trust_desk.specs.Plan.{Ends, IsAccepted, IsBodyAfter, IsPlanned, IsReadFor, IsRefused, IsWholeForCard, entry_text, kept_after, made_kept, shown_kept, status_of_edit, written_or}
+pub use Rattle.trust_desk.specs.Plan.{IsReadFor, status_of_edit}
 pub use Rattle.trust_desk.specs.Replies.{body_of, is_fault_body, is_fault_reply, made_text, refused, replied, reply_for, reply_of, said, shown_text, success_of, text_reply}
 pub use Rattle.trust_desk.specs.Reports.{IsReconciled, text_of}
 unfoldable pub use Rattle.trust_desk.specs.Reports.{exceptions_report, has_no_statement, journal_report, own_card_report, reconciliation_report, retention_report, trial_report}
@@ -107,4 +107,3 @@ pub use Rattle.trust_desk.specs.declared.requests.Body.{Body}
 pub use Rattle.trust_desk.specs.declared.requests.Body.TheVariants.{Json, Refused, Text}
 pub use Rattle.trust_desk.specs.declared.requests.Reply.{Reply}
 pub use Rattle.trust_desk.specs.declared.requests.Request.{Request}
-pub use Rattle.trust_desk.specs.declared.requests.Request.TheVariants.{Import}

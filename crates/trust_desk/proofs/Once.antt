@@ -1,5 +1,5 @@
 -- What was asked and accepted, and a line that was applied, are repeats after every run.
-use Rattle.trust_desk.proofs.Names.{◌≡◌, ℕ, Bool, true, false, cond, List, [], ◌++◌, Option, Some, None, refl, sym, ap, ◌∙◌, subst, is_some, false≢true, Refusal, Edit, BankLine, LineEffect, Rows, is_purged, Asked, facts_of, is_repeat, last_after, refusal, edit_on, rows_after, line_on, rows_after_line, IsApplied, purged-unapplied, Firm, of, after_edit, Item, after_told, after_item, after_items, counted_as, Heard, Own, own_of, own_of_item, after_asked, after_ask, firm_step, solo_rows, DayRun, RunsOn, OnceOnly, LineOnceOnly}
+use Rattle.trust_desk.proofs.Names.{◌≡◌, ℕ, Bool, true, false, List, [], ◌++◌, Option, Some, None, refl, sym, ap, ◌∙◌, subst, cond-true, is_some, false≢true, Refusal, Edit, BankLine, LineEffect, Rows, is_purged, Asked, facts_of, is_repeat, last_after, refusal, edit_on, rows_after, line_on, rows_after_line, IsApplied, purged-unapplied, Firm, of, after_edit, Item, after_told, after_item, after_items, counted_as, Heard, Own, own_of, own_of_item, after_asked, after_ask, firm_step, solo_rows, DayRun, RunsOn, OnceOnly, LineOnceOnly}
 use Rattle.matter_parts.specs.declared.edit.Edit.TheVariants as edit
 use Rattle.trust_matter.specs.declared.line_verdict.LineEffect.TheVariants as told
 use Rattle.trust_matter.proofs.Purging.{refused}
@@ -7,7 +7,7 @@ use Rattle.statement_csv.specs.declared.item.Item.TheVariants as item
 use Rattle.trust_desk.specs.declared.importing.Counted.TheVariants as counted
 use Rattle.trust_desk.proofs.LineFacts.{asked-later, repeat-later}
 use Rattle.trust_desk.proofs.OwnItems.{solo_rows-append, of-after_item, of-after_line}
-use Rattle.trust_desk.proofs.Own.{of-after_ask, own-rows}
+use Rattle.trust_desk.proofs.Own.{of-after_asked, own-rows}
 use Rattle.trust_desk.proofs.OnceRuns.{all-keep, runs-keep}
 
 -- later rows are those after some of what comes to a matter
@@ -33,10 +33,6 @@ unchanged : (o : Option Refusal) (m : ℕ) (a : Asked) (firm : Firm) → edit_on
 unchanged None m a firm none = ap (λ (e : Edit). after_edit m e (last_after (of m firm).head e a.day) firm) none
 unchanged (Some r) m a firm none = refl
 
-nothing : (b : Bool) (e : Edit) → b ≡ true → cond b edit.Nothing e ≡ edit.Nothing
-nothing true e h = refl
-nothing false e h = absurd (cc)
-
 refused-leaves : (o : Option Refusal) (m : ℕ) (a : Asked) (firm : Firm) → is_some o ≡ true → after_asked o m a firm ≡ firm
 refused-leaves None m a firm is = absurd (false≢true is)
 refused-leaves (Some r) m a firm is = refl
@@ -44,7 +40,7 @@ refused-leaves (Some r) m a firm is = refl
 pub once-only : OnceOnly
 once-only m a again firm new between makes accepted runs same =
     let later = runs-later m (after_ask m a firm) new between runs in
-    let rows : of m new ≡ solo_rows (rows_after (of m firm) a) later.0 = later.1 ∙ ap (λ r. solo_rows r later.0) (of-after_ask m a firm) in
+    let rows : of m new ≡ solo_rows (rows_after (of m firm) a) later.0 = later.1 ∙ ap (λ r. solo_rows r later.0) (of-after_asked (refusal (of m firm) a) m a firm) in
     let repeat : is_purged (of m new).head ≡ false → is_repeat (facts_of (of m new) again.ask) again ≡ true = λ kept.
     subst (λ (r : Rows). is_repeat (facts_of r again.ask) again ≡ true) (sym rows)
     (asked-later (of m firm) a again later.0 makes accepted same (subst (λ (r : Rows). is_purged r.head ≡ false) rows kept)) in
@@ -52,25 +48,19 @@ once-only m a again firm new between makes accepted runs same =
   where
     same_firm : (b : Bool) → is_purged (of m new).head ≡ b → (is_purged (of m new).head ≡ false → is_repeat (facts_of (of m new) again.ask) again ≡ true) → after_ask m again new ≡ new
     same_firm true is repeat = refused-leaves (refusal (of m new) again) m again new (refused (facts_of (of m new) again.ask) again is)
-    same_firm false kept repeat = unchanged (refusal (of m new) again) m again new (nothing (is_repeat (facts_of (of m new) again.ask) again) _ (repeat kept))
+    same_firm false kept repeat = unchanged (refusal (of m new) again) m again new (cond-true (is_repeat (facts_of (of m new) again.ask) again) _ _ (repeat kept))
 
 -- A line.
 
 pub was-applied : (e : LineEffect) → counted_as e ≡ counted.Applied → IsApplied e
 was-applied (told.Applied e) is = tt
-was-applied told.Repeat is = absurd (cc)
-was-applied (told.Unmatched r) is = absurd (cc)
+was-applied _ is = absurd (cc)
 
 -- a line that is not applied leaves the rows and the movements
-rows-stay : (l : BankLine) (firm : Firm) (e : LineEffect) → (IsApplied e → ⊥) → (after_told l e firm).rows ≡ firm.rows
-rows-stay l firm (told.Applied e) none = absurd (none tt)
-rows-stay l firm told.Repeat none = refl
-rows-stay l firm (told.Unmatched r) none = refl
-
-movements-stay : (l : BankLine) (firm : Firm) (e : LineEffect) → (IsApplied e → ⊥) → (after_told l e firm).movements ≡ firm.movements
-movements-stay l firm (told.Applied e) none = absurd (none tt)
-movements-stay l firm told.Repeat none = refl
-movements-stay l firm (told.Unmatched r) none = refl
+both-stay : (l : BankLine) (firm : Firm) (e : LineEffect) → (IsApplied e → ⊥)
+    → ((after_told l e firm).rows ≡ firm.rows) × ((after_told l e firm).movements ≡ firm.movements)
+both-stay l firm (told.Applied e) none = absurd (none tt)
+both-stay l firm _ none = (refl, refl)
 
 not-applied : (firm : Firm) (l : BankLine) (day : ℕ) (b : Bool) → is_purged (of l.matter firm).head ≡ b → (is_purged (of l.matter firm).head ≡ false → line_on (of l.matter firm) l day ≡ told.Repeat) → IsApplied (line_on (of l.matter firm) l day) → ⊥
 not-applied firm l day true is repeat applied = purged-unapplied (of l.matter firm) l day is applied
@@ -88,9 +78,9 @@ line-once-only l again day later firm mid rest front between applied same runs =
     let own : is_purged (of m now).head ≡ false = subst (λ (k : ℕ). is_purged (of k now).head ≡ false) same.matter kept in
     let solo : is_purged (solo_rows (rows_after_line (of m firm) l day) all.0).head ≡ false = subst (λ (r : Rows). is_purged r.head ≡ false) rows own in
     (λ i. line_on (of (same.matter i) now) again later) ∙ (ap (λ r. line_on r again later) rows ∙ repeat-later (of m firm) l again day later all.0 (was-applied (line_on (of m firm) l day) applied) same.line solo) in
-    let none : IsApplied (line_on (of again.matter now) again later) → ⊥ = not-applied now again later (is_purged (of again.matter now).head) refl repeat in
+    let stay = both-stay again now (line_on (of again.matter now) again later) (not-applied now again later (is_purged (of again.matter now).head) refl repeat) in
     record {
-      rows = rows-stay again now (line_on (of again.matter now) again later) none;
-      movements = movements-stay again now (line_on (of again.matter now) again later) none;
+      rows = stay.0;
+      movements = stay.1;
       repeat = λ kept. record { repeat = ap counted_as (repeat kept); leaves = ap (λ e. after_told again e now) (repeat kept) };
     }

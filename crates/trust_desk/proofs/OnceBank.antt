@@ -1,11 +1,11 @@
 -- A line of the firm's own, and a balance, that were applied are so once after every run.
-use Rattle.trust_desk.proofs.Names.{◌≡◌, ◌≢◌, ℕ, Bool, true, false, List, ◌∷◌, Option, Some, None, refl, sym, ap, ◌∙◌, subst, ℤ, ◌&&◌, ◌==◌, nat_le, if◌then◌else◌, list_any, int_eq, bytes_eq, Decides-int_eq, Line, Edit, BalanceKind, FirmLine, Verdict, Firm, after_edit, FirmChange, FitsFirm, after, by_balance, by_firm_line, is_kept_as, is_bookable, kept_balance, balance_verdict, edit-leaves, line-kept, lines-stay, balance-kept, balances-stay, Item, after_balance, after_item, after_items, balance_item, balance_on, counted_by, counted_of, firm_line_on, DayRun, RunsOn, IsRepeated, IsUnmatched, IsSameFirmLine, FirmLineOnce, IsBalanceOver, BalanceOnce}
+use Rattle.trust_desk.proofs.Names.{◌≡◌, ◌≢◌, ℕ, Bool, true, false, Option, Some, None, refl, sym, ap, ◌∙◌, subst, ℤ, ◌&&◌, ◌==◌, nat_le, if◌then◌else◌, list_any, int_eq, bytes_eq, Decides-int_eq, Line, Edit, BalanceKind, FirmLine, Verdict, Firm, after_edit, after, by_balance, by_firm_line, is_kept_as, is_bookable, kept_balance, balance_verdict, edit-leaves, line-kept, lines-stay, balance-kept, balances-stay, after_balance, after_item, after_items, balance_item, balance_on, counted_by, counted_of, firm_line_on, IsRepeated, IsUnmatched, IsSameFirmLine, FirmLineOnce, IsBalanceOver, BalanceOnce}
 use Rattle.firm_rows.specs.declared.ledger.BalanceKind.TheVariants as kind
 use Rattle.firm_rows.specs.declared.ledger.Verdict.TheVariants as own
 use Rattle.firm_rows.specs.LinesStay.{is_line_kept}
 use Rattle.statement_csv.specs.declared.item.Item.TheVariants as item
 use Rattle.trust_desk.specs.declared.importing.Counted.TheVariants as counted
-use Rattle.trust_desk.proofs.OnceRuns.{all-keep, each-item, each-step}
+use Rattle.trust_desk.proofs.OnceRuns.{changes-keep}
 
 -- A line of the firm's own.
 
@@ -25,17 +25,8 @@ line-first day firm line some = cases (list_any (is_kept_as line) firm.firm_line
 abbrev KeepsLine : Line → Firm → Type 0
 KeepsLine line firm = is_line_kept line firm ≡ true
 
-line-changes : (line : Line) (change : FirmChange) (firm : Firm) → FitsFirm firm change → KeepsLine line firm → KeepsLine line (after change firm)
-line-changes line change firm fits kept = lines-stay line change firm kept
-
 line-edits : (line : Line) (m : ℕ) (e : Edit) (last : ℕ) (firm : Firm) → KeepsLine line firm → KeepsLine line (after_edit m e last firm)
 line-edits line m e last firm kept = ap (list_any (is_kept_as line)) (edit-leaves m e last firm).0 ∙ kept
-
-line-later : (line : Line) (day later : ℕ) (firm mid : Firm) (it : Item) (rest front : List Item) (between : List DayRun)
-    → RunsOn (after_items day firm (it ∷ rest)) between mid → KeepsLine line (after_item day firm it) → KeepsLine line (after_items later mid front)
-line-later line =
-    all-keep (KeepsLine line) (each-item (KeepsLine line) (line-changes line) (line-edits line))
-    (each-step (KeepsLine line) (line-changes line) (line-edits line))
 
 -- the same line is kept as well
 same-kept : (line again : Line) (firm : Firm) → IsSameFirmLine line again → KeepsLine line firm → KeepsLine again firm
@@ -51,7 +42,8 @@ line-repeat day firm line kept =
 pub firm-line-once : FirmLineOnce
 firm-line-once line again day later firm mid rest front between some same runs =
     let now = after_items later mid front in
-    line-repeat later now again (same-kept line again now same (line-later line day later firm mid (item.OfFirm line) rest front between runs (line-first day firm line some)))
+    line-repeat later now again (same-kept line again now same
+    (changes-keep (KeepsLine line) (λ change f fits kept. lines-stay line change f kept) (line-edits line) day later firm mid (item.OfFirm line) rest front between runs (line-first day firm line some)))
 
 -- A balance.
 
@@ -84,17 +76,8 @@ balance-first k day firm line some = cases (kept_balance k line.date firm.balanc
     cases (Some amount) kept some = again amount (int_eq amount line.amount) refl kept some
 
 -- and stays kept
-balance-changes : (k : BalanceKind) (line : Line) (change : FirmChange) (firm : Firm) → FitsFirm firm change → KeepsBalance k line firm → KeepsBalance k line (after change firm)
-balance-changes k line change firm fits kept = balances-stay k line.date line.amount change firm fits kept
-
 balance-edits : (k : BalanceKind) (line : Line) (m : ℕ) (e : Edit) (last : ℕ) (firm : Firm) → KeepsBalance k line firm → KeepsBalance k line (after_edit m e last firm)
 balance-edits k line m e last firm kept = ap (kept_balance k line.date) (edit-leaves m e last firm).1 ∙ kept
-
-balance-later : (k : BalanceKind) (line : Line) (day later : ℕ) (firm mid : Firm) (it : Item) (rest front : List Item) (between : List DayRun)
-    → RunsOn (after_items day firm (it ∷ rest)) between mid → KeepsBalance k line (after_item day firm it) → KeepsBalance k line (after_items later mid front)
-balance-later k line =
-    all-keep (KeepsBalance k line) (each-item (KeepsBalance k line) (balance-changes k line) (balance-edits k line))
-    (each-step (KeepsBalance k line) (balance-changes k line) (balance-edits k line))
 
 -- where it is kept, the rule answers by the amount alone
 module _ (day : ℕ) (firm : Firm) (k : BalanceKind) (line again : Line) (date : again.date ≡ line.date) (kept : KeepsBalance k line firm) where
@@ -123,4 +106,5 @@ balance-once k line again day later firm mid rest front between some date runs =
     let first : KeepsBalance k line (after_item day firm (balance_item k line)) =
     subst (KeepsBalance k line) (sym (after-balance k day firm line))
     (balance-first k day firm line (λ is. some (counted-balance k day firm line ∙ is))) in
-    balance-over later (after_items later mid front) k line again date (balance-later k line day later firm mid (balance_item k line) rest front between runs first)
+    balance-over later (after_items later mid front) k line again date
+    (changes-keep (KeepsBalance k line) (balances-stay k line.date line.amount) (balance-edits k line) day later firm mid (balance_item k line) rest front between runs first)

@@ -1,5 +1,5 @@
 -- What every item and every step of a firm keeps, every run keeps.
-use Rattle.trust_desk.proofs.Names.{◌≡◌, ℕ, Bool, true, false, List, [], ◌∷◌, Option, Some, None, refl, sym, subst, MatchBool, Refusal, Line, Edit, last_after, BankLine, LineEffect, Asked, line_on, refusal, edit_on, BalanceKind, Firm, of, after_edit, FirmChange, Repeated, Unmatched, after, FitsFirm, by_balance, by_firm_line, balance-fits, firm_line-fits, Item, Reply, after_told, after_item, after_items, after_balance, balance_on, firm_line_on, Heard, Kind, OfMatter, OfItems, Dismisses, OnlyTold, NotRead, kind_of, asked_on, dismiss_refusal, dismissed_unless, is_fault_reply, after_asked, firm_step, kind_step, IsStopped, KindStopped, Steps, Runs, DayRun, RunsOn}
+use Rattle.trust_desk.proofs.Names.{◌≡◌, ℕ, Bool, true, false, List, [], ◌∷◌, Option, Some, None, refl, sym, subst, MatchBool, Refusal, Line, Edit, last_after, BankLine, LineEffect, Asked, line_on, refusal, edit_on, BalanceKind, Firm, of, after_edit, FirmChange, Repeated, Unmatched, after, FitsFirm, by_balance, by_firm_line, balance-fits, firm_line-fits, Item, Reply, after_told, after_item, after_items, after_balance, balance_on, firm_line_on, Heard, Kind, OfMatter, OfItems, Dismisses, kind_of, asked_on, dismiss_refusal, dismissed_unless, is_fault_reply, after_asked, firm_step, kind_step, IsStopped, KindStopped, Steps, Runs, DayRun, RunsOn}
 use Rattle.trust_matter.specs.declared.line_verdict.LineEffect.TheVariants as told
 use Rattle.firm_rows.specs.declared.ledger.BalanceKind.TheVariants as kind
 use Rattle.statement_csv.specs.declared.item.Item.TheVariants as item
@@ -15,11 +15,8 @@ module _ (P : Firm → Type 0) (item-keeps : (day : ℕ) (firm : Firm) (it : Ite
 
 module _ (P : Firm → Type 0) (item-keeps : (day : ℕ) (firm : Firm) (it : Item) → P firm → P (after_item day firm it)) (step-keeps : (day : ℕ) (firm : Firm) (h : Heard) → P firm → P (firm_step day firm h).firm) where
   stopped-keeps : (day : ℕ) (firm new : Firm) (k : Kind) → KindStopped day firm k new → P firm → P new
-  stopped-keeps day firm new (OfMatter n caller ask) stop is = subst P (sym stop) is
   stopped-keeps day firm new (OfItems refused items) stop is = subst P (sym stop.1.leaves) (items-keep P item-keeps day firm stop.1.front is)
-  stopped-keeps day firm new (Dismisses caller line) stop is = subst P (sym stop) is
-  stopped-keeps day firm new (OnlyTold text) stop is = subst P (sym stop) is
-  stopped-keeps day firm new (NotRead n r) stop is = subst P (sym stop) is
+  stopped-keeps day firm new _ stop is = subst P (sym stop) is
 
   one-keeps : (day : ℕ) (firm new : Firm) (h : Heard) (reply : Reply) → Steps day firm h reply new → P firm → P new
   one-keeps day firm new h reply step is = cases (is_fault_reply reply) step
@@ -32,9 +29,8 @@ module _ (P : Firm → Type 0) (item-keeps : (day : ℕ) (firm : Firm) (it : Ite
 
   run-keeps : (day : ℕ) (firm new : Firm) (hs : List Heard) (replies : List Reply) → Runs day firm hs replies new → P firm → P new
   run-keeps day firm new [] [] run is = subst P (sym run) is
-  run-keeps day firm new [] (reply ∷ replies) run is = absurd run
-  run-keeps day firm new (h ∷ hs) [] run is = absurd run
   run-keeps day firm new (h ∷ hs) (reply ∷ replies) run is = run-keeps day run.0 new hs replies run.2 (one-keeps day firm run.0 h reply run.1 is)
+  run-keeps day firm new _ _ run is = absurd run
 
   pub runs-keep : (firm new : Firm) (runs : List DayRun) → RunsOn firm runs new → P firm → P new
   runs-keep firm new [] run is = subst P (sym run) is
@@ -59,7 +55,7 @@ module _ (P : Firm → Type 0) (change-keeps : (change : FirmChange) (firm : Fir
       let v = balance_on firm k line day in
       change-keeps (by_balance k line v) firm (balance-fits firm k line v (day, refl)) is
 
-  pub each-item : (day : ℕ) (firm : Firm) (it : Item) → P firm → P (after_item day firm it)
+  each-item : (day : ℕ) (firm : Firm) (it : Item) → P firm → P (after_item day firm it)
   each-item day firm (item.Opening line) is = balance-keeps day firm kind.Opening line is
   each-item day firm (item.Closing line) is = balance-keeps day firm kind.Closing line is
   each-item day firm (item.OfMatter l) is = told-keeps l (line_on (of l.matter firm) l day) firm is
@@ -81,8 +77,11 @@ module _ (P : Firm → Type 0) (change-keeps : (change : FirmChange) (firm : Fir
   each-kind day firm (OfMatter m caller ask) is = asked-keeps (refusal (of m firm) (asked_on day caller ask)) m (asked_on day caller ask) firm is
   each-kind day firm (OfItems refused items) is = items-keep P each-item day firm items is
   each-kind day firm (Dismisses caller line) is = dismissed-keeps (dismiss_refusal caller line firm) line firm is
-  each-kind day firm (OnlyTold text) is = is
-  each-kind day firm (NotRead n r) is = is
+  each-kind day firm _ is = is
 
-  pub each-step : (day : ℕ) (firm : Firm) (h : Heard) → P firm → P (firm_step day firm h).firm
+  each-step : (day : ℕ) (firm : Firm) (h : Heard) → P firm → P (firm_step day firm h).firm
   each-step day firm h is = each-kind day firm (kind_of h) is
+
+  pub changes-keep : (day later : ℕ) (firm mid : Firm) (it : Item) (rest front : List Item) (between : List DayRun)
+      → RunsOn (after_items day firm (it ∷ rest)) between mid → P (after_item day firm it) → P (after_items later mid front)
+  changes-keep = all-keep P each-item each-step

@@ -1,24 +1,18 @@
 -- Each matter's replies and rows in a run of the firm are those of its own machine.
-use Rattle.trust_desk.proofs.Names.{◌≡◌, ◌≢◌, ℕ, Bool, true, false, cond, List, [], ◌∷◌, ◌++◌, Option, Some, None, refl, sym, ap, ◌∙◌, subst, arith, length, take, get_or, MatchBool, ◌==◌, list_any, nat_tests, Line, Refusal, Asked, last_after, refusal, edit_on, rows_after, Firm, of, of-after_edit, of_other-after_edit, Request, Reply, names_item, Heard, Kind, OfMatter, OfItems, Dismisses, OnlyTold, NotRead, kind_of, OwnAsk, OwnRefusal, heard, names, kind_names, concerns, kind_concerns, own_if, own_of, kind_own, project, told, asked_on, is_the, dismiss_refusal, dismissed_unless, is_fault_reply, reply_of, refused, after_asked, after_ask, firm_step, kind_step, KindStopped, IsStopped, Steps, Runs, IsUnstopped, solo_rows, solo_replies}
+use Rattle.trust_desk.proofs.Names.{◌≡◌, ◌≢◌, ℕ, Bool, true, false, cond, List, [], ◌∷◌, ◌++◌, Option, Some, None, refl, sym, ap, ◌∙◌, subst, length, take, get_or, MatchBool, ◌==◌, cond_both, eqb-true, eqb-false, list_any, Line, Refusal, Asked, last_after, refusal, edit_on, rows_after, Firm, of, of-after_edit, of_other-after_edit, Request, Reply, names_item, Heard, Kind, OfMatter, OfItems, Dismisses, OnlyTold, NotRead, kind_of, OwnAsk, OwnRefusal, heard, names, kind_names, concerns, kind_concerns, own_if, own_of, kind_own, project, told, asked_on, is_the, dismiss_refusal, dismissed_unless, is_fault_reply, reply_of, refused, after_asked, after_ask, firm_step, kind_step, KindStopped, IsStopped, Steps, Runs, IsUnstopped, solo_rows, solo_replies}
 use Rattle.trust_matter.specs.Step.{after}
 use Rattle.trust_desk.specs.Isolation.{IsOwn, KeepsOthers, EachMatterOwn, SameForTheMatter}
 use Rattle.trust_desk.proofs.OwnItems.{solo_rows-append, solo_replies-append, of-after_items, silent-items, none-front, unnamed-items}
 
 -- An ask is seen in its matter, and in no other.
 
-pub of-after_ask : (m : ℕ) (a : Asked) (firm : Firm) → of m (after_ask m a firm) ≡ rows_after (of m firm) a
-of-after_ask m a firm = cases (refusal (of m firm) a)
-  where
-    cases : (o : Option Refusal) → of m (after_asked o m a firm) ≡ after o (edit_on (of m firm) a) a.day (of m firm)
-    cases None = of-after_edit m (edit_on (of m firm) a) (last_after (of m firm).head (edit_on (of m firm) a) a.day) firm
-    cases (Some r) = refl
+pub of-after_asked : (o : Option Refusal) (m : ℕ) (a : Asked) (firm : Firm) → of m (after_asked o m a firm) ≡ after o (edit_on (of m firm) a) a.day (of m firm)
+of-after_asked None m a firm = of-after_edit m (edit_on (of m firm) a) (last_after (of m firm).head (edit_on (of m firm) a) a.day) firm
+of-after_asked (Some r) m a firm = refl
 
-pub of_other-after_ask : (n m : ℕ) (a : Asked) (firm : Firm) → n ≢ m → of n (after_ask m a firm) ≡ of n firm
-of_other-after_ask n m a firm apart = cases (refusal (of m firm) a)
-  where
-    cases : (o : Option Refusal) → of n (after_asked o m a firm) ≡ of n firm
-    cases None = of_other-after_edit n m (edit_on (of m firm) a) (last_after (of m firm).head (edit_on (of m firm) a) a.day) firm apart
-    cases (Some r) = refl
+of_other-after_asked : (o : Option Refusal) (n m : ℕ) (a : Asked) (firm : Firm) → n ≢ m → of n (after_asked o m a firm) ≡ of n firm
+of_other-after_asked None n m a firm apart = of_other-after_edit n m (edit_on (of m firm) a) (last_after (of m firm).head (edit_on (of m firm) a) a.day) firm apart
+of_other-after_asked (Some r) n m a firm apart = refl
 
 -- A step is for each matter that of its own machine.
 
@@ -37,43 +31,31 @@ dismissed-rows m None line firm = refl
 dismissed-rows m (Some r) line firm = refl
 
 kind-rows : (m day : ℕ) (firm : Firm) (k : Kind) → of m (kind_step day firm k).firm ≡ solo_rows (of m firm) (kind_own m day k)
-kind-rows m day firm (OfMatter n caller ask) = cases (n == m) refl
-  where
-    a : Asked
-    a = asked_on day caller ask
-
-    cases : (b : Bool) → (n == m) ≡ b → of m (after_ask n a firm) ≡ solo_rows (of m firm) (own_if b (OwnAsk a))
-    cases true same_test = let same : n ≡ m = grind (arith, nat_tests) in subst (λ (k : ℕ). of k (after_ask n a firm) ≡ rows_after (of k firm) a) same (of-after_ask n a firm)
-    cases false other_test = of_other-after_ask m n a firm (λ same. absurd (grind (arith, nat_tests)))
+kind-rows m day firm (OfMatter n caller ask) =
+    let a = asked_on day caller ask in
+    cond_both (n == m) (OwnAsk a ∷ []) [] (λ owns. of m (after_ask n a firm) ≡ solo_rows (of m firm) owns)
+    (λ same. subst (λ (k : ℕ). of k (after_ask n a firm) ≡ rows_after (of k firm) a) (eqb-true n m same) (of-after_asked (refusal (of n firm) a) n a firm))
+    (λ other. of_other-after_asked (refusal (of n firm) a) m n a firm (λ same. eqb-false n m other (sym same)))
 kind-rows m day firm (OfItems refused items) = of-after_items m day firm items
 kind-rows m day firm (Dismisses caller line) = dismissed-rows m (dismiss_refusal caller line firm) line firm
 kind-rows m day firm (OnlyTold text) = refl
-kind-rows m day firm (NotRead n r) = cases (is_the m n)
-  where
-    cases : (b : Bool) → of m firm ≡ solo_rows (of m firm) (own_if b (OwnRefusal r))
-    cases true = refl
-    cases false = refl
+kind-rows m day firm (NotRead n r) =
+    cond_both (is_the m n) (OwnRefusal r ∷ []) [] (λ owns. of m firm ≡ solo_rows (of m firm) owns) (λ is. refl) (λ is. refl)
 
 pub own-rows : (m day : ℕ) (firm : Firm) (h : Heard) → of m (firm_step day firm h).firm ≡ solo_rows (of m firm) (own_of m day h)
 own-rows m day firm h = kind-rows m day firm (kind_of h)
 
 kind-reply : (m day : ℕ) (firm : Firm) (k : Kind) → reply_if (kind_names m k) (kind_step day firm k).reply ≡ solo_replies m (of m firm) (kind_own m day k)
-kind-reply m day firm (OfMatter n caller ask) = cases (n == m) refl
-  where
-    a : Asked
-    a = asked_on day caller ask
-
-    cases : (b : Bool) → (n == m) ≡ b → reply_if b (reply_of n (of n firm) a) ≡ solo_replies m (of m firm) (own_if b (OwnAsk a))
-    cases true same_test = let same : n ≡ m = grind (arith, nat_tests) in ap (λ k. reply_of k (of k firm) a ∷ []) same
-    cases false other_test = refl
+kind-reply m day firm (OfMatter n caller ask) =
+    let a = asked_on day caller ask in
+    elim (n == m) as (λ b. (n == m) ≡ b → reply_if b (reply_of n (of n firm) a) ≡ solo_replies m (of m firm) (own_if b (OwnAsk a))) [
+      | true ↦ λ same. ap (λ k. reply_of k (of k firm) a ∷ []) (eqb-true n m same)
+      | false ↦ λ other. refl
+    ] refl
 kind-reply m day firm (OfItems refused items) = sym (silent-items m day (of m firm) items)
-kind-reply m day firm (Dismisses caller line) = refl
-kind-reply m day firm (OnlyTold text) = refl
-kind-reply m day firm (NotRead n r) = cases (is_the m n)
-  where
-    cases : (b : Bool) → reply_if b (refused r) ≡ solo_replies m (of m firm) (own_if b (OwnRefusal r))
-    cases true = refl
-    cases false = refl
+kind-reply m day firm (NotRead n r) =
+    elim (is_the m n) as (λ b. reply_if b (refused r) ≡ solo_replies m (of m firm) (own_if b (OwnRefusal r))) [ true ↦ refl | false ↦ refl ]
+kind-reply m day firm _ = refl
 
 pub own-reply : (m day : ℕ) (firm : Firm) (h : Heard) → reply_if (names m h) (firm_step day firm h).reply ≡ solo_replies m (of m firm) (own_of m day h)
 own-reply m day firm h = kind-reply m day firm (kind_of h)
@@ -93,31 +75,27 @@ same-reply m day f g h named same = cases (names m h) named (own-reply m day f h
 -- What does not concern a matter.
 
 kind-other : (m day : ℕ) (firm : Firm) (k : Kind) → kind_concerns m k ≡ false → of m (kind_step day firm k).firm ≡ of m firm
-kind-other m day firm (OfMatter n caller ask) other = of_other-after_ask m n (asked_on day caller ask) firm (λ same. absurd (grind (arith, nat_tests)))
+kind-other m day firm (OfMatter n caller ask) other =
+    let a = asked_on day caller ask in
+    of_other-after_asked (refusal (of n firm) a) m n a firm (λ same. eqb-false n m other (sym same))
 kind-other m day firm (OfItems refused items) other = unnamed-items m day firm items other
 kind-other m day firm (Dismisses caller line) other = dismissed-rows m (dismiss_refusal caller line firm) line firm
-kind-other m day firm (OnlyTold text) other = refl
-kind-other m day firm (NotRead n r) other = refl
+kind-other m day firm _ other = refl
 
 pub other-rows : (m day : ℕ) (firm : Firm) (h : Heard) → concerns m h ≡ false → of m (firm_step day firm h).firm ≡ of m firm
 other-rows m day firm h other = kind-other m day firm (kind_of h) other
 
 unnamed : (m : ℕ) (k : Kind) → kind_concerns m k ≡ false → kind_names m k ≡ false
 unnamed m (OfMatter n caller ask) other = other
-unnamed m (OfItems refused items) other = refl
-unnamed m (Dismisses caller line) other = refl
-unnamed m (OnlyTold text) other = refl
 unnamed m (NotRead n r) other = other
+unnamed m _ other = refl
 
 stopped-rows : (m day : ℕ) (firm new : Firm) (k : Kind) → KindStopped day firm k new → kind_concerns m k ≡ false → of m new ≡ of m firm
-stopped-rows m day firm new (OfMatter n caller ask) is other = ap (of m) is
 stopped-rows m day firm new (OfItems refused items) is other =
     let left = is.1 in
     let whole : list_any (names_item m) (left.front ++ is.0) ≡ false = ap (list_any (names_item m)) left.parts ∙ other in
     ap (of m) left.leaves ∙ unnamed-items m day firm left.front (none-front m left.front is.0 whole)
-stopped-rows m day firm new (Dismisses caller line) is other = ap (of m) is
-stopped-rows m day firm new (OnlyTold text) is other = ap (of m) is
-stopped-rows m day firm new (NotRead n r) is other = ap (of m) is
+stopped-rows m day firm new _ is other = ap (of m) is
 
 pub keeps-others : (day : ℕ) (firm new : Firm) (h : Heard) (reply : Reply) → Steps day firm h reply new → KeepsOthers firm h new
 keeps-others day firm new h reply step m other = cases (is_fault_reply reply) step
@@ -168,10 +146,9 @@ own-more m day firm mid new h hs reply replies one more = record {
 
 pub each-own : EachMatterOwn
 each-own m day firm [] [] new fine run = record { answers = refl; rows = ap (of m) run }
-each-own m day firm [] (reply ∷ replies) new fine run = absurd run
-each-own m day firm (h ∷ hs) [] new fine run = absurd run
 each-own m day firm (h ∷ hs) (reply ∷ replies) new fine run =
     own-more m day firm run.0 new h hs reply replies (steps-own m day firm run.0 h reply fine.0 run.1) (each-own m day run.0 hs replies new fine.1 run.2)
+each-own m day firm _ _ new fine run = absurd run
 
 pub same-for_the_matter : SameForTheMatter
 same-for_the_matter m d e f g ps qs rs ss f' g' rows heard fine well here there =

@@ -1,5 +1,5 @@
 -- What the items of a statement do to a matter is what its own machine does with the lines that name it.
-use Rattle.trust_desk.proofs.Names.{◌≡◌, ◌≢◌, ℕ, Bool, true, false, ◌||◌, List, [], ◌∷◌, ◌++◌, refl, sym, ap, ◌∙◌, subst, append_assoc, arith, ◌==◌, list_any, nat_tests, BankLine, LineEffect, Rows, line_on, after_line_effect, rows_after_line, Line, BalanceKind, Verdict, Firm, of, after, by_balance, by_firm_line, of-after_edit, of_other-after_edit, Item, after_told, after_item, after_items, balance_on, firm_line_on, names_item, Own, OwnLine, own_if, own_of_item, own_of_items, own_rows, own_reply, solo_rows, solo_replies}
+use Rattle.trust_desk.proofs.Names.{◌≡◌, ◌≢◌, ℕ, false, ◌||◌, List, [], ◌∷◌, ◌++◌, refl, sym, ap, ◌∙◌, subst, append_assoc, ◌==◌, cond_both, eqb-true, eqb-false, or_parts, list_any, BankLine, LineEffect, Rows, line_on, after_line_effect, rows_after_line, Line, BalanceKind, Verdict, Firm, of, after, by_balance, by_firm_line, of-after_edit, of_other-after_edit, Item, after_told, after_item, after_items, balance_on, firm_line_on, names_item, Own, OwnLine, own_if, own_of_item, own_of_items, own_rows, own_reply, solo_rows, solo_replies}
 use Rattle.trust_matter.specs.declared.line_verdict.LineEffect.TheVariants as told
 use Rattle.firm_rows.specs.declared.ledger.BalanceKind.TheVariants as kind
 use Rattle.firm_rows.specs.declared.ledger.Verdict.TheVariants as own
@@ -21,47 +21,37 @@ solo_replies-append m rows (x ∷ xs) ys =
 
 of-after_told : (l : BankLine) (e : LineEffect) (firm : Firm) → of l.matter (after_told l e firm) ≡ after_line_effect e (of l.matter firm)
 of-after_told l (told.Applied e) firm = of-after_edit l.matter e.edit e.last firm
-of-after_told l told.Repeat firm = refl
-of-after_told l (told.Unmatched r) firm = refl
+of-after_told l _ firm = refl
 
 pub of-after_line : (l : BankLine) (day : ℕ) (firm : Firm) → of l.matter (after_item day firm (item.OfMatter l)) ≡ rows_after_line (of l.matter firm) l day
 of-after_line l day firm = of-after_told l (line_on (of l.matter firm) l day) firm
 
 of_other-after_told : (m : ℕ) (l : BankLine) (e : LineEffect) (firm : Firm) → m ≢ l.matter → of m (after_told l e firm) ≡ of m firm
 of_other-after_told m l (told.Applied e) firm apart = of_other-after_edit m l.matter e.edit e.last firm apart
-of_other-after_told m l told.Repeat firm apart = refl
-of_other-after_told m l (told.Unmatched r) firm apart = refl
+of_other-after_told m l _ firm apart = refl
 
 -- A line of the firm's own, or a balance, is seen in none.
 
 pub of-balance : (m : ℕ) (kind : BalanceKind) (line : Line) (v : Verdict) (firm : Firm) → of m (after (by_balance kind line v) firm) ≡ of m firm
 of-balance m kind line own.Applied firm = refl
-of-balance m kind line own.Repeat firm = refl
-of-balance m kind line own.Unmatched firm = refl
+of-balance m kind line _ firm = refl
 
 of-firm_line : (m : ℕ) (line : Line) (v : Verdict) (firm : Firm) → of m (after (by_firm_line line v) firm) ≡ of m firm
 of-firm_line m line own.Applied firm = refl
-of-firm_line m line own.Repeat firm = refl
-of-firm_line m line own.Unmatched firm = refl
+of-firm_line m line _ firm = refl
 
 -- An item.
 
 pub of-after_item : (m day : ℕ) (firm : Firm) (it : Item) → of m (after_item day firm it) ≡ solo_rows (of m firm) (own_of_item m day it)
 of-after_item m day firm (item.Opening line) = of-balance m kind.Opening line (balance_on firm kind.Opening line day) firm
 of-after_item m day firm (item.Closing line) = of-balance m kind.Closing line (balance_on firm kind.Closing line day) firm
-of-after_item m day firm (item.OfMatter l) = cases (l.matter == m) refl
-  where
-    edit : LineEffect
-    edit = line_on (of l.matter firm) l day
-
-    cases : (b : Bool) → (l.matter == m) ≡ b → of m (after_told l edit firm) ≡ solo_rows (of m firm) (own_if b (OwnLine l day))
-    cases true same_test =
-        let same : l.matter ≡ m = grind (arith, nat_tests) in
-        subst (λ (k : ℕ). of k (after_told l edit firm) ≡ rows_after_line (of k firm) l day) same (of-after_told l edit firm)
-    cases false other_test = of_other-after_told m l edit firm (λ same. absurd (grind (arith, nat_tests)))
+of-after_item m day firm (item.OfMatter l) =
+    let e = line_on (of l.matter firm) l day in
+    cond_both (l.matter == m) (OwnLine l day ∷ []) [] (λ owns. of m (after_told l e firm) ≡ solo_rows (of m firm) owns)
+    (λ same. subst (λ (k : ℕ). of k (after_told l e firm) ≡ rows_after_line (of k firm) l day) (eqb-true l.matter m same) (of-after_told l e firm))
+    (λ other. of_other-after_told m l e firm (λ same. eqb-false l.matter m other (sym same)))
 of-after_item m day firm (item.OfFirm line) = of-firm_line m line (firm_line_on firm line day) firm
-of-after_item m day firm (item.Stray line) = refl
-of-after_item m day firm (item.Unreadable number) = refl
+of-after_item m day firm _ = refl
 
 pub of-after_items : (m day : ℕ) (firm : Firm) (items : List Item) → of m (after_items day firm items) ≡ solo_rows (of m firm) (own_of_items m day items)
 of-after_items m day firm [] = refl
@@ -72,16 +62,9 @@ of-after_items m day firm (it ∷ items) =
 -- Lines give no reply.
 
 silent-item : (m day : ℕ) (rows : Rows) (it : Item) → solo_replies m rows (own_of_item m day it) ≡ []
-silent-item m day rows (item.Opening line) = refl
-silent-item m day rows (item.Closing line) = refl
-silent-item m day rows (item.OfMatter l) = cases (l.matter == m)
-  where
-    cases : (b : Bool) → solo_replies m rows (own_if b (OwnLine l day)) ≡ []
-    cases true = refl
-    cases false = refl
-silent-item m day rows (item.OfFirm line) = refl
-silent-item m day rows (item.Stray line) = refl
-silent-item m day rows (item.Unreadable number) = refl
+silent-item m day rows (item.OfMatter l) =
+    cond_both (l.matter == m) (OwnLine l day ∷ []) [] (λ owns. solo_replies m rows owns ≡ []) (λ is. refl) (λ is. refl)
+silent-item m day rows _ = refl
 
 pub silent-items : (m day : ℕ) (rows : Rows) (items : List Item) → solo_replies m rows (own_of_items m day items) ≡ []
 silent-items m day rows [] = refl
@@ -93,28 +76,20 @@ silent-items m day rows (it ∷ items) =
 -- A matter that no item names.
 
 none-item : (m day : ℕ) (it : Item) → names_item m it ≡ false → own_of_item m day it ≡ []
-none-item m day (item.Opening line) other = refl
-none-item m day (item.Closing line) other = refl
 none-item m day (item.OfMatter l) other = ap (λ b. own_if b (OwnLine l day)) other
-none-item m day (item.OfFirm line) other = refl
-none-item m day (item.Stray line) other = refl
-none-item m day (item.Unreadable number) other = refl
-
-neither : (a b : Bool) → (a || b) ≡ false → (a ≡ false) × (b ≡ false)
-neither true b h = absurd (cc)
-neither false b h = (refl, h)
+none-item m day _ other = refl
 
 pub none-items : (m day : ℕ) (items : List Item) → list_any (names_item m) items ≡ false → own_of_items m day items ≡ []
 none-items m day [] other = refl
 none-items m day (it ∷ items) other =
-    let n = neither (names_item m it) (list_any (names_item m) items) other in
+    let n = or_parts (names_item m it) (list_any (names_item m) items) other in
     λ i. none-item m day it n.0 i ++ none-items m day items n.1 i
 
 -- nor does a front of these items name it
 pub none-front : (m : ℕ) (front rest : List Item) → list_any (names_item m) (front ++ rest) ≡ false → list_any (names_item m) front ≡ false
 none-front m [] rest other = refl
 none-front m (it ∷ front) rest other =
-    let n = neither (names_item m it) (list_any (names_item m) (front ++ rest)) other in
+    let n = or_parts (names_item m it) (list_any (names_item m) (front ++ rest)) other in
     (λ i. n.0 i || list_any (names_item m) front) ∙ none-front m front rest n.1
 
 -- items of which none names the matter leave its rows

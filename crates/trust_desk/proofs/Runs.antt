@@ -1,32 +1,26 @@
 -- A run goes on by one request.
 use Rattle.trust_desk.proofs.Names.{◌≡◌, ℕ, ◌+◌, ◌<◌, List, [], ◌∷◌, ◌++◌, length, get_or, take, refl, sym, ap, ◌∙◌, subst, Firm, FirmSound, Request, Reply, Heard, Asks, heard, Steps, RunsSoundly, SoundRunsAreRuns, counted_reply, counted_replies}
-use Rattle.std.proofs.lemmas.List.{take_more}
+use Rattle.std.proofs.lemmas.List.{map-append, take_more}
 
 pub sound-runs-are-runs : SoundRunsAreRuns
 sound-runs-are-runs day firm new [] [] run = run
-sound-runs-are-runs day firm new [] (reply ∷ replies) run = absurd run
-sound-runs-are-runs day firm new (h ∷ hs) [] run = absurd run
 sound-runs-are-runs day firm new (h ∷ hs) (reply ∷ replies) run =
     (run.0, run.1, sound-runs-are-runs day run.0 new hs replies run.3)
+sound-runs-are-runs day firm new _ _ run = absurd run
 
 -- a run and one step more
 pub RunsSoundly-push : (day : ℕ) (f g h : Firm) (qs : List Heard) (q : Heard) (rs : List Reply) (r : Reply)
     → RunsSoundly day f qs rs g → Steps day g q r h → FirmSound h → RunsSoundly day f (qs ++ q ∷ []) (rs ++ r ∷ []) h
 RunsSoundly-push day f g h [] q [] r run step sound = (h, subst (λ (x : Firm). Steps day x q r h) run step, sound, refl)
-RunsSoundly-push day f g h [] q (s ∷ rs) r run step sound = absurd run
-RunsSoundly-push day f g h (p ∷ qs) q [] r run step sound = absurd run
 RunsSoundly-push day f g h (p ∷ qs) q (s ∷ rs) r run step sound =
     (run.0, run.1, run.2, RunsSoundly-push day run.0 g h qs q rs r run.3 step sound)
-
-heard-push : (qs : List Request) (q : Request) → heard (qs ++ q ∷ []) ≡ heard qs ++ Asks q ∷ []
-heard-push [] q = refl
-heard-push (p ∷ qs) q = ap (λ hs. Asks p ∷ hs) (heard-push qs q)
+RunsSoundly-push day f g h _ q _ r run step sound = absurd run
 
 -- one more request
 pub heard-more : (requests : List Request) (i : ℕ) (request : Request) → i < length requests → request ≡ get_or requests i request → heard (take (i + 1) requests) ≡ heard (take i requests) ++ Asks request ∷ []
 heard-more requests i request lt at =
     let front : take (i + 1) requests ≡ take i requests ++ request ∷ [] = take_more requests i request lt ∙ ap (λ q. take i requests ++ q ∷ []) (sym at) in
-    ap heard front ∙ heard-push (take i requests) request
+    ap heard front ∙ map-append Asks (take i requests) (request ∷ [])
 
 -- of a run
 pub run-more : (day : ℕ) (first now next : Firm) (requests : List Request) (i : ℕ) (request : Request) (replies after : List Reply) (reply : Reply) → i < length requests → request ≡ get_or requests i request

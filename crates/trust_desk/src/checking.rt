@@ -1,6 +1,6 @@
 //! Whether a book's rows are those of a sound firm.
 
-ghost use Rattle.std.specs.Prelude.{◌≡◌, IfErr, IfOk, None};
+ghost use Rattle.std.specs.Prelude.{◌≡◌, IfOk, None};
 ghost use Rattle.firm_rows.specs.FirmSound.{FirmSound};
 ghost use Rattle.trust_desk.specs.Checking.{AreCountsOf};
 ghost use Rattle.trust_store.specs.Calls.{IsRead};
@@ -61,33 +61,6 @@ fn counts_of(rows: &AllRows) -> RowCounts
     }
 }
 
-// Returns what is wrong with rows, and how many there are.
-fn checked_of(alloc: Global, rows: &AllRows) -> Result<Checked, StoreFault>
-    ensures sound { IfOk result (λ c. c.flaw ≡ None → FirmSound (firm_of_all rows.now)) }
-    ensures counts { IfOk result (λ c. AreCountsOf (firm_of_all rows.now) c.counts) }
-    ensures memory { IfErr result (λ fault. fault ≡ StoreFault.Memory) }
-{
-    let Ok(flaw) = audit(alloc, rows) else {
-        return Err(StoreFault::Memory);
-    };
-    Ok(Checked {
-        flaw,
-        counts: counts_of(rows),
-    })
-}
-
-// Checks the rows of a book.
-fn check<B: Book>(alloc: Global, book: &mut B) -> Result<Checked, StoreFault>
-    ensures sound { B.clean book.new → B.readable book.old
-        → IfOk result (λ c. c.flaw ≡ None → FirmSound (B.firm book.old)) }
-    ensures counts { B.clean book.new → B.readable book.old
-        → IfOk result (λ c. AreCountsOf (B.firm book.old) c.counts) }
-    ensures read { IsRead B.firm B.clean B.sure B.stands B.lasts B.leaves B.refusals result book.old book.new }
-{
-    let rows = book.all_rows(alloc)?;
-    checked_of(alloc, &rows)
-}
-
 impl<B: Book> Desk<B> {
     /// Reads all rows of the book, and returns how many there are and what is not sound in them. The store may hold
     /// anything that can be read as rows. If no flaw is returned, the rows are those of a sound firm. The book is
@@ -102,6 +75,13 @@ impl<B: Book> Desk<B> {
             → IfOk result (λ c. AreCountsOf (B.firm self.old) c.counts) }
         ensures read { IsRead B.firm B.clean B.sure B.stands B.lasts B.leaves B.refusals result self.old self.new }
     {
-        check(alloc, &mut self.book)
+        let rows = self.book.all_rows(alloc)?;
+        let Ok(flaw) = audit(alloc, &rows) else {
+            return Err(StoreFault::Memory);
+        };
+        Ok(Checked {
+            flaw,
+            counts: counts_of(&rows),
+        })
     }
 }

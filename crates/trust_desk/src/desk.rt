@@ -1,26 +1,17 @@
 //! The desk: takes requests and returns replies, over any book.
 
-ghost use Rattle.std.specs.Prelude.{◌≡◌, ℕ, List, IfOk, length, take, ◌<◌, ◌∷◌, [], false, is_none, true};
+ghost use Rattle.std.specs.Prelude.{◌≡◌, ℕ, IfOk, length, take, ◌<◌, ◌∷◌, [], false};
 ghost use Rattle.firm_rows.specs.Firm.{Firm, of};
 ghost use Rattle.trust_desk.specs.Kept.{IsKeptOf};
-ghost use Rattle.matter_rows.specs.Rows.{Rows};
-ghost use Rattle.matter_rows.specs.Sound.{Sound};
-ghost use Rattle.matter_parts.specs.Parts.{IsPart, IsWhole, kept_at};
-ghost use Rattle.trust_desk.specs.Plan.{Ends, IsBodyAfter, IsReadFor, IsWholeForCard, Plans, entry_text, kept_after};
-ghost use Rattle.trust_desk.specs.Crashes.{AreNoFaults, AreNoFaultsButLast, IsImport, IsMade, IsMadeInRun, MayLeave};
-ghost use Rattle.trust_desk.specs.Crashes.{MayLeaveChange, before_fault, is_fault_end};
-ghost use Rattle.trust_matter.specs.Facts.{number_named};
-ghost use Rattle.trust_matter.specs.KeptFacts.{holds_for};
-ghost use Rattle.trust_desk.specs.Counts.{counted_reply, counted_replies, counted_end};
-ghost use Rattle.trust_desk.specs.FirmStep.{Steps, RunsSoundly, IsUnstopped, after_ask, firm_step};
-ghost use Rattle.statement_csv.specs.Items.{items};
-ghost use Rattle.statement_csv.specs.declared.item.Item.{Item};
-ghost use Rattle.trust_desk.specs.ImportStep.{EndsItems, IsAfterFront, items_in};
-ghost use Rattle.trust_desk.specs.Heard.{Asks, Dismisses, Heard, OnlyTold, asked_on, heard, kind_of};
-ghost use Rattle.trust_reports.specs.TextsOfLedgers.{ledger_card_of};
+ghost use Rattle.trust_desk.specs.Plan.{IsBodyOf, IsReadFor};
+ghost use Rattle.trust_desk.specs.Crashes.{AreNoFaults, AreNoFaultsButLast, IsImport, IsMade, IsMadeInRun, MayLeave, before_fault};
+ghost use Rattle.trust_desk.specs.Counts.{counted_reply, counted_replies};
+ghost use Rattle.trust_desk.specs.FirmStep.{Steps, RunsSoundly, IsUnstopped, firm_step};
+ghost use Rattle.trust_desk.specs.ImportStep.{import_refusal, imported};
+ghost use Rattle.trust_desk.specs.Heard.{Asks, Dismisses, Heard, OfItems, OfMatter, OnlyTold, heard, kind_of};
 ghost use Rattle.trust_store.specs.Calls.{IsRead};
 ghost use Rattle.trust_desk.specs.Isolation.{IsOwn, KeepsOthers};
-ghost use Rattle.trust_desk.specs.Replies.{is_fault_reply, reply_for};
+ghost use Rattle.trust_desk.specs.Replies.{is_fault_reply};
 ghost use Rattle.trust_desk.specs.ReportStep.{found_text, report_for};
 ghost use Rattle.trust_desk.specs.Answered.{IsAnswered};
 ghost use Rattle.trust_desk.specs.Calls.{KeepsBook};
@@ -32,23 +23,16 @@ use crate::requests::{
     Body, End, MatchText, Reply, Report, Request, RunEnd, check_import, is_not_of_firm,
 };
 use crate::watching::NoWatch;
-use matter_bodies::{ImportReply, entry_body, import_body, matter_body, purge_body, receipt_body};
+use matter_bodies::{entry_body, import_body, matter_body, purge_body, receipt_body};
 use std::alloc::{AllocError, Global};
 use std::marker::Model;
 use trust_base::{Day, Line, MatterNo, OwnedBytes, Refusal, Rule, StoreFault};
-use trust_matter::{Ask, Caller, Change, Edit, Matter, decide, holds_for};
+use trust_matter::{Ask, Caller, Edit, Matter, decide, holds_for};
 use trust_reports::{
     JournalSink, ReconciliationSink, RetentionSink, TrialSink, journal_text, ledger_card,
     own_card_text, reconciliation_text, retention_text, trial_text,
 };
 use trust_store::Book;
-
-// The change that an ask makes and the reply to it, made before anything is written.
-#[derive(Drop)]
-struct Planned {
-    change: Change,
-    reply: Reply,
-}
 
 // Loads what an ask needs of a matter: for a ledger card the whole matter, and for any other ask the named entries.
 fn read_for<B: Book>(
@@ -68,96 +52,66 @@ fn read_for<B: Book>(
     }
 }
 
-// Writes the body of the entry that an ask names, with the change made; empty if it does not exist. An ask changes no
-// other entry.
-fn entry_after(
+// Writes the text for the reply to an ask, by the matter with the ask's change made. The entry that the ask names is
+// loaded or does not exist; if it does not, the text is empty. For a ledger card all entries are loaded.
+fn body_after(
     alloc: Global,
     no: MatterNo,
     matter: &Matter,
     ask: &Ask,
-    change: &Change,
 ) -> Result<Vec<u8>, AllocError>
-    ensures { IfOk result (λ bytes. bytes.items
-        ≡ entry_text no ask.now (kept_after (kept_at matter.now (number_named ask.now)) change.now)) }
-{
-    let (number, entry, left) = match change.edit() {
-        Edit::Append(written) | Edit::Exchange(written) => {
-            (written.number, &written.entry, change.moves().left)
-        }
-        Edit::Nothing
-        | Edit::Open(_)
-        | Edit::Seat(_)
-        | Edit::Unseat(_)
-        | Edit::Close(_)
-        | Edit::Clear(_) => match matter.kept_under(ask.number()) {
-            Some(kept) => (kept.number, &kept.entry, kept.left),
-            None => return Ok(Vec::new(alloc)),
-        },
-    };
-    match ask {
-        // An ask that makes an entry is answered with it as it was made, also when it comes again.
-        Ask::Deposit(_) | Ask::Propose(_) | Ask::EarnFee(_) | Ask::RaiseClaim(_) => {
-            receipt_body(alloc, no, number, entry)
-        }
-        _ => entry_body(alloc, no, number, entry, left),
-    }
-}
-
-// Writes the ledger card of a matter that has all its entries loaded.
-fn card_body(alloc: Global, no: MatterNo, matter: &Matter) -> Result<Vec<u8>, AllocError>
-    ensures { IfOk result (λ bytes. (rows : Rows) → Sound rows → IsWhole matter.now rows
-        → bytes.items ≡ ledger_card_of no rows) }
-{
-    let mut card = Vec::new(alloc);
-    ledger_card(no, matter, &mut card)?;
-    Ok(card)
-}
-
-// Writes the text for the reply to an ask, with its change made.
-fn body_after(
-    alloc: Global,
-    no: MatterNo,
-    mut matter: Matter,
-    ask: &Ask,
-    change: &Change,
-) -> Result<Vec<u8>, AllocError>
-    ensures { IfOk result (λ bytes. IsBodyAfter no ask.now matter change.now bytes.items) }
+    ensures { IfOk result (λ bytes. IsBodyOf no ask.now matter.now bytes.items) }
 {
     match ask {
         Ask::OpenMatter(_) | Ask::AddSeat(_) | Ask::DropSeat(_) | Ask::CloseMatter | Ask::Show => {
-            matter.apply(change)?;
-            matter_body(alloc, no, &matter)
+            matter_body(alloc, no, matter)
         }
-        Ask::Purge => {
-            matter.apply(change)?;
-            purge_body(alloc, no, &matter)
+        Ask::Purge => purge_body(alloc, no, matter),
+        Ask::Accounting => {
+            let mut card = Vec::new(alloc);
+            ledger_card(no, matter, &mut card)?;
+            Ok(card)
         }
-        Ask::Accounting => card_body(alloc, no, &matter),
-        _ => entry_after(alloc, no, &matter, ask, change),
+        // An ask that makes an entry is answered with it as it was made, also when it comes again.
+        Ask::Deposit(_) | Ask::Propose(_) | Ask::EarnFee(_) | Ask::RaiseClaim(_) => {
+            match matter.kept_under(ask.number()) {
+                Some(kept) => receipt_body(alloc, no, kept.number, &kept.entry),
+                None => Ok(Vec::new(alloc)),
+            }
+        }
+        Ask::CancelDeposit(_)
+        | Ask::Approve(_)
+        | Ask::Decline(_)
+        | Ask::VoidPayment(_)
+        | Ask::Offer(_)
+        | Ask::Accept(_)
+        | Ask::Award(_)
+        | Ask::ShowEntry(_) => match matter.kept_under(ask.number()) {
+            Some(kept) => entry_body(alloc, no, kept.number, &kept.entry, kept.left),
+            None => Ok(Vec::new(alloc)),
+        },
     }
 }
 
-// Decides on an ask of a caller on a business day, and makes its reply. The entries that the ask names must be loaded
-// or not exist; otherwise the result is `Store`.
-fn plan(
+// Decides an ask of a caller about a matter, and writes its change. The reply is made before anything is written.
+fn answer_ask<B: Book>(
     alloc: Global,
+    book: &mut B,
     no: MatterNo,
-    matter: Matter,
     caller: &Caller,
     ask: &Ask,
     day: Day,
-) -> Result<Planned, Refusal>
-    // It is the step of all sound rows that the matter is a part of, if the named entries are loaded or do not exist,
-    // and for a ledger card all entries are loaded.
-    ensures step { (rows : Rows) → Sound rows → IsPart matter rows → holds_for matter ask.now ≡ true
-        → IsWholeForCard ask.now matter rows → Plans no rows (asked_on day caller.now ask.now) result }
-    ensures plain { IfOk result (λ planned. is_fault_reply planned.reply ≡ false) }
+) -> Result<Reply, Refusal>
+    ensures { (h : Heard) → kind_of h ≡ OfMatter no caller.now ask.now
+        → IsAnswered B.firm B.clean B.sure B.stands B.lasts B.leaves B.refusals day h result book.old book.new }
 {
+    let mut matter = read_for(alloc, book, no, ask)?;
     if !holds_for(&matter, ask) {
         return Err(Refusal::Store);
     }
     let change = decide(&matter, caller, ask, day)?;
-    let text = OwnedBytes::new(body_after(alloc, no, matter, ask, &change)?);
+    matter.apply(&change)?;
+    let text = OwnedBytes::new(body_after(alloc, no, &matter, ask)?);
     let reply = Reply {
         // 201 if something is made, which a repeat does not do.
         status: match change.edit() {
@@ -170,7 +124,8 @@ fn plan(
             Body::Json(text)
         },
     };
-    Ok(Planned { change, reply })
+    book.write_change(alloc, no, &change)?;
+    Ok(reply)
 }
 
 // The answer to a request for a report. Only a reconciliation can have no text.
@@ -328,7 +283,9 @@ impl<B: Book> Desk<B> {
             (firm_step day (B.firm self.old) (Asks request.now)).firm self.old self.new }
     {
         let answered = match request {
-            Request::Matter { no, caller, ask } => self.answer_ask(alloc, *no, caller, ask, day),
+            Request::Matter { no, caller, ask } => {
+                answer_ask(alloc, &mut self.book, *no, caller, ask, day)
+            }
             Request::Import { caller, statement } => {
                 self.answer_import(alloc, day, caller, statement.as_slice())
             }
@@ -396,71 +353,23 @@ impl<B: Book> Desk<B> {
         caller: &Caller,
         bytes: &[u8],
     ) -> Result<Reply, Refusal>
-        ensures ok { IfOk result (λ reply. is_fault_reply reply ≡ false) }
-        ensures step { B.clean self.new → B.stands self.old
-            → Steps day (B.firm self.old) (Asks (Request.Import caller.now bytes.now)) (reply_for result)
-            (B.firm self.new) }
-        ensures kept { KeepsBook B.clean B.sure B.stands B.lasts B.refusals (counted_end result) self.old self.new }
-        ensures crash { B.sure self.new → B.clean self.old → B.stands self.old → MayLeave B.clean B.leaves
-            (is_fault_end result ≡ false)
-            (IsMade day (B.firm self.old) (Asks (Request.Import caller.now bytes.now)))
-            (B.firm self.old) (B.firm self.new) self.old self.new }
+        ensures { (h : Heard) → kind_of h ≡ OfItems (import_refusal caller.now bytes.now) (imported caller.now bytes.now)
+            → IsAnswered B.firm B.clean B.sure B.stands B.lasts B.leaves B.refusals day h result self.old self.new }
     {
         check_import(alloc, caller, bytes)?;
-        let counts = self.import_bytes(alloc, bytes, day)?;
-        let text = import_body(alloc, &counts)?;
-        Ok(Reply {
-            status: 200,
-            body: Body::Json(OwnedBytes::new(text)),
-        })
-    }
-
-    // Applies the items of a statement with a valid header.
-    fn import_bytes(
-        &mut self,
-        alloc: Global,
-        bytes: &[u8],
-        day: Day,
-    ) -> Result<ImportReply, Refusal>
-        requires header { is_none (items bytes.now) ≡ false }
-        ensures end { B.clean self.new → B.stands self.old
-            → EndsItems day (B.firm self.old) (items_in bytes.now) (B.firm self.new) result }
-        ensures kept { KeepsBook B.clean B.sure B.stands B.lasts B.refusals (counted_end result) self.old self.new }
-        ensures crash { B.sure self.new → B.clean self.old → B.stands self.old → MayLeave B.clean B.leaves
-            (is_fault_end result ≡ false)
-            (λ found. (rest : List Item) × IsAfterFront day (B.firm self.old) (items_in bytes.now) rest found)
-            (B.firm self.old) (B.firm self.new) self.old self.new }
-    {
         let ImportEnd { reply, end } = self.import(alloc, bytes, day, &NoWatch);
         match end {
-            ImportStop::Done => Ok(reply),
+            ImportStop::Done => {
+                let text = import_body(alloc, &reply)?;
+                Ok(Reply {
+                    status: 200,
+                    body: Body::Json(OwnedBytes::new(text)),
+                })
+            }
             ImportStop::Refused(refusal) => Err(refusal),
             // Bytes in memory that are not too long can only end early if memory runs out.
             ImportStop::Limit | ImportStop::ReadFault => Err(Refusal::Memory),
         }
-    }
-
-    // Decides an ask of a caller about a matter, and writes its change.
-    fn answer_ask(
-        &mut self,
-        alloc: Global,
-        no: MatterNo,
-        caller: &Caller,
-        ask: &Ask,
-        day: Day,
-    ) -> Result<Reply, Refusal>
-        ensures end { B.clean self.new → B.stands self.old
-            → Ends (B.firm self.old) no (asked_on day caller.now ask.now) (B.firm self.new) result }
-        ensures ok { IfOk result (λ reply. is_fault_reply reply ≡ false) }
-        ensures kept { KeepsBook B.clean B.sure B.stands B.lasts B.refusals (counted_end result) self.old self.new }
-        ensures crash { B.sure self.new → B.stands self.old → MayLeaveChange B.clean B.leaves
-            (is_fault_end result ≡ false) (B.firm self.old)
-            (after_ask no (asked_on day caller.now ask.now) (B.firm self.old)) self.old self.new }
-    {
-        let matter = read_for(alloc, &mut self.book, no, ask)?;
-        let planned = plan(alloc, no, matter, caller, ask, day)?;
-        self.book.write_change(alloc, no, &planned.change)?;
-        Ok(planned.reply)
     }
 
     /// Answers requests in order on a business day, until there is no memory for another reply. The requests after the

@@ -190,109 +190,189 @@ pub(crate) fn tell_of_balance<V: ItemWatch>(
     }
 }
 
+// Applies one item of a statement on a business day. A line that names an entry clears it, one of the firm's own is
+// added to its ledger, and a balance is put on file; or else the item is a repeat or becomes an exception. A stray
+// line always becomes an exception. A record that is not a line changes nothing. On an error nothing has changed.
+// Exceptions and records that are not lines are reported to the watcher afterwards.
+//
+// `own` is the firm's own ledger, if an earlier item of the import read it.
+fn apply_item<B: Book, V: ItemWatch>(
+    alloc: Global,
+    book: &mut B,
+    own: &mut Option<FirmLedger>,
+    item: &Item,
+    day: Day,
+    at: &At<'_, V>,
+) -> Result<Counted, StoreFault>
+    ensures { IsAppliedBeside B.firm B.clean B.sure B.stands B.lasts B.leaves B.refusals day item.now result
+        book.old own.old book.new own.new }
+{
+    match item {
+        Item::OfMatter(line) => {
+            let matter = book.matter_for(alloc, line.matter, Some(line.entry), None)?;
+            let verdict = line_verdict(&matter, line, day)?;
+            book.write_line(alloc, line, &verdict)?;
+            Ok(counted_line(at, line, &matter, &verdict))
+        }
+        Item::OfFirm(line) => apply_firm_line(alloc, book, own, line, day, at),
+        Item::Opening(line) => apply_balance(alloc, book, BalanceKind::Opening, line, day, at),
+        Item::Closing(line) => apply_balance(alloc, book, BalanceKind::Closing, line, day, at),
+        Item::Stray(line) => {
+            book.write_stray(alloc, line)?;
+            at.tell(&NotApplied::Stray { line });
+            Ok(Counted::Exception)
+        }
+        Item::Unreadable(_) => {
+            at.tell(&NotApplied::Unreadable);
+            Ok(Counted::Unreadable)
+        }
+    }
+}
+
+// Applies a line of the firm's own. Its ledger is read unless an earlier item read it.
+fn apply_firm_line<B: Book, V: ItemWatch>(
+    alloc: Global,
+    book: &mut B,
+    own: &mut Option<FirmLedger>,
+    line: &Line,
+    day: Day,
+    at: &At<'_, V>,
+) -> Result<Counted, StoreFault>
+    ensures { IsAppliedBeside B.firm B.clean B.sure B.stands B.lasts B.leaves B.refusals day (Item.OfFirm line.now)
+        result book.old own.old book.new own.new }
+{
+    match own.take() {
+        Some(ledger) => add_firm_line(alloc, book, own, ledger, line, day, at),
+        None => {
+            let ledger = book.firm(alloc)?;
+            add_firm_line(alloc, book, own, ledger, line, day, at)
+        }
+    }
+}
+
+// The same, by the firm's ledger, which then is that of `own`.
+fn add_firm_line<B: Book, V: ItemWatch>(
+    alloc: Global,
+    book: &mut B,
+    own: &mut Option<FirmLedger>,
+    ledger: FirmLedger,
+    line: &Line,
+    day: Day,
+    at: &At<'_, V>,
+) -> Result<Counted, StoreFault>
+    requires { own.old ≡ None }
+    ensures { IsAppliedBeside B.firm B.clean B.sure B.stands B.lasts B.leaves B.refusals day (Item.OfFirm line.now)
+        result book.old (Some ledger) book.new own.new }
+{
+    let verdict = decide_firm_line(&ledger, line, day);
+    book.write_firm(alloc, line, verdict)?;
+    tell_of_firm_line(at, line, &ledger, verdict);
+    *own = ledger_with(ledger, line, verdict);
+    Ok(counted_by(verdict))
+}
+
+// Applies an opening or a closing balance.
+fn apply_balance<B: Book, V: ItemWatch>(
+    alloc: Global,
+    book: &mut B,
+    kind: BalanceKind,
+    line: &Line,
+    day: Day,
+    at: &At<'_, V>,
+) -> Result<Counted, StoreFault>
+    ensures { IsItemApplied B.firm B.clean B.sure B.stands B.lasts B.leaves B.refusals day
+        (balance_item kind line.now) result book.old book.new }
+{
+    let kept = book.balance(kind, line.date)?;
+    let verdict = decide_balance(kept, line, day);
+    book.write_balance(alloc, kind, line, verdict)?;
+    tell_of_balance(at, kind, line, kept, verdict);
+    Ok(counted_by(verdict))
+}
+
+// Applies and counts the next item of a statement, or returns how the import ends. `own` is the firm's own ledger,
+// if an earlier item read it.
+fn import_next<B: Book, R: Read, V: ItemWatch, K: Whole>(
+    alloc: Global,
+    book: &mut B,
+    own: &mut Option<FirmLedger>,
+    lines: &mut Lines<R, K>,
+    day: Day,
+    at: &At<'_, V>,
+    reply: &mut ImportReply,
+) -> Option<ImportStop>
+    requires room { AreBelow (2 ^ 64 - 1) reply.old }
+    ensures takes { IfNone result
+        (TakesOne day (B.clean book.new × StandsBeside B.firm B.stands book.old own.old) (B.firm book.old)
+        (B.firm book.new) lines.old.left lines.new.left reply.old reply.new) }
+    ensures keeps { IfSome result (λ end. (reply.new ≡ reply.old)
+        × (B.clean book.new → StandsBeside B.firm B.stands book.old own.old → B.firm book.new ≡ B.firm book.old)) }
+    ensures stops { IfSome result IsStop }
+    ensures done { result ≡ Some ImportStop.Done → Gives lines.old.left lines.new.left None }
+    ensures header { result ≡ Some (ImportStop.Refused (refusal.BadField field.Header))
+        → LacksHeader lines.old.left }
+    ensures limit { result ≡ Some ImportStop.Limit → IsTooLong K.bytes }
+    ensures within { result ≡ Some ImportStop.Done → IsWithin K.bytes }
+    ensures kept { KeepsBeside B.firm B.clean B.sure B.stands B.lasts B.refusals (counted_if result)
+        book.old own.old book.new own.new }
+    ensures crash { B.sure book.new → B.clean book.old → StandsBeside B.firm B.stands book.old own.old
+        → MayLeave B.clean B.leaves
+        (IsNotStopped result) (IsAfterNext day (B.firm book.old) lines.old.left) (B.firm book.old) (B.firm book.new)
+        book.old book.new }
+{
+    match lines.next() {
+        Ok(Some(item)) => match apply_item(alloc, book, own, &item, day, at) {
+            Ok(counted) => {
+                count_item(reply, &item, counted);
+                tell_of_applied(at, &item, counted);
+                None
+            }
+            Err(fault) => Some(ImportStop::Refused(fault.into())),
+        },
+        Ok(None) => Some(ImportStop::Done),
+        Err(ReadFault::BadHeader) => { Some(ImportStop::Refused(Refusal::BadField(Field::Header))) }
+        Err(ReadFault::Limit) => Some(ImportStop::Limit),
+        Err(ReadFault::Reader) => Some(ImportStop::ReadFault),
+        Err(ReadFault::Memory) => Some(ImportStop::Refused(Refusal::Memory)),
+    }
+}
+
+// Applies the items of a statement, with a type `K` by which a proof names the statement's bytes.
+fn import_whole<B: Book, R: Read + Drop, V: ItemWatch, K: Whole>(
+    alloc: Global,
+    book: &mut B,
+    reader: R,
+    day: Day,
+    watch: &V,
+) -> ImportEnd
+    requires whole { Keeps K.bytes (R.remaining reader) }
+    ensures { IsImported B.firm B.clean B.sure B.stands B.lasts B.leaves B.refusals day
+        (option_map items (R.remaining reader)) K.bytes result book.old book.new }
+{
+    let mut lines = Lines::<R, K>::of_whole(alloc, reader);
+    let mut reply = ImportReply {
+        applied: 0,
+        repeated: 0,
+        exceptions: 0,
+        unreadable: 0,
+        statement: None,
+    };
+    let mut own = None;
+    // No statement has this many items. The bound keeps the counts from overflowing.
+    for turn in 0..u64::MAX {
+        let number = turn.saturating_add(1);
+        let at = At { number, watch };
+        if let Some(end) = import_next(alloc, book, &mut own, &mut lines, day, &at, &mut reply) {
+            return ImportEnd { reply, end };
+        }
+    }
+    ImportEnd {
+        reply,
+        end: ImportStop::Refused(Refusal::Memory),
+    }
+}
+
 impl<B: Book> Desk<B> {
-    // Applies one item of a statement on a business day. A line that names an entry clears it, one of the firm's own is
-    // added to its ledger, and a balance is put on file; or else the item is a repeat or becomes an exception. A stray
-    // line always becomes an exception. A record that is not a line changes nothing. On an error nothing has changed.
-    // Exceptions and records that are not lines are reported to the watcher afterwards.
-    //
-    // `own` is the firm's own ledger, if an earlier item of the import read it.
-    fn apply_item<V: ItemWatch>(
-        &mut self,
-        alloc: Global,
-        own: &mut Option<FirmLedger>,
-        item: &Item,
-        day: Day,
-        at: &At<'_, V>,
-    ) -> Result<Counted, StoreFault>
-        ensures { IsAppliedBeside B.firm B.clean B.sure B.stands B.lasts B.leaves B.refusals day item.now result
-            self.old own.old self.new own.new }
-    {
-        match item {
-            Item::OfMatter(line) => {
-                let matter = self
-                    .book
-                    .matter_for(alloc, line.matter, Some(line.entry), None)?;
-                let verdict = line_verdict(&matter, line, day)?;
-                self.book.write_line(alloc, line, &verdict)?;
-                Ok(counted_line(at, line, &matter, &verdict))
-            }
-            Item::OfFirm(line) => self.apply_firm_line(alloc, own, line, day, at),
-            Item::Opening(line) => self.apply_balance(alloc, BalanceKind::Opening, line, day, at),
-            Item::Closing(line) => self.apply_balance(alloc, BalanceKind::Closing, line, day, at),
-            Item::Stray(line) => {
-                self.book.write_stray(alloc, line)?;
-                at.tell(&NotApplied::Stray { line });
-                Ok(Counted::Exception)
-            }
-            Item::Unreadable(_) => {
-                at.tell(&NotApplied::Unreadable);
-                Ok(Counted::Unreadable)
-            }
-        }
-    }
-
-    // Applies a line of the firm's own. Its ledger is read unless an earlier item read it.
-    fn apply_firm_line<V: ItemWatch>(
-        &mut self,
-        alloc: Global,
-        own: &mut Option<FirmLedger>,
-        line: &Line,
-        day: Day,
-        at: &At<'_, V>,
-    ) -> Result<Counted, StoreFault>
-        ensures { IsAppliedBeside B.firm B.clean B.sure B.stands B.lasts B.leaves B.refusals day (Item.OfFirm line.now)
-            result self.old own.old self.new own.new }
-    {
-        match own.take() {
-            Some(ledger) => self.add_firm_line(alloc, own, ledger, line, day, at),
-            None => {
-                let ledger = self.book.firm(alloc)?;
-                self.add_firm_line(alloc, own, ledger, line, day, at)
-            }
-        }
-    }
-
-    // The same, by the firm's ledger, which then is that of `own`.
-    fn add_firm_line<V: ItemWatch>(
-        &mut self,
-        alloc: Global,
-        own: &mut Option<FirmLedger>,
-        ledger: FirmLedger,
-        line: &Line,
-        day: Day,
-        at: &At<'_, V>,
-    ) -> Result<Counted, StoreFault>
-        requires { own.old ≡ None }
-        ensures { IsAppliedBeside B.firm B.clean B.sure B.stands B.lasts B.leaves B.refusals day (Item.OfFirm line.now)
-            result self.old (Some ledger) self.new own.new }
-    {
-        let verdict = decide_firm_line(&ledger, line, day);
-        self.book.write_firm(alloc, line, verdict)?;
-        tell_of_firm_line(at, line, &ledger, verdict);
-        *own = ledger_with(ledger, line, verdict);
-        Ok(counted_by(verdict))
-    }
-
-    // Applies an opening or a closing balance.
-    fn apply_balance<V: ItemWatch>(
-        &mut self,
-        alloc: Global,
-        kind: BalanceKind,
-        line: &Line,
-        day: Day,
-        at: &At<'_, V>,
-    ) -> Result<Counted, StoreFault>
-        ensures { IsItemApplied B.firm B.clean B.sure B.stands B.lasts B.leaves B.refusals day
-            (balance_item kind line.now) result self.old self.new }
-    {
-        let kept = self.book.balance(kind, line.date)?;
-        let verdict = decide_balance(kept, line, day);
-        self.book.write_balance(alloc, kind, line, verdict)?;
-        tell_of_balance(at, kind, line, kept, verdict);
-        Ok(counted_by(verdict))
-    }
-
     /// Applies the items of a statement on a business day, each before the next is read, until the statement ends or a
     /// fault occurs. The items so far then stay applied, and no other is begun. `watch` is told of each line that was
     /// applied, of each item that is an exception or not a line, and of the end; the contract does not say what it is
@@ -335,95 +415,11 @@ impl<B: Book> Desk<B> {
         ensures shut { B.sure self.new → B.clean self.old → B.stands self.old → (mid : Firm)
             × Imports day (B.firm self.old) (option_map items (R.remaining reader)) result mid }
     {
-        let ended = self.import_whole::<R, V, Brand>(alloc, reader, day, watch);
+        let ended = import_whole::<B, R, V, Brand>(alloc, &mut self.book, reader, day, watch);
         let counts = &ended.reply;
         let accepted = counts.applied.saturating_add(counts.repeated);
         let others = counts.exceptions.saturating_add(counts.unreadable);
         watch.ended(accepted.saturating_add(others), &ended.end);
         ended
-    }
-
-    // The same, with a type `K` by which a proof names the statement's bytes.
-    fn import_whole<R: Read + Drop, V: ItemWatch, K: Whole>(
-        &mut self,
-        alloc: Global,
-        reader: R,
-        day: Day,
-        watch: &V,
-    ) -> ImportEnd
-        requires whole { Keeps K.bytes (R.remaining reader) }
-        ensures { IsImported B.firm B.clean B.sure B.stands B.lasts B.leaves B.refusals day
-            (option_map items (R.remaining reader)) K.bytes result self.old self.new }
-    {
-        let mut lines = Lines::<R, K>::of_whole(alloc, reader);
-        let mut reply = ImportReply {
-            applied: 0,
-            repeated: 0,
-            exceptions: 0,
-            unreadable: 0,
-            statement: None,
-        };
-        let mut own = None;
-        // No statement has this many items. The bound keeps the counts from overflowing.
-        for turn in 0..u64::MAX {
-            let number = turn.saturating_add(1);
-            let at = At { number, watch };
-            if let Some(end) = self.import_next(alloc, &mut own, &mut lines, day, &at, &mut reply) {
-                return ImportEnd { reply, end };
-            }
-        }
-        ImportEnd {
-            reply,
-            end: ImportStop::Refused(Refusal::Memory),
-        }
-    }
-
-    // Applies and counts the next item of a statement, or returns how the import ends. `own` is the firm's own ledger,
-    // if an earlier item read it.
-    fn import_next<R: Read, V: ItemWatch, K: Whole>(
-        &mut self,
-        alloc: Global,
-        own: &mut Option<FirmLedger>,
-        lines: &mut Lines<R, K>,
-        day: Day,
-        at: &At<'_, V>,
-        reply: &mut ImportReply,
-    ) -> Option<ImportStop>
-        requires room { AreBelow (2 ^ 64 - 1) reply.old }
-        ensures takes { IfNone result
-            (TakesOne day (B.clean self.new × StandsBeside B.firm B.stands self.old own.old) (B.firm self.old)
-            (B.firm self.new) lines.old.left lines.new.left reply.old reply.new) }
-        ensures keeps { IfSome result (λ end. (reply.new ≡ reply.old)
-            × (B.clean self.new → StandsBeside B.firm B.stands self.old own.old → B.firm self.new ≡ B.firm self.old)) }
-        ensures stops { IfSome result IsStop }
-        ensures done { result ≡ Some ImportStop.Done → Gives lines.old.left lines.new.left None }
-        ensures header { result ≡ Some (ImportStop.Refused (refusal.BadField field.Header))
-            → LacksHeader lines.old.left }
-        ensures limit { result ≡ Some ImportStop.Limit → IsTooLong K.bytes }
-        ensures within { result ≡ Some ImportStop.Done → IsWithin K.bytes }
-        ensures kept { KeepsBeside B.firm B.clean B.sure B.stands B.lasts B.refusals (counted_if result)
-            self.old own.old self.new own.new }
-        ensures crash { B.sure self.new → B.clean self.old → StandsBeside B.firm B.stands self.old own.old
-            → MayLeave B.clean B.leaves
-            (IsNotStopped result) (IsAfterNext day (B.firm self.old) lines.old.left) (B.firm self.old) (B.firm self.new)
-            self.old self.new }
-    {
-        match lines.next() {
-            Ok(Some(item)) => match self.apply_item(alloc, own, &item, day, at) {
-                Ok(counted) => {
-                    count_item(reply, &item, counted);
-                    tell_of_applied(at, &item, counted);
-                    None
-                }
-                Err(fault) => Some(ImportStop::Refused(fault.into())),
-            },
-            Ok(None) => Some(ImportStop::Done),
-            Err(ReadFault::BadHeader) => {
-                Some(ImportStop::Refused(Refusal::BadField(Field::Header)))
-            }
-            Err(ReadFault::Limit) => Some(ImportStop::Limit),
-            Err(ReadFault::Reader) => Some(ImportStop::ReadFault),
-            Err(ReadFault::Memory) => Some(ImportStop::Refused(Refusal::Memory)),
-        }
     }
 }

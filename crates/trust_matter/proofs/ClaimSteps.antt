@@ -1,20 +1,16 @@
 -- Fees and claims, as steps.
-use Rattle.trust_matter.proofs.Names.{nat_lt, is_none, ◌≡◌, ℕ, ◌<◌, ◌≤◌, not, ◌&&◌, true, false, List, [], length, refl, sym, ◌∙◌, arith, subst, Option, Some, None, inl, inr, ℤ, pos, negsuc, ◌≤ℤ◌, ◌-ℤ◌, ints, false≢true, nat_tests, IsAmount, Against, ClaimState, Entry, Head, Seat, names, is_fee, is_general, is_settled, available, left_of, of_kind, exceeds, left_in, events_of, target_in, draw, worth, available_share, against_no, has_settled, to_client, to_claimant, off_fee, on_fee, on_general, entry_at, AreBacked, IsBy, IsRising, IsRanged, Sound, days_of, part_of, made-before, all-at, within, MayAdd, MayTake, target-apart, total-undrawn, Numbered, left-drawn, left-moved, rows-of, MovesWithin, Ask, Caller, FeeAsk, ClaimAsk, against_left, is_on_fee, is_no_fee, is_no_claim, is_claim_settled, is_claim_without_offer, is_offered_state, is_another_offer, exceeds_claim, differs_from_offer, facts_of, number_named, other_of, HasAmount, edit_of, fee_of, claim_of, with_claim, settled}
+use Rattle.trust_matter.proofs.Names.{Against, AreBacked, Ask, Caller, ClaimAsk, ClaimState, Entry, FeeAsk, HasAmount, Head, IsAmount, IsBy, IsRanged, IsRising, List, MayAdd, MayTake, None, Numbered, Option, Seat, Some, Sound, [], against_left, against_no, all-at, arith, available, available_share, claim_of, days_of, differs_from_offer, draw, edit_of, entry_at, events_of, exceeds, exceeds_claim, facts_of, false, false≢true, fee_of, has_settled, inl, inr, ints, is_another_offer, is_claim_settled, is_claim_without_offer, is_fee, is_general, is_no_claim, is_no_fee, is_none, is_offered_state, is_on_fee, is_settled, le_refl, left-drawn, left-moved, left_in, left_of, length, made-before, names, nat_tests, not, number_named, of_kind, off_fee, on_fee, on_general, other_of, part_of, pos, refl, rows-of, settled, subst, sym, target-apart, target_in, to_claimant, to_client, total-undrawn, true, with_claim, within, worth, ℕ, ◌&&◌, ◌-ℤ◌, ◌<◌, ◌∙◌, ◌≡◌, ◌≤ℤ◌, ◌≤◌}
 use Rattle.std.specs.Prelude.{◌==◌}
 use Rattle.matter_rows.specs.declared.claim.Against.TheVariants as against
 use Rattle.matter_rows.specs.declared.claim.Claim.{Claim}
 use Rattle.matter_rows.specs.declared.claim.ClaimState.TheVariants as claim
 use Rattle.matter_rows.specs.declared.fee.Fee.{Fee}
 use Rattle.matter_rows.specs.declared.entry.Entry.TheVariants as entry
-use Rattle.matter_parts.specs.declared.edit.Edit.TheVariants as edit
 use Rattle.trust_matter.specs.declared.ask.Ask.TheVariants as ask
 use Rattle.trust_matter.specs.declared.claim.SplitAsk.{SplitAsk}
-use Rattle.trust_matter.proofs.StepForms.{step-append, step-exchange, exchange-moves, next-is, not-false, asked, Stepped}
+use Rattle.trust_matter.proofs.PaymentSteps.{within-left}
+use Rattle.trust_matter.proofs.StepForms.{step-append, step-exchange, exchange-moves, next-is, not-before, not-false, asked, Stepped}
 use Rattle.trust_matter.proofs.Table.{Passes}
-
-enough-of : (amount : ℕ) (left : ℤ) → exceeds amount left ≡ false → pos amount ≤ℤ left
-enough-of amount (pos n) h = let le : amount ≤ n = grind (arith, nat_tests) in omega (arith, ints, le)
-enough-of amount (negsuc n) h = absurd (cc)
 
 -- A fee takes at most what is available.
 
@@ -29,20 +25,16 @@ fee-may es f s room few enough = record {
   left = left-drawn es (entry.Fee f) (λ e h. let l = s.left 0 e h in omega (arith, ints, l)) s.left;
 }
 
-fee-moves : (es : List Entry) (a : FeeAsk) (last day : ℕ) → MovesWithin es (edit.Append (record { number = a.number; entry = fee_of a day })) last day
-unfolding events_of
-fee-moves es a last day = record { moved = refl; dated = tt }
-
-fee-by : (a : FeeAsk) (day : ℕ) → IsBy day (fee_of a day)
-unfolding days_of
-fee-by a day = (omega arith, tt)
-
 pub step-fee : (h : Head) (seats : List Seat) (es : List Entry) (c : Caller) (a : FeeAsk) (day : ℕ) → Sound (rows-of (Some h) seats es) → HasAmount (ask.EarnFee a) → h.closed ≡ None → h.last ≤ day → Passes (facts_of (rows-of (Some h) seats es) (ask.EarnFee a)) (asked c (ask.EarnFee a) day) → Stepped (Some h) seats es (asked c (ask.EarnFee a) day) (edit_of (ask.EarnFee a) (entry_at es a.number) day)
+unfolding events_of days_of
 step-fee h seats es c a day s amount unclosed later p =
     let x : Numbered = record { number = a.number; entry = fee_of a day } in
     let next = next-is (length es) a.number p.next in
-    let may = fee-may es (record { book = day; amount = a.amount; description = a.description }) s.backed next.0 amount (enough-of a.amount (available es) p.enough) in
-    step-append h seats es x _ _ day s unclosed may next.1 later later (fee-by a day) tt (fee-moves es a h.last day) (inl refl)
+    let may =
+    fee-may es (record { book = day; amount = a.amount; description = a.description }) s.backed next.0 amount
+    (within-left a.amount (available es) p.enough) in
+    step-append h seats es x _ _ day s unclosed may next.1 later later (le_refl day, tt) tt
+    (record { moved = refl; dated = tt }) (inl refl)
 
 -- A claim takes at most what is left of its fee, or what is available.
 
@@ -63,89 +55,68 @@ fee-claim-may es book amount k reason (Some x) at s room few there kind enough =
       left = left-drawn es (open-claim book amount (against.Fee k) reason)
           (λ e h. let same : x ≡ e = cc in
           let P : Entry → Type 0 = λ v. pos amount ≤ℤ left_of es k v in
-          let l = subst P same (enough-of amount (left_of es k x) enough) in omega (arith, ints, l)) s.left;
+          let l = subst P same (within-left amount (left_of es k x) enough) in omega (arith, ints, l)) s.left;
     }
 
-general-claim-may : (es : List Entry) (book amount : ℕ) (who reason : List ℕ) → AreBacked es → length es < 9_999 → IsAmount amount → pos amount ≤ℤ available es → MayAdd es (open-claim book amount (against.General who) reason)
-unfolding names draw worth available_share
-general-claim-may es book amount who reason s room few enough = record {
-  room = room;
-  ranged = record { amount = few; part = omega arith };
-  named = refl;
-  available = omega (arith, ints, enough);
-  worth = omega (arith, ints);
-  left = left-drawn es (open-claim book amount (against.General who) reason) (λ e h. let l = s.left 0 e h in omega (arith, ints, l)) s.left;
-}
-
 claim-may : (es : List Entry) (book amount : ℕ) (on : Against) (reason : List ℕ) → AreBacked es → length es < 9_999 → IsAmount amount → (is_on_fee on && is_none (entry_at es (against_no on))) ≡ false → (is_on_fee on && is_no_fee (entry_at es (against_no on))) ≡ false → exceeds amount (against_left on (available es) (left_in es (against_no on) (entry_at es (against_no on)))) ≡ false → MayAdd es (open-claim book amount on reason)
+unfolding names draw worth available_share
 claim-may es book amount (against.General who) reason s room few there kind enough =
-    general-claim-may es book amount who reason s room few (enough-of amount (available es) enough)
+    let some = within-left amount (available es) enough in
+    record {
+      room = room;
+      ranged = record { amount = few; part = omega arith };
+      named = refl;
+      available = omega (arith, ints, some);
+      worth = omega (arith, ints);
+      left = left-drawn es (open-claim book amount (against.General who) reason) (λ e h. let l = s.left 0 e h in omega (arith, ints, l)) s.left;
+    }
 claim-may es book amount (against.Fee k) reason s room few there kind enough =
     fee-claim-may es book amount k reason (entry_at es k) refl s room few there kind enough
 
-claim-moves : (es : List Entry) (a : ClaimAsk) (last day : ℕ) → MovesWithin es (edit.Append (record { number = a.number; entry = claim_of a day })) last day
-unfolding events_of
-claim-moves es a last day = record { moved = refl; dated = tt }
-
-claim-by : (a : ClaimAsk) (day : ℕ) → IsBy day (claim_of a day)
-unfolding days_of
-claim-by a day = (omega arith, tt)
-
 pub step-claim : (h : Head) (seats : List Seat) (es : List Entry) (c : Caller) (a : ClaimAsk) (day : ℕ) → Sound (rows-of (Some h) seats es) → HasAmount (ask.RaiseClaim a) → h.closed ≡ None → h.last ≤ day → Passes (facts_of (rows-of (Some h) seats es) (ask.RaiseClaim a)) (asked c (ask.RaiseClaim a) day) → Stepped (Some h) seats es (asked c (ask.RaiseClaim a) day) (edit_of (ask.RaiseClaim a) (entry_at es a.number) day)
+unfolding events_of days_of
 step-claim h seats es c a day s amount unclosed later p =
     let x : Numbered = record { number = a.number; entry = claim_of a day } in
     let next = next-is (length es) a.number p.next in
     let may = claim-may es day a.amount a.against a.reason s.backed next.0 amount p.there p.kind p.enough in
-    step-append h seats es x _ _ day s unclosed may next.1 later later (claim-by a day) tt (claim-moves es a h.last day) (inr refl)
+    step-append h seats es x _ _ day s unclosed may next.1 later later (le_refl day, tt) tt
+    (record { moved = refl; dated = tt }) (inr refl)
 
 -- An open claim: all of it is kept apart.
 
-open-client : (s : ClaimState) → has_settled s ≡ false → to_client s ≡ pos 0
-open-client (claim.Settled t) h = absurd (cc)
-open-client s h = refl
-
-open-claimant : (s : ClaimState) (amount : ℕ) → has_settled s ≡ false → to_claimant s amount ≡ pos amount
-open-claimant (claim.Settled t) amount h = absurd (cc)
-open-claimant s amount h = refl
-
-open-off : (s : ClaimState) (amount : ℕ) → has_settled s ≡ false → off_fee s amount ≡ pos amount
-open-off (claim.Settled t) amount h = absurd (cc)
-open-off s amount h = omega (arith, ints)
+open-is : (s : ClaimState) (amount : ℕ) → has_settled s ≡ false
+    → (to_client s ≡ pos 0) × (to_claimant s amount ≡ pos amount) × (off_fee s amount ≡ pos amount)
+open-is (claim.Settled t) amount h = absurd (cc)
+open-is s amount h = (refl, refl, omega (arith, ints))
 
 open-unsettled : (on : Against) (s : ClaimState) → has_settled s ≡ false → (is_general on && has_settled s) ≡ false
 open-unsettled (against.General who) s h = h
 open-unsettled (against.Fee k) s h = refl
 
--- A claim with at most its amount to the client.
-
-client-some : (s : ClaimState) → pos 0 ≤ℤ to_client s
-client-some claim.Open = omega (arith, ints)
-client-some s = omega (arith, ints)
-
-claimant-most : (s : ClaimState) (amount : ℕ) → to_claimant s amount ≤ℤ pos amount
-claimant-most claim.Open amount = omega (arith, ints)
-claimant-most s amount = omega (arith, ints)
-
-claimant-some : (s : ClaimState) (amount : ℕ) → part_of s ≤ amount → pos 0 ≤ℤ to_claimant s amount
-claimant-some (claim.Settled t) amount le = omega (arith, ints, le)
-claimant-some s amount le = omega (arith, ints)
-
-off-most : (s : ClaimState) (amount : ℕ) → part_of s ≤ amount → off_fee s amount ≤ℤ pos amount
-off-most (claim.Settled t) amount le = omega (arith, ints, le)
-off-most s amount le = omega (arith, ints)
+-- a claim with at most its amount to the client
+parts-are : (s : ClaimState) (amount : ℕ) → part_of s ≤ amount
+    → (pos 0 ≤ℤ to_client s) × (to_claimant s amount ≤ℤ pos amount) × (pos 0 ≤ℤ to_claimant s amount) × (off_fee s
+    amount ≤ℤ pos amount)
+parts-are claim.Open amount le = (omega (arith, ints), omega (arith, ints), omega (arith, ints), omega (arith, ints))
+parts-are s amount le = (omega (arith, ints), omega (arith, ints), omega (arith, ints, le), omega (arith, ints, le))
 
 -- Another state of an open claim gives no less to what is available, and takes no more from its fee.
 
-available-rises : (on : Against) (s next : ClaimState) (amount : ℕ) → has_settled s ≡ false → (on_fee on (to_client s) -ℤ on_general on (to_claimant s amount)) ≤ℤ (on_fee on (to_client next) -ℤ on_general on (to_claimant next amount))
-available-rises (against.General who) s next amount h = omega (arith, ints, open-claimant s amount h, claimant-most next amount)
-available-rises (against.Fee k) s next amount h = omega (arith, ints, open-client s h, client-some next)
+available-rises : (on : Against) (s next : ClaimState) (amount : ℕ) → has_settled s ≡ false → part_of next ≤ amount
+    → (on_fee on (to_client s) -ℤ on_general on (to_claimant s amount)) ≤ℤ
+    (on_fee on (to_client next) -ℤ on_general on (to_claimant next amount))
+available-rises (against.General who) s next amount h le =
+    omega (arith, ints, (open-is s amount h).1, (parts-are next amount le).1)
+available-rises (against.Fee k) s next amount h le =
+    omega (arith, ints, (open-is s amount h).0, (parts-are next amount le).0)
 
 draw-falls : (on : Against) (s next : ClaimState) (amount : ℕ) → has_settled s ≡ false → part_of next ≤ amount → on_fee on (off_fee next amount) ≤ℤ on_fee on (off_fee s amount)
 draw-falls (against.General who) s next amount h le = omega (arith, ints)
-draw-falls (against.Fee k) s next amount h le = omega (arith, ints, open-off s amount h, off-most next amount le)
+draw-falls (against.Fee k) s next amount h le =
+    omega (arith, ints, (open-is s amount h).2, (parts-are next amount le).3)
 
 worth-some : (on : Against) (next : ClaimState) (amount : ℕ) → part_of next ≤ amount → pos 0 ≤ℤ on_general on (to_claimant next amount)
-worth-some (against.General who) next amount le = claimant-some next amount le
+worth-some (against.General who) next amount le = (parts-are next amount le).2
 worth-some (against.Fee k) next amount le = omega (arith, ints)
 
 abbrev with-state : Claim → ClaimState → Entry
@@ -167,17 +138,13 @@ restated-may es n d next s at unsettled le =
       named = there;
       fee = λ h. h;
       settled = λ h. absurd (cc);
-      available = omega (arith, ints, available-rises d.against d.state next d.amount unsettled, s.available);
+      available = omega (arith, ints, available-rises d.against d.state next d.amount unsettled le, s.available);
       same_target = refl;
       apart = target-apart es n some.0 no-fee no-claim (with-state d next) there;
       own = omega (arith, ints, all, worth-some d.against next d.amount le);
       left = λ k e h elsewhere. left-moved es (entry.Claim d) (with-state d next) refl
           (λ e h. omega (arith, ints, draw-falls d.against d.state next d.amount unsettled le, s.left (against_no d.against) e h)) s.left k e h;
     }
-
-restating-moves : (es : List Entry) (n last day : ℕ) (d : Claim) (next : ClaimState) → entry_at es n ≡ Some (entry.Claim d) → MovesWithin es (edit.Exchange (record { number = n; entry = with-state d next })) last day
-unfolding events_of
-restating-moves es n last day d next at = exchange-moves es (record { number = n; entry = with-state d next }) last day [] (rw at refl) tt
 
 -- the days of a claim in another state are not after a day, and rise
 abbrev pub AreDays : ℕ → ClaimState → Type 0
@@ -193,21 +160,23 @@ settled-days day part d made = ((made, (omega arith, tt)), (made, tt))
 
 -- an ask about a claim that is open, and the state that it leaves the claim in
 step-split : (h : Head) (seats : List Seat) (es : List Entry) (c : Caller) (q : Ask) (n day : ℕ) (d : Claim) (next : ClaimState) → number_named q ≡ n → ((e : Option Entry) → other_of q e ≡ target_in e) → entry_at es n ≡ Some (entry.Claim d) → Sound (rows-of (Some h) seats es) → h.closed ≡ None → h.last ≤ day → has_settled d.state ≡ false → part_of next ≤ d.amount → AreDays day next → Stepped (Some h) seats es (asked c q day) (with_claim n (Some (entry.Claim d)) next)
+unfolding events_of
 step-split h seats es c q n day d next number other at s unclosed later unsettled le days =
     let x : Numbered = record { number = n; entry = with-state d next } in
     let may = restated-may es n d next s.backed at unsettled le in
     let made : d.book ≤ day = let b = made-before h es n (entry.Claim d) s.headed.0 at in omega (arith, b, later) in
     let ok = days d made in
-    step-exchange h seats es x (entry.Claim d) _ _ day s unclosed may refl (λ was. absurd (false≢true (sym (open-unsettled d.against d.state unsettled) ∙ was))) later ok.0 ok.1 (restating-moves es n h.last day d next at) (inr (rw number (rw (other (entry_at es n)) (rw at refl)))) (sym number)
-
-not-over : (amount part : ℕ) → nat_lt amount part ≡ false → part ≤ amount
-not-over amount part h = grind (arith, nat_tests)
+    step-exchange h seats es x (entry.Claim d) _ _ day s unclosed may refl
+    (λ was. absurd (false≢true (sym (open-unsettled d.against d.state unsettled) ∙ was))) later ok.0 ok.1
+    (exchange-moves es x h.last day [] (rw at refl) tt) (inr (rw number (rw (other (entry_at es n)) (rw at refl))))
+    (sym number)
 
 -- An offer, or an award.
 
 pub step-unsettled : (h : Head) (seats : List Seat) (es : List Entry) (c : Caller) (q : Ask) (n day : ℕ) (next : ClaimState) (o : Option Entry) → number_named q ≡ n → ((e : Option Entry) → other_of q e ≡ target_in e) → AreDays day next → entry_at es n ≡ o → Sound (rows-of (Some h) seats es) → h.closed ≡ None → h.last ≤ day → is_none o ≡ false → is_no_claim o ≡ false → is_claim_settled o ≡ false → exceeds_claim o (part_of next) ≡ false → Stepped (Some h) seats es (asked c q day) (with_claim n o next)
 step-unsettled h seats es c q n day next (Some (entry.Claim d)) number other days at s unclosed later there kind state split =
-    step-split h seats es c q n day d next number other at s unclosed later state (not-over d.amount (part_of next) split) days
+    step-split h seats es c q n day d next number other at s unclosed later state
+    (not-before d.amount (part_of next) split) days
 step-unsettled h seats es c q n day next o number other days at s unclosed later there kind state split = absurd (cc)
 
 -- An offer that is accepted: its part is that of the claim.

@@ -1,46 +1,42 @@
 -- What is decided on what is kept is decided on the rows.
-use Rattle.trust_matter.proofs.Names.{◌≡◌, ℕ, true, ap, sym, ◌∙◌, subst, Result, Ok, Err, IfOk, OnErr, Option, None, Refusal, Head, Entry, Rows, entry_at, Sound, Edit, TotalsAfter, Part, IsPart, kept_at, entry_in, is_held_or_none, MatterChange, AreSmallTotals, last_after, EditMoved, IsMade, movement_kept, change-is, never-store, Facts, Asked, number_named, other_of, kept_facts, holds_for, HasAmount, IsDecided, Decides, MayRefuse, AnswersBy, refusal, refusal_of, decided, edit_on}
-use Rattle.trust_matter.proofs.Parts.{facts-same, both}
-use Rattle.trust_matter.proofs.StepForms.{IsStep}
+use Rattle.trust_matter.proofs.Names.{AnswersBy, AreSmallTotals, Asked, Decides, Edit, EditMoved, Err, Facts, HasAmount, IfOk, IsMade, IsPart, MatterChange, Ok, OnErr, Part, Refusal, Result, Rows, Sound, TotalsAfter, ap, edit_on, entry_at, entry_in, facts_of, holds_for, is_held_or_none, kept_at, kept_facts, last_after, never-store, number_named, other_of, refl, subst, true, ◌∙◌, ◌≡◌}
+use Rattle.trust_matter.proofs.Parts.{facts-same, both, made-is}
 use Rattle.trust_matter.proofs.Steps.{step}
 
-decided-ok : (m : Part) (rows : Rows) (a : Asked) (e : Edit) (c : MatterChange) → holds_for m a.ask ≡ true → HasAmount a.ask → refusal_of (kept_facts m a.ask) a ≡ None → e ≡ decided (kept_facts m a.ask) a → IsMade m e (last_after m.head e a.day) c → Sound rows → IsPart m rows → IsDecided rows a c
-decided-ok m rows a e c h amount accepted is made s p =
-    let same = facts-same m rows a.ask s.backed.named p h in
-    let on-rows : refusal rows a ≡ None = sym (ap (λ (f : Facts). refusal_of f a) same) ∙ accepted in
-    let of-rows : e ≡ edit_on rows a = is ∙ ap (λ (f : Facts). decided f a) same in
-    let edit-is : c.edit ≡ edit_on rows a = made.of_edit ∙ of-rows in
-    let head-is : last_after m.head e a.day ≡ last_after rows.head e a.day = ap (λ (o : Option Head). last_after o e a.day) p.head in
-    let last-is : c.last ≡ last_after rows.head (edit_on rows a) a.day = made.on_day ∙ head-is ∙ ap (λ (x : Edit). last_after rows.head x a.day) of-rows in
-    let E : Edit → Type 0 = λ x. IsStep rows a x (last_after rows.head (edit_on rows a) a.day) in
-    let L : ℕ → Type 0 = λ n. IsStep rows a c.edit n in
-    let M : Edit → Type 0 = λ x. EditMoved m x c.moves in
-    let V : Edit → Type 0 = λ x. c.movement ≡ movement_kept m x in
-    record {
-      accepted = on-rows;
-      edit = edit-is;
-      last = last-is;
-      change = change-is m rows (other_of a.ask (entry_at rows.entries (number_named a.ask))) (number_named a.ask) c p s
-          (subst L (sym last-is) (subst E (sym edit-is) (step rows a s amount on-rows)))
-          (subst M (sym made.of_edit) made.moved)
-          (subst V (sym made.of_edit) made.movement);
-    }
+-- what is answered by what is kept is answered by the rows
+on-rows : (m : Part) (rows : Rows) (a : Asked) (r : Result Edit Refusal) → holds_for m a.ask ≡ true → Sound rows
+    → IsPart m rows → AnswersBy (kept_facts m a.ask) a r → AnswersBy (facts_of rows a.ask) a r
+on-rows m rows a r h s p g = subst (λ (f : Facts). AnswersBy f a r) (facts-same m rows a.ask s.backed.named p h) g
+
+-- the answer is right for all sound rows that the matter is part of
+abbrev pub DecidesAll : Part → Asked → Result MatterChange Refusal → Type 0
+DecidesAll m a r = (rows : Rows) → Sound rows → IsPart m rows → Decides rows a r
 
 -- an accepted edit is the change of the rows, or the want of one that is there
-pub decided-made : (m : Part) (a : Asked) (e : Edit) (r : Result MatterChange Refusal) → holds_for m a.ask ≡ true → HasAmount a.ask → AnswersBy (kept_facts m a.ask) a (Ok e) → IfOk r (λ c. IsMade m e (last_after m.head e a.day) c) → OnErr r ((v : TotalsAfter) → AreSmallTotals v → EditMoved m e v → ⊥) → (rows : Rows) → Sound rows → IsPart m rows → Decides rows a r
-decided-made m a e (Ok c) h amount g made none rows s p = decided-ok m rows a e c h amount g.0 g.1 made s p
+pub decided-made : (m : Part) (a : Asked) (e : Edit) (r : Result MatterChange Refusal) → holds_for m a.ask ≡ true
+    → HasAmount a.ask → AnswersBy (kept_facts m a.ask) a (Ok e) → IfOk r (λ c. IsMade m e (last_after m.head e a.day) c)
+    → OnErr r ((v : TotalsAfter) → AreSmallTotals v → EditMoved m e v → ⊥) → DecidesAll m a r
+decided-made m a e (Ok c) h amount g made none rows s p =
+    let on = on-rows m rows a (Ok e) h s p g in
+    let n = number_named a.ask in
+    record {
+      accepted = on.0;
+      edit = made.of_edit ∙ on.1;
+      last = made.on_day ∙ rw (p.head, on.1) refl;
+      change =
+          made-is m rows (other_of a.ask (entry_at rows.entries n)) n (last_after m.head e a.day) e c p s
+          (rw (p.head, on.1) (step rows a s amount on.0)) made;
+    }
 decided-made m a e (Err r) h amount g made none rows s p =
-    let same = facts-same m rows a.ask s.backed.named p h in
-    let on-rows : refusal rows a ≡ None = sym (ap (λ (f : Facts). refusal_of f a) same) ∙ g.0 in
-    let of-rows : e ≡ edit_on rows a = g.1 ∙ ap (λ (f : Facts). decided f a) same in
-    let entry = ap (λ (f : Facts). f.entry) same in
-    let parts = both (is_held_or_none m (number_named a.ask)) (is_held_or_none m (other_of a.ask (entry_in (kept_at m (number_named a.ask))))) h in
-    let P : Option Entry → Type 0 = λ w. is_held_or_none m (other_of a.ask w) ≡ true in
+    let on = on-rows m rows a (Ok e) h s p g in
+    let n = number_named a.ask in
+    let entry = ap (λ (f : Facts). f.entry) (facts-same m rows a.ask s.backed.named p h) in
+    let parts = both (is_held_or_none m n) (is_held_or_none m (other_of a.ask (entry_in (kept_at m n)))) h in
     let M : Edit → Type 0 = λ x. (v : TotalsAfter) → AreSmallTotals v → EditMoved m x v → ⊥ in
-    absurd (never-store m rows (other_of a.ask (entry_at rows.entries (number_named a.ask))) (number_named a.ask) (edit_on rows a) s.backed p (step rows a s amount on-rows).may (subst P entry parts.1) parts.0 (subst M of-rows none))
+    absurd (never-store m rows (other_of a.ask (entry_at rows.entries n)) n (edit_on rows a) s.backed p
+    (step rows a s amount on.0).may (rw entry at parts.1) parts.0 (subst M on.1 none))
 
 -- a refusal by what is kept is that of the rows
-pub decided-refused : (m : Part) (a : Asked) (r : Refusal) → holds_for m a.ask ≡ true → AnswersBy (kept_facts m a.ask) a (Err r) → (rows : Rows) → Sound rows → IsPart m rows → Decides rows a (Err r)
-decided-refused m a r h g rows s p =
-    let P : Facts → Type 0 = λ f. MayRefuse (refusal_of f a) r in
-    subst P (facts-same m rows a.ask s.backed.named p h) g
+pub decided-refused : (m : Part) (a : Asked) (r : Refusal) → holds_for m a.ask ≡ true
+    → AnswersBy (kept_facts m a.ask) a (Err r) → DecidesAll m a (Err r)
+decided-refused m a r h g rows s p = on-rows m rows a (Err r) h s p g

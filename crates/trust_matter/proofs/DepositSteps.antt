@@ -1,5 +1,5 @@
 -- Deposits, as steps.
-use Rattle.trust_matter.proofs.Names.{is_none, AllByRecursion, ◌≡◌, ℕ, ◌+◌, ◌<◌, ◌≤◌, false, List, [], ◌∷◌, ◌++◌, length, refl, ap, subst, arith, Option, Some, None, inl, pos, ◌+ℤ◌, ◌-ℤ◌, ◌≤ℤ◌, ints, Deposit, ReturnedDeposit, DepositState, Entry, Head, Seat, available, names, is_fee, is_settled, of_kind, events_of, events_in, received, paid_out, entry_at, draw, worth, available_share, cleared_deposit, AreBacked, IsBy, IsRanged, Sound, days_of, deposit_days, deposit_bank, made-before, all-at, within, MayTake, target-apart, total-undrawn, Numbered, deposit-may, left-moved, rows-of, MovesWithin, Caller, DepositAsk, is_no_deposit, is_deposit_not_held, HasAmount, deposit_of, cancelled}
+use Rattle.trust_matter.proofs.Names.{AllByRecursion, AreBacked, Caller, Deposit, DepositAsk, DepositState, Entry, HasAmount, Head, IsBy, IsRanged, List, MayTake, MovesWithin, None, Numbered, Option, ReturnedDeposit, Seat, Some, Sound, [], all-at, ap, arith, available, available_share, cancelled, cleared_deposit, days_of, deposit-may, deposit_bank, deposit_days, deposit_of, draw, entry_at, events_of, false, inl, ints, is_deposit_not_held, is_fee, is_no_deposit, is_none, is_settled, le_refl, left-moved, length, made-before, names, of_kind, paid_out, pos, refl, rows-of, subst, target-apart, total-undrawn, within, worth, ℕ, ◌++◌, ◌+ℤ◌, ◌+◌, ◌-ℤ◌, ◌<◌, ◌∷◌, ◌≡◌, ◌≤ℤ◌, ◌≤◌}
 use Rattle.matter_rows.specs.declared.clearing.Clearing.{Clearing}
 use Rattle.matter_rows.specs.declared.deposit.DepositState.TheVariants as deposit
 use Rattle.matter_rows.specs.declared.entry.Entry.TheVariants as entry
@@ -9,19 +9,13 @@ use Rattle.trust_matter.proofs.StepForms.{step-append, step-exchange, exchange-m
 
 -- A deposit.
 
-deposit-moves : (es : List Entry) (a : DepositAsk) (last day : ℕ) → last ≤ day → MovesWithin es (edit.Append (record { number = a.number; entry = deposit_of a day })) last day
-unfolding events_of
-deposit-moves es a last day later = record { moved = refl; dated = (later, omega arith) }
-
-deposit-by : (a : DepositAsk) (day : ℕ) → IsBy day (deposit_of a day)
-unfolding days_of
-deposit-by a day = (omega arith, tt)
-
 pub step-deposit : (h : Head) (seats : List Seat) (es : List Entry) (c : Caller) (a : DepositAsk) (day : ℕ) → Sound (rows-of (Some h) seats es) → HasAmount (ask.Deposit a) → h.closed ≡ None → h.last ≤ day → (length es < 9_999) × (a.number ≡ length es + 1) → Stepped (Some h) seats es (asked c (ask.Deposit a) day) (edit.Append (record { number = a.number; entry = deposit_of a day }))
+unfolding events_of days_of
 step-deposit h seats es c a day s amount unclosed later next =
     let x : Numbered = record { number = a.number; entry = deposit_of a day } in
     let may = deposit-may es (record { book = day; amount = a.amount; source = a.source; description = a.description; state = deposit.Held }) s.backed refl next.0 amount in
-    step-append h seats es x _ _ day s unclosed may next.1 later later (deposit-by a day) (tt, tt) (deposit-moves es a h.last day later) (inl refl)
+    step-append h seats es x _ _ day s unclosed may next.1 later later (le_refl day, tt) (tt, tt)
+    (record { moved = refl; dated = (later, le_refl day) }) (inl refl)
 
 -- A deposit that was held.
 
@@ -65,8 +59,8 @@ returned-may es n d c r s at cleared covered = other-may es n d (deposit.Returne
 pub returning-moves : (es : List Entry) (n last : ℕ) (d : Deposit) (c : Clearing) (r : ReturnedDeposit) → entry_at es n ≡ Some (entry.Deposit d) → d.state ≡ deposit.Cleared c → last ≤ r.undone → MovesWithin es (edit.Exchange (record { number = n; entry = with-state d (deposit.Returned r) })) last r.undone
 unfolding events_of
 returning-moves es n last d c r at cleared later =
-    let was : events_in (entry_at es n) ≡ received d.book d.amount ∷ [] = rw at (rw cleared refl) in
-    exchange-moves es (record { number = n; entry = with-state d (deposit.Returned r) }) last r.undone (paid_out r.undone d.amount ∷ []) (rw was refl) (later, omega arith)
+    exchange-moves es (record { number = n; entry = with-state d (deposit.Returned r) }) last r.undone
+    (paid_out r.undone d.amount ∷ []) (rw (at, cleared) refl) (later, le_refl r.undone)
 
 -- the days of a deposit that is taken back
 pub returned-by : (d : Deposit) (c : Clearing) (r : ReturnedDeposit) (last : ℕ) → d.state ≡ deposit.Cleared c → r.clearing ≡ c → IsBy last (entry.Deposit d) → last ≤ r.undone → r.returning.bank_day ≤ r.undone → IsBy r.undone (with-state d (deposit.Returned r))
@@ -79,21 +73,14 @@ returned-by d c r last cleared same by later back =
     let bank : r.clearing.bank_day ≡ c.bank_day = ap (λ (x : Clearing). x.bank_day) same in
     (omega (arith, book, later), (omega arith, (omega (arith, cleared_on, bank, later), (back, tt))))
 
-cancelling-moves : (es : List Entry) (n last day : ℕ) (d : Deposit) → entry_at es n ≡ Some (entry.Deposit d) → d.state ≡ deposit.Held → last ≤ day → MovesWithin es (edit.Exchange (record { number = n; entry = with-state d (deposit.Cancelled day) })) last day
-unfolding events_of
-cancelling-moves es n last day d at held later =
-    let was : events_in (entry_at es n) ≡ received d.book d.amount ∷ [] = rw at (rw held refl) in
-    exchange-moves es (record { number = n; entry = with-state d (deposit.Cancelled day) }) last day (paid_out day d.amount ∷ []) (rw was refl) (later, omega arith)
-
-cancelled-by : (d : Deposit) (day : ℕ) → d.book ≤ day → IsBy day (with-state d (deposit.Cancelled day))
-unfolding days_of
-cancelled-by d day made = (made, (omega arith, tt))
-
 pub step-cancel : (h : Head) (seats : List Seat) (es : List Entry) (c : Caller) (n day : ℕ) (o : Option Entry) → entry_at es n ≡ o → Sound (rows-of (Some h) seats es) → h.closed ≡ None → h.last ≤ day → is_none o ≡ false → is_no_deposit o ≡ false → is_deposit_not_held o ≡ false → Stepped (Some h) seats es (asked c (ask.CancelDeposit n) day) (cancelled n o day)
+unfolding events_of days_of
 step-cancel h seats es c n day (Some (entry.Deposit d)) at s unclosed later there kind state =
     let x : Numbered = record { number = n; entry = with-state d (deposit.Cancelled day) } in
     let held = held-is d.state state in
     let may = restated-may es n d (deposit.Cancelled day) s.backed at held in
     let made : d.book ≤ day = let b = made-before h es n (entry.Deposit d) s.headed.0 at in omega (arith, b, later) in
-    step-exchange h seats es x (entry.Deposit d) _ _ day s unclosed may refl (λ _. omega arith) later (cancelled-by d day made) ((made, tt), tt) (cancelling-moves es n h.last day d at held later) (inl refl) (refl)
+    step-exchange h seats es x (entry.Deposit d) _ _ day s unclosed may refl (λ _. omega arith) later
+    (made, (le_refl day, tt)) ((made, tt), tt) (exchange-moves es x h.last day (paid_out day d.amount ∷ [])
+    (rw (at, held) refl) (later, le_refl day)) (inl refl) (refl)
 step-cancel h seats es c n day o at s unclosed later there kind state = absurd (cc)

@@ -1,14 +1,13 @@
 -- What an accepted ask leaves of the head and the seats.
-use Rattle.trust_matter.proofs.Names.{is_some, is_none, AllByRecursion, filter, option_map, bytes_eq, ◌≡◌, ℕ, Bool, true, false, cond, List, [], ◌∷◌, ◌++◌, refl, ap, sym, ◌∙◌, subst, Option, Some, None, false≢true, bytes_eq-Decides, Refusal, Against, ClaimState, PaymentState, Entry, Head, Seat, Rows, entry_at, last_of, comes_before, role_in, seat_of, seats_with, seats_without, AreInOrder, IsHeaded, Sound, Edit, changed_by, head_after, last_after, rows-of, Ask, Caller, OpenAsk, is_changing, is_opening, is_unknown_to, is_repeat, is_no_claim, is_no_deposit, is_no_payment, Asked, facts_of, number_named, changes_matter, rule_against, first, conditions, early_conditions, refusal, edit_on, edit_of, rows_after, after, cancelled, with_payment, with_claim, voided, settled, opening}
-use Rattle.matter_rows.specs.declared.claim.Against.TheVariants as against
-use Rattle.matter_rows.specs.declared.payment.PaymentState.TheVariants as payment
-use Rattle.matter_rows.specs.declared.claim.ClaimState.TheVariants as claim
+use Rattle.trust_matter.proofs.Names.{AllByRecursion, AreInOrder, Ask, Asked, Caller, Edit, Entry, Head, IsHeaded, List, None, OpenAsk, Option, Refusal, Rows, Seat, Some, Sound, [], after, ap, bytes_eq, bytes_eq-Decides, changed_by, comes_before, cond, edit_of, edit_on, entry_at, facts_of, false, false≢true, filter, head_after, is_changing, is_opening, is_repeat, is_some, is_unknown_to, last_after, last_of, number_named, opening, option_map, refl, refusal, role_in, rows-of, rows_after, seat_of, seats_with, seats_without, subst, sym, true, ℕ, ◌++◌, ◌∙◌, ◌∷◌, ◌≡◌}
 use Rattle.matter_rows.specs.declared.entry.Entry.TheVariants as entry
 use Rattle.matter_rows.proofs.Seating.{before-antisym, before-total, all-after, after-more, no-seat, bytes_eq-swap}
+use Rattle.matter_parts.specs.Purging.{stub_rows}
 use Rattle.matter_parts.specs.declared.edit.Edit.TheVariants as edit
 use Rattle.trust_matter.specs.declared.ask.Ask.TheVariants as ask
+use Rattle.trust_matter.specs.Conditions.{is_missing_for, is_of_another_kind_for}
 use Rattle.trust_matter.specs.HeadLaws.{IsOpened, OpeningOpens, IsClosed, ClosingCloses, HasOneMore, IsSeated, SeatIsAdded, IsUnseated, SeatIsDropped, PurgingPurges, DayIsLast, ReadsChangeNothing}
-use Rattle.trust_matter.proofs.StepForms.{asked, head-there, none-is, some-is}
+use Rattle.trust_matter.proofs.StepForms.{asked, claim-changes, head-there, none-is, some-is}
 use Rattle.trust_matter.proofs.Table.{Passes, passes}
 
 -- One seat more.
@@ -90,18 +89,13 @@ seat-less (s ∷ ss) p order there =
 
 -- no condition of the table holds of an ask that is accepted and no repeat
 accepted-passes : (rows : Rows) (a : Asked) → is_repeat (facts_of rows a.ask) a ≡ false → refusal rows a ≡ None → Passes (facts_of rows a.ask) a
-accepted-passes rows a new none =
-    let f = facts_of rows a.ask in
-    let P : Bool → Type 0 = λ b. first (cond b (early_conditions f a) (conditions f a)) ≡ None in
-    passes f a (subst P new none)
+accepted-passes rows a new none = passes (facts_of rows a.ask) a (rw new at none)
 
 -- the rows after it
 accepted-after : (rows : Rows) (a : Asked) → is_repeat (facts_of rows a.ask) a ≡ false → refusal rows a ≡ None → (e : Edit) → edit_of a.ask (entry_at rows.entries (number_named a.ask)) a.day ≡ e → rows_after rows a ≡ changed_by e (last_after rows.head e a.day) rows
 accepted-after rows a new none e is =
     let P : Option Refusal → Type 0 = λ r. after r (edit_on rows a) a.day rows ≡ changed_by e (last_after rows.head e a.day) rows in
-    let Q : Edit → Type 0 = λ x. changed_by x (last_after rows.head x a.day) rows ≡ changed_by e (last_after rows.head e a.day) rows in
-    let made : edit_on rows a ≡ e = ap (λ (b : Bool). cond b edit.Nothing (edit_of a.ask (entry_at rows.entries (number_named a.ask)) a.day)) new ∙ is in
-    subst P (sym none) (subst Q (sym made) refl)
+    subst P (sym none) (rw (new, is) refl)
 
 -- the rows before an ask, and what has passed the table
 abbrev AcceptedOf : Option Head → List Seat → List Entry → Caller → Ask → ℕ → Type 0
@@ -118,8 +112,8 @@ open-made (Some h) seats es o who day s p = absurd (false≢true (sym p.not_open
 pub opening-opens : OpeningOpens
 opening-opens o rows who day s none =
     let a : Asked = asked who (ask.OpenMatter o) day in
-    let P : Rows → Type 0 = λ after. IsOpened o day after in
-    subst P (sym (accepted-after rows a refl none (edit.Open (opening o day)) refl)) (open-made rows.head rows.seats rows.entries o who day s (accepted-passes rows a refl none))
+    rw (accepted-after rows a refl none (edit.Open (opening o day)) refl)
+    (open-made rows.head rows.seats rows.entries o who day s (accepted-passes rows a refl none))
 
 -- all asks but an opening are of a matter that has a head
 with-head : (head : Option Head) (seats : List Seat) (es : List Entry) (who : Caller) (q : Ask) → IsHeaded head seats es → is_unknown_to who head seats q ≡ false → is_opening q ≡ false → (P : Option Head → Type 0) → ((h : Head) → P (Some h)) → P head
@@ -129,9 +123,8 @@ with-head (Some h) seats es who q headed known other P of = of h
 -- what holds of such a matter and the rows after the edit that was asked for
 with-edit : (rows : Rows) (who : Caller) (q : Ask) (day : ℕ) (e : Edit) (R : Rows → Rows → Type 0) → Sound rows → is_repeat (facts_of rows q) (asked who q day) ≡ false → refusal rows (asked who q day) ≡ None → edit_of q (entry_at rows.entries (number_named q)) day ≡ e → is_opening q ≡ false → ((h : Head) → R (rows-of (Some h) rows.seats rows.entries) (after-edit (Some h) rows.seats rows.entries e day)) → R rows (rows_after rows (asked who q day))
 with-edit rows who q day e R s new none is other of =
-    let P : Rows → Type 0 = λ after. R rows after in
     let Q : Option Head → Type 0 = λ head. R (rows-of head rows.seats rows.entries) (after-edit head rows.seats rows.entries e day) in
-    subst P (sym (accepted-after rows (asked who q day) new none e is))
+    rw (accepted-after rows (asked who q day) new none e is)
     (with-head rows.head rows.seats rows.entries who q s.headed (accepted-passes rows (asked who q day) new none).seat other Q of)
 
 pub closing-closes : ClosingCloses
@@ -150,75 +143,63 @@ seat-is_dropped person rows who day s none =
     let less = seat-less rows.seats person s.seated (some-is (role_in rows.seats person) p.seat_taken) in
     with-edit rows who (ask.DropSeat person) day (edit.Unseat person) (λ before after. IsUnseated person day before after) s refl none refl refl (λ h. record { head = refl; seat = less.seat; own = less.own; seats = less.among; entries = refl })
 
-last-cleared : (head : Option Head) (day : ℕ) → last_after head (edit.Clear day) day ≡ day
-last-cleared None day = refl
-last-cleared (Some h) day = refl
-
 pub purging-purges : PurgingPurges
 purging-purges rows who day s none =
-    accepted-after rows (asked who ask.Purge day) refl none (edit.Clear day) refl
-    ∙ ap (λ last. changed_by (edit.Clear day) last rows) (last-cleared rows.head day)
+    with-edit rows who ask.Purge day (edit.Clear day) (λ before after. after ≡ stub_rows day before) s refl none refl
+    refl (λ h. refl)
 
 -- The last day.
+
+-- the edit changes something of an open matter
+abbrev IsWritten : Edit → Type 0
+IsWritten edit.Nothing = ⊥
+IsWritten (edit.Open o) = ⊥
+IsWritten _ = Unit {0}
+
+-- an ask that finds its entry of the kind that it is about, and changes the matter, writes something
+written : (q : Ask) (o other : Option Entry) (day : ℕ) → is_missing_for q o other ≡ false
+    → is_of_another_kind_for q o other ≡ false → is_changing q ≡ true → is_opening q ≡ false
+    → IsWritten (edit_of q o day)
+written (ask.CancelDeposit n) (Some (entry.Deposit d)) other day there kind changing other_ask = tt
+written (ask.Approve n) (Some (entry.Payment p)) other day there kind changing other_ask = tt
+written (ask.Decline n) (Some (entry.Payment p)) other day there kind changing other_ask = tt
+written (ask.VoidPayment n) (Some (entry.Payment p)) other day there kind changing other_ask = tt
+written (ask.Offer a) (Some (entry.Claim c)) other day there kind changing other_ask = tt
+written (ask.Accept a) (Some (entry.Claim c)) other day there kind changing other_ask = tt
+written (ask.Award a) (Some (entry.Claim c)) other day there kind changing other_ask = tt
+written q o other day there kind changing other_ask = first_of (assumption, cc)
 
 -- after the edit the day is the last
 abbrev SeenOn : ℕ → Edit → Option Head → Type 0
 SeenOn day e head = last_of (head_after head e (last_after head e day)) ≡ day
 
-seen-deposit : (n day : ℕ) (o : Option Entry) → is_none o ≡ false → is_no_deposit o ≡ false → (h : Head) → SeenOn day (cancelled n o day) (Some h)
-seen-deposit n day (Some (entry.Deposit d)) there kind h = refl
-seen-deposit n day o there kind h = absurd (cc)
-
-seen-payment : (n day : ℕ) (next : PaymentState → PaymentState) (o : Option Entry) → is_none o ≡ false → is_no_payment o ≡ false → (h : Head) → SeenOn day (with_payment n o next) (Some h)
-seen-payment n day next (Some (entry.Payment p)) there kind h = refl
-seen-payment n day next o there kind h = absurd (cc)
-
-seen-claim : (n day : ℕ) (next : ClaimState) (o : Option Entry) → is_none o ≡ false → is_no_claim o ≡ false → (h : Head) → SeenOn day (with_claim n o next) (Some h)
-seen-claim n day next (Some (entry.Claim c)) there kind h = refl
-seen-claim n day next o there kind h = absurd (cc)
-
-seen-open : (head : Option Head) (o : OpenAsk) (day : ℕ) → SeenOn day (edit.Open (opening o day)) head
-seen-open None o day = refl
-seen-open (Some h) o day = refl
+seen-on : (h : Head) (e : Edit) (day : ℕ) → IsWritten e → SeenOn day e (Some h)
+seen-on h edit.Nothing day is = absurd is
+seen-on h (edit.Open o) day is = absurd is
+seen-on h e day is = refl
 
 -- an ask that changes the matter writes something on its day
 seen-made : (head : Option Head) (seats : List Seat) (es : List Entry) (who : Caller) (q : Ask) (day : ℕ) → Sound (rows-of head seats es) → AcceptedOf head seats es who q day → is_changing q ≡ true → SeenOn day (edit_of q (entry_at es (number_named q)) day) head
-seen-made head seats es who (ask.OpenMatter o) day s p changing = seen-open head o day
-seen-made head seats es who (ask.CancelDeposit n) day s p changing =
-    with-head head seats es who (ask.CancelDeposit n) s.headed p.seat refl (SeenOn day (edit_of (ask.CancelDeposit n) (entry_at es (number_named (ask.CancelDeposit n))) day)) (seen-deposit n day (entry_at es n) p.there p.kind)
-seen-made head seats es who (ask.Approve n) day s p changing =
-    with-head head seats es who (ask.Approve n) s.headed p.seat refl (SeenOn day (edit_of (ask.Approve n) (entry_at es (number_named (ask.Approve n))) day)) (seen-payment n day (λ _. payment.Issued day) (entry_at es n) p.there p.kind)
-seen-made head seats es who (ask.Decline n) day s p changing =
-    with-head head seats es who (ask.Decline n) s.headed p.seat refl (SeenOn day (edit_of (ask.Decline n) (entry_at es (number_named (ask.Decline n))) day)) (seen-payment n day (λ _. payment.Declined) (entry_at es n) p.there p.kind)
-seen-made head seats es who (ask.VoidPayment n) day s p changing =
-    with-head head seats es who (ask.VoidPayment n) s.headed p.seat refl (SeenOn day (edit_of (ask.VoidPayment n) (entry_at es (number_named (ask.VoidPayment n))) day)) (seen-payment n day (voided day) (entry_at es n) p.there p.kind)
-seen-made head seats es who (ask.Offer a) day s p changing =
-    with-head head seats es who (ask.Offer a) s.headed p.seat refl (SeenOn day (edit_of (ask.Offer a) (entry_at es (number_named (ask.Offer a))) day)) (seen-claim a.number day (claim.Offered a.to_client) (entry_at es a.number) p.there p.kind)
-seen-made head seats es who (ask.Accept a) day s p changing =
-    with-head head seats es who (ask.Accept a) s.headed p.seat refl (SeenOn day (edit_of (ask.Accept a) (entry_at es (number_named (ask.Accept a))) day)) (seen-claim a.number day (settled day a.to_client) (entry_at es a.number) p.there p.kind)
-seen-made head seats es who (ask.Award a) day s p changing =
-    with-head head seats es who (ask.Award a) s.headed p.seat refl (SeenOn day (edit_of (ask.Award a) (entry_at es (number_named (ask.Award a))) day)) (seen-claim a.number day (settled day a.to_client) (entry_at es a.number) p.there p.kind)
-seen-made head seats es who ask.Show day s p changing = absurd (false≢true changing)
-seen-made head seats es who ask.Accounting day s p changing = absurd (false≢true changing)
-seen-made head seats es who (ask.ShowEntry n) day s p changing = absurd (false≢true changing)
-seen-made head seats es who q day s p changing =
-    with-head head seats es who q s.headed p.seat refl (SeenOn day (edit_of q (entry_at es (number_named q)) day)) (λ h. refl)
+seen-made None seats es who (ask.OpenMatter o) day s p changing = refl
+seen-made None seats es who q day s p changing =
+    absurd (let there = head-there None seats es who q s.headed p.seat refl in cc)
+seen-made (Some h) seats es who (ask.OpenMatter o) day s p changing = refl
+seen-made (Some h) seats es who q day s p changing =
+    let e = edit_of q (entry_at es (number_named q)) day in
+    seen-on h e day (written q (entry_at es (number_named q)) (facts_of (rows-of (Some h) seats es) q).other day p.there
+    p.kind changing refl)
 
 pub day-is_last : DayIsLast
 day-is_last rows a s none changing new =
     let e = edit_of a.ask (entry_at rows.entries (number_named a.ask)) a.day in
-    let P : Rows → Type 0 = λ after. last_of after.head ≡ a.day in
-    subst P (sym (accepted-after rows a new none e refl)) (seen-made rows.head rows.seats rows.entries a.caller a.ask a.day s (accepted-passes rows a new none) changing)
+    rw (accepted-after rows a new none e refl) (seen-made rows.head rows.seats rows.entries a.caller a.ask a.day s
+    (accepted-passes rows a new none) changing)
 
 -- What only reads.
 
-unchanged : (rows : Rows) (day : ℕ) (r : Option Refusal) → after r edit.Nothing day rows ≡ rows
+pub unchanged : (rows : Rows) (day : ℕ) (r : Option Refusal) → after r edit.Nothing day rows ≡ rows
 unchanged rows day None = refl
 unchanged rows day (Some r) = refl
-
-claim-changes : (on : Against) → changes_matter (rule_against on) ≡ true
-claim-changes (against.General who) = refl
-claim-changes (against.Fee k) = refl
 
 read-nothing : (rows : Rows) (who : Caller) (q : Ask) (day : ℕ) → is_changing q ≡ false → rows_after rows (asked who q day) ≡ rows
 read-nothing rows who (ask.RaiseClaim a) day reading = absurd (false≢true (sym reading ∙ claim-changes a.against))

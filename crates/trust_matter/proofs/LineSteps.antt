@@ -1,13 +1,14 @@
 -- Lines of the bank, as steps.
-use Rattle.trust_matter.proofs.Names.{nat_lt, is_none, AllByRecursion, ◌≡◌, ◌⊎◌, ℕ, ◌≤◌, max, Bool, true, false, not, ◌&&◌, ◌||◌, cond, List, [], ◌∷◌, ◌++◌, refl, ap, sym, ◌∙◌, arith, subst, Option, Some, None, inl, inr, pos, append-nil, ◌≤ℤ◌, le-max_left, le-max_right, false≢true, ints, Line, Head, Seat, Deposit, DepositState, ReturnedDeposit, Payment, PaymentState, Entry, available, exceeds, is_held_state, is_issued_state, is_gone, Rows, entry_at, events_of, events_in, payments, target_in, fund_no, held_share, pending_share, paid, from_general, held_deposit, pending_payment, clearing_by, has_amount_back, is_cleared_state, is_line_again, deposit_by, cleared_payment, AreBacked, IsBy, IsRising, AreRising, IsRanged, IsAtRestIfClosed, Sound, days_of, payment_days, payment_bank, sound-covered, made-before, all-at, MayTake, Numbered, rows-of, MovesWithin, IsStepOf, BankLine, DatedEdit, Reason, LineEffect, LinesKeepSound, NoReasonHolds, LineFacts, line_facts, has_no_line, awaits_no_line, is_of_another_amount, is_uncovered, reasons, first_reason, told_by, last_by, dated_by, matched, line_effect, line_on, after_line_effect}
+use Rattle.trust_matter.proofs.Names.{AllByRecursion, AreBacked, BankLine, Bool, DatedEdit, Deposit, DepositState, Entry, Head, IsAtRestIfClosed, IsBy, IsRanged, IsRising, IsStepOf, Line, LineEffect, LineFacts, LinesKeepSound, List, MayTake, MovesWithin, NoReasonHolds, None, Numbered, Option, Payment, PaymentState, Reason, ReturnedDeposit, Rows, Seat, Some, Sound, [], after_line_effect, all-at, ap, append-nil, arith, available, awaits_no_line, cleared_payment, clearing_by, cond, dated_by, days_of, deposit_by, entry_at, events_in, events_of, exceeds, false, false≢true, first_reason, from_general, fund_no, has_amount_back, has_no_line, held_deposit, held_share, inl, inr, ints, is_cleared_state, is_gone, is_held_state, is_issued_state, is_line_again, is_none, is_of_another_amount, is_uncovered, last_by, le-max_left, le-max_right, line_effect, line_facts, line_on, made-before, matched, max, nat_lt, not, paid, payment_bank, payment_days, payments, pending_payment, pending_share, pos, reasons, refl, rows-of, sound-covered, subst, sym, target_in, told_by, true, ℕ, ◌&&◌, ◌++◌, ◌||◌, ◌∙◌, ◌∷◌, ◌≡◌, ◌≤ℤ◌, ◌≤◌, ◌⊎◌}
 use Rattle.matter_rows.specs.declared.deposit.DepositState.TheVariants as deposit
 use Rattle.matter_rows.specs.declared.payment.PaymentState.TheVariants as payment
 use Rattle.matter_rows.specs.declared.entry.Entry.TheVariants as entry
+use Rattle.matter_rows.proofs.Days.{up-to}
 use Rattle.matter_rows.proofs.Sums.{total-within}
 use Rattle.matter_parts.specs.declared.edit.Edit.TheVariants as edit
 use Rattle.trust_matter.specs.declared.line_verdict.LineEffect.TheVariants as told
 use Rattle.trust_matter.proofs.DepositSteps.{restated-may, returned-may, returning-moves, returned-by}
-use Rattle.trust_matter.proofs.StepForms.{step-exchange, exchange-moves, not-false, not-before}
+use Rattle.trust_matter.proofs.StepForms.{either-false, step-exchange, exchange-moves, not-false, not-before}
 use Rattle.trust_matter.proofs.PaymentSteps.{within-left, restated-may as payment-restated}
 
 -- A line that is applied.
@@ -38,23 +39,19 @@ pub applied-matched : (f : LineFacts) (d : DatedEdit) → line_effect f ≡ told
 applied-matched f d h =
     let a = applied-is (is_line_again f.entry f.line) (first_reason (reasons f)) (dated_by f) d h in
     let l : NoReasonHolds (reasons f) = none-hold (reasons f) a.1 in
-    (record { new = a.0; dated = l.0; opened = l.1.0; there = l.1.1.0; kind = l.1.1.1.0; state = l.1.1.1.1.0; amount = l.1.1.1.1.1.0; covered = l.1.1.1.1.1.1.0 }, a.2)
+    assumption
 
 -- An entry that waits for a line.
 
 held-least : (e : Entry) → pos 0 ≤ℤ held_share e
 unfolding held_share
 held-least (entry.Deposit d) = elim d.state as (λ s. pos 0 ≤ℤ held_deposit s d.amount) [ deposit.Held ↦ omega (arith, ints) | _ ↦ omega (arith, ints) ]
-held-least (entry.Payment p) = omega (arith, ints)
-held-least (entry.Fee f) = omega (arith, ints)
-held-least (entry.Claim c) = omega (arith, ints)
+held-least e = omega (arith, ints)
 
 pending-least : (e : Entry) → pos 0 ≤ℤ pending_share e
 unfolding pending_share
-pending-least (entry.Deposit d) = omega (arith, ints)
 pending-least (entry.Payment p) = elim p.state as (λ s. pos 0 ≤ℤ pending_payment s) [ payment.Proposed ↦ omega (arith, ints) | _ ↦ omega (arith, ints) ]
-pending-least (entry.Fee f) = omega (arith, ints)
-pending-least (entry.Claim c) = omega (arith, ints)
+pending-least e = omega (arith, ints)
 
 -- money that is held, or a payment that waits
 abbrev Waits : Entry → Type 0
@@ -79,33 +76,25 @@ held-waits es n d s at held =
 
 issued-waits : (p : Payment) → is_issued_state p.state ≡ true → Waits (entry.Payment p)
 unfolding pending_share
-issued-waits p h = inr (waiting p.state h)
-  where
-    waiting : (s : PaymentState) → is_issued_state s ≡ true → pos 1 ≤ℤ pending_payment s
-    waiting (payment.Issued day) h = omega (arith, ints)
-    waiting s h = absurd (false≢true h)
+issued-waits p h =
+    inr (elim p.state as (λ s. is_issued_state s ≡ true → pos 1 ≤ℤ pending_payment s)
+    [ payment.Issued day ↦ λ _. omega (arith, ints) | _ ↦ λ g. absurd (false≢true g) ] h)
 
 -- A payment that a line has cleared.
 
 abbrev cleared-by-line : Line → Payment → Entry
 cleared-by-line line p = entry.Payment (record p { state = cleared_payment line p.state })
 
-paid-same : (line : Line) (s : PaymentState) (a : ℕ) → paid (cleared_payment line s) a ≡ paid s a
-paid-same line payment.Proposed a = refl
-paid-same line s a = refl
-
-moved-same : (line : Line) (s : PaymentState) (a : ℕ) → payments (cleared_payment line s) a ≡ payments s a
-moved-same line payment.Proposed a = refl
-moved-same line s a = refl
-
-days-same : (line : Line) (s : PaymentState) → payment_days (cleared_payment line s) ≡ payment_days s
-days-same line payment.Proposed = refl
-days-same line s = refl
+cleared-same : (line : Line) (s : PaymentState) (a : ℕ)
+    → (paid (cleared_payment line s) a ≡ paid s a) × (payments (cleared_payment line s) a ≡ payments s
+    a) × (payment_days (cleared_payment line s) ≡ payment_days s)
+cleared-same line payment.Proposed a = (refl, refl, refl)
+cleared-same line s a = (refl, refl, refl)
 
 -- a payment may be cleared
 payment-may : (es : List Entry) (n : ℕ) (line : Line) (p : Payment) → AreBacked es → entry_at es n ≡ Some (entry.Payment p) → MayTake es n (entry.Payment p) (cleared-by-line line p)
 payment-may es n line p s at =
-    let same = paid-same line p.state p.amount in
+    let same = (cleared-same line p.state p.amount).0 in
     let general = ap (from_general p.fund) same in
     payment-restated es n p (cleared_payment line p.state) s at
     (let a = s.available in omega (arith, ints, a, general))
@@ -119,43 +108,16 @@ clearing-moves es n last day old new at same =
     let none : events_of new ≡ events_in (entry_at es n) ++ [] = same ∙ (sym was ∙ sym (append-nil (events_in (entry_at es n)))) in
     exchange-moves es (record { number = n; entry = new }) last day [] none tt
 
-payment-moved : (line : Line) (p : Payment) → events_of (cleared-by-line line p) ≡ events_of (entry.Payment p)
-unfolding events_of
-payment-moved line p = moved-same line p.state p.amount
-
-deposit-moved : (line : Line) (d : Deposit) → d.state ≡ deposit.Held → events_of (entry.Deposit (record d { state = deposit.Cleared (clearing_by line) })) ≡ events_of (entry.Deposit d)
-unfolding events_of
-deposit-moved line d held = rw held refl
-
-deposit-by : (line : Line) (d : Deposit) (last : ℕ) → d.book ≤ last → line.date ≤ last → IsBy last (entry.Deposit (record d { state = deposit.Cleared (clearing_by line) }))
-unfolding days_of
-deposit-by line d last made seen = (made, (seen, tt))
-
 later-by : (line : Line) (s : PaymentState) (a b : ℕ) → a ≤ b → line.date ≤ b → AllByRecursion (λ d. d ≤ a) (payment_days s ++ payment_bank s) → AllByRecursion (λ d. d ≤ b) (payment_days (cleared_payment line s) ++ payment_bank (cleared_payment line s))
 later-by line payment.Proposed a b later seen h = tt
-later-by line payment.Declined a b later seen h = tt
 later-by line (payment.Issued day) a b later seen h = (let i = h.0 in omega (arith, later, i), (seen, tt))
-later-by line (payment.Cleared c) a b later seen h = (let i = h.0 in omega (arith, later, i), (let d = h.1.0 in omega (arith, later, d), tt))
-later-by line (payment.Voided v) a b later seen h = (let i = h.0 in omega (arith, later, i), (let d = h.1.0 in omega (arith, later, d), tt))
-
-payment-by : (line : Line) (p : Payment) (a b : ℕ) → a ≤ b → line.date ≤ b → IsBy a (entry.Payment p) → IsBy b (cleared-by-line line p)
-unfolding days_of
-payment-by line p a b later seen h = (let made = h.0 in omega (arith, later, made), later-by line p.state a b later seen h.1)
-
-payment-rising : (line : Line) (p : Payment) → IsRising (entry.Payment p) → IsRising (cleared-by-line line p)
-payment-rising line p h =
-    let P : List ℕ → Type 0 = λ days. AreRising p.book days in
-    subst P (sym (days-same line p.state)) h
+later-by line s a b later seen h = up-to a b (payment_days s ++ payment_bank s) later h
 
 -- what is known of the line of a cleared deposit
 record IsTakenBack (h : Head) (es : List Entry) (d : Deposit) (line : Line) (today : ℕ) : Type 0 where
   back : has_amount_back d line ≡ true
   later : h.last ≤ today
   covered : pos d.amount ≤ℤ available es
-
-either-false : (a b : Bool) → (a || b) ≡ false → (a ≡ false) × (b ≡ false)
-either-false true b h = absurd (cc)
-either-false false b h = (refl, h)
 
 taken-back : (h : Head) (es : List Entry) (d : Deposit) (line : Line) (today : ℕ) (b : Bool) → has_amount_back d line ≡ b → not b ≡ false → (b && (nat_lt today h.last || exceeds d.amount (available es))) ≡ false → IsTakenBack h es d line today
 taken-back h es d line today false is state covered = absurd (cc)
@@ -189,6 +151,7 @@ DepositMatched h es line today d s =
     × (((is_cleared_state s && has_amount_back d line) && (nat_lt today h.last || exceeds d.amount (available es))) ≡ false)
 
 deposit-step : (h : Head) (seats : List Seat) (es : List Entry) (l : BankLine) (today : ℕ) (d : Deposit) (state : DepositState) → d.state ≡ state → entry_at es l.entry ≡ Some (entry.Deposit d) → Sound (rows-of (Some h) seats es) → nat_lt today l.line.date ≡ false → DepositMatched h es l.line today d state → DepositStep h seats es l today d state
+unfolding events_of days_of
 deposit-step h seats es l today d deposit.Held held at s dated m =
     let new : Deposit = record d { state = deposit.Cleared (clearing_by l.line) } in
     let x : Numbered = record { number = l.entry; entry = entry.Deposit new } in
@@ -197,7 +160,9 @@ deposit-step h seats es l today d deposit.Held held at s dated m =
     let later = le-max_left h.last l.line.date in
     let seen = le-max_right h.last l.line.date in
     let made : d.book ≤ max h.last l.line.date = let b = made-before h es l.entry (entry.Deposit d) s.headed.0 at in omega (arith, b, later) in
-    step-exchange h seats es x (entry.Deposit d) _ _ (max h.last l.line.date) s unclosed may refl (λ _. omega arith) later (deposit-by l.line d (max h.last l.line.date) made seen) (tt, tt) (clearing-moves es l.entry h.last (max h.last l.line.date) (entry.Deposit d) (entry.Deposit new) at (deposit-moved l.line d held)) (inl refl) (refl)
+    step-exchange h seats es x (entry.Deposit d) _ _ (max h.last l.line.date) s unclosed may refl (λ _. omega arith)
+    later (made, (seen, tt)) (tt, tt) (clearing-moves es l.entry h.last (max h.last l.line.date) (entry.Deposit d)
+    (entry.Deposit new) at (rw held refl)) (inl refl) (refl)
 deposit-step h seats es l today d (deposit.Cleared c) cleared at s dated m =
     let known = taken-back h es d l.line today (has_amount_back d l.line) refl m.0 m.1 in
     let r : ReturnedDeposit = record { clearing = c; returning = clearing_by l.line; undone = today } in
@@ -224,6 +189,7 @@ facts-of head es l today o = record { head = head; number = l.entry; entry = o; 
 
 -- a line that matches an entry of sound rows makes a step
 pub line-step : (head : Option Head) (seats : List Seat) (es : List Entry) (l : BankLine) (today : ℕ) (o : Option Entry) → entry_at es l.entry ≡ o → Sound (rows-of head seats es) → IsMatched (facts-of head es l today o) → IsStepOf (rows-of head seats es) (target_in o) l.entry (told_by l.entry o l.line today) (last_by (facts-of head es l today o))
+unfolding events_of days_of
 line-step None seats es l today o at s m = absurd (false≢true (sym m.opened))
 line-step (Some h) seats es l today None at s m = absurd (false≢true (sym m.there))
 line-step (Some h) seats es l today (Some (entry.Deposit d)) at s m = deposit-step h seats es l today d d.state refl at s m.dated (m.state, m.covered)
@@ -236,7 +202,12 @@ line-step (Some h) seats es l today (Some (entry.Payment p)) at s m =
     let seen = le-max_right h.last l.line.date in
     let by = all-at (IsBy h.last) es l.entry (entry.Payment p) s.headed.0.by_last at in
     let rising = all-at IsRising es l.entry (entry.Payment p) s.headed.0.changed at in
-    step-exchange h seats es x (entry.Payment p) _ _ (max h.last l.line.date) s unclosed may refl (λ _. omega arith) later (payment-by l.line p h.last (max h.last l.line.date) later seen by) (payment-rising l.line p rising) (clearing-moves es l.entry h.last (max h.last l.line.date) (entry.Payment p) (cleared-by-line l.line p) at (payment-moved l.line p)) (inr refl) (refl)
+    let same = cleared-same l.line p.state p.amount in
+    let made : p.book ≤ max h.last l.line.date = let b = by.0 in omega (arith, b, later) in
+    step-exchange h seats es x (entry.Payment p) _ _ (max h.last l.line.date) s unclosed may refl (λ _. omega arith)
+    later (made, later-by l.line p.state h.last (max h.last l.line.date) later seen by.1) (rw same.2 rising)
+    (clearing-moves es l.entry h.last (max h.last l.line.date) (entry.Payment p) (cleared-by-line l.line p) at
+    same.1) (inr refl) (refl)
 line-step (Some h) seats es l today o at s m = absurd (false≢true (sym m.kind))
 
 -- a line that is applied makes a step

@@ -1,5 +1,6 @@
 -- What a part of rows is decided on is what the rows are.
-use Rattle.trust_matter.proofs.Names.{AllByRecursion, ◌≡◌, ℕ, ◌+◌, ◌&&◌, Bool, true, false, List, refl, ap, ◌∙◌, arith, Option, ℤ, pos, ints, Entry, Head, Seat, names, ledger, left_in, entry_at, Rows, total-covered, AreFigures, total_kept, Part, kept_at, IsPart, is_held_or_none, entry_in, held-entry, Ask, Facts, number_named, other_of, facts_of, kept_facts, holds_for}
+use Rattle.trust_matter.proofs.Names.{AllByRecursion, AreFigures, Ask, Bool, Edit, Entry, Facts, Head, IsMade, IsPart, IsStepOf, List, MatterChange, Option, Part, Rows, Seat, Sound, ap, arith, change-is, entry_at, entry_in, facts_of, false, first, held-entry, holds_for, ints, is_held_or_none, kept_at, kept_facts, ledger, left_in, names, number_named, other_of, pos, refl, total-covered, total_kept, true, ℕ, ℤ, ◌&&◌, ◌+◌, ◌∙◌, ◌≡◌}
+use Rattle.matter_parts.specs.Changes.{IsChange}
 
 abbrev facts : Option Head → List Seat → ℕ → ℤ → ℤ → ℤ → Option Entry → Option Entry → ℤ → Facts
 facts h s n a b w e o l = record { head = h; seats = s; count = n; available = a; ledger = b; pending = w; entry = e; other = o; left = l }
@@ -12,6 +13,13 @@ facts-alike : (h h' : Option Head) (s s' : List Seat) (n n' : ℕ) (a a' b b' w 
     h ≡ h' → s ≡ s' → n ≡ n' → a ≡ a' → b ≡ b' → w ≡ w' → e ≡ e' → o ≡ o' → l ≡ l' →
     facts h s n a b w e o l ≡ facts h' s' n' a' b' w' e' o' l'
 facts-alike h h' s s' n n' a a' b b' w w' e e' o o' l l' p1 p2 p3 p4 p5 p6 p7 p8 p9 = cc
+
+-- a change that is made of an edit of the rows is one of them
+pub made-is : (m : Part) (rows : Rows) (t n last : ℕ) (e : Edit) (c : MatterChange) → IsPart m rows → Sound rows
+    → IsStepOf rows t n e last → IsMade m e last c → IsChange rows c
+made-is m rows t n last e c p s step made =
+    change-is m rows t n c p s (rw (made.of_edit, made.on_day) step) (rw made.of_edit made.moved)
+    (rw made.of_edit made.movement)
 
 -- the ledger by the totals is the ledger added up anew
 ledger-same : (m : Part) (es : List Entry) → AllByRecursion (λ e. names es e ≡ true) es → AreFigures m.figures es → pos (total_kept m.figures + m.figures.held) ≡ ledger es

@@ -1,8 +1,7 @@
--- What was made stays, so that an ask that comes again is a repeat.
-use Rattle.trust_matter.proofs.Names.{option_map, bytes_eq, ◌≡◌, ℕ, ◌+◌, ◌-◌, ◌==◌, Bool, true, false, cond, ◌||◌, ◌⊎◌, ⊎_elim, inl, inr, List, [], ◌∷◌, ◌++◌, length, map, refl, ap, sym, ◌∙◌, arith, subst, Option, Some, None, eqb, append_assoc, append-nil, false≢true, nat_tests, bytes_eq-Decides, Refusal, Line, Against, ClaimState, Fund, PaymentState, Head, Entry, is_same_against, is_same_fund, Rows, is_purged, entry_at, as_made, next_number, deposit_by, cleared_payment, map-with, entry_at-append, Edit, Numbered, changed_by, head_after, IsExchange, last_after, Ask, Caller, ClaimAsk, DepositAsk, FeeAsk, PaymentAsk, BankLine, DatedEdit, LineEffect, is_purging, is_not_yet_closed_for, is_in_another_state_for, comes_again, is_as_asked, is_claim_asked, is_fee_asked, is_payment_asked, is_repeat, misses, number_made, Asked, facts_of, number_named, made_in, Grows, MadeStays, MadeStaysOrGoes, LinesLeaveMade, Doing, AnAsk, ALine, after_doing, line_facts, told_by, last_by, line_on, after_line_effect, first, early_conditions, conditions, refusal, edit_on, edit_of, rows_after, after, cancelled, claim_of, deposit_of, fee_of, payment_of, settled, voided, with_claim, with_payment}
+-- What was made stays, and what a line cleared stays cleared, so that an ask that comes again is a repeat.
+use Rattle.trust_matter.proofs.Names.{ALine, Against, AnAsk, Ask, Asked, BankLine, Bool, Caller, DatedEdit, Deposit, DepositState, Doing, Edit, Entry, Fund, Grows, Head, IsExchange, Line, LineEffect, LinesLeaveMade, List, MadeStays, MadeStaysOrGoes, None, Option, PaymentState, Refusal, Rows, Some, [], after, after_doing, after_line_effect, ap, append-nil, append_assoc, arith, as_made, bytes_eq, bytes_eq-Decides, changed_by, claim_of, cleared_payment, comes_again, common_steps, cond, conditions, deposit_by, deposit_of, early_conditions, edit_of, edit_on, entry_at, entry_at-append, entry_at-with, eqb, facts_of, false, false≢true, fee_of, first, has_amount_back, has_its_amount, head_after, inl, inr, is_deposit_cleared_by, is_deposit_returned_by, is_held_state, is_in_another_state_for, is_issued_state, is_line_again, is_not_yet_closed_for, is_payment_cleared_by, is_proposed_state, is_purged, is_purging, is_repeat, is_same_against, is_same_fund, is_some, last_after, last_by, length, line_facts, line_on, made_in, map, map-with, misses, nat_tests, next_number, none-past, not, number_made, number_named, option_map, payment_of, refl, refusal, rows_after, subst, sym, told_by, true, with_entry, ℕ, ⊎_elim, ◌&&◌, ◌++◌, ◌+◌, ◌-◌, ◌<◌, ◌==◌, ◌||◌, ◌∙◌, ◌∷◌, ◌≡◌, ◌⊎◌}
 use Rattle.std.proofs.lemmas.List.{map-append}
 use Rattle.matter_rows.specs.declared.claim.Against.TheVariants as against
-use Rattle.matter_rows.specs.declared.claim.ClaimState.TheVariants as claim
 use Rattle.matter_rows.specs.declared.deposit.DepositState.TheVariants as deposit
 use Rattle.matter_rows.specs.declared.payment.Fund.TheVariants as fund
 use Rattle.matter_rows.specs.declared.payment.PaymentState.TheVariants as payment
@@ -10,128 +9,212 @@ use Rattle.matter_rows.specs.declared.entry.Entry.TheVariants as entry
 use Rattle.matter_parts.specs.declared.edit.Edit.TheVariants as edit
 use Rattle.trust_matter.specs.declared.ask.Ask.TheVariants as ask
 use Rattle.trust_matter.specs.declared.line_verdict.LineEffect.TheVariants as told
+use Rattle.trust_matter.proofs.HeadSteps.{unchanged}
 use Rattle.trust_matter.proofs.LineSteps.{applied-matched}
-use Rattle.trust_matter.proofs.StepForms.{next-is}
+use Rattle.trust_matter.proofs.StepForms.{asked, either-false, next-is}
 use Rattle.trust_matter.proofs.Table.{passes}
 
--- Entries are added to what was made.
+-- Entries are added to what was made, and what a line cleared stays cleared.
 
-pub stays : (rows later : Rows) → made_in later ≡ made_in rows → Grows rows later
-stays rows later same = ([], same ∙ sym (append-nil (made_in rows)))
+pub record Leaves (rows later : Rows) : Type 0 where
+  pub grows : Grows rows later
+  pub cleared : (line : Line) (n : ℕ) → is_line_again (entry_at rows.entries n) line ≡ true
+      → is_line_again (entry_at later.entries n) line ≡ true
 
-pub further : (a b c : Rows) → Grows a b → Grows b c → Grows a c
-further a b c g h = (g.0 ++ h.0, h.1 ∙ (ap (λ xs. xs ++ h.0) g.1 ∙ append_assoc (made_in a) g.0 h.0))
+pub same-leaves : (rows later : Rows) → later.entries ≡ rows.entries → Leaves rows later
+same-leaves rows later same = record {
+  grows = ([], ap (λ es. map as_made es) same ∙ sym (append-nil (made_in rows)));
+  cleared = λ line n h. ap (λ es. is_line_again (entry_at es n) line) same ∙ h;
+}
 
-append-grows : (rows : Rows) (x : Numbered) (last : ℕ) → Grows rows (changed_by (edit.Append x) last rows)
-append-grows rows x last = (as_made x.entry ∷ [], map-append as_made rows.entries (x.entry ∷ []))
+pub further : (a b c : Rows) → Leaves a b → Leaves b c → Leaves a c
+further a b c g h =
+    let front = ap (λ xs. xs ++ h.grows.0) g.grows.1 ∙ append_assoc (made_in a) g.grows.0 h.grows.0 in
+    record {
+      grows = (g.grows.0 ++ h.grows.0, h.grows.1 ∙ front);
+      cleared = λ line n is. h.cleared line n (g.cleared line n is);
+    }
 
-exchange-grows : (rows : Rows) (x : Numbered) (old : Entry) (last : ℕ) → IsExchange rows.entries x old → Grows rows (changed_by (edit.Exchange x) last rows)
-exchange-grows rows x old last is = stays rows (changed_by (edit.Exchange x) last rows) (map-with as_made rows.entries x.number old x.entry is.there is.same)
+-- all is left, or the matter was purged
+abbrev pub LeavesOrGoes : Rows → Rows → Type 0
+LeavesOrGoes rows later = Leaves rows later ⊎ (is_purged later.head ≡ true)
 
-nothing-grows : (rows : Rows) (last : ℕ) → Grows rows (changed_by edit.Nothing last rows)
-nothing-grows rows last = stays rows (changed_by edit.Nothing last rows) refl
+append-keeps : (line : Line) (es : List Entry) (x : Entry) (n : ℕ) → is_line_again (entry_at es n) line ≡ true → is_line_again (entry_at (es ++ x ∷ []) n) line ≡ true
+append-keeps line es x n h =
+    rw (entry_at-append es x n)
+    (elim (eqb n (length es + 1)) as (λ b. eqb n (length es + 1) ≡ b → is_line_again (cond b (Some x) (entry_at es n)) line ≡ true) [
+      | true ↦ λ s.
+          let past : length es < n = grind (arith, nat_tests) in
+          let g : is_line_again None line ≡ true = rw (none-past es n past) at h in
+          absurd (false≢true g)
+      | false ↦ λ s. h
+    ] refl)
 
-cancel-grows : (rows : Rows) (n day last : ℕ) (o : Option Entry) → entry_at rows.entries n ≡ o → Grows rows (changed_by (cancelled n o day) last rows)
-cancel-grows rows n day last (Some (entry.Deposit d)) at =
-    exchange-grows rows (record { number = n; entry = entry.Deposit (record d { state = deposit.Cancelled day }) }) (entry.Deposit d) last (record { there = at; same = refl })
-cancel-grows rows n day last o at = stays rows (changed_by edit.Nothing last rows) refl
+-- an entry may be exchanged for one of which the line is a repeat where it was one of the old
+with-keeps : (line : Line) (es : List Entry) (k : ℕ) (old new : Entry) → entry_at es k ≡ Some old → (is_line_again (Some old) line ≡ true → is_line_again (Some new) line ≡ true) → (n : ℕ) → is_line_again (entry_at es n) line ≡ true → is_line_again (entry_at (with_entry es k new) n) line ≡ true
+with-keeps line es k old new at keeps n h =
+    rw (entry_at-with es k old new n at)
+    (elim (eqb n k) as (λ b. eqb n k ≡ b → is_line_again (cond b (Some new) (entry_at es n)) line ≡ true) [
+      | true ↦ λ s.
+          let same : n ≡ k = grind (arith, nat_tests) in
+          let P : ℕ → Type 0 = λ i. is_line_again (entry_at es i) line ≡ true in
+          let g : is_line_again (entry_at es k) line ≡ true = subst P same h in
+          keeps (sym (ap (λ o. is_line_again o line) at) ∙ g)
+      | false ↦ λ s. h
+    ] refl)
 
-payment-grows : (rows : Rows) (n last : ℕ) (o : Option Entry) (next : PaymentState → PaymentState) → entry_at rows.entries n ≡ o → Grows rows (changed_by (with_payment n o next) last rows)
-payment-grows rows n last (Some (entry.Payment p)) next at =
-    exchange-grows rows (record { number = n; entry = entry.Payment (record p { state = next p.state }) }) (entry.Payment p) last (record { there = at; same = refl })
-payment-grows rows n last o next at = stays rows (changed_by edit.Nothing last rows) refl
+-- the edit takes no entry away; an exchanged one was made as before, and the lines that were repeats of it still are
+abbrev LeavesIn : List Entry → Edit → Type 0
+LeavesIn es (edit.Exchange x) =
+    (old : Entry) × IsExchange es x old × ((line : Line) → is_line_again (Some old) line ≡ true → is_line_again
+    (Some x.entry) line ≡ true)
+LeavesIn es (edit.Clear day) = ⊥
+LeavesIn es _ = Unit {0}
 
-claim-grows : (rows : Rows) (n last : ℕ) (o : Option Entry) (next : ClaimState) → entry_at rows.entries n ≡ o → Grows rows (changed_by (with_claim n o next) last rows)
-claim-grows rows n last (Some (entry.Claim c)) next at =
-    exchange-grows rows (record { number = n; entry = entry.Claim (record c { state = next }) }) (entry.Claim c) last (record { there = at; same = refl })
-claim-grows rows n last o next at = stays rows (changed_by edit.Nothing last rows) refl
+edit-leaves : (rows : Rows) (e : Edit) (last : ℕ) → LeavesIn rows.entries e → Leaves rows (changed_by e last rows)
+edit-leaves rows (edit.Append x) last is = record {
+  grows = (as_made x.entry ∷ [], map-append as_made rows.entries (x.entry ∷ []));
+  cleared = λ line n h. append-keeps line rows.entries x.entry n h;
+}
+edit-leaves rows (edit.Exchange x) last is =
+    let same = map-with as_made rows.entries x.number is.0 x.entry is.1.there is.1.same in
+    record {
+      grows = ([], same ∙ sym (append-nil (made_in rows)));
+      cleared = λ line n h. with-keeps line rows.entries x.number is.0 x.entry is.1.there (is.2 line) n h;
+    }
+edit-leaves rows (edit.Clear day) last is = absurd is
+edit-leaves rows e last is = same-leaves rows (changed_by e last rows) refl
+
+-- the line is a repeat of one of a deposit's lines, in this state
+abbrev pub again-in : Deposit → Line → DepositState → Bool
+again-in d line s = (is_deposit_cleared_by s line && has_its_amount (entry.Deposit d) line) || (is_deposit_returned_by s line && has_amount_back d line)
+
+-- of what is not cleared no line is a repeat
+held-not : (d : Deposit) (line : Line) (s : DepositState) (c : Bool) → not (is_held_state s) ≡ false → again-in d line s ≡ true → c ≡ true
+held-not d line deposit.Held c h g = absurd (false≢true g)
+held-not d line s c h g = absurd (false≢true (sym h))
+
+proposed-not : (line : Line) (s : PaymentState) (a c : Bool) → not (is_proposed_state s) ≡ false
+    → (is_payment_cleared_by s line && a) ≡ true → c ≡ true
+proposed-not line payment.Proposed a c h g = absurd (false≢true g)
+proposed-not line s a c h g = absurd (false≢true (sym h))
+
+issued-not : (line : Line) (s : PaymentState) (a c : Bool) → not (is_issued_state s) ≡ false
+    → (is_payment_cleared_by s line && a) ≡ true → c ≡ true
+issued-not line (payment.Issued day) a c h g = absurd (false≢true g)
+issued-not line s a c h g = absurd (false≢true (sym h))
+
+-- an ask that finds its entry in the state that it needs
+ask-leaves : (es : List Entry) (a : Ask) (o other : Option Entry) (day : ℕ) → entry_at es (number_named a) ≡ o
+    → is_purging a ≡ false → is_in_another_state_for a o other ≡ false → LeavesIn es (edit_of a o day)
+ask-leaves es (ask.CancelDeposit n) (Some (entry.Deposit d)) other day at stays state =
+    (entry.Deposit d, record { there = at; same = refl }, λ line. held-not d line d.state _ state)
+ask-leaves es (ask.Approve n) (Some (entry.Payment p)) other day at stays state =
+    (entry.Payment p, record { there = at; same = refl }, λ line. proposed-not line p.state _ _ state)
+ask-leaves es (ask.Decline n) (Some (entry.Payment p)) other day at stays state =
+    (entry.Payment p, record { there = at; same = refl }, λ line. proposed-not line p.state _ _ state)
+ask-leaves es (ask.VoidPayment n) (Some (entry.Payment p)) other day at stays state =
+    (entry.Payment p, record { there = at; same = refl }, λ line. issued-not line p.state _ _ state)
+ask-leaves es (ask.Offer a) (Some (entry.Claim c)) other day at stays state =
+    (entry.Claim c, record { there = at; same = refl }, λ line h. h)
+ask-leaves es (ask.Accept a) (Some (entry.Claim c)) other day at stays state =
+    (entry.Claim c, record { there = at; same = refl }, λ line h. h)
+ask-leaves es (ask.Award a) (Some (entry.Claim c)) other day at stays state =
+    (entry.Claim c, record { there = at; same = refl }, λ line h. h)
+ask-leaves es a o other day at stays state = first_of (assumption, cc)
 
 -- no ask but the purging takes an entry away
-edit-grows : (rows : Rows) (a : Ask) (day last : ℕ) → is_purging a ≡ false → Grows rows (changed_by (edit_of a (entry_at rows.entries (number_named a)) day) last rows)
-edit-grows rows (ask.Deposit d) day last kept = append-grows rows (record { number = d.number; entry = deposit_of d day }) last
-edit-grows rows (ask.CancelDeposit n) day last kept = cancel-grows rows n day last (entry_at rows.entries n) refl
-edit-grows rows (ask.Propose a) day last kept = append-grows rows (record { number = a.number; entry = payment_of a day }) last
-edit-grows rows (ask.Approve n) day last kept = payment-grows rows n last (entry_at rows.entries n) (λ _. payment.Issued day) refl
-edit-grows rows (ask.Decline n) day last kept = payment-grows rows n last (entry_at rows.entries n) (λ _. payment.Declined) refl
-edit-grows rows (ask.VoidPayment n) day last kept = payment-grows rows n last (entry_at rows.entries n) (voided day) refl
-edit-grows rows (ask.EarnFee a) day last kept = append-grows rows (record { number = a.number; entry = fee_of a day }) last
-edit-grows rows (ask.RaiseClaim a) day last kept = append-grows rows (record { number = a.number; entry = claim_of a day }) last
-edit-grows rows (ask.Offer a) day last kept = claim-grows rows a.number last (entry_at rows.entries a.number) (claim.Offered a.to_client) refl
-edit-grows rows (ask.Accept a) day last kept = claim-grows rows a.number last (entry_at rows.entries a.number) (settled day a.to_client) refl
-edit-grows rows (ask.Award a) day last kept = claim-grows rows a.number last (entry_at rows.entries a.number) (settled day a.to_client) refl
-edit-grows rows ask.Purge day last kept = absurd (false≢true (sym kept))
-edit-grows rows a day last kept = nothing-grows rows last
+decided-leaves : (rows : Rows) (a : Asked) (b : Bool) → is_purging a.ask ≡ false
+    → first (cond b (early_conditions (facts_of rows a.ask) a) (conditions (facts_of rows a.ask) a)) ≡ None
+    → LeavesIn rows.entries (cond b edit.Nothing (edit_of a.ask (entry_at rows.entries (number_named a.ask)) a.day))
+decided-leaves rows a true stays none = tt
+decided-leaves rows a false stays none =
+    let f = facts_of rows a.ask in
+    let state =
+    (either-false (is_not_yet_closed_for a.ask f.head) (is_in_another_state_for a.ask f.entry f.other)
+    (passes f a none).state).1 in
+    ask-leaves rows.entries a.ask f.entry f.other a.day refl stays state
 
-either-grows : (b : Bool) (rows : Rows) (e : Edit) (last : ℕ) → Grows rows (changed_by e last rows) → Grows rows (changed_by (cond b edit.Nothing e) last rows)
-either-grows true rows e last g = nothing-grows rows last
-either-grows false rows e last g = g
-
-after-grows : (rows : Rows) (a : Asked) (r : Option Refusal) → is_purging a.ask ≡ false → Grows rows (after r (edit_on rows a) a.day rows)
-after-grows rows a (Some r) kept = stays rows rows refl
-after-grows rows a None kept =
-    let e = edit_of a.ask (entry_at rows.entries (number_named a.ask)) a.day in
-    let last = last_after rows.head (edit_on rows a) a.day in
-    either-grows (is_repeat (facts_of rows a.ask) a) rows e last (edit-grows rows a.ask a.day last kept)
+after-leaves : (rows : Rows) (a : Asked) (r : Option Refusal) → refusal rows a ≡ r → is_purging a.ask ≡ false
+    → Leaves rows (after r (edit_on rows a) a.day rows)
+after-leaves rows a (Some r) is stays = same-leaves rows rows refl
+after-leaves rows a None is stays =
+    edit-leaves rows (edit_on rows a) (last_after rows.head (edit_on rows a) a.day)
+    (decided-leaves rows a (is_repeat (facts_of rows a.ask) a) stays is)
 
 pub made-stays : MadeStays
-made-stays rows a kept = after-grows rows a (refusal rows a) kept
+made-stays rows a stays = (after-leaves rows a (refusal rows a) refl stays).grows
 
 -- What purges.
-
-or-first : (a b : Bool) → (a || b) ≡ false → a ≡ false
-or-first true b h = h
-or-first false b h = refl
 
 purging-goes : (a : Ask) (e : Option Entry) (day last : ℕ) (o : Option Head) → is_purging a ≡ true → is_not_yet_closed_for a o ≡ false → is_purged (head_after o (edit_of a e day) last) ≡ true
 purging-goes ask.Purge e day last None is closed = absurd (false≢true (sym closed))
 purging-goes ask.Purge e day last (Some h) is closed = refl
 purging-goes a e day last head is closed = absurd (false≢true is)
 
-either-goes : (b : Bool) (rows : Rows) (a : Asked) (last : ℕ) → is_purging a.ask ≡ true → first (cond b (early_conditions (facts_of rows a.ask) a) (conditions (facts_of rows a.ask) a)) ≡ None → (changed_by (cond b edit.Nothing (edit_of a.ask (entry_at rows.entries (number_named a.ask)) a.day)) last rows ≡ rows) ⊎ (is_purged (changed_by (cond b edit.Nothing (edit_of a.ask (entry_at rows.entries (number_named a.ask)) a.day)) last rows).head ≡ true)
-either-goes true rows a last is none = inl refl
+either-goes : (b : Bool) (rows : Rows) (a : Asked) (last : ℕ) → is_purging a.ask ≡ true
+    → first (cond b (early_conditions (facts_of rows a.ask) a) (conditions (facts_of rows a.ask) a)) ≡ None
+    → LeavesOrGoes rows (changed_by (cond b edit.Nothing (edit_of a.ask (entry_at rows.entries (number_named a.ask))
+    a.day)) last rows)
+either-goes true rows a last is none = inl (same-leaves rows rows refl)
 either-goes false rows a last is none =
-    let p = passes (facts_of rows a.ask) a none in
-    inr (purging-goes a.ask (entry_at rows.entries (number_named a.ask)) a.day last rows.head is (or-first (is_not_yet_closed_for a.ask rows.head) (is_in_another_state_for a.ask (facts_of rows a.ask).entry (facts_of rows a.ask).other) p.state))
+    let f = facts_of rows a.ask in
+    inr (purging-goes a.ask f.entry a.day last rows.head is (either-false (is_not_yet_closed_for a.ask rows.head)
+    (is_in_another_state_for a.ask f.entry f.other) (passes f a none).state).0)
 
-after-goes : (rows : Rows) (a : Asked) (r : Option Refusal) → refusal rows a ≡ r → is_purging a.ask ≡ true → (after r (edit_on rows a) a.day rows ≡ rows) ⊎ (is_purged (after r (edit_on rows a) a.day rows).head ≡ true)
-after-goes rows a (Some r) none is = inl refl
-after-goes rows a None none is = either-goes (is_repeat (facts_of rows a.ask) a) rows a (last_after rows.head (edit_on rows a) a.day) is none
-
--- what is to be purged stays as it is, or is purged
-purge-or-same : (rows : Rows) (a : Asked) → is_purging a.ask ≡ true → (rows_after rows a ≡ rows) ⊎ (is_purged (rows_after rows a).head ≡ true)
-purge-or-same rows a is = after-goes rows a (refusal rows a) refl is
-
--- what no ask but a purge changes stays, or the matter is purged
-pub unless-purged : (rows : Rows) (a : Asked) (T : Rows → Type 0) → T rows → (is_purging a.ask ≡ false → T (rows_after rows a)) → T (rows_after rows a) ⊎ (is_purged (rows_after rows a).head ≡ true)
-unless-purged rows a T own kept =
-    elim (is_purging a.ask) as (λ b. is_purging a.ask ≡ b → T (rows_after rows a) ⊎ (is_purged (rows_after rows a).head ≡ true)) [
-      | true ↦ λ is. ⊎_elim (λ (same : rows_after rows a ≡ rows). inl (subst T (sym same) own)) (λ (gone : is_purged (rows_after rows a).head ≡ true). inr gone) (purge-or-same rows a is)
-      | false ↦ λ stays. inl (kept stays)
-    ] refl
+after-goes : (rows : Rows) (a : Asked) (r : Option Refusal) (b : Bool) → refusal rows a ≡ r → is_purging a.ask ≡ b
+    → LeavesOrGoes rows (after r (edit_on rows a) a.day rows)
+after-goes rows a r false none is = inl (after-leaves rows a r none is)
+after-goes rows a (Some r) true none is = inl (same-leaves rows rows refl)
+after-goes rows a None true none is =
+    either-goes (is_repeat (facts_of rows a.ask) a) rows a (last_after rows.head (edit_on rows a) a.day) is none
 
 pub made-stays-or-goes : MadeStaysOrGoes
-made-stays-or-goes rows a = unless-purged rows a (λ r. Grows rows r) (stays rows rows refl) (made-stays rows a)
+made-stays-or-goes rows a =
+    ⊎_elim
+    (λ (l : Leaves rows (rows_after rows a)). inl l.grows)
+    (λ (gone : is_purged (rows_after rows a).head ≡ true). inr gone)
+    (after-goes rows a (refusal rows a) (is_purging a.ask) refl refl)
 
-told-grows : (rows : Rows) (n last : ℕ) (line : Line) (today : ℕ) (o : Option Entry) → entry_at rows.entries n ≡ o → Grows rows (changed_by (told_by n o line today) last rows)
-told-grows rows n last line today (Some (entry.Deposit d)) at =
-    exchange-grows rows (record { number = n; entry = entry.Deposit (record d { state = deposit_by line today d.state }) }) (entry.Deposit d) last (record { there = at; same = refl })
-told-grows rows n last line today (Some (entry.Payment p)) at =
-    exchange-grows rows (record { number = n; entry = entry.Payment (record p { state = cleared_payment line p.state }) }) (entry.Payment p) last (record { there = at; same = refl })
-told-grows rows n last line today o at = stays rows (changed_by edit.Nothing last rows) refl
+-- Lines.
 
-after-line-grows : (rows : Rows) (l : BankLine) (today : ℕ) (e : LineEffect) → line_on rows l today ≡ e → Grows rows (after_line_effect e rows)
-after-line-grows rows l today (told.Applied d) is =
+-- a deposit that is taken back keeps its clearing
+deposit-keeps : (line by : Line) (today : ℕ) (d : Deposit) (s : DepositState) → again-in d line s ≡ true → again-in d line (deposit_by by today s) ≡ true
+deposit-keeps line by today d deposit.Held h = absurd (false≢true h)
+deposit-keeps line by today d (deposit.Cleared c) h = grind (arith, common_steps)
+deposit-keeps line by today d s h = h
+
+paid-keeps : (line by : Line) (a : Bool) (s : PaymentState) → (is_payment_cleared_by s line && a) ≡ true → (is_payment_cleared_by (cleared_payment by s) line && a) ≡ true
+paid-keeps line by a (payment.Issued day) h = absurd (false≢true h)
+paid-keeps line by a s h = h
+
+told-leaves : (es : List Entry) (n : ℕ) (by : Line) (today : ℕ) (o : Option Entry) → entry_at es n ≡ o
+    → LeavesIn es (told_by n o by today)
+told-leaves es n by today (Some (entry.Deposit d)) at =
+    (entry.Deposit d, record { there = at; same = refl }, λ line. deposit-keeps line by today d d.state)
+told-leaves es n by today (Some (entry.Payment p)) at = (
+  entry.Payment p,
+  record { there = at; same = refl },
+  λ line. paid-keeps line by
+      (has_its_amount (entry.Payment p) line) p.state,
+)
+told-leaves es n by today o at = tt
+
+line-leaves : (rows : Rows) (l : BankLine) (today : ℕ) (e : LineEffect) → line_on rows l today ≡ e
+    → Leaves rows (after_line_effect e rows)
+line-leaves rows l today (told.Applied d) is =
     let f = line_facts rows l today in
-    let P : DatedEdit → Type 0 = λ x. Grows rows (changed_by x.edit x.last rows) in
-    subst P (applied-matched f d is).1 (told-grows rows l.entry (last_by f) l.line today f.entry refl)
-after-line-grows rows l today e is = stays rows rows refl
+    let P : DatedEdit → Type 0 = λ x. Leaves rows (changed_by x.edit x.last rows) in
+    subst P (applied-matched f d is).1 (edit-leaves rows (told_by f.number f.entry f.line f.today) (last_by f)
+    (told-leaves rows.entries l.entry l.line today f.entry refl))
+line-leaves rows l today e is = same-leaves rows rows refl
 
 pub lines-leave-made : LinesLeaveMade
-lines-leave-made rows l today = after-line-grows rows l today (line_on rows l today) refl
+lines-leave-made rows l today = (line-leaves rows l today (line_on rows l today) refl).grows
 
-pub doing-grows : (rows : Rows) (d : Doing) → Grows rows (after_doing rows d) ⊎ (is_purged (after_doing rows d).head ≡ true)
-doing-grows rows (AnAsk a) = made-stays-or-goes rows a
-doing-grows rows (ALine l today) = inl (lines-leave-made rows l today)
+pub doing-leaves : (rows : Rows) (d : Doing) → LeavesOrGoes rows (after_doing rows d)
+doing-leaves rows (AnAsk a) = after-goes rows a (refusal rows a) (is_purging a.ask) refl refl
+doing-leaves rows (ALine l today) = inl (line-leaves rows l today (line_on rows l today) refl)
 
 -- An entry stays as asked.
 
@@ -143,51 +226,45 @@ entry_at-map f (e ∷ es) n =
       | false ↦ entry_at-map f es (n - 1)
     ]
 
--- an ask that makes an entry: it comes again where the entry is as it was made
-pub record Makes (q : Ask) : Type 0 where
-  number : number_made q ≡ Some (number_named q)
-  made_on : ℕ → Entry
-  edit : (o : Option Entry) (day : ℕ) → edit_of q o day ≡ edit.Append (record { number = number_named q; entry = made_on day })
-  own : (day : ℕ) → comes_again q (Some (made_on day)) ≡ true
-  none : comes_again q None ≡ false
-  told : (e : Entry) → comes_again q (Some (as_made e)) ≡ comes_again q (Some e)
-
-asked-made : (q : Ask) → Makes q → (o : Option Entry) → comes_again q (option_map as_made o) ≡ comes_again q o
-asked-made q m None = refl
-asked-made q m (Some e) = m.told e
-
 -- what is as asked is told by what was made
-asked-by : (q : Ask) → Makes q → (es : List Entry) (n : ℕ) → comes_again q (entry_at (map as_made es) n) ≡ comes_again q (entry_at es n)
-asked-by q m es n = ap (comes_again q) (entry_at-map as_made es n) ∙ asked-made q m (entry_at es n)
 
-asked-front : (q : Ask) → Makes q → (xs ys : List Entry) (n : ℕ) → comes_again q (entry_at xs n) ≡ true → comes_again q (entry_at (xs ++ ys) n) ≡ true
-asked-front q m [] ys n h = absurd (false≢true (sym m.none ∙ h))
-asked-front q m (x ∷ xs) ys n h =
+asked-none : (q : Ask) → comes_again q None ≡ false
+asked-none (ask.Deposit a) = refl
+asked-none q = refl
+
+asked-made : (q : Ask) (o : Option Entry) → comes_again q (option_map as_made o) ≡ comes_again q o
+asked-made q None = refl
+asked-made (ask.Deposit a) (Some (entry.Deposit d)) = refl
+asked-made (ask.Propose a) (Some (entry.Payment p)) = refl
+asked-made (ask.EarnFee a) (Some (entry.Fee f)) = refl
+asked-made (ask.RaiseClaim a) (Some (entry.Claim c)) = refl
+asked-made q (Some e) = refl
+
+asked-by : (q : Ask) (es : List Entry) (n : ℕ)
+    → comes_again q (entry_at (map as_made es) n) ≡ comes_again q (entry_at es n)
+asked-by q es n = ap (comes_again q) (entry_at-map as_made es n) ∙ asked-made q (entry_at es n)
+
+asked-front : (q : Ask) (xs ys : List Entry) (n : ℕ) → comes_again q (entry_at xs n) ≡ true
+    → comes_again q (entry_at (xs ++ ys) n) ≡ true
+asked-front q [] ys n h = absurd (false≢true (sym (asked-none q) ∙ h))
+asked-front q (x ∷ xs) ys n h =
     elim (eqb n 1) as (λ b. comes_again q (cond b (Some x) (entry_at xs (n - 1))) ≡ true → comes_again q (cond b (Some x) (entry_at (xs ++ ys) (n - 1))) ≡ true) [
       | true ↦ λ g. g
-      | false ↦ λ g. asked-front q m xs ys (n - 1) g
+      | false ↦ λ g. asked-front q xs ys (n - 1) g
     ] h
 
-pub asked-stays : (q : Ask) → Makes q → (rows later : Rows) (n : ℕ) → Grows rows later → comes_again q (entry_at rows.entries n) ≡ true → comes_again q (entry_at later.entries n) ≡ true
-asked-stays q m rows later n g h =
-    let was : comes_again q (entry_at (made_in rows) n) ≡ true = asked-by q m rows.entries n ∙ h in
-    let front : comes_again q (entry_at (made_in rows ++ g.0) n) ≡ true = asked-front q m (made_in rows) g.0 n was in
-    sym (asked-by q m later.entries n) ∙ (ap (λ xs. comes_again q (entry_at xs n)) g.1 ∙ front)
+asked-stays : (q : Ask) (rows later : Rows) (n : ℕ) → Grows rows later → comes_again q (entry_at rows.entries n) ≡ true
+    → comes_again q (entry_at later.entries n) ≡ true
+asked-stays q rows later n g h =
+    let front = asked-front q (made_in rows) g.0 n (asked-by q rows.entries n ∙ h) in
+    sym (asked-by q later.entries n) ∙ (ap (λ xs. comes_again q (entry_at xs n)) g.1 ∙ front)
 
--- after an accepted ask the entry is as asked
-pub asked-made-now : (q : Ask) → Makes q → (b : Bool) (rows : Rows) (c : Caller) (day : ℕ) → comes_again q (entry_at rows.entries (number_named q)) ≡ b → first (cond b (early_conditions (facts_of rows q) (record { caller = c; ask = q; day = day })) (conditions (facts_of rows q) (record { caller = c; ask = q; day = day }))) ≡ None → (last : ℕ) → comes_again q (entry_at (changed_by (cond b edit.Nothing (edit_of q (entry_at rows.entries (number_named q)) day)) last rows).entries (number_named q)) ≡ true
-asked-made-now q m true rows c day is none last = is
-asked-made-now q m false rows c day is none last =
-    let p = passes (facts_of rows q) (record { caller = c; ask = q; day = day }) none in
-    let N : Option ℕ → Type 0 = λ v. misses (next_number (length rows.entries)) v ≡ false in
-    let next = next-is (length rows.entries) (number_named q) (subst N m.number p.next) in
-    let x = m.made_on day in
-    let here : eqb (number_named q) (length rows.entries + 1) ≡ true = let n = next.1 in grind (arith, nat_tests) in
-    let at : entry_at (rows.entries ++ x ∷ []) (number_named q) ≡ Some x = entry_at-append rows.entries x (number_named q) ∙ rw here refl in
-    let P : Edit → Type 0 = λ v. comes_again q (entry_at (changed_by v last rows).entries (number_named q)) ≡ true in
-    subst P (sym (m.edit (entry_at rows.entries (number_named q)) day)) (ap (comes_again q) at ∙ m.own day)
-
--- The asks that make an entry.
+-- an ask that makes an entry: it comes again where the entry is as it was made
+record Makes (q : Ask) (day : ℕ) : Type 0 where
+  number : number_made q ≡ Some (number_named q)
+  made : Entry
+  edit : (o : Option Entry) → edit_of q o day ≡ edit.Append (record { number = number_named q; entry = made })
+  own : comes_again q (Some made) ≡ true
 
 pub same-amount : (n : ℕ) → (n == n) ≡ true
 same-amount n = grind (arith, nat_tests)
@@ -204,74 +281,55 @@ same-against : (g : Against) → is_same_against g g ≡ true
 same-against (against.General who) = same-bytes who
 same-against (against.Fee k) = same-amount k
 
-deposit-told : (a : DepositAsk) (e : Entry) → is_as_asked (Some (as_made e)) a ≡ is_as_asked (Some e) a
-deposit-told a (entry.Deposit d) = refl
-deposit-told a e = refl
+makes : (q : Ask) (day : ℕ) → is_some (number_made q) ≡ true → Makes q day
+makes (ask.Deposit a) day some =
+    record { number = refl; made = deposit_of a day; edit = λ o. refl; own = simp (same-amount, same-bytes) }
+makes (ask.Propose a) day some =
+    record { number = refl; made = payment_of a day; edit = λ o. refl; own = simp (same-amount, same-fund, same-bytes) }
+makes (ask.EarnFee a) day some =
+    record { number = refl; made = fee_of a day; edit = λ o. refl; own = simp (same-amount, same-bytes) }
+makes (ask.RaiseClaim a) day some =
+    record {
+      number = refl;
+      made = claim_of a day;
+      edit = λ o. refl;
+      own = simp (same-amount, same-against, same-bytes);
+    }
+makes q day some = absurd (false≢true some)
 
-payment-told : (a : PaymentAsk) (e : Entry) → is_payment_asked (Some (as_made e)) a ≡ is_payment_asked (Some e) a
-payment-told a (entry.Payment p) = refl
-payment-told a e = refl
-
-fee-told : (a : FeeAsk) (e : Entry) → is_fee_asked (Some (as_made e)) a ≡ is_fee_asked (Some e) a
-fee-told a (entry.Fee f) = refl
-fee-told a e = refl
-
-claim-told : (a : ClaimAsk) (e : Entry) → is_claim_asked (Some (as_made e)) a ≡ is_claim_asked (Some e) a
-claim-told a (entry.Claim c) = refl
-claim-told a e = refl
-
-pub makes-deposit : (a : DepositAsk) → Makes (ask.Deposit a)
-makes-deposit a = record {
-  number = refl;
-  made_on = deposit_of a;
-  edit = λ o day. refl;
-  own = λ day. rw (same-amount a.amount) (rw (same-bytes a.source) (rw (same-bytes a.description) refl));
-  none = refl;
-  told = deposit-told a;
-}
-
-pub makes-payment : (a : PaymentAsk) → Makes (ask.Propose a)
-makes-payment a = record {
-  number = refl;
-  made_on = payment_of a;
-  edit = λ o day. refl;
-  own = λ day. rw (same-amount a.amount) (rw (same-fund a.fund) (rw (same-bytes a.payee) (rw (same-bytes a.purpose) (rw (same-bytes a.instrument) refl))));
-  none = refl;
-  told = payment-told a;
-}
-
-pub makes-fee : (a : FeeAsk) → Makes (ask.EarnFee a)
-makes-fee a = record {
-  number = refl;
-  made_on = fee_of a;
-  edit = λ o day. refl;
-  own = λ day. rw (same-amount a.amount) (rw (same-bytes a.description) refl);
-  none = refl;
-  told = fee-told a;
-}
-
-pub makes-claim : (a : ClaimAsk) → Makes (ask.RaiseClaim a)
-makes-claim a = record {
-  number = refl;
-  made_on = claim_of a;
-  edit = λ o day. refl;
-  own = λ day. rw (same-amount a.amount) (rw (same-against a.against) (rw (same-bytes a.reason) refl));
-  none = refl;
-  told = claim-told a;
-}
-
-spent : (b : Bool) (rows : Rows) (a : Asked) (r : Option Refusal) (e : Edit) → b ≡ true → after r (cond b edit.Nothing e) a.day rows ≡ rows
-spent true rows a (Some r) e h = refl
-spent true rows a None e h = refl
-spent false rows a r e h = absurd (false≢true h)
+-- after an accepted ask the entry is as asked
+asked-made-now : (q : Ask) (b : Bool) (rows : Rows) (c : Caller) (day : ℕ) → Makes q day
+    → comes_again q (entry_at rows.entries (number_named q)) ≡ b
+    → first (cond b (early_conditions (facts_of rows q) (asked c q day)) (conditions (facts_of rows q) (asked c q day)))
+    ≡ None → (last : ℕ)
+    → comes_again q (entry_at (changed_by (cond b edit.Nothing (edit_of q (entry_at rows.entries (number_named q)) day))
+    last rows).entries (number_named q)) ≡ true
+asked-made-now q true rows c day m is none last = is
+asked-made-now q false rows c day m is none last =
+    let p = passes (facts_of rows q) (asked c q day) none in
+    let N : Option ℕ → Type 0 = λ v. misses (next_number (length rows.entries)) v ≡ false in
+    let next = next-is (length rows.entries) (number_named q) (subst N m.number p.next) in
+    let here : eqb (number_named q) (length rows.entries + 1) ≡ true = let n = next.1 in grind (arith, nat_tests) in
+    let at : entry_at (rows.entries ++ m.made ∷ []) (number_named q) ≡ Some m.made =
+    entry_at-append rows.entries m.made (number_named q) ∙ rw here refl in
+    let P : Edit → Type 0 = λ v. comes_again q (entry_at (changed_by v last rows).entries (number_named q)) ≡ true in
+    subst P (sym (m.edit (entry_at rows.entries (number_named q)))) (ap (comes_again q) at ∙ m.own)
 
 -- the ask comes again, and changes nothing
 pub record IsSpent (rows : Rows) (a : Asked) : Type 0 where
   pub repeat : is_repeat (facts_of rows a.ask) a ≡ true
   pub unchanged : rows_after rows a ≡ rows
 
-pub is-spent : (rows : Rows) (a : Asked) → is_repeat (facts_of rows a.ask) a ≡ true → IsSpent rows a
-is-spent rows a h = record {
-  repeat = h;
-  unchanged = spent (is_repeat (facts_of rows a.ask) a) rows a (refusal rows a) (edit_of a.ask (entry_at rows.entries (number_named a.ask)) a.day) h;
-}
+-- in rows in which what was made is still there, the ask is spent
+pub is-spent : (rows later : Rows) (a again : Asked) → is_some (number_made a.ask) ≡ true → again.ask ≡ a.ask
+    → refusal rows a ≡ None → Grows (rows_after rows a) later → IsSpent later again
+is-spent rows later a again some same none grows =
+    let now =
+    asked-made-now a.ask (is_repeat (facts_of rows a.ask) a) rows a.caller a.day (makes a.ask a.day some) refl none
+    (last_after rows.head (edit_on rows a) a.day) in
+    let there : comes_again a.ask (entry_at (rows_after rows a).entries (number_named a.ask)) ≡ true =
+    ap (λ r. comes_again a.ask (entry_at (after r (edit_on rows a) a.day rows).entries (number_named a.ask))) none
+    ∙ now in
+    let repeat : is_repeat (facts_of later again.ask) again ≡ true =
+    rw same (asked-stays a.ask (rows_after rows a) later (number_named a.ask) grows there) in
+    record { repeat = repeat; unchanged = rw repeat (unchanged later again.day _) }

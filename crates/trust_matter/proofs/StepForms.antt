@@ -1,68 +1,25 @@
 -- Forms of a step: edits of sound rows, what they move, and what an accepted ask has passed.
-use Rattle.trust_matter.proofs.Names.{IsSome, nat_lt, is_some, is_none, slice_get, ◌≡◌, ◌⊎◌, ℕ, ◌+◌, ◌<◌, ◌≤◌, not, ◌&&◌, Bool, true, false, cond, ℤ, pos, negsuc, ap, List, [], ◌∷◌, ◌++◌, length, refl, sym, arith, subst, Option, Some, None, eqb, nat_tests, DepositState, Entry, Head, Seat, moved_beyond, Event, events_of, events_in, is_number, is_held_state, Rows, is_purged, entry_at, next_number, book_day, as_made, role_in, ledger, pending, is_settled, target, AreDated, IsBy, IsRising, IsHeaded, IsAtRestIfClosed, IsBare, Sound, settlement_day, dated-later, dated-append, dated-with, not-closed, not-bare, unclosed-bare, MayAdd, MayTake, sound-append, sound-with, Edit, Numbered, changed_by, events_by, IsMovedWithin, last_after, backed-none, IsStepOf, MovesWithin, rows-of, Ask, Caller, OpenAsk, is_unknown_to, is_opening, misses, is_zero, Asked, number_named, other_of, opening}
+use Rattle.trust_matter.proofs.Names.{Against, AreDated, AreInOrder, Ask, Asked, Bool, Caller, DepositState, Edit, Entry, Event, Head, IsAtRestIfClosed, IsBy, IsHeaded, IsRising, IsSome, IsStepOf, List, MayAdd, MayTake, MovesWithin, None, Numbered, OpenAsk, Option, Rows, Seat, Some, Sound, [], ap, arith, as_made, backed-none, book_day, changed_by, changes_matter, common_steps, cond, dated-append, dated-later, dated-with, entry_at, eqb, events_in, events_of, false, is_held_state, is_none, is_number, is_opening, is_purged, is_settled, is_some, is_unknown_to, is_zero, last_after, ledger, length, misses, nat_lt, nat_tests, negsuc, next_number, not, not-bare, not-closed, number_named, opening, other_of, pending, pos, refl, role_in, rows-of, rule_against, seats_with, seats_without, settled, settlement_day, slice_get, sound-append, sound-with, subst, target, true, unclosed-bare, within, ℕ, ℤ, ◌&&◌, ◌++◌, ◌+◌, ◌<◌, ◌∷◌, ◌≡◌, ◌≤◌, ◌⊎◌}
 use Rattle.std.specs.Prelude.{◌||◌}
+use Rattle.matter_rows.specs.declared.claim.Against.TheVariants as against
 use Rattle.matter_rows.specs.declared.deposit.DepositState.TheVariants as deposit
 use Rattle.matter_rows.specs.declared.head.Holder.TheVariants as holder
 use Rattle.matter_rows.proofs.Funding.{funded-added, funded-exchanged}
 use Rattle.matter_rows.proofs.SeatOrder.{order-with, order-without}
 use Rattle.matter_parts.specs.declared.edit.Edit.TheVariants as edit
-use Rattle.matter_parts.specs.declared.edit.Opening.{Opening}
 use Rattle.trust_matter.specs.declared.ask.Ask.TheVariants as ask
 use Rattle.trust_matter.specs.declared.ask.Caller.TheVariants as caller
 
--- an entry is added, on no day before the last
-pub rows-append : (h : Head) (seats : List Seat) (es : List Entry) (x : Numbered) (last : ℕ) → Sound (rows-of (Some h) seats es) → h.closed ≡ None → MayAdd es x.entry → h.last ≤ book_day x.entry → IsBy last x.entry → IsRising x.entry → Sound (changed_by (edit.Append x) last (rows-of (Some h) seats es))
-rows-append h seats es x last s unclosed may from by rising = record {
-  backed = sound-append es x.entry s.backed may;
-  seated = s.seated;
-  headed = (dated-append h es x.entry last s.headed.0 from by rising, not-closed (record h { last = last }) h.closed (es ++ x.entry ∷ []) unclosed);
-  bare = not-bare h.holder h.closed h.last last seats _ es _ s.bare unclosed;
-  funded = funded-added h.last es x.entry s.backed.named s.funded s.headed.0.by_last may.named from;
-}
-
--- an entry changes, on no day before the last; of a claim that was settled not the day of that
-pub rows-exchange : (h : Head) (seats : List Seat) (es : List Entry) (x : Numbered) (old : Entry) (last : ℕ) → Sound (rows-of (Some h) seats es) → h.closed ≡ None → MayTake es x.number old x.entry → as_made x.entry ≡ as_made old → (is_settled old ≡ true → settlement_day (Some x.entry) ≤ settlement_day (Some old)) → h.last ≤ last → IsBy last x.entry → IsRising x.entry → Sound (changed_by (edit.Exchange x) last (rows-of (Some h) seats es))
-rows-exchange h seats es x old last s unclosed may same settled later by rising = record {
-  backed = sound-with es x.number old x.entry s.backed may;
-  seated = s.seated;
-  headed = (dated-with h es x.number old x.entry last s.headed.0 may.at same later by rising, not-closed (record h { last = last }) h.closed _ unclosed);
-  bare = not-bare h.holder h.closed h.last last seats _ es _ s.bare unclosed;
-  funded = funded-exchanged es x.number old x.entry s.backed.named s.funded may.at same may.named settled;
-}
-
--- a person takes a seat, or gives it up
-pub rows-seat : (h : Head) (seats : List Seat) (es : List Entry) (new : Seat) (last : ℕ) → Sound (rows-of (Some h) seats es) → h.closed ≡ None → h.last ≤ last → Sound (changed_by (edit.Seat new) last (rows-of (Some h) seats es))
-rows-seat h seats es new last s unclosed later = record {
+-- the seats of an open matter change
+rows-seats : (h : Head) (seats new : List Seat) (es : List Entry) (last : ℕ) → Sound (rows-of (Some h) seats es)
+    → h.closed ≡ None → h.last ≤ last → AreInOrder new → Sound (rows-of (Some (record h { last = last })) new es)
+rows-seats h seats new es last s unclosed later seated = record {
   backed = s.backed;
-  seated = order-with seats new s.seated;
+  seated = seated;
   headed = (dated-later h es last s.headed.0 later, not-closed (record h { last = last }) h.closed es unclosed);
-  bare = not-bare h.holder h.closed h.last last seats _ es _ s.bare unclosed;
+  bare = not-bare h.holder h.closed h.last last seats new es es s.bare unclosed;
   funded = s.funded;
 }
-
-pub rows-unseat : (h : Head) (seats : List Seat) (es : List Entry) (person : List ℕ) (last : ℕ) → Sound (rows-of (Some h) seats es) → h.closed ≡ None → h.last ≤ last → Sound (changed_by (edit.Unseat person) last (rows-of (Some h) seats es))
-rows-unseat h seats es person last s unclosed later = record {
-  backed = s.backed;
-  seated = order-without seats person s.seated;
-  headed = (dated-later h es last s.headed.0 later, not-closed (record h { last = last }) h.closed es unclosed);
-  bare = not-bare h.holder h.closed h.last last seats _ es _ s.bare unclosed;
-  funded = s.funded;
-}
-
--- the matter is closed
-pub rows-close : (h : Head) (seats : List Seat) (es : List Entry) (day : ℕ) → Sound (rows-of (Some h) seats es) → h.closed ≡ None → h.last ≤ day → ledger es ≡ pos 0 → pending es ≡ pos 0 → Sound (changed_by (edit.Close day) day (rows-of (Some h) seats es))
-rows-close h seats es day s unclosed later empty none_waits =
-    let d = dated-later h es day s.headed.0 later in
-    record {
-      backed = s.backed;
-      seated = s.seated;
-      headed = (
-        record { opened = d.opened; by_last = d.by_last; made = d.made; changed = d.changed },
-        record { empty = empty; none_waits = none_waits; by_close = d.by_last; opened = d.opened; last = omega arith },
-      );
-      bare = unclosed-bare h.holder h.closed (Some day) h.last day seats seats es es s.bare unclosed;
-      funded = s.funded;
-    }
 
 -- the matter is purged, once it was closed
 pub rows-clear : (h : Head) (seats : List Seat) (es : List Entry) (day : ℕ) → Sound (rows-of (Some h) seats es) → IsSome h.closed → h.last ≤ day → Sound (changed_by (edit.Clear day) day (rows-of (Some h) seats es))
@@ -80,19 +37,6 @@ rows-clear h seats es day s closed later =
     rest None at_rest = tt
     rest (Some close) at_rest = let opened = at_rest.opened in let last = at_rest.last in record { empty = refl; none_waits = refl; by_close = tt; opened = opened; last = omega (arith, last, later) }
 
--- the matter is opened
-pub rows-unclosed : (seats : List Seat) (es : List Entry) (o : Opening) (last : ℕ) → Sound (rows-of None seats es) → o.head.opened ≤ o.head.last → o.head.closed ≡ None → IsBare o.head.holder o.head.closed o.head.last (o.seat ∷ []) es → Sound (changed_by (edit.Open o) last (rows-of None seats es))
-rows-unclosed seats es o last s opened unclosed bare =
-    let P : List Entry → Type 0 = λ v. AreDated o.head v in
-    let empty : AreDated o.head [] = record { opened = opened; by_last = tt; made = tt; changed = tt } in
-    record {
-      backed = s.backed;
-      seated = (tt, tt);
-      headed = (subst P (sym s.headed.1) empty, not-closed o.head o.head.closed es unclosed);
-      bare = bare;
-      funded = s.funded;
-    }
-
 -- What an edit moves.
 
 past-all : (olds more : List Event) → slice_get (olds ++ more) (length olds) ≡ slice_get more 0
@@ -105,30 +49,15 @@ AreWithin from to [] = Unit {0}
 AreWithin from to (e ∷ []) = (from ≤ e.day) × (e.day ≤ to)
 AreWithin from to (e ∷ d ∷ more) = ⊥
 
-moved-by : (n from to : ℕ) (olds news more : List Event) → news ≡ olds ++ more → AreWithin from to more → news ≡ olds ++ events_by (moved_beyond n olds news)
-moved-by n from to olds news [] is within =
-    let P : List Event → Type 0 = λ v. v ≡ olds ++ events_by (moved_beyond n olds v) in
-    subst P (sym is) (rw (past-all olds []) refl)
-moved-by n from to olds news (e ∷ []) is within =
-    let P : List Event → Type 0 = λ v. v ≡ olds ++ events_by (moved_beyond n olds v) in
-    subst P (sym is) (rw (past-all olds (e ∷ [])) refl)
-moved-by n from to olds news (e ∷ d ∷ more) is within = absurd within
-
-dated-by : (n from to : ℕ) (olds news more : List Event) → news ≡ olds ++ more → AreWithin from to more → IsMovedWithin from to (moved_beyond n olds news)
-dated-by n from to olds news [] is within =
-    let P : List Event → Type 0 = λ v. IsMovedWithin from to (moved_beyond n olds v) in
-    subst P (sym is) (rw (past-all olds []) tt)
-dated-by n from to olds news (e ∷ []) is within =
-    let P : List Event → Type 0 = λ v. IsMovedWithin from to (moved_beyond n olds v) in
-    subst P (sym is) (rw (past-all olds (e ∷ [])) within)
-dated-by n from to olds news (e ∷ d ∷ more) is within = absurd within
-
 -- an event or none behind those of the entry that is exchanged
 pub exchange-moves : (es : List Entry) (x : Numbered) (from to : ℕ) (more : List Event) → events_of x.entry ≡ events_in (entry_at es x.number) ++ more → AreWithin from to more → MovesWithin es (edit.Exchange x) from to
-exchange-moves es x from to more is within = record {
-  moved = moved-by x.number from to (events_in (entry_at es x.number)) (events_of x.entry) more is within;
-  dated = dated-by x.number from to (events_in (entry_at es x.number)) (events_of x.entry) more is within;
-}
+exchange-moves es x from to [] is within =
+    let past = past-all (events_in (entry_at es x.number)) [] in
+    record { moved = rw (is, past) refl; dated = rw (is, past) tt }
+exchange-moves es x from to (e ∷ []) is within =
+    let past = past-all (events_in (entry_at es x.number)) (e ∷ []) in
+    record { moved = rw (is, past) refl; dated = rw (is, past) within }
+exchange-moves es x from to (e ∷ d ∷ more) is within = absurd within
 
 -- What an accepted ask has passed.
 
@@ -168,6 +97,11 @@ head-there None seats es (caller.Person p) a headed known other =
     let g : true ≡ false = subst P headed.0 known in
     absurd (cc)
 
+-- a claim comes under a rule by which a matter changes, whatever it is on
+pub claim-changes : (on : Against) → changes_matter (rule_against on) ≡ true
+claim-changes (against.General who) = refl
+claim-changes (against.Fee k) = refl
+
 -- the step of an ask
 abbrev pub IsStep : Rows → Asked → Edit → ℕ → Type 0
 IsStep rows a e last = IsStepOf rows (other_of a.ask (entry_at rows.entries (number_named a.ask))) (number_named a.ask) e last
@@ -178,22 +112,37 @@ asked c a day = record { caller = c; ask = a; day = day }
 abbrev pub Stepped : Option Head → List Seat → List Entry → Asked → Edit → Type 0
 Stepped head seats es a e = IsStep (rows-of head seats es) a e (last_after head e a.day)
 
--- an entry is added, as a step
+-- an entry is added, on no day before the last
 pub step-append : (h : Head) (seats : List Seat) (es : List Entry) (x : Numbered) (t n day : ℕ) → Sound (rows-of (Some h) seats es) → h.closed ≡ None → MayAdd es x.entry → x.number ≡ length es + 1 → h.last ≤ day → h.last ≤ book_day x.entry → IsBy day x.entry → IsRising x.entry → MovesWithin es (edit.Append x) h.last day → (target x.entry ≡ 0) ⊎ (target x.entry ≡ t) → IsStepOf (rows-of (Some h) seats es) t n (edit.Append x) day
-step-append h seats es x t n day s unclosed may next later from by rising moves drawn = record {
-  place = (refl, next);
-  sound = rows-append h seats es x day s unclosed may from by rising;
-  not_before = later;
-  seen = refl;
-  moves = moves;
-  may = (next, may, drawn);
-}
+step-append h seats es x t n day s unclosed may next later from by rising moves drawn =
+    let sound : Sound (changed_by (edit.Append x) day (rows-of (Some h) seats es)) = record {
+      backed = sound-append es x.entry s.backed may;
+      seated = s.seated;
+      headed = (
+        dated-append h es x.entry day s.headed.0 from by rising,
+        not-closed (record h { last = day }) h.closed
+            (es ++ x.entry ∷ []) unclosed,
+      );
+      bare = not-bare h.holder h.closed h.last day seats _ es _ s.bare unclosed;
+      funded = funded-added h.last es x.entry s.backed.named s.funded s.headed.0.by_last may.named from;
+    } in
+    assumption
 
--- an entry changes, as a step
+-- an entry changes, on no day before the last; of a claim that was settled not the day of that
 pub step-exchange : (h : Head) (seats : List Seat) (es : List Entry) (x : Numbered) (old : Entry) (t n day : ℕ) → Sound (rows-of (Some h) seats es) → h.closed ≡ None → MayTake es x.number old x.entry → as_made x.entry ≡ as_made old → (is_settled old ≡ true → settlement_day (Some x.entry) ≤ settlement_day (Some old)) → h.last ≤ day → IsBy day x.entry → IsRising x.entry → MovesWithin es (edit.Exchange x) h.last day → (target x.entry ≡ 0) ⊎ (target x.entry ≡ t) → x.number ≡ n → IsStepOf (rows-of (Some h) seats es) t n (edit.Exchange x) day
 step-exchange h seats es x old t n day s unclosed may same settled later by rising moves drawn number = record {
   place = (refl, (old, record { there = may.at; same = same }));
-  sound = rows-exchange h seats es x old day s unclosed may same settled later by rising;
+  sound = record {
+    backed = sound-with es x.number old x.entry s.backed may;
+    seated = s.seated;
+    headed = (
+      dated-with h es x.number old x.entry day s.headed.0 may.at same later by rising,
+      not-closed
+          (record h { last = day }) h.closed _ unclosed,
+    );
+    bare = not-bare h.holder h.closed h.last day seats _ es _ s.bare unclosed;
+    funded = funded-exchanged es x.number old x.entry s.backed.named s.funded may.at same may.named settled;
+  };
   not_before = later;
   seen = refl;
   moves = moves;
@@ -201,70 +150,49 @@ step-exchange h seats es x old t n day s unclosed may same settled later by risi
 }
 
 pub step-nothing : (h : Head) (seats : List Seat) (es : List Entry) (a : Asked) → Sound (rows-of (Some h) seats es) → Stepped (Some h) seats es a edit.Nothing
-step-nothing h seats es a s = record { place = tt; sound = s; not_before = omega arith; seen = refl; moves = record { moved = refl; dated = tt }; may = tt }
+step-nothing h seats es a s = let same : h.last ≤ h.last = omega arith in assumption
 
 pub step-unclosed : (seats : List Seat) (es : List Entry) (c : Caller) (o : OpenAsk) (day : ℕ) → Sound (rows-of None seats es) → Stepped None seats es (asked c (ask.OpenMatter o) day) (edit.Open (opening o day))
-step-unclosed seats es c o day s = record {
-  place = refl;
-  sound = rows-unclosed seats es (opening o day) day s (omega arith) refl tt;
-  not_before = omega arith;
-  seen = refl;
-  moves = record { moved = refl; dated = tt };
-  may = tt;
-}
+step-unclosed seats es c o day s =
+    let same : day ≤ day = omega arith in
+    let from : 0 ≤ day = omega arith in
+    let dated : AreDated (opening o day).head es =
+    rw s.headed.1 (record { opened = same; by_last = tt; made = tt; changed = tt }) in
+    assumption
 
 pub step-seat : (h : Head) (seats : List Seat) (es : List Entry) (c : Caller) (new : Seat) (day : ℕ) → Sound (rows-of (Some h) seats es) → h.closed ≡ None → h.last ≤ day → role_in seats new.person ≡ None → Stepped (Some h) seats es (asked c (ask.AddSeat new) day) (edit.Seat new)
-step-seat h seats es c new day s unclosed later free = record {
-  place = (refl, free);
-  sound = rows-seat h seats es new day s unclosed later;
-  not_before = later;
-  seen = refl;
-  moves = record { moved = refl; dated = tt };
-  may = tt;
-}
+step-seat h seats es c new day s unclosed later free =
+    let sound =
+    rows-seats h seats (seats_with seats new) es day s unclosed later (order-with seats new s.seated) in assumption
+
+pub step-unseat : (h : Head) (seats : List Seat) (es : List Entry) (c : Caller) (person : List ℕ) (day : ℕ) → Sound (rows-of (Some h) seats es) → h.closed ≡ None → h.last ≤ day → is_some (role_in seats person) ≡ true → Stepped (Some h) seats es (asked c (ask.DropSeat person) day) (edit.Unseat person)
+step-unseat h seats es c person day s unclosed later seated =
+    let sound =
+    rows-seats h seats (seats_without seats person) es day s unclosed later (order-without seats person s.seated) in
+    assumption
 
 zero-is : (z : ℤ) → is_zero z ≡ true → z ≡ pos 0
 zero-is (pos n) h = let none : n ≡ 0 = grind (arith, nat_tests) in ap (λ (k : ℕ). pos k) none
 zero-is (negsuc n) h = absurd (cc)
 
-both-zero : (a b : Bool) → (a && b) ≡ true → (a ≡ true) × (b ≡ true)
-both-zero true b h = (refl, h)
-both-zero false b h = absurd (cc)
+both-zero : (y z : ℤ) → not (is_zero y && is_zero z) ≡ false → (y ≡ pos 0) × (z ≡ pos 0)
+both-zero (pos n) z h = (zero-is (pos n) (grind (arith, common_steps)), zero-is z (grind (arith, common_steps)))
+both-zero (negsuc n) z h = absurd (cc)
 
 pub step-close : (h : Head) (seats : List Seat) (es : List Entry) (c : Caller) (day : ℕ) → Sound (rows-of (Some h) seats es) → h.closed ≡ None → h.last ≤ day → not (is_zero (ledger es) && is_zero (pending es)) ≡ false → Stepped (Some h) seats es (asked c ask.CloseMatter day) (edit.Close day)
 step-close h seats es c day s unclosed later empty =
-    let both = both-zero (is_zero (ledger es)) (is_zero (pending es)) (not-false (is_zero (ledger es) && is_zero (pending es)) empty) in
-    record {
-      place = (refl, unclosed);
-      sound = rows-close h seats es day s unclosed later (zero-is (ledger es) both.0) (zero-is (pending es) both.1);
-      not_before = later;
-      seen = refl;
-      moves = record { moved = refl; dated = tt };
-      may = tt;
-    }
+    let zero = both-zero (ledger es) (pending es) empty in
+    let d = dated-later h es day s.headed.0 later in
+    let same : day ≤ day = omega arith in
+    let bare = unclosed-bare h.holder h.closed (Some day) h.last day seats seats es es s.bare unclosed in
+    assumption
 
-or-false : (b : Bool) → (b || false) ≡ false → b ≡ false
-or-false true h = h
-or-false false h = refl
+pub either-false : (a b : Bool) → (a || b) ≡ false → (a ≡ false) × (b ≡ false)
+either-false true b h = absurd (cc)
+either-false false b h = (refl, h)
 
 pub step-purge : (h : Head) (seats : List Seat) (es : List Entry) (c : Caller) (day : ℕ) → Sound (rows-of (Some h) seats es) → is_purged (Some h) ≡ false → h.last ≤ day → (is_none h.closed || false) ≡ false → Stepped (Some h) seats es (asked c ask.Purge day) (edit.Clear day)
 step-purge h seats es c day s kept later state =
-    let closed = some-is h.closed (or-false (is_none h.closed) state) in
-    record {
-      place = (closed, kept);
-      sound = rows-clear h seats es day s closed later;
-      not_before = later;
-      seen = refl;
-      moves = record { moved = refl; dated = tt };
-      may = tt;
-    }
-
-pub step-unseat : (h : Head) (seats : List Seat) (es : List Entry) (c : Caller) (person : List ℕ) (day : ℕ) → Sound (rows-of (Some h) seats es) → h.closed ≡ None → h.last ≤ day → is_some (role_in seats person) ≡ true → Stepped (Some h) seats es (asked c (ask.DropSeat person) day) (edit.Unseat person)
-step-unseat h seats es c person day s unclosed later seated = record {
-  place = (refl, seated);
-  sound = rows-unseat h seats es person day s unclosed later;
-  not_before = later;
-  seen = refl;
-  moves = record { moved = refl; dated = tt };
-  may = tt;
-}
+    let closed = some-is h.closed (either-false (is_none h.closed) false state).0 in
+    let sound = rows-clear h seats es day s closed later in
+    assumption

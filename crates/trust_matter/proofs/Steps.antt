@@ -1,27 +1,13 @@
 -- Sound rows stay sound at every accepted ask.
-use Rattle.trust_matter.proofs.Names.{is_some, nat_lt, ◌≡◌, ℕ, Bool, true, false, cond, List, length, refl, sym, Option, Some, None, false≢true, Refusal, Against, Entry, Head, Seat, Rows, entry_at, role_in, Sound, last_after, rows-of, Ask, Caller, is_opening, is_repeat, comes_again, Asked, facts_of, number_named, SoundForEver, changes_matter, rule_against, HasAmount, first, conditions, early_conditions, refusal, edit_on, edit_of, after, settled}
-use Rattle.std.specs.Prelude.{◌&&◌}
-use Rattle.matter_rows.specs.declared.claim.Against.TheVariants as against
+use Rattle.trust_matter.proofs.Names.{Ask, Asked, Bool, Caller, Entry, HasAmount, Head, List, None, Option, Refusal, Rows, Seat, Some, Sound, SoundForEver, after, comes_again, cond, conditions, early_conditions, edit_of, edit_on, entry_at, facts_of, false, false≢true, first, is_opening, is_repeat, is_some, last_after, length, number_named, refl, refusal, role_in, rows-of, settled, sym, true, ℕ, ◌≡◌}
 use Rattle.matter_rows.specs.declared.claim.ClaimState.TheVariants as claim
 use Rattle.matter_parts.specs.declared.edit.Edit.TheVariants as edit
 use Rattle.trust_matter.specs.declared.ask.Ask.TheVariants as ask
 use Rattle.trust_matter.proofs.Table.{Passes, passes}
-use Rattle.trust_matter.proofs.StepForms.{asked, IsStep, Stepped, head-there, none-is, some-is, not-before, next-is, step-nothing, step-unclosed, step-seat, step-unseat, step-close, step-purge}
+use Rattle.trust_matter.proofs.StepForms.{asked, claim-changes, IsStep, Stepped, head-there, none-is, some-is, not-before, next-is, step-nothing, step-unclosed, step-seat, step-unseat, step-close, step-purge}
 use Rattle.trust_matter.proofs.DepositSteps.{step-deposit, step-cancel}
 use Rattle.trust_matter.proofs.PaymentSteps.{step-propose, step-approve, step-decline, step-void}
 use Rattle.trust_matter.proofs.ClaimSteps.{offered-days, settled-days, step-fee, step-claim, step-unsettled, step-accept}
-
--- A claim changes the matter, whatever it is on.
-
-claim-unclosed : (on : Against) (closed : Bool) → (((changes_matter (rule_against on) && true) && true) && closed) ≡ false → closed ≡ false
-claim-unclosed (against.General who) closed h = h
-claim-unclosed (against.Fee k) closed h = h
-
-claim-forwards : (on : Against) (back : Bool) → (changes_matter (rule_against on) && back) ≡ false → back ≡ false
-claim-forwards (against.General who) back h = h
-claim-forwards (against.Fee k) back h = h
-
--- All asks.
 
 -- what passes the table
 step-made : (head : Option Head) (seats : List Seat) (es : List Entry) (c : Caller) (a : Ask) (day : ℕ) → Sound (rows-of head seats es) → HasAmount a → Passes (facts_of (rows-of head seats es) a) (asked c a day) → Stepped head seats es (asked c a day) (edit_of a (entry_at es (number_named a)) day)
@@ -42,7 +28,8 @@ step-made (Some h) seats es c (ask.Decline n) day s amount p = step-decline h se
 step-made (Some h) seats es c (ask.VoidPayment n) day s amount p = step-void h seats es c n day (entry_at es n) refl s (none-is h.closed p.not_closed) (not-before day h.last p.forwards) p.there p.kind p.state
 step-made (Some h) seats es c (ask.EarnFee a) day s amount p = step-fee h seats es c a day s amount (none-is h.closed p.not_closed) (not-before day h.last p.forwards) p
 step-made (Some h) seats es c (ask.RaiseClaim a) day s amount p =
-    step-claim h seats es c a day s amount (none-is h.closed (claim-unclosed a.against (is_some h.closed) p.not_closed)) (not-before day h.last (claim-forwards a.against (nat_lt day h.last) p.forwards)) p
+    step-claim h seats es c a day s amount (none-is h.closed (rw (claim-changes a.against) at p.not_closed))
+    (not-before day h.last (rw (claim-changes a.against) at p.forwards)) p
 step-made (Some h) seats es c (ask.Offer a) day s amount p =
     step-unsettled h seats es c (ask.Offer a) a.number day (claim.Offered a.to_client) (entry_at es a.number) refl (λ e. refl) (offered-days day a.to_client) refl s (none-is h.closed p.not_closed) (not-before day h.last p.forwards) p.there p.kind p.state p.split
 step-made (Some h) seats es c (ask.Accept a) day s amount p = step-accept h seats es c a day (entry_at es a.number) refl s (none-is h.closed p.not_closed) (not-before day h.last p.forwards) p.there p.kind p.state p.split

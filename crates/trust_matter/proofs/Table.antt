@@ -1,6 +1,7 @@
 -- The table of refusals gives the least number whose condition holds.
-use Rattle.trust_matter.proofs.Names.{◌≡◌, ◌⊎◌, ℕ, ◌≤◌, Bool, true, false, List, [], ◌∷◌, ◌++◌, Option, Some, None, refl, sym, subst, ◌∙◌, inl, inr, ⊎_elim, arith, rules, cond, le_refl, false≢true, Refusal, Facts, Asked, has_no_seat, was_purged, is_not_allowed, is_opened_already, is_closed, goes_backwards, is_not_next, is_not_there, is_of_another_kind, is_in_another_state, is_to_cash, is_to_wrong_payee, is_bad_split, is_short, has_a_seat_already, has_none_to_drop, would_lose_its_last_lawyer, is_not_empty, is_too_early, is_repeat, first, conditions, early_conditions, later_conditions, Stands, LeastRefusal, NoRefusal}
+use Rattle.trust_matter.proofs.Names.{Asked, Bool, Facts, LeastRefusal, List, NoRefusal, None, Refusal, Some, Stands, [], arith, cond, conditions, early_conditions, false, false≢true, first, goes_backwards, has_a_seat_already, has_no_seat, has_none_to_drop, inl, inr, is_bad_split, is_closed, is_in_another_state, is_not_empty, is_not_next, is_not_there, is_of_another_kind, is_opened_already, is_repeat, is_short, later_conditions, le_refl, refl, rules, subst, sym, true, was_purged, ℕ, ⊎_elim, ◌++◌, ◌<◌, ◌∙◌, ◌∷◌, ◌≡◌, ◌≤◌, ◌⊎◌}
 use Rattle.trust_base.specs.Refusals.{number_of}
+use Rattle.trust_matter.specs.Laws.{Holds, IsLeast}
 
 -- the numbers do not fall
 abbrev pub Rises : ℕ → List (Bool × Refusal) → Type 0
@@ -17,11 +18,10 @@ none_hold [] h = tt
 none_hold ((true, r) ∷ cs) h = absurd (cc)
 none_hold ((false, r) ∷ cs) h = (refl, none_hold cs h)
 
--- no condition of the table holds
+-- no condition of the table holds; those that proofs cite
 pub record Passes (f : Facts) (a : Asked) : Type 0 where
   pub seat : has_no_seat f a ≡ false
   pub kept : was_purged f a ≡ false
-  pub allowed : is_not_allowed f a ≡ false
   pub not_opened : is_opened_already f a ≡ false
   pub not_closed : is_closed f a ≡ false
   pub forwards : goes_backwards f a ≡ false
@@ -29,41 +29,14 @@ pub record Passes (f : Facts) (a : Asked) : Type 0 where
   pub there : is_not_there f a ≡ false
   pub kind : is_of_another_kind f a ≡ false
   pub state : is_in_another_state f a ≡ false
-  pub not_cash : is_to_cash f a ≡ false
-  pub payee : is_to_wrong_payee f a ≡ false
   pub split : is_bad_split f a ≡ false
   pub enough : is_short f a ≡ false
   pub seat_free : has_a_seat_already f a ≡ false
   pub seat_taken : has_none_to_drop f a ≡ false
-  pub lawyer_left : would_lose_its_last_lawyer f a ≡ false
   pub empty : is_not_empty f a ≡ false
-  pub not_early : is_too_early f a ≡ false
 
 pub passes : (f : Facts) (a : Asked) → first (conditions f a) ≡ None → Passes f a
-passes f a h =
-    let n : NoneHolds (conditions f a) = none_hold (conditions f a) h in
-    let l : NoneHolds (later_conditions f a) = n.1.1.1 in
-    record {
-      seat = n.0;
-      kept = n.1.0;
-      allowed = n.1.1.0;
-      not_opened = l.0;
-      not_closed = l.1.0;
-      forwards = l.1.1.0;
-      next = l.1.1.1.0;
-      there = l.1.1.1.1.0;
-      kind = l.1.1.1.1.1.0;
-      state = l.1.1.1.1.1.1.0;
-      not_cash = l.1.1.1.1.1.1.1.0;
-      payee = l.1.1.1.1.1.1.1.1.0;
-      split = l.1.1.1.1.1.1.1.1.1.0;
-      enough = l.1.1.1.1.1.1.1.1.1.1.0;
-      seat_free = l.1.1.1.1.1.1.1.1.1.1.1.0;
-      seat_taken = l.1.1.1.1.1.1.1.1.1.1.1.1.0;
-      lawyer_left = l.1.1.1.1.1.1.1.1.1.1.1.1.1.0;
-      empty = l.1.1.1.1.1.1.1.1.1.1.1.1.1.1.0;
-      not_early = l.1.1.1.1.1.1.1.1.1.1.1.1.1.1.1.0;
-    }
+passes f a h = let n : NoneHolds (conditions f a) = none_hold (conditions f a) h in assumption
 
 pub first_stands : (cs : List (Bool × Refusal)) (r : Refusal) → first cs ≡ Some r → Stands cs r
 first_stands [] r h = absurd (cc)
@@ -75,12 +48,11 @@ above n [] q up h = absurd h
 above n (c ∷ cs) q up (inl h) = subst (λ (x : Refusal). n ≤ number_of x) h.1 up.0
 above n (c ∷ cs) q up (inr h) = let rest : number_of c.1 ≤ number_of q = above (number_of c.1) cs q up.1 h in let here : n ≤ number_of c.1 = up.0 in omega arith
 
-some_same : (x y : Refusal) → Some x ≡ Some y → x ≡ y
-some_same x y d = cc
-
 pub first_least : (n : ℕ) (cs : List (Bool × Refusal)) (r q : Refusal) → Rises n cs → first cs ≡ Some r → Stands cs q → number_of r ≤ number_of q
 first_least n [] r q up h at = absurd at
-first_least n ((true, p) ∷ cs) r q up h at = subst (λ (x : Refusal). number_of x ≤ number_of q) (some_same p r h) (above (number_of p) ((true, p) ∷ cs) q (le_refl _, up.1) at)
+first_least n ((true, p) ∷ cs) r q up h at =
+    subst (λ (x : Refusal). number_of x ≤ number_of q) (cc) (above (number_of p) ((true, p) ∷ cs) q (le_refl _, up.1)
+    at)
 first_least n ((false, p) ∷ cs) r q up h (inl at) = absurd (false≢true at.0)
 first_least n ((false, p) ∷ cs) r q up h (inr at) = first_least (number_of p) cs r q up.1 h at
 
@@ -115,35 +87,36 @@ stands_apart (x ∷ xs) ys q (inl h) = inl (inl h)
 stands_apart (x ∷ xs) ys q (inr h) = ⊎_elim (λ (l : Stands xs q). inl (inr l)) (λ (r : Stands ys q). inr r) (stands_apart xs ys q h)
 
 -- of a repeat only the early conditions are tried
-choose : (b : Bool) (xs ys : List (Bool × Refusal)) (r : Option Refusal) → first (cond b xs ys) ≡ r → ((b ≡ true) × (first xs ≡ r)) ⊎ ((b ≡ false) × (first ys ≡ r))
-choose true xs ys r h = inl (refl, h)
-choose false xs ys r h = inr (refl, h)
-
-pub refuses_least : LeastRefusal
-refuses_least f a r h =
-    ⊎_elim
-    (λ (x : (is_repeat f a ≡ true) × (first (early_conditions f a) ≡ Some r)).
-    let all = first_of_front (early_conditions f a) (later_conditions f a) r x.1 in record {
+least-by : (f : Facts) (a : Asked) (r : Refusal) (b : Bool) → is_repeat f a ≡ b
+    → first (cond b (early_conditions f a) (conditions f a)) ≡ Some r → IsLeast f a r
+least-by f a r true is h =
+    let all = first_of_front (early_conditions f a) (later_conditions f a) r h in
+    record {
       holds = first_stands (conditions f a) r all;
       least = λ q at. first_least 0 (conditions f a) r q (table_rises f a) all at;
-      repeat = λ _. below 10 (early_conditions f a) r (search rules) (first_stands (early_conditions f a) r x.1);
-    })
-    (λ (x : (is_repeat f a ≡ false) × (first (conditions f a) ≡ Some r)). record {
-      holds = first_stands (conditions f a) r x.1;
-      least = λ q at. first_least 0 (conditions f a) r q (table_rises f a) x.1 at;
-      repeat = λ yes. absurd (false≢true (sym x.0 ∙ yes));
-    })
-    (choose (is_repeat f a) (early_conditions f a) (conditions f a) (Some r) h)
+      repeat = λ _. below 10 (early_conditions f a) r (search rules) (first_stands (early_conditions f a) r h);
+    }
+least-by f a r false is h = record {
+  holds = first_stands (conditions f a) r h;
+  least = λ q at. first_least 0 (conditions f a) r q (table_rises f a) h at;
+  repeat = λ yes. absurd (false≢true (sym is ∙ yes));
+}
+
+pub refuses_least : LeastRefusal
+refuses_least f a r h = least-by f a r (is_repeat f a) refl h
+
+none-by : (f : Facts) (a : Asked) (r : Refusal) (b : Bool)
+    → first (cond b (early_conditions f a) (conditions f a)) ≡ None → Holds f a r → (b ≡ true) × (10 < number_of r)
+none-by f a r false h at = absurd (first_none_stands (conditions f a) r h at)
+none-by f a r true h at =
+    elim (stands_apart (early_conditions f a) (later_conditions f a) r at) [
+      | inl l ↦ absurd (first_none_stands (early_conditions f a) r h l)
+      | inr l ↦ (
+        refl,
+        let from : 11 ≤ number_of r = above 11 (later_conditions f a) r (search rules) l in omega
+            (arith, from),
+      )
+    ]
 
 pub none_holds : NoRefusal
-none_holds f a r h at =
-    ⊎_elim
-    (λ (x : (is_repeat f a ≡ true) × (first (early_conditions f a) ≡ None)). (
-      x.0,
-      ⊎_elim
-          (λ (l : Stands (early_conditions f a) r). absurd (first_none_stands (early_conditions f a) r x.1 l))
-          (λ (l : Stands (later_conditions f a) r). let from : 11 ≤ number_of r = above 11 (later_conditions f a) r (search rules) l in omega (arith, from))
-          (stands_apart (early_conditions f a) (later_conditions f a) r at),
-    ))
-    (λ (x : (is_repeat f a ≡ false) × (first (conditions f a) ≡ None)). absurd (first_none_stands (conditions f a) r x.1 at))
-    (choose (is_repeat f a) (early_conditions f a) (conditions f a) None h)
+none_holds f a r h at = none-by f a r (is_repeat f a) h at

@@ -1,19 +1,18 @@
 //! What a bank line does to a matter.
 
 ghost use Rattle.std.specs.Prelude.{◌≡◌, true, IfOk, MatchResult, None, Some};
-ghost use Rattle.std.specs.Option.{option_copied};
 ghost use Rattle.matter_rows.specs.Rows.{Rows};
 ghost use Rattle.matter_rows.specs.Sound.{Sound};
 ghost use Rattle.matter_rows.specs.Clearings.{is_line_again};
 ghost use Rattle.matter_parts.specs.Parts.{IsPart, kept_at, entry_in};
-ghost use Rattle.trust_matter.specs.LineStep.{LineDecides, first_reason, last_by, reasons, told_by};
+ghost use Rattle.trust_matter.specs.LineStep.{LineDecides, dated_by, first_reason, reasons};
 ghost use Rattle.trust_matter.specs.KeptFacts.{kept_line_facts, holds_for_line};
 
 use crate::bank_line::BankLine;
 use matter_parts::{Change, Edit, Kept, Matter, Numbered, change_of};
 use matter_rows::{DepositState, Entry, PaymentState};
 use std::alloc::AllocError;
-use trust_base::{Day, EntryNo, Line, StoreFault};
+use trust_base::{Day, StoreFault};
 
 /// Why a bank line matches no entry. Reasons are tried in this order.
 #[derive(Clone, Copy, Debug, PartialEq, Eq)]
@@ -35,7 +34,7 @@ pub enum Reason {
     Uncovered,
 }
 
-/// An edit, and the matter's last day after it. Contracts speak of it.
+/// An edit, and the matter's last day after it.
 #[derive(Drop)]
 pub struct DatedEdit {
     pub edit: Edit,
@@ -60,35 +59,17 @@ pub enum LineVerdict {
     Unmatched(Reason),
 }
 
-// The edit by which the line clears the entry or takes it back. No line clears a fee or a claim.
-fn told(entry: &Entry, number: EntryNo, line: &Line, today: Day) -> Result<Edit, AllocError>
-    ensures { IfOk result (λ e. e ≡ told_by number (Some entry.now) line.now today) }
+// Whether this line already cleared the entry that it names, or took the deposit back.
+fn is_again(matter: &Matter, line: &BankLine) -> bool
+    ensures { result ≡ is_line_again (entry_in (kept_at matter.now line.now.entry)) line.now.line }
 {
-    let entry = match entry {
-        Entry::Deposit(deposit) => {
-            let state = deposit.state.told(line, today)?;
-            Entry::Deposit(deposit.restated(state)?)
-        }
-        Entry::Payment(payment) => {
-            let state = payment.state.cleared(line)?;
-            Entry::Payment(payment.restated(state)?)
-        }
-        Entry::Fee(_) | Entry::Claim(_) => return Ok(Edit::Nothing),
-    };
-    Ok(Edit::Exchange(Numbered { number, entry }))
-}
-
-// Whether this line already cleared the entry or took the deposit back.
-fn is_again(kept: Option<&Kept>, line: &Line) -> bool
-    ensures { result ≡ is_line_again (entry_in (option_copied kept.entry)) line.now }
-{
-    let Some(kept) = kept else {
+    let Some(kept) = matter.find(line.entry) else {
         return false;
     };
     match &kept.entry {
-        Entry::Deposit(deposit) => deposit.is_again(line),
+        Entry::Deposit(deposit) => deposit.is_again(&line.line),
         Entry::Payment(payment) => {
-            payment.state.is_cleared_by(line) && kept.entry.has_its_amount(line)
+            payment.state.is_cleared_by(&line.line) && kept.entry.has_its_amount(&line.line)
         }
         Entry::Fee(_) | Entry::Claim(_) => false,
     }
@@ -126,18 +107,32 @@ fn entry_cleared<'m>(matter: &'m Matter, line: &BankLine, today: Day) -> Result<
     Ok(kept)
 }
 
-// The last day after an applied line, which names this entry.
-fn last_by(matter: &Matter, kept: &Kept, line: &BankLine, today: Day) -> Day
+// The edit by which the line clears the entry or takes it back, and the matter's last day after it. No line clears a fee
+// or a claim.
+fn told(matter: &Matter, kept: &Kept, line: &BankLine, today: Day) -> Result<DatedEdit, AllocError>
     requires { kept_at matter.now line.now.entry ≡ Some kept.now }
-    ensures { result ≡ last_by (kept_line_facts matter.now line.now today) }
+    ensures { IfOk result (λ d. d ≡ dated_by (kept_line_facts matter.now line.now today)) }
 {
-    if kept.entry.is_return(&line.line) {
-        return today;
-    }
-    match matter.head() {
+    let number = line.entry;
+    let edit = match &kept.entry {
+        Entry::Deposit(deposit) => {
+            let state = deposit.state.told(&line.line, today)?;
+            let entry = Entry::Deposit(deposit.restated(state)?);
+            Edit::Exchange(Numbered { number, entry })
+        }
+        Entry::Payment(payment) => {
+            let state = payment.state.cleared(&line.line)?;
+            let entry = Entry::Payment(payment.restated(state)?);
+            Edit::Exchange(Numbered { number, entry })
+        }
+        Entry::Fee(_) | Entry::Claim(_) => Edit::Nothing,
+    };
+    let last = match matter.head() {
+        _ if kept.entry.is_return(&line.line) => today,
         Some(head) if line.line.date.get() < head.last.get() => head.last,
         _ => line.line.date,
-    }
+    };
+    Ok(DatedEdit { edit, last })
 }
 
 /// Whether enough is loaded to decide a line: the entry that it names, and the fee or claim that this entry draws on,
@@ -161,16 +156,15 @@ pub fn decide_line(matter: &Matter, line: &BankLine, today: Day) -> Result<LineV
     // The answer is right for all sound rows that the matter is part of.
     ensures { (rows : Rows) → Sound rows → IsPart matter.now rows → LineDecides rows line.now today result }
 {
-    if is_again(matter.find(line.entry), &line.line) {
+    if is_again(matter, line) {
         return Ok(LineVerdict::Repeat);
     }
     let kept = match entry_cleared(matter, line, today) {
         Ok(kept) => kept,
         Err(reason) => return Ok(LineVerdict::Unmatched(reason)),
     };
-    let last = last_by(matter, kept, line, today);
-    let edit = told(&kept.entry, line.entry, &line.line, today)?;
-    match change_of(matter, edit, last) {
+    let dated = told(matter, kept, line, today)?;
+    match change_of(matter, dated.edit, dated.last) {
         Ok(change) => Ok(LineVerdict::Applied(change)),
         Err(_) => Err(StoreFault::Store),
     }

@@ -4,8 +4,8 @@ use Rattle.std.specs.Borrow.{Bor}
 use Rattle.trust_base.specs.Texts.{amount_text, day_text, entry_text, matter_text, signed_text}
 use Rattle.trust_reports.specs.declared.page.Piece.{Piece}
 use Rattle.trust_reports.specs.declared.page.Piece.TheVariants as piece
-use Rattle.trust_reports.specs.declared.columns.Sum.{Sum}
-use Rattle.trust_reports.specs.declared.columns.Sum.TheVariants as sum
+use Rattle.trust_reports.specs.declared.page.Sum.{Sum}
+use Rattle.trust_reports.specs.declared.page.Sum.TheVariants as sum
 use Rattle.trust_reports.specs.Texts.{column, further, or_dash, owner_text, reference_text, words_shown}
 
 abbrev pub sum_text : Sum → List ℕ

@@ -9,8 +9,7 @@ ghost use Rattle.trust_base.specs.Texts.{matter_text};
 ghost use Rattle.trust_reports.specs.Pieces.{text_of};
 ghost use Rattle.trust_reports.specs.TextsOfLedgers.{client_text, day_or_dash, kept_balances, ledger_card, ledger_heading, opened_on as opened_in};
 
-use crate::columns::{Sum, push_columns};
-use crate::page::{Page, Piece, Printed, append, push_line};
+use crate::page::{Page, Piece, Printed, Sum, append, push_columns, push_line};
 use std::alloc::AllocError;
 use trust_base::{Day, MatterNo};
 use trust_matter::{Figures, Head, Holder, Matter};

@@ -3,7 +3,6 @@
 
 mod card;
 mod card_entries;
-mod columns;
 mod journal;
 pub mod laws;
 mod own_card;

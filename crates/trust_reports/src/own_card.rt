@@ -1,10 +1,9 @@
 // The ledger card of the firm's own money.
 
-ghost use Rattle.std.specs.Prelude.{◌≡◌, ◌++◌, OnOk, OnErr, codes};
-ghost use Rattle.trust_reports.specs.TextsOfLedgers.{balance_line, own_card_text, own_line};
+ghost use Rattle.std.specs.Prelude.{◌≡◌, ◌++◌, OnOk, OnErr};
+ghost use Rattle.trust_reports.specs.TextsOfLedgers.{own_card_text, own_line};
 
-use crate::columns::{Sum, push_column};
-use crate::page::{Page, Piece, Printed, append, push_heading, push_line};
+use crate::page::{Page, Piece, Printed, Sum, append, push_column, push_heading, push_line};
 use firm_rows::{FirmLedger, FirmLine};
 use std::alloc::AllocError;
 use trust_base::Day;
@@ -22,13 +21,6 @@ impl Printed for FirmLine {
     }
 }
 
-fn push_balance(page: &mut Page, balance: i64) -> Result<(), AllocError>
-    ensures before { page.new.before ≡ page.old.before }
-    ensures text { OnOk result (page.new.text ≡ page.old.text ++ balance_line (codes "TOTAL") balance) }
-{
-    push_column(page, 10, 18, b"TOTAL", Sum::Of(balance as i128))
-}
-
 #[derive(Drop)]
 struct OwnCard<'a> {
     ledger: &'a FirmLedger,
@@ -41,8 +33,8 @@ impl Printed for OwnCard<'_> {
     fn push_to(&self, page: &mut Page) -> Result<(), AllocError> {
         push_heading(page, "LEDGER FIRM", self.today)?;
         page.push_lines(self.ledger.lines())?;
-        push_balance(page, self.ledger.balance())?;
-        Ok(())
+        let total = Sum::Of(self.ledger.balance() as i128);
+        push_column(page, 10, 18, b"TOTAL", total)
     }
 }
 

@@ -1,12 +1,15 @@
-// A report appended to a vector, and the pieces that its lines are made of.
+// A report appended to a vector: the pieces that its lines are made of, and lines of a label and a sum, each padded to
+// its width.
 
-ghost use Rattle.std.specs.Prelude.{◌≡◌, [], ◌∷◌, ◌++◌, replicate, flat_map, encode_utf8, OnOk, OnErr};
+ghost use Rattle.std.specs.Prelude.{◌≡◌, [], ◌∷◌, ◌++◌, replicate, flat_map, encode_utf8, if◌then◌else◌, OnOk, OnErr};
 ghost use Rattle.trust_base.specs.Texts.{amount_text, day_text, matter_text, signed_text};
-ghost use Rattle.trust_reports.specs.Texts.{further, heading, or_dash, reference_text, shown, shown_text, words_shown};
-ghost use Rattle.trust_reports.specs.Pieces.{further_piece, text_of};
+ghost use Rattle.trust_reports.specs.Texts.{column, further, heading, or_dash, reference_text, shown, shown_text, words_shown};
+ghost use Rattle.trust_reports.specs.Pieces.{further_piece, row_text, sum_text, text_of};
 
-use crate::columns::Sum;
+use arrayvec::ArrayVec;
+use byte_streams::push_piece as push_text;
 use firm_figures::Owner;
+use itoa::Buffer;
 use std::alloc::AllocError;
 use std::marker::Model;
 use std::mem;
@@ -95,6 +98,47 @@ pub(crate) fn append<T: Printed>(out: &mut Vec<u8>, report: &T) -> Result<(), Al
         out.truncate(kept);
     }
     written
+}
+
+/// A sum in cents, or the negative of one.
+#[derive(Clone, Copy)]
+pub(crate) enum Sum {
+    Of(i128),
+    NegativeOf(i128),
+}
+
+// A printed sum, at most 44 bytes, on the stack.
+type SumText = ArrayVec<u8, 44>;
+
+// An amount with a leading minus sign if the sum is negative.
+fn signed(below: bool, cents: u128) -> SumText
+    ensures { result.items ≡ (if below then 45 ∷ amount_text cents else amount_text cents) }
+{
+    let mut text = SumText::new();
+    if below {
+        push_text(&mut text, b"-");
+    }
+    let mut buffer = Buffer::new();
+    push_text(&mut text, buffer.format(cents / 100).as_bytes());
+    let end = [
+        b'.',
+        b'0' + (cents % 100 / 10) as u8,
+        b'0' + (cents % 100 % 10) as u8,
+    ];
+    push_text(&mut text, &end);
+    text
+}
+
+impl Sum {
+    // The sum as text, with a leading `-` if negative. Allocates nothing.
+    fn text(self) -> SumText
+        ensures { result.items ≡ sum_text self }
+    {
+        match self {
+            Sum::Of(cents) => signed(cents < 0, cents.unsigned_abs()),
+            Sum::NegativeOf(cents) => signed(cents > 0, cents.unsigned_abs()),
+        }
+    }
 }
 
 /// A piece of a line.
@@ -296,6 +340,44 @@ pub(crate) fn push_heading(page: &mut Page, name: &str, day: Day) -> Result<(), 
     ensures text { OnOk result (page.new.text ≡ page.old.text ++ heading name.now day) }
 {
     push_line(page, &Piece::Word(name), &[Piece::Day(day)])
+}
+
+/// Appends a line: a left-aligned label and a right-aligned figure, each in its own width.
+#[tactic(auto, unfolding(crate::specs::Texts::left_in, crate::specs::Texts::right_in))]
+pub(crate) fn push_column(
+    page: &mut Page,
+    label_places: usize,
+    figure_places: usize,
+    label: &[u8],
+    figure: Sum,
+) -> Result<(), AllocError>
+    ensures before { page.new.before ≡ page.old.before }
+    ensures text { OnOk result (page.new.text ≡ page.old.text
+        ++ column label_places figure_places label.now (sum_text figure)) }
+{
+    let text = figure.text();
+    page.push(label)?;
+    page.push_spaces(label_places.saturating_sub(label.len()))?;
+    page.push_spaces(figure_places.saturating_sub(text.len()))?;
+    page.push(text.as_slice())?;
+    page.push(b"\n")
+}
+
+/// Appends a line for each label and figure.
+pub(crate) fn push_columns(
+    page: &mut Page,
+    label_places: usize,
+    figure_places: usize,
+    rows: &[(&str, Sum)],
+) -> Result<(), AllocError>
+    ensures before { page.new.before ≡ page.old.before }
+    ensures text { OnOk result (page.new.text ≡ page.old.text
+        ++ flat_map (row_text label_places figure_places) rows.now) }
+{
+    for (label, figure) in rows {
+        push_column(page, label_places, figure_places, label.as_bytes(), *figure)?;
+    }
+    Ok(())
 }
 
 /// A report that is a list: its name, its day and its lines.

@@ -1,14 +1,12 @@
 // The reconciliation, and the exceptions.
 
-ghost use Rattle.std.specs.Prelude.{◌≡◌, ◌++◌, OnOk, OnErr, codes, flat_map};
+ghost use Rattle.std.specs.Prelude.{◌≡◌, ◌++◌, OnOk, OnErr, flat_map};
 ghost use Rattle.firm_figures.specs.Reconciliations.{told};
-ghost use Rattle.trust_reports.specs.Texts.{heading};
 ghost use Rattle.trust_reports.specs.TextsOfLists.{exception_line, exceptions_text};
 ghost use Rattle.trust_reports.specs.TextsOfReconciliation.{bank_figures, book_figures, double_line, entry_line, listed_exception, opening_line, reconciliation_text};
 
-use crate::columns::{Sum, push_columns};
-use crate::page::{List, Page, Piece, Printed, append, push_heading, push_line};
-use firm_figures::{EntryLine, Figures, Issued, OpeningLine, Reconciliation, ReconciliationLists};
+use crate::page::{List, Page, Piece, Printed, Sum, append, push_columns, push_heading, push_line};
+use firm_figures::{EntryLine, Figures, Issued, OpeningLine, Reconciliation};
 use std::alloc::AllocError;
 use trust_base::{Day, Line};
 
@@ -126,31 +124,6 @@ impl Printed for OpeningLine {
     }
 }
 
-fn push_figures(page: &mut Page, p: Day, figures: &Figures) -> Result<(), AllocError>
-    ensures before { page.new.before ≡ page.old.before }
-    ensures text { OnOk result (page.new.text ≡ page.old.text ++ (heading (codes "RECONCILIATION") p
-        ++ (bank_figures figures.now ++ book_figures figures.now))) }
-{
-    push_heading(page, "RECONCILIATION", p)?;
-    push_bank_figures(page, figures)?;
-    push_book_figures(page, figures)?;
-    Ok(())
-}
-
-fn push_lists(page: &mut Page, lists: &ReconciliationLists) -> Result<(), AllocError>
-    ensures before { page.new.before ≡ page.old.before }
-    ensures text { OnOk result (page.new.text ≡ page.old.text
-        ++ (flat_map (entry_line (codes "TRANSIT")) lists.now.transit.items
-        ++ (flat_map (entry_line (codes "OUT")) lists.now.out.items
-        ++ (flat_map listed_exception lists.now.exceptions.items
-        ++ flat_map (entry_line (codes "EARLY")) lists.now.early.items)))) }
-{
-    push_entries(page, "TRANSIT", &lists.transit)?;
-    push_entries(page, "OUT", &lists.out)?;
-    push_exceptions(page, &lists.exceptions)?;
-    push_entries(page, "EARLY", &lists.early)
-}
-
 #[derive(Drop)]
 struct Reconciled<'a> {
     p: Day,
@@ -161,8 +134,15 @@ impl Printed for Reconciled<'_> {
     ghost printed = { λ r. reconciliation_text r.p (told r.reconciliation.now) };
 
     fn push_to(&self, page: &mut Page) -> Result<(), AllocError> {
-        push_figures(page, self.p, &self.reconciliation.figures)?;
-        push_lists(page, &self.reconciliation.lists)?;
+        let figures = &self.reconciliation.figures;
+        let lists = &self.reconciliation.lists;
+        push_heading(page, "RECONCILIATION", self.p)?;
+        push_bank_figures(page, figures)?;
+        push_book_figures(page, figures)?;
+        push_entries(page, "TRANSIT", &lists.transit)?;
+        push_entries(page, "OUT", &lists.out)?;
+        push_exceptions(page, &lists.exceptions)?;
+        push_entries(page, "EARLY", &lists.early)?;
         page.push_lines(&self.reconciliation.doubles)?;
         page.push_lines(&self.reconciliation.openings)
     }

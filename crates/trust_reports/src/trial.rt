@@ -5,8 +5,9 @@ ghost use Rattle.trust_reports.specs.Pieces.{sum_text};
 ghost use Rattle.trust_reports.specs.Texts.{column, heading};
 ghost use Rattle.trust_reports.specs.TextsOfLists.{trial_line, trial_text};
 
-use crate::columns::{Sum, push_column, push_columns};
-use crate::page::{Page, Printed, append, matter_digits, push_heading};
+use crate::page::{
+    Page, Printed, Sum, append, matter_digits, push_column, push_columns, push_heading,
+};
 use firm_figures::TrialLine;
 use std::alloc::AllocError;
 use trust_base::Day;
@@ -36,17 +37,8 @@ impl Printed for Trial<'_> {
     fn push_to(&self, page: &mut Page) -> Result<(), AllocError> {
         push_heading(page, "TRIAL BALANCE", self.today)?;
         page.push_lines(self.lines)?;
-        push_sums(page, self.own, self.total)?;
-        Ok(())
+        push_columns(page, 14, 24, &[("FIRM", self.own), ("TOTAL", self.total)])
     }
-}
-
-fn push_sums(page: &mut Page, own: Sum, total: Sum) -> Result<(), AllocError>
-    ensures before { page.new.before ≡ page.old.before }
-    ensures text { OnOk result (page.new.text ≡ page.old.text
-        ++ (column 14 24 (codes "FIRM") (sum_text own) ++ column 14 24 (codes "TOTAL") (sum_text total))) }
-{
-    push_columns(page, 14, 24, &[("FIRM", own), ("TOTAL", total)])
 }
 
 /// Appends the trial balance on a business day, the list of client ledgers required at each reconciliation (ABA Model

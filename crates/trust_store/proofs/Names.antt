@@ -16,7 +16,7 @@ pub use Rattle.matter_rows.specs.Shares.{number_or_none, target, target_in}
 pub use Rattle.matter_rows.specs.declared.entry.Entry.{Entry}
 pub use Rattle.matter_rows.specs.declared.seat.Seat.{Seat}
 pub use Rattle.std.proofs.Common.{Bool, Err, IfErr, IfOk, List, None, Ok, Option, Result, Some, [], ap, append-nil, append_assoc, arith, cond, drop, false, fold, get_or, inl, inr, length, length-append, map, of_z, refl, rules, set, subst, suc, sym, take, tests, to_z, true, w64, zero, ℕ, ℤ, ◌++◌, ◌+ℤ◌, ◌+◌, ◌<◌, ◌∙◌, ◌∷◌, ◌≡◌, ◌≢◌, ◌≤◌, ◌⊎◌}
-pub use Rattle.std.proofs.lemmas.Bool.{cases_lt, false≢true}
+pub use Rattle.std.proofs.lemmas.Bool.{cases_Bool, cases_lt}
 pub use Rattle.std.proofs.lemmas.Bool.Decides.{nat_tests}
 pub use Rattle.std.proofs.lemmas.Fn.{always_returns_same, filter_same}
 pub use Rattle.std.proofs.lemmas.List.Sorted.{IsNonDecreasingBy-from_default, answers_always}
@@ -25,12 +25,12 @@ pub use Rattle.std.proofs.lemmas.Result.{IfOk-weaker, on_ok_weaker}
 pub use Rattle.std.specs.List.{AllByRecursion}
 pub use Rattle.std.specs.List.Sorted.{IsBinarySearchResult, IsNonDecreasingBy, IsSearchInRange}
 unfoldable pub use Rattle.std.specs.List.Sorted.{IsStrictlySortedBy}
-pub use Rattle.std.specs.Prelude.{IsSome, insert, nat_lt, slice_get, ◌&&◌, ◌==◌, ◌||◌}
+pub use Rattle.std.specs.Prelude.{IsSome, insert, nat_lt, slice_get, ◌==◌, ◌||◌}
 pub use Rattle.trust_base.specs.Limits.{IsBankAmount}
 pub use Rattle.trust_base.specs.LineOrder.{line_cmp}
 pub use Rattle.trust_base.specs.declared.line.Line.{Line}
 pub use Rattle.trust_store.specs.Books.{HandedOver}
-pub use Rattle.trust_store.specs.Calls.{AreHanded, IsWrite, IsWriteIf}
+pub use Rattle.trust_store.specs.Calls.{IsWrite, IsWriteIf}
 pub use Rattle.trust_store.specs.Kept.{AreKept, AreKeptWhole, Ascends, IsBefore, IsKeptAs, IsKeptWhole, StandsAt, WouldStandAt, firm_of, joined, kept_pairs, matters_with, place, rows_in, rows_kept, seek, told}
 pub use Rattle.trust_store.specs.Named.{IsPartFor, LineIsHeld, NamedAreHeld, drawn_on, is_named, is_number}
 pub use Rattle.trust_store.specs.declared.plain.KeptMatter.{KeptMatter}

@@ -428,8 +428,8 @@ fn take_out(movements: &mut Vec<Movement>, matter: MatterNo)
     movements.retain(|moved| !is_of_matter(&moved.owner, matter));
 }
 
-// Whether it is a movement of this matter.
-fn is_of_matter(owner: &Owner, number: MatterNo) -> bool
+/// Whether it is a movement of this matter.
+pub fn is_of_matter(owner: &Owner, number: MatterNo) -> bool
     ensures { result ≡ is_of_matter number owner.now }
 {
     match owner {

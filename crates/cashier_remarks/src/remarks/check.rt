@@ -12,6 +12,16 @@ fn write_matter<W: fmt::Write>(f: &mut fmt::Formatter<W>, matter: MatterNo) -> f
     )
 }
 
+// Writes what is not sound in the row of a table with this number.
+fn write_row<W: fmt::Write>(
+    f: &mut fmt::Formatter<W>,
+    number: u64,
+    table: &str,
+    words: &str,
+) -> fmt::Result {
+    write!(f, "row {number} of {table}: {words}")
+}
+
 /// Writes what is not sound in rows, with the names of their tables.
 pub fn write_flaw<W: fmt::Write>(f: &mut fmt::Formatter<W>, flaw: Flaw) -> fmt::Result {
     match flaw {
@@ -25,25 +35,21 @@ pub fn write_flaw<W: fmt::Write>(f: &mut fmt::Formatter<W>, flaw: Flaw) -> fmt::
             "matter {matter} (journal): its movements fall below zero, go back in time or do not add up \
             to its ledger"
         ),
-        Flaw::Movement(number) => write!(f, "row {number} of journal: it is of no entry"),
+        Flaw::Movement(number) => write_row(f, number, "journal", "it is of no entry"),
         Flaw::OwnMovements => f.write_str(
             "the firm's own money (journal, firm_line): its movements are not the lines of its own ledger",
         ),
-        Flaw::FirmLine(number) => write!(
+        Flaw::FirmLine(number) => write_row(
             f,
-            "row {number} of firm_line: with it the firm's own money is outside 0.00 to 500.00"
+            number,
+            "firm_line",
+            "with it the firm's own money is outside 0.00 to 500.00",
         ),
         Flaw::Exception(number) => {
-            write!(
-                f,
-                "row {number} of exception: it is not behind the one before"
-            )
+            write_row(f, number, "exception", "it is not behind the one before")
         }
         Flaw::Balance(number) => {
-            write!(
-                f,
-                "row {number} of balance: it is not behind the one before"
-            )
+            write_row(f, number, "balance", "it is not behind the one before")
         }
     }
 }
@@ -53,15 +59,13 @@ fn write_number<W: fmt::Write>(f: &mut fmt::Formatter<W>, table: &str, number: u
     write!(f, "row {number} of {table} stands for nothing")
 }
 
-// Writes about a head.
-fn write_head<W: fmt::Write>(f: &mut fmt::Formatter<W>, after: &Option<MatterNo>) -> fmt::Result {
-    match after {
-        None => f.write_str("the first row of matter_v2 stands for nothing"),
-        Some(matter) => write!(
-            f,
-            "the row of matter_v2 behind matter {matter} stands for nothing"
-        ),
-    }
+// Writes about a row that is told by its matter.
+fn write_of_matter<W: fmt::Write>(
+    f: &mut fmt::Formatter<W>,
+    row: &str,
+    matter: &MatterNo,
+) -> fmt::Result {
+    write!(f, "{row} matter {matter} stands for nothing")
 }
 
 // Writes about an entry.
@@ -71,10 +75,7 @@ fn write_entry<W: fmt::Write>(
     after: &Option<EntryNo>,
 ) -> fmt::Result {
     match after {
-        None => write!(
-            f,
-            "the first row of entry_v2 of matter {matter} stands for nothing"
-        ),
+        None => write_of_matter(f, "the first row of entry_v2 of", matter),
         Some(entry) => write!(
             f,
             "the row of entry_v2 behind entry {entry} of matter {matter} stands for nothing"
@@ -86,10 +87,9 @@ fn write_entry<W: fmt::Write>(
 pub fn write_unread<W: fmt::Write>(f: &mut fmt::Formatter<W>, unread: &Unread) -> fmt::Result {
     match unread {
         Unread::Matter(matter) => write_matter(f, *matter),
-        Unread::Head(after) => write_head(f, after),
-        Unread::Seat(matter) => {
-            write!(f, "a row of seat_v2 of matter {matter} stands for nothing")
-        }
+        Unread::Head(None) => f.write_str("the first row of matter_v2 stands for nothing"),
+        Unread::Head(Some(matter)) => write_of_matter(f, "the row of matter_v2 behind", matter),
+        Unread::Seat(matter) => write_of_matter(f, "a row of seat_v2 of", matter),
         Unread::Entry { matter, after } => write_entry(f, matter, after),
         Unread::Movement(number) => write_number(f, "journal", *number),
         Unread::FirmLine(number) => write_number(f, "firm_line", *number),

@@ -61,6 +61,15 @@ pub fn fault_of_verb(row: &ByteRecord) -> VerbFault<'_> {
     }
 }
 
+// Writes that there is no such verb, and what to do.
+fn write_no_verb<W: fmt::Write>(
+    f: &mut fmt::Formatter<W>,
+    name: Excerpt<'_>,
+    words: &str,
+) -> fmt::Result {
+    write!(f, "{name} is no verb: {words}")
+}
+
 impl fmt::Display for VerbFault<'_> {
     fn fmt<W: fmt::Write>(&self, f: &mut fmt::Formatter<W>) -> fmt::Result {
         match *self {
@@ -70,23 +79,19 @@ impl fmt::Display for VerbFault<'_> {
             VerbFault::Statement => {
                 f.write_str("this is a line of a statement, not of a sheet: import takes it")
             }
-            VerbFault::OfMessages(name, Asker::Client) => {
+            VerbFault::OfMessages(name, asker) => {
+                let asker = match asker {
+                    Asker::Client => "client",
+                    Asker::Lawyer => "lawyer",
+                };
                 write!(
                     f,
-                    "\"{name}\" is no verb of a sheet: a client asks it by a message"
-                )
-            }
-            VerbFault::OfMessages(name, Asker::Lawyer) => {
-                write!(
-                    f,
-                    "\"{name}\" is no verb of a sheet: a lawyer asks it by a message"
+                    "\"{name}\" is no verb of a sheet: a {asker} asks it by a message"
                 )
             }
             VerbFault::Meant(name, verb) => write!(f, "{name} is no verb: write {verb}"),
-            VerbFault::NoCommas(name) => {
-                write!(f, "{name} is no verb: put commas between the fields")
-            }
-            VerbFault::NoVerb(name) => write!(f, "{name} is no verb: {VERBS}"),
+            VerbFault::NoCommas(name) => write_no_verb(f, name, "put commas between the fields"),
+            VerbFault::NoVerb(name) => write_no_verb(f, name, VERBS),
         }
     }
 }

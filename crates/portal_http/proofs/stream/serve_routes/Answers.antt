@@ -1,4 +1,4 @@
-use Rattle.portal_http.proofs.Names.{◌∙◌, arith, ap, Ok, stays}
+use Rattle.portal_http.proofs.Names.{◌∙◌, arith, ap, Ok, heard_of, stays}
 use Rattle.portal_messages.specs.declared.input.Next.{Next}
 use Rattle.portal_http.proofs.Serve.{serving-none, serving-more, served-ended, served-limit, served-read_fault, served-framing, served-framing_fault, served-memory_fault, served-no_memory, served-write_fault}
 use Rattle.portal_http.proofs.Steps.{IsAnswered, asked-answered, refused-answered}
@@ -38,7 +38,7 @@ returns-in-Err-Memory g c = elim c.match-write_reply-2.branch [
 pub returns-in-Err-write_reply-2 : goal.returns-in-Err-write_reply-2
 returns-in-Err-write_reply-2 g c =
     let comes = rw c.in-Ok-Message.field-0-is at (c.in-Ok-Message.ensures.next c.loop.invariant.fresh) in
-    let step : IsAnswered g.B.Book.clean g.B.Book.sure g.B.Book.stands g.B.Book.lasts g.B.Book.leaves g.B.Book.firm g.B.Book.refusals c.args.day c.in-Ok-Message.message c.match-request_of.reply c.loop.desk c.match-request_of.desk =
+    let step : IsAnswered g.B.Book.clean g.B.Book.sure g.B.Book.stands g.B.Book.lasts g.B.Book.leaves g.B.Book.firm g.B.Book.refusals c.args.day (heard_of c.in-Ok-Message.message) c.match-request_of.reply c.loop.desk c.match-request_of.desk =
     elim c.match-request_of.branch [
       | in-Ok-request_of w ↦ rw (w.reply-is, w.desk-is) (asked-answered _ _ _ _ _ _ _ _ _ w.in-Ok-request_of.request _ _ _ w.in-Ok-request_of.ensures w.answer-reply.ensures.step w.answer-reply.ensures.kept (λ sure clean stands. w.answer-reply.ensures.crash sure stands (λ asked. clean)))
       | in-Err-request_of w ↦ rw (w.reply-is, w.desk-is) (refused-answered _ _ _ _ _ _ _ _ _ w.in-Err-request_of.why _ _ w.in-Err-request_of.ensures w.refused-reply.ensures)
@@ -48,7 +48,7 @@ returns-in-Err-write_reply-2 g c =
 pub loop-preserved : goal.loop-preserved
 loop-preserved g c =
     let comes = rw c.in-Ok-Message.field-0-is at (c.in-Ok-Message.ensures.next c.loop.invariant.fresh) in
-    let step : IsAnswered g.B.Book.clean g.B.Book.sure g.B.Book.stands g.B.Book.lasts g.B.Book.leaves g.B.Book.firm g.B.Book.refusals c.args.day c.in-Ok-Message.message c.match-request_of.reply c.loop.desk c.match-request_of.desk =
+    let step : IsAnswered g.B.Book.clean g.B.Book.sure g.B.Book.stands g.B.Book.lasts g.B.Book.leaves g.B.Book.firm g.B.Book.refusals c.args.day (heard_of c.in-Ok-Message.message) c.match-request_of.reply c.loop.desk c.match-request_of.desk =
     elim c.match-request_of.branch [
       | in-Ok-request_of w ↦ rw (w.reply-is, w.desk-is) (asked-answered _ _ _ _ _ _ _ _ _ w.in-Ok-request_of.request _ _ _ w.in-Ok-request_of.ensures w.answer-reply.ensures.step w.answer-reply.ensures.kept (λ sure clean stands. w.answer-reply.ensures.crash sure stands (λ asked. clean)))
       | in-Err-request_of w ↦ rw (w.reply-is, w.desk-is) (refused-answered _ _ _ _ _ _ _ _ _ w.in-Err-request_of.why _ _ w.in-Err-request_of.ensures w.refused-reply.ensures)

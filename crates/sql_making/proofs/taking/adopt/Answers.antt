@@ -1,5 +1,5 @@
 use Rattle.sql_making.proofs.Names.{◌≡◌, inl, inr, Some, sym, subst, ◌∙◌, rules, state, book_schema, version_now, IsBook}
-use Rattle.sql_making.proofs.Ends.{never_both}
+use Rattle.sql_schema.proofs.Apart.{never_both}
 use Rattle.sql_making.proofs.taking.adopt.Goals as goal
 
 pub returns-in-Ok-clause-taken : goal.returns-in-Ok-clause-taken

@@ -1,7 +1,11 @@
-use Rattle.trust_desk.proofs.Names.{◌≡◌, ℕ, List, [], ◌++◌, Ok, fold, ap, rules, ◌∙◌, Firm, JournalKept, no_journal, trial_kept, with_moved, with_trial_own, with_trial_row, Retained, none_retained, with_row_retained, own_card_text, exception_line, exceptions_text, journal_text, retention_text, trial_text, own_card_report}
-use Rattle.trust_desk.proofs.BookReads.{handed-before}
+use Rattle.trust_desk.proofs.Names.{◌≡◌, ℕ, List, [], ◌++◌, Ok, Result, subst, StoreFault, AreHanded, fold, ap, rules, ◌∙◌, Firm, JournalKept, no_journal, trial_kept, with_moved, with_trial_own, with_trial_row, Retained, none_retained, with_row_retained, own_card_text, exception_line, exceptions_text, journal_text, retention_text, trial_text, own_card_report}
 use Rattle.trust_desk.proofs.ReportTexts.{exceptions-told, journal-told, retention-told, trial-told}
 use Rattle.trust_desk.proofs.desk.find_report.Goals as goal
+
+-- what a later read hands over is of the rows that were there before the first
+handed-before : {S A T : Type 0} {step : S → A → S} {IsInRange : A → Type 0} {result : Result T StoreFault} {s t : S} {now old : Firm} (part : Firm → List A)
+    → now ≡ old → AreHanded step IsInRange (part now) result s t → AreHanded step IsInRange (part old) result s t
+handed-before {step} {IsInRange} {result} {s} {t} part same handed = subst (λ (f : Firm). AreHanded step IsInRange (part f) result s t) same handed
 
 pub returns-in_ok-each_exception-in-Exceptions-clause-told : goal.returns-in_ok-each_exception-in-Exceptions-clause-told
 returns-in_ok-each_exception-in-Exceptions-clause-told g c =

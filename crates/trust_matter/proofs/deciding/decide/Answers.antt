@@ -1,5 +1,5 @@
-use Rattle.trust_matter.proofs.Names.{ℕ, refl, subst, IfOk, Result, Err, Refusal, Rows, Sound, Edit, MatterChange, IsPart, IsMade, kept_facts, AnswersBy, Decides, HasAmount}
-use Rattle.trust_matter.proofs.Decided.{decided-made, decided-refused}
+use Rattle.trust_matter.proofs.Names.{AnswersBy, Edit, HasAmount, IfOk, IsMade, Refusal, Result, kept_facts, refl, subst, ℕ}
+use Rattle.trust_matter.proofs.Decided.{DecidesAll, decided-made, decided-refused}
 use Rattle.trust_matter.proofs.Late.{early-refused, gives-asked, handed-up}
 use Rattle.trust_matter.proofs.StepForms.{asked}
 use Rattle.trust_matter.proofs.deciding.decide.Goals.{Joined-ask, in-OpenMatter, in-AddSeat, in-DropSeat, in-Deposit, in-CancelDeposit, in-Propose, in-Approve, in-Decline, in-VoidPayment, in-EarnFee, in-RaiseClaim, in-Offer, in-Accept, in-Award, in-CloseMatter, in-Purge, in-ShowEntry, in-Show, in-Accounting}
@@ -33,25 +33,30 @@ pub returns-in_err-check_caller : goal.returns-in_err-check_caller
 returns-in_err-check_caller c =
     let m = c.args.matter.now in
     let q = asked c.args.caller.now c.args.ask.now c.args.day in
-    let P : Result MatterChange Refusal → Type 0 = λ r. (rows : Rows) → Sound rows → IsPart m rows → Decides rows q r in
-    let refused : P (Err c.in_err-check_caller.field-0.0) = decided-refused m q _ c.requires (early-refused m c.args.caller.now c.args.ask.now c.args.day _ c.in_err-check_caller.ensures) in
-    handed-up P c.from_residual.result c.in_err-check_caller.field-0.0 c.from_residual.ensures.0 c.from_residual.ensures.1 refused
+    let early = early-refused m c.args.caller.now c.args.ask.now c.args.day _ c.in_err-check_caller.ensures in
+    handed-up (DecidesAll m q) c.from_residual.result c.in_err-check_caller.field-0.0 c.from_residual.ensures.0
+    c.from_residual.ensures.1
+    (decided-refused m q _ c.requires early)
 
 pub returns-in_err-edit : goal.returns-in_err-edit
 returns-in_err-edit c =
     let m = c.args.matter.now in
     let q = asked c.args.caller.now c.args.ask.now c.args.day in
     let told = given (goal.at.returns-in_err-edit c).Joined-ask in
-    let A : Result Edit Refusal → Type 0 = λ r. AnswersBy (kept_facts m c.args.ask.now) q r in
-    let P : Result MatterChange Refusal → Type 0 = λ r. (rows : Rows) → Sound rows → IsPart m rows → Decides rows q r in
-    let refused : P (Err c.in_err-edit.field-0.0) = decided-refused m q _ c.requires (subst A c.in_err-edit.was told.0) in
-    handed-up P c.from_residual-in_err-edit.result c.in_err-edit.field-0.0 c.from_residual-in_err-edit.ensures.0 c.from_residual-in_err-edit.ensures.1 refused
+    let late =
+    subst (λ (r : Result Edit Refusal). AnswersBy (kept_facts m c.args.ask.now) q r) c.in_err-edit.was told.0 in
+    handed-up (DecidesAll m q) c.from_residual-in_err-edit.result c.in_err-edit.field-0.0
+    c.from_residual-in_err-edit.ensures.0 c.from_residual-in_err-edit.ensures.1
+    (decided-refused m q _ c.requires late)
 
 pub returns : goal.returns
 returns c =
     let m = c.args.matter.now in
     let q = asked c.args.caller.now c.args.ask.now c.args.day in
     let told = given (goal.at.returns c).Joined-ask in
-    let A : Result Edit Refusal → Type 0 = λ r. AnswersBy (kept_facts m c.args.ask.now) q r in
-    let L : ℕ → Type 0 = λ n. IfOk c.change_of.result (λ x. IsMade m c.in_ok-edit.edit n x) in
-    decided-made m q c.in_ok-edit.edit c.change_of.result c.requires told.1 (subst A c.in_ok-edit.was told.0) (subst L c.last_after-last.ensures c.change_of.ensures.ok) c.change_of.ensures.store
+    let late =
+    subst (λ (r : Result Edit Refusal). AnswersBy (kept_facts m c.args.ask.now) q r) c.in_ok-edit.was told.0 in
+    let made =
+    subst (λ (n : ℕ). IfOk c.change_of.result (λ x. IsMade m c.in_ok-edit.edit n x)) c.last_after-last.ensures
+    c.change_of.ensures.ok in
+    decided-made m q c.in_ok-edit.edit c.change_of.result c.requires told.1 late made c.change_of.ensures.store

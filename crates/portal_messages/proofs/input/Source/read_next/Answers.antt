@@ -1,3 +1,5 @@
+use Rattle.std.proofs.Common.{arith, rules}
+use Rattle.std.proofs.lemmas.Grind.{common_steps}
 use Rattle.portal_messages.proofs.Names.{◌∙◌, ℕ, List, map, take, codes, sym, ap, header_bytes, span_bytes, front_of, values_of}
 use Rattle.portal_messages.proofs.BodyFacts.{size_at, kept-next, refused-next, cut-body, message-gives}
 use Rattle.portal_messages.proofs.input.Source.read_next.Goals as goal
@@ -28,5 +30,5 @@ returns-clause-next g c =
     (c.new-method.ensures ∙ (c.in_ok-from_slice.ensures.items ∙ (c.of.ensures ∙ ap (λ (f : List ℕ). span_bytes f c.in-Head.head.method) first)))
     (c.new-target.ensures ∙ (c.in_ok-from_slice-2.ensures.items ∙ (c.of-2.ensures ∙ ap (λ (f : List ℕ). span_bytes f c.in-Head.head.path) first)))
     (c.in_ok-callers.ensures ∙ ap (λ (f : List ℕ). values_of (codes "x-caller") (map (header_bytes f) (take c.in-Head.head.headers c.next_head.new.spans))) first)
-    (c.new-body.ensures ∙ c.in_ok-take_body.ensures.body)
-    c.in_ok-take_body.ensures.rest)
+    (grind (arith, common_steps))
+    (search rules))

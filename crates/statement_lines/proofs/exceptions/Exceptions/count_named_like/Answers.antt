@@ -1,4 +1,4 @@
-use Rattle.statement_lines.proofs.Names.{◌≡◌, ◌∙◌, ap, ◌==◌, List, count_by, filter, Line, line_key, elements, is_named_like}
+use Rattle.statement_lines.proofs.Names.{◌≡◌, ◌∙◌, ◌==◌, refl, filter, line_key, elements, is_named_like}
 use Rattle.statement_lines.proofs.Alike.{named_like_narrows}
 use Rattle.statement_lines.proofs.Found.{counted}
 use Rattle.statement_lines.proofs.exceptions.Exceptions.count_named_like.Goals as goal
@@ -7,10 +7,8 @@ pub returns : goal.returns
 returns c =
     let line = c.args.line.now in
     let all = c.self.inside.all.now in
-    let found = c.at.result.now in
-    let same : elements found ≡ filter (λ x. line_key x == line_key line) all =
-    ap elements c.at.ensures ∙ c.self.invariant c.line_key.result
-    ∙ ap (λ k. filter (λ x. line_key x == k) all) (c.line_key.ensures ∙ ap line_key c.line.ensures) in
+    let same : elements c.at.result.now ≡ filter (λ x. line_key x == line_key line) all =
+    rw (c.at.ensures, c.self.invariant c.line_key.result, c.line_key.ensures, c.line.ensures) refl in
     c.count_named_among.ensures
-    ∙ counted (is_named_like line) (λ x. line_key x == line_key line) (named_like_narrows line) found all same
-    ∙ ap (λ (xs : List Line). count_by (is_named_like line) xs) c.self.view_is
+    ∙ rw (← c.self.view_is)
+    (counted (is_named_like line) (λ x. line_key x == line_key line) (named_like_narrows line) c.at.result.now all same)

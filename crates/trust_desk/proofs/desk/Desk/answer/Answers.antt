@@ -1,5 +1,5 @@
-use Rattle.trust_desk.proofs.Names.{◌≡◌, ◌∙◌, ap, refl, rules, subst, sym, Reply, Request, Import, IsAnswered, counted_reply, Steps, Asks, Heard, kind_of, is_fault_reply, reply_for}
-use Rattle.trust_desk.proofs.Answered.{answered-ask, answered-import, end-counted, end-fault}
+use Rattle.trust_desk.proofs.Names.{◌≡◌, ◌∙◌, ap, refl, rules, subst, sym, Reply, Request, IsAnswered, counted_reply, Steps, Asks, OfItems, kind_of, import_refusal, imported, is_fault_reply, reply_for}
+use Rattle.trust_desk.proofs.Answered.{end-counted, end-fault}
 use Rattle.trust_desk.proofs.Calls.{kept-as}
 use Rattle.trust_desk.proofs.Crashes.{leave-as}
 use Rattle.trust_desk.proofs.Own.{keeps-others, own-once}
@@ -19,16 +19,11 @@ returns g c =
     let new = c.match-request.self in
     let answered = c.match-request.answered in
     let is : IsAnswered B.firm B.clean B.sure B.stands B.lasts B.leaves B.refusals day h answered old new = elim c.match-request.branch [
-      | in-Matter w ↦
-          let call = w.answer_ask-answered.ensures in
-          rw (w.self-is, w.answered-is) (answered-ask day h _ _ _ w.answer_ask-answered.result (kind w.in-Matter.is) call.end call.ok call.kept call.crash)
-      | in-Import w ↦
-          let call = w.answer_import-answered.ensures in
-          let sent = Asks (Import w.in-Import.caller w.as_slice.result.now) in
-          let same : sent ≡ h = ap (λ bytes. Asks (Import w.in-Import.caller bytes)) w.as_slice.ensures ∙ sym (ap (λ (r : Request). Asks r) w.in-Import.is) in
-          rw (w.self-is, w.answered-is)
-          (subst (λ (x : Heard). IsAnswered B.firm B.clean B.sure B.stands B.lasts B.leaves B.refusals day x w.answer_import-answered.result old w.answer_import-answered.new.self) same
-          (answered-import day sent w.answer_import-answered.result tt call.step call.ok call.kept call.crash))
+      | in-Matter w ↦ rw (w.self-is, w.answered-is)
+          (subst (λ b. IsAnswered B.firm B.clean B.sure B.stands B.lasts B.leaves B.refusals day h w.answer_ask-answered.result b w.answer_ask-answered.new.book) w.self.view_is
+          (w.answer_ask-answered.ensures h (kind w.in-Matter.is)))
+      | in-Import w ↦ rw (w.self-is, w.answered-is)
+          (w.answer_import-answered.ensures h (kind w.in-Import.is ∙ (λ i. OfItems (import_refusal w.in-Import.caller (sym w.as_slice.ensures i)) (imported w.in-Import.caller (sym w.as_slice.ensures i)))))
       | in-Dismiss w ↦ rw (w.self-is, w.answered-is) (w.answer_dismiss-answered.ensures day h (kind w.in-Dismiss.is))
       | in-Match w ↦ rw (w.self-is, w.answered-is) (w.answer_match-answered.ensures h (kind w.in-Match.is))
       | in-Unmatched w ↦ rw (w.self-is, w.answered-is) (w.answer_match-answered-in-Unmatched.ensures h (kind w.in-Unmatched.is))

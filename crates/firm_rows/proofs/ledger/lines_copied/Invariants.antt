@@ -1,5 +1,0 @@
-use Rattle.firm_rows.proofs.Names.{◌≡◌, take}
-use Rattle.firm_rows.proofs.ledger.lines_copied.Given as goal
-
-abbrev pub invariant-loop-line : goal.invariant-loop-line
-invariant-loop-line l = l.copies.items ≡ take l.line-index l.lines

@@ -1,9 +1,0 @@
-use Rattle.matter_bodies.proofs.Names.{subst, sym, IsUtf8}
-use Rattle.matter_bodies.proofs.TextFacts.{IsUtf8-person}
-use Rattle.matter_bodies.proofs.bodies.write_seat.Goals as goal
-
-pub unreachable-requires : goal.unreachable-requires
-unreachable-requires c = c.in_default.ensures.cases.0 (subst IsUtf8 (sym c.as_slice.ensures.value) (IsUtf8-person _ c.as_slice.ensures.form))
-
-pub unreachable-unreachable : goal.unreachable-unreachable
-unreachable-unreachable c = absurd (c.in_default.ensures.cases.0 (subst IsUtf8 (sym c.as_slice.ensures.value) (IsUtf8-person _ c.as_slice.ensures.form)))

@@ -1,0 +1,81 @@
+use Rattle.trust_desk.proofs.Names.{◌∙◌, Ok, refl, subst, sym, err_from_is_err_and, Stray, LineDecides, Firm, of, counted_verdict}
+use Rattle.statement_csv.specs.declared.item.Item.TheVariants.{OfMatter}
+use Rattle.trust_desk.specs.declared.importing.Counted.TheVariants.{Exception}
+use Rattle.trust_desk.proofs.Beside.{beside-unread, beside-unwritten, beside-written, item-apart}
+use Rattle.trust_desk.proofs.ItemsApplied.{decision-uncounted, item-undecided, item-unwritten, item-written, verdict-tells}
+use Rattle.trust_desk.proofs.importing.apply_item.Goals as goal
+
+pub write_line-requires : goal.write_line-requires
+write_line-requires g c =
+    λ clean stands.
+    let B = g.B.Book in
+    let old = c.args.book.now in
+    let l = c.in-OfMatter.line in
+    let found = c.in_ok-matter-in-OfMatter.ensures in
+    let stood = found.read.stood clean stands in
+    let F : Firm → Type 0 = λ f. LineDecides (of l.matter f) l c.args.day (Ok c.in_ok-verdict-in-OfMatter.verdict) in
+    (c.args.day, subst F (sym (found.read.same clean stood)) (c.in_ok-verdict-in-OfMatter.ensures (of l.matter (B.firm old)) ((B.sound old stood).matters l.matter) (found.found clean stood)))
+
+pub returns-in_err-matter-in-OfMatter : goal.returns-in_err-matter-in-OfMatter
+returns-in_err-matter-in-OfMatter g c =
+    let p = err_from_is_err_and c.from_residual.result c.from_residual.ensures.1 in
+    rw (p.1, p.2, c.in-OfMatter.is)
+    (beside-unread c.args.own.now (OfMatter c.in-OfMatter.line) c.in_err-matter-in-OfMatter.field-0.0 c.in_err-matter-in-OfMatter.ensures.read)
+
+pub returns-in_err-verdict-in-OfMatter : goal.returns-in_err-verdict-in-OfMatter
+returns-in_err-verdict-in-OfMatter g c =
+    let B = g.B.Book in
+    let old = c.args.book.now in
+    let l = c.in-OfMatter.line in
+    let rows = of l.matter (B.firm old) in
+    let fault = c.in_err-verdict-in-OfMatter.field-0.0 in
+    let found = c.in_ok-matter-in-OfMatter.ensures in
+    let none = λ (sure : B.sure c.matter_for.new.self) (stands : B.clean old → B.stands old).
+    let clean = found.read.serves sure in
+    let stood = stands (found.read.was_clean clean) in
+    decision-uncounted rows l c.args.day fault (B.refusals old) (c.in_err-verdict-in-OfMatter.ensures rows ((B.sound old stood).matters l.matter) (found.found clean stood)) in
+    let p = err_from_is_err_and c.from_residual-in_err-verdict-in-OfMatter.result c.from_residual-in_err-verdict-in-OfMatter.ensures.1 in
+    rw (p.1, p.2, c.in-OfMatter.is) (item-apart c.args.own.now tt (item-undecided c.args.day (OfMatter l) fault found.read none))
+
+pub returns-in_err-write_line-in-OfMatter : goal.returns-in_err-write_line-in-OfMatter
+returns-in_err-write_line-in-OfMatter g c =
+    let B = g.B.Book in
+    let old = c.args.book.now in
+    let l = c.in-OfMatter.line in
+    let v = c.in_ok-verdict-in-OfMatter.verdict in
+    let found = c.in_ok-matter-in-OfMatter.ensures in
+    let p = err_from_is_err_and c.from_residual-in_err-write_line-in-OfMatter.result c.from_residual-in_err-write_line-in-OfMatter.ensures.1 in
+    rw (p.1, p.2, c.in-OfMatter.is)
+    (item-apart c.args.own.now tt
+    (item-unwritten c.args.day (OfMatter l) (counted_verdict v) c.in_err-write_line-in-OfMatter.field-0.0 found.read c.in_err-write_line-in-OfMatter.ensures.written
+    (λ served stood. verdict-tells c.args.day (B.firm old) l v (c.in_ok-verdict-in-OfMatter.ensures (of l.matter (B.firm old)) ((B.sound old stood).matters l.matter) (found.found served stood)))))
+
+pub returns-in_ok-write_line-in-OfMatter : goal.returns-in_ok-write_line-in-OfMatter
+returns-in_ok-write_line-in-OfMatter g c =
+    let B = g.B.Book in
+    let old = c.args.book.now in
+    let l = c.in-OfMatter.line in
+    let found = c.in_ok-matter-in-OfMatter.ensures in
+    rw c.in-OfMatter.is
+    (item-apart c.args.own.now tt
+    (item-written c.args.day (OfMatter l) c.counted_line.result found.read c.in_ok-write_line-in-OfMatter.ensures.written
+    (λ served stood.
+    let told = verdict-tells c.args.day (B.firm old) l c.in_ok-verdict-in-OfMatter.verdict (c.in_ok-verdict-in-OfMatter.ensures (of l.matter (B.firm old)) ((B.sound old stood).matters l.matter) (found.found served stood)) in
+    (c.counted_line.ensures ∙ told.0, told.1))))
+
+pub returns-in-Opening : goal.returns-in-Opening
+returns-in-Opening g c = rw c.in-Opening.is (item-apart c.args.own.now tt c.apply_balance.ensures)
+
+pub returns-in-Closing : goal.returns-in-Closing
+returns-in-Closing g c = rw c.in-Closing.is (item-apart c.args.own.now tt c.apply_balance-in-Closing.ensures)
+
+pub returns-in_ok-write_stray-in-Stray : goal.returns-in_ok-write_stray-in-Stray
+returns-in_ok-write_stray-in-Stray g c =
+    rw c.in-Stray.is
+    (beside-written c.args.own.now (Stray c.in-Stray.line) Exception c.in_ok-write_stray-in-Stray.ensures.written (λ f. refl) (λ right. (refl, refl)))
+
+pub returns-in_err-write_stray-in-Stray : goal.returns-in_err-write_stray-in-Stray
+returns-in_err-write_stray-in-Stray g c =
+    let p = err_from_is_err_and c.from_residual-in_err-write_stray-in-Stray.result c.from_residual-in_err-write_stray-in-Stray.ensures.1 in
+    rw (p.1, p.2, c.in-Stray.is)
+    (beside-unwritten c.args.own.now (Stray c.in-Stray.line) Exception c.in_err-write_stray-in-Stray.field-0.0 c.in_err-write_stray-in-Stray.ensures.written (λ right. (refl, refl)))
