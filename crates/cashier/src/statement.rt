@@ -60,26 +60,6 @@ fn refuse<W: Write>(writer: &mut W, refusal: &Refusal) -> StatementEnd
     }
 }
 
-// Writes the line of an import, if it has one: its counts, or that there was no memory for their text, or its refusal.
-fn answer<W: Write>(writer: &mut W, alloc: Global, ran: &ImportEnd) -> StatementEnd
-    ensures { Answers ran.now (W.contents writer.old) (W.contents writer.new) result }
-{
-    match &ran.end {
-        ImportStop::Done => {
-            let Ok(body) = import_body(alloc, &ran.reply) else {
-                return refuse(writer, &Refusal::Memory);
-            };
-            let Ok(()) = write_answer_line(writer, 200, body.as_slice()) else {
-                return StatementEnd::WriteFault;
-            };
-            StatementEnd::Done
-        }
-        ImportStop::Refused(refusal) => refuse(writer, refusal),
-        ImportStop::Limit => refuse(writer, &Refusal::TooLarge),
-        ImportStop::ReadFault => StatementEnd::ReadFault,
-    }
-}
-
 /// Imports a bank's statement over a desk on a business day, and writes one line: the counts of its items, or its
 /// refusal. `length` is the length in bytes that the statement reports before it is read.
 ///
@@ -116,5 +96,18 @@ pub fn run_import<R: Read + Drop, W: Write, B: Book, V: ItemWatch>(
         return refuse(writer, &Refusal::TooLarge);
     }
     let ran = desk.import(alloc, reader, today, watch);
-    answer(writer, alloc, &ran)
+    match &ran.end {
+        ImportStop::Done => {
+            let Ok(body) = import_body(alloc, &ran.reply) else {
+                return refuse(writer, &Refusal::Memory);
+            };
+            let Ok(()) = write_answer_line(writer, 200, body.as_slice()) else {
+                return StatementEnd::WriteFault;
+            };
+            StatementEnd::Done
+        }
+        ImportStop::Refused(refusal) => refuse(writer, refusal),
+        ImportStop::Limit => refuse(writer, &Refusal::TooLarge),
+        ImportStop::ReadFault => StatementEnd::ReadFault,
+    }
 }

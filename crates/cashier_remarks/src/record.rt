@@ -153,17 +153,6 @@ fn is_all_text(row: &ByteRecord) -> bool
     is_text_so_far
 }
 
-// Returns the verb of a record, if the record has the verb's form.
-fn verb_of_record(row: &ByteRecord) -> Option<Verb>
-    ensures { result ≡ verb_in (fields_of row.now) }
-{
-    let verb = read_verb(field_bytes(row, 0))?;
-    let is_of_form = row.len() == count_of(verb)
-        && (names_entry(verb) || field_bytes(row, 2).is_empty())
-        && is_all_text(row);
-    if is_of_form { Some(verb) } else { None }
-}
-
 // The text of an optional field: `None` if it is empty.
 fn given(text: &[u8]) -> Option<&[u8]>
     ensures { option_copied result ≡ text_given text.now }
@@ -280,9 +269,13 @@ fn read_request(alloc: Global, row: &ByteRecord) -> Result<Request, Refusal>
     if is_dismissal(row) {
         return read_dismissal(alloc, row);
     }
-    let Some(verb) = verb_of_record(row) else {
+    let verb = read_verb(field_bytes(row, 0)).ok_or(BadField(Field::Record))?;
+    let is_of_form = row.len() == count_of(verb)
+        && (names_entry(verb) || field_bytes(row, 2).is_empty())
+        && is_all_text(row);
+    if !is_of_form {
         return Err(BadField(Field::Record));
-    };
+    }
     let Some(no) = MatterNo::read(field_bytes(row, 1)) else {
         return Err(BadField(Field::Matter));
     };

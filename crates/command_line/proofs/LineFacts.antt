@@ -1,6 +1,8 @@
 -- What a parse of the program's own command line says.
-use Rattle.command_line.proofs.Names.{◌≡◌, ◌≢◌, ◌∙◌, ◌⊎◌, inl, inr, ap, sym, refl, subst, true, ℕ, List, [], Option, Some, None, IfErr, Result, Ok, Err, option_map, option_and_then, codes, App, Row, Text, fault_of, first_of, found_of, is_simple, is_simple_and_free, matches_of, rows_of, subcommand_name_of, subcommand_of, subcommand_rows_of, ErrorKind, ArgMatches, first_value, Found, clap_on_literals, first_value-rows, day_of, Gives, IsParse, IsRefused, IsTask, LeavesNoPlan, MeetsTask, Means, MeansNothing, db_rule, fault_by, operand_rule, options_app, quiet_rule, report_apps, program, run_apps, today_rule, Task}
-use Rattle.clap.specs.Kinds.{IsAmong, Kinds}
+use Rattle.command_line.proofs.Names.{◌≡◌, ◌≢◌, ◌∙◌, ◌⊎◌, inl, inr, ap, sym, refl, subst, true, ℕ, List, [], Option, Some, None, IfErr, IfOk, Result, Ok, Err, option_map, option_and_then, codes, App, Row, Text, fault_of, first_of, found_of, is_simple, is_simple_and_free, kind_of, matches_of, rows_of, subcommand_name_of, subcommand_of, subcommand_rows_of, ErrorKind, ArgMatches, first_value, Found, clap_on_literals, first_value-rows, day_of, Gives, IsParse, IsRefused, IsTask, LeavesNoPlan, MeetsTask, Means, MeansNothing, db_rule, fault_by, operand_rule, options_app, quiet_rule, report_apps, program, run_apps, today_rule, Task}
+use Rattle.clap.specs.Kinds.{FailsBy, HasKind, IsAmong, Kinds}
+use Rattle.clap.specs.Simple.{HasMatchesOf}
+use Rattle.clap.specs.declared.error.Error.{Error}
 use Rattle.clap.specs.declared.error.kind.ErrorKind.TheVariants as kind
 use Rattle.std.specs.Result.{IsErrAnd}
 use Rattle.command_line.specs.declared.command.CliFault.{CliFault}
@@ -13,9 +15,6 @@ is_simple_program = refl
 pub is_free_program : is_simple_and_free program ≡ true
 unfolding clap_on_literals program options_app today_rule db_rule quiet_rule operand_rule run_apps report_apps
 is_free_program = refl
-
-pub parses : (a : App) (words : List Text) → a ≡ program → (is_simple_and_free a ≡ true → fault_of a words ≡ []) → fault_of program words ≡ []
-parses a words same kinds = sym (ap (λ (x : App). fault_of x words) same) ∙ kinds (ap is_simple_and_free same ∙ is_free_program)
 
 -- words that are refused by an error other than want of memory mean nothing
 none-means : (words : List Text) (k : ErrorKind) → k ≢ kind.OutOfMemory → IsRefused words k → MeansNothing words
@@ -42,17 +41,16 @@ pub met : (m : ArgMatches) (name : Text) (values : List Row) → subcommand_name
     → subcommand_rows_of m ≡ Some (name, values)
 met m name values n v = pair-parts (subcommand_rows_of m) name values (name_in_rows m ∙ n) v
 
--- the values of a parse are those of the command line
-abbrev pub HasValues : App → List Text → ArgMatches → Type 0
-HasValues a words m = is_simple a ≡ true → (rows_of (found_of m) ≡ matches_of a words) × (subcommand_rows_of m ≡ subcommand_of a words)
-
-pub is-parse : (a : App) (words : List Text) (m : ArgMatches) → a ≡ program → (is_simple_and_free a ≡ true → fault_of a words ≡ []) → HasValues a words m
-    → IsParse words m
-is-parse a words m same kinds has = let here = has (ap is_simple same ∙ is_simple_program) in record {
-  taken = parses a words same kinds;
-  values = here.0 ∙ ap (λ (x : App). matches_of x words) same;
-  met = here.1 ∙ ap (λ (x : App). subcommand_of x words) same;
-}
+-- what a parse of this command line returned
+pub parsed : (a : App) (words : List Text) (r : Result ArgMatches Error) → a ≡ program → (is_simple_and_free a ≡ true → FailsBy (fault_of a words) r)
+    → IfOk r (HasMatchesOf a words) → IfOk r (IsParse words) × IfErr r (λ e. IsRefused words (kind_of e))
+parsed a words (Ok m) same kinds has =
+    let here = has (ap is_simple same ∙ is_simple_program) in
+    let fault : fault_of a words ≡ [] = kinds (ap is_simple_and_free same ∙ is_free_program) in
+    (record { taken = rw same at fault; values = rw same at here.0; met = rw same at here.1 }, tt)
+parsed a words (Err e) same kinds has =
+    let among : HasKind (fault_of a words) e = kinds (ap is_simple_and_free same ∙ is_free_program) in
+    (tt, subst (λ (x : App). HasKind (fault_of x words) e) same among)
 
 given : (rows rows2 : List Row) (met met2 : Option (Text × List Row)) (today : ℕ) (task : Task) → rows ≡ rows2 → met ≡ met2 → Gives rows met today task → Gives rows2 met2 today task
 given rows rows2 met met2 today task r n g = record {

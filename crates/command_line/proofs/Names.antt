@@ -6,7 +6,7 @@ pub use Rattle.clap.specs.Words.{App, Row, Rule, Text, app_of, fault_of, first_o
 pub use Rattle.clap.specs.declared.error.kind.ErrorKind.{ErrorKind}
 pub use Rattle.clap.specs.declared.parser.matches.ArgMatches.{ArgMatches}
 pub use Rattle.clap.specs.declared.parser.matches.Found.{Found}
-pub use Rattle.std.proofs.Common.{Bool, Err, IfErr, IfNone, IfSome, List, None, Ok, Option, Result, Some, [], add-one, ap, ap₂, arith, codes, drop, drop-cons, false, get_or, if◌then◌else◌, inl, inr, length, lit≤, min, option_and_then, option_map, refl, rules, slice_get, subst, suc, sym, take, true, ℕ, ◌+◌, ◌<◌, ◌^◌, ◌||◌, ◌∙◌, ◌≡◌, ◌≢◌, ◌≤◌, ◌⊎◌}
+pub use Rattle.std.proofs.Common.{Bool, Err, IfErr, IfNone, IfOk, IfSome, List, None, Ok, Option, Result, Some, [], add-one, ap, ap₂, arith, codes, drop, drop-cons, false, get_or, if◌then◌else◌, inl, inr, length, lit≤, min, option_and_then, option_map, refl, rules, slice_get, subst, suc, sym, take, true, ℕ, ◌+◌, ◌<◌, ◌^◌, ◌||◌, ◌∙◌, ◌≡◌, ◌≢◌, ◌≤◌, ◌⊎◌}
 pub use Rattle.std.proofs.lemmas.Option.{IfSome_then, same_Some, slice_get-get_or, slice_get-map}
 pub use Rattle.std.proofs.lemmas.Slice.Eq.{bytes_eq-Decides}
 pub use Rattle.std.specs.Borrow.{Bor}

@@ -2,14 +2,14 @@
 
 ghost use Rattle.std.specs.Prelude.{◌≡◌, ℕ, IfErr, IfOk, IfSome, IfNone, codes, option_and_then, option_map};
 ghost use Rattle.std.specs.Str.{bytes_eq};
-ghost use Rattle.clap.specs.Words.{app_of, first_of, found_of, rows_of, with_subcommand};
+ghost use Rattle.clap.specs.Words.{app_of, first_of, found_of, kind_of, rows_of, with_subcommand};
 ghost use Rattle.trust_base.specs.Texts.{day_of};
 ghost use Rattle.command_line.specs.Numerals.{IsCount, IsNumberBetween, IsPort};
 ghost use Rattle.command_line.specs.Program.{IsParse, IsRefused, IsTask, LeavesNoPlan, Means};
-ghost use Rattle.command_line.specs.Program.{command_app, db_of, fault_by, program, quiet_of, words_of};
+ghost use Rattle.command_line.specs.Program.{command_app, db_of, fault_by, quiet_of, words_of};
 ghost use Rattle.command_line.specs.declared.command.Task.{Task};
 
-use clap::error::ErrorKind;
+use clap::error::{Error, ErrorKind};
 use clap::{Arg, ArgAction, ArgMatches, Command};
 use itoa::Buffer;
 use std::alloc::{AllocError, Global};
@@ -81,11 +81,11 @@ pub enum CliFault {
     Memory,
 }
 
-impl From<ErrorKind> for CliFault {
-    ghost from_gives = { λ kind fault. fault ≡ fault_by kind };
+impl From<Error> for CliFault {
+    ghost from_gives = { λ error fault. fault ≡ fault_by (kind_of error) };
 
-    fn from(kind: ErrorKind) -> Self {
-        match kind {
+    fn from(error: Error) -> Self {
+        match error.kind() {
             ErrorKind::OutOfMemory => CliFault::Memory,
             _ => CliFault::Line,
         }
@@ -203,9 +203,15 @@ fn with_command<'a>(
     program.subcommand(command)
 }
 
-// Builds the command line: its options, the commands that print no report, and those that print one.
-fn program_command<'a>(alloc: Global) -> Result<Command<'a>, AllocError>
-    ensures { IfOk result (λ c. app_of c ≡ program) }
+/// Parses words, the first of which is the program's name: builds the command line, its options, the commands that
+/// print no report and those that print one, and matches the words with it. Returns the error with which the command
+/// line refuses them; asking for help is one too.
+///
+/// Returns `OutOfMemory` if memory runs out. The contract cannot say that it never does otherwise: by clap's
+/// contract, a parse of any words may end with it, and nothing shows whether memory really ran out.
+pub fn parse<'a>(alloc: Global, words: &'a [&'a str]) -> Result<ArgMatches<'a>, Error>
+    ensures ok { IfOk result (IsParse (words_of words.entry.now)) }
+    ensures err { IfErr result (λ error. IsRefused (words_of words.entry.now) (kind_of error)) }
 {
     let today = Arg::new(alloc, "today")
         .long("today")
@@ -230,26 +236,8 @@ fn program_command<'a>(alloc: Global) -> Result<Command<'a>, AllocError>
     let with_retention = with_command(alloc, with_journal, "retention", &[])?;
     let with_exceptions = with_command(alloc, with_retention, "exceptions", &[])?;
     let with_ledger = with_command(alloc, with_exceptions, "ledger", &["MATTER"])?;
-    Ok(with_ledger.subcommand_required(true))
-}
-
-/// Parses words, the first of which is the program's name. Returns the kind of error with which the command line
-/// refuses them; asking for help is one too.
-///
-/// Returns `OutOfMemory` if memory runs out. The contract cannot say that it never does otherwise: by clap's
-/// contract, a parse of any words may end with it, and nothing shows whether memory really ran out.
-#[tactic(auto, using(crate::proofs::LineFacts::is_free_program))]
-pub fn parse<'a>(alloc: Global, words: &'a [&'a str]) -> Result<ArgMatches<'a>, ErrorKind>
-    ensures ok { IfOk result (IsParse (words_of words.entry.now)) }
-    ensures err { IfErr result (IsRefused (words_of words.entry.now)) }
-{
-    let Ok(command) = program_command(alloc) else {
-        return Err(ErrorKind::OutOfMemory);
-    };
-    match command.try_get_matches_from(words) {
-        Ok(matches) => Ok(matches),
-        Err(error) => Err(error.kind()),
-    }
+    let command = with_ledger.subcommand_required(true);
+    command.try_get_matches_from(words)
 }
 
 /// Returns the plan that words mean; the first word is the program's name. `db` is the value of `--db` if given,

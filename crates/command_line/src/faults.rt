@@ -23,7 +23,10 @@ fn failure_of<'a>(alloc: Global, words: &'a [&'a str]) -> Option<ErrorKind>
     ensures none { IfNone result (fault_of program (words_of words.entry.now) ≡ []) }
     ensures some { IfSome result (IsRefused (words_of words.entry.now)) }
 {
-    parse(alloc, words).err()
+    match parse(alloc, words) {
+        Ok(_) => None,
+        Err(error) => Some(error.kind()),
+    }
 }
 
 // How far the command line accepts words.
@@ -281,7 +284,7 @@ fn wrong_of<'a>(alloc: Global, words: &'a [&'a str]) -> Option<Wrong<'a>>
 {
     match parse(alloc, words) {
         Ok(matches) => wrong_value(&matches),
-        Err(kind) => wrong_words(alloc, words, kind),
+        Err(error) => wrong_words(alloc, words, error.kind()),
     }
 }
 

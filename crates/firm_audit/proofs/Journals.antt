@@ -10,15 +10,11 @@ use Rattle.firm_audit.proofs.KeptRows.{at-each}
 
 -- the movements of an entry are among those of its matter
 not-its : (m n : ℕ) (o : Owner) → is_of_matter m o ≡ false → is_of_entry m n o ≡ false
-not-its m n (owner.Matter k j) other = rw other refl
-not-its m n owner.Firm other = refl
+not-its m n o other = grind (arith, ints, nat_tests)
 
 pub moved-twice : (m n : ℕ) (vs : List Movement) → filter (λ v. is_of_entry m n v.owner) (moved_of m vs) ≡ filter (λ v. is_of_entry m n v.owner) vs
 moved-twice m n [] = refl
-moved-twice m n (v ∷ vs) = elim (cases_Bool (is_of_matter m v.owner)) [
-  | inl t ↦ rw (t, moved-twice m n vs) refl
-  | inr f ↦ rw (f, not-its m n v.owner f) (moved-twice m n vs)
-]
+moved-twice m n (v ∷ vs) = grind (arith, ints, nat_tests, cases_Bool, not-its, (moved-twice m n vs))
 
 -- the first movements of a matter are those among the first of all
 pub taken-among : {A : Type 0} (p : A → Bool) (k : ℕ) (xs : List A) → (j : ℕ) × (filter p (take k xs) ≡ take j (filter p xs))
@@ -41,14 +37,7 @@ covered-by m vs covered k =
 
 -- no movement is of an entry that is not there
 not-of : (m n : ℕ) (ks : List KeptMatter) (o : Owner) → IsOwned ks o → entry_at (rows_in m ks).entries n ≡ None → is_of_entry m n o ≡ false
-not-of m n ks (owner.Matter k j) there none = elim (cases_Bool ((k == m) && (j == n))) [
-  | inl t ↦
-      let same : k ≡ m = grind (arith, nat_tests) in
-      let entry : j ≡ n = grind (arith, nat_tests) in
-      absurd (false≢true (rw (same, entry, none) at there))
-  | inr f ↦ f
-]
-not-of m n ks owner.Firm there none = refl
+not-of m n ks o there none = grind (arith, ints, nat_tests, cases_Bool, false≢true)
 
 pub none-moved : (m n : ℕ) (ks : List KeptMatter) (vs : List Movement) → AllByRecursion (λ v. IsOwned ks v.owner) vs → entry_at (rows_in m ks).entries n ≡ None → filter (λ v. is_of_entry m n v.owner) vs ≡ []
 none-moved m n ks [] all none = refl
@@ -56,11 +45,7 @@ none-moved m n ks (v ∷ vs) all none = rw (not-of m n ks v.owner all.0 none) (n
 
 -- nor of a matter that was never opened
 not-of_matter : (m : ℕ) (ks : List KeptMatter) (o : Owner) → IsOwned ks o → rows_in m ks ≡ unopened → is_of_matter m o ≡ false
-not-of_matter m ks (owner.Matter k j) there none = elim (cases_Bool (k == m)) [
-  | inl t ↦ let same : k ≡ m = grind (arith, nat_tests) in absurd (false≢true (rw (same, none) at there))
-  | inr f ↦ f
-]
-not-of_matter m ks owner.Firm there none = refl
+not-of_matter m ks o there none = grind (arith, ints, nat_tests, cases_Bool, false≢true)
 
 pub none-moved_of : (m : ℕ) (ks : List KeptMatter) (vs : List Movement) → AllByRecursion (λ v. IsOwned ks v.owner) vs → rows_in m ks ≡ unopened → moved_of m vs ≡ []
 none-moved_of m ks [] all none = refl
@@ -77,28 +62,12 @@ pub record IsMovedAs (vs : List Movement) (m : ℕ) (rows : Rows) : Type 0 where
 -- kept entries have their numbers
 events-at : (m base n i : ℕ) (ks : List Kept) (own : List Movement) (e : Entry) → AreNumbered base ks → AreMoved m ks own → entry_at (entries_kept ks) n ≡ Some e → 0 < n → i + 1 ≡ base + n → events_moved m i own ≡ events_of e
 events-at m base n i [] own e numbered all there some at = absurd (cc)
-events-at m base n i (k ∷ ks) own e numbered all there some at = elim (cases_Bool (n == 1)) [
-  | inl first ↦
-      let here = rw first at there in
-      let own_number : i ≡ k.number = grind (arith, nat_tests, numbered.0) in
-      let own_entry : k.entry ≡ e = cc in
-      rw (own_number, ← own_entry) all.0
-  | inr later ↦
-      let more : 0 < n - 1 = grind (arith, nat_tests) in
-      let next : i + 1 ≡ (base + 1) + (n - 1) = grind (arith, nat_tests) in
-      events-at m (base + 1) (n - 1) i ks own e numbered.1 all.1 (rw later at there) more next
-]
+events-at m base n i (k ∷ ks) own e numbered all there some at =
+    grind (arith, ints, nat_tests, cases_Bool, (events-at m (base + 1) (n - 1) i ks own e numbered.1 all.1))
 
 moved-as : (vs : List Movement) (k : KeptMatter) → IsKeptWhole k → IsJournal k (moved_of k.number vs) → IsMovedAs vs k.number (rows_kept k.matter)
-moved-as vs k whole journal = record {
-  events = λ n e there.
-      let some = within (entries_kept k.matter.kept) n e there in
-      ap (map event_of) (sym (moved-twice k.number n vs))
-      ∙ events-at k.number 1 n n k.matter.kept (moved_of k.number vs) e whole.whole.numbered journal.events there some.0 (omega arith);
-  in_time = journal.in_time;
-  ledger = moved_for-is k.number vs ∙ journal.ledger;
-  covered = covered-by k.number vs journal.covered;
-}
+moved-as vs k whole journal =
+    grind (arith, ints, nat_tests, within, event_of, moved-twice, events-at, moved_for-is, covered-by)
 
 all-moved : (vs : List Movement) (ks : List KeptMatter) → AllByRecursion IsKeptWhole ks → AllByRecursion (λ k. IsJournal k (moved_of k.number vs)) ks → AllByRecursion (λ k. IsMovedAs vs k.number (rows_kept k.matter)) ks
 all-moved vs [] whole all = tt

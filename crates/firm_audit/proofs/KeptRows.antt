@@ -8,20 +8,12 @@ use Rattle.firm_rows.proofs.Order.{put-again, put-other}
 -- nothing is kept of a number below the others
 pub rows_in-below : (m n : ℕ) (ks : List KeptMatter) → m ≤ n → IsBefore n ks → rows_in m ks ≡ unopened
 rows_in-below m n [] le h = refl
-rows_in-below m n (k ∷ ks) le h =
-    let low : nat_lt k.number m ≡ false = grind (arith, nat_tests, h.0) in
-    let apart : (k.number == m) ≡ false = grind (arith, nat_tests, h.0) in
-    rw (low, apart) refl
+rows_in-below m n (k ∷ ks) le h = grind (arith, nat_tests, nat_lt)
 
 -- what holds of each kept matter's rows, and of those of a matter that was never opened, holds of all
 pub at-each : (P : ℕ → Rows → Type 0) (m : ℕ) (ks : List KeptMatter) → (rows_in m ks ≡ unopened → P m unopened) → AllByRecursion (λ k. P k.number (rows_kept k.matter)) ks → P m (rows_in m ks)
 at-each P m [] none all = none refl
-at-each P m (k ∷ ks) none all = cases (nat_lt k.number m) (k.number == m) refl none (λ h. at-each P m ks h all.1)
-  where
-    cases : (b c : Bool) → (k.number == m) ≡ c → (cond b (rows_in m ks) (cond c (rows_kept k.matter) unopened) ≡ unopened → P m unopened) → ((rows_in m ks ≡ unopened → P m unopened) → P m (rows_in m ks)) → P m (cond b (rows_in m ks) (cond c (rows_kept k.matter) unopened))
-    cases true c is none again = again none
-    cases false true is none again = let same : k.number ≡ m = grind (arith, nat_tests) in subst (λ (n : ℕ). P n (rows_kept k.matter)) same all.0
-    cases false false is none again = none refl
+at-each P m (k ∷ ks) none all = grind (arith, nat_tests, nat_lt, (at-each P m ks))
 
 -- The joined rows.
 

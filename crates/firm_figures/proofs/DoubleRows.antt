@@ -20,22 +20,14 @@ texts_ties : (a b : List ℕ) → bytes_eq a b ≡ is_eq (slice_cmp nat_cmp a b)
 texts_ties a b = sym (same_from_slice_cmp nat_cmp is_eq bytes_eq refl (λ _ _. refl) (λ _ _. refl) (λ x y xs ys o h. grind (arith, nat_tests)) a b (slice_cmp nat_cmp a b) refl)
 
 first-part : (o r : Ordering) → is_lt (ordering_then o r) ≡ false → (o ≡ Less → ⊥)
-first-part Less r is = λ e. absurd (cc)
-first-part Equal r is = λ e. absurd (cc)
-first-part Greater r is = λ e. absurd (cc)
+first-part o r is = grind (arith, nat_tests)
 
 equal-from : (o : Ordering) → is_eq o ≡ true → o ≡ Equal
-equal-from Less is = absurd (cc)
-equal-from Equal is = refl
-equal-from Greater is = absurd (cc)
+equal-from o is = grind (arith, nat_tests)
 
 -- what is neither behind nor before the same is there
 middle : (xy yx zy : Ordering) → xy ≡ ordering_reverse yx → (yx ≡ Less → ⊥) → (zy ≡ Less → ⊥) → xy ≡ zy → is_eq xy ≡ true
-middle Less yx zy back low high same = absurd (high (sym same))
-middle Equal yx zy back low high same = refl
-middle Greater Less zy back low high same = absurd (low refl)
-middle Greater Equal zy back low high same = absurd (cc)
-middle Greater Greater zy back low high same = absurd (cc)
+middle xy yx zy back low high same = grind (arith, nat_tests)
 
 pub between : (x y z : Issued) → is_before_issued y x ≡ false → is_before_issued z y ≡ false → has_same_instrument x z ≡ true → (has_same_instrument x y ≡ true) × (has_same_instrument y z ≡ true)
 between x y z low high ends =
@@ -72,17 +64,13 @@ double-ordered : (all : List Issued) (x : Issued) → is_double_in (in_order is_
 double-ordered all x = ap (λ n. nat_lt 1 n) (count-ordered (has_same_instrument x) is_before_issued all)
 
 pub doubles-of : (all ys : List Issued) → ys ≡ in_order is_before_issued all → filter (is_double_in ys) ys ≡ doubles_in all
-doubles-of all ys is =
-    filter_agree (is_double_in ys) (is_double_in all) (λ x. ap (λ zs. is_double_in zs x) is ∙ double-ordered all x) ys
-    ∙ ap (filter (is_double_in all)) is
+doubles-of all ys is = grind (arith, nat_tests, filter_agree, double-ordered)
 
 -- The payments that are kept.
 
 issued-from : (s : IssuedKept) (xs : List (ℕ × Row)) → fold with_row_issued s xs ≡ record s { issued = s.issued ++ flat_map (issued_in s.day) xs }
 issued-from s [] = λ i. record s { issued = sym (append-nil s.issued) i }
-issued-from s (x ∷ xs) =
-    issued-from (with_row_issued s x) xs
-    ∙ (λ i. record s { issued = append_assoc s.issued (issued_in s.day x) (flat_map (issued_in s.day) xs) i })
+issued-from s (x ∷ xs) = grind (arith, nat_tests, append_assoc, (issued-from (with_row_issued s x) xs))
 
 pub issued-kept : IssuedIsKept
 issued-kept p firm = ap (λ (s : IssuedKept). s.issued) (issued-from (no_issued p) firm.rows)

@@ -29,6 +29,4 @@ exceptions-listed s (l ∷ ls) = cases (nat_le l.date s.day) (λ z. exceptions-l
     cases false rest = rest s
 
 pub lists-kept : ListsKept
-lists-kept p firm =
-    ap (λ z. fold with_exception_listed z firm.exceptions) (rows-listed (none_listed p) firm.rows)
-    ∙ exceptions-listed (record { day = p; transit = transit_list p firm; out = out_list p firm; early = early_list p firm; exceptions = [] }) firm.exceptions
+lists-kept p firm = search (rows-listed, none_listed, exceptions-listed, transit_list, out_list, early_list)

@@ -41,8 +41,7 @@ abbrev TOP : ℕ
 TOP = 170_141_183_460_469_231_731_687_303_715_884_105_727
 
 word-within : (z : ℤ) → FitsSigned w64 z → IsWithin HALF z
-word-within (pos n) is = record { low = omega (arith, ints, is.sfits); high = omega (arith, ints, is.sfits) }
-word-within (negsuc n) is = record { low = omega (arith, ints, is.sfits); high = omega (arith, ints, is.sfits) }
+word-within z is = grind (arith, ints)
 
 both-sum : (n m : ℕ) (a b : ℤ) → IsWithin n a → IsWithin m b → IsWithin (n + m) (a +ℤ b)
 both-sum n m a b x y = record { low = omega (arith, ints, x.low, y.low); high = omega (arith, ints, x.high, y.high) }
@@ -50,8 +49,7 @@ both-sum n m a b x y = record { low = omega (arith, ints, x.low, y.low); high = 
 sums-fit : (n : ℕ) (z : ℤ) (vs : List Movement) → IsWithin n z → AllByRecursion IsMovementInRange vs → n + length vs * HALF ≤ TOP → AllByRecursion (λ l. FitsSigned w128 l.sum) (journal_from z vs)
 sums-fit n z [] is all le = tt
 sums-fit n z (v ∷ vs) is all le =
-    let next : IsWithin (n + HALF) (z +ℤ v.amount) = both-sum n HALF z v.amount is (word-within v.amount all.0) in
-    (fits (z +ℤ v.amount) (wider (n + HALF) TOP (z +ℤ v.amount) (omega (arith, le)) next), sums-fit (n + HALF) (z +ℤ v.amount) vs next all.1 (omega (arith, le)))
+    grind (arith, ints, both-sum, word-within, fits, wider, (sums-fit (n + HALF) (z +ℤ v.amount) vs))
 
 zero-within : IsWithin 0 (pos 0)
 zero-within = record { low = omega (arith, ints); high = omega (arith, ints) }
@@ -72,11 +70,7 @@ open_share f (m, EntryRow number entry) = pos 0
 
 open-sum : (f : ℕ → ℤ) (xs : List (ℕ × Row)) → sum_of (λ (l : TrialLine). l.ledger) (map (λ m. record { matter = m; ledger = f m }) (open_matters xs)) ≡ sum_of (open_share f) xs
 open-sum f [] = refl
-open-sum f ((m, HeadRow h) ∷ xs) = cases (is_none h.closed) (open-sum f xs)
-  where
-    cases : (b : Bool) → sum_of (λ (l : TrialLine). l.ledger) (map (λ m. record { matter = m; ledger = f m }) (open_matters xs)) ≡ sum_of (open_share f) xs → sum_of (λ (l : TrialLine). l.ledger) (map (λ m. record { matter = m; ledger = f m }) (cond b (m ∷ open_matters xs) (open_matters xs))) ≡ cond b (f m) (pos 0) +ℤ sum_of (open_share f) xs
-    cases true more = omega (arith, ints, more)
-    cases false more = omega (arith, ints, more)
+open-sum f ((m, HeadRow h) ∷ xs) = grind (arith, ints, is_none, (open-sum f xs))
 open-sum f ((m, SeatRow seat) ∷ xs) = omega (arith, ints, open-sum f xs)
 open-sum f ((m, EntryRow number entry) ∷ xs) = omega (arith, ints, open-sum f xs)
 
@@ -89,22 +83,11 @@ entries-none f m n [] = refl
 entries-none f m n (e ∷ es) = omega (arith, ints, entries-none f m (n + 1) es)
 
 pairs-open : (f : ℕ → ℤ) (m : ℕ) (rows : Rows) → sum_of (open_share f) (pairs m rows) ≡ sum_of (open_share f) (head_pairs m rows.head)
-pairs-open f m rows =
-    let whole = sum-append (open_share f) (head_pairs m rows.head) (seat_pairs m rows.seats ++ entry_pairs m 1 rows.entries) in
-    let rest = sum-append (open_share f) (seat_pairs m rows.seats) (entry_pairs m 1 rows.entries) in
-    omega (arith, ints, whole, rest, seats-none f m rows.seats, entries-none f m 1 rows.entries)
+pairs-open f m rows = grind (arith, ints, sum-append, seats-none, entries-none)
 
 -- a matter that is not open has nothing in its ledger
 head-open : (f : ℕ → ℤ) (m : ℕ) (rows : Rows) → Sound rows → f m ≡ ledger rows.entries → sum_of (open_share f) (head_pairs m rows.head) ≡ ledger rows.entries
-head-open f m rows sound is = cases rows.head sound.headed
-  where
-    closing : (h : Head) (o : Option ℕ) → IsAtRestIfClosed h o rows.entries → cond (is_none o) (f m) (pos 0) +ℤ pos 0 ≡ ledger rows.entries
-    closing h None rest = omega (arith, ints, is)
-    closing h (Some day) rest = omega (arith, ints, rest.empty)
-
-    cases : (o : Option Head) → IsHeaded o rows.seats rows.entries → sum_of (open_share f) (head_pairs m o) ≡ ledger rows.entries
-    cases None headed = subst (λ (es : List Entry). pos 0 ≡ ledger es) (sym headed.1) refl
-    cases (Some h) headed = closing h h.closed headed.1
+head-open f m rows sound is = grind (arith, ints, is_none)
 
 -- TOTAL is what all entries and the firm's lines add up to
 pub trial-sum : (firm : Firm) → FirmSound firm → sum_of (λ l. l.ledger) (trial_lines firm) ≡ ledger_sum firm

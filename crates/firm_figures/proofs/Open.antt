@@ -10,21 +10,9 @@ some_open m ((k, EntryRow n e) ∷ xs) = some_open m xs
 
 own-open : (m : ℕ) (xs : List (ℕ × Row)) → some_open m (passing (λ x. x == m) xs) ≡ some_open m xs
 own-open m [] = refl
-own-open m ((k, HeadRow h) ∷ xs) = cases (k == m) refl (own-open m xs)
-  where
-    cases : (b : Bool) → (k == m) ≡ b → some_open m (passing (λ x. x == m) xs) ≡ some_open m xs → some_open m (cond b ((k, HeadRow h) ∷ passing (λ x. x == m) xs) (passing (λ x. x == m) xs)) ≡ cond b (is_none h.closed || some_open m xs) (some_open m xs)
-    cases true is more = rw is (ap (λ b. is_none h.closed || b) more)
-    cases false is more = more
-own-open m ((k, SeatRow s) ∷ xs) = cases (k == m) (own-open m xs)
-  where
-    cases : (b : Bool) → some_open m (passing (λ x. x == m) xs) ≡ some_open m xs → some_open m (cond b ((k, SeatRow s) ∷ passing (λ x. x == m) xs) (passing (λ x. x == m) xs)) ≡ some_open m xs
-    cases true more = more
-    cases false more = more
-own-open m ((k, EntryRow n e) ∷ xs) = cases (k == m) (own-open m xs)
-  where
-    cases : (b : Bool) → some_open m (passing (λ x. x == m) xs) ≡ some_open m xs → some_open m (cond b ((k, EntryRow n e) ∷ passing (λ x. x == m) xs) (passing (λ x. x == m) xs)) ≡ some_open m xs
-    cases true more = more
-    cases false more = more
+own-open m ((k, HeadRow h) ∷ xs) = grind (arith, nat_tests, is_none, (own-open m xs))
+own-open m ((k, SeatRow s) ∷ xs) = grind (arith, nat_tests, (own-open m xs))
+own-open m ((k, EntryRow n e) ∷ xs) = grind (arith, nat_tests, (own-open m xs))
 
 entries-open : (m k n : ℕ) (es : List Entry) → some_open m (entry_pairs k n es) ≡ false
 entries-open m k n [] = refl
@@ -41,22 +29,14 @@ or-none : (b c : Bool) → c ≡ false → (b || c) ≡ b
 or-none b c is = grind arith
 
 pairs-open : (m : ℕ) (rows : Rows) → some_open m (pairs m rows) ≡ is_open rows.head
-pairs-open m rows = cases rows.head (seats-open m m rows.seats (entry_pairs m 1 rows.entries) (entries-open m m 1 rows.entries))
-  where
-    cases : (o : Option Head) → some_open m (seat_pairs m rows.seats ++ entry_pairs m 1 rows.entries) ≡ false → some_open m (head_pairs m o ++ (seat_pairs m rows.seats ++ entry_pairs m 1 rows.entries)) ≡ is_open o
-    cases None none = none
-    cases (Some h) none = rw (itself m) (or-none (is_none h.closed) _ none)
+pairs-open m rows = grind (arith, nat_tests, seats-open, entries-open, head_pairs, itself, or-none, is_none)
 
 more-open : (b c : Bool) (d : Bool) → d ≡ true → cond b (c || d) d ≡ true
 more-open b c d is = grind arith
 
 listed : (xs : List (ℕ × Row)) → AllByRecursion (λ k. some_open k xs ≡ true) (open_matters xs)
 listed [] = tt
-listed ((m, HeadRow h) ∷ xs) = cases (is_none h.closed) refl (all-map (λ k. some_open k xs ≡ true) (λ k. some_open k ((m, HeadRow h) ∷ xs) ≡ true) (open_matters xs) (λ k is. more-open (m == k) (is_none h.closed) (some_open k xs) is) (listed xs))
-  where
-    cases : (b : Bool) → is_none h.closed ≡ b → AllByRecursion (λ k. some_open k ((m, HeadRow h) ∷ xs) ≡ true) (open_matters xs) → AllByRecursion (λ k. some_open k ((m, HeadRow h) ∷ xs) ≡ true) (cond b (m ∷ open_matters xs) (open_matters xs))
-    cases true is more = ((rw (itself m) (rw is refl)), more)
-    cases false is more = more
+listed ((m, HeadRow h) ∷ xs) = grind (arith, nat_tests, is_none, all-map, more-open, itself, (listed xs))
 listed ((m, SeatRow s) ∷ xs) = listed xs
 listed ((m, EntryRow n e) ∷ xs) = listed xs
 

@@ -66,17 +66,7 @@ are-closings p rows = all-filter (λ (r : StatementRow). is_closing r.kind ≡ t
     and-left a b is = grind arith
 
 closings-day : (a b : StatementRow) → is_closing a.kind ≡ true → is_closing b.kind ≡ true → balance_cmp a b ≡ Less → a.day ≤ b.day
-closings-day a b one other less = kinds a.kind b.kind one other less
-  where
-    kinds : (k l : BalanceKind) → is_closing k ≡ true → is_closing l ≡ true → ordering_then (nat_cmp (place_of k) (place_of l)) (nat_cmp a.day b.day) ≡ Less → a.day ≤ b.day
-    kinds kind.Opening l one other less = absurd (cc)
-    kinds kind.Closing kind.Opening one other less = absurd (cc)
-    kinds kind.Closing kind.Closing one other less = by-day (nat_lt a.day b.day) (a.day == b.day) refl less
-      where
-        by-day : (x y : Bool) → nat_lt a.day b.day ≡ x → cond x Less (cond y Equal Greater) ≡ Less → a.day ≤ b.day
-        by-day true y is less = grind (arith, nat_tests)
-        by-day false true is less = absurd (cc)
-        by-day false false is less = absurd (cc)
+closings-day a b one other less = grind (arith, nat_tests, ordering_then, nat_cmp, place_of)
 
 all-below : (r : StatementRow) (rows : List StatementRow) → is_closing r.kind ≡ true → AllByRecursion (λ (x : StatementRow). is_closing x.kind ≡ true) rows → AllByRecursion (λ x. balance_cmp r x ≡ Less) rows → AllByRecursion (λ (x : StatementRow). r.day ≤ x.day) rows
 all-below r [] one all less = tt

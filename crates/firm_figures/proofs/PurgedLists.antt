@@ -8,10 +8,7 @@ use Rattle.firm_figures.proofs.PurgedFigures.{by, pending-least, all-pending-lea
 
 held-least : (e : Entry) → pos 0 ≤ℤ held_share e
 unfolding held_share
-held-least (entry.Deposit d) = elim d.state as (λ s. pos 0 ≤ℤ held_deposit s d.amount) [ deposit.Held ↦ omega (arith, ints) | _ ↦ omega (arith, ints) ]
-held-least (entry.Payment y) = omega (arith, ints)
-held-least (entry.Fee f) = omega (arith, ints)
-held-least (entry.Claim c) = omega (arith, ints)
+held-least e = grind (arith, ints, held_deposit)
 
 all-held-least : (es : List Entry) → pos 0 ≤ℤ held es
 all-held-least [] = omega (arith, ints)

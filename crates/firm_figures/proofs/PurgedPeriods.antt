@@ -15,21 +15,11 @@ or-second a b is = grind arith
 -- of the rows that are put, too, none passes
 none-put : (t : ℕ × Row → Bool) (m : ℕ) (rows : Rows) (joined : List (ℕ × Row)) → list_any t (put m rows joined) ≡ false → list_any t (head_pairs m rows.head) ≡ false
 none-put t m rows joined none =
-    let low = filter (λ p. nat_lt p.0 m) joined in
-    let high = filter (λ p. nat_lt m p.0) joined in
-    let rest = seat_pairs m rows.seats ++ entry_pairs m 1 rows.entries in
-    let own = or-second (list_any t low) (list_any t (pairs m rows ++ high)) (sym (list_any-append t low (pairs m rows ++ high)) ∙ none) in
-    let all = or-first (list_any t (pairs m rows)) (list_any t high) (sym (list_any-append t (pairs m rows) high) ∙ own) in
-    or-first (list_any t (head_pairs m rows.head)) (list_any t rest) (sym (list_any-append t (head_pairs m rows.head) rest) ∙ all)
+    grind (arith, nat_tests, filter, nat_lt, seat_pairs, entry_pairs, or-second, pairs, list_any-append, or-first)
 
 -- a matter that is no such one once it is purged was closed by the day
 closed-by : (p m day last : ℕ) (o : Option Head) → IsSome (closed_on o) → list_any (is_purged_after p) (head_pairs m (cleared_head o day last)) ≡ false → IsClosedBy p o
-closed-by p m day last None closed none = absurd (false≢true closed)
-closed-by p m day last (Some h) closed none = cases h.closed closed none
-  where
-    cases : (c : Option ℕ) → IsSome c → ((is_day_after p c) || false) ≡ false → (day : ℕ) × ((c ≡ Some day) × (day ≤ p))
-    cases None closed none = absurd (false≢true closed)
-    cases (Some close) closed none = (close, (refl, let off = or-first (nat_lt p close) false none in grind (arith, nat_tests)))
+closed-by p m day last o closed none = grind (arith, nat_tests, false≢true, is_day_after, or-first, nat_lt)
 
 -- after a purge no matter that was closed after the day is purged, and so not this one
 closed-left : (p m : ℕ) (change : MatterChange) (firm : Firm) → IsPurge m firm change → is_period_purged p (after_change m change firm) ≡ false → IsClosedBy p (of m firm).head

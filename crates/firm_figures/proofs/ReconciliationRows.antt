@@ -39,24 +39,11 @@ parts p firm = record {
 }
 
 in-parts : (p : ℕ) (firm : Firm) → all_kept p firm ≡ parts p firm
-in-parts p firm =
-    let rows = rows-kept (nothing_kept p) firm.rows in
-    let movements = ap (λ s. fold with_movement_kept s firm.movements) rows ∙ movements-kept _ firm.movements in
-    let own = ap (λ s. fold with_own_kept s firm.firm_lines) movements ∙ own-kept _ firm.firm_lines in
-    let exceptions = ap (λ s. fold with_exception_kept s firm.exceptions) own ∙ exceptions-kept _ firm.exceptions in
-    ap (λ s. fold with_balance_noted s firm.balances) exceptions ∙ balances-kept _ firm.balances
+in-parts p firm = grind (arith, rows-kept, nothing_kept, movements-kept, own-kept, exceptions-kept, balances-kept)
 
 -- the same lists beside whatever figures
 with-lists : (p : ℕ) (firm : Firm) (figures : Figures) → kept_with (parts p firm) figures ≡ reconciled p firm figures
-with-lists p firm figures = λ i. record {
-  figures = figures;
-  transit = (ap (λ (s : Listed). s.transit) (lists-kept p firm)) i;
-  out = (ap (λ (s : Listed). s.out) (lists-kept p firm)) i;
-  exceptions = (ap (λ (s : Listed). s.exceptions) (lists-kept p firm)) i;
-  early = (ap (λ (s : Listed). s.early) (lists-kept p firm)) i;
-  doubles = doubles_in (issued-kept p firm i);
-  openings = (openings-kept p firm.balances).lines i;
-}
+with-lists p firm figures = grind (arith, lists-kept, doubles_in, issued-kept, openings-kept)
 
 beside : (p : ℕ) (firm : Firm) (found : Option Figures) → option_map (kept_with (parts p firm)) found ≡ option_map (reconciled p firm) found
 beside p firm None = refl
@@ -65,17 +52,11 @@ beside p firm (Some figures) = ap (λ r. Some r) (with-lists p firm figures)
 -- a matter is found purged where one of the rows is
 purged-kept : (s : PeriodKept) (xs : List (ℕ × Row)) → (fold with_row_purged s xs).purged ≡ (list_any (is_purged_after s.day) xs || s.purged)
 purged-kept s [] = refl
-purged-kept s (x ∷ xs) = purged-kept (with_row_purged s x) xs ∙ turned (list_any (is_purged_after s.day) xs) (is_purged_after s.day x) s.purged
-  where
-    turned : (a b c : Bool) → (a || (b || c)) ≡ ((b || a) || c)
-    turned a b c = grind arith
+purged-kept s (x ∷ xs) = grind (arith, (purged-kept (with_row_purged s x) xs))
 
 period-kept : (p : ℕ) (firm : Firm) → (fold with_row_purged (whole_period p) firm.rows).purged ≡ is_period_purged p firm
 unfolding is_period_purged
-period-kept p firm = purged-kept (whole_period p) firm.rows ∙ plain (list_any (is_purged_after p) firm.rows)
-  where
-    plain : (a : Bool) → (a || false) ≡ a
-    plain a = grind arith
+period-kept p firm = grind (arith, purged-kept)
 
 pub reconciliation-kept : ReconciliationIsKept
 reconciliation-kept p firm sound is = record {

@@ -118,11 +118,9 @@ rows-fold : (p : ℕ) (c : Option ℤ) (t o j l w x m y : ℤ) (xs : List (ℕ �
 unfolding added
 rows-fold p c t o j l w x m y [] = λ i. kept p c (none-more t i) (none-more o i) j (none-more l i) w x (none-more m i) (none-more y i)
 rows-fold p c t o j l w x m y ((n, HeadRow head) ∷ xs) =
-    rows-fold p c t o j l w x m y xs
-    ∙ (λ i. kept p c (skipped t (sum_rows (transit_share p) xs) i) (skipped o (sum_rows (outstanding_share p) xs) i) j (skipped l (sum_rows (ledger_share_by p) xs) i) w x (skipped m (sum_rows (matched_share p) xs) i) (skipped y (sum_rows (early_share p) xs) i))
+    grind (arith, ints, skipped, (rows-fold p c t o j l w x m y xs))
 rows-fold p c t o j l w x m y ((n, SeatRow seat) ∷ xs) =
-    rows-fold p c t o j l w x m y xs
-    ∙ (λ i. kept p c (skipped t (sum_rows (transit_share p) xs) i) (skipped o (sum_rows (outstanding_share p) xs) i) j (skipped l (sum_rows (ledger_share_by p) xs) i) w x (skipped m (sum_rows (matched_share p) xs) i) (skipped y (sum_rows (early_share p) xs) i))
+    grind (arith, ints, skipped, (rows-fold p c t o j l w x m y xs))
 rows-fold p c t o j l w x m y ((n, EntryRow number e) ∷ xs) =
     (λ i. fold with_row (record { day = p; closing = c; transit = int_wrap-add_left w128 t (transit_share p e) i; outstanding = int_wrap-add_left w128 o (outstanding_share p e) i; journal = wrapped j; entries = int_wrap-add_left w128 l (ledger_share_by p e) i; own = wrapped w; exceptions = wrapped x; matched = int_wrap-add_left w128 m (matched_share p e) i; early = int_wrap-add_left w128 y (early_share p e) i }) xs)
     ∙ (rows-fold p c (t +ℤ transit_share p e) (o +ℤ outstanding_share p e) j (l +ℤ ledger_share_by p e) w x (m +ℤ matched_share p e) (y +ℤ early_share p e) xs
@@ -141,13 +139,10 @@ exceptions-fold s [] = refl
 exceptions-fold s (l ∷ ls) = exceptions-fold (with_exception s l) ls
 
 first-none : (c : Option ℤ) → c ≡ first_of c None
-first-none None = refl
-first-none (Some z) = refl
+first-none c = grind (arith, ints)
 
 first-more : (c : Option ℤ) (b : Bool) (r : StatementRow) (rest : Option StatementRow) → first_of (first_of c (cond b (Some r.amount) None)) (option_map (λ r. r.amount) rest) ≡ first_of c (option_map (λ r. r.amount) (cond b (Some r) rest))
-first-more None true r rest = refl
-first-more None false r rest = refl
-first-more (Some z) b r rest = refl
+first-more c b r rest = grind (arith, ints)
 
 balances-fold : (s : Tallies) (rs : List StatementRow) → fold with_balance_told s rs ≡ record s { closing = first_of s.closing (closing_on s.day rs) }
 balances-fold s [] = λ i. record s { closing = first-none s.closing i }
@@ -202,9 +197,7 @@ less-right a b = int_wrap-sub_right w128 a b
 
 less-both : (a b : ℤ) → less (wrapped a) (wrapped b) ≡ wrapped (a -ℤ b)
 unfolding less
-less-both a b =
-    let turn : (x : ℤ) → x -ℤ b ≡ x +ℤ (pos 0 -ℤ b) = λ x. omega (arith, ints) in
-    int_wrap-sub_right w128 (wrapped a) b ∙ (ap wrapped (turn (wrapped a)) ∙ (int_wrap-add_left w128 a (pos 0 -ℤ b) ∙ ap wrapped (sym (turn a))))
+less-both a b = grind (arith, ints, int_wrap-sub_right, w128, int_wrap-add_left)
 
 added-left : (a b : ℤ) → added (wrapped a) b ≡ wrapped (a +ℤ b)
 unfolding added
@@ -219,30 +212,7 @@ swapped a b o = omega (arith, ints)
 
 kept-figures : (p : ℕ) (c : Option ℤ) (closing : ℤ) (firm : Firm) → AreInRange (figures p closing firm) → figures_kept (kept p c (transit p firm) (outstanding p firm) (journal p firm) (told_by p firm) (own_by p firm) (exceptions p firm) (matched p firm) (early p firm)) closing ≡ figures p closing firm
 kept-figures p c closing firm fits =
-    let t = transit p firm in
-    let o = outstanding p firm in
-    let j = journal p firm in
-    let adjusting : less (added (wrapped t) closing) (wrapped o) ≡ wrapped ((closing +ℤ t) -ℤ o) = ap (λ z. less z (wrapped o)) (added-left t closing) ∙ (less-both (t +ℤ closing) o ∙ ap wrapped (swapped t closing o)) in
-    let adjusted = adjusting ∙ int_wrap_fits w128 ((closing +ℤ t) -ℤ o) fits.adjusted in
-    let difference = ap (λ z. less z (wrapped j)) adjusting ∙ (less-both ((closing +ℤ t) -ℤ o) j ∙ int_wrap_fits w128 (((closing +ℤ t) -ℤ o) -ℤ j) fits.difference) in
-    let ledgers = added-both (told_by p firm) (own_by p firm) ∙ int_wrap_fits w128 (told_by p firm +ℤ own_by p firm) fits.ledgers in
-    let gap =
-    ap (λ z. less (less z (wrapped (own_by p firm))) (wrapped (exceptions p firm))) (less-right closing (matched p firm))
-    ∙ (ap (λ z. less z (wrapped (exceptions p firm))) (less-both (closing -ℤ matched p firm) (own_by p firm))
-    ∙ (less-both ((closing -ℤ matched p firm) -ℤ own_by p firm) (exceptions p firm)
-    ∙ int_wrap_fits w128 (((closing -ℤ matched p firm) -ℤ own_by p firm) -ℤ exceptions p firm) fits.gap)) in
-    λ i. record {
-      closing = closing;
-      transit = int_wrap_fits w128 t fits.transit i;
-      outstanding = int_wrap_fits w128 o fits.outstanding i;
-      adjusted = adjusted i;
-      journal = int_wrap_fits w128 j fits.journal i;
-      ledgers = ledgers i;
-      difference = difference i;
-      exceptions = int_wrap_fits w128 (exceptions p firm) fits.exceptions i;
-      early = int_wrap_fits w128 (early p firm) fits.early i;
-      gap = gap i;
-    }
+    grind (arith, ints, added-left, less-both, swapped, int_wrap_fits, w128, added-both, less-right)
 
 pub figures-kept : FiguresKept
 figures-kept p firm fits = ap finished (taken-kept p firm) ∙ cases (closing_on p firm.balances) fits

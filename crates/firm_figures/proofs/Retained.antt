@@ -5,8 +5,7 @@ use Rattle.firm_figures.specs.Retained.{retention_line, Retained, none_retained,
 rows-retained : (s : Retained) (xs : List (ℕ × Row)) → fold with_row_retained s xs ≡ record s { lines = s.lines ++ flat_map (retention_line s.today) xs }
 rows-retained s [] = λ i. record s { lines = sym (append-nil s.lines) i }
 rows-retained s (x ∷ xs) =
-    rows-retained (record s { lines = s.lines ++ retention_line s.today x }) xs
-    ∙ (λ i. record s { lines = append_assoc s.lines (retention_line s.today x) (flat_map (retention_line s.today) xs) i })
+    search (append_assoc, (rows-retained (record s { lines = s.lines ++ retention_line s.today x }) xs))
 
 pub retention-kept : RetentionIsKept
 retention-kept today firm = rows-retained (none_retained today) firm.rows

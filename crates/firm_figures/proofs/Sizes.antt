@@ -16,20 +16,16 @@ MOST = 1_000_000_000_000_000_000
 
 pub sum-within : {A : Type 0} (f : A → ℤ) (xs : List A) → AllByRecursion (λ x. IsWithin MOST (f x)) xs → IsWithin (length xs * MOST) (sum_of f xs)
 sum-within f [] all = record { low = omega (arith, ints); high = omega (arith, ints) }
-sum-within f (x ∷ xs) all =
-    let more = sum-within f xs all.1 in
-    record { low = omega (arith, ints, more.low, all.0.low); high = omega (arith, ints, more.high, all.0.high) }
+sum-within f (x ∷ xs) all = grind (arith, ints, (sum-within f xs all.1))
 
 pub wider : (n m : ℕ) (z : ℤ) → n ≤ m → IsWithin n z → IsWithin m z
 wider n m z le is = record { low = omega (arith, ints, is.low); high = omega (arith, ints, is.high) }
 
 pub tested : (n : ℕ) (b : Bool) (z : ℤ) → IsWithin n z → IsWithin n (cond b z (pos 0))
-tested n true z is = is
-tested n false z is = record { low = omega (arith, ints); high = omega (arith, ints) }
+tested n b z is = grind (arith, ints)
 
 pub bank-within : (z : ℤ) → IsBankAmount z → IsWithin MOST z
-bank-within (pos n) is = record { low = omega (arith, ints); high = omega (arith, ints) }
-bank-within (negsuc n) is = record { low = omega (arith, ints); high = omega (arith, ints) }
+bank-within z is = grind (arith, ints)
 
 abbrev pub CENTS : ℕ
 CENTS = 99_999_999_999
@@ -44,10 +40,7 @@ pub none-within : IsWithin CENTS (pos 0)
 none-within = record { low = omega (arith, ints); high = omega (arith, ints) }
 
 cleared-within : (e : Entry) → IsAmount (entry_amount e) → IsWithin CENTS (cleared_amount e)
-cleared-within (entry.Deposit d) is = amount-within d.amount is
-cleared-within (entry.Payment y) is = out-within y.amount is
-cleared-within (entry.Fee f) is = none-within
-cleared-within (entry.Claim c) is = none-within
+cleared-within e is = grind (arith, ints, amount-within, out-within, none-within)
 
 both-within : (a b : ℤ) → IsWithin CENTS a → IsWithin CENTS b → IsWithin MOST (a -ℤ b)
 both-within a b x y = record { low = omega (arith, ints, x.low, y.high); high = omega (arith, ints, x.high, y.low) }
@@ -75,8 +68,7 @@ entries-within firm is f each =
     wider (length (entries_in firm.rows) * MOST) WHOLE _ (omega arith) (sum-within f (entries_in firm.rows) (all-map (λ e. IsAmount (entry_amount e)) (λ e. IsWithin MOST (f e)) (entries_in firm.rows) each (amounts firm.rows is.rows.ranged)))
 
 pub fits : (z : ℤ) → IsWithin 170_141_183_460_469_231_731_687_303_715_884_105_727 z → FitsSigned w128 z
-fits (pos n) is = fits_signed_from_abs w128 (pos n) (omega (arith, ints, is.high))
-fits (negsuc n) is = fits_signed_from_abs w128 (negsuc n) (omega (arith, ints, is.low))
+fits z is = grind (arith, ints, fits_signed_from_abs, negsuc)
 
 pub narrow : (z : ℤ) → IsWithin WHOLE z → FitsSigned w128 z
 narrow z is = fits z (wider WHOLE _ z (omega arith) is)
@@ -109,11 +101,8 @@ figures-fit p closing firm sound is bank =
 -- the closing balance that is found is one of the balances
 closing-found : (p : ℕ) (rows : List StatementRow) (z : ℤ) → AllByRecursion (λ r. IsBankAmount r.amount) rows → closing_on p rows ≡ Some z → IsBankAmount z
 closing-found p [] z all is = absurd (cc)
-closing-found p (r ∷ rows) z all is = cases (is_closing_of p r) is (closing-found p rows z all.1)
-  where
-    cases : (b : Bool) → option_map (λ (r : StatementRow). r.amount) (cond b (Some r) (find (is_closing_of p) rows)) ≡ Some z → (closing_on p rows ≡ Some z → IsBankAmount z) → IsBankAmount z
-    cases true is rest = let same : r.amount ≡ z = cc in subst IsBankAmount same all.0
-    cases false is rest = rest is
+closing-found p (r ∷ rows) z all is =
+    grind (arith, ints, is_closing_of, option_map, find, (closing-found p rows z all.1))
 
 pub figures-told : FiguresTold
 figures-told p firm sound is = figures-kept p firm (λ closing found. figures-fit p closing firm sound is (closing-found p firm.balances closing is.balances.ranged found))

@@ -60,17 +60,11 @@ FirstHead (x ∷ xs) = NoHeads xs
 -- of lists whose elements pass different tests
 lesser-first : (k : ℕ) (p : ℕ × Row) (xs : List (ℕ × Row)) (ys zs : List (ℕ × Row)) → k ≤ p.0 → AllByRecursion (λ q. nat_lt q.0 k ≡ true) xs → xs ++ ys ≡ p ∷ zs → xs ≡ []
 lesser-first k p [] ys zs le all is = refl
-lesser-first k p (x ∷ xs) ys zs le all is =
-    let same : x ≡ p = cc in
-    let low : nat_lt p.0 k ≡ true = subst (λ (q : ℕ × Row). nat_lt q.0 k ≡ true) same all.0 in
-    absurd (grind (arith, nat_tests))
+lesser-first k p (x ∷ xs) ys zs le all is = grind (arith, nat_tests)
 
 own-first : (k : ℕ) (p : ℕ × Row) (xs : List (ℕ × Row)) (ys zs : List (ℕ × Row)) → k < p.0 → AllByRecursion (λ q. (q.0 == k) ≡ true) xs → xs ++ ys ≡ p ∷ zs → xs ≡ []
 own-first k p [] ys zs lt all is = refl
-own-first k p (x ∷ xs) ys zs lt all is =
-    let same : x ≡ p = cc in
-    let at : (p.0 == k) ≡ true = subst (λ (q : ℕ × Row). (q.0 == k) ≡ true) same all.0 in
-    absurd (grind (arith, nat_tests))
+own-first k p (x ∷ xs) ys zs lt all is = grind (arith, nat_tests)
 
 passes : (t : ℕ → Bool) (xs : List (ℕ × Row)) → AllByRecursion (λ q. t q.0 ≡ true) (passing t xs)
 passes t xs = recursion_from_All _ _ (filter_passes (λ (q : ℕ × Row). t q.0) xs)
@@ -100,15 +94,10 @@ parted-tail k p xs is = cases (nat_lt p.0 k) (p.0 == k) (nat_lt k p.0) refl refl
     cases false false false a b c' is = absurd (grind (arith, nat_tests))
 
 later : (xs : List (ℕ × Row)) → NoHeads xs → FirstHead xs
-later [] none = tt
-later (x ∷ xs) none = none.1
+later xs none = grind (arith, nat_tests)
 
 first-tail : (k : ℕ) (p : ℕ × Row) (xs : List (ℕ × Row)) → FirstHead (own k (p ∷ xs)) → FirstHead (own k xs)
-first-tail k p xs first = cases (p.0 == k) first
-  where
-    cases : (b : Bool) → FirstHead (cond b (p ∷ own k xs) (own k xs)) → FirstHead (own k xs)
-    cases true first = later (own k xs) first
-    cases false first = first
+first-tail k p xs first = grind (arith, nat_tests, later)
 
 tidy-from : (xs : List (ℕ × Row)) → ((k : ℕ) → Parted k xs) → ((k : ℕ) → FirstHead (own k xs)) → Tidy xs
 tidy-from [] parted first = tt
@@ -149,14 +138,7 @@ no-entries m n [] = tt
 no-entries m n (e ∷ es) = (refl, no-entries m (n + 1) es)
 
 first-pairs : (m : ℕ) (rows : Rows) → FirstHead (pairs m rows)
-first-pairs m rows = cases rows.head
-  where
-    rest : NoHeads (seat_pairs m rows.seats ++ entry_pairs m 1 rows.entries)
-    rest = all-append (λ q. is_head q.1 ≡ false) (seat_pairs m rows.seats) (entry_pairs m 1 rows.entries) (no-seats m rows.seats) (no-entries m 1 rows.entries)
-
-    cases : (o : Option Head) → FirstHead (head_pairs m o ++ (seat_pairs m rows.seats ++ entry_pairs m 1 rows.entries))
-    cases None = later (seat_pairs m rows.seats ++ entry_pairs m 1 rows.entries) rest
-    cases (Some h) = rest
+first-pairs m rows = grind (arith, nat_tests, all-append, no-seats, no-entries, head_pairs, later)
 
 pub ordered-tidy : (firm : Firm) → IsInOrder firm → Tidy firm.rows
 ordered-tidy firm order =

@@ -54,11 +54,8 @@ told xs = map (λ k. line_of k xs) (open_matters xs)
 -- two ways to tell the lines of greater matters
 open-same : (f g : ℕ → TrialLine) (m : ℕ) (xs : List (ℕ × Row)) → AllByRecursion (After m) xs → ((k : ℕ) → m < k → f k ≡ g k) → map f (open_matters xs) ≡ map g (open_matters xs)
 open-same f g m [] all same = refl
-open-same f g m ((k, HeadRow h) ∷ xs) all same = cases (is_none h.closed) (same k (all.0.1 refl)) (open-same f g m xs all.1 same)
-  where
-    cases : (b : Bool) → f k ≡ g k → map f (open_matters xs) ≡ map g (open_matters xs) → map f (cond b (k ∷ open_matters xs) (open_matters xs)) ≡ map g (cond b (k ∷ open_matters xs) (open_matters xs))
-    cases true one rest = λ i. one i ∷ rest i
-    cases false one rest = rest
+open-same f g m ((k, HeadRow h) ∷ xs) all same =
+    grind (arith, ints, nat_tests, is_none, (open-same f g m xs all.1 same))
 open-same f g m ((k, SeatRow seat) ∷ xs) all same = open-same f g m xs all.1 same
 open-same f g m ((k, EntryRow n e) ∷ xs) all same = open-same f g m xs all.1 same
 
@@ -75,10 +72,7 @@ told-past m r xs all = open-same (λ k. line_of k ((m, r) ∷ xs)) (λ k. line_o
 -- the rows of greater matters add nothing
 none-of : (k m : ℕ) (xs : List (ℕ × Row)) → k < m → AllByRecursion (After m) xs → sum_at k xs ≡ pos 0
 none-of k m [] lt all = refl
-none-of k m (q ∷ xs) lt all =
-    let le = all.0.0 in
-    let apart : (q.0 == k) ≡ false = grind (arith, nat_tests) in
-    rw apart (omega (arith, ints, none-of k m xs lt all.1))
+none-of k m (q ∷ xs) lt all = grind (arith, ints, nat_tests, (none-of k m xs lt all.1))
 
 -- The fold.
 
@@ -123,17 +117,8 @@ one-line l ((m, EntryRow n e) ∷ xs) all tidy =
 -- with none
 no-line : (xs : List (ℕ × Row)) → Tidy xs → fold placed [] xs ≡ told xs
 no-line [] tidy = refl
-no-line ((m, HeadRow h) ∷ xs) tidy = cases (is_none h.closed) (no-line xs tidy.1) (one-line (record { matter = m; ledger = pos 0 }) xs tidy.0 tidy.1)
-  where
-    mine : pos 0 +ℤ sum_at m xs ≡ sum_at m ((m, HeadRow h) ∷ xs)
-    mine = sym (no-share (m == m) (sum_at m xs) ∙ omega (arith, ints))
-
-    rest : told xs ≡ map (λ k. line_of k ((m, HeadRow h) ∷ xs)) (open_matters xs)
-    rest = sym (told-past m (HeadRow h) xs tidy.0)
-
-    cases : (b : Bool) → fold placed [] xs ≡ told xs → fold placed (record { matter = m; ledger = pos 0 } ∷ []) xs ≡ record { matter = m; ledger = pos 0 +ℤ sum_at m xs } ∷ told xs → fold placed (cond b (record { matter = m; ledger = pos 0 } ∷ []) []) xs ≡ map (λ k. line_of k ((m, HeadRow h) ∷ xs)) (cond b (m ∷ open_matters xs) (open_matters xs))
-    cases true same new = new ∙ (λ i. record { matter = m; ledger = mine i } ∷ rest i)
-    cases false same new = same ∙ rest
+no-line ((m, HeadRow h) ∷ xs) tidy =
+    grind (arith, ints, nat_tests, is_none, one-line, no-share, told-past, (no-line xs tidy.1))
 no-line ((m, SeatRow seat) ∷ xs) tidy = no-line xs tidy.1 ∙ sym (told-past m (SeatRow seat) xs tidy.0)
 no-line ((m, EntryRow n e) ∷ xs) tidy = no-line xs tidy.1 ∙ sym (told-past m (EntryRow n e) xs tidy.0)
 
@@ -149,16 +134,11 @@ in_bits l = record l { ledger = int_wrap w128 l.ledger }
 add-bits : (m : ℕ) (z : ℤ) (ls : List TrialLine) → add_last m z (map in_bits ls) ≡ map in_bits (place m z ls)
 unfolding added
 add-bits m z [] = refl
-add-bits m z (l ∷ []) = cases (l.matter == m)
-  where
-    cases : (b : Bool) → cond b (record l { ledger = int_wrap w128 (int_wrap w128 l.ledger +ℤ z) }) (record l { ledger = int_wrap w128 l.ledger }) ∷ [] ≡ record l { ledger = int_wrap w128 (l.ledger +ℤ cond b z (pos 0)) } ∷ []
-    cases true = λ i. record l { ledger = int_wrap-add_left w128 l.ledger z i } ∷ []
-    cases false = λ i. record l { ledger = int_wrap w128 ((let e : l.ledger ≡ l.ledger +ℤ pos 0 = omega (arith, ints) in e) i) } ∷ []
+add-bits m z (l ∷ []) = grind (arith, ints, nat_tests, int_wrap-add_left)
 add-bits m z (l ∷ k ∷ ls) = ap (λ xs. in_bits l ∷ xs) (add-bits m z (k ∷ ls))
 
 head-bits : (b : Bool) (m : ℕ) (ls : List TrialLine) → cond b (map in_bits ls ++ (record { matter = m; ledger = pos 0 } ∷ [])) (map in_bits ls) ≡ map in_bits (ls ++ cond b (record { matter = m; ledger = pos 0 } ∷ []) [])
-head-bits true m ls = (λ i. map in_bits ls ++ (record { matter = m; ledger = sym zero-wrapped i } ∷ [])) ∙ sym (map-append in_bits ls (record { matter = m; ledger = pos 0 } ∷ []))
-head-bits false m ls = ap (map in_bits) (sym (append-nil ls))
+head-bits b m ls = grind (arith, ints, nat_tests, zero-wrapped, map-append, append-nil)
 
 fold-bits : (ls : List TrialLine) (z : ℤ) (xs : List (ℕ × Row)) → (fold with_trial_row (record { lines = map in_bits ls; own = z }) xs).lines ≡ map in_bits (fold placed ls xs)
 fold-bits ls z [] = refl
@@ -189,24 +169,14 @@ lines-kept firm order fits =
 -- Every sum fits.
 
 deposit-within : (s : DepositState) (n : ℕ) → IsAmount n → IsWithin CENTS (cleared_deposit s n +ℤ held_deposit s n)
-deposit-within deposit.Held n is = let w = amount-within n is in record { low = omega (arith, ints, w.low); high = omega (arith, ints, w.high) }
-deposit-within (deposit.Cleared c) n is = let w = amount-within n is in record { low = omega (arith, ints, w.low); high = omega (arith, ints, w.high) }
-deposit-within (deposit.Cancelled day) n is = none-within
-deposit-within (deposit.Returned r) n is = none-within
+deposit-within s n is = grind (arith, ints, nat_tests, amount-within, none-within)
 
 payment-within : (s : PaymentState) (n : ℕ) → IsAmount n → IsWithin CENTS ((pos 0 -ℤ paid s n) +ℤ pos 0)
-payment-within payment.Proposed n is = none-within
-payment-within payment.Declined n is = none-within
-payment-within (payment.Issued day) n is = let w = out-within n is in record { low = omega (arith, ints, w.low); high = omega (arith, ints, w.high) }
-payment-within (payment.Cleared c) n is = let w = out-within n is in record { low = omega (arith, ints, w.low); high = omega (arith, ints, w.high) }
-payment-within (payment.Voided v) n is = none-within
+payment-within s n is = grind (arith, ints, nat_tests, none-within, out-within)
 
 entry-within : (e : Entry) → IsAmount (entry_amount e) → IsWithin CENTS (ledger_share e)
 unfolding total_share held_share
-entry-within (entry.Deposit d) is = deposit-within d.state d.amount is
-entry-within (entry.Payment p) is = payment-within p.state p.amount is
-entry-within (entry.Fee f) is = none-within
-entry-within (entry.Claim c) is = none-within
+entry-within e is = grind (arith, ints, nat_tests, deposit-within, payment-within, none-within)
 
 row-within : (p : ℕ × Row) → IsRowInRange p → IsWithin CENTS (row_share p.1)
 row-within (m, HeadRow h) is = none-within

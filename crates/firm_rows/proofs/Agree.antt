@@ -51,18 +51,7 @@ maybe g (Some e) = g e
 numbered-at : (g : Entry → ℤ) (n k : ℕ) (es : List Entry) → sum_of (at (λ p. p.0) (λ p. g p.1) n) (numbered (k + 1) es) ≡ maybe g (entry_at es (n - k))
 unfolding numbered
 numbered-at g n k [] = refl
-numbered-at g n k (e ∷ es) = cases (k + 1 == n) refl (numbered-at g n (k + 1) es)
-  where
-    cases : (b : Bool) → (k + 1 == n) ≡ b → sum_of (at (λ p. p.0) (λ p. g p.1) n) (numbered (k + 1 + 1) es) ≡ maybe g (entry_at es (n - (k + 1))) → cond b (g e) (pos 0) +ℤ sum_of (at (λ p. p.0) (λ p. g p.1) n) (numbered (k + 1 + 1) es) ≡ maybe g (cond (n - k == 1) (Some e) (entry_at es (n - k - 1)))
-    cases true is more =
-        let here : (n - k == 1) ≡ true = grind (arith, nat_tests) in
-        let past : n - (k + 1) ≡ 0 = grind (arith, nat_tests) in
-        let none : maybe g (entry_at es (n - (k + 1))) ≡ pos 0 = ap (λ i. maybe g (entry_at es i)) past ∙ ap (maybe g) (entry_at-zero es) in
-        rw here (omega (arith, ints, more, none))
-    cases false is more =
-        let other : (n - k == 1) ≡ false = grind (arith, nat_tests) in
-        let next : n - (k + 1) ≡ n - k - 1 = omega arith in
-        rw other (omega (arith, ints, more, ap (λ i. maybe g (entry_at es i)) next))
+numbered-at g n k (e ∷ es) = grind (arith, ints, nat_tests, numbered, entry_at-zero, (numbered-at g n (k + 1) es))
 
 -- The movements.
 

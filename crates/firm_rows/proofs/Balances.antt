@@ -16,13 +16,7 @@ both-equal r s is = (grind (arith), grind (arith))
 
 -- a balance that ties with another is of its kind and day
 pub tied-on : (row x : StatementRow) → balance_cmp x row ≡ Equal → is_balance_on row.kind row.day x ≡ true
-tied-on row x is =
-    let both = both-equal (nat_cmp (place_of x.kind) (place_of row.kind)) (nat_cmp x.day row.day) is in
-    let kinds : place_of x.kind ≡ place_of row.kind = exact_unsigned (place_of x.kind) (place_of row.kind) both.0 in
-    let days : x.day ≡ row.day = exact_unsigned x.day row.day both.1 in
-    let same_kind : (place_of x.kind == place_of row.kind) ≡ true = grind (arith, nat_tests) in
-    let same_day : (x.day == row.day) ≡ true = grind (arith, nat_tests) in
-    rw (same_kind, same_day) refl
+tied-on row x is = grind (arith, nat_tests, both-equal, nat_cmp, place_of, exact_unsigned)
 
 -- so where none of its kind and day is kept, none ties with it
 pub none-tied : (row : StatementRow) (rows : List StatementRow) (i : ℕ) (d : StatementRow) → kept_balance row.kind row.day rows ≡ None → i < length rows → balance_cmp (get_or rows i d) row ≢ Equal

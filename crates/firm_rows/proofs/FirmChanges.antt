@@ -14,8 +14,7 @@ of-matched : (n : ℕ) (line : Option Line) (firm : Firm) → of n (matched_by l
 of-matched n line firm = grind (arith)
 
 in_order-matched : (line : Option Line) (firm : Firm) → IsInOrder firm → IsInOrder (matched_by line firm)
-in_order-matched None firm order = order
-in_order-matched (Some line) firm order = match-in_order line firm order
+in_order-matched line firm order = grind (arith, nat_tests, match-in_order)
 
 sound-matched : (line : Option Line) (firm : Firm) → FirmSound firm → FirmSound (matched_by line firm)
 sound-matched None firm sound = sound
@@ -24,11 +23,7 @@ sound-matched (Some line) firm sound = match-sound line firm sound
 -- The rows of one matter.
 
 pub changes-one : ChangesOne
-changes-one n (OfMatter m line change) firm = grind (arith, nat_tests, of-matched n line (after_change m change firm), changes-own m change firm, changes-no_other n m change firm)
-changes-one n (Repeated line) firm = refl
-changes-one n (Unmatched line) firm = refl
-changes-one n (OfFirm line) firm = refl
-changes-one n (OfBalance kind line) firm = refl
+changes-one n h1 firm = grind (arith, nat_tests, of-matched, after_change, changes-own, changes-no_other)
 
 -- The firm stays in order, and sound.
 
@@ -48,6 +43,4 @@ change-stays-sound law (OfBalance kind line) firm sound fits = match-sound line 
 
 -- What is decided of a line of a matter fits.
 pub line-fits : LineFits
-line-fits firm l (verdict.Applied change) is = is.1.change
-line-fits firm l verdict.Repeat is = tt
-line-fits firm l (verdict.Unmatched reason) is = tt
+line-fits firm l h1 is = grind (arith, nat_tests)

@@ -31,11 +31,5 @@ RiseTo last days = AreRising 0 days × AllByRecursion (λ d. d ≤ last) days
 
 -- what a matter moves between two last days is moved in time
 pub rise-own : (m old new : ℕ) (xs : List Movement) (o : Option change.EntryMovement) → RiseTo old (days_moved m xs) → old ≤ new → IsMovedWithin old new o → RiseTo new (days_moved m (xs ++ joined_movement m o))
-rise-own m old new xs None rise later within =
-    subst (λ ys. RiseTo new (days_moved m ys)) (sym (append-nil xs)) (rise.0, up-to old new (days_moved m xs) later rise.1)
-rise-own m old new xs (Some v) rise later within =
-    let days = days_moved m xs in
-    let is : days_moved m (xs ++ joined_movement m (Some v)) ≡ days ++ v.day ∷ [] = days-append m xs (joined_movement m (Some v)) ∙ ap (λ ys. days ++ ys) (days-own m v) in
-    let rising = rising-append 0 v.day days rise.0 (up-to old v.day days within.0 rise.1) (omega arith) in
-    let by_last = up_to-append new v.day days (up-to old new days later rise.1) within.1 in
-    subst (RiseTo new) (sym is) (rising, by_last)
+rise-own m old new xs o rise later within =
+    grind (arith, nat_tests, append-nil, up-to, days-append, days-own, rising-append, up_to-append)

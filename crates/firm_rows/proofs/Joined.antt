@@ -18,8 +18,7 @@ behind m xs = passing (λ x. nat_lt m x) xs
 
 -- each pair of a matter has its number
 heads_own : (m : ℕ) (o : Option Head) → AllByRecursion (λ p. p.0 ≡ m) (head_pairs m o)
-heads_own m None = tt
-heads_own m (Some head) = (refl, tt)
+heads_own m o = grind (arith, nat_tests)
 
 seats_own : (m : ℕ) (ss : List Seat) → AllByRecursion (λ p. p.0 ≡ m) (seat_pairs m ss)
 seats_own m [] = tt
@@ -74,20 +73,15 @@ among_own m rows = ap (λ ps. among (map (λ p. p.1) ps)) (pairs_pass (λ x. x =
 -- what is put there, and what a test says of it
 pub passing-put : (t : ℕ → Bool) (m : ℕ) (rows : Rows) (xs : List (ℕ × Row))
     → passing t (put m rows xs) ≡ passing t (before m xs) ++ (passing t (pairs m rows) ++ passing t (behind m xs))
-passing-put t m rows xs =
-    passing-append t (before m xs) (pairs m rows ++ behind m xs)
-    ∙ ap (λ ys. passing t (before m xs) ++ ys) (passing-append t (pairs m rows) (behind m xs))
+passing-put t m rows xs = grind (arith, nat_tests, passing-append)
 
 -- the pairs that are put there are those of the matter
 pub own-put : (m : ℕ) (rows : Rows) (xs : List (ℕ × Row)) → passing (λ x. x == m) (put m rows xs) ≡ pairs m rows
-own-put m rows xs =
-    passing-put (λ x. x == m) m rows xs
-    ∙ ((λ i. passing_never (λ x. x == m) (λ x. nat_lt x m) xs (λ x h. grind (arith, nat_tests)) i ++ (pairs_pass (λ x. x == m) m rows (grind (arith, nat_tests)) i ++ passing_never (λ x. x == m) (λ x. nat_lt m x) xs (λ x h. grind (arith, nat_tests)) i)) ∙ append-nil _)
+own-put m rows xs = grind (arith, nat_tests, passing-put, passing_never, nat_lt, pairs_pass, append-nil)
 
 -- and are found there
 pub rows_of-put_same : (m : ℕ) (rows : Rows) (xs : List (ℕ × Row)) → among (rows_of m (put m rows xs)) ≡ rows
-rows_of-put_same m rows xs =
-    ap (λ ps. among (map (λ p. p.1) ps)) (own-put m rows xs) ∙ back m rows.head rows.seats rows.entries
+rows_of-put_same m rows xs = grind (arith, nat_tests, (own-put m rows xs), (back m rows.head rows.seats rows.entries))
 
 -- and nothing else is changed
 pub rows_of-put_other : (n m : ℕ) (rows : Rows) (xs : List (ℕ × Row)) → n ≢ m → rows_of n (put m rows xs) ≡ rows_of n xs

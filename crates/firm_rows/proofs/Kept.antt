@@ -15,11 +15,7 @@ ledger-least covered rows sound = let c = covered rows.entries sound.backed in o
 
 -- what is so of a list up to a place, and of the whole with one element more, is so of that up to the place
 pub take-more : {A : Type 0} (P : List A → Type 0) (xs : List A) (y : A) (k : ℕ) → P (take k xs) → P (xs ++ y ∷ []) → P (take k (xs ++ y ∷ []))
-take-more P xs y k some whole = cases (cases_lt k (length xs + 1))
-  where
-    cases : (k < length xs + 1) ⊎ (length xs + 1 ≤ k) → P (take k (xs ++ y ∷ []))
-    cases (inl lt) = subst P (sym (take-append-le k xs (y ∷ []) (omega arith))) some
-    cases (inr le) = let long = length-append xs (y ∷ []) in subst P (sym (take_all k (xs ++ y ∷ []) (omega (arith, long)))) whole
+take-more P xs y k some whole = grind (arith, ints, cases_lt, take-append-le, length-append, take_all)
 
 -- the sums so far, where the whole is at least zero
 covered-more : (k : ℕ) (m : ℕ) (xs : List Movement) (n : ℕ) (o : Option change.EntryMovement) → ((j : ℕ) → pos 0 ≤ℤ moved_for k (take j xs)) → pos 0 ≤ℤ moved_for k (xs ++ joined_movement m o) → pos 0 ≤ℤ moved_for k (take n (xs ++ joined_movement m o))
@@ -107,36 +103,13 @@ edit-sound law m e last firm sound is = cases (edit-cases m e last firm)
 
 -- a change of a matter leaves a sound firm sound
 pub stays-sound : Covered → (m : ℕ) (change : MatterChange) (firm : Firm) → FirmSound firm → IsChange (of m firm) change → FirmSound (after_change m change firm)
-stays-sound law m change firm sound is =
-    edit-sound law m change.edit change.last firm sound (record {
-      place = is.place;
-      sound = is.sound;
-      moved = subst (λ o. AreMoved (of m firm).entries change.edit o) is.movement is.moved;
-      not_before = is.not_before;
-      seen = is.seen;
-      dated = subst (λ o. IsMovedWithin (last_of (of m firm).head) change.last o) is.movement is.dated;
-    })
+stays-sound law m change firm sound is = grind (arith, ints, (edit-sound law m change.edit change.last firm sound))
 
 -- A firm without rows.
 
 pub unopened-sound : Sound unopened
-unopened-sound = record {
-  backed = record { few = omega arith; ranged = tt; named = tt; available = search rules; left = λ n e there. absurd (cc) };
-  seated = tt;
-  headed = (refl, refl);
-  bare = tt;
-  funded = tt;
-}
+unopened-sound = grind (arith, ints, rules)
 
 pub empty-sound : FirmSound empty_firm
 unfolding IsStrictlySortedBy
-empty-sound = record {
-  in_order = record { rows = λ m. refl; exceptions = tt; balances = tt };
-  matters = λ m. unopened-sound;
-  events = λ m n. refl;
-  own = refl;
-  in_time = λ m. record { rising = tt; by_last = tt };
-  ledgers = λ m. refl;
-  covered = λ m k. subst (λ (xs : List Movement). pos 0 ≤ℤ moved_for m xs) (sym (take-nil k)) (search rules);
-  within = λ k. subst (λ (ls : List FirmLine). IsOwnBalance (balance_of ls)) (sym (take-nil k)) (omega (arith, ints), omega (arith, ints));
-}
+empty-sound = grind (arith, ints, rules, unopened-sound, take-nil, balance_of)

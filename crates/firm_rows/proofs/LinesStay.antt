@@ -25,12 +25,8 @@ pub line-kept : FirmLineIsKept
 line-kept line firm = list_any-append (is_kept_as line) firm.firm_lines (as_firm_line line ∷ []) ∙ rw (kept-itself line) (or-true (list_any (is_kept_as line) firm.firm_lines))
 
 pub lines-stay : FirmLinesStay
-lines-stay line (OfMatter m l change) firm kept =
-    ap (list_any (is_kept_as line)) ((matched-leaves l (after_change m change firm)).0 ∙ (edit-leaves m change.edit change.last firm).0) ∙ kept
-lines-stay line (Repeated l) firm kept = kept
-lines-stay line (Unmatched l) firm kept = kept
-lines-stay line (OfFirm l) firm kept = list_any-append (is_kept_as line) firm.firm_lines (as_firm_line l ∷ []) ∙ ap (λ b. b || list_any (is_kept_as line) (as_firm_line l ∷ [])) kept
-lines-stay line (OfBalance k l) firm kept = kept
+lines-stay line h1 firm kept =
+    grind (arith, nat_tests, list_any, matched-leaves, after_change, edit-leaves, list_any-append)
 
 -- What a search finds of a filtered list, where the filter answers the same at all that is looked for.
 
@@ -47,10 +43,7 @@ on-parts kind day row is = (grind (arith, nat_tests), grind (arith, nat_tests))
 
 -- all of one kind and day stand alike beside another
 alike : (kind : BalanceKind) (day : ℕ) (one other row : StatementRow) → is_balance_on kind day one ≡ true → is_balance_on kind day other ≡ true → balance_cmp one row ≡ balance_cmp other row
-alike kind day one other row is also =
-    let a = on-parts kind day one is in
-    let b = on-parts kind day other also in
-    λ i. ordering_then (nat_cmp ((a.0 ∙ sym b.0) i) (place_of row.kind)) (nat_cmp ((a.1 ∙ sym b.1) i) row.day)
+alike kind day one other row is also = grind (arith, nat_tests, on-parts, ordering_then, nat_cmp)
 
 turned : (one other : StatementRow) (r : Ordering) → balance_cmp one other ≡ r → balance_cmp other one ≡ ordering_reverse r
 turned one other r is = balance_total.antisymm other one ∙ ap ordering_reverse is
@@ -108,15 +101,7 @@ balance-kept kind line firm = put-found (balance_row kind line) firm.balances
 
 -- another of a kind and day of which none is kept
 is-other : (kind : BalanceKind) (day : ℕ) (amount : ℤ) (row : StatementRow) (rows : List StatementRow) → kept_balance row.kind row.day rows ≡ None → kept_balance kind day rows ≡ Some amount → is_balance_on kind day row ≡ false
-is-other kind day amount row rows none kept = cases (is_balance_on kind day row) refl
-  where
-    cases : (b : Bool) → is_balance_on kind day row ≡ b → b ≡ false
-    cases false off = refl
-    cases true on =
-        let parts = on-parts kind day row on in
-        let same : kept_balance row.kind row.day rows ≡ kept_balance kind day rows = λ i. option_map (λ (r : StatementRow). r.amount) (find (λ r. place_of r.kind == parts.0 i && r.day == parts.1 i) rows) in
-        let both : None ≡ Some amount = sym none ∙ (same ∙ kept) in
-        absurd (cc)
+is-other kind day amount row rows none kept = grind (arith, nat_tests, on-parts, option_map)
 
 pub balances-stay : BalancesStay
 balances-stay kind day amount (OfMatter m l change) firm fits kept =

@@ -67,24 +67,8 @@ firm_line-fits firm line v is = subst (λ (u : Verdict). FitsFirm firm (by_firm_
 
 -- and so does a balance: it is applied where none of its kind and day is kept
 pub balance-fits : BalanceFits
-balance-fits firm kind line v is = subst (λ (u : Verdict). FitsFirm firm (by_balance kind line u)) (sym is.1) (cases (kept_balance kind line.date firm.balances) refl)
-  where
-    later : (b : Bool) → kept_balance kind line.date firm.balances ≡ None → FitsFirm firm (by_balance kind line (if b then told.Applied else told.Unmatched))
-    later true none = none
-    later false none = tt
-
-    again : (b : Bool) → FitsFirm firm (by_balance kind line (if b then told.Repeat else told.Unmatched))
-    again true = tt
-    again false = tt
-
-    cases : (o : Option ℤ) → kept_balance kind line.date firm.balances ≡ o → FitsFirm firm (by_balance kind line (balance_verdict o line is.0))
-    cases None none = later (nat_le line.date is.0) none
-    cases (Some amount) kept = again (int_eq amount line.amount)
+balance-fits firm kind line v is = grind (arith, ints, by_balance, kept_balance, balance_verdict, nat_le, int_eq)
 
 -- balances are no matter's rows, and move nothing
 pub statement-sound : (row : StatementRow) (firm : Firm) → FirmSound firm → FirmSound (with_statement row firm)
-statement-sound row firm sound = with-others firm firm.exceptions (with_balance row firm.balances) sound (record {
-  rows = sound.in_order.rows;
-  exceptions = sound.in_order.exceptions;
-  balances = balances-sorted row firm.balances sound.in_order.balances;
-})
+statement-sound row firm sound = grind (arith, ints, with-others, with_balance, balances-sorted)

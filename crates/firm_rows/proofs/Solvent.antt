@@ -12,18 +12,14 @@ shares-ledger [] = refl
 shares-ledger (e ∷ es) = omega (arith, ints, shares-ledger es)
 
 pub row-share : (r : Row) → of_row ledger_share r ≡ row_share r
-row-share (HeadRow head) = refl
-row-share (SeatRow seat) = refl
-row-share (EntryRow number entry) = refl
+row-share r = grind (arith, ints)
 
 amount : Event → ℤ
 amount e = e.amount
 
 row-events : (r : Row) → of_row (events_share amount) r ≡ row_share r
 unfolding amount
-row-events (HeadRow head) = refl
-row-events (SeatRow seat) = refl
-row-events (EntryRow number entry) = sym (share-events entry)
+row-events r = grind (arith, ints, share-events)
 
 -- The firm's own movements.
 

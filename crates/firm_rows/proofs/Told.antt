@@ -55,39 +55,18 @@ by-other n k o apart = grind (arith, nat_tests)
 -- The events of the entries after an edit.
 
 events-append_entry : (es : List Entry) (x : Numbered) (k : ℕ) → x.number ≡ length es + 1 → AreMoved es (edit.Append x) (movement_of es (edit.Append x)) → events_in (entry_at (es ++ x.entry ∷ []) k) ≡ events_in (entry_at es k) ++ by_entry k (movement_of es (edit.Append x))
-events-append_entry es x k next moved = ap events_in (entry_at-append es x.entry k) ∙ cases (eqb k (length es + 1)) refl
-  where
-    cases : (b : Bool) → eqb k (length es + 1) ≡ b → events_in (cond b (Some x.entry) (entry_at es k)) ≡ events_in (entry_at es k) ++ by_entry k (movement_of es (edit.Append x))
-    cases true at =
-        let same : k ≡ length es + 1 = grind (arith, nat_tests) in
-        let none = none-past es k (omega (arith, same)) in
-        moved ∙ (sym (by-own x.number k _ (same ∙ sym next)) ∙ ap (λ o. events_in o ++ by_entry k (movement_of es (edit.Append x))) (sym none))
-    cases false at =
-        let apart : (k == x.number) ≡ false = rw next at in
-        sym (ap (λ ys. events_in (entry_at es k) ++ ys) (by-other x.number k _ apart) ∙ append-nil (events_in (entry_at es k)))
+events-append_entry es x k next moved =
+    grind (arith, ints, nat_tests, entry_at-append, eqb, none-past, by-own, by-other, append-nil)
 
 events-with : (es : List Entry) (x : Numbered) (old : Entry) (k : ℕ) → entry_at es x.number ≡ Some old → AreMoved es (edit.Exchange x) (movement_of es (edit.Exchange x)) → events_in (entry_at (with_entry es x.number x.entry) k) ≡ events_in (entry_at es k) ++ by_entry k (movement_of es (edit.Exchange x))
-events-with es x old k there moved = ap events_in (entry_at-with es x.number old x.entry k there) ∙ cases (eqb k x.number) refl
-  where
-    cases : (b : Bool) → eqb k x.number ≡ b → events_in (cond b (Some x.entry) (entry_at es k)) ≡ events_in (entry_at es k) ++ by_entry k (movement_of es (edit.Exchange x))
-    cases true at =
-        let same : k ≡ x.number = grind (arith, nat_tests) in
-        moved ∙ (λ i. events_in (entry_at es (sym same i)) ++ sym (by-own x.number k (slice_get (events_of x.entry) (length (events_in (entry_at es x.number)))) same) i)
-    cases false at =
-        sym (ap (λ ys. events_in (entry_at es k) ++ ys) (by-other x.number k _ at) ∙ append-nil (events_in (entry_at es k)))
+events-with es x old k there moved =
+    grind (arith, ints, nat_tests, entry_at-with, eqb, by-own, slice_get, by-other, append-nil)
 
 events-same : (es : List Entry) (k : ℕ) → events_in (entry_at es k) ≡ events_in (entry_at es k) ++ []
 events-same es k = sym (append-nil (events_in (entry_at es k)))
 
 events-edited : (rows : Rows) (e : Edit) (k : ℕ) → IsNoClear e → IsPlace rows e → AreMoved rows.entries e (movement_of rows.entries e) → events_in (entry_at (edited rows.entries e) k) ≡ events_in (entry_at rows.entries k) ++ by_entry k (movement_of rows.entries e)
-events-edited rows edit.Nothing k keeps place moved = events-same rows.entries k
-events-edited rows (edit.Open o) k keeps place moved = events-same rows.entries k
-events-edited rows (edit.Seat s) k keeps place moved = events-same rows.entries k
-events-edited rows (edit.Unseat p) k keeps place moved = events-same rows.entries k
-events-edited rows (edit.Close d) k keeps place moved = events-same rows.entries k
-events-edited rows (edit.Clear d) k keeps place moved = absurd (keeps d refl)
-events-edited rows (edit.Append x) k keeps place moved = events-append_entry rows.entries x k place.1 moved
-events-edited rows (edit.Exchange x) k keeps place moved = events-with rows.entries x place.1.0 k place.1.1.there moved
+events-edited rows e k keeps place moved = grind (arith, ints, nat_tests, events-same, events-append_entry, events-with)
 
 -- the events of a matter's entries after a change are those before it, and then what it moved
 pub events-told : (m : ℕ) (rows : Rows) (e : Edit) (k : ℕ) → IsNoClear e → IsPlace rows e → AreMoved rows.entries e (movement_of rows.entries e) → events_in (entry_at (edited rows.entries e) k) ≡ events_in (entry_at rows.entries k) ++ events_moved m k (joined_movement m (movement_of rows.entries e))
@@ -104,10 +83,7 @@ payment-share s a = grind (arith, ints)
 -- an entry adds to the ledger what it has moved
 pub share-events : (e : Entry) → ledger_share e ≡ sum_of (λ e. e.amount) (events_of e)
 unfolding total_share held_share events_of
-share-events (entry.Deposit d) = deposit-share d.state d.book d.amount
-share-events (entry.Payment p) = payment-share p.state p.amount
-share-events (entry.Fee f) = omega (arith, ints)
-share-events (entry.Claim c) = omega (arith, ints)
+share-events e = grind (arith, ints, nat_tests, deposit-share, payment-share)
 
 ledger-append : (es : List Entry) (x : Entry) (news : List Event) → events_of x ≡ news → ledger (es ++ x ∷ []) ≡ ledger es +ℤ sum_of (λ e. e.amount) news
 ledger-append es x news moved =
@@ -120,14 +96,7 @@ ledger-with es n old x news there moved =
     omega (arith, ints, total-with total_share es n old x there, total-with held_share es n old x there, share, share-events old)
 
 ledger-edited : (rows : Rows) (e : Edit) → IsNoClear e → IsPlace rows e → AreMoved rows.entries e (movement_of rows.entries e) → ledger (edited rows.entries e) ≡ ledger rows.entries +ℤ sum_of (λ v. v.amount) (events_by (movement_of rows.entries e))
-ledger-edited rows edit.Nothing keeps place moved = omega (arith, ints)
-ledger-edited rows (edit.Open o) keeps place moved = omega (arith, ints)
-ledger-edited rows (edit.Seat s) keeps place moved = omega (arith, ints)
-ledger-edited rows (edit.Unseat p) keeps place moved = omega (arith, ints)
-ledger-edited rows (edit.Close d) keeps place moved = omega (arith, ints)
-ledger-edited rows (edit.Clear d) keeps place moved = absurd (keeps d refl)
-ledger-edited rows (edit.Append x) keeps place moved = ledger-append rows.entries x.entry _ moved
-ledger-edited rows (edit.Exchange x) keeps place moved = ledger-with rows.entries x.number place.1.0 x.entry _ place.1.1.there moved
+ledger-edited rows e keeps place moved = grind (arith, ints, nat_tests, ledger-append, ledger-with)
 
 -- the ledger of a matter after a change is that before it, and what it moved
 pub ledger-told : (m : ℕ) (rows : Rows) (e : Edit) → IsNoClear e → IsPlace rows e → AreMoved rows.entries e (movement_of rows.entries e) → ledger (edited rows.entries e) ≡ ledger rows.entries +ℤ moved_for m (joined_movement m (movement_of rows.entries e))

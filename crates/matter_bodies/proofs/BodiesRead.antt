@@ -64,3 +64,6 @@ matter-reads m rows few =
     let seats : Reads 2 (array_of (map seat_object rows.seats)) = array-reads 1 (map seat_object rows.seats) (seats-read rows.seats) in
     body-reads (matter_members m rows.head rows.seats (length rows.entries) (sums_of rows.entries))
     (search (rules, string-reads, holder-reads, count-reads, or_null-reads)) refl
+
+-- what the law of the bodies says
+pub ruleset bodies_read = (matter-reads, purge-reads, receipt-reads, entry-reads, import-reads)

@@ -230,74 +230,6 @@ fn claimant(against: &Against) -> Option<&Label>
     }
 }
 
-fn deposit_receipt(
-    alloc: Global,
-    matter: MatterNo,
-    number: EntryNo,
-    deposit: &Deposit,
-) -> Result<Vec<u8>, AllocError>
-    ensures { IfOk result (λ bytes. bytes.items ≡ receipt_body matter number (deposit_entry deposit.now)) }
-{
-    object_text(
-        alloc,
-        &[
-            ("amount", Value::Cents(deposit.amount.get())),
-            ("day", Value::Day(deposit.book)),
-            ("description", label(&deposit.description)),
-            ("entry", Value::Entry(number)),
-            ("kind", Value::Text("deposit")),
-            ("matter", Value::Matter(matter)),
-            ("source", label(&deposit.source)),
-        ],
-    )
-}
-
-fn payment_receipt(
-    alloc: Global,
-    matter: MatterNo,
-    number: EntryNo,
-    payment: &Payment,
-) -> Result<Vec<u8>, AllocError>
-    ensures { IfOk result (λ bytes. bytes.items ≡ receipt_body matter number (payment_entry payment.now)) }
-{
-    object_text(
-        alloc,
-        &[
-            ("amount", Value::Cents(payment.amount.get())),
-            ("day", Value::Day(payment.book)),
-            ("entry", Value::Entry(number)),
-            ("from", Value::Text(fund_name(payment.fund))),
-            ("instrument", label(&payment.instrument)),
-            ("kind", Value::Text("payment")),
-            ("matter", Value::Matter(matter)),
-            ("of", entry_or_null(fund_entry(payment.fund))),
-            ("payee", label(&payment.payee)),
-            ("purpose", label(&payment.purpose)),
-        ],
-    )
-}
-
-fn fee_receipt(
-    alloc: Global,
-    matter: MatterNo,
-    number: EntryNo,
-    fee: &Fee,
-) -> Result<Vec<u8>, AllocError>
-    ensures { IfOk result (λ bytes. bytes.items ≡ receipt_body matter number (fee_entry fee.now)) }
-{
-    object_text(
-        alloc,
-        &[
-            ("amount", Value::Cents(fee.amount.get())),
-            ("day", Value::Day(fee.book)),
-            ("description", label(&fee.description)),
-            ("entry", Value::Entry(number)),
-            ("kind", Value::Text("fee")),
-            ("matter", Value::Matter(matter)),
-        ],
-    )
-}
-
 fn claim_receipt(
     alloc: Global,
     matter: MatterNo,
@@ -385,48 +317,6 @@ fn deposit_body(
             ("return_day", bank_day(returning)),
             ("return_ref", bank_ref(returning)),
             ("source", label(&deposit.source)),
-            ("state", Value::Text(state)),
-            ("undone", day_or_null(undone)),
-        ],
-    )
-}
-
-fn payment_body(
-    alloc: Global,
-    matter: MatterNo,
-    number: EntryNo,
-    payment: &Payment,
-) -> Result<Vec<u8>, AllocError>
-    ensures { IfOk result (λ bytes. bytes.items ≡ entry_body matter number (payment_entry payment.now) (pos 0)) }
-{
-    let (state, issued, clearing, undone) = match &payment.state {
-        PaymentState::Proposed => ("proposed", None, None, None),
-        PaymentState::Declined => ("declined", None, None, None),
-        PaymentState::Issued(day) => ("issued", Some(*day), None, None),
-        PaymentState::Cleared(cleared) => (
-            "cleared",
-            Some(cleared.issued),
-            Some(&cleared.clearing),
-            None,
-        ),
-        PaymentState::Voided(voided) => ("voided", Some(voided.issued), None, Some(voided.undone)),
-    };
-    object_text(
-        alloc,
-        &[
-            ("amount", Value::Cents(payment.amount.get())),
-            ("bank_day", bank_day(clearing)),
-            ("bank_ref", bank_ref(clearing)),
-            ("day", Value::Day(payment.book)),
-            ("entry", Value::Entry(number)),
-            ("from", Value::Text(fund_name(payment.fund))),
-            ("instrument", label(&payment.instrument)),
-            ("issued", day_or_null(issued)),
-            ("kind", Value::Text("payment")),
-            ("matter", Value::Matter(matter)),
-            ("of", entry_or_null(fund_entry(payment.fund))),
-            ("payee", label(&payment.payee)),
-            ("purpose", label(&payment.purpose)),
             ("state", Value::Text(state)),
             ("undone", day_or_null(undone)),
         ],
@@ -612,9 +502,44 @@ pub fn receipt_body(
     ensures { IfOk result (λ bytes. bytes.items ≡ receipt_body matter number entry.now) }
 {
     match entry {
-        Entry::Deposit(deposit) => deposit_receipt(alloc, matter, number, deposit),
-        Entry::Payment(payment) => payment_receipt(alloc, matter, number, payment),
-        Entry::Fee(fee) => fee_receipt(alloc, matter, number, fee),
+        Entry::Deposit(deposit) => object_text(
+            alloc,
+            &[
+                ("amount", Value::Cents(deposit.amount.get())),
+                ("day", Value::Day(deposit.book)),
+                ("description", label(&deposit.description)),
+                ("entry", Value::Entry(number)),
+                ("kind", Value::Text("deposit")),
+                ("matter", Value::Matter(matter)),
+                ("source", label(&deposit.source)),
+            ],
+        ),
+        Entry::Payment(payment) => object_text(
+            alloc,
+            &[
+                ("amount", Value::Cents(payment.amount.get())),
+                ("day", Value::Day(payment.book)),
+                ("entry", Value::Entry(number)),
+                ("from", Value::Text(fund_name(payment.fund))),
+                ("instrument", label(&payment.instrument)),
+                ("kind", Value::Text("payment")),
+                ("matter", Value::Matter(matter)),
+                ("of", entry_or_null(fund_entry(payment.fund))),
+                ("payee", label(&payment.payee)),
+                ("purpose", label(&payment.purpose)),
+            ],
+        ),
+        Entry::Fee(fee) => object_text(
+            alloc,
+            &[
+                ("amount", Value::Cents(fee.amount.get())),
+                ("day", Value::Day(fee.book)),
+                ("description", label(&fee.description)),
+                ("entry", Value::Entry(number)),
+                ("kind", Value::Text("fee")),
+                ("matter", Value::Matter(matter)),
+            ],
+        ),
         Entry::Claim(claim) => claim_receipt(alloc, matter, number, claim),
     }
 }
@@ -634,7 +559,45 @@ pub fn entry_body(
 {
     match entry {
         Entry::Deposit(deposit) => deposit_body(alloc, matter, number, deposit),
-        Entry::Payment(payment) => payment_body(alloc, matter, number, payment),
+        Entry::Payment(payment) => {
+            let (state, issued, clearing, undone) = match &payment.state {
+                PaymentState::Proposed => ("proposed", None, None, None),
+                PaymentState::Declined => ("declined", None, None, None),
+                PaymentState::Issued(day) => ("issued", Some(*day), None, None),
+                PaymentState::Cleared(cleared) => (
+                    "cleared",
+                    Some(cleared.issued),
+                    Some(&cleared.clearing),
+                    None,
+                ),
+                PaymentState::Voided(voided) => (
+                    "voided",
+                    Some(voided.issued),
+                    None,
+                    Some(voided.undone),
+                ),
+            };
+            object_text(
+                alloc,
+                &[
+                    ("amount", Value::Cents(payment.amount.get())),
+                    ("bank_day", bank_day(clearing)),
+                    ("bank_ref", bank_ref(clearing)),
+                    ("day", Value::Day(payment.book)),
+                    ("entry", Value::Entry(number)),
+                    ("from", Value::Text(fund_name(payment.fund))),
+                    ("instrument", label(&payment.instrument)),
+                    ("issued", day_or_null(issued)),
+                    ("kind", Value::Text("payment")),
+                    ("matter", Value::Matter(matter)),
+                    ("of", entry_or_null(fund_entry(payment.fund))),
+                    ("payee", label(&payment.payee)),
+                    ("purpose", label(&payment.purpose)),
+                    ("state", Value::Text(state)),
+                    ("undone", day_or_null(undone)),
+                ],
+            )
+        }
         Entry::Fee(fee) => fee_body(alloc, matter, number, fee, left),
         Entry::Claim(claim) => claim_body(alloc, matter, number, claim, left),
     }

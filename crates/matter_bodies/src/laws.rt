@@ -4,6 +4,7 @@ ghost use Rattle.matter_bodies.specs.BodyLaws.{EntryReadsBack, ImportReadsBack, 
 
 /// serde_json reads a body back as the object that it was written from. So no member is lost, and no key is repeated or
 /// out of order.
+#[tactic(auto, using(crate::proofs::BodiesRead::bodies_read))]
 pub fn bodies_read_back()
     ensures matter { MatterReadsBack }
     ensures purge { PurgeReadsBack }

@@ -20,12 +20,7 @@ record IsNearly (fs : List Entry) (t n : ℕ) (k : Kept) : Type 0 where
 
 -- what was kept of another entry
 stays-append : (es : List Entry) (x : Entry) (n : ℕ) (k : Kept) → n ≢ length es + 1 → IsEntryOf es n k → IsNearly (es ++ x ∷ []) (target x) n k
-stays-append es x n k elsewhere is =
-    let other : eqb n (length es + 1) ≡ false = grind (arith, nat_tests) in
-    record {
-      there = rw (entry_at-append es x n) (rw other is.there);
-      left = λ apart. omega (arith, ints, is.left, left-append es x n k.entry, draw-apart n x apart);
-    }
+stays-append es x n k elsewhere is = grind (arith, ints, nat_tests, eqb, entry_at-append, left-append, draw-apart)
 
 stays-with : (es : List Entry) (at : ℕ) (old x : Entry) (n : ℕ) (k : Kept) → entry_at es at ≡ Some old → target old ≡ target x → n ≢ at → IsEntryOf es n k → IsNearly (with_entry es at x) (target x) n k
 stays-with es at old x n k here same elsewhere is =
@@ -37,10 +32,7 @@ stays-with es at old x n k here same elsewhere is =
 
 -- an entry names what it named when it was made
 target-made : (e : Entry) → target (as_made e) ≡ target e
-target-made (entry.Deposit d) = refl
-target-made (entry.Payment p) = refl
-target-made (entry.Fee f) = refl
-target-made (entry.Claim c) = refl
+target-made e = grind (arith, ints, nat_tests)
 
 -- the entry that is put is the one of its number, and what was kept of another stays
 record IsPut (es fs : List Entry) (x : Numbered) : Type 0 where
@@ -48,12 +40,7 @@ record IsPut (es fs : List Entry) (x : Numbered) : Type 0 where
   stays : (n : ℕ) (k : Kept) → n ≢ x.number → IsEntryOf es n k → IsNearly fs (target x.entry) n k
 
 put-append : (es : List Entry) (x : Numbered) → x.number ≡ length es + 1 → IsPut es (es ++ x.entry ∷ []) x
-put-append es x place =
-    let end : eqb x.number (length es + 1) ≡ true = grind (arith, nat_tests) in
-    record {
-      own = entry_at-append es x.entry x.number ∙ rw end refl;
-      stays = λ n k apart is. stays-append es x.entry n k (λ q. apart (q ∙ sym place)) is;
-    }
+put-append es x place = grind (arith, ints, nat_tests, eqb, entry_at-append, stays-append)
 
 put-exchange : (es : List Entry) (x : Numbered) (old : Entry) → IsExchange es x old → IsPut es (with_entry es x.number x.entry) x
 put-exchange es x old is =
@@ -82,8 +69,7 @@ written : (fs : List Entry) (t : ℕ) (o : Option Left) (n : ℕ) (p : Option Ke
 written fs t None n p near none k h =
     let is = near k h in
     record { there = is.there; left = is.left (λ q. absurd (let w = (within fs n k.entry is.there).0 in omega (arith, w, none, q))) }
-written fs t (Some o) n None near other k h =
-    elim (eqb o.number n) as (λ b. cond b no-one no-one ≡ Some k → IsEntryOf fs n k) [ true ↦ λ g. cc | false ↦ λ g. cc ] h
+written fs t (Some o) n None near other k h = grind (arith, ints, nat_tests, eqb)
 written fs t (Some o) n (Some j) near other k h =
     let is = near j refl in
     elim (eqb o.number n) as (λ b. eqb o.number n ≡ b → cond b (some (record j { left = o.left })) (some j) ≡ Some k → IsEntryOf fs n k) [
@@ -102,8 +88,7 @@ written fs t (Some o) n (Some j) near other k h =
 -- What is kept is a part of the rows after the change.
 
 applied-kept : (m m' : Part) (x : Numbered) (v : TotalsAfter) (day : ℕ) → IsWritten m x v day m' → (n : ℕ) → kept_in m'.kept n ≡ other_relieved v.other n (put_in m.kept (kept_as x v) n)
-applied-kept m m' x v day a n =
-    ap (λ ks. kept_in ks n) a.kept ∙ kept-other (entry_put m.kept (kept_as x v)) v.other n ∙ ap (other_relieved v.other n) (kept-with m.kept (kept_as x v) n)
+applied-kept m m' x v day a n = grind (arith, ints, nat_tests, kept-other, entry_put, kept-with)
 
 applied-written : (m m' : Part) (rows : Rows) (fs : List Entry) (x : Numbered) (v : TotalsAfter) (day : ℕ) → IsPart m rows → IsPut rows.entries fs x → AreFigures v.figures fs → AreLeft fs x v → IsWritten m x v day m' → IsPart m' (record { head = seen_on rows.head day; seats = rows.seats; entries = fs })
 applied-written m m' rows fs x v day p put figures lefts a = record {
@@ -117,9 +102,7 @@ applied-written m m' rows fs x v day p put figures lefts a = record {
 -- What was held is held.
 
 stays-kept : (o : Option Left) (n : ℕ) (k : Option Kept) → is_some (other_relieved o n k) ≡ is_some k
-stays-kept None n k = refl
-stays-kept (Some o) n None = elim (eqb o.number n) as (λ b. is_some (cond b (with_left None o.left) None) ≡ false) [ true ↦ refl | false ↦ refl ]
-stays-kept (Some o) n (Some k) = elim (eqb o.number n) as (λ b. is_some (cond b (some (record k { left = o.left })) (some k)) ≡ true) [ true ↦ refl | false ↦ refl ]
+stays-kept o n k = grind (arith, ints, nat_tests, eqb, with_left)
 
 applied-held : (m m' : Part) (x : Numbered) (v : TotalsAfter) (day : ℕ) → IsWritten m x v day m' → ((n : ℕ) → n ≢ x.number → ltb m.figures.entries n ≡ true → ltb m'.figures.entries n ≡ true) → HoldsOn m m'
 applied-held m m' x v day a past n h =
@@ -134,15 +117,10 @@ applied-held m m' x v day a past n h =
     held-or false b c f h = f h
 
 held-append : (m m' : Part) (rows : Rows) (x : Numbered) (v : TotalsAfter) (day : ℕ) → IsPart m rows → x.number ≡ length rows.entries + 1 → AreFigures v.figures (rows.entries ++ x.entry ∷ []) → IsWritten m x v day m' → HoldsOn m m'
-held-append m m' rows x v day p place figures a =
-    let was : m.figures.entries ≡ length rows.entries = p.figures.entries in
-    let now : m'.figures.entries ≡ length rows.entries + 1 = ap (λ f. f.entries) a.figures ∙ figures.entries ∙ length_push rows.entries x.entry in
-    applied-held m m' x v day a (λ n apart h. grind (arith, nat_tests))
+held-append m m' rows x v day p place figures a = grind (arith, ints, nat_tests, length_push, applied-held)
 
 held-exchange : (m m' : Part) (rows : Rows) (x : Numbered) (v : TotalsAfter) (day : ℕ) → IsPart m rows → AreFigures v.figures (with_entry rows.entries x.number x.entry) → IsWritten m x v day m' → HoldsOn m m'
-held-exchange m m' rows x v day p figures a =
-    let same : m'.figures.entries ≡ m.figures.entries = ap (λ f. f.entries) a.figures ∙ figures.entries ∙ length-with rows.entries x.number x.entry ∙ sym p.figures.entries in
-    applied-held m m' x v day a (λ n apart h. rw same h)
+held-exchange m m' rows x v day p figures a = grind (arith, ints, nat_tests, length-with, applied-held)
 
 -- What was whole is whole.
 
@@ -157,11 +135,7 @@ whole-append m m' rows x v day whole place a =
 
 whole-exchange : (m m' : Part) (rows : Rows) (x : Numbered) (old : Entry) (v : TotalsAfter) (day : ℕ) → IsWhole m rows → entry_at rows.entries x.number ≡ Some old → IsWritten m x v day m' → (entries_kept m'.kept ≡ with_entry rows.entries x.number x.entry) × AreNumbered 1 m'.kept
 whole-exchange m m' rows x old v day whole there a =
-    let here : entry_at (entries_kept m.kept) x.number ≡ Some old = ap (λ es. entry_at es x.number) whole.entries ∙ there in
-    let ks = entry_put m.kept (kept_as x v) in
-    let numbered : AreNumbered 1 (other_written ks v.other) = numbered-other 1 ks v.other (numbered-at 1 x.number m.kept old (kept_as x v) whole.numbered here (omega arith)) in
-    let P : List Kept → Type 0 = λ l. AreNumbered 1 l in
-    (ap entries_kept a.kept ∙ entries-other ks v.other ∙ entries-at 1 x.number m.kept old (kept_as x v) whole.numbered here (omega arith) ∙ ap (λ es. with_entry es x.number x.entry) whole.entries, subst P (sym a.kept) numbered)
+    grind (arith, ints, nat_tests, entry_put, other_written, numbered-other, numbered-at, entries-other, entries-at)
 
 -- The matter after each edit.
 
@@ -176,11 +150,7 @@ abbrev change-by : MatterChange → Edit → ℕ → TotalsAfter → MatterChang
 change-by c e day v = record c { edit = e; last = day; moves = v }
 
 as-told : (m m' n : Part) (c : MatterChange) (e : Edit) (v : TotalsAfter) (day : ℕ) → c.edit ≡ e → v ≡ c.moves → day ≡ c.last → m' ≡ n → IsAfter m (change-by c e day v) n → IsAfter m c m'
-as-told m m' n c e v day is moves on made after =
-    let same : change-by c e day v ≡ c = λ i. record c { edit = sym is i; last = on i; moves = moves i } in
-    let P : MatterChange → Type 0 = λ d. IsAfter m d m' in
-    let Q : Part → Type 0 = λ x. IsAfter m (change-by c e day v) x in
-    subst P same (subst Q (sym made) after)
+as-told m m' n c e v day is moves on made after = grind (arith, ints, nat_tests)
 
 pub after-append : (m m' : Part) (c : MatterChange) (x : Numbered) (v : TotalsAfter) (day : ℕ) → c.edit ≡ edit.Append x → v ≡ c.moves → day ≡ c.last → IsWritten m x v day m' → IsAfter m c m'
 after-append m m' c x v day is moves on a = as-told m m' m' c (edit.Append x) v day is moves on refl (record {
@@ -219,19 +189,15 @@ pub after-nothing : (m : Part) (c : MatterChange) → c.edit ≡ edit.Nothing �
 after-nothing m c is = after-seated m m c edit.Nothing c.last m.head m.seats is refl refl (λ es. refl) (λ rows s p place. (p.head, p.seats))
 
 no-seats : (h : Option Head) (seats : List Seat) (es : List Entry) → h ≡ None → IsHeaded h seats es → seats ≡ []
-no-seats None seats es none headed = headed.0
-no-seats (Some h) seats es none headed = cc
+no-seats h seats es none headed = grind (arith, ints, nat_tests)
 
 pub after-open : (m m' : Part) (c : MatterChange) (o : Opening) → c.edit ≡ edit.Open o → m' ≡ record m { head = Some o.head; seats = m.seats ++ o.seat ∷ [] } → IsAfter m c m'
 after-open m m' c o is made = after-seated m m' c (edit.Open o) c.last _ _ is refl made (λ es. refl)
     (λ rows s p place. (refl, ap (λ l. l ++ o.seat ∷ []) (p.seats ∙ no-seats rows.head rows.seats rows.entries place s.headed)))
 
 pub after-seat : (m m' : Part) (c : MatterChange) (seat : Seat) (day : ℕ) → c.edit ≡ edit.Seat seat → day ≡ c.last → m' ≡ record m { head = seen_on m.head day; seats = m'.seats } → (AreInOrder m.seats → role_in m.seats seat.person ≡ None → m'.seats ≡ seats_with m.seats seat) → IsAfter m c m'
-after-seat m m' c seat day is on made seats = after-seated m m' c (edit.Seat seat) day (seen_on m.head day) m'.seats is on made (λ es. refl) (λ rows s p place.
-    let O : List Seat → Type 0 = AreInOrder in
-    let R : List Seat → Type 0 = λ l. role_in l seat.person ≡ None in
-    let e = seats (subst O (sym p.seats) s.seated) (subst R (sym p.seats) place.1) in
-    (ap (λ h. seen_on h day) p.head, e ∙ ap (λ l. seats_with l seat) p.seats))
+after-seat m m' c seat day is on made seats =
+    grind (arith, ints, nat_tests, (after-seated m m' c (edit.Seat seat) day (seen_on m.head day) m'.seats is on made))
 
 pub after-unseat : (m m' : Part) (c : MatterChange) (person : List ℕ) (day : ℕ) → c.edit ≡ edit.Unseat person → day ≡ c.last → m' ≡ record m { head = seen_on m.head day; seats = seats_without m.seats person } → IsAfter m c m'
 after-unseat m m' c person day is on made = after-seated m m' c (edit.Unseat person) day _ _ is on made (λ es. refl)
@@ -254,18 +220,10 @@ cleared_part m on last = record { head = cleared_head m.head on last; seats = []
 
 pub after-clear : (m m' : Part) (c : MatterChange) (on last : ℕ) → c.edit ≡ edit.Clear on → last ≡ c.last → m' ≡ cleared_part m on last → IsAfter m c m'
 after-clear m m' c on last is seen made =
-    let part : (rows : Rows) → IsPart m rows → IsPart (cleared_part m on last) (changed_by (edit.Clear on) last rows) = λ rows p.
-    record { head = ap (λ h. cleared_head h on last) p.head; seats = refl; figures = figures-none; kept = λ n k there. absurd (cc) } in
-    as-told m m' (cleared_part m on last) c (edit.Clear on) c.moves last is refl seen made (record {
-      part = λ rows s p ch. part rows p;
-      held = λ rows s p ch n h. held-none m rows n p h;
-      whole = λ rows s w ch. record { part = part rows w.part; entries = refl; numbered = tt };
-    })
+    grind (arith, ints, nat_tests, changed_by, cleared_head, figures-none, as-told, held-none)
 
 pub ok-map : {X E : Type 0} (A B : Type 0) (r : Result X E) → OnOk r A → (A → B) → OnOk r B
-ok-map A B (Ok x) h f = f h
-ok-map A B (Err e) h f = tt
+ok-map h1 h2 h3 h f = grind (arith, ints, nat_tests)
 
 pub ok-both : {X E : Type 0} (A B D : Type 0) (r : Result X E) → OnOk r A → OnOk r B → (A → B → D) → OnOk r D
-ok-both A B D (Ok x) h g f = f h g
-ok-both A B D (Err e) h g f = tt
+ok-both h1 h2 h3 h4 h g f = grind (arith, ints, nat_tests)

@@ -1,5 +1,5 @@
 -- The whole of sound rows passes each test, and what passes each is that.
-use Rattle.matter_parts.proofs.Names.{◌≡◌, ◌≤◌, ◌↔◌, ◌∙◌, Bool, true, false, false≢true, List, length, refl, sym, subst, arith, Option, length-map, Head, Seat, Entry, Rows, closed_on, AreInOrder, Sound, AreInForm, Figures, Kept, Part, IsWhole, AreEmptyIfClosed, AreFigures, entries_kept, AreInPlace, IsSoundWhole, WholeIsSound, rows_kept}
+use Rattle.matter_parts.proofs.Names.{◌≡◌, ◌≤◌, ◌↔◌, Bool, true, false, false≢true, List, length, refl, sym, subst, arith, Option, length-map, Head, Seat, Entry, closed_on, AreInOrder, AreInForm, Figures, Kept, Part, AreEmptyIfClosed, AreFigures, entries_kept, AreInPlace, IsSoundWhole, WholeIsSound, rows_kept}
 use Rattle.matter_parts.proofs.WholeRows.{form-of, empty-of, backed-of, sound-of}
 use Rattle.matter_parts.proofs.InPlace.{in-place, kept-of, numbered-of}
 
@@ -26,30 +26,14 @@ from-tests m t =
     }
 
 pub to-tests : (m : Part) → IsSoundWhole m → IsTested m
-to-tests m s =
-    let count = length-map m.kept (λ (k : Kept). k.entry) in
-    let few = s.sound.backed.few in
-    record {
-      few = omega (arith, count, few);
-      order = s.sound.seated;
-      form = form-of m.head m.seats (entries_kept m.kept) s.sound;
-      totals = s.whole.part.figures;
-      empty = empty-of m.head m.seats (entries_kept m.kept) m.figures s.sound s.whole.part.figures;
-      place = in-place (entries_kept m.kept) m.kept s.whole.numbered s.whole.part.kept;
-    }
+to-tests m s = grind (arith, length-map, form-of, empty-of, in-place)
 
 pub whole-sound : WholeIsSound
-whole-sound m rows sound whole =
-    let same : rows_kept m ≡ rows = λ i. record { head = whole.part.head i; seats = whole.part.seats i; entries = whole.entries i } in
-    record {
-      sound = subst (λ (r : Rows). Sound r) (sym same) sound;
-      whole = subst (λ (r : Rows). IsWhole m r) (sym same) whole;
-    }
+whole-sound m rows sound whole = grind (arith, rows_kept)
 
 -- what fails a test that sound rows pass is not sound
 pub fails : (m : Part) (b : Bool) (T : Type 0) → b ≡ false → ((b ≡ true) ↔ T) → (IsSoundWhole m → T) → (false ≡ true) ↔ IsSoundWhole m
-fails m b T failed test passed =
-    (λ h. absurd (false≢true h), λ s. absurd (false≢true (sym failed ∙ test.1 (passed s))))
+fails m b T failed test passed = grind (arith, false≢true)
 
 -- From the values that were tested.
 

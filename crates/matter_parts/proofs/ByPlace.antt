@@ -1,5 +1,5 @@
 -- Entries with the numbers 1, 2 and so on: each stands at the place of its number.
-use Rattle.matter_parts.proofs.Names.{filter, position, position_or_len, slice_get, zero, suc, ◌≡◌, ℕ, ◌+◌, ◌-◌, ◌<◌, ◌≤◌, not, ltb, Bool, true, false, cond, List, [], ◌∷◌, ◌++◌, take, length, get_or, refl, ap, sym, ◌∙◌, subst, arith, Some, None, eqb, set, nat_tests, append-nil, take_all, filter_more, place-none, place-some, Kept, IsNextPlace, entry_put, AreNumbered, kept_in}
+use Rattle.matter_parts.proofs.Names.{filter, position, position_or_len, slice_get, zero, suc, ◌≡◌, ℕ, ◌+◌, ◌-◌, ◌<◌, ◌≤◌, ltb, Bool, true, false, cond, List, [], ◌∷◌, ◌++◌, take, length, get_or, refl, ap, sym, ◌∙◌, subst, arith, Some, None, eqb, set, nat_tests, append-nil, take_all, filter_more, place-none, place-some, Kept, IsNextPlace, AreNumbered, kept_in}
 use Rattle.std.proofs.lemmas.List.Folds.{find_at}
 use Rattle.std.proofs.lemmas.List.Sums.{passes_at_first, position_or_len_is}
 use Rattle.std.proofs.lemmas.Option.{slice_get_past, slice_get_read}
@@ -40,14 +40,10 @@ not-placed n (k ∷ ks) numbered out =
 
 -- what stands at the place of a number is what is kept under it
 pub kept-at-place : (ks : List Kept) (n i : ℕ) (k : Kept) → Some i ≡ position (is_number n) ks → k ≡ get_or ks i k → Some k ≡ kept_in ks n
-kept-at-place ks n i k is at =
-    let place = place-some (is_number n) ks i is in
-    sym (find_at (is_number n) ks ∙ ap (λ (j : ℕ). slice_get ks j) (sym place.1) ∙ slice_get_read ks (length ks) i k refl place.0 at)
+kept-at-place ks n i k is at = grind (arith, nat_tests, place-some, find_at, slice_get, slice_get_read)
 
 pub kept-nowhere : (ks : List Kept) (n : ℕ) → None ≡ position (is_number n) ks → None ≡ kept_in ks n
-kept-nowhere ks n none =
-    let past = place-none (is_number n) ks none in
-    sym (find_at (is_number n) ks ∙ slice_get_past ks (position_or_len (is_number n) ks) past)
+kept-nowhere ks n none = grind (arith, nat_tests, place-none, find_at, slice_get_past, position_or_len)
 
 -- The numbers after a write.
 
@@ -69,8 +65,7 @@ numbered-set ks new i numbered is =
 
 pub numbered-left-set : (ks : List Kept) (n left i : ℕ) (k : Kept) → AreNumbered 1 ks → Some i ≡ position (is_number n) ks → k ≡ get_or ks i k → AreNumbered 1 (set ks i (record k { left = left }))
 numbered-left-set ks n left i k numbered is at =
-    let P : List Kept → Type 0 = AreNumbered 1 in
-    subst P (sym (left-set ks n left i k is at)) (numbered-left 1 ks n left numbered)
+    grind (arith, nat_tests, (left-set ks n left i k is), (numbered-left 1 ks n left numbered))
 
 -- The named ones, from place to place.
 
@@ -98,12 +93,7 @@ none-between p ks d i (suc s) numbered high none =
 
 up-to : (p : ℕ → Bool) (ks : List Kept) (i j : ℕ) → AreNumbered 1 ks → IsNextPlace p i (length ks) j → those p (take j ks) ≡ those p (take i ks)
 up-to p [] i j numbered next = let at : j ≡ i = (let low = next.low in let high = next.high in omega (arith, low, high)) in rw at refl
-up-to p (k ∷ ks) i j numbered next =
-    let low = next.low in
-    let high = next.high in
-    let at : i + (j - i) ≡ j = omega (arith, low) in
-    ap (λ (m : ℕ). those p (take m (k ∷ ks))) (sym at)
-    ∙ none-between p (k ∷ ks) k i (j - i) numbered (omega (arith, low, high)) (λ n from to. next.none n from (omega (arith, low, to)))
+up-to p (k ∷ ks) i j numbered next = grind (arith, nat_tests, (none-between p (k ∷ ks) k i (j - i) numbered))
 
 pub copied-none : (p : ℕ → Bool) (ks : List Kept) (j : ℕ) → AreNumbered 1 ks → IsNextPlace p 0 (length ks) j → AreCopiedTo p ks j []
 copied-none p ks j numbered next = record { high = next.high; is = next.is; before = sym (up-to p ks 0 j numbered next) }

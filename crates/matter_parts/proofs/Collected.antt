@@ -53,15 +53,10 @@ no-total z w is same none = none (natural z) is.small (is.is ∙ sym same)
 
 -- what is left of an entry, from what it is worth and what is drawn on it
 pub left-is : (es : List Entry) (m n : ℕ) (e : Entry) (w d : ℤ) → m ≡ n → w ≡ worth e → d ≡ total_of (draw_on m) es → w -ℤ d ≡ left_of es n e
-left-is es m n e w d same is drawn =
-    let P : ℕ → Type 0 = λ j. d ≡ total_of (draw_on j) es in
-    let on : d ≡ total_of (draw_on n) es = subst P same drawn in
-    omega (arith, ints, is, on)
+left-is es m n e w d same is drawn = grind (arith, ints, nat_tests)
 
 pub kept-of : (es : List Entry) (n number left : ℕ) (e copy : Entry) → entry_at es n ≡ Some e → copy ≡ e → pos left ≡ left_of es n e → IsEntryOf es n (record { number = number; left = left; entry = copy })
-kept-of es n number left e copy there same is =
-    let P : Entry → Type 0 = λ x. IsEntryOf es n (record { number = number; left = left; entry = x }) in
-    subst P (sym same) (record { there = there; left = is })
+kept-of es n number left e copy there same is = grind (arith, ints, nat_tests)
 
 -- of sound rows it is whole
 pub made-whole : (m : Part) (rows : Rows) (f : Figures) (ks : List Kept) → m ≡ record { head = rows.head; seats = rows.seats; figures = f; kept = ks } → AreFigures f rows.entries → AreAllKept ks rows.entries → IsWhole m rows

@@ -1,5 +1,5 @@
 -- What is drawn on each entry, added up entry by entry.
-use Rattle.matter_parts.proofs.Names.{◌≡◌, ◌≢◌, ℕ, ◌+◌, ◌<◌, ◌≤◌, true, false, List, length, get_or, replicate, eqb, refl, sym, ap, subst, arith, ◌∙◌, ℤ, pos, ◌+ℤ◌, nat_tests, ints, length-set, get_or-set_same, get_or-set_other, get_or-replicate, get_or_read, length-replicate, Entry, IsSmallShare, draw, draw_on, target, IsSumTo, IsSumOf, more, small-sum, start, whole, draw-apart, AreDrawn, IsUntargeted}
+use Rattle.matter_parts.proofs.Names.{◌≡◌, ◌≢◌, ℕ, ◌+◌, ◌<◌, ◌≤◌, true, false, List, length, get_or, replicate, eqb, refl, sym, subst, arith, ◌∙◌, ℤ, pos, ◌+ℤ◌, nat_tests, ints, length-set, get_or-set_same, get_or-set_other, get_or-replicate, get_or_read, length-replicate, Entry, IsSmallShare, draw, draw_on, target, IsSumTo, IsSumOf, more, small-sum, start, whole, draw-apart, AreDrawn, IsUntargeted}
 use Rattle.std.proofs.Common.{set}
 
 -- what the first i entries draw on each
@@ -8,26 +8,15 @@ pub record AreDrawnTo (es : List Entry) (i : ℕ) (drawn : List ℤ) : Type 0 wh
   pub sums : (place : ℕ) → place < length es → IsSumTo (draw_on (place + 1)) es i (get_or drawn place (pos 0))
 
 pub drawn-none : (es : List Entry) (drawn : List ℤ) → drawn ≡ replicate (length es) (pos 0) → AreDrawnTo es 0 drawn
-drawn-none es drawn is = record {
-  count = ap length is ∙ length-replicate (length es) (pos 0);
-  sums = λ place inside.
-      let S : ℤ → Type 0 = IsSumTo (draw_on (place + 1)) es 0 in
-      let none : get_or drawn place (pos 0) ≡ pos 0 = ap (λ (l : List ℤ). get_or l place (pos 0)) is ∙ get_or-replicate (length es) place (pos 0) (pos 0) inside in
-      subst S (sym none) (start (draw_on (place + 1)) es);
-}
+drawn-none es drawn is = grind (arith, ints, nat_tests, length-replicate, get_or-replicate, start)
 
 -- what was read of a place
 pub read-sum : (es : List Entry) (i : ℕ) (drawn : List ℤ) (p : ℕ) (x : ℤ) → AreDrawnTo es i drawn → p < length es → x ≡ get_or drawn p x → (x ≡ get_or drawn p (pos 0)) × IsSumOf i x
-read-sum es i drawn p x so there at =
-    let count = so.count in
-    let is : x ≡ get_or drawn p (pos 0) = get_or_read drawn p x (omega (arith, count, there)) at (pos 0) in
-    (is, subst (λ (z : ℤ). IsSumOf i z) (sym is) (so.sums p there).small)
+read-sum es i drawn p x so there at = grind (arith, ints, nat_tests, get_or_read)
 
 -- an entry that draws nothing on the one of a number
 none-more : (es : List Entry) (n i : ℕ) (e : Entry) (z : ℤ) → IsSumTo (draw_on n) es i z → i < length es → e ≡ get_or es i e → draw_on n e ≡ pos 0 → IsSumTo (draw_on n) es (i + 1) z
-none-more es n i e z so inside at none =
-    let P : ℤ → Type 0 = IsSmallShare in
-    more (draw_on n) es i e z z so inside at (subst P (sym none) (record { low = omega (arith, ints); high = omega (arith, ints) })) (omega (arith, ints, none))
+none-more es n i e z so inside at none = grind (arith, ints, nat_tests, (more (draw_on n) es i e z z so inside))
 
 -- with an entry that draws on none
 pub drawn-same : (es : List Entry) (i : ℕ) (drawn : List ℤ) (e : Entry) → AreDrawnTo es i drawn → i < length es → e ≡ get_or es i e → IsUntargeted e (length es) → AreDrawnTo es (i + 1) drawn
@@ -62,8 +51,4 @@ drawn-more es i drawn e p w so inside at there aims small is = record {
 }
 
 pub drawn-all : (es : List Entry) (i : ℕ) (drawn : List ℤ) → AreDrawnTo es i drawn → length es ≤ i → i ≤ length es → length es ≤ 9_999 → AreDrawn drawn es
-drawn-all es i drawn so past end few = record {
-  count = so.count;
-  sums = λ place within. whole (draw_on (place + 1)) es i (get_or drawn place (pos 0)) (so.sums place within) past;
-  small = λ place within. small-sum (draw_on (place + 1)) es i (get_or drawn place (pos 0)) (so.sums place within) end few;
-}
+drawn-all es i drawn so past end few = grind (arith, ints, nat_tests, whole, small-sum)

@@ -1,5 +1,5 @@
 -- Edits of backed entries that leave them backed.
-use Rattle.matter_parts.proofs.Names.{◌≡◌, ℕ, ◌+◌, ◌<◌, true, false, cond, List, [], length, refl, arith, rules, subst, Some, eqb, ◌⊎◌, pos, ◌+ℤ◌, ◌-ℤ◌, ◌≤ℤ◌, ints, nat_tests, Entry, entry_at, draw, draw_on, target, worth, available_share, left_of, names, AreBacked, MayAdd, MayTake, Edit}
+use Rattle.matter_parts.proofs.Names.{◌≡◌, ℕ, ◌+◌, ◌<◌, List, [], length, arith, rules, Some, eqb, ◌⊎◌, pos, ◌+ℤ◌, ◌-ℤ◌, ◌≤ℤ◌, ints, nat_tests, Entry, entry_at, draw, draw_on, target, worth, available_share, left_of, names, AreBacked, MayAdd, MayTake, Edit}
 use Rattle.trust_base.specs.Limits.{IsAmount}
 use Rattle.matter_rows.specs.declared.deposit.Deposit.{Deposit}
 use Rattle.matter_rows.specs.declared.deposit.DepositState.TheVariants as deposit
@@ -7,35 +7,16 @@ use Rattle.matter_rows.specs.declared.entry.Entry.TheVariants as entry
 use Rattle.matter_parts.specs.declared.edit.Edit.TheVariants as edit
 
 pub left-drawn : (es : List Entry) (x : Entry) → ((e : Entry) → entry_at es (target x) ≡ Some e → pos 0 ≤ℤ (left_of es (target x) e -ℤ draw x)) → ((n : ℕ) (e : Entry) → entry_at es n ≡ Some e → pos 0 ≤ℤ left_of es n e) → (n : ℕ) (e : Entry) → entry_at es n ≡ Some e → pos 0 ≤ℤ (left_of es n e -ℤ draw_on n x)
-left-drawn es x enough lefts n e h =
-    elim (eqb (target x) n) as (λ b. eqb (target x) n ≡ b → pos 0 ≤ℤ (left_of es n e -ℤ cond b (draw x) (pos 0))) [
-      | true ↦ λ s. let same : target x ≡ n = grind (arith, nat_tests) in
-          let P : ℕ → Type 0 = λ k. entry_at es k ≡ Some e → pos 0 ≤ℤ (left_of es k e -ℤ draw x) in
-          subst P same (enough e) h
-      | false ↦ λ s. omega (arith, ints, lefts n e h)
-    ] refl
+left-drawn es x enough lefts n e h = grind (arith, ints, nat_tests, eqb)
 
 pub left-moved : (es : List Entry) (old new : Entry) → target old ≡ target new → ((e : Entry) → entry_at es (target new) ≡ Some e → pos 0 ≤ℤ ((left_of es (target new) e +ℤ draw old) -ℤ draw new)) → ((n : ℕ) (e : Entry) → entry_at es n ≡ Some e → pos 0 ≤ℤ left_of es n e) → (n : ℕ) (e : Entry) → entry_at es n ≡ Some e → pos 0 ≤ℤ ((left_of es n e +ℤ draw_on n old) -ℤ draw_on n new)
-left-moved es old new t enough lefts n e h =
-    rw t (elim (eqb (target new) n) as (λ b. eqb (target new) n ≡ b → pos 0 ≤ℤ ((left_of es n e +ℤ cond b (draw old) (pos 0)) -ℤ cond b (draw new) (pos 0))) [
-      | true ↦ λ s. let same : target new ≡ n = grind (arith, nat_tests) in
-          let P : ℕ → Type 0 = λ k. entry_at es k ≡ Some e → pos 0 ≤ℤ ((left_of es k e +ℤ draw old) -ℤ draw new) in
-          subst P same (enough e) h
-      | false ↦ λ s. omega (arith, ints, lefts n e h)
-    ] refl)
+left-moved es old new t enough lefts n e h = grind (arith, ints, nat_tests, eqb)
 
 -- A deposit.
 
 pub deposit-may : (es : List Entry) (d : Deposit) → AreBacked es → d.state ≡ deposit.Held → length es < 9_999 → IsAmount d.amount → MayAdd es (entry.Deposit d)
 unfolding names draw worth available_share
-deposit-may es d s held room few = record {
-  room = room;
-  ranged = record { amount = few; part = tt };
-  named = refl;
-  available = rw held (let a = s.available in omega (arith, ints, a));
-  worth = omega (arith, ints);
-  left = left-drawn es (entry.Deposit d) (λ e h. let l = s.left 0 e h in omega (arith, ints, l)) s.left;
-}
+deposit-may es d s held room few = grind (arith, ints, nat_tests, worth, left-drawn)
 
 -- The edits.
 

@@ -1,7 +1,7 @@
 -- For a part of sound rows there is always a change in range.
-use Rattle.matter_parts.proofs.Names.{◌≡◌, ℕ, ◌+◌, ◌≤◌, ◌==◌, ◌||◌, ltb, is_some, true, false, List, [], ◌∷◌, ◌++◌, length, refl, sym, ◌∙◌, arith, subst, Option, Some, None, IfSome, IfNone, eqb, pos, ◌+ℤ◌, ◌-ℤ◌, ◌⊎◌, inl, inr, ints, nat_tests, Entry, Shares, total_of, left_of, available, target, worth, draw, held_share, available_share, disputed_share, fee_share, claim_share, pending_share, no_shares, shares_of, MAX_TOTAL, entry_at, with_entry, AreBacked, natural, held-balance, pending-balance, disputed-balance, available-balance, fees-balance, claims-balance, left-balance, fees-by_share, claims-by_share, entry_at-append, entry_at-with, within, MayAdd, MayTake, sound-append, sound-with, Numbered, Figures, Kept, Left, TotalsAfter, Before, AreSmallTotals, IsSmallOther, FiguresMoved, EntryMoved, AppendMoved, ExchangeMoved, Part, AreSmall, no_figures, kept_at, AreFigures, AreKept, is_held_or_none}
-use Rattle.matter_parts.proofs.Moving.{counted, moved-same, uncounted, written-append, written-exchange}
-use Rattle.matter_parts.proofs.Moved.{IsAside, figures_of, figures-are, figures-moved, moved-append, moved-with, own-append, own-with, aside-append, aside-with}
+use Rattle.matter_parts.proofs.Names.{◌≡◌, ℕ, ◌+◌, ◌≤◌, ltb, is_some, true, List, [], ◌∷◌, ◌++◌, length, refl, sym, ◌∙◌, arith, subst, Some, None, eqb, pos, ◌+ℤ◌, ◌-ℤ◌, ◌⊎◌, inl, inr, ints, nat_tests, Entry, total_of, left_of, target, worth, draw, held_share, available_share, disputed_share, fee_share, claim_share, pending_share, shares_of, MAX_TOTAL, entry_at, with_entry, AreBacked, natural, held-balance, pending-balance, disputed-balance, available-balance, fees-balance, claims-balance, left-balance, fees-by_share, claims-by_share, entry_at-append, entry_at-with, within, MayAdd, MayTake, sound-append, sound-with, Numbered, Figures, Kept, Left, TotalsAfter, Before, AreSmallTotals, IsSmallOther, FiguresMoved, EntryMoved, AppendMoved, ExchangeMoved, Part, AreSmall, kept_at, AreFigures, AreKept, is_held_or_none}
+use Rattle.matter_parts.proofs.Moving.{counted, uncounted, written-append, written-exchange}
+use Rattle.matter_parts.proofs.Moved.{IsAside, figures_of, figures-are, moved-append, moved-with, own-append, own-with, aside-append, aside-with}
 
 pub small-figures : (f : Figures) (es : List Entry) → AreFigures f es → AreBacked es → AreSmall f
 small-figures f es a s = record {
@@ -14,47 +14,28 @@ small-figures f es a s = record {
   claims = let b = claims-balance es s in omega (arith, ints, a.claims, b.is, b.small);
 }
 
--- The figures of all entries, from the sums of their shares.
+-- the totals of backed entries: in range, and the sums of their shares
+pub record AreSummed (f : Figures) (es : List Entry) : Type 0 where
+  pub small : AreSmall f
+  pub pending : pos f.pending ≡ total_of pending_share es
+  pub held : pos f.held ≡ total_of held_share es
+  pub available : pos f.available ≡ total_of available_share es
+  pub disputed : pos f.disputed ≡ total_of disputed_share es
+  pub fees : pos f.fees ≡ total_of fee_share es
+  pub claims : pos f.claims ≡ total_of claim_share es
 
-pub record AreSumsOf (s : Shares) (es : List Entry) : Type 0 where
-  pub held : s.held ≡ total_of held_share es
-  pub available : s.available ≡ total_of available_share es
-  pub disputed : s.disputed ≡ total_of disputed_share es
-  pub fees : s.fees ≡ total_of fee_share es
-  pub claims : s.claims ≡ total_of claim_share es
-  pub pending : s.pending ≡ total_of pending_share es
-
--- from no figures and no shares
-module _ (es : List Entry) (n : ℕ) (z : Figures) (a s : Shares) (few : n ≡ length es) (zero_figures : z ≡ no_figures) (zero_shares : a ≡ no_shares) (sums : AreSumsOf s es) where
-  from-none : (f : Figures) → FiguresMoved z n a s f → FiguresMoved no_figures n no_shares s f
-  from-none f m = moved-same z no_figures n a no_shares s s f m zero_figures zero_shares refl
-
-  moved-sums : AreBacked es → FiguresMoved no_figures n no_shares s (figures_of es)
-  moved-sums backed =
-      let is = figures-are es backed in
-      record {
-        count = sym few;
-        pending = omega (arith, ints, is.pending, sums.pending);
-        held = omega (arith, ints, is.held, sums.held);
-        available = omega (arith, ints, is.available, sums.available);
-        disputed = omega (arith, ints, is.disputed, sums.disputed);
-        fees = omega (arith, ints, is.fees, sums.fees, fees-by_share es backed.named);
-        claims = omega (arith, ints, is.claims, sums.claims, claims-by_share es backed.named);
-      }
-
-  pub figures-summed : (r : Option Figures) → IfSome r (λ f. FiguresMoved z n a s f) → IfSome r (λ f. AreBacked es → AreFigures f es)
-  figures-summed None m = tt
-  figures-summed (Some f) m = λ backed. figures-moved _ _ _ _ f _ es (from-none f m) (moved-sums backed) (figures-are es backed)
-
-  pub available-summed : (r : Option Figures) → IfSome r (λ f. FiguresMoved z n a s f) → IfSome r (λ f. pos f.available ≡ available es)
-  available-summed None m = tt
-  available-summed (Some f) moved = let m = from-none f moved in omega (arith, ints, m.available, sums.available)
-
-  pub none-summed : (r : Option Figures) → IfNone r ((f : Figures) → AreSmall f → FiguresMoved z n a s f → ⊥) → IfNone r (AreBacked es → ⊥)
-  none-summed (Some f) none = tt
-  none-summed None none = λ backed.
-      none (figures_of es) (small-figures (figures_of es) es (figures-are es backed) backed)
-      (moved-same no_figures z n no_shares a s s (figures_of es) (moved-sums backed) (sym zero_figures) (sym zero_shares) refl)
+pub summed : (es : List Entry) → AreBacked es → AreSummed (figures_of es) es
+summed es s =
+    let is = figures-are es s in
+    record {
+      small = small-figures (figures_of es) es is s;
+      pending = is.pending;
+      held = is.held;
+      available = is.available;
+      disputed = is.disputed;
+      fees = is.fees ∙ fees-by_share es s.named;
+      claims = is.claims ∙ claims-by_share es s.named;
+    }
 
 -- the entry named is kept, if one is
 abbrev pub IsKeptOrNone : Part → ℕ → Type 0
@@ -63,7 +44,7 @@ IsKeptOrNone m t = (t ≡ 0) ⊎ ((k : Kept) × (kept_at m t ≡ Some k))
 pub small-none : IsSmallOther None
 small-none p h = cc
 
-small-some : (l : Left) → l.left ≤ MAX_TOTAL → IsSmallOther (Some l)
+pub small-some : (l : Left) → l.left ≤ MAX_TOTAL → IsSmallOther (Some l)
 small-some l h p e = let same : l ≡ p = cc in let P : Left → Type 0 = λ q. q.left ≤ MAX_TOTAL in subst P same h
 
 -- the totals after an entry is written as number n that counted for b before, which leaves these entries
@@ -118,11 +99,4 @@ exist-exchange m es x old j a kept s may found named =
 
 -- what is held and there is kept
 pub held-kept : (m : Part) (es : List Entry) (n : ℕ) (e : Entry) → m.figures.entries ≡ length es → entry_at es n ≡ Some e → is_held_or_none m n ≡ true → (k : Kept) × (kept_at m n ≡ Some k)
-held-kept m es n e few at h =
-    let in_it = within es n e at in
-    let not-zero : eqb n 0 ≡ false = grind (arith, nat_tests) in
-    let not-past : ltb m.figures.entries n ≡ false = let a = in_it.1 in grind (arith, nat_tests) in
-    elim (kept_at m n) as (λ o. (n == 0 || (is_some o || ltb m.figures.entries n)) ≡ true → (k : Kept) × (o ≡ Some k)) [
-      | None ↦ λ g. let bad : (false || (false || false)) ≡ true = rw (not-zero, not-past) at g in cc
-      | Some k ↦ λ g. (k, refl)
-    ] h
+held-kept m es n e few at h = grind (arith, ints, nat_tests, within, eqb, ltb, is_some)

@@ -1,26 +1,17 @@
 -- Kept entries that have the numbers of their places, and what the entries leave of each.
-use Rattle.matter_parts.proofs.Names.{◌≡◌, ℕ, ◌+◌, ◌-◌, ◌<◌, ◌≤◌, ◌↔◌, cond, true, false, List, [], ◌∷◌, length, drop, get_or, eqb, sym, subst, arith, Some, refl, ap, ℤ, pos, to_z, of_z, w64, length-map, IsSmallSum, ◌-ℤ◌, nat_tests, ints, Entry, entry_at, left_of, worth, Kept, AreKept, AreNumbered, entries_kept, kept_in, AreDrawn, AreInPlace, IsInPlace}
+use Rattle.matter_parts.proofs.Names.{◌≡◌, ℕ, ◌+◌, ◌-◌, ◌<◌, ◌≤◌, ◌↔◌, true, false, List, [], ◌∷◌, length, drop, get_or, eqb, arith, Some, refl, ℤ, pos, to_z, of_z, w64, length-map, IsSmallSum, ◌-ℤ◌, nat_tests, ints, Entry, entry_at, left_of, worth, Kept, AreKept, AreNumbered, entries_kept, kept_in, AreDrawn, AreInPlace, IsInPlace}
 use Rattle.matter_rows.proofs.Tested.{rest-at, rest-none}
 
 -- Tested one after the other.
 
 pub place-next : (es : List Entry) (ks : List Kept) (i : ℕ) (k : Kept) → (AreInPlace es 1 ks ↔ AreInPlace es (i + 1) (drop i ks)) → i < length ks → k ≡ get_or ks i k → IsInPlace es (i + 1) k → AreInPlace es 1 ks ↔ AreInPlace es (i + 1 + 1) (drop (i + 1) ks)
-place-next es ks i k inv inside at here =
-    let P : List Kept → Type 0 = AreInPlace es (i + 1) in
-    let d = rest-at ks i k inside at in (
-      λ h. (subst P d (inv.0 h)).1,
-      λ h. inv.1 (subst P (sym d) (here, h)),
-    )
+place-next es ks i k inv inside at here = grind (arith, ints, nat_tests, rest-at)
 
 pub place-fails : (es : List Entry) (ks : List Kept) (i : ℕ) (k : Kept) → (AreInPlace es 1 ks ↔ AreInPlace es (i + 1) (drop i ks)) → i < length ks → k ≡ get_or ks i k → (IsInPlace es (i + 1) k → ⊥) → AreInPlace es 1 ks → ⊥
-place-fails es ks i k inv inside at none h =
-    let P : List Kept → Type 0 = AreInPlace es (i + 1) in
-    none (subst P (rest-at ks i k inside at) (inv.0 h)).0
+place-fails es ks i k inv inside at none h = grind (arith, ints, nat_tests, rest-at)
 
 pub place-done : (es : List Entry) (ks : List Kept) (i : ℕ) → (AreInPlace es 1 ks ↔ AreInPlace es (i + 1) (drop i ks)) → length ks ≤ i → AreInPlace es 1 ks
-place-done es ks i inv past =
-    let P : List Kept → Type 0 = AreInPlace es (i + 1) in
-    inv.1 (subst P (sym (rest-none ks i past)) tt)
+place-done es ks i inv past = grind (arith, ints, nat_tests, rest-none)
 
 module _ (es : List Entry) (drawn : List ℤ) (i : ℕ) (k : Kept) (z : ℤ) (are : AreDrawn drawn es) (inside : i < length es) (is : z ≡ get_or drawn i (pos 0)) where
   pub as-tested : IsInPlace es (i + 1) k → (k.number ≡ i + 1) × (pos k.left ≡ worth k.entry -ℤ z)
@@ -37,12 +28,7 @@ module _ (es : List Entry) (drawn : List ℤ) (i : ℕ) (k : Kept) (z : ℤ) (ar
 
 -- what is drawn on an entry that is kept, as it is read
 pub read-at : (es : List Entry) (ks : List Kept) (drawn : List ℤ) (i : ℕ) → es ≡ entries_kept ks → AreDrawn drawn es → i < length ks → (i < length es) × IsSmallSum (to_z w64 (of_z w64 (get_or drawn i (pos 0)))) × (to_z w64 (of_z w64 (get_or drawn i (pos 0))) ≡ get_or drawn i (pos 0))
-read-at es ks drawn i same are test =
-    let count = length-map ks (λ (k : Kept). k.entry) in
-    let both : length es ≡ length (entries_kept ks) = ap length same in
-    let inside : i < length es = omega (arith, count, both, test) in
-    let small = are.small i inside in
-    (inside, record { low = omega (arith, ints, small.low, small.high); high = omega (arith, ints, small.low, small.high) }, omega (arith, ints, small.low, small.high))
+read-at es ks drawn i same are test = grind (arith, ints, nat_tests, length-map)
 
 -- As a matter that keeps them all.
 
@@ -53,48 +39,20 @@ numbered-of es n (k ∷ ks) here = (here.0.number, numbered-of es (n + 1) ks her
 -- none has a lower number than the first
 found-from : (a n : ℕ) (ks : List Kept) (k : Kept) → AreNumbered a ks → kept_in ks n ≡ Some k → a ≤ n
 found-from a n [] k numbered found = absurd (cc)
-found-from a n (x ∷ ks) k numbered found =
-    let own : x.number ≡ a = numbered.0 in
-    elim (eqb x.number n) as (λ b. eqb x.number n ≡ b → cond b (Some x) (kept_in ks n) ≡ Some k → a ≤ n) [
-      | true ↦ λ s g. grind (arith, nat_tests)
-      | false ↦ λ s g. let more : a + 1 ≤ n = found-from (a + 1) n ks k numbered.1 g in omega arith
-    ] refl found
+found-from a n (x ∷ ks) k numbered found = grind (arith, ints, nat_tests, eqb, (found-from (a + 1) n ks k numbered.1))
 
 -- entry n, of those that are kept from a on, is at the place n + 1 - a
 there-at : (a j n : ℕ) (ks : List Kept) (k : Kept) → AreNumbered a ks → kept_in ks n ≡ Some k → n + 1 ≡ a + j → entry_at (entries_kept ks) j ≡ Some k.entry
 there-at a j n [] k numbered found next = absurd (cc)
 there-at a j n (x ∷ ks) k numbered found next =
-    let own : x.number ≡ a = numbered.0 in
-    elim (eqb x.number n) as (λ b. eqb x.number n ≡ b → cond b (Some x) (kept_in ks n) ≡ Some k → cond (eqb j 1) (Some x.entry) (entry_at (entries_kept ks) (j - 1)) ≡ Some k.entry) [
-      | true ↦ λ s g.
-          let first : eqb j 1 ≡ true = grind (arith, nat_tests) in
-          let same : x ≡ k = cc in
-          rw first (ap (λ (y : Kept). Some y.entry) same)
-      | false ↦ λ s g.
-          let more : a + 1 ≤ n = found-from (a + 1) n ks k numbered.1 g in
-          let behind : eqb j 1 ≡ false = grind (arith, nat_tests) in
-          rw behind (there-at (a + 1) (j - 1) n ks k numbered.1 g (omega arith))
-    ] refl found
+    grind (arith, ints, nat_tests, eqb, found-from, (there-at (a + 1) (j - 1) n ks k numbered.1))
 
 left-at : (es : List Entry) (a n : ℕ) (ks : List Kept) (k : Kept) → AreInPlace es a ks → kept_in ks n ≡ Some k → pos k.left ≡ left_of es n k.entry
 left-at es a n [] k here found = absurd (cc)
-left-at es a n (x ∷ ks) k here found =
-    let own : x.number ≡ a = here.0.number in
-    elim (eqb x.number n) as (λ b. eqb x.number n ≡ b → cond b (Some x) (kept_in ks n) ≡ Some k → pos k.left ≡ left_of es n k.entry) [
-      | true ↦ λ s g.
-          let same : x ≡ k = cc in
-          let at : a ≡ n = grind (arith, nat_tests) in
-          let P : Kept → Type 0 = λ y. pos y.left ≡ left_of es n y.entry in
-          let Q : ℕ → Type 0 = λ m. pos x.left ≡ left_of es m x.entry in
-          subst P same (subst Q at here.0.left)
-      | false ↦ λ s g. left-at es (a + 1) n ks k here.1 g
-    ] refl found
+left-at es a n (x ∷ ks) k here found = grind (arith, ints, nat_tests, eqb, (left-at es (a + 1) n ks k here.1))
 
 pub kept-of : (ks : List Kept) → AreInPlace (entries_kept ks) 1 ks → AreKept ks (entries_kept ks)
-kept-of ks here n k found = record {
-  there = there-at 1 n n ks k (numbered-of (entries_kept ks) 1 ks here) found (omega arith);
-  left = left-at (entries_kept ks) 1 n ks k here found;
-}
+kept-of ks here n k found = grind (arith, ints, nat_tests, there-at, numbered-of, left-at)
 
 -- from a matter that keeps them all
 

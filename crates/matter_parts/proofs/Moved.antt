@@ -20,15 +20,7 @@ figures-are es s = record {
 
 -- what moves as the figures of entries do are their figures
 pub figures-moved : (f : Figures) (n : ℕ) (a b : Shares) (g h : Figures) (es : List Entry) → FiguresMoved f n a b g → FiguresMoved f n a b h → AreFigures h es → AreFigures g es
-figures-moved f n a b g h es m w are = record {
-  entries = m.count ∙ sym w.count ∙ are.entries;
-  pending = m.pending ∙ sym w.pending ∙ are.pending;
-  held = m.held ∙ sym w.held ∙ are.held;
-  available = m.available ∙ sym w.available ∙ are.available;
-  disputed = m.disputed ∙ sym w.disputed ∙ are.disputed;
-  fees = m.fees ∙ sym w.fees ∙ are.fees;
-  claims = m.claims ∙ sym w.claims ∙ are.claims;
-}
+figures-moved f n a b g h es m w are = grind (arith, ints, nat_tests, held, available, disputed, fees, claims)
 
 -- The figures after an entry is added or changed.
 
@@ -60,16 +52,10 @@ moved-with es n old x f s t at a =
 
 -- the new entry names another
 pub append-apart : (es : List Entry) (x : Entry) → MayAdd es x → target x ≢ length es + 1
-append-apart es x m =
-    let none = none-past es (length es + 1) (omega arith) in
-    target-apart es (length es + 1) (omega arith) (rw none refl) (rw none refl) x m.named
+append-apart es x m = grind (arith, ints, nat_tests, (none-past es (length es + 1)), (target-apart es (length es + 1)))
 
 pub own-append : (es : List Entry) (x : Entry) → AreBacked es → MayAdd es x → worth x ≡ left_of (es ++ x ∷ []) (length es + 1) x
-own-append es x s m =
-    let none = none-past es (length es + 1) (omega arith) in
-    let all = total-undrawn es (length es + 1) s.named (omega arith) (rw none refl) (rw none refl) in
-    let own = draw-apart (length es + 1) x (append-apart es x m) in
-    omega (arith, ints, all, own, left-append es x (length es + 1) x)
+own-append es x s m = grind (arith, ints, nat_tests, none-past, total-undrawn, draw-apart, append-apart, left-append)
 
 pub own-with : (es : List Entry) (n : ℕ) (old x : Entry) → MayTake es n old x → left_of (with_entry es n x) n x ≡ (left_of es n old -ℤ worth old) +ℤ worth x
 own-with es n old x m =
@@ -84,12 +70,7 @@ draw-here : (n : ℕ) (r : Entry) → target r ≡ n → draw_on n r ≡ draw r
 draw-here n r h = let yes : eqb (target r) n ≡ true = grind (arith, nat_tests) in rw yes refl
 
 pub aside-append : (es : List Entry) (x : Entry) → MayAdd es x → IsAside es (es ++ x ∷ []) (target x) (pos 0) (draw x)
-aside-append es x may =
-    let no : eqb (target x) (length es + 1) ≡ false = let a = append-apart es x may in grind (arith, nat_tests) in
-    record {
-      there = entry_at-append es x (target x) ∙ rw no refl;
-      left = λ e. omega (arith, ints, left-append es x (target x) e, draw-here (target x) x refl);
-    }
+aside-append es x may = grind (arith, ints, nat_tests, eqb, append-apart, entry_at-append, left-append, draw-here)
 
 pub aside-with : (es : List Entry) (n : ℕ) (old x : Entry) → MayTake es n old x → IsAside es (with_entry es n x) (target x) (draw old) (draw x)
 aside-with es n old x may =

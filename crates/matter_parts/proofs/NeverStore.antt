@@ -1,5 +1,5 @@
 -- Store is never answered for a part of backed rows.
-use Rattle.matter_parts.proofs.Names.{◌≡◌, ℕ, Bool, true, List, [], refl, sym, subst, Option, Some, None, ◌⊎◌, inl, inr, arith, length, Entry, passes, names, funds, is_against, is_fee, is_settled, Rows, entry_at, target, fund_no, against_no, AreBacked, Figures, Edit, TotalsAfter, AreSmallTotals, EditMoved, NoneMoved, Part, no_figures, IsPart, is_held_or_none}
+use Rattle.matter_parts.proofs.Names.{◌≡◌, ℕ, Bool, true, List, [], refl, sym, subst, Option, Some, None, ◌⊎◌, inl, inr, arith, length, Entry, passes, names, funds, is_against, is_fee, is_settled, Rows, entry_at, target, fund_no, against_no, AreBacked, Edit, TotalsAfter, AreSmallTotals, EditMoved, NoneMoved, Part, no_figures, IsPart, is_held_or_none}
 use Rattle.matter_rows.specs.declared.entry.Entry.TheVariants as entry
 use Rattle.matter_rows.specs.declared.payment.Fund.{Fund}
 use Rattle.matter_rows.specs.declared.payment.Fund.TheVariants as fund
@@ -11,32 +11,20 @@ use Rattle.matter_parts.proofs.Editing.{MayEdit, backed-none}
 use Rattle.matter_parts.proofs.Moved.{figures-none}
 
 passes-some : (kind : Entry → Bool) (o : Option Entry) → passes kind o ≡ true → (e : Entry) × (o ≡ Some e)
-passes-some kind None h = cc
-passes-some kind (Some e) h = (e, refl)
+passes-some kind o h = grind (arith)
 
 fund-there : (es : List Entry) (f : Fund) → funds es f ≡ true → (fund_no f ≡ 0) ⊎ ((e : Entry) × (entry_at es (fund_no f) ≡ Some e))
-fund-there es fund.General h = inl refl
-fund-there es (fund.Fee k) h = inr (passes-some is_fee (entry_at es k) h)
-fund-there es (fund.Claim k) h = inr (passes-some is_settled (entry_at es k) h)
+fund-there es f h = grind (arith, passes-some, is_fee, is_settled)
 
 against-there : (es : List Entry) (f : Against) → is_against es f ≡ true → (against_no f ≡ 0) ⊎ ((e : Entry) × (entry_at es (against_no f) ≡ Some e))
-against-there es (against.General c) h = inl refl
-against-there es (against.Fee k) h = inr (passes-some is_fee (entry_at es k) h)
+against-there es f h = grind (arith, passes-some, is_fee)
 
 target-there : (es : List Entry) (r : Entry) → names es r ≡ true → (target r ≡ 0) ⊎ ((e : Entry) × (entry_at es (target r) ≡ Some e))
 unfolding names
-target-there es (entry.Deposit d) h = inl refl
-target-there es (entry.Payment p) h = fund-there es p.fund h
-target-there es (entry.Fee f) h = inl refl
-target-there es (entry.Claim c) h = against-there es c.against h
+target-there es r h = grind (arith, fund-there, against-there)
 
 named-kept : (m : Part) (es : List Entry) (r : Entry) (t : ℕ) → m.figures.entries ≡ length es → names es r ≡ true → is_held_or_none m t ≡ true → (target r ≡ 0) ⊎ (target r ≡ t) → IsKeptOrNone m (target r)
-named-kept m es r t few named held (inl none) = inl none
-named-kept m es r t few named held (inr same) =
-    elim (target-there es r named) [
-      | inl none ↦ inl none
-      | inr there ↦ let P : ℕ → Type 0 = λ n. is_held_or_none m n ≡ true in inr (held-kept m es (target r) there.0 few there.1 (subst P (sym same) held))
-    ]
+named-kept m es r t few named held h1 = grind (arith, target-there, held-kept)
 
 -- no entry is written
 no-entry : (m : Part) (rows : Rows) → AreBacked rows.entries → IsPart m rows → ((v : TotalsAfter) → AreSmallTotals v → NoneMoved m v → ⊥) → ⊥

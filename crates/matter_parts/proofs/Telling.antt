@@ -1,10 +1,9 @@
 -- What a part tells of the balances and of what is left.
-use Rattle.matter_parts.proofs.Names.{◌≡◌, ℕ, ◌+◌, ◌==◌, ◌||◌, Bool, true, false, refl, sym, arith, subst, Option, Some, None, ints, Entry, Rows, entry_at, left_at, left_in, Sound, total-covered, Figures, Kept, Part, IsPart, AreBalances, is_held, kept_in, kept_at, entry_in, left_kept, left_if}
+use Rattle.matter_parts.proofs.Names.{◌≡◌, ℕ, ◌+◌, ◌==◌, ◌||◌, Bool, true, false, refl, arith, Option, Some, None, ints, Entry, Rows, entry_at, left_at, left_in, Sound, total-covered, Figures, Kept, Part, IsPart, AreBalances, is_held, kept_in, kept_at, entry_in, left_kept, left_if}
 use Rattle.matter_parts.proofs.Parts.{held-entry}
 
 or-right : (a b : Bool) → b ≡ true → (a || b) ≡ true
-or-right true b h = refl
-or-right false b h = h
+or-right a b h = grind (arith, ints)
 
 -- what is left of an entry that is held is what is left by the rows
 pub left-held : (kind : Entry → Bool) (m : Part) (rows : Rows) (n : ℕ) → IsPart m rows → is_held m n ≡ true → left_if kind (kept_at m n) ≡ left_at kind rows.entries n (entry_at rows.entries n)
@@ -21,14 +20,4 @@ left-held kind m rows n p h =
         rw (same, left) refl
 
 pub balances-of : (m : Part) (rows : Rows) (f : Figures) → Sound rows → IsPart m rows → f ≡ m.figures → AreBalances (record { held = f.held; available = f.available; fees = f.fees; claims = f.claims; disputed = f.disputed; total = f.available + f.disputed + f.fees + f.claims }) rows.entries
-balances-of m rows f s p same =
-    let t = total-covered rows.entries s.backed.named in
-    let P : Figures → Type 0 = λ g. AreBalances (record { held = g.held; available = g.available; fees = g.fees; claims = g.claims; disputed = g.disputed; total = g.available + g.disputed + g.fees + g.claims }) rows.entries in
-    subst P (sym same) (record {
-      held = p.figures.held;
-      available = p.figures.available;
-      fees = p.figures.fees;
-      claims = p.figures.claims;
-      disputed = p.figures.disputed;
-      total = omega (arith, ints, t, p.figures.available, p.figures.disputed, p.figures.fees, p.figures.claims);
-    })
+balances-of m rows f s p same = grind (arith, ints, total-covered)

@@ -1,6 +1,6 @@
 -- Whole rows are sound where each of their tests passes, and only there.
 use Rattle.std.specs.Prelude.{find, is_some}
-use Rattle.matter_parts.proofs.Names.{AllByRecursion, ◌≡◌, ℕ, ◌≤◌, ◌==◌, eqb, cond, true, false, List, [], ◌∷◌, length, refl, sym, subst, arith, Option, Some, None, pos, ◌≤ℤ◌, All, ints, All-head, All-tail, Head, Seat, Entry, entry_at, closed_on, available, left_of, names, AreBacked, AreInOrder, AreDated, IsAtRestIfClosed, IsRanged, IsBy, IsRising, IsFundedInTime, Sound, IsByIfClosed, IsSoundEntry, IsClosedWithin, IsSoundHead, AreInForm, MAX_TOTAL, total-covered, within, all-map, Figures, Kept, AreEmptyIfClosed, AreFigures, AreKept, AreNumbered, entries_kept, kept_in}
+use Rattle.matter_parts.proofs.Names.{AllByRecursion, ◌≡◌, ℕ, ◌≤◌, ◌==◌, eqb, cond, true, false, List, [], ◌∷◌, length, refl, sym, subst, arith, Option, Some, None, pos, ◌≤ℤ◌, All, ints, All-head, All-tail, Head, Seat, Entry, entry_at, closed_on, available, left_of, names, AreBacked, AreInOrder, IsAtRestIfClosed, IsRanged, IsBy, IsRising, IsFundedInTime, Sound, IsByIfClosed, IsSoundEntry, IsClosedWithin, AreInForm, MAX_TOTAL, total-covered, within, all-map, Figures, Kept, AreEmptyIfClosed, AreFigures, AreKept, AreNumbered, entries_kept, kept_in}
 use Rattle.matter_parts.proofs.AllKept.{kept-numbered, length-kept}
 use Rattle.matter_parts.proofs.StepForms.{rows-of}
 
@@ -12,48 +12,28 @@ close-all None [] h rest = tt
 close-all None (e ∷ es) h rest = (tt, close-all None es h tt)
 
 closed-within : (closed : Option ℕ) (es : List Entry) (h : Head) → IsAtRestIfClosed h closed es → IsClosedWithin h.opened h.last closed
-closed-within None es h rest = tt
-closed-within (Some day) es h rest = (rest.opened, rest.last)
+closed-within closed es h rest = grind (arith, ints)
 
 -- the facts of each entry, from each fact of all
 entries-all : (h : Head) (es some : List Entry) → AllByRecursion IsRanged some → AllByRecursion (λ e. names es e ≡ true) some → AllByRecursion (IsBy h.last) some → AllByRecursion (IsByIfClosed h.closed) some → AllByRecursion IsRising some → AllByRecursion (IsFundedInTime es) some → AllByRecursion (IsSoundEntry h es) some
 entries-all h es [] ranged named by_last by_close rising funded = tt
-entries-all h es (e ∷ some) ranged named by_last by_close rising funded = (
-  record { ranged = ranged.0; named = named.0; by_last = by_last.0; by_close = by_close.0; rising = rising.0; funded = funded.0 },
-  entries-all h es some ranged.1 named.1 by_last.1 by_close.1 rising.1 funded.1,
-)
+entries-all h es (e ∷ some) ranged named by_last by_close rising funded =
+    grind (arith, ints, (entries-all h es some ranged.1 named.1 by_last.1 by_close.1 rising.1 funded.1))
 
 pub form-of : (head : Option Head) (seats : List Seat) (es : List Entry) → Sound (rows-of head seats es) → AreInForm head seats es
-form-of None seats es s = s.headed
-form-of (Some h) seats es s =
-    let d : AreDated h es = s.headed.0 in (
-      record {
-        opened = d.opened;
-        closed = closed-within h.closed es h s.headed.1;
-        made = d.made;
-        entries = entries-all h es es s.backed.ranged s.backed.named d.by_last (close-all h.closed es h s.headed.1) d.changed s.funded;
-      },
-      s.bare,
-    )
+form-of head seats es s = grind (arith, ints, closed-within, entries-all, close-all)
 
 empty-at : (closed : Option ℕ) (es : List Entry) (h : Head) (f : Figures) → AllByRecursion (λ e. names es e ≡ true) es → AreFigures f es → IsAtRestIfClosed h closed es → AreEmptyIfClosed closed f
-empty-at None es h f named a rest = tt
-empty-at (Some day) es h f named a rest =
-    let t = total-covered es named in
-    let empty = rest.empty in
-    let waits = rest.none_waits in
-    (omega (arith, ints, t, empty, a.held, a.available, a.disputed, a.fees, a.claims), omega (arith, ints, waits, a.pending))
+empty-at closed es h f named a rest = grind (arith, ints, total-covered)
 
 pub empty-of : (head : Option Head) (seats : List Seat) (es : List Entry) (f : Figures) → Sound (rows-of head seats es) → AreFigures f es → AreEmptyIfClosed (closed_on head) f
-empty-of None seats es f s a = tt
-empty-of (Some h) seats es f s a = empty-at h.closed es h f s.backed.named a s.headed.1
+empty-of head seats es f s a = grind (arith, ints, empty-at)
 
 -- Rows that pass are sound.
 
 -- each entry has what a sound one has
 each-of : (P : List Entry → Entry → Type 0) (head : Option Head) (seats : List Seat) (es : List Entry) → ((h : Head) (e : Entry) → IsSoundEntry h es e → P es e) → AreInForm head seats es → AllByRecursion (P es) es
-each-of P None seats es own form = let Q : List Entry → Type 0 = λ l. AllByRecursion (P l) l in subst Q (sym form.1) tt
-each-of P (Some h) seats es own form = all-map (IsSoundEntry h es) (P es) es (own h) form.0.entries
+each-of P head seats es e form = grind (arith, ints, all-map)
 
 pub named-of : (head : Option Head) (seats : List Seat) (es : List Entry) → AreInForm head seats es → AllByRecursion (λ e. names es e ≡ true) es
 named-of head seats es form = each-of (λ l e. names l e ≡ true) head seats es (λ h e i. i.named) form
@@ -86,37 +66,10 @@ backed-of head seats es f ks few form is entries numbered own = record {
 
 rest-of : (closed : Option ℕ) (es : List Entry) (h : Head) (f : Figures) → AllByRecursion (λ e. names es e ≡ true) es → AreFigures f es → AreEmptyIfClosed closed f → IsClosedWithin h.opened h.last closed → AllByRecursion (IsByIfClosed closed) es → IsAtRestIfClosed h closed es
 rest-of None es h f named a empty between all = tt
-rest-of (Some day) es h f named a empty between all =
-    let t = total-covered es named in
-    let none = empty.0 in
-    let waits = empty.1 in
-    record {
-      empty = omega (arith, ints, t, none, a.held, a.available, a.disputed, a.fees, a.claims);
-      none_waits = omega (arith, ints, waits, a.pending);
-      by_close = all;
-      opened = between.0;
-      last = between.1;
-    }
+rest-of (Some day) es h f named a empty between all = grind (arith, ints, total-covered)
 
 pub sound-of : (head : Option Head) (seats : List Seat) (es : List Entry) (f : Figures) → AreInOrder seats → AreInForm head seats es → AreBacked es → AreFigures f es → AreEmptyIfClosed (closed_on head) f → Sound (rows-of head seats es)
-sound-of None seats es f order form backed a empty = record { backed = backed; seated = order; headed = form; funded = each-of (λ l e. IsFundedInTime l e) None seats es (λ h e i. i.funded) form; bare = tt }
-sound-of (Some h) seats es f order form backed a empty =
-    let form-h : IsSoundHead h es = form.0 in
-    record {
-      backed = backed;
-      seated = order;
-      headed = (
-        record {
-          opened = form-h.opened;
-          by_last = all-map (IsSoundEntry h es) (IsBy h.last) es (λ e i. i.by_last) form-h.entries;
-          made = form-h.made;
-          changed = all-map (IsSoundEntry h es) IsRising es (λ e i. i.rising) form-h.entries;
-        },
-        rest-of h.closed es h f backed.named a empty form-h.closed (all-map (IsSoundEntry h es) (IsByIfClosed h.closed) es (λ e i. i.by_close) form-h.entries),
-      );
-      funded = each-of (λ l e. IsFundedInTime l e) (Some h) seats es (λ g e i. i.funded) form;
-      bare = form.1;
-    }
+sound-of head seats es f order form backed a empty = grind (arith, ints, each-of, all-map, rest-of)
 
 -- Stored figures.
 

@@ -20,9 +20,6 @@ use Rattle.matter_parts.specs.Changes.{MatterChange}
 abbrev pub TheTotalsAfter : Type 0
 TheTotalsAfter = TotalsAfter
 
-abbrev pub TheFigures : Type 0
-TheFigures = Figures
-
 -- each total of g is that of f, less what one entry added to it, plus what another adds
 pub record FiguresMoved (f : Figures) (entries : ℕ) (out shares : Shares) (g : Figures) : Type 0 where
   pub count : g.entries ≡ entries

@@ -1,10 +1,8 @@
 //! A change of a matter: its edit, the totals after it, and its movement in the journal.
 
 ghost use Rattle.std.specs.Prelude.{◌≡◌, ◌+◌, ◌-◌, ◌<◌, ◌≤◌, ◌≤ℤ◌, ◌-ℤ◌, ◌+ℤ◌, pos, IfOk, IfErr, IfSome, IfNone, OnErr, None};
-ghost use Rattle.matter_rows.specs.Shares.{AreSmallSums};
-ghost use Rattle.matter_parts.specs.Parts.{AreSmall};
 ghost use Rattle.matter_parts.specs.Changes.{AreSmallTotals};
-ghost use Rattle.matter_parts.specs.TotalsAfter.{FiguresMoved, IsSmallBefore, EntryMoved, EditMoved, IsMade, TheFigures, TheTotalsAfter, movement_kept};
+ghost use Rattle.matter_parts.specs.TotalsAfter.{IsSmallBefore, EntryMoved, EditMoved, IsMade, TheTotalsAfter, movement_kept};
 
 use crate::edit::Edit;
 use crate::figures::Figures;
@@ -90,35 +88,8 @@ struct Before {
     draw: i64,
 }
 
-// Returns the figures with the shares `out` replaced by others; `None` if one of them would go out of range.
-pub(crate) fn figures_after(
-    figures: &Figures,
-    entries: u64,
-    out: &Shares,
-    shares: &Shares,
-) -> Option<Figures>
-    requires small { AreSmall figures.now }
-    requires entries { entries ≤ MAX_ENTRY }
-    requires out { AreSmallSums out.now }
-    requires shares { AreSmallSums shares.now }
-    ensures small { IfSome result (λ f. AreSmall f) }
-    ensures some { IfSome result (λ f. FiguresMoved figures.now entries out.now shares.now f) }
-    ensures none { IfNone result
-        ((f : TheFigures) → AreSmall f → FiguresMoved figures.now entries out.now shares.now f → ⊥) }
-{
-    Some(Figures {
-        entries,
-        pending: moved(figures.pending, out.pending, shares.pending)?,
-        held: moved(figures.held, out.held, shares.held)?,
-        available: moved(figures.available, out.available, shares.available)?,
-        disputed: moved(figures.disputed, out.disputed, shares.disputed)?,
-        fees: moved(figures.fees, out.fees, shares.fees)?,
-        claims: moved(figures.claims, out.claims, shares.claims)?,
-    })
-}
-
 // Returns the totals, and what is left, after an entry that counted for `before` is written as `new`.
-#[tactic(auto, using(crate::proofs::Moving::small_sum, crate::proofs::Moving::small_sums))]
+#[tactic(auto, using(crate::proofs::Moving::small_word))]
 fn written(matter: &Matter, entries: u64, before: &Before, new: &Entry) -> Option<TotalsAfter>
     requires entries { entries ≤ MAX_ENTRY }
     requires before { IsSmallBefore before.now }
@@ -127,7 +98,18 @@ fn written(matter: &Matter, entries: u64, before: &Before, new: &Entry) -> Optio
     ensures none { IfNone result
         ((v : TheTotalsAfter) → AreSmallTotals v → EntryMoved matter.now entries before.now new.now v → ⊥) }
 {
-    let figures = figures_after(&matter.figures(), entries, &before.shares, &new.shares())?;
+    let old = matter.figures();
+    let out = before.shares;
+    let shares = new.shares();
+    let figures = Figures {
+        entries,
+        pending: moved(old.pending, out.pending, shares.pending)?,
+        held: moved(old.held, out.held, shares.held)?,
+        available: moved(old.available, out.available, shares.available)?,
+        disputed: moved(old.disputed, out.disputed, shares.disputed)?,
+        fees: moved(old.fees, out.fees, shares.fees)?,
+        claims: moved(old.claims, out.claims, shares.claims)?,
+    };
     let left = moved(before.left, before.worth, new.worth())?;
     match new.target() {
         None => Some(TotalsAfter {
@@ -184,7 +166,11 @@ fn edit_moves(matter: &Matter, edit: &Edit) -> Option<(TotalsAfter, Option<Entry
                 draw: old.draw(),
             };
             let moves = written(matter, figures.entries, &before, &new.entry)?;
-            Some((moves, new.entry.event(new.number, old.event_count())))
+            // An entry makes at most two movements.
+            let first = old.event(new.number, 0).is_some();
+            let second = old.event(new.number, 1).is_some();
+            let place = first as usize + second as usize;
+            Some((moves, new.entry.event(new.number, place)))
         }
         Edit::Clear(_) => {
             let cleared = TotalsAfter {

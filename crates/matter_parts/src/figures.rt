@@ -1,14 +1,11 @@
 //! The totals and counts of a matter.
 
 ghost use Rattle.std.specs.Prelude.{◌≡◌, ◌+◌, ◌-◌, ◌<◌, ◌≤◌, ◌≤ℤ◌, ◌-ℤ◌, ◌+ℤ◌, pos, IfSome, IfNone, [], ◌++◌, ◌∷◌, None, ◌≢◌, ◌↔◌, length, IsTrue};
-ghost use Rattle.matter_rows.specs.Shares.{AreSmallSums};
 ghost use Rattle.matter_rows.specs.Balances.{available};
 ghost use Rattle.matter_rows.specs.Sound.{AreBacked};
 ghost use Rattle.matter_parts.specs.Parts.{AreSmall, no_figures, AreFigures};
-ghost use Rattle.matter_parts.specs.TotalsAfter.{FiguresMoved, TheFigures};
 
-use crate::change::figures_after;
-use matter_rows::{Entry, MAX_TOTAL, no_shares, sums_of};
+use matter_rows::{Entry, MAX_TOTAL, moved, sums_of};
 use trust_base::MAX_ENTRY;
 
 /// The totals of a matter in cents, the number of its entries, and that of the payments proposed or issued.
@@ -67,7 +64,15 @@ pub(crate) fn figures_of(entries: &[Entry]) -> Option<Figures>
     ensures none { IfNone result (AreBacked entries.now → ⊥) }
 {
     let sums = sums_of(entries);
-    figures_after(&Figures::none(), entries.len() as u64, &no_shares(), &sums)
+    Some(Figures {
+        entries: entries.len() as u64,
+        pending: moved(0, 0, sums.pending)?,
+        held: moved(0, 0, sums.held)?,
+        available: moved(0, 0, sums.available)?,
+        disputed: moved(0, 0, sums.disputed)?,
+        fees: moved(0, 0, sums.fees)?,
+        claims: moved(0, 0, sums.claims)?,
+    })
 }
 
 // Whether all totals and counts are in range.

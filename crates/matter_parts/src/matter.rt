@@ -3,13 +3,13 @@
 ghost use Rattle.std.specs.Prelude.{◌≡◌, ℕ, ◌+◌, ◌<◌, ◌≤◌, ◌++◌, ◌∷◌, [], true, false, find, is_some, None, pos, nat_lt, IfSome, IfOk, OnOk, OnErr, MatchOption, ◌≢◌, ◌↔◌, All, IsTrue, IsOk, IfErr, ◌&&◌, not};
 ghost use Rattle.std.specs.Option.{option_copied};
 ghost use Rattle.matter_rows.specs.Rows.{Rows, is_purged, is_gone, unopened, role_in, last_of, closed_on, next_number, seats_with, seats_without, has_other_lawyer, is_number, seen_on, closed_head, cleared_head, entry_amount};
-ghost use Rattle.matter_rows.specs.Shares.{number_or_none, fund_no};
+ghost use Rattle.matter_rows.specs.Shares.{number_or_none};
 ghost use Rattle.matter_rows.specs.declared.limits.TheConstants.{MAX_TOTAL};
 ghost use Rattle.matter_rows.specs.Sound.{Sound, AreInOrder};
-ghost use Rattle.matter_rows.specs.Balances.{fund_left, exceeds};
+ghost use Rattle.matter_rows.specs.Balances.{exceeds};
 ghost use Rattle.matter_parts.specs.NamedEntries.{has_number};
-ghost use Rattle.matter_parts.specs.Parts.{Part, no_figures, IsPart, IsWhole, HoldsOn, kept_at, is_held, is_named, named_part, target_by, AreSmall, AreInRange, WholeHoldsAll, is_held_or_none, left_kept, AreEmptyIfClosed};
-ghost use Rattle.matter_parts.specs.Changes.{IsChange, AreSmallTotals, changed, last_after};
+ghost use Rattle.matter_parts.specs.Parts.{Part, no_figures, IsPart, IsWhole, HoldsOn, kept_at, is_held, is_named, named_part, target_by, AreSmall, AreInRange, WholeHoldsAll, is_held_or_none, AreEmptyIfClosed};
+ghost use Rattle.matter_parts.specs.Changes.{IsChange, AreSmallTotals, changed};
 ghost use Rattle.matter_parts.specs.Applied.{IsWritten};
 
 use crate::audit::is_empty_if_closed;
@@ -21,7 +21,7 @@ use crate::kept::{
 };
 use crate::named_entries::NamedEntries;
 use matter_rows::{
-    Entry, Fund, Head, Holder, Role, Seat, add_seat, are_in_form, are_in_order, clear_on, close_on,
+    Entry, Head, Holder, Role, Seat, add_seat, are_in_form, are_in_order, clear_on, close_on,
     drop_seat, has_other_lawyer, head_copied, role_of, seats_copied, see_on,
 };
 use std::alloc::{AllocError, Global};
@@ -252,26 +252,6 @@ impl Matter {
         }
     }
 
-    /// Returns the last day after an edit that was asked for on `day`.
-    pub fn last_after(&self, edit: &Edit, day: Day) -> Day
-        ensures { result ≡ last_after self.now.head edit.now day }
-    {
-        match (&self.head, edit) {
-            (Some(head), Edit::Nothing) => head.last,
-            (None, _) => day,
-            (
-                Some(_),
-                Edit::Open(_)
-                | Edit::Seat(_)
-                | Edit::Unseat(_)
-                | Edit::Close(_)
-                | Edit::Clear(_)
-                | Edit::Append(_)
-                | Edit::Exchange(_),
-            ) => day,
-        }
-    }
-
     /// Returns the number of the next entry; `None` after 9999.
     pub fn next_number(&self) -> Option<EntryNo>
         ensures { result ≡ next_number self.now.figures.entries }
@@ -465,20 +445,6 @@ impl Matter {
         match number {
             None => found(&self.kept, 0),
             Some(number) => found(&self.kept, number.get()),
-        }
-    }
-
-    /// Returns what is left of a fund, in cents.
-    pub fn left_of_fund(&self, fund: Fund) -> u64
-        ensures { pos result ≡ fund_left fund (pos self.now.figures.available)
-            (left_kept (kept_at self.now (fund_no fund))) }
-    {
-        match fund {
-            Fund::General => self.figures().available,
-            Fund::Fee(number) | Fund::Claim(number) => match self.find(number) {
-                None => 0,
-                Some(kept) => kept.left,
-            },
         }
     }
 

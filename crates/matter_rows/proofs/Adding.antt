@@ -1,5 +1,5 @@
 -- Sums that are added up entry by entry, and stay in range.
-use Rattle.matter_rows.proofs.Names.{◌≡◌, ℕ, ◌+◌, ◌*◌, ◌<◌, ◌≤◌, List, [], ◌∷◌, ◌++◌, take, length, get_or, refl, ap, sym, ◌∙◌, arith, subst, ℤ, pos, ◌+ℤ◌, ◌≤ℤ◌, FitsSigned, w64, to_z, of_z, ints, take_more, take_all, Entry, IsSmallShare, held_share, available_share, disputed_share, fee_share, claim_share, pending_share, IsSmallSum, AreSmallSums, total_of}
+use Rattle.matter_rows.proofs.Names.{◌≡◌, ℕ, ◌+◌, ◌*◌, ◌<◌, ◌≤◌, List, take, length, get_or, refl, ap, ◌∙◌, arith, subst, ℤ, pos, ◌+ℤ◌, ◌≤ℤ◌, FitsSigned, w64, to_z, of_z, ints, take_more, take_all, Entry, IsSmallShare, held_share, available_share, disputed_share, fee_share, claim_share, pending_share, IsSmallSum, AreSmallSums, total_of}
 use Rattle.matter_rows.specs.declared.shares.Shares.{Shares}
 use Rattle.matter_rows.proofs.Sums.{total-append}
 
@@ -17,13 +17,7 @@ pub start : (f : Entry → ℤ) (es : List Entry) → IsSumTo f es 0 (pos 0)
 start f es = record { sum = refl; small = record { low = omega (arith, ints); high = omega (arith, ints) } }
 
 pub more : (f : Entry → ℤ) (es : List Entry) (i : ℕ) (e : Entry) (z w : ℤ) → IsSumTo f es i z → i < length es → e ≡ get_or es i e → IsSmallShare (f e) → w ≡ z +ℤ f e → IsSumTo f es (i + 1) w
-more f es i e z w so inside at small is =
-    let next : take (i + 1) es ≡ take i es ++ e ∷ [] = take_more es i e inside ∙ ap (λ x. take i es ++ x ∷ []) (sym at) in
-    let total : total_of f (take (i + 1) es) ≡ total_of f (take i es) +ℤ f e = ap (total_of f) next ∙ total-append f (take i es) e in
-    record {
-      sum = omega (arith, ints, is, so.sum, total);
-      small = record { low = omega (arith, ints, is, so.small.low, small.low); high = omega (arith, ints, is, so.small.high, small.high) };
-    }
+more f es i e z w so inside at small is = grind (arith, ints, (take_more es i e inside), (total-append f (take i es) e))
 
 -- each total of the first i entries
 pub record AreSumsTo (es : List Entry) (i : ℕ) (s : Shares) : Type 0 where
@@ -53,11 +47,4 @@ pub small-sum : (f : Entry → ℤ) (es : List Entry) (i : ℕ) (z : ℤ) → Is
 small-sum f es i z so end few = record { low = omega (arith, ints, so.small.low, end, few); high = omega (arith, ints, so.small.high, end, few) }
 
 pub small-sums : (es : List Entry) (i : ℕ) (s : Shares) → AreSumsTo es i s → i ≤ length es → length es ≤ 9_999 → AreSmallSums s
-small-sums es i s so end few = record {
-  held = small-sum held_share es i s.held so.held end few;
-  available = small-sum available_share es i s.available so.available end few;
-  disputed = small-sum disputed_share es i s.disputed so.disputed end few;
-  fees = small-sum fee_share es i s.fees so.fees end few;
-  claims = small-sum claim_share es i s.claims so.claims end few;
-  pending = small-sum pending_share es i s.pending so.pending end few;
-}
+small-sums es i s so end few = grind (arith, ints, small-sum)

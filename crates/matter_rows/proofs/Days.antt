@@ -1,10 +1,8 @@
 -- The days of sound rows, after an entry is added or exchanged.
-use Rattle.matter_rows.proofs.Names.{AllByRecursion, ◌≡◌, ℕ, ◌-◌, ◌≤◌, true, false, cond, List, [], ◌∷◌, ◌++◌, map, refl, ap, sym, ◌∙◌, arith, subst, Option, Some, None, eqb, false≢true, Seat, Entry, entry_at, with_entry, book_day, as_made, days_of, IsBy, AreRising, IsRising, AreDated, IsAtRestIfClosed, IsBare}
+use Rattle.matter_rows.proofs.Names.{AllByRecursion, ◌≡◌, ℕ, ◌-◌, ◌≤◌, List, [], ◌∷◌, ◌++◌, map, refl, arith, Option, Some, None, eqb, false≢true, Seat, Entry, entry_at, with_entry, book_day, as_made, days_of, IsBy, AreRising, IsRising, AreDated, IsAtRestIfClosed, IsBare}
 use Rattle.std.specs.Prelude.{is_some}
 use Rattle.matter_rows.specs.declared.head.Head.{Head}
 use Rattle.matter_rows.specs.declared.head.Holder.{Holder}
-use Rattle.matter_rows.specs.declared.head.Holder.TheVariants as holder
-use Rattle.matter_rows.specs.declared.entry.Entry.TheVariants as entry
 use Rattle.matter_rows.proofs.Entries.{all-at, all-append, all-with}
 use Rattle.matter_rows.proofs.Exchange.{all-map}
 
@@ -22,10 +20,7 @@ unfolding days_of
 made-by day e h = h.0
 
 pub made-on : (e : Entry) → book_day (as_made e) ≡ book_day e
-made-on (entry.Deposit d) = refl
-made-on (entry.Payment p) = refl
-made-on (entry.Fee f) = refl
-made-on (entry.Claim c) = refl
+made-on e = grind (arith)
 
 made-append : (from last : ℕ) (es : List Entry) (x : Entry) → AreRising from (map book_day es) → AllByRecursion (IsBy last) es → from ≤ last → last ≤ book_day x → AreRising from (map book_day (es ++ x ∷ []))
 made-append from last [] x up by before after = (omega (arith, before, after), tt)
@@ -34,11 +29,7 @@ made-append from last (e ∷ es) x up by before after = (up.0, made-append (book
 -- what is the same of the exchanged entry is the same of all
 pub map-with : {B : Type 0} (f : Entry → B) (es : List Entry) (n : ℕ) (old x : Entry) → entry_at es n ≡ Some old → f x ≡ f old → map f (with_entry es n x) ≡ map f es
 map-with f [] n old x at same = refl
-map-with f (e ∷ es) n old x at same =
-    elim (eqb n 1) as (λ b. cond b (Some e) (entry_at es (n - 1)) ≡ Some old → map f (cond b (x ∷ es) (e ∷ with_entry es (n - 1) x)) ≡ map f (e ∷ es)) [
-      | true ↦ λ g. let is : e ≡ old = cc in ap (λ y. y ∷ map f es) (same ∙ ap f (sym is))
-      | false ↦ λ g. ap (λ ys. f e ∷ ys) (map-with f es (n - 1) old x g same)
-    ] at
+map-with f (e ∷ es) n old x at same = grind (arith, eqb, (map-with f es (n - 1) old x))
 
 all-by-later : (a b : ℕ) (es : List Entry) → a ≤ b → AllByRecursion (IsBy a) es → AllByRecursion (IsBy b) es
 all-by-later a b es le h = all-map (IsBy a) (IsBy b) es (λ e by. by-later a b e le by) h
@@ -46,34 +37,13 @@ all-by-later a b es le h = all-map (IsBy a) (IsBy b) es (λ e by. by-later a b e
 -- The last day is a later one.
 
 pub dated-later : (h : Head) (es : List Entry) (last : ℕ) → AreDated h es → h.last ≤ last → AreDated (record h { last = last }) es
-dated-later h es last d later = record {
-  opened = let o = d.opened in omega (arith, o, later);
-  by_last = all-by-later h.last last es later d.by_last;
-  made = d.made;
-  changed = d.changed;
-}
+dated-later h es last d later = grind (arith, all-by-later)
 
 pub dated-append : (h : Head) (es : List Entry) (x : Entry) (last : ℕ) → AreDated h es → h.last ≤ book_day x → IsBy last x → IsRising x → AreDated (record h { last = last }) (es ++ x ∷ [])
-dated-append h es x last d from by rising =
-    let later : h.last ≤ last = let made = made-by last x by in omega (arith, from, made) in
-    record {
-      opened = let o = d.opened in omega (arith, o, later);
-      by_last = all-append (IsBy last) es x (all-by-later h.last last es later d.by_last) by;
-      made = made-append h.opened h.last es x d.made d.by_last d.opened from;
-      changed = all-append IsRising es x d.changed rising;
-    }
+dated-append h es x last d from by rising = grind (arith, made-by, all-append, all-by-later, made-append)
 
 pub dated-with : (h : Head) (es : List Entry) (n : ℕ) (old x : Entry) (last : ℕ) → AreDated h es → entry_at es n ≡ Some old → as_made x ≡ as_made old → h.last ≤ last → IsBy last x → IsRising x → AreDated (record h { last = last }) (with_entry es n x)
-dated-with h es n old x last d at same later by rising =
-    let day : book_day x ≡ book_day old = sym (made-on x) ∙ ap book_day same ∙ made-on old in
-    let days : map book_day (with_entry es n x) ≡ map book_day es = map-with book_day es n old x at day in
-    let P : List ℕ → Type 0 = λ ds. AreRising h.opened ds in
-    record {
-      opened = let o = d.opened in omega (arith, o, later);
-      by_last = all-with (IsBy last) es n x (all-by-later h.last last es later d.by_last) by;
-      made = subst P (sym days) d.made;
-      changed = all-with IsRising es n x d.changed rising;
-    }
+dated-with h es n old x last d at same later by rising = grind (arith, made-on, map-with, all-with, all-by-later)
 
 -- the entry of a number was made by the last day
 pub made-before : (h : Head) (es : List Entry) (n : ℕ) (e : Entry) → AreDated h es → entry_at es n ≡ Some e → book_day e ≤ h.last
@@ -81,13 +51,11 @@ made-before h es n e d at = made-by h.last e (all-at (IsBy h.last) es n e d.by_l
 
 -- a matter that was not closed need not be at rest
 pub not-closed : (h : Head) (closed : Option ℕ) (es : List Entry) → closed ≡ None → IsAtRestIfClosed h closed es
-not-closed h None es is = tt
-not-closed h (Some day) es is = absurd (cc)
+not-closed h closed es is = grind (arith)
 
 -- a matter that is not closed was not purged
 pub unclosed-bare : (o : Holder) (closed after : Option ℕ) (old last : ℕ) (seats more : List Seat) (es fs : List Entry) → IsBare o closed old seats es → closed ≡ None → IsBare o after last more fs
-unclosed-bare (holder.Client c) closed after old last seats more es fs bare unclosed = tt
-unclosed-bare (holder.Purged day) closed after old last seats more es fs bare unclosed = absurd (false≢true (ap is_some (sym unclosed) ∙ bare.0))
+unclosed-bare o closed after old last seats more es fs bare unclosed = grind (arith, false≢true, is_some)
 
 pub not-bare : (o : Holder) (closed : Option ℕ) (old last : ℕ) (seats more : List Seat) (es fs : List Entry) → IsBare o closed old seats es → closed ≡ None → IsBare o closed last more fs
 not-bare o closed old last seats more es fs bare unclosed = unclosed-bare o closed closed old last seats more es fs bare unclosed

@@ -1,8 +1,6 @@
 -- What is left of all fees (or claims) together is a sum of one share per entry.
-use Rattle.matter_rows.proofs.Names.{AllByRecursion, zero, suc, ◌≡◌, ℕ, ◌+◌, ◌-◌, ◌<◌, ◌≤◌, ◌==◌, Bool, true, false, cond, List, [], ◌∷◌, refl, ap, sym, ◌∙◌, arith, ℤ, pos, ◌+ℤ◌, ◌-ℤ◌, Option, Some, None, eqb, ◌&&◌, ints, nat_tests, Entry, Fund, Against, total_of, left_of, lefts_from, passes, names, funds, is_against, is_fee, is_settled, is_general_claim, is_general, fees, claims, entry_at, draw, draw_on, target, worth, fee_share, claim_share, has_settled, on_fee, off_fee, paid, fund_no, against_no, from_fee, from_claim, on_general, to_claimant}
+use Rattle.matter_rows.proofs.Names.{AllByRecursion, zero, suc, ◌≡◌, ℕ, ◌+◌, ◌-◌, ◌<◌, ◌≤◌, ◌==◌, Bool, true, false, cond, List, [], ◌∷◌, refl, sym, ◌∙◌, arith, ℤ, pos, ◌+ℤ◌, ◌-ℤ◌, Option, eqb, ints, nat_tests, Entry, Fund, Against, total_of, left_of, lefts_from, passes, names, funds, is_against, is_fee, is_settled, is_general_claim, is_general, fees, claims, entry_at, draw, draw_on, target, worth, fee_share, claim_share, has_settled, on_fee, off_fee, paid, fund_no, against_no, from_fee, from_claim, on_general, to_claimant}
 use Rattle.matter_rows.specs.declared.entry.Entry.TheVariants as entry
-use Rattle.matter_rows.specs.declared.payment.Fund.TheVariants as fund
-use Rattle.matter_rows.specs.declared.claim.Against.TheVariants as against
 use Rattle.matter_rows.proofs.Sums.{total-add, total-zero}
 
 -- is entry t, in the list from number n on, of this kind
@@ -34,32 +32,17 @@ lefts-split kind es n (e ∷ part) =
 
 kind_at-below : (kind : Entry → Bool) (n : ℕ) (es : List Entry) (t : ℕ) → t < n → kind_at kind n es t ≡ false
 kind_at-below kind n [] t h = refl
-kind_at-below kind n (e ∷ es) t h =
-    let other : eqb t n ≡ false = grind (arith, nat_tests) in
-    rw other (kind_at-below kind (n + 1) es t (omega arith))
+kind_at-below kind n (e ∷ es) t h = grind (arith, ints, nat_tests, eqb, (kind_at-below kind (n + 1) es t))
 
 picked-is : (kind : Entry → Bool) (n : ℕ) (es : List Entry) (r : Entry) → picked kind n es r ≡ cond (kind_at kind n es (target r)) (draw r) (pos 0)
 picked-is kind n [] r = refl
 picked-is kind n (e ∷ es) r =
-    let more = picked-is kind (n + 1) es r in
-    let below : target r ≡ n → kind_at kind (n + 1) es (target r) ≡ false = λ g. kind_at-below kind (n + 1) es (target r) (omega arith) in
-    let same : eqb (target r) n ≡ true → target r ≡ n = λ g. grind (arith, nat_tests) in
-    elim (eqb (target r) n) as (λ b. (b ≡ true → target r ≡ n) → cond (kind e) (cond b (draw r) (pos 0)) (pos 0) +ℤ picked kind (n + 1) es r ≡ cond (cond b (kind e) (kind_at kind (n + 1) es (target r))) (draw r) (pos 0)) [
-      | true ↦ λ s. let gone : picked kind (n + 1) es r ≡ pos 0 = rw (below (s refl)) at more in omega (arith, ints, gone)
-      | false ↦ λ s. omega (arith, ints, more, cond-same (kind e) (pos 0))
-    ] same
+    grind (arith, ints, nat_tests, kind_at-below, eqb, cond-same, (picked-is kind (n + 1) es r))
 
 -- the kind of an entry, by its number
 kind_at-is : (kind : Entry → Bool) (n : ℕ) (es : List Entry) (t : ℕ) → n ≤ t → kind_at kind n es t ≡ passes kind (entry_at es (t + 1 - n))
 kind_at-is kind n [] t h = refl
-kind_at-is kind n (e ∷ es) t h =
-    elim (eqb t n) as (λ b. b ≡ eqb t n → cond b (kind e) (kind_at kind (n + 1) es t) ≡ passes kind (cond (eqb (t + 1 - n) 1) (Some e) (entry_at es (t + 1 - n - 1)))) [
-      | true ↦ λ s. let one : eqb (t + 1 - n) 1 ≡ true = grind (arith, nat_tests) in rw one refl
-      | false ↦ λ s. let apart : eqb (t + 1 - n) 1 ≡ false = grind (arith, nat_tests) in
-          let later : n + 1 ≤ t = grind (arith, nat_tests) in
-          let same : t + 1 - (n + 1) ≡ t + 1 - n - 1 = omega arith in
-          rw apart (kind_at-is kind (n + 1) es t later ∙ ap (λ i. passes kind (entry_at es i)) same)
-    ] refl
+kind_at-is kind n (e ∷ es) t h = grind (arith, ints, nat_tests, eqb, (kind_at-is kind (n + 1) es t))
 
 -- sums of shares that agree on each entry of the list
 pub total-agree : (f g : Entry → ℤ) (es : List Entry) → AllByRecursion (λ e. f e ≡ g e) es → total_of f es ≡ total_of g es
@@ -77,50 +60,29 @@ none-at-zero kind (e ∷ es) = none-at-zero kind es
 
 at-one : (kind : Entry → Bool) (es : List Entry) (t : ℕ) → kind_at kind 1 es t ≡ passes kind (entry_at es t)
 at-one kind es zero = kind_at-below kind 1 es 0 (omega arith) ∙ sym (none-at-zero kind es)
-at-one kind es (suc t) =
-    let e : suc t + 1 - 1 ≡ suc t = omega arith in
-    kind_at-is kind 1 es (suc t) (omega arith) ∙ ap (λ i. passes kind (entry_at es i)) e
+at-one kind es (suc t) = grind (arith, ints, nat_tests, kind_at-is)
 
 -- the kinds exclude each other
 settled-no-fee : (o : Option Entry) → passes is_settled o ≡ true → passes is_fee o ≡ false
-settled-no-fee None h = cc
-settled-no-fee (Some (entry.Deposit d)) h = refl
-settled-no-fee (Some (entry.Payment p)) h = refl
-settled-no-fee (Some (entry.Fee f)) h = cc
-settled-no-fee (Some (entry.Claim c)) h = refl
+settled-no-fee o h = grind (arith, ints, nat_tests)
 
 settled-general : (o : Option Entry) → passes is_settled o ≡ true → passes is_general_claim o ≡ true
-settled-general None h = h
-settled-general (Some (entry.Deposit d)) h = h
-settled-general (Some (entry.Payment p)) h = h
-settled-general (Some (entry.Fee f)) h = h
-settled-general (Some (entry.Claim c)) h =
-    elim (is_general c.against) as (λ b. (b && has_settled c.state) ≡ true → b ≡ true) [ true ↦ λ _. refl | false ↦ λ g. g ] h
+settled-general o h = grind (arith, ints, nat_tests, has_settled)
 
 fee-no-claim : (o : Option Entry) → passes is_fee o ≡ true → passes is_general_claim o ≡ false
-fee-no-claim None h = refl
-fee-no-claim (Some (entry.Deposit d)) h = refl
-fee-no-claim (Some (entry.Payment p)) h = refl
-fee-no-claim (Some (entry.Fee f)) h = refl
-fee-no-claim (Some (entry.Claim c)) h = cc
+fee-no-claim o h = grind (arith, ints, nat_tests)
 
 fee-fund : (es : List Entry) (f : Fund) (z : ℤ) → funds es f ≡ true → cond (passes is_fee (entry_at es (fund_no f))) z (pos 0) ≡ from_fee f z
-fee-fund es fund.General z h = rw (none-at-zero is_fee es) refl
-fee-fund es (fund.Fee k) z h = rw h refl
-fee-fund es (fund.Claim k) z h = rw (settled-no-fee (entry_at es k) h) refl
+fee-fund es f z h = grind (arith, ints, nat_tests, none-at-zero, settled-no-fee)
 
 claim-fund : (es : List Entry) (f : Fund) (z : ℤ) → funds es f ≡ true → cond (passes is_general_claim (entry_at es (fund_no f))) z (pos 0) ≡ from_claim f z
-claim-fund es fund.General z h = rw (none-at-zero is_general_claim es) refl
-claim-fund es (fund.Fee k) z h = rw (fee-no-claim (entry_at es k) h) refl
-claim-fund es (fund.Claim k) z h = rw (settled-general (entry_at es k) h) refl
+claim-fund es f z h = grind (arith, ints, nat_tests, none-at-zero, fee-no-claim, settled-general)
 
 fee-against : (es : List Entry) (a : Against) (z : ℤ) → is_against es a ≡ true → cond (passes is_fee (entry_at es (against_no a))) (on_fee a z) (pos 0) ≡ on_fee a z
-fee-against es (against.General c) z h = cond-same (passes is_fee (entry_at es 0)) (pos 0)
-fee-against es (against.Fee k) z h = rw h refl
+fee-against es a z h = grind (arith, ints, nat_tests, cond-same)
 
 claim-against : (es : List Entry) (a : Against) (z : ℤ) → is_against es a ≡ true → cond (passes is_general_claim (entry_at es (against_no a))) (on_fee a z) (pos 0) ≡ pos 0
-claim-against es (against.General c) z h = cond-same (passes is_general_claim (entry_at es 0)) (pos 0)
-claim-against es (against.Fee k) z h = rw (fee-no-claim (entry_at es k) h) refl
+claim-against es a z h = grind (arith, ints, nat_tests, cond-same, fee-no-claim)
 
 -- what an entry draws on the fees, and on the claims on the general fund
 abbrev fee_draw : Entry → ℤ
@@ -137,43 +99,28 @@ claim_draw (entry.Claim c) = pos 0
 
 fee-drawn : (es : List Entry) (e : Entry) → names es e ≡ true → cond (passes is_fee (entry_at es (target e))) (draw e) (pos 0) ≡ fee_draw e
 unfolding names draw
-fee-drawn es (entry.Deposit d) h = cond-same (passes is_fee (entry_at es 0)) (pos 0)
-fee-drawn es (entry.Payment p) h = fee-fund es p.fund (paid p.state p.amount) h
-fee-drawn es (entry.Fee f) h = cond-same (passes is_fee (entry_at es 0)) (pos 0)
-fee-drawn es (entry.Claim c) h = fee-against es c.against (off_fee c.state c.amount) h
+fee-drawn es e h = grind (arith, ints, nat_tests, cond-same, fee-fund, paid, fee-against, off_fee)
 
 claim-drawn : (es : List Entry) (e : Entry) → names es e ≡ true → cond (passes is_general_claim (entry_at es (target e))) (draw e) (pos 0) ≡ claim_draw e
 unfolding names draw
-claim-drawn es (entry.Deposit d) h = cond-same (passes is_general_claim (entry_at es 0)) (pos 0)
-claim-drawn es (entry.Payment p) h = claim-fund es p.fund (paid p.state p.amount) h
-claim-drawn es (entry.Fee f) h = cond-same (passes is_general_claim (entry_at es 0)) (pos 0)
-claim-drawn es (entry.Claim c) h = claim-against es c.against (off_fee c.state c.amount) h
+claim-drawn es e h = grind (arith, ints, nat_tests, cond-same, claim-fund, paid, claim-against, off_fee)
 
 fee-picked : (es : List Entry) (e : Entry) → names es e ≡ true → picked is_fee 1 es e ≡ fee_draw e
-fee-picked es e h =
-    picked-is is_fee 1 es e ∙ ap (λ b. cond b (draw e) (pos 0)) (at-one is_fee es (target e)) ∙ fee-drawn es e h
+fee-picked es e h = grind (arith, ints, nat_tests, picked-is, at-one, fee-drawn)
 
 claim-picked : (es : List Entry) (e : Entry) → names es e ≡ true → picked is_general_claim 1 es e ≡ claim_draw e
-claim-picked es e h =
-    picked-is is_general_claim 1 es e ∙ ap (λ b. cond b (draw e) (pos 0)) (at-one is_general_claim es (target e)) ∙ claim-drawn es e h
+claim-picked es e h = grind (arith, ints, nat_tests, picked-is, at-one, claim-drawn)
 
 fee_share-is : (e : Entry) → fee_share e +ℤ fee_draw e ≡ worth_if is_fee e
 unfolding fee_share worth
-fee_share-is (entry.Deposit d) = refl
-fee_share-is (entry.Payment p) = omega (arith, ints)
-fee_share-is (entry.Fee f) = omega (arith, ints)
-fee_share-is (entry.Claim c) = omega (arith, ints)
+fee_share-is e = grind (arith, ints, nat_tests)
 
 general-worth : (a : Against) (z : ℤ) → on_general a z ≡ cond (is_general a) (on_general a z) (pos 0)
-general-worth (against.General c) z = refl
-general-worth (against.Fee k) z = refl
+general-worth a z = grind (arith, ints, nat_tests)
 
 claim_share-is : (e : Entry) → claim_share e +ℤ claim_draw e ≡ worth_if is_general_claim e
 unfolding claim_share worth
-claim_share-is (entry.Deposit d) = refl
-claim_share-is (entry.Payment p) = omega (arith, ints)
-claim_share-is (entry.Fee f) = refl
-claim_share-is (entry.Claim c) = omega (arith, ints, general-worth c.against (to_claimant c.state c.amount))
+claim_share-is e = grind (arith, ints, nat_tests, general-worth, to_claimant)
 
 shares-less : (f g : Entry → ℤ) (h : Entry → ℤ) (es : List Entry) → ((e : Entry) → f e +ℤ g e ≡ h e) → total_of f es ≡ total_of h es -ℤ total_of g es
 shares-less f g h [] p = refl

@@ -1,8 +1,5 @@
 -- Sound entries stay sound where an entry is added or exchanged.
-use Rattle.matter_rows.proofs.Names.{AllByRecursion, ◌≡◌, ℕ, ◌+◌, ◌<◌, ◌≢◌, Bool, true, false, cond, List, [], ◌∷◌, ◌++◌, length, refl, ap, sym, ◌∙◌, arith, subst, Some, None, eqb, length-append, ℤ, pos, ◌+ℤ◌, ◌-ℤ◌, ◌≤ℤ◌, ints, nat_tests, Entry, Fund, Against, total_of, left_of, passes, names, funds, is_against, is_fee, is_settled, available, entry_at, with_entry, draw_on, target, worth, available_share, fund_no, against_no, AreBacked, IsRanged}
-use Rattle.matter_rows.specs.declared.entry.Entry.TheVariants as entry
-use Rattle.matter_rows.specs.declared.payment.Fund.TheVariants as fund
-use Rattle.matter_rows.specs.declared.claim.Against.TheVariants as against
+use Rattle.matter_rows.proofs.Names.{AllByRecursion, ◌≡◌, ℕ, ◌+◌, ◌<◌, ◌≢◌, Bool, true, false, cond, List, [], ◌∷◌, ◌++◌, length, refl, ap, sym, ◌∙◌, arith, subst, Some, eqb, length-append, ℤ, pos, ◌+ℤ◌, ◌-ℤ◌, ◌≤ℤ◌, ints, nat_tests, Entry, Fund, Against, total_of, left_of, passes, names, funds, is_against, is_fee, is_settled, available, entry_at, with_entry, draw_on, target, worth, available_share, fund_no, against_no, AreBacked, IsRanged}
 use Rattle.matter_rows.proofs.Sums.{total-append, total-with}
 use Rattle.matter_rows.proofs.Exchange.{all-map}
 use Rattle.matter_rows.proofs.Entries.{entry_at-append, entry_at-with, length-with, none-past, all-append, all-with}
@@ -10,20 +7,14 @@ use Rattle.matter_rows.proofs.Entries.{entry_at-append, entry_at-with, length-wi
 -- Nothing is drawn on what is neither a fee nor a settled claim.
 
 fund-apart : (es : List Entry) (f : Fund) (n : ℕ) → 0 < n → passes is_fee (entry_at es n) ≡ false → passes is_settled (entry_at es n) ≡ false → funds es f ≡ true → fund_no f ≢ n
-fund-apart es fund.General n p a b h = λ q. absurd (omega arith)
-fund-apart es (fund.Fee k) n p a b h = λ q. let g : passes is_fee (entry_at es k) ≡ false = rw q a in cc
-fund-apart es (fund.Claim k) n p a b h = λ q. let g : passes is_settled (entry_at es k) ≡ false = rw q b in cc
+fund-apart es f n p a b h = grind (arith, ints, nat_tests)
 
 against-apart : (es : List Entry) (a : Against) (n : ℕ) → 0 < n → passes is_fee (entry_at es n) ≡ false → is_against es a ≡ true → against_no a ≢ n
-against-apart es (against.General c) n p a h = λ q. absurd (omega arith)
-against-apart es (against.Fee k) n p a h = λ q. let g : passes is_fee (entry_at es k) ≡ false = rw q a in cc
+against-apart es a n p h1 h = grind (arith, ints, nat_tests)
 
 pub target-apart : (es : List Entry) (n : ℕ) → 0 < n → passes is_fee (entry_at es n) ≡ false → passes is_settled (entry_at es n) ≡ false → (r : Entry) → names es r ≡ true → target r ≢ n
 unfolding names
-target-apart es n p a b (entry.Deposit d) h = λ q. absurd (omega arith)
-target-apart es n p a b (entry.Payment d) h = fund-apart es d.fund n p a b h
-target-apart es n p a b (entry.Fee d) h = λ q. absurd (omega arith)
-target-apart es n p a b (entry.Claim d) h = against-apart es d.against n p a h
+target-apart es n p a b r h = grind (arith, ints, nat_tests, fund-apart, against-apart)
 
 -- nothing is drawn on another number than the target
 pub draw-apart : (n : ℕ) (r : Entry) → target r ≢ n → draw_on n r ≡ pos 0
@@ -38,8 +29,7 @@ total-none f (e ∷ es) h = omega (arith, ints, total-none f es h.1, h.0)
 
 -- what is drawn there by all entries together is zero
 pub total-undrawn : (es : List Entry) (n : ℕ) → AllByRecursion (λ e. names es e ≡ true) es → 0 < n → passes is_fee (entry_at es n) ≡ false → passes is_settled (entry_at es n) ≡ false → total_of (draw_on n) es ≡ pos 0
-total-undrawn es n h p a b =
-    total-none (draw_on n) es (all-map (λ e. names es e ≡ true) (λ e. draw_on n e ≡ pos 0) es (undrawn es n p a b) h)
+total-undrawn es n h p a b = grind (arith, ints, nat_tests, total-none, all-map, undrawn)
 
 -- What is named stays named.
 
@@ -49,39 +39,23 @@ record Stays (es fs : List Entry) : Type 0 where
   settled : (k : ℕ) → passes is_settled (entry_at es k) ≡ true → passes is_settled (entry_at fs k) ≡ true
 
 funds-stay : (es fs : List Entry) (f : Fund) → Stays es fs → funds es f ≡ true → funds fs f ≡ true
-funds-stay es fs fund.General s h = refl
-funds-stay es fs (fund.Fee k) s h = s.fee k h
-funds-stay es fs (fund.Claim k) s h = s.settled k h
+funds-stay es fs f s h = grind (arith, ints, nat_tests)
 
 against-stays : (es fs : List Entry) (a : Against) → Stays es fs → is_against es a ≡ true → is_against fs a ≡ true
-against-stays es fs (against.General c) s h = refl
-against-stays es fs (against.Fee k) s h = s.fee k h
+against-stays es fs a s h = grind (arith, ints, nat_tests)
 
 names-stay : (es fs : List Entry) → Stays es fs → (e : Entry) → names es e ≡ true → names fs e ≡ true
 unfolding names
-names-stay es fs s (entry.Deposit d) h = refl
-names-stay es fs s (entry.Payment p) h = funds-stay es fs p.fund s h
-names-stay es fs s (entry.Fee f) h = refl
-names-stay es fs s (entry.Claim c) h = against-stays es fs c.against s h
+names-stay es fs s e h = grind (arith, ints, nat_tests, funds-stay, against-stays)
 
 passes-append : (kind : Entry → Bool) (es : List Entry) (x : Entry) (k : ℕ) → passes kind (entry_at es k) ≡ true → passes kind (entry_at (es ++ x ∷ []) k) ≡ true
-passes-append kind es x k h =
-    rw (entry_at-append es x k)
-    (elim (eqb k (length es + 1)) as (λ b. eqb k (length es + 1) ≡ b → passes kind (cond b (Some x) (entry_at es k)) ≡ true) [
-      | true ↦ λ s. let past : length es < k = grind (arith, nat_tests) in let none = none-past es k past in let g : passes kind None ≡ true = rw none at h in cc
-      | false ↦ λ s. h
-    ] refl)
+passes-append kind es x k h = grind (arith, ints, nat_tests, entry_at-append, eqb, none-past)
 
 stays-append : (es : List Entry) (x : Entry) → Stays es (es ++ x ∷ [])
 stays-append es x = record { fee = passes-append is_fee es x; settled = passes-append is_settled es x }
 
 passes-with : (kind : Entry → Bool) (es : List Entry) (n : ℕ) (old new : Entry) → entry_at es n ≡ Some old → (kind old ≡ true → kind new ≡ true) → (k : ℕ) → passes kind (entry_at es k) ≡ true → passes kind (entry_at (with_entry es n new) k) ≡ true
-passes-with kind es n old new at keep k h =
-    rw (entry_at-with es n old new k at)
-    (elim (eqb k n) as (λ b. eqb k n ≡ b → passes kind (cond b (Some new) (entry_at es k)) ≡ true) [
-      | true ↦ λ s. let same : k ≡ n = grind (arith, nat_tests) in let was : entry_at es k ≡ Some old = rw same at in let g : passes kind (Some old) ≡ true = rw was at h in keep g
-      | false ↦ λ s. h
-    ] refl)
+passes-with kind es n old new at keep k h = grind (arith, ints, nat_tests, entry_at-with, eqb)
 
 -- What is left after an entry is added.
 

@@ -1,11 +1,7 @@
 -- What is left of a fee or a claim, as sums over the entries.
-use Rattle.matter_rows.proofs.Names.{AllByRecursion, filter, ◌≡◌, ℕ, ◌<◌, not, ◌&&◌, ◌==◌, Bool, true, false, cond, List, [], ◌∷◌, map, sum, refl, ap, sym, ◌∙◌, subst, arith, ℤ, pos, ◌+ℤ◌, ◌-ℤ◌, Some, None, eqb, ints, false≢true, nat_tests, Fund, PaymentState, Against, ClaimState, Entry, entry_at, entry_amount, draw, draw_on, worth, has_settled, on_fee, on_general, off_fee, paid, fund_no, against_no, to_claimant, total_of, names, funds, is_against, is_fee, is_settled, is_general, passes, part_of}
+use Rattle.matter_rows.proofs.Names.{AllByRecursion, filter, ◌≡◌, ℕ, ◌<◌, not, ◌&&◌, ◌==◌, Bool, true, false, cond, List, [], ◌∷◌, map, sum, refl, ap, arith, ℤ, pos, ◌+ℤ◌, ◌-ℤ◌, Some, None, eqb, ints, false≢true, nat_tests, Fund, PaymentState, Against, ClaimState, Entry, entry_at, entry_amount, draw, draw_on, worth, has_settled, on_fee, on_general, off_fee, paid, fund_no, against_no, to_claimant, total_of, names, funds, is_against, is_fee, is_settled, is_general, passes, part_of}
 use Rattle.std.proofs.lemmas.List.Sums.{sum_by-cons}
-use Rattle.matter_rows.specs.declared.payment.Fund.TheVariants as fund
-use Rattle.matter_rows.specs.declared.payment.PaymentState.TheVariants as payment
 use Rattle.matter_rows.specs.declared.claim.Against.TheVariants as against
-use Rattle.matter_rows.specs.declared.claim.ClaimState.TheVariants as claim
-use Rattle.matter_rows.specs.declared.entry.Entry.TheVariants as entry
 use Rattle.matter_rows.specs.LeftLaws.{is_paid, is_fee_no, is_claim_no, is_paid_from_fee, is_paid_from_claim, is_on_fee_no, is_open_on, is_settled_on, clients_part, amounts_of, parts_of, FeeLeft, claim_rest, ClaimLeft}
 use Rattle.matter_rows.proofs.Entries.{within}
 use Rattle.matter_rows.proofs.Exchange.{total-agree, all-map}
@@ -32,33 +28,17 @@ none-there : (k : ℕ) (z : ℤ) → 0 < k → cond (0 == k) z (pos 0) ≡ pos 0
 none-there k z some = let no : eqb 0 k ≡ false = grind (arith, nat_tests) in rw no refl
 
 cond-zero : (b : Bool) → cond b (pos 0) (pos 0) ≡ pos 0
-cond-zero true = refl
-cond-zero false = refl
+cond-zero b = grind (arith, ints, nat_tests)
 
 -- what is drawn on an entry that is not of the kind that is named is nothing
 named-apart : (kind : Entry → Bool) (es : List Entry) (j k : ℕ) (z : ℤ) → passes kind (entry_at es k) ≡ false → passes kind (entry_at es j) ≡ true → cond (j == k) z (pos 0) ≡ pos 0
-named-apart kind es j k z other named =
-    elim (eqb j k) as (λ b. eqb j k ≡ b → cond b z (pos 0) ≡ pos 0) [
-      | true ↦ λ s.
-          let same : j ≡ k = grind (arith, nat_tests) in
-          let P : ℕ → Type 0 = λ i. passes kind (entry_at es i) ≡ true in
-          absurd (false≢true (sym other ∙ subst P same named))
-      | false ↦ λ s. refl
-    ] refl
+named-apart kind es j k z other named = grind (arith, ints, nat_tests, eqb, false≢true)
 
 paid-counts : (b : Bool) (s : PaymentState) (a : ℕ) → cond b (paid s a) (pos 0) ≡ pos (cond (b && is_paid s) a 0)
-paid-counts false s a = refl
-paid-counts true payment.Proposed a = refl
-paid-counts true payment.Declined a = refl
-paid-counts true (payment.Issued day) a = refl
-paid-counts true (payment.Cleared c) a = refl
-paid-counts true (payment.Voided v) a = refl
+paid-counts b s a = grind (arith, ints, nat_tests)
 
 claims-count : (b : Bool) (s : ClaimState) (a : ℕ) → cond b (off_fee s a) (pos 0) ≡ pos (cond (b && not (has_settled s)) a 0) +ℤ pos (cond (b && has_settled s) (part_of s) 0)
-claims-count false s a = refl
-claims-count true claim.Open a = refl
-claims-count true (claim.Offered part) a = refl
-claims-count true (claim.Settled t) a = refl
+claims-count b s a = grind (arith, ints, nat_tests)
 
 -- entry k is a fee
 record IsFeeAt (es : List Entry) (k : ℕ) : Type 0 where
@@ -66,23 +46,17 @@ record IsFeeAt (es : List Entry) (k : ℕ) : Type 0 where
   unsettled : passes is_settled (entry_at es k) ≡ false
 
 fee-paid : (es : List Entry) (k : ℕ) (f : Fund) (s : PaymentState) (a : ℕ) → IsFeeAt es k → funds es f ≡ true → cond (fund_no f == k) (paid s a) (pos 0) ≡ pos (cond (is_fee_no k f && is_paid s) a 0)
-fee-paid es k fund.General s a is named = none-there k (paid s a) is.some
-fee-paid es k (fund.Fee j) s a is named = paid-counts (j == k) s a
-fee-paid es k (fund.Claim j) s a is named = named-apart is_settled es j k (paid s a) is.unsettled named
+fee-paid es k f s a is named = grind (arith, ints, nat_tests, none-there, paid-counts, named-apart)
 
 fee-claimed : (k : ℕ) (on : Against) (s : ClaimState) (a : ℕ) → cond (against_no on == k) (on_fee on (off_fee s a)) (pos 0) ≡ pos (cond (is_on_fee_no k on && not (has_settled s)) a 0) +ℤ pos (cond (is_on_fee_no k on && has_settled s) (part_of s) 0)
-fee-claimed k (against.General who) s a = cond-zero (0 == k)
-fee-claimed k (against.Fee j) s a = claims-count (j == k) s a
+fee-claimed k on s a = grind (arith, ints, nat_tests, cond-zero, claims-count)
 
 abbrev fee_shares : ℕ → Entry → ℤ
 fee_shares k e = (picked (is_open_on k) entry_amount e +ℤ picked (is_settled_on k) clients_part e) +ℤ picked (is_paid_from_fee k) entry_amount e
 
 fee-drawn : (es : List Entry) (k : ℕ) → IsFeeAt es k → (e : Entry) → names es e ≡ true → draw_on k e ≡ fee_shares k e
 unfolding names draw
-fee-drawn es k is (entry.Deposit d) named = cond-zero (0 == k)
-fee-drawn es k is (entry.Payment p) named = let one = fee-paid es k p.fund p.state p.amount is named in omega (arith, ints, one)
-fee-drawn es k is (entry.Fee f) named = cond-zero (0 == k)
-fee-drawn es k is (entry.Claim c) named = let one = fee-claimed k c.against c.state c.amount in omega (arith, ints, one)
+fee-drawn es k is e named = grind (arith, ints, nat_tests, cond-zero, fee-paid, fee-claimed)
 
 fee-total : (es : List Entry) (k : ℕ) → IsFeeAt es k → AllByRecursion (λ e. names es e ≡ true) es → total_of (draw_on k) es ≡ (pos (amounts_of (is_open_on k) es) +ℤ pos (parts_of (is_settled_on k) es)) +ℤ pos (amounts_of (is_paid_from_fee k) es)
 fee-total es k is named =
@@ -99,11 +73,7 @@ fee-total es k is named =
 
 pub fee-left : FeeLeft
 unfolding worth
-fee-left rows k f s at =
-    let es = rows.entries in
-    let is : IsFeeAt es k = record { some = (within es k (entry.Fee f) at).0; unsettled = rw at refl } in
-    let drawn = fee-total es k is s.backed.named in
-    rw at (ap (λ (z : ℤ). Some z) (omega (arith, ints, drawn)))
+fee-left rows k f s at = grind (arith, ints, nat_tests, within, fee-total)
 
 -- What each entry draws on claim k.
 
@@ -112,35 +82,24 @@ record IsClaimAt (es : List Entry) (k : ℕ) : Type 0 where
   no_fee : passes is_fee (entry_at es k) ≡ false
 
 claim-paid : (es : List Entry) (k : ℕ) (f : Fund) (s : PaymentState) (a : ℕ) → IsClaimAt es k → funds es f ≡ true → cond (fund_no f == k) (paid s a) (pos 0) ≡ pos (cond (is_claim_no k f && is_paid s) a 0)
-claim-paid es k fund.General s a is named = none-there k (paid s a) is.some
-claim-paid es k (fund.Fee j) s a is named = named-apart is_fee es j k (paid s a) is.no_fee named
-claim-paid es k (fund.Claim j) s a is named = paid-counts (j == k) s a
+claim-paid es k f s a is named = grind (arith, ints, nat_tests, none-there, named-apart, paid-counts)
 
 claim-claimed : (es : List Entry) (k : ℕ) (on : Against) (z : ℤ) → IsClaimAt es k → is_against es on ≡ true → cond (against_no on == k) (on_fee on z) (pos 0) ≡ pos 0
-claim-claimed es k (against.General who) z is named = cond-zero (0 == k)
-claim-claimed es k (against.Fee j) z is named = named-apart is_fee es j k z is.no_fee named
+claim-claimed es k on z is named = grind (arith, ints, nat_tests, cond-zero, named-apart)
 
 claim-drawn : (es : List Entry) (k : ℕ) → IsClaimAt es k → (e : Entry) → names es e ≡ true → draw_on k e ≡ picked (is_paid_from_claim k) entry_amount e
 unfolding names draw
-claim-drawn es k is (entry.Deposit d) named = cond-zero (0 == k)
-claim-drawn es k is (entry.Payment p) named = claim-paid es k p.fund p.state p.amount is named
-claim-drawn es k is (entry.Fee f) named = cond-zero (0 == k)
-claim-drawn es k is (entry.Claim c) named = claim-claimed es k c.against (off_fee c.state c.amount) is named
+claim-drawn es k is e named = grind (arith, ints, nat_tests, cond-zero, claim-paid, claim-claimed)
 
 claim-total : (es : List Entry) (k : ℕ) → IsClaimAt es k → AllByRecursion (λ e. names es e ≡ true) es → total_of (draw_on k) es ≡ pos (amounts_of (is_paid_from_claim k) es)
-claim-total es k is named =
-    total-agree (draw_on k) (picked (is_paid_from_claim k) entry_amount) es (all-map (λ e. names es e ≡ true) (λ e. draw_on k e ≡ picked (is_paid_from_claim k) entry_amount e) es (claim-drawn es k is) named)
-    ∙ sym (sum-picked (is_paid_from_claim k) entry_amount es)
+claim-total es k is named = grind (arith, ints, nat_tests, total-agree, all-map, claim-drawn, sum-picked)
 
 -- nothing is drawn on an open claim
 rest-is : (es : List Entry) (k a : ℕ) (s : ClaimState) (drawn : ℤ) → (has_settled s ≡ false → drawn ≡ pos 0) → drawn ≡ pos (amounts_of (is_paid_from_claim k) es) → to_claimant s a -ℤ drawn ≡ claim_rest es k a s
-rest-is es k a claim.Open drawn none paid = let zero = none refl in omega (arith, ints, zero)
-rest-is es k a (claim.Offered part) drawn none paid = let zero = none refl in omega (arith, ints, zero)
-rest-is es k a (claim.Settled t) drawn none paid = omega (arith, ints, paid)
+rest-is es k a s drawn none paid = grind (arith, ints, nat_tests)
 
 unsettled : (a : Against) (s : ClaimState) → has_settled s ≡ false → (is_general a && has_settled s) ≡ false
-unsettled (against.General who) s h = h
-unsettled (against.Fee k) s h = refl
+unsettled a s h = grind (arith, ints, nat_tests)
 
 left-general : (on : Against) (who : List ℕ) (z w drawn : ℤ) → on ≡ against.General who → z -ℤ drawn ≡ w → cond (is_general on) (Some (on_general on z -ℤ drawn)) None ≡ Some w
 left-general on who z w drawn is h = rw is (ap (λ (v : ℤ). Some v) h)
@@ -148,11 +107,4 @@ left-general on who z w drawn is h = rw is (ap (λ (v : ℤ). Some v) h)
 pub claim-left : ClaimLeft
 unfolding worth
 claim-left rows k c who s at general =
-    let es = rows.entries in
-    let some = (within es k (entry.Claim c) at).0 in
-    let is : IsClaimAt es k = record { some = some; no_fee = rw at refl } in
-    let none : has_settled c.state ≡ false → total_of (draw_on k) es ≡ pos 0 = λ h.
-    let open_claim : passes is_settled (entry_at es k) ≡ false = rw at (unsettled c.against c.state h) in
-    total-undrawn es k s.backed.named some is.no_fee open_claim in
-    rw at (left-general c.against who (to_claimant c.state c.amount) (claim_rest es k c.amount c.state) (total_of (draw_on k) es) general
-    (rest-is es k c.amount c.state (total_of (draw_on k) es) none (claim-total es k is s.backed.named)))
+    grind (arith, ints, nat_tests, within, unsettled, total-undrawn, left-general, rest-is, claim-total)

@@ -40,10 +40,7 @@ order-joined (x ∷ xs) new ys h b g a = (
 )
 
 pub order-with : (ss : List Seat) (new : Seat) → AreInOrder ss → AreInOrder (seats_with ss new)
-order-with ss new h =
-    let before : Seat → Bool = λ s. comes_before s.person new.person in
-    let behind : Seat → Bool = λ s. comes_before new.person s.person in
-    order-joined (filter before ss) new (filter behind ss) (order-filter before ss h) (passing before ss) (order-filter behind ss h) (passing behind ss)
+order-with ss new h = search (order-joined, order-filter, passing)
 
 pub order-without : (ss : List Seat) (person : List ℕ) → AreInOrder ss → AreInOrder (seats_without ss person)
 order-without ss person h = order-filter _ ss h

@@ -16,19 +16,13 @@ abbrev by_bytes : List ℕ → List ℕ → Ordering
 by_bytes a b = slice_cmp nat_cmp a b
 
 less : (o : Ordering) → is_lt o ≡ true → o ≡ Less
-less Less h = refl
-less Equal h = cc
-less Greater h = cc
+less o h = grind (arith)
 
 never-both : (o : Ordering) → is_lt o ≡ true → is_lt (ordering_reverse o) ≡ false
-never-both Less h = refl
-never-both Equal h = cc
-never-both Greater h = cc
+never-both o h = grind (arith)
 
 one-or-other : (o : Ordering) → is_lt o ≡ false → is_eq o ≡ false → is_lt (ordering_reverse o) ≡ true
-one-or-other Less h g = cc
-one-or-other Equal h g = cc
-one-or-other Greater h g = refl
+one-or-other o h g = grind (arith)
 
 before-trans : (a b c : List ℕ) → comes_before a b ≡ true → comes_before b c ≡ true → comes_before a c ≡ true
 before-trans a b c h g = ap is_lt (nat_list_cmp_total.trans a b c (less (by_bytes a b) h) (less (by_bytes b c) g))
@@ -57,11 +51,7 @@ after p ss = filter (λ s. comes_before p s.person) ss
 -- of seats that all come after, none comes before
 pub all-after : (p : List ℕ) (ss : List Seat) → AllByRecursion (λ s. comes_before p s.person ≡ true) ss → (before p ss ≡ []) × (after p ss ≡ ss)
 all-after p [] h = (refl, refl)
-all-after p (s ∷ ss) h =
-    let more = all-after p ss h.1 in
-    let yes : comes_before p s.person ≡ true = h.0 in
-    let no = before-antisym p s.person yes in
-    (rw no more.0, rw yes (ap (λ l. s ∷ l) more.1))
+all-after p (s ∷ ss) h = grind (arith, before-antisym, (all-after p ss h.1))
 
 pub after-more : (p q : List ℕ) (ss : List Seat) → comes_before p q ≡ true → AllByRecursion (λ s. comes_before q s.person ≡ true) ss → AllByRecursion (λ s. comes_before p s.person ≡ true) ss
 after-more p q [] h all = tt
@@ -69,11 +59,7 @@ after-more p q (s ∷ ss) h all = (before-trans p q s.person h all.0, after-more
 
 -- who has no seat is not the first, and has none behind it
 pub no-seat : (s : Seat) (ss : List Seat) (p : List ℕ) → role_in (s ∷ ss) p ≡ None → (bytes_eq s.person p ≡ false) × (role_in ss p ≡ None)
-no-seat s ss p h =
-    elim (bytes_eq s.person p) as (λ b. option_map (λ t. t.role) (cond b (Some s) (seat_of ss p)) ≡ None → (b ≡ false) × (role_in ss p ≡ None)) [
-      | true ↦ λ g. cc
-      | false ↦ λ g. (refl, g)
-    ] h
+no-seat s ss p h = grind (arith, option_map, seat_of)
 
 pub bytes_eq-swap : (a b : List ℕ) → bytes_eq a b ≡ false → bytes_eq b a ≡ false
 bytes_eq-swap a b h =
@@ -102,14 +88,7 @@ at-place (s ∷ ss) new order none =
 
 at-end : (ss : List Seat) (new : Seat) → role_in ss new.person ≡ None → length ss ≤ place ss new.person → ss ++ new ∷ [] ≡ seats_with ss new
 at-end [] new none last = refl
-at-end (s ∷ ss) new none last =
-    let apart = no-seat s ss new.person none in
-    elim (comes_before new.person s.person) as (λ b. comes_before new.person s.person ≡ b → suc (length ss) ≤ cond (not b) (1 + place ss new.person) 0 → s ∷ (ss ++ new ∷ []) ≡ seats_with (s ∷ ss) new) [
-      | true ↦ λ yes g. absurd (omega arith)
-      | false ↦ λ no g.
-          let yes : comes_before s.person new.person ≡ true = before-total new.person s.person no (bytes_eq-swap s.person new.person apart.0) in
-          rw (yes, no) (ap (λ l. s ∷ l) (at-end ss new apart.1 (omega arith)))
-    ] refl last
+at-end (s ∷ ss) new none last = grind (arith, no-seat, before-total, bytes_eq-swap, (at-end ss new))
 
 pub seated-at : (ss : List Seat) (new : Seat) (i : ℕ) → Some i ≡ position (stands_after new.person) ss → AreInOrder ss → role_in ss new.person ≡ None → insert ss i new ≡ seats_with ss new
 seated-at ss new i h order none = ap (λ j. insert ss j new) (place-some (stands_after new.person) ss i h).1 ∙ at-place ss new order none

@@ -1,11 +1,6 @@
 -- For a part of sound rows there is always a change in range, so Store is never answered.
-use Rattle.matter_rows.proofs.Names.{AllByRecursion, zero, suc, ◌≡◌, ℕ, ◌+◌, ◌-◌, ◌*◌, ◌<◌, ◌≤◌, Bool, true, false, cond, List, [], ◌∷◌, length, refl, sym, arith, subst, Some, eqb, ℤ, pos, negsuc, ◌+ℤ◌, ◌-ℤ◌, ◌≤ℤ◌, ints, nat_tests, Entry, PaymentState, ClaimState, total_of, left_of, lefts_from, is_fee, is_general_claim, available, held, disputed, fees, claims, draw, draw_on, target, worth, available_share, held_share, disputed_share, fee_share, claim_share, pending_share, paid, apart, to_client, to_claimant, off_fee, on_fee, on_general, from_general, from_fee, from_claim, held_deposit, cleared_deposit, pending_payment, entry_at, AreBacked, IsRanged, part_of}
+use Rattle.matter_rows.proofs.Names.{AllByRecursion, zero, suc, ◌≡◌, ℕ, ◌+◌, ◌-◌, ◌*◌, ◌<◌, ◌≤◌, Bool, true, false, cond, List, [], ◌∷◌, length, refl, sym, arith, subst, Some, eqb, ℤ, pos, negsuc, ◌+ℤ◌, ◌≤ℤ◌, ints, nat_tests, Entry, PaymentState, ClaimState, total_of, left_of, lefts_from, is_fee, is_general_claim, available, held, disputed, fees, claims, draw, draw_on, target, worth, available_share, held_share, disputed_share, fee_share, claim_share, pending_share, paid, apart, to_client, to_claimant, off_fee, on_fee, on_general, from_general, from_fee, from_claim, held_deposit, cleared_deposit, pending_payment, entry_at, AreBacked, IsRanged, part_of}
 use Rattle.matter_rows.specs.declared.entry.Entry.TheVariants as entry
-use Rattle.matter_rows.specs.declared.payment.Fund.TheVariants as fund
-use Rattle.matter_rows.specs.declared.claim.Against.TheVariants as against
-use Rattle.matter_rows.specs.declared.deposit.DepositState.TheVariants as deposit
-use Rattle.matter_rows.specs.declared.payment.PaymentState.TheVariants as payment
-use Rattle.matter_rows.specs.declared.claim.ClaimState.TheVariants as claim
 use Rattle.matter_rows.specs.declared.limits.TheConstants.{MAX_TOTAL}
 use Rattle.matter_rows.proofs.Entries.{all-at}
 use Rattle.matter_rows.proofs.Exchange.{fees-by_share, claims-by_share}
@@ -17,95 +12,42 @@ Few z = z ≤ℤ pos 99_999_999_999
 
 held-few : (e : Entry) → IsRanged e → Few (held_share e) × (pos 0 ≤ℤ held_share e)
 unfolding held_share
-held-few (entry.Deposit d) r =
-    let a = r.amount in
-    elim d.state as (λ s. Few (held_deposit s d.amount) × (pos 0 ≤ℤ held_deposit s d.amount)) [ deposit.Held ↦ (omega (arith, ints, a), omega (arith, ints)) | _ ↦ (omega (arith, ints, a), omega (arith, ints)) ]
-held-few (entry.Payment p) r = (omega (arith, ints), omega (arith, ints))
-held-few (entry.Fee f) r = (omega (arith, ints), omega (arith, ints))
-held-few (entry.Claim c) r = (omega (arith, ints), omega (arith, ints))
+held-few e r = grind (arith, ints, nat_tests, held_deposit)
 
 pending-few : (e : Entry) → Few (pending_share e) × (pos 0 ≤ℤ pending_share e)
 unfolding pending_share
-pending-few (entry.Deposit d) = (omega (arith, ints), omega (arith, ints))
-pending-few (entry.Payment p) = elim p.state as (λ s. Few (pending_payment s) × (pos 0 ≤ℤ pending_payment s)) [ payment.Proposed ↦ (omega (arith, ints), omega (arith, ints)) | _ ↦ (omega (arith, ints), omega (arith, ints)) ]
-pending-few (entry.Fee f) = (omega (arith, ints), omega (arith, ints))
-pending-few (entry.Claim c) = (omega (arith, ints), omega (arith, ints))
+pending-few e = grind (arith, ints, nat_tests, pending_payment)
 
 paid-few : (s : PaymentState) (a : ℕ) → pos 0 ≤ℤ paid s a
-paid-few payment.Proposed a = omega (arith, ints)
-paid-few payment.Declined a = omega (arith, ints)
-paid-few (payment.Issued day) a = omega (arith, ints)
-paid-few (payment.Cleared x) a = omega (arith, ints)
-paid-few (payment.Voided v) a = omega (arith, ints)
+paid-few s a = grind (arith, ints, nat_tests)
 
 apart-few : (s : ClaimState) (a : ℕ) → (apart s a ≤ℤ pos a) × (pos 0 ≤ℤ apart s a)
-apart-few claim.Open a = (omega (arith, ints), omega (arith, ints))
-apart-few (claim.Offered x) a = (omega (arith, ints), omega (arith, ints))
-apart-few (claim.Settled x) a = (omega (arith, ints), omega (arith, ints))
+apart-few s a = grind (arith, ints, nat_tests)
 
 client-few : (s : ClaimState) (a : ℕ) → part_of s ≤ a → (to_client s ≤ℤ pos a) × (pos 0 ≤ℤ to_client s)
-client-few claim.Open a h = (omega (arith, ints), omega (arith, ints))
-client-few (claim.Offered x) a h = (omega (arith, ints), omega (arith, ints))
-client-few (claim.Settled x) a h = (omega (arith, ints, h), omega (arith, ints))
+client-few s a h = grind (arith, ints, nat_tests)
 
 claimant-few : (s : ClaimState) (a : ℕ) → part_of s ≤ a → (to_claimant s a ≤ℤ pos a) × (pos 0 ≤ℤ to_claimant s a)
-claimant-few claim.Open a h = (omega (arith, ints), omega (arith, ints))
-claimant-few (claim.Offered x) a h = (omega (arith, ints), omega (arith, ints))
-claimant-few (claim.Settled x) a h = (omega (arith, ints), omega (arith, ints, h))
+claimant-few s a h = grind (arith, ints, nat_tests)
 
 disputed-few : (e : Entry) → IsRanged e → Few (disputed_share e) × (pos 0 ≤ℤ disputed_share e)
 unfolding disputed_share
-disputed-few (entry.Deposit d) r = (omega (arith, ints), omega (arith, ints))
-disputed-few (entry.Payment p) r = (omega (arith, ints), omega (arith, ints))
-disputed-few (entry.Fee f) r = (omega (arith, ints), omega (arith, ints))
-disputed-few (entry.Claim c) r =
-    let a = r.amount in
-    let h = apart-few c.state c.amount in
-    elim c.against as (λ g. Few (on_fee g (apart c.state c.amount)) × (pos 0 ≤ℤ on_fee g (apart c.state c.amount))) [
-      | against.General x ↦ (omega (arith, ints), omega (arith, ints))
-      | against.Fee k ↦ (omega (arith, ints, a, h.0), h.1)
-    ]
+disputed-few e r = grind (arith, ints, nat_tests, apart-few, on_fee)
 
 available-few : (e : Entry) → IsRanged e → Few (available_share e)
 unfolding available_share
-available-few (entry.Deposit d) r =
-    let a = r.amount in elim d.state as (λ s. Few (cleared_deposit s d.amount)) [ deposit.Held ↦ omega (arith, ints, a) | _ ↦ omega (arith, ints, a) ]
-available-few (entry.Payment p) r =
-    let h = paid-few p.state p.amount in
-    elim p.fund as (λ g. Few (pos 0 -ℤ from_general g (paid p.state p.amount))) [ fund.General ↦ omega (arith, ints, h) | _ ↦ omega (arith, ints, h) ]
+available-few (entry.Deposit d) r = grind (arith, ints, nat_tests, cleared_deposit)
+available-few (entry.Payment p) r = grind (arith, ints, nat_tests, paid-few, from_general)
 available-few (entry.Fee f) r = omega (arith, ints)
-available-few (entry.Claim c) r =
-    let a = r.amount in
-    let h = client-few c.state c.amount r.part in
-    let g = claimant-few c.state c.amount r.part in
-    elim c.against as (λ w. Few (on_fee w (to_client c.state) -ℤ on_general w (to_claimant c.state c.amount))) [
-      | against.General x ↦ omega (arith, ints, g.1)
-      | against.Fee k ↦ omega (arith, ints, a, h.0)
-    ]
+available-few (entry.Claim c) r = grind (arith, ints, nat_tests, client-few, claimant-few, on_fee, on_general)
 
 fee-few : (e : Entry) → IsRanged e → Few (fee_share e)
 unfolding fee_share
-fee-few (entry.Deposit d) r = omega (arith, ints)
-fee-few (entry.Payment p) r =
-    let h = paid-few p.state p.amount in
-    elim p.fund as (λ g. Few (pos 0 -ℤ from_fee g (paid p.state p.amount))) [ fund.General ↦ omega (arith, ints, h) | _ ↦ omega (arith, ints, h) ]
-fee-few (entry.Fee f) r = let a = r.amount in omega (arith, ints, a)
-fee-few (entry.Claim c) r =
-    let h = client-few c.state c.amount r.part in
-    let g = apart-few c.state c.amount in
-    elim c.against as (λ w. Few (pos 0 -ℤ on_fee w (off_fee c.state c.amount))) [ against.General x ↦ omega (arith, ints, h.1, g.1) | _ ↦ omega (arith, ints, h.1, g.1) ]
+fee-few e r = grind (arith, ints, nat_tests, paid-few, from_fee, client-few, apart-few, on_fee, off_fee)
 
 claim-few : (e : Entry) → IsRanged e → Few (claim_share e)
 unfolding claim_share
-claim-few (entry.Deposit d) r = omega (arith, ints)
-claim-few (entry.Payment p) r =
-    let h = paid-few p.state p.amount in
-    elim p.fund as (λ g. Few (pos 0 -ℤ from_claim g (paid p.state p.amount))) [ fund.General ↦ omega (arith, ints, h) | _ ↦ omega (arith, ints, h) ]
-claim-few (entry.Fee f) r = omega (arith, ints)
-claim-few (entry.Claim c) r =
-    let a = r.amount in
-    let g = claimant-few c.state c.amount r.part in
-    elim c.against as (λ w. Few (on_general w (to_claimant c.state c.amount))) [ against.General x ↦ omega (arith, ints, a, g.0) | _ ↦ omega (arith, ints, a, g.0) ]
+claim-few e r = grind (arith, ints, nat_tests, paid-few, from_claim, claimant-few, on_general)
 
 -- sums of small shares
 
@@ -145,8 +87,7 @@ natural (pos n) = n
 natural (negsuc n) = 0
 
 is-natural : (z : ℤ) → pos 0 ≤ℤ z → pos (natural z) ≡ z
-is-natural (pos n) h = refl
-is-natural (negsuc n) h = absurd (omega (arith, ints, h))
+is-natural z h = grind (arith, ints, nat_tests)
 
 -- a balance of sound entries, as a number in range
 pub record IsBalance (z : ℤ) : Type 0 where
@@ -154,9 +95,7 @@ pub record IsBalance (z : ℤ) : Type 0 where
   pub small : natural z ≤ MAX_TOTAL
 
 balance : (z : ℤ) (n : ℕ) → n ≤ 9_999 → pos 0 ≤ℤ z → z ≤ℤ pos (n * 99_999_999_999) → IsBalance z
-balance z n few low high =
-    let is = is-natural z low in
-    record { is = is; small = omega (arith, ints, is, high, few) }
+balance z n few low high = grind (arith, ints, nat_tests, is-natural)
 
 pub held-balance : (es : List Entry) → AreBacked es → IsBalance (held es)
 held-balance es s = balance (held es) (length es) s.few (sum-least held_share es (λ e r. (held-few e r).1) s.ranged) (sum-few held_share es (λ e r. (held-few e r).0) s.ranged)
@@ -181,35 +120,16 @@ claims-balance es s = balance (claims es) (length es) s.few (lefts-sound is_gene
 
 draw-least : (e : Entry) → pos 0 ≤ℤ draw e
 unfolding draw
-draw-least (entry.Deposit d) = omega (arith, ints)
-draw-least (entry.Payment p) = paid-few p.state p.amount
-draw-least (entry.Fee f) = omega (arith, ints)
-draw-least (entry.Claim c) =
-    let a = apart-few c.state c.amount in
-    let b = client-least c.state in
-    elim c.against as (λ w. pos 0 ≤ℤ on_fee w (off_fee c.state c.amount)) [ against.General x ↦ omega (arith, ints) | _ ↦ omega (arith, ints, a.1, b) ]
-  where
-    client-least : (s : ClaimState) → pos 0 ≤ℤ to_client s
-    client-least claim.Open = omega (arith, ints)
-    client-least (claim.Offered x) = omega (arith, ints)
-    client-least (claim.Settled x) = omega (arith, ints)
+draw-least e = grind (arith, ints, nat_tests, paid-few, apart-few, on_fee, off_fee)
 
 draws-least : (n : ℕ) (es : List Entry) → pos 0 ≤ℤ total_of (draw_on n) es
 draws-least n [] = omega (arith, ints)
 draws-least n (e ∷ es) =
-    let more = draws-least n es in
-    let d = draw-least e in
-    elim (eqb (target e) n) as (λ b. pos 0 ≤ℤ (cond b (draw e) (pos 0) +ℤ total_of (draw_on n) es)) [ true ↦ omega (arith, ints, more, d) | false ↦ omega (arith, ints, more) ]
+    grind (arith, ints, nat_tests, (draw-least e), (eqb (target e) n), (target e), (draws-least n es))
 
 worth-few : (e : Entry) → IsRanged e → Few (worth e)
 unfolding worth
-worth-few (entry.Deposit d) r = omega (arith, ints)
-worth-few (entry.Payment p) r = omega (arith, ints)
-worth-few (entry.Fee f) r = let a = r.amount in omega (arith, ints, a)
-worth-few (entry.Claim c) r =
-    let a = r.amount in
-    let g = claimant-few c.state c.amount r.part in
-    elim c.against as (λ w. Few (on_general w (to_claimant c.state c.amount))) [ against.General x ↦ omega (arith, ints, a, g.0) | _ ↦ omega (arith, ints) ]
+worth-few e r = grind (arith, ints, nat_tests, claimant-few, on_general)
 
 -- what is left of an entry of sound entries, as a number in range
 pub left-balance : (es : List Entry) (n : ℕ) (e : Entry) → AreBacked es → entry_at es n ≡ Some e → IsBalance (left_of es n e)

@@ -39,8 +39,4 @@ total-least f (e ∷ es) h = omega (arith, ints, total-least f es h, h e)
 -- a share is within the sum, where none is below zero
 pub total-within : (f : Entry → ℤ) (es : List Entry) (n : ℕ) (e : Entry) → ((e : Entry) → pos 0 ≤ℤ f e) → entry_at es n ≡ Some e → f e ≤ℤ total_of f es
 total-within f [] n e h at = cc
-total-within f (x ∷ es) n e h at =
-    elim (n == 1) as (λ b. cond b (Some x) (entry_at es (n - 1)) ≡ Some e → f e ≤ℤ (f x +ℤ total_of f es)) [
-      | true ↦ λ g. let k : x ≡ e = cc in let m : f x ≡ f e = ap f k in omega (arith, ints, m, total-least f es h)
-      | false ↦ λ g. omega (arith, ints, total-within f es (n - 1) e h g, h x)
-    ] at
+total-within f (x ∷ es) n e h at = grind (arith, ints, (total-least f es h), (total-within f es (n - 1) e h))

@@ -1,5 +1,5 @@
 -- Tests of whole rows, entry by entry.
-use Rattle.matter_rows.proofs.Names.{AllByRecursion, ◌≡◌, ℕ, ◌+◌, ◌-◌, ◌<◌, ◌≤◌, ◌↔◌, true, List, [], ◌∷◌, map, length, drop, get_or, sym, ◌∙◌, ap, subst, arith, Some, None, drop_more, length-drop, Entry, Seat, entry_at, book_day, comes_before, AreRising, AreInOrder}
+use Rattle.matter_rows.proofs.Names.{AllByRecursion, ◌≡◌, ℕ, ◌+◌, ◌-◌, ◌<◌, ◌≤◌, ◌↔◌, true, List, [], ◌∷◌, map, length, drop, get_or, sym, subst, arith, Some, None, drop_more, length-drop, Entry, Seat, entry_at, book_day, comes_before, AreRising, AreInOrder}
 use Rattle.std.proofs.Math.ListN.{drop_of_length-le}
 use Rattle.matter_rows.proofs.Collected.{entry-at-place}
 use Rattle.matter_rows.proofs.Entries.{none-past}
@@ -8,8 +8,7 @@ use Rattle.matter_rows.proofs.Seating.{after-more}
 -- The rest of a list, from a place on.
 
 pub rest-at : {X : Type 0} (xs : List X) (i : ℕ) (x : X) → i < length xs → x ≡ get_or xs i x → drop i xs ≡ x ∷ drop (i + 1) xs
-rest-at xs i x inside at =
-    drop_more xs i x inside ∙ ap (λ y. y ∷ drop (i + 1) xs) (sym at)
+rest-at xs i x inside at = grind (arith, drop_more)
 
 pub rest-none : {X : Type 0} (xs : List X) (i : ℕ) → length xs ≤ i → drop i xs ≡ []
 rest-none xs i past = drop_of_length-le xs past
@@ -17,11 +16,7 @@ rest-none xs i past = drop_of_length-le xs past
 -- A fact about all.
 
 pub all-next : {X : Type 0} (P : X → Type 0) (xs : List X) (i : ℕ) (x : X) → (AllByRecursion P xs ↔ AllByRecursion P (drop i xs)) → i < length xs → x ≡ get_or xs i x → P x → AllByRecursion P xs ↔ AllByRecursion P (drop (i + 1) xs)
-all-next P xs i x inv inside at here =
-    let d = rest-at xs i x inside at in (
-      λ h. (subst (AllByRecursion P) d (inv.0 h)).1,
-      λ h. inv.1 (subst (AllByRecursion P) (sym d) (here, h)),
-    )
+all-next P xs i x inv inside at here = grind (arith, rest-at)
 
 pub all-fails : {X : Type 0} (P : X → Type 0) (xs : List X) (i : ℕ) (x : X) → (AllByRecursion P xs ↔ AllByRecursion P (drop i xs)) → i < length xs → x ≡ get_or xs i x → (P x → ⊥) → AllByRecursion P xs → ⊥
 all-fails P xs i x inv inside at none h = none (subst (AllByRecursion P) (rest-at xs i x inside at) (inv.0 h)).0
@@ -35,18 +30,10 @@ abbrev Rising : ℕ → List Entry → Type 0
 Rising from es = AreRising from (map book_day es)
 
 pub rising-next : (es : List Entry) (from before book i : ℕ) (e : Entry) → (Rising from es ↔ Rising before (drop i es)) → i < length es → e ≡ get_or es i e → book ≡ book_day e → before ≤ book → Rising from es ↔ Rising book (drop (i + 1) es)
-rising-next es from before book i e inv inside at is here =
-    let d = rest-at es i e inside at in
-    let B : ℕ → Type 0 = λ n. Rising n (drop (i + 1) es) in
-    let L : ℕ → Type 0 = λ n. before ≤ n in (
-      λ h. subst B (sym is) (subst (Rising before) d (inv.0 h)).1,
-      λ h. inv.1 (subst (Rising before) (sym d) (subst L is here, subst B is h)),
-    )
+rising-next es from before book i e inv inside at is here = grind (arith, rest-at)
 
 pub rising-fails : (es : List Entry) (from before book i : ℕ) (e : Entry) → (Rising from es ↔ Rising before (drop i es)) → i < length es → e ≡ get_or es i e → book ≡ book_day e → (before ≤ book → ⊥) → Rising from es → ⊥
-rising-fails es from before book i e inv inside at is none h =
-    let L : ℕ → Type 0 = λ n. before ≤ n in
-    none (subst L (sym is) (subst (Rising before) (rest-at es i e inside at) (inv.0 h)).0)
+rising-fails es from before book i e inv inside at is none h = grind (arith, rest-at)
 
 pub rising-done : (es : List Entry) (from before i : ℕ) → (Rising from es ↔ Rising before (drop i es)) → length es ≤ i → Rising from es
 rising-done es from before i inv past = inv.1 (subst (Rising before) (sym (rest-none es i past)) tt)
@@ -66,35 +53,19 @@ chained-of (s ∷ t ∷ ss) h = (h.0.0, chained-of (t ∷ ss) h.1)
 pub order-of : (ss : List Seat) → AreChained ss → AreInOrder ss
 order-of [] h = tt
 order-of (s ∷ []) h = (tt, tt)
-order-of (s ∷ t ∷ ss) h =
-    let more = order-of (t ∷ ss) h.1 in
-    ((h.0, after-more s.person t.person ss h.0 more.0), more)
+order-of (s ∷ t ∷ ss) h = grind (arith, (after-more s.person t.person ss h.0), (order-of (t ∷ ss) h.1))
 
 pub order-first : (ss : List Seat) → AreInOrder ss ↔ AreChained (drop 0 ss)
 order-first ss = (chained-of ss, order-of ss)
 
 two-at : (ss : List Seat) (i : ℕ) (s t : Seat) → i + 1 < length ss → s ≡ get_or ss i s → t ≡ get_or ss (i + 1) t → drop i ss ≡ s ∷ t ∷ drop (i + 2) ss
-two-at ss i s t inside at next =
-    rest-at ss i s (omega arith) at ∙ ap (λ l. s ∷ l) (rest-at ss (i + 1) t inside next ∙ ap (λ n. t ∷ drop n ss) (omega arith))
+two-at ss i s t inside at next = grind (arith, rest-at)
 
 pub order-next : (ss : List Seat) (p : ℕ) (s t : Seat) → (AreInOrder ss ↔ AreChained (drop (p - 1) ss)) → 1 ≤ p → p < length ss → s ≡ get_or ss (p - 1) s → t ≡ get_or ss p t → comes_before s.person t.person ≡ true → AreInOrder ss ↔ AreChained (drop (p + 1 - 1) ss)
-order-next ss p s t inv some inside at next here =
-    let one : p - 1 + 1 ≡ p = omega arith in
-    let G : ℕ → Type 0 = λ n. t ≡ get_or ss n t in
-    let two = two-at ss (p - 1) s t (omega arith) at (subst G (sym one) next) in
-    let D : ℕ → Type 0 = λ n. drop n ss ≡ t ∷ drop (p - 1 + 2) ss in
-    let one-on : drop (p - 1 + 1) ss ≡ t ∷ drop (p - 1 + 2) ss = rest-at ss (p - 1 + 1) t (omega arith) (subst G (sym one) next) ∙ ap (λ n. t ∷ drop n ss) (omega arith) in
-    let same : p - 1 + 1 ≡ p + 1 - 1 = omega arith in
-    let rest : drop (p + 1 - 1) ss ≡ t ∷ drop (p - 1 + 2) ss = subst D same one-on in (
-      λ h. subst AreChained (sym rest) (subst AreChained two (inv.0 h)).1,
-      λ h. inv.1 (subst AreChained (sym two) (here, subst AreChained rest h)),
-    )
+order-next ss p s t inv some inside at next here = grind (arith, two-at, rest-at)
 
 pub order-fails : (ss : List Seat) (p : ℕ) (s t : Seat) → (AreInOrder ss ↔ AreChained (drop (p - 1) ss)) → 1 ≤ p → p < length ss → s ≡ get_or ss (p - 1) s → t ≡ get_or ss p t → (comes_before s.person t.person ≡ true → ⊥) → AreInOrder ss → ⊥
-order-fails ss p s t inv some inside at next none h =
-    let one : p - 1 + 1 ≡ p = omega arith in
-    let G : ℕ → Type 0 = λ n. t ≡ get_or ss n t in
-    none (subst AreChained (two-at ss (p - 1) s t (omega arith) at (subst G (sym one) next)) (inv.0 h)).0
+order-fails ss p s t inv some inside at next none h = grind (arith, two-at)
 
 chained-last : (ss : List Seat) → length ss ≤ 1 → AreChained ss
 chained-last [] h = tt
@@ -107,9 +78,7 @@ order-done ss p inv past = inv.1 (chained-last (drop (p - 1) ss) (let l = length
 -- The entry of a place.
 
 pub entry-there : (es : List Entry) (n place : ℕ) (e : Entry) → place + 1 ≡ n → place < length es → e ≡ get_or es place e → Some e ≡ entry_at es n
-entry-there es n place e next inside at =
-    let P : ℕ → Type 0 = λ i. Some e ≡ entry_at es i in
-    subst P next (sym (entry-at-place es place e inside at))
+entry-there es n place e next inside at = grind (arith, entry-at-place)
 
 pub entry-past : (es : List Entry) (n place : ℕ) → place + 1 ≡ n → length es ≤ place → None ≡ entry_at es n
 entry-past es n place next past = sym (none-past es n (omega (arith, next, past)))

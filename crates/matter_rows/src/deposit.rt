@@ -2,11 +2,10 @@
 
 ghost use Rattle.std.specs.Prelude.{◌≡◌, IfOk, ◌+◌, ◌-◌, ◌<◌, ◌≤◌, ◌≤ℤ◌, ◌-ℤ◌, ◌+ℤ◌, true, ◌++◌, ◌↔◌, ◌&&◌, IsTrue};
 ghost use Rattle.std.specs.List.{AllByRecursion};
-ghost use Rattle.matter_rows.specs.Clearings.{has_amount_back, clearing_by, is_deposit_cleared_by, is_line_again, deposit_by};
+ghost use Rattle.matter_rows.specs.Clearings.{has_amount_back, is_deposit_cleared_by};
 ghost use Rattle.matter_rows.specs.Sound.{deposit_days, deposit_bank, AreRising, IsBackInTime};
 
-use crate::clearing::{Clearing, clearing_by};
-use crate::entry::Entry;
+use crate::clearing::Clearing;
 use crate::soundness::is_up_to;
 use std::alloc::AllocError;
 use trust_base::{Cents, Day, Label, Line};
@@ -53,22 +52,6 @@ impl DepositState {
             DepositState::Cleared(clearing) => clearing.is_by(line),
             DepositState::Returned(back) => back.clearing.is_by(line),
             DepositState::Held | DepositState::Cancelled(_) => false,
-        }
-    }
-
-    /// The state after this line: a held deposit is cleared, and a cleared one is returned on the business day. Any
-    /// other state is copied unchanged.
-    pub fn told(&self, line: &Line, today: Day) -> Result<DepositState, AllocError>
-        ensures { IfOk result (λ s. s ≡ deposit_by line.now today self.now) }
-    {
-        match self {
-            DepositState::Held => Ok(DepositState::Cleared(clearing_by(line)?)),
-            DepositState::Cleared(clearing) => Ok(DepositState::Returned(ReturnedDeposit {
-                clearing: clearing.copied()?,
-                returning: clearing_by(line)?,
-                undone: today,
-            })),
-            DepositState::Cancelled(_) | DepositState::Returned(_) => self.copied(),
         }
     }
 
@@ -129,20 +112,5 @@ impl Deposit {
         ensures { result ≡ has_amount_back self.now line.now }
     {
         -(self.amount.get() as i64) == line.amount.get()
-    }
-
-    /// Whether this line already cleared the deposit or took it back.
-    pub fn is_again(&self, line: &Line) -> bool
-        ensures { result ≡ is_line_again (Some (Entry.Deposit self.now)) line.now }
-    {
-        if self.state.is_cleared_by(line) && self.amount.get() as i64 == line.amount.get() {
-            return true;
-        }
-        match &self.state {
-            DepositState::Returned(back) => {
-                back.returning.is_by(line) && self.has_amount_back(line)
-            }
-            _ => false,
-        }
     }
 }

@@ -1,6 +1,6 @@
 //! The entries of a matter, of all kinds.
 
-ghost use Rattle.std.specs.Prelude.{◌≡◌, IfOk, ◌+◌, ◌-◌, ◌<◌, ◌≤◌, ◌≤ℤ◌, ◌-ℤ◌, ◌+ℤ◌, length, ◌≢◌, ◌↔◌, IsTrue, true, ◌++◌, ◌&&◌};
+ghost use Rattle.std.specs.Prelude.{◌≡◌, IfOk, ◌+◌, ◌-◌, ◌<◌, ◌≤◌, ◌≤ℤ◌, ◌-ℤ◌, ◌+ℤ◌, ◌≢◌, ◌↔◌, IsTrue, true, ◌++◌, ◌&&◌};
 ghost use Rattle.matter_rows.specs.Shares.{shares_of, no_shares, worth, draw, target, AreSmallShares, IsSmallShare, number_or_none, draw_on};
 ghost use Rattle.matter_rows.specs.Events.{events_of, nth_moved};
 ghost use Rattle.matter_rows.specs.Sound.{Sound, IsRanged, IsBy, IsRising, IsFundedInTime};
@@ -49,33 +49,39 @@ impl Entry {
         ensures is { result ≡ shares_of self.now }
         ensures small { AreSmallShares result }
     {
-        let none = no_shares();
+        let mut shares = no_shares();
         match self {
             Entry::Deposit(d) => {
                 let amount = d.amount.get() as i64;
                 match &d.state {
-                    DepositState::Held => Shares {
-                        held: amount,
-                        ..none
-                    },
-                    DepositState::Cleared(_) => Shares {
-                        available: amount,
-                        ..none
-                    },
-                    DepositState::Cancelled(_) | DepositState::Returned(_) => none,
+                    DepositState::Held => shares.held = amount,
+                    DepositState::Cleared(_) => shares.available = amount,
+                    DepositState::Cancelled(_) | DepositState::Returned(_) => {}
                 }
             }
-            Entry::Payment(p) => p.shares(),
+            Entry::Payment(p) => {
+                let amount = p.amount.get() as i64;
+                let (paid, pending) = match &p.state {
+                    PaymentState::Proposed => (0, 1),
+                    PaymentState::Issued(_) => (amount, 1),
+                    PaymentState::Cleared(_) => (amount, 0),
+                    PaymentState::Declined | PaymentState::Voided(_) => (0, 0),
+                };
+                shares.pending = pending;
+                match p.fund {
+                    Fund::General => shares.available = -paid,
+                    Fund::Fee(_) => shares.fees = -paid,
+                    Fund::Claim(_) => shares.claims = -paid,
+                }
+            }
             Entry::Fee(f) => {
                 let amount = f.amount.get() as i64;
-                Shares {
-                    available: -amount,
-                    fees: amount,
-                    ..none
-                }
+                shares.available = -amount;
+                shares.fees = amount;
             }
-            Entry::Claim(c) => c.shares(),
+            Entry::Claim(c) => return c.shares(),
         }
+        shares
     }
 
     #[tactic(auto, unfolding(crate::specs::Shares::worth))]
@@ -103,7 +109,10 @@ impl Entry {
         ensures small { IsSmallShare result }
     {
         match self {
-            Entry::Payment(p) => p.paid(),
+            Entry::Payment(p) => match &p.state {
+                PaymentState::Issued(_) | PaymentState::Cleared(_) => p.amount.get() as i64,
+                _ => 0,
+            },
             Entry::Claim(c) => match &c.against {
                 Against::General(_) => 0,
                 Against::Fee(_) => c.off_fee(),
@@ -126,25 +135,6 @@ impl Entry {
                 Against::Fee(number) => Some(*number),
             },
             _ => None,
-        }
-    }
-
-    /// How many movements the entry has made in the journal.
-    #[tactic(auto, unfolding(crate::specs::Events::events_of))]
-    pub fn event_count(&self) -> usize
-        ensures { result ≡ length (events_of self.now) }
-    {
-        match self {
-            Entry::Deposit(d) => match &d.state {
-                DepositState::Cancelled(_) | DepositState::Returned(_) => 2,
-                _ => 1,
-            },
-            Entry::Payment(p) => match &p.state {
-                PaymentState::Issued(_) | PaymentState::Cleared(_) => 1,
-                PaymentState::Voided(_) => 2,
-                _ => 0,
-            },
-            _ => 0,
         }
     }
 

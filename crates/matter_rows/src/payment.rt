@@ -1,19 +1,17 @@
-//! Payments: their states, what they draw, and what they move.
+//! Payments: their states, and what they are paid from.
 
 ghost use Rattle.std.specs.Prelude.{◌≡◌, IfOk, ◌+◌, ◌-◌, ◌<◌, ◌≤◌, ◌≤ℤ◌, ◌-ℤ◌, ◌+ℤ◌, pos, true, ◌&&◌, ◌++◌, ◌↔◌, IsTrue};
 ghost use Rattle.std.specs.List.{AllByRecursion};
-ghost use Rattle.matter_rows.specs.Shares.{shares_of, no_shares, AreSmallShares, number_or_none, paid, fund_no};
+ghost use Rattle.matter_rows.specs.Shares.{number_or_none, fund_no};
 ghost use Rattle.matter_rows.specs.Rows.{is_same_fund, entry_at};
 ghost use Rattle.matter_rows.specs.Clearings.{clearing_by, is_payment_cleared_by, cleared_payment};
 ghost use Rattle.matter_rows.specs.Balances.{funds};
 ghost use Rattle.matter_rows.specs.Sound.{payment_days, payment_bank, AreRising, funded_from};
-ghost use Rattle.trust_base.specs.TheConstants.{MAX_AMOUNT};
 
 use crate::claim::Claim;
 use crate::clearing::{Clearing, clearing_by};
 use crate::entry::Entry;
 use crate::fee::Fee;
-use crate::shares::{Shares, no_shares};
 use crate::soundness::{entry_at, has_fee, is_up_to};
 use std::alloc::AllocError;
 use trust_base::{Cents, Day, EntryNo, Label, Line};
@@ -203,49 +201,5 @@ impl Payment {
             state,
             ..*self
         })
-    }
-
-    // What the payment takes out of its fund, in cents: its amount while issued or cleared, otherwise 0.
-    pub(crate) fn paid(&self) -> i64
-        ensures is { result ≡ paid self.now.state self.now.amount }
-        ensures low { pos 0 ≤ℤ result }
-        ensures high { result ≤ℤ pos MAX_AMOUNT }
-    {
-        let amount = self.amount.get() as i64;
-        match &self.state {
-            PaymentState::Issued(_) | PaymentState::Cleared(_) => amount,
-            _ => 0,
-        }
-    }
-
-    // What the payment adds to the balance of its fund, and to the count of pending payments.
-    #[tactic(auto, unfolding(crate::specs::Shares::held_share, crate::specs::Shares::available_share, crate::specs::Shares::disputed_share, crate::specs::Shares::fee_share, crate::specs::Shares::claim_share, crate::specs::Shares::pending_share))]
-    pub(crate) fn shares(&self) -> Shares
-        ensures is { result ≡ shares_of (Entry.Payment self.now) }
-        ensures small { AreSmallShares result }
-    {
-        let none = no_shares();
-        let paid = self.paid();
-        let pending = match &self.state {
-            PaymentState::Proposed | PaymentState::Issued(_) => 1,
-            _ => 0,
-        };
-        match self.fund {
-            Fund::General => Shares {
-                available: -paid,
-                pending,
-                ..none
-            },
-            Fund::Fee(_) => Shares {
-                fees: -paid,
-                pending,
-                ..none
-            },
-            Fund::Claim(_) => Shares {
-                claims: -paid,
-                pending,
-                ..none
-            },
-        }
     }
 }

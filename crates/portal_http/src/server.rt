@@ -193,40 +193,6 @@ impl<C: Clock> Pace<C> {
             phase: Cell::new(Phase::Between),
         }
     }
-
-    // Returns how long the next read may take; `TimedOut` if the time for its message is over. Also fails if the
-    // clock, which is asked after the first byte of a message, cannot be read.
-    fn time_to_read(&self) -> io::Result<Duration>
-        ensures { IfOk result (λ left. as_nanos left ≤ MESSAGE_SECONDS * 1_000_000_000) }
-    {
-        let whole = Duration::from_secs(MESSAGE_SECONDS);
-        match self.phase.get() {
-            Phase::Between | Phase::Text(_) => {
-                self.phase.set(Phase::Between);
-                Ok(Duration::from_secs(SILENCE_SECONDS))
-            }
-            Phase::Begun => {
-                self.phase.set(Phase::Message(Instant::now(&self.clock)?));
-                Ok(whole)
-            }
-            Phase::Message(since) => time_left(&self.clock, since, whole),
-        }
-    }
-
-    // Returns how long the next write may take; `TimedOut` if the time for its text is over. Also fails if the clock
-    // cannot be read.
-    fn time_to_write(&self) -> io::Result<Duration>
-        ensures { IfOk result (λ left. as_nanos left ≤ TEXT_SECONDS * 1_000_000_000) }
-    {
-        let whole = Duration::from_secs(TEXT_SECONDS);
-        match self.phase.get() {
-            Phase::Text(since) => time_left(&self.clock, since, whole),
-            Phase::Between | Phase::Begun | Phase::Message(_) => {
-                self.phase.set(Phase::Text(Instant::now(&self.clock)?));
-                Ok(whole)
-            }
-        }
-    }
 }
 
 /// The reading half of a connection. Each read may take what is left of the silence between messages, or of the
@@ -242,12 +208,27 @@ pub struct PacedReader<'p, 'h, C, R> {
 impl<C: Clock, R: Read + OpenStream> Read for PacedReader<'_, '_, C, R> {
     ghost remaining = { λ reader. R.remaining reader.half.now };
 
+    // Fails with `TimedOut` if the time for the message is over. Also fails if the clock, which is asked after the first
+    // byte of a message, cannot be read.
     fn read(&mut self, buf: &mut [u8]) -> io::Result<usize> {
-        let left = self.pace.time_to_read()?;
+        let pace = self.pace;
+        let whole = Duration::from_secs(MESSAGE_SECONDS);
+        let left = match pace.phase.get() {
+            Phase::Between | Phase::Text(_) => {
+                pace.phase.set(Phase::Between);
+                Duration::from_secs(SILENCE_SECONDS)
+            }
+            Phase::Begun => {
+                pace.phase.set(Phase::Message(Instant::now(&pace.clock)?));
+                whole
+            }
+            Phase::Message(since) => time_left(&pace.clock, since, whole)?,
+        };
+        prove!(left.as_nanos() <= MESSAGE_SECONDS as u128 * 1_000_000_000);
         self.half.set_read_timeout(Some(left))?;
         let count = self.half.read(buf)?;
-        if let Phase::Between = self.pace.phase.get() {
-            self.pace.phase.set(Phase::Begun);
+        if let Phase::Between = pace.phase.get() {
+            pace.phase.set(Phase::Begun);
         }
         Ok(count)
     }
@@ -266,12 +247,22 @@ pub struct PacedWriter<'p, C, W> {
 impl<C: Clock, W: Write + OpenStream> Write for PacedWriter<'_, C, W> {
     ghost contents = { λ writer. W.contents writer.half };
 
+    // Fails with `TimedOut` if the time for the text is over. Also fails if the clock cannot be read.
     fn write(&mut self, buf: &[u8]) -> io::Result<usize> {
-        let left = self.pace.time_to_write()?;
+        let pace = self.pace;
+        let whole = Duration::from_secs(TEXT_SECONDS);
+        let left = match pace.phase.get() {
+            Phase::Text(since) => time_left(&pace.clock, since, whole)?,
+            Phase::Between | Phase::Begun | Phase::Message(_) => {
+                pace.phase.set(Phase::Text(Instant::now(&pace.clock)?));
+                whole
+            }
+        };
+        prove!(left.as_nanos() <= TEXT_SECONDS as u128 * 1_000_000_000);
         self.half.set_write_timeout(Some(left))?;
         let taken = self.half.write(buf)?;
         if taken == buf.len() {
-            self.pace.phase.set(Phase::Between);
+            pace.phase.set(Phase::Between);
         }
         Ok(taken)
     }

@@ -4,7 +4,7 @@ unfoldable pub use Rattle.httparse.specs.Grammar.{print_request}
 pub use Rattle.httparse.specs.Spans.{IsRequestAt, IsRequestWithin, RequestOverflows, header_bytes, name_and_value, span_bytes}
 pub use Rattle.httparse.specs.declared.spans.HeaderSpan.{HeaderSpan}
 pub use Rattle.httparse.specs.declared.spans.RequestSpans.{RequestSpans}
-pub use Rattle.std.proofs.Common.{Bool, Err, Global, IfSome, List, None, Ok, Option, Result, Some, Vec, [], ap, append_assoc, arith, codes, drop, false, inl, inr, length, length-append, length-drop, map, min, nat_le, refl, subst, sym, take, true, ℕ, ◌&&◌, ◌++◌, ◌+◌, ◌-◌, ◌<◌, ◌^◌, ◌∙◌, ◌∷◌, ◌≡◌, ◌≤◌}
+pub use Rattle.std.proofs.Common.{Bool, Err, Global, IfOk, IfSome, List, None, Ok, Option, Result, Some, Vec, [], ap, append_assoc, arith, codes, drop, false, inl, inr, length, length-append, length-drop, map, min, nat_le, refl, subst, suc, sym, take, true, ℕ, ◌&&◌, ◌++◌, ◌+◌, ◌-◌, ◌<◌, ◌^◌, ◌∙◌, ◌∷◌, ◌≡◌, ◌≤◌}
 pub use Rattle.std.proofs.Math.Seq.{drop-append_seam, drop-drop, take-append-add}
 pub use Rattle.std.proofs.lemmas.List.{append-nil, drop-append-le, length-map, length-take, take-append-drop, take-append-le}
 pub use Rattle.std.specs.Io.KnownBytes.{IsAtEnd, Keeps, prepend_known}
@@ -12,6 +12,6 @@ pub use Rattle.std.specs.List.{list_all}
 pub use Rattle.trust_base.specs.declared.refusal.Refusal.{Refusal}
 pub use Rattle.portal_messages.specs.FieldPlaces.{pairs_from}
 pub use Rattle.portal_messages.specs.Fields.{body_size, path_of, size_behind, values_of}
-pub use Rattle.portal_messages.specs.Heads.{BeginsWith, FIELD_LIMIT, HEAD_LIMIT, HasNoHead, IsFound, IsHeadAt, front_of, is_ended, is_line_byte}
-pub use Rattle.portal_messages.specs.Sources.{IsHeadNext, unread}
+pub use Rattle.portal_messages.specs.Heads.{BeginsWith, FIELD_LIMIT, HEAD_LIMIT, HasNoHead, IsHeadAt, front_of, is_ended, is_line_byte}
+pub use Rattle.portal_messages.specs.Sources.{IsLast, unread}
 pub use Rattle.portal_messages.specs.declared.message.Message.{Message}

@@ -1,23 +1,45 @@
--- What is found in a buffer is what comes next in the stream.
-use Rattle.portal_messages.proofs.Names.{◌≡◌, ℕ, List, ◌++◌, Option, Some, None, sym, ap, ◌∙◌, subst, IfSome, true, false, append-nil, IsAtEnd, Keeps, prepend_known, HeaderSpan, HasNoHead, IsFound, is_ended, IsHeadNext}
-use Rattle.portal_messages.specs.declared.input.Found.TheVariants as found
-use Rattle.portal_messages.specs.declared.input.HeadNext.TheVariants as heads
+-- What stands in a buffer is what comes next in the stream.
+use Rattle.portal_messages.proofs.Names.{◌≡◌, ◌<◌, ◌+◌, ℕ, suc, List, [], ◌∷◌, ◌++◌, length, Option, Some, None, refl, inl, sym, ap, ◌∙◌, subst, arith, IfOk, IfSome, Result, false, append-nil, length-append, IsAtEnd, Keeps, prepend_known, HasNoHead, IsLast, is_ended}
+use Rattle.trust_base.specs.declared.refusal.Refusal.TheVariants.{BadMessage}
+use Rattle.portal_messages.specs.Inputs.{IsFramed, IsNext, answer_of}
+use Rattle.portal_messages.specs.Messages.{IsFault}
+use Rattle.portal_messages.specs.declared.input.Last.{Last}
+use Rattle.portal_messages.specs.declared.input.Last.TheVariants as lasts
+use Rattle.portal_messages.specs.declared.input.Next.{Next}
+use Rattle.portal_messages.specs.declared.input.Stop.{Stop}
 use Rattle.portal_messages.proofs.HeadFacts.{goes_on-append}
 
-pub bad-next : (buf : List ℕ) (spans : List HeaderSpan) (o a : Option (List ℕ)) → Keeps o (prepend_known buf a) → IsFound buf spans found.Bad → IsHeadNext o buf spans heads.Bad
-bad-next buf spans None a k f = tt
-bad-next buf spans (Some xs) None k f = absurd k
-bad-next buf spans (Some xs) (Some ys) k f = subst (λ (t : List ℕ). (is_ended t ≡ false) × HasNoHead t) k (goes_on-append buf ys f.0, f.1 ys)
+-- bytes that have no head
+pub no-message : (bytes : List ℕ) → is_ended bytes ≡ false → HasNoHead bytes → IsFault bytes BadMessage
+no-message bytes live none = record { goes_on = live; why = inl (none, refl) }
 
--- at the end of the reader the buffer is all that is left
-pub at-end : (buf : List ℕ) (o a : Option (List ℕ)) (P : List ℕ → Type 0) → Keeps o (prepend_known buf a) → IsAtEnd a → P buf → IfSome o P
-at-end buf None a P k e h = tt
-at-end buf (Some xs) None P k e h = absurd k
-at-end buf (Some xs) (Some ys) P k e h = subst P (sym (append-nil buf) ∙ ap (λ (t : List ℕ). buf ++ t) (sym e) ∙ k) h
+-- what holds of the bytes that a buffer begins
+pub kept : (buf : List ℕ) (o a : Option (List ℕ)) (P : List ℕ → Type 0) → Keeps o (prepend_known buf a) → ((ys : List ℕ) → a ≡ Some ys → P (buf ++ ys)) → IfSome o P
+kept buf None a P k h = tt
+kept buf (Some xs) None P k h = absurd k
+kept buf (Some xs) (Some ys) P k h = subst P k (h ys refl)
 
--- a buffer that was not grown, at the end of the reader
-pub blank-next : (before after : List ℕ) (spans : List HeaderSpan) (o a : Option (List ℕ)) → after ≡ before → Keeps o (prepend_known after a) → IsAtEnd a → IsFound before spans found.Blank → IsHeadNext o after spans heads.Ended
-blank-next before after spans o a same k e h = at-end after o a (λ (bytes : List ℕ). is_ended bytes ≡ true) k e (ap is_ended same ∙ h)
+-- a buffer that has no head, whatever follows
+pub bad-next : (buf : List ℕ) (o a : Option (List ℕ)) → Keeps o (prepend_known buf a) → is_ended buf ≡ false → ((more : List ℕ) → HasNoHead (buf ++ more))
+    → IfSome o (λ bytes. IsFault bytes BadMessage)
+bad-next buf o a k live none =
+    kept buf o a (λ (t : List ℕ). IsFault t BadMessage) k (λ ys _. no-message (buf ++ ys) (goes_on-append buf ys live) (none ys))
 
-pub cut-next : (before after : List ℕ) (spans : List HeaderSpan) (o a : Option (List ℕ)) → after ≡ before → Keeps o (prepend_known after a) → IsAtEnd a → IsFound before spans found.More → IsHeadNext o after spans heads.Bad
-cut-next before after spans o a same k e h = at-end after o a (λ (bytes : List ℕ). (is_ended bytes ≡ false) × HasNoHead bytes) k e (subst (λ (t : List ℕ). (is_ended t ≡ false) × HasNoHead t) (sym same) (h.0, h.1))
+-- a buffer that did not grow, at the end of the reader, is all that is left
+pub at-end : (before after : List ℕ) (o a b : Option (List ℕ)) (P : List ℕ → Type 0) → Keeps o (prepend_known before a) → Keeps (prepend_known before a) (prepend_known after b)
+    → length after < length before + 1 → IsAtEnd b → P before → IfSome o P
+at-end before after None a b P k m short end h = tt
+at-end before after (Some xs) None b P k m short end h = absurd k
+at-end before after (Some xs) (Some ys) None P k m short end h = absurd m
+at-end before after (Some xs) (Some []) (Some zs) P k m short end h = subst P (sym (append-nil before) ∙ k) h
+at-end before after (Some xs) (Some (y ∷ ys)) (Some zs) P k m short end h =
+    let long : length after + length zs ≡ length before + suc (length ys) = sym (length-append after zs) ∙ ap length m ∙ length-append before (y ∷ ys) in
+    let none : length zs ≡ 0 = ap length end in
+    absurd (omega arith)
+
+-- what is answered where no message comes next
+pub said-next : (o new : Option (List ℕ)) (last : Last) (r : Result Next Stop) → r ≡ answer_of last → IsLast o last → IfOk r (IsNext o new)
+said-next o new last r e h = grind (arith)
+
+pub said-framed : (o : Option (List ℕ)) (last : Last) (r : Result Next Stop) → r ≡ answer_of last → IsLast o last → IfOk r IsFramed
+said-framed o last r e h = grind (arith)

@@ -1,12 +1,10 @@
 -- The heads in a stream of bytes: a request line and field lines by the grammar of httparse (RFC 9112, 2.1 to 5).
-use Rattle.std.specs.Prelude.{◌≡◌, ◌≤◌, ◌<◌, ◌==◌, ◌||◌, ◌&&◌, ℕ, Bool, true, false, nat_le, min, List, ◌++◌, length, drop, take}
+use Rattle.std.specs.Prelude.{◌≤◌, ◌==◌, ◌||◌, ◌&&◌, ℕ, Bool, nat_le, min, List, length, drop, take}
 use Rattle.std.specs.List.{list_all}
 use Rattle.httparse.specs.Grammar.{ReadsRequest, RequestHead, print_request}
 use Rattle.httparse.specs.Spans.{IsRequestAt, IsRequestWithin}
 use Rattle.httparse.specs.declared.spans.HeaderSpan.{HeaderSpan}
 use Rattle.httparse.specs.declared.spans.RequestSpans.{RequestSpans}
-use Rattle.portal_messages.specs.declared.input.Found.{Found}
-use Rattle.portal_messages.specs.declared.input.Found.TheVariants.{Head, Blank, More, Bad}
 
 -- the most bytes of a head, including empty lines before it
 abbrev pub HEAD_LIMIT : ℕ
@@ -43,10 +41,3 @@ pub record IsHeadAt (bytes : List ℕ) (spans : List HeaderSpan) (r : RequestSpa
   pub begins : BeginsWith bytes head (drop r.len bytes)
   pub at : IsRequestAt (front_of bytes) spans r head
   pub within : IsRequestWithin (front_of bytes) spans r
-
--- what is found at the start of the bytes read so far
-abbrev pub IsFound : List ℕ → List HeaderSpan → Found → Type 0
-IsFound bytes spans (Head r) = (is_ended bytes ≡ false) × (head : RequestHead) × IsHeadAt bytes spans r head
-IsFound bytes spans Blank = is_ended bytes ≡ true
-IsFound bytes spans More = (is_ended bytes ≡ false) × HasNoHead bytes × (length bytes < HEAD_LIMIT)
-IsFound bytes spans Bad = (is_ended bytes ≡ false) × ((more : List ℕ) → HasNoHead (bytes ++ more))

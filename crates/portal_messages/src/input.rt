@@ -1,16 +1,15 @@
 // A stream that is being read, what comes next in it, and what the fields of a head say of its body.
 
-ghost use Rattle.std.specs.Prelude.{◌≡◌, ◌≤◌, ◌<◌, [], map, length, take, codes, true, All};
+ghost use Rattle.std.specs.Prelude.{◌≡◌, ◌≤◌, ◌<◌, [], map, length, codes, All};
 ghost use Rattle.std.specs.Prelude.{IfOk, IfErr, OnOk, MatchBool, MatchOption, None, Result, Some};
 ghost use Rattle.std.specs.List.{list_all};
 ghost use Rattle.std.specs.Str.{str_eq_ignore_ascii_case};
 ghost use Rattle.std.specs.Io.KnownBytes.{IsAtEnd, Keeps};
-ghost use Rattle.httparse.specs.Spans.{IsHeaderWithin, IsRequestWithin, header_bytes, span_bytes};
-ghost use Rattle.portal_messages.specs.Heads.{IsFound, front_of, is_ended, is_line_byte};
-ghost use Rattle.portal_messages.specs.Fields.{body_limit, body_size, path_of, size_of, values_of};
+ghost use Rattle.httparse.specs.Spans.{IsHeaderWithin, header_bytes, span_bytes};
+ghost use Rattle.portal_messages.specs.Heads.{front_of, is_ended, is_line_byte};
+ghost use Rattle.portal_messages.specs.Fields.{body_limit, path_of, size_of, values_of};
 ghost use Rattle.portal_messages.specs.FieldPlaces.{IsFirstOf, pairs_from};
 ghost use Rattle.portal_messages.specs.Inputs.{IsFramed, IsNext, stays};
-ghost use Rattle.portal_messages.specs.Messages.{is_framing};
 ghost use Rattle.portal_messages.specs.Sources.{unread};
 
 use crate::message::{Message, Texts};
@@ -34,19 +33,6 @@ const MAX_BODY_BYTES: u64 = 65_536;
 
 const MAX_STATEMENT_BYTES: u64 = 4_194_304;
 
-/// What the bytes read so far begin with.
-#[derive(Clone, Copy, PartialEq, Eq, Debug)]
-pub(crate) enum Found {
-    /// A head, with the positions of its parts.
-    Head(RequestSpans),
-    /// Only bytes of empty lines.
-    Blank,
-    /// Possibly the beginning of a head.
-    More,
-    /// No head, whatever follows.
-    Bad,
-}
-
 fn is_all_blank(bytes: &[u8]) -> bool
     ensures { result ≡ list_all is_line_byte bytes.now }
 {
@@ -66,27 +52,6 @@ pub(crate) fn first_bytes(bytes: &[u8]) -> &[u8]
 {
     let limit = bytes.len().min(MAX_HEAD_BYTES);
     &bytes[..limit]
-}
-
-/// Finds the head that the bytes read so far begin with, and the positions of its fields.
-pub(crate) fn find_head(bytes: &[u8], spans: &mut [HeaderSpan; MAX_FIELDS]) -> Found
-    requires { length spans.old ≡ 64 }
-    ensures { IsFound bytes.now spans.new result }
-{
-    if is_blank(bytes) {
-        return Found::Blank;
-    }
-    match parse_request(first_bytes(bytes), spans) {
-        Ok(Status::Complete(head)) => Found::Head(head),
-        Ok(Status::Partial) => {
-            if bytes.len() >= MAX_HEAD_BYTES {
-                Found::Bad
-            } else {
-                Found::More
-            }
-        }
-        Err(_) => Found::Bad,
-    }
 }
 
 /// The position of a field's value, and the index of the next field.
@@ -161,7 +126,8 @@ pub fn path(target: &[u8]) -> &[u8]
 
 // The most bytes of a body.
 fn find_limit(method: &[u8], target: &[u8]) -> u64
-    ensures { result ≡ body_limit method.now target.now }
+    ensures value { result ≡ body_limit method.now target.now }
+    ensures bound { result ≤ 4194304 }
 {
     let path = path(target);
     let takes_statement = path == b"/firm/statements".as_slice()
@@ -172,53 +138,6 @@ fn find_limit(method: &[u8], target: &[u8]) -> u64
     } else {
         MAX_BODY_BYTES
     }
-}
-
-/// Returns the size of the body after a head, in bytes, or why it is not read: `BadMessage` if the head gives no
-/// valid size or more than one, `LengthRequired` if it names a coding, `TooLarge` if the size is above the limit.
-pub(crate) fn size_of_body(
-    bytes: &[u8],
-    spans: &[HeaderSpan],
-    head: &RequestSpans,
-) -> Result<u64, Refusal>
-    requires { IsRequestWithin bytes.now spans.now head.now }
-    ensures value { result ≡ body_size (span_bytes bytes.now head.now.method) (span_bytes bytes.now head.now.path)
-        (map (header_bytes bytes.now) (take head.now.headers spans.now)) }
-    ensures bound { IfOk result (λ n. n ≤ 4194304) }
-    ensures framing { IfErr result (λ why. is_framing why ≡ true) }
-{
-    let fields = &spans[..head.headers];
-    let Some(size) = read_length(bytes, fields) else {
-        return Err(Refusal::BadMessage);
-    };
-    if find_field(bytes, fields, 0, b"transfer-encoding").is_some() {
-        return Err(Refusal::LengthRequired);
-    }
-    if size > find_limit(head.method.of(bytes), head.path.of(bytes)) {
-        return Err(Refusal::TooLarge);
-    }
-    Ok(size)
-}
-
-/// Copies the values of the fields that name a caller. Fails if memory runs out.
-pub(crate) fn copied_callers(
-    alloc: Global,
-    bytes: &[u8],
-    spans: &[HeaderSpan],
-    head: &RequestSpans,
-) -> Result<Texts, AllocError>
-    requires { IsRequestWithin bytes.now spans.now head.now }
-    ensures { IfOk result (λ ts. ts ≡ values_of (codes "x-caller")
-        (map (header_bytes bytes.now) (take head.now.headers spans.now))) }
-{
-    let mut callers = Texts::new(alloc);
-    for field in &spans[..head.headers] {
-        if is_name(b"x-caller", field.name.of(bytes)) {
-            let value = Vec::from_slice(alloc, field.value.of(bytes))?;
-            callers.push(OwnedBytes::new(value))?;
-        }
-    }
-    Ok(callers)
 }
 
 // The most bytes of one read.
@@ -244,14 +163,6 @@ pub enum Stop {
     Memory,
 }
 
-// The last answer, unless it was a message.
-#[derive(Clone, Copy, PartialEq, Eq, Debug)]
-pub(crate) enum Last {
-    Ended,
-    Framing(Refusal),
-    Stopped(Stop),
-}
-
 impl From<AllocError> for Stop {
     ghost use Rattle.portal_messages.specs.declared.input.Stop.TheVariants.{Memory as memory_stop};
 
@@ -262,12 +173,51 @@ impl From<AllocError> for Stop {
     }
 }
 
-// The next head, with the positions of its parts, or why there is none.
+// Why no message comes next, which is answered from then on.
 #[derive(Clone, Copy, PartialEq, Eq, Debug)]
-pub(crate) enum HeadNext {
-    Head(RequestSpans),
+pub(crate) enum Last {
     Ended,
-    Bad,
+    Framing(Refusal),
+    Stopped(Stop),
+}
+
+impl Last {
+    ghost use Rattle.portal_messages.specs.Inputs.{answer_of};
+
+    fn answer(&self) -> Result<Next, Stop>
+        ensures value { result ≡ answer_of self.now }
+        ensures stays { stays result ≡ Some result }
+    {
+        match self {
+            Last::Ended => Ok(Next::Ended),
+            Last::Framing(why) => Ok(Next::Framing(*why)),
+            Last::Stopped(stop) => Err(*stop),
+        }
+    }
+}
+
+// No head, a bad length, or a cut body.
+const BAD_MESSAGE: Last = Last::Framing(Refusal::BadMessage);
+
+impl From<Stop> for Last {
+    ghost use Rattle.portal_messages.specs.declared.input.Last.TheVariants.{Stopped as stopped};
+
+    ghost from_gives = { λ stop last. last ≡ stopped stop };
+
+    fn from(stop: Stop) -> Self {
+        Last::Stopped(stop)
+    }
+}
+
+impl From<AllocError> for Last {
+    ghost use Rattle.portal_messages.specs.declared.input.Last.TheVariants.{Stopped as stopped};
+    ghost use Rattle.portal_messages.specs.declared.input.Stop.TheVariants.{Memory as memory_stop};
+
+    ghost from_gives = { λ _ last. last ≡ stopped memory_stop };
+
+    fn from(_: AllocError) -> Self {
+        Last::Stopped(Stop::Memory)
+    }
 }
 
 // A reader, with the bytes that it gave and no message has used.
@@ -275,57 +225,11 @@ pub(crate) enum HeadNext {
 pub(crate) struct Source<R> {
     pub(crate) reader: R,
     pub(crate) buffer: Vec<u8>,
-    // Whether the last read reached the end.
-    pub(crate) ended: bool,
 }
 
 impl<R: Read> Source<R> {
-    ghost use Rattle.portal_messages.specs.Sources.{Grew, IsHeadNext};
-
-    // Reads once.
-    fn fill(&mut self) -> Result<(), Stop>
-        ensures unread { OnOk result (Keeps (unread R.remaining self.old) (unread R.remaining self.new)) }
-        ensures more { OnOk result (Grew self.old self.new) }
-        ensures ended { OnOk result (self.new.ended ≡ true → IsAtEnd (R.remaining self.new.reader)) }
-    {
-        let mut part = [0u8; MAX_PART_BYTES];
-        match self.reader.read(&mut part) {
-            Ok(0) => {
-                self.ended = true;
-                Ok(())
-            }
-            Ok(n) => {
-                if self.buffer.extend_from_slice(&part[..n]).is_err() {
-                    return Err(Stop::Memory);
-                }
-                self.ended = false;
-                Ok(())
-            }
-            Err(_) => Err(Stop::Reader),
-        }
-    }
-
-    // Finds the next head, reading no further than it must.
-    fn next_head(&mut self, spans: &mut [HeaderSpan; MAX_FIELDS]) -> Result<HeadNext, Stop>
-        requires { length spans.old ≡ 64 }
-        ensures unread { OnOk result (Keeps (unread R.remaining self.old) (unread R.remaining self.new)) }
-        ensures next { IfOk result (IsHeadNext (unread R.remaining self.old) self.new.buffer.items spans.new) }
-    {
-        // Each turn but the last adds a byte, and 8,193 bytes are always enough to decide.
-        for _ in 0..8_194usize {
-            let at_end = match find_head(self.buffer.as_slice(), spans) {
-                Found::Head(head) => return Ok(HeadNext::Head(head)),
-                Found::Bad => return Ok(HeadNext::Bad),
-                Found::Blank => HeadNext::Ended,
-                Found::More => HeadNext::Bad,
-            };
-            self.fill()?;
-            if self.ended {
-                return Ok(at_end);
-            }
-        }
-        unreachable!()
-    }
+    ghost use Rattle.portal_messages.specs.Sources.{IsHeadNext, IsLast};
+    ghost use Rattle.portal_messages.specs.declared.input.Next.TheVariants.{Message as next_message};
 
     // Reads until the buffer has `size` bytes, or to the end. The room for them is allocated at once, as one block.
     fn fill_to(&mut self, size: usize) -> Result<bool, Stop>
@@ -336,54 +240,96 @@ impl<R: Read> Source<R> {
     {
         // With room for what the last read may add after them, reading never moves bytes.
         let room = (size + MAX_PART_BYTES).saturating_sub(self.buffer.len());
-        self.buffer.reserve_exact(room)?;
+        self.buffer.reserve(room)?;
+        let mut part = [0u8; MAX_PART_BYTES];
         for _ in 0..size + 1 {
             if self.buffer.len() >= size {
                 return Ok(true);
             }
-            self.fill()?;
-            if self.ended {
-                return Ok(false);
+            match self.reader.read(&mut part) {
+                Ok(0) => return Ok(false),
+                Ok(n) => self.buffer.extend_from_slice(&part[..n])?,
+                Err(_) => return Err(Stop::Reader),
             }
         }
         unreachable!()
     }
 
-    // Reads what comes next, and no further than it must. The parts of the head are copied before the body is read.
-    fn read_next(&mut self) -> Result<Next, Stop>
-        ensures next { IfOk result (IsNext (unread R.remaining self.old) (unread R.remaining self.new)) }
-        ensures framing { IfOk result IsFramed }
+    // Finds the next head, with the positions of its parts, and reads no further than it must.
+    fn next_head(&mut self, spans: &mut [HeaderSpan; MAX_FIELDS]) -> Result<RequestSpans, Last>
+        requires { length spans.old ≡ 64 }
+        ensures unread { OnOk result (Keeps (unread R.remaining self.old) (unread R.remaining self.new)) }
+        ensures next { IsHeadNext (unread R.remaining self.old) self.new.buffer.items spans.new result }
+    {
+        // Each turn but the last adds a byte, and 8,193 bytes are always enough to decide.
+        for _ in 0..8_194usize {
+            let bytes = self.buffer.as_slice();
+            let size = bytes.len();
+            let mut at_end = Last::Ended;
+            if !is_blank(bytes) {
+                match parse_request(first_bytes(bytes), spans) {
+                    Ok(Status::Complete(head)) => return Ok(head),
+                    Ok(Status::Partial) => {
+                        if size >= MAX_HEAD_BYTES {
+                            return Err(BAD_MESSAGE);
+                        }
+                        at_end = BAD_MESSAGE;
+                    }
+                    Err(_) => return Err(BAD_MESSAGE),
+                }
+            }
+            if !self.fill_to(size + 1)? {
+                return Err(at_end);
+            }
+        }
+        unreachable!()
+    }
+
+    // Reads the next message, and no further than it must. The head is judged and copied before the body is read: it is
+    // a bad message if it gives no valid size or more than one, and has no length if it names a coding.
+    fn read_next(&mut self) -> Result<Message, Last>
+        ensures message { IfOk result
+            (λ m. IsNext (unread R.remaining self.old) (unread R.remaining self.new) (next_message m)) }
+        ensures last { IfErr result (IsLast (unread R.remaining self.old)) }
     {
         let mut spans = [EMPTY_HEADER_SPAN; MAX_FIELDS];
-        let head = match self.next_head(&mut spans)? {
-            HeadNext::Head(head) => head,
-            HeadNext::Ended => return Ok(Next::Ended),
-            HeadNext::Bad => return Ok(Next::Framing(Refusal::BadMessage)),
-        };
+        let head = self.next_head(&mut spans)?;
         let alloc = *self.buffer.allocator();
         let first = first_bytes(self.buffer.as_slice());
-        let size = match size_of_body(first, &spans, &head) {
-            Ok(size) => size as usize,
-            Err(why) => return Ok(Next::Framing(why)),
+        let fields = &spans[..head.headers];
+        let Some(size) = read_length(first, fields) else {
+            return Err(BAD_MESSAGE);
         };
+        if find_field(first, fields, 0, b"transfer-encoding").is_some() {
+            return Err(Last::Framing(Refusal::LengthRequired));
+        }
+        if size > find_limit(head.method.of(first), head.path.of(first)) {
+            return Err(Last::Framing(Refusal::TooLarge));
+        }
         let method = OwnedBytes::new(Vec::from_slice(alloc, head.method.of(first))?);
         let target = OwnedBytes::new(Vec::from_slice(alloc, head.path.of(first))?);
-        let callers = copied_callers(alloc, first, &spans, &head)?;
-        let end = head.len + size;
+        let mut callers = Texts::new(alloc);
+        for field in fields {
+            if is_name(b"x-caller", field.name.of(first)) {
+                let value = Vec::from_slice(alloc, field.value.of(first))?;
+                callers.push(OwnedBytes::new(value))?;
+            }
+        }
+        let end = head.len + size as usize;
         if !self.fill_to(end)? {
-            return Ok(Next::Framing(Refusal::BadMessage));
+            return Err(BAD_MESSAGE);
         }
         // The body stays in the memory that it was read into; only the bytes after it are copied.
         let rest = Vec::from_slice(alloc, self.buffer.as_slice().split_at(end).1)?;
         let mut body = mem::replace(&mut self.buffer, rest);
         body.rotate_left(head.len);
-        body.truncate(size);
-        Ok(Next::Message(Message {
+        body.truncate(size as usize);
+        Ok(Message {
             method,
             target,
             callers,
             body: OwnedBytes::new(body),
-        }))
+        })
     }
 }
 
@@ -421,7 +367,6 @@ impl<R: Read> Input<R> {
             source: Source {
                 reader,
                 buffer: Vec::new(alloc),
-                ended: false,
             },
             last: None,
         }
@@ -444,16 +389,14 @@ pub fn read_message<R: Read>(input: &mut Input<R>) -> Result<Next, Stop>
 {
     match input.last {
         None => (),
-        Some(Last::Ended) => return Ok(Next::Ended),
-        Some(Last::Framing(why)) => return Ok(Next::Framing(why)),
-        Some(Last::Stopped(stop)) => return Err(stop),
+        Some(last) => return last.answer(),
     }
-    let answer = input.source.read_next();
-    input.last = match &answer {
-        Ok(Next::Message(_)) => None,
-        Ok(Next::Ended) => Some(Last::Ended),
-        Ok(Next::Framing(why)) => Some(Last::Framing(*why)),
-        Err(stop) => Some(Last::Stopped(*stop)),
-    };
-    answer
+    match input.source.read_next() {
+        Ok(message) => Ok(Next::Message(message)),
+        Err(last) => {
+            let answer = last.answer();
+            input.last = Some(last);
+            answer
+        }
+    }
 }

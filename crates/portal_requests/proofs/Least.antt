@@ -1,5 +1,6 @@
 -- The refusal that is told of a message is the least.
-use Rattle.portal_requests.proofs.Names.{◌≡◌, ◌∙◌, ◌<◌, ℕ, Bool, true, false, cond, List, Option, Some, None, Result, Ok, Err, refl, sym, ap, subst, arith, bytes_eq, day_of, Line, Field, Refusal, BadField, BadMethod, NoCaller, NoRoute, Ask, Caller, Request, Message, path_of, ReportPlace, Place, entry_ask, matter_ask, body_in, caller_of, dismissing, line_in, line_keys, day_part, entry_part, named_in, method_of, as_of, asked_at, called, of_matter, reported, request, routed, place_of}
+use Rattle.portal_requests.proofs.Names.{◌≡◌, ◌∙◌, ◌<◌, ℕ, Bool, true, false, cond, List, Option, Some, None, Result, Ok, Err, inr, refl, sym, ap, subst, arith, bytes_eq, day_of, Line, Field, Refusal, BadField, BadMethod, NoCaller, NoRoute, Ask, Caller, Request, Message, path_of, ReportPlace, Place, entry_ask, matter_ask, body_in, caller_of, dismissing, line_in, line_keys, day_part, entry_part, named_in, method_of, as_of, asked_at, called, of_matter, reported, request, routed, place_of}
+use Rattle.std.proofs.Common.{◌⊎◌, IfSome, inl}
 use Rattle.trust_base.specs.Refusals.{number_of}
 use Rattle.trust_base.specs.declared.refusal.Field.TheVariants as field
 use Rattle.portal_requests.specs.declared.routes.ReportPlace.TheVariants as report
@@ -56,44 +57,27 @@ module _ (m : Message) where
       none NoCaller lt is = absurd (omega arith)
       none _ lt is = is
 
+  -- what refuses a message that has a place
+  refuses : (p : Place) (c : Option Caller) (s : Refusal) → RefusesAt (Some p) c m s → (number_of s ≡ 5) × (bytes_eq m.method (method_of p) ≡ false)
+      ⊎ (number_of s ≡ 6) × (c ≡ None) ⊎ (number_of s ≡ 7) × IfSome c (λ caller. asked_at p caller (path_of m.target) m.body ≡ Err s)
+  refuses p c BadMethod is = inl (refl, is)
+  refuses p c NoCaller is = inr (inl (refl, is))
+  refuses p (Some caller) (BadField f) is = inr (inr (refl, is))
+  refuses p None (BadField f) is = absurd is
+  refuses p c NoRoute is = absurd (cc)
+  refuses p c _ is = absurd is
+
   other-method : (p : Place) (c : Option Caller) → bytes_eq m.method (method_of p) ≡ false → Tells (Some p) c (Err BadMethod)
-  other-method p c other = (other, none)
-    where
-      none : (s : Refusal) → number_of s < 5 → RefusesAt (Some p) c m s → ⊥
-      none NoRoute lt is = cc
-      none BadMethod lt is = absurd (omega arith)
-      none NoCaller lt is = absurd (omega arith)
-      none (BadField f) lt is = absurd (omega arith)
-      none _ lt is = is
+  other-method p c other = (other, λ s lt is. grind (arith, refuses p c s is))
 
   no-caller : (p : Place) → bytes_eq m.method (method_of p) ≡ true → Tells (Some p) None (Err NoCaller)
-  no-caller p same = (refl, none)
-    where
-      none : (s : Refusal) → number_of s < 6 → RefusesAt (Some p) None m s → ⊥
-      none NoRoute lt is = cc
-      none BadMethod lt is = cc
-      none NoCaller lt is = absurd (omega arith)
-      none _ lt is = is
+  no-caller p same = (refl, λ s lt is. grind (arith, refuses p None s is))
 
   bad-field : (p : Place) (caller : Caller) (f : Field) → bytes_eq m.method (method_of p) ≡ true → asked_at p caller (path_of m.target) m.body ≡ Err (BadField f) → Tells (Some p) (Some caller) (Err (BadField f))
-  bad-field p caller f same bad = (bad, none)
-    where
-      none : (s : Refusal) → number_of s < 7 → RefusesAt (Some p) (Some caller) m s → ⊥
-      none NoRoute lt is = cc
-      none BadMethod lt is = cc
-      none NoCaller lt is = cc
-      none (BadField g) lt is = absurd (omega arith)
-      none _ lt is = is
+  bad-field p caller f same bad = (bad, λ s lt is. grind (arith, refuses p (Some caller) s is))
 
   all-good : (p : Place) (caller : Caller) (asked : Request) → bytes_eq m.method (method_of p) ≡ true → asked_at p caller (path_of m.target) m.body ≡ Ok asked → Tells (Some p) (Some caller) (Ok asked)
-  all-good p caller asked same good = none
-    where
-      none : (s : Refusal) → RefusesAt (Some p) (Some caller) m s → ⊥
-      none NoRoute is = cc
-      none BadMethod is = cc
-      none NoCaller is = cc
-      none (BadField g) is = cc
-      none _ is = is
+  all-good p caller asked same good = λ s is. grind (arith, refuses p (Some caller) s is)
 
   asked-tells : (p : Place) (caller : Caller) (r : Result Request Refusal) → bytes_eq m.method (method_of p) ≡ true → asked_at p caller (path_of m.target) m.body ≡ r → Tells (Some p) (Some caller) r
   asked-tells p caller (Ok asked) same e = all-good p caller asked same e

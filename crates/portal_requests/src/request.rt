@@ -12,7 +12,7 @@ ghost use Rattle.portal_requests.specs.Asked.{proposing_in, seating_in, splittin
 ghost use Rattle.portal_requests.specs.Bodies.{body_in, has_keys, is_key, is_object, optional_text_at, text_at, text_in, texts};
 ghost use Rattle.portal_requests.specs.Callers.{caller_of};
 ghost use Rattle.portal_requests.specs.Dismissals.{dismissing_in};
-ghost use Rattle.portal_requests.specs.Paths.{behind_slash, entry_part, named_in, up_to_slash};
+ghost use Rattle.portal_requests.specs.Paths.{behind_slash, named_in, up_to_slash};
 ghost use Rattle.portal_requests.specs.Requests.{of_matter, reported, request, with_statement};
 
 use crate::routes::{EntryPlace, MatterPlace, Place, ReportPlace, Routes, StatementPlace, method};
@@ -345,28 +345,6 @@ fn read_matter_at(
     }
 }
 
-// Returns what is asked of the entry in a path.
-fn read_entry_at(
-    alloc: Global,
-    place: EntryPlace,
-    caller: Caller,
-    path: &[u8],
-    body: &[u8],
-) -> Result<Request, Refusal>
-    ensures { Answers (of_matter caller (named_in path.now)
-        (entry_ask place (entry_part path.now) body.now)) result }
-{
-    let Some(no) = named_matter(path) else {
-        return Err(Refusal::BadField(Field::Matter));
-    };
-    // After `/matters/`, the matter and `/entries/`.
-    let entry = up_to_slash(behind_slash(behind_slash(behind(path, 9))));
-    match read_entry_ask(alloc, place, entry, body) {
-        Ok(ask) => Ok(Request::Matter { no, caller, ask }),
-        Err(why) => Err(why),
-    }
-}
-
 // Returns the report that a path asks for.
 fn read_report_at(place: ReportPlace, caller: Caller, path: &[u8]) -> Result<Request, Refusal>
     ensures { Answers (reported place caller path.now) result }
@@ -421,7 +399,17 @@ pub fn request_of(alloc: Global, routes: &Routes, message: &Message) -> Result<R
     let body = message.body.as_slice();
     match place {
         Place::Matter(place) => read_matter_at(alloc, place, caller, path, body),
-        Place::Entry(place) => read_entry_at(alloc, place, caller, path, body),
+        Place::Entry(place) => {
+            let Some(no) = named_matter(path) else {
+                return Err(Refusal::BadField(Field::Matter));
+            };
+            // After `/matters/`, the matter and `/entries/`.
+            let entry = up_to_slash(behind_slash(behind_slash(behind(path, 9))));
+            match read_entry_ask(alloc, place, entry, body) {
+                Ok(ask) => Ok(Request::Matter { no, caller, ask }),
+                Err(why) => Err(why),
+            }
+        }
         Place::Report(place) => read_report_at(place, caller, path),
         Place::Statement(place) => read_statement_at(alloc, place, caller, body),
         Place::Dismissal => read_dismissal(alloc, caller, body),

@@ -1,9 +1,10 @@
 -- What the call that writes a script leaves is a write of the book, if the change of the script fits.
-use Rattle.sql_book.proofs.Names.{◌≡◌, ◌≢◌, ◌⊎◌, inl, inr, ℕ, List, [], map, Result, Ok, Err, OnOk, OnErr, IsTrue, refl, sym, ap, subst, ◌∙◌, Ghosts, Trees, Database, IsDatabase, Held, state, State, HasCleanDisk, StoreFault, Firm, FirmChange, FitsFirm, after, LeavesAlone, Layout, Statement, lists_in, IsSettled, Written, Stands, StandsSound, firm_in, step_of, steps_of, AreMade, HeldBook, firm_of, MayLeave, IsBookWrite, IsBookWriteIf, FitsBook}
+use Rattle.sql_book.proofs.Names.{◌≡◌, ◌≢◌, ◌⊎◌, inl, inr, ℕ, List, [], map, Result, Ok, Err, OnOk, OnErr, IsTrue, refl, sym, ap, subst, ◌∙◌, Ghosts, Trees, Database, IsDatabase, Held, state, State, HasCleanDisk, StoreFault, Firm, FirmChange, FitsFirm, after, LeavesAlone, Layout, Statement, lists_in, IsSettled, Written, Stands, StandsSound, firm_in, step_of, steps_of, AreMade, HeldBook, IsLasting, IsServing, IsStanding, IsSure, firm_of, MayLeave, is_ok, Error}
 use Rattle.std.proofs.lemmas.Result.{on_ok_weaker, on_err_weaker}
 use Rattle.trust_store.specs.Books.{counted}
+use Rattle.trust_store.specs.Calls.{IsWrite, IsWriteIf}
 use Rattle.sql_tables.specs.Reading.{LeavesOnly}
-use Rattle.sql_rows.specs.Scripts.{IsTyped, IsScriptMeant}
+use Rattle.sql_rows.specs.Scripts.{IsTyped, IsScriptMeant, ScriptsAreMeant}
 use Rattle.sql_book.proofs.Scripts.{made_of_steps, keyed}
 
 both_ok : {T E P Q R : Type 0} (r : Result T E) → OnOk r P → OnOk r Q → (P → Q → R) → OnOk r R
@@ -37,7 +38,7 @@ stands_after l change script db next meant typed is stands fits some written =
     }
 
 -- what the call that writes a script leaves
-pub record Wrote (script : List Statement) (result : Result Unit StoreFault) (old new : State) : Type 0 where
+pub record Wrote {E : Type 0} (script : List Statement) (result : Result Unit E) (old new : State) : Type 0 where
   pub written : (l : Layout) → HasCleanDisk new → Stands l old.now → OnOk result (Written l script old.now new.now)
   pub settled : HasCleanDisk new → OnOk result (IsSettled new)
   pub serves : HasCleanDisk new → OnOk result (IsTrue new.is_open)
@@ -48,6 +49,18 @@ pub record Wrote (script : List Statement) (result : Result Unit StoreFault) (ol
   pub opened : HasCleanDisk new → script ≢ [] → LeavesOnly old new (λ _. IsTrue old.is_open)
   pub crash : (l : Layout) → HasCleanDisk new → Stands l old.now
       → LeavesOnly old new (λ trees. (db : Database) × Written l script old.now db × (trees ≡ db.trees))
+
+-- what a book promises of a write, and what it promises if something holds
+abbrev pub IsBookWrite : {S T : Type 0} → Ghosts S → FirmChange → Result T StoreFault → HeldBook S → HeldBook S → Type 0
+IsBookWrite g = IsWrite (firm_of g) (IsServing g) (IsSure g) (IsStanding g) (IsLasting g) (MayLeave g) (λ b. b.refusals)
+
+abbrev pub IsBookWriteIf : {S T : Type 0} → Ghosts S → Type 0 → FirmChange → Result T StoreFault → HeldBook S → HeldBook S
+    → Type 0
+IsBookWriteIf g = IsWriteIf (firm_of g) (IsServing g) (IsSure g) (IsStanding g) (IsLasting g) (MayLeave g) (λ b. b.refusals)
+
+-- if the book serves and stands, the change fits its firm
+abbrev pub FitsBook : {S : Type 0} → Ghosts S → FirmChange → HeldBook S → Type 0
+FitsBook g change b = IsServing g b → IsStanding g b → FitsFirm (firm_of g b) change
 
 -- a book that holds this
 abbrev pub holding : {S : Type 0} → Held S → Layout → ℕ → HeldBook S
@@ -115,15 +128,24 @@ module _ {S : Type 0} (g : Ghosts S) (l : Layout) (before now : Held S) (few man
     count = count;
   }
 
+-- it does not matter why it failed
+told : {E F : Type 0} (script : List Statement) (q : Result Unit E) (r : Result Unit F) (old new : State)
+    → is_ok r ≡ is_ok q → Wrote script q old new → Wrote script r old new
+told script (Ok x) (Ok y) old new alike w = assumption w
+told script (Err x) (Err y) old new alike w = assumption w
+told script (Ok x) (Err y) old new alike w = absurd (let e = alike in cc)
+told script (Err x) (Ok y) old new alike w = absurd (let e = alike in cc)
+
 -- the same of a book that is seen to hold the connection
-pub wrote : {S : Type 0} (g : Ghosts S) (l : Layout) (before now : Held S) (few many : ℕ) (change : FirmChange)
-    (script : List Statement) → script ≢ [] → IsScriptMeant change → IsTyped change → map step_of script ≡ steps_of change
-    → (result : Result Unit StoreFault) → Wrote script result (state g before) (state g now) → many ≡ counted result few
-    → (old : HeldBook S) → holding before l few ≡ old
-    → IsBookWriteIf g (FitsBook g change old) change result old (holding now l many)
-wrote g l before now few many change script some meant typed is result w count old held =
-    subst (λ b. IsBookWriteIf g (FitsBook g change b) change result b (holding now l many)) held
-    (is_write g l before now few many change script some meant typed is result w count)
+pub wrote : {S : Type 0} (g : Ghosts S) {l : Layout} {before now : Held S} {few many : ℕ} {q : Result Unit Error}
+    {r : Result Unit StoreFault} {old : HeldBook S} (change : FirmChange) (script : List Statement)
+    → holding before l few ≡ old → is_ok r ≡ is_ok q → many ≡ counted r few → ScriptsAreMeant
+    → Wrote script q (state g before) (state g now) → script ≢ [] → IsTyped change → map step_of script ≡ steps_of change
+    → IsBookWriteIf g (FitsBook g change old) change r old (holding now l many)
+wrote g {l} {before} {now} {few} {many} {q} {r} change script held alike count meant w some typed is =
+    subst (λ b. IsBookWriteIf g (FitsBook g change b) change r b (holding now l many)) held
+    (is_write g l before now few many change script some (meant change) typed is r
+    (told script q r (state g before) (state g now) alike w) count)
 
 -- What holds of every answer.
 

@@ -2,4 +2,3 @@ pub mod Books
 pub mod Opening
 pub mod Stops
 pub mod Then
-pub mod Writes

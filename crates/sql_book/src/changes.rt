@@ -1,6 +1,6 @@
 // The SQL statements that a change writes: of a matter, first those to the head, then what the edit writes.
 
-ghost use Rattle.std.specs.Prelude.{◌≡◌, ◌≤◌, ◌∷◌, ◌++◌, pos, None, map, IfOk};
+ghost use Rattle.std.specs.Prelude.{◌≡◌, ◌≤◌, [], ◌∷◌, pos, None, Some, map, IfOk};
 ghost use Rattle.matter_rows.specs.declared.limits.TheConstants.{MAX_TOTAL};
 ghost use Rattle.matter_parts.specs.declared.edit.Edit.TheVariants as edit;
 ghost use Rattle.firm_rows.specs.Firm.{own_movement};
@@ -9,10 +9,11 @@ ghost use Rattle.firm_rows.specs.FirmLines.{as_firm_line};
 ghost use Rattle.sql_tables.specs.Given.{firm_line_given, movement_given};
 ghost use Rattle.sql_rows.specs.Columns.{firm_line_columns, movement_columns};
 ghost use Rattle.sql_rows.specs.Scripts.{IsTyped, IsTypedEdit};
-ghost use Rattle.sql_rows.specs.Steps.{step_of, entry_steps, movement_steps, matter_steps};
+ghost use Rattle.sql_rows.specs.Steps.{AddMovement, EntriesGone, MovementsGone, SeatsGone, SetPurged, step_of, movement_steps, matter_steps};
 
 use firm_rows::{Movement, Owner};
-use matter_parts::{Change, Edit, Left, Numbered, Opening};
+use matter_parts::{Change, Edit, Left, Opening};
+use matter_rows::EntryMovement;
 use sql_rows::{entry_columns, head_columns, movement_columns, seat_columns, totals_columns};
 use sql_tables::{FirmLineColumns, LeftColumns, MatterDay, MovementColumns, SeatName, Statement};
 use std::alloc::{AllocError, Global};
@@ -54,36 +55,38 @@ fn left_columns(matter: MatterNo, named: Left) -> LeftColumns
     }
 }
 
-// The script for an entry that is added or replaces the one with its number: the totals, the entry, and, if there are
-// any, what is left of the entry that it names, and its movement.
-fn entry_script<'a>(
-    alloc: Global,
-    matter: MatterNo,
-    change: &Change,
-    totals: Statement<'a>,
-    written: &'a Numbered,
-) -> Result<Vec<Statement<'a>>, AllocError>
-    ensures { IfOk result (λ script. map step_of script.items ≡ step_of totals.entry
-        ∷ (entry_steps matter written.now change.now.moves ++ movement_steps matter change.now.movement)) }
+// The columns of the movement of an entry of a matter.
+fn entry_moved(matter: MatterNo, moved: EntryMovement) -> MovementColumns
+    ensures { movement_steps matter (Some moved) ≡ AddMovement (movement_given result) ∷ [] }
 {
-    let moves = change.moves();
-    let entry = entry_columns(matter, written.number, moves.left, &written.entry);
-    let mut script = Vec::from_slice(alloc, &[totals, Statement::Entry(entry)])?;
-    if let Some(other) = moves.other {
-        script.push(Statement::Left(left_columns(matter, other)))?;
-    }
-    if let Some(moved) = change.movement() {
-        let owner = Owner::Matter {
+    movement_columns(Movement {
+        owner: Owner::Matter {
             matter,
             entry: moved.entry,
-        };
-        script.push(Statement::Movement(movement_columns(Movement {
-            owner,
-            day: moved.day,
-            amount: moved.amount,
-        })))?;
-    }
-    Ok(script)
+        },
+        day: moved.day,
+        amount: moved.amount,
+    })
+}
+
+// The script of a purge: of the matter's rows only the head stays.
+fn purge_script<'a>(
+    alloc: Global,
+    matter: MatterNo,
+    day: Day,
+    totals: Statement<'a>,
+) -> Result<Vec<Statement<'a>>, AllocError>
+    ensures { IfOk result (λ script. map step_of script.items ≡ SetPurged (pos matter) (pos day)
+        ∷ step_of totals.entry ∷ SeatsGone (pos matter) ∷ EntriesGone (pos matter) ∷ MovementsGone (pos matter) ∷ []) }
+{
+    let script = [
+        Statement::Purged(day_columns(matter, day)),
+        totals,
+        Statement::SeatsGone(matter.get() as i64),
+        Statement::EntriesGone(matter.get() as i64),
+        Statement::MovementsGone(matter.get() as i64),
+    ];
+    Vec::from_slice(alloc, &script)
 }
 
 #[tactic(auto, unfolding(trust_values::specs::Limits::IsDay))]
@@ -100,8 +103,9 @@ fn opening_is_typed(opening: &Opening)
     }
 }
 
-/// The script of a change by its edit, and what the types of its days and number say. Of a purged matter's rows only
-/// the head stays.
+/// The script of a change by its edit, and what the types of its days and number say. For an entry that is added or
+/// replaces the one with its number: the totals, the entry, and, if there are any, what is left of the entry that it
+/// names, and its movement.
 pub(crate) fn edit_script<'a>(
     alloc: Global,
     matter: MatterNo,
@@ -111,13 +115,13 @@ pub(crate) fn edit_script<'a>(
         map step_of script.items ≡ matter_steps matter change.now change.now.edit) }
     ensures typed { IfOk result (λ _. IsTyped (OfMatter matter None change.now)) }
 {
-    let figures = change.moves().figures;
-    let totals = Statement::Totals(totals_columns(matter, change.last(), figures));
+    let moves = change.moves();
+    let totals = Statement::Totals(totals_columns(matter, change.last(), moves.figures));
     match change.edit() {
         Edit::Nothing => Vec::from_slice(alloc, &[]),
         Edit::Open(opening) => {
             opening_is_typed(opening);
-            let head = Statement::Head(head_columns(matter, &opening.head, figures));
+            let head = Statement::Head(head_columns(matter, &opening.head, moves.figures));
             let seat = Statement::Seat(seat_columns(matter, &opening.seat));
             Vec::from_slice(alloc, &[head, seat])
         }
@@ -136,17 +140,19 @@ pub(crate) fn edit_script<'a>(
         }
         Edit::Clear(day) => {
             day_is_typed(*day);
-            let script = [
-                Statement::Purged(day_columns(matter, *day)),
-                totals,
-                Statement::SeatsGone(matter.get() as i64),
-                Statement::EntriesGone(matter.get() as i64),
-                Statement::MovementsGone(matter.get() as i64),
-            ];
-            Vec::from_slice(alloc, &script)
+            purge_script(alloc, matter, *day, totals)
         }
-        Edit::Append(written) => entry_script(alloc, matter, change, totals, written),
-        Edit::Exchange(written) => entry_script(alloc, matter, change, totals, written),
+        Edit::Append(written) | Edit::Exchange(written) => {
+            let entry = entry_columns(matter, written.number, moves.left, &written.entry);
+            let mut script = Vec::from_slice(alloc, &[totals, Statement::Entry(entry)])?;
+            if let Some(other) = moves.other {
+                script.push(Statement::Left(left_columns(matter, other)))?;
+            }
+            if let Some(moved) = change.movement() {
+                script.push(Statement::Movement(entry_moved(matter, moved)))?;
+            }
+            Ok(script)
+        }
     }
 }
 

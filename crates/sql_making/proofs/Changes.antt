@@ -17,6 +17,14 @@ pub elsewhere : (tree : ℕ) (old new : Database) (trees : Trees) → new ≡ re
     → AllByRecursion (λ t. t.tree ≢ tree → trees t.tree ≡ old.trees t.tree) (book_schema Moved).tables → IsElsewhere tree old new
 elsewhere tree old new trees is others = subst (IsElsewhere tree old) (sym is) (record { schema = refl; others = others })
 
+-- an empty table has these records after the statement, where another holds them
+abbrev pub Fills : {X : Type 0} → (X → ℤ) → (X → Row) → (X → Row) → ℕ → ℕ → Trees → Trees → Type 0
+Fills {X} key from_row to_row from tree db next = (xs : List X) → db from ≡ map from_row xs → IsKeyedBy key xs → db tree ≡ [] → next tree ≡ map to_row xs
+
+-- a table has no row after the statement, where it held records in order
+abbrev pub Clears : {X : Type 0} → (X → ℤ) → (X → Row) → ℕ → Trees → Trees → Type 0
+Clears {X} key to_row tree db next = (xs : List X) → db tree ≡ map to_row xs → IsKeyedBy key xs → next tree ≡ []
+
 -- ---- lists in order
 
 at_middle : {X : Type 0} (P : X → Type 0) (acc : List X) (x : X) (xs : List X) → AllByRecursion P (acc ++ x ∷ xs) → P x
@@ -56,16 +64,12 @@ module _ (at : ℕ) (table : Table) (place : slice_get (book_schema Moved).table
   abbrev base : List Row
   base = old.now.trees table.tree
 
-  pub record Copies : Type 0 where
-    pub elsewhere_kept : IsElsewhere table.tree old.now new.now
-    pub rows : List Row
-    pub answer : IsAnswer q (overlay old.now.trees []) [] rows
-    pub put : new.now.trees table.tree ≡ put_all base (numbered Chosen base (map (cast_row table) rows))
-
   chosen : (top : ℤ) → rowids_for table top ≡ Chosen
   chosen top = rw uncounted
 
-  pub copies : Copies
+  copies : IsElsewhere table.tree old.now new.now
+      × ((rows : List Row) × IsAnswer q (overlay old.now.trees []) [] rows
+      × (new.now.trees table.tree ≡ put_all base (numbered Chosen base (map (cast_row table) rows))))
   copies =
       let w = runs_in_batch part old new (book_schema Moved) has (Insert at (source.Query (record { lets = []; body = q }))) told.is told.plain count h in
       let did = inserts old new (book_schema Moved) has at table place [] _ count _ w in
@@ -79,22 +83,26 @@ module _ (at : ℕ) (table : Table) (place : slice_get (book_schema Moved).table
       let applied = one_step (book_schema Moved) Enforced db mid.0 edit (idle Moved table.tree (taken_by db edit) edit.news) put in
       let kept : last.0 ≡ mid.0 = uncounts (record { limit = old.step_limit; keys = Enforced; schema = book_schema Moved; table = table; params = [] }) mid.0 last.0 counter.0 _ uncounted last.1 in
       let trees : did.0.trees ≡ mid.0 = ap (λ (x : Written). x.trees) (same_value last.2) ∙ kept in
-      let now : new.now ≡ record { schema = book_schema Moved; trees = mid.0 } = did.2 ∙ ap (λ (t : Trees). record { schema = book_schema Moved; trees = t }) trees in
-      record {
-        elsewhere_kept = elsewhere table.tree old.now new.now mid.0 now applied.tables;
-        rows = given.0;
-        answer = subst (λ p. IsAnswer q (overlay db []) p given.0) no_clock (given.1.answer Null);
-        put = ap (λ (d : Database). d.trees table.tree) now ∙ applied.rows;
-      }
+      let now : new.now ≡ record { schema = book_schema Moved; trees = mid.0 } = did.2 ∙ ap (λ (t : Trees). record { schema = book_schema Moved; trees = t }) trees in (
+        elsewhere table.tree old.now new.now mid.0 now applied.tables,
+        (given.0, subst (λ p. IsAnswer q (overlay db []) p given.0) no_clock (given.1.answer Null), ap (λ (d : Database). d.trees table.tree) now ∙ applied.rows),
+      )
 
-  -- rows in order go into an empty table as they are
-  module _ {X : Type 0} (key : X → ℤ) (to_row : X → Row) (keyed : (x : X) → rowid (to_row x) ≡ Int (key x)) (kept : (x : X) → cast_row table (to_row x) ≡ to_row x) (xs : List X) where
-    pub filled : (it : Copies) → base ≡ [] → it.rows ≡ map to_row xs → IsKeyedBy key xs → new.now.trees table.tree ≡ map to_row xs
-    filled it empty rows rise =
-        it.put ∙ ap (λ l. put_all base (numbered Chosen base (map (cast_row table) l))) rows
+  -- rows in order, as the query shows them, go into an empty table as they are
+  pub fills : {X : Type 0} (key : X → ℤ) (from_row to_row : X → Row) (from : ℕ) → ((x : X) → rowid (to_row x) ≡ Int (key x))
+      → ((x : X) → cast_row table (to_row x) ≡ to_row x)
+      → ((xs : List X) → old.now.trees from ≡ map from_row xs → IsKeyedBy key xs → (rows : List Row)
+      → IsAnswer q (overlay old.now.trees []) [] rows → rows ≡ map to_row xs)
+      → IsElsewhere table.tree old.now new.now × Fills key from_row to_row from table.tree old.now.trees new.now.trees
+  fills key from_row to_row from keyed kept shown = (
+    copies.0,
+    λ xs stored rise empty.
+        let it = copies.1 in
+        it.2 ∙ ap (λ l. put_all base (numbered Chosen base (map (cast_row table) l))) (shown xs stored rise it.0 it.1)
         ∙ ap (λ l. put_all base (numbered Chosen base l)) (map-map (cast_row table) to_row xs ∙ map_same _ to_row kept xs)
         ∙ ap (put_all base) (all_numbered key to_row keyed xs base)
-        ∙ ap (λ l. put_all l (map to_row xs)) empty ∙ all_put key to_row keyed [] xs rise
+        ∙ ap (λ l. put_all l (map to_row xs)) empty ∙ all_put key to_row keyed [] xs rise,
+  )
 
 -- ---- DELETE of every row
 
@@ -104,24 +112,17 @@ none_left (x ∷ xs) = none_left xs
 
 module _ (at : ℕ) (table : Table) (place : slice_get (book_schema Moved).tables at ≡ Some table) (no_terms : table.stamps.terms ≡ []) (no_formats : table.stamps.formats ≡ []) (part : List ℕ)
     (told : IsCommand (book_schema Moved) part (Delete at (record { lets = []; body = picked table.tree [] }))) (old new : State) (count : ℕ) (has : old.now.schema ≡ book_schema Moved) (h : ExecutesIn true part [] old new (Ok count)) where
-  pub record Empties : Type 0 where
-    pub elsewhere_kept : IsElsewhere table.tree old.now new.now
-    pub rows : List Row
-    pub answer : IsAnswer (picked table.tree []) (overlay old.now.trees []) [] rows
-    pub left : new.now.trees table.tree ≡ without_all (old.now.trees table.tree) (ids_of rows)
-
-  pub empties : Empties
+  empties : IsElsewhere table.tree old.now new.now
+      × ((rows : List Row) × IsAnswer (picked table.tree []) (overlay old.now.trees []) [] rows
+      × (new.now.trees table.tree ≡ without_all (old.now.trees table.tree) (ids_of rows)))
   empties =
       let q : Program = record { lets = []; body = picked table.tree [] } in
       let w = runs_in_batch part old new (book_schema Moved) has (Delete at q) told.is told.plain count h in
       let did = deletes old new (book_schema Moved) has at table place [] _ count q w in
-      let gone = removed old.step_limit (book_schema Moved) table [] no_terms no_formats old.now.trees q did.0 (λ olds. idle Moved table.tree olds []) did.1 in
-      record {
-        elsewhere_kept = elsewhere table.tree old.now new.now did.0.trees did.2 gone.2.tables;
-        rows = gone.0;
-        answer = gone.1.answer Null;
-        left = ap (λ (d : Database). d.trees table.tree) did.2 ∙ gone.2.rows;
-      }
+      let gone = removed old.step_limit (book_schema Moved) table [] no_terms no_formats old.now.trees q did.0 (λ olds. idle Moved table.tree olds []) did.1 in (
+        elsewhere table.tree old.now new.now did.0.trees did.2 gone.2.tables,
+        (gone.0, gone.1.answer Null, ap (λ (d : Database). d.trees table.tree) did.2 ∙ gone.2.rows),
+      )
 
   module _ {X : Type 0} (key : X → ℤ) (to_row : X → Row) (keyed : (x : X) → rowid (to_row x) ≡ Int (key x)) (xs : List X) (rise : IsKeyedBy key xs) (stored : old.now.trees table.tree ≡ map to_row xs) where
     shown : (rows : List Row) → IsAnswer (picked table.tree []) (overlay old.now.trees []) [] rows → IsPermutation (map (λ x. Int (key x) ∷ []) (filter (λ _. true) xs)) rows
@@ -134,6 +135,13 @@ module _ (at : ℕ) (table : Table) (place : slice_get (book_schema Moved).table
         let same = IsPermutation-map (λ (o : Output). o.1) _ _ answer.same in
         subst₂ IsPermutation (ap (map (λ (o : Output). o.1)) kept ∙ map-map (λ (o : Output). o.1) _ _ ∙ map_same _ (λ x. Int (key x) ∷ []) (λ x. ap (λ v. v ∷ []) (keyed x)) _) (sym answer.shown) same
 
-    pub emptied : (it : Empties) → new.now.trees table.tree ≡ []
-    emptied it =
-        it.left ∙ ap (λ rows. without_all rows (ids_of it.rows)) stored ∙ rows_gone key to_row keyed (λ _. true) xs rise it.rows (shown it.rows it.answer) ∙ ap (map to_row) (none_left xs)
+  pub clears : {X : Type 0} (key : X → ℤ) (to_row : X → Row) → ((x : X) → rowid (to_row x) ≡ Int (key x))
+      → IsElsewhere table.tree old.now new.now × Clears key to_row table.tree old.now.trees new.now.trees
+  clears key to_row keyed = (
+    empties.0,
+    λ xs stored rise.
+        let it = empties.1 in
+        it.2 ∙ ap (λ rows. without_all rows (ids_of it.0)) stored
+        ∙ rows_gone key to_row keyed (λ _. true) xs rise it.0 (shown key to_row keyed xs rise stored it.0 it.1)
+        ∙ ap (map to_row) (none_left xs),
+  )

@@ -3,7 +3,7 @@ use Rattle.sql_making.proofs.Names.{Int, ◌≡◌, ℕ, ℤ, pos, true, List, [
 use Rattle.sqlite_typed.proofs.TestLemmas.{last_key}
 use Rattle.sql_tables.proofs.Casts.{row_kept}
 use Rattle.sql_making.proofs.Means.{heads_copied_query, heads_copied_means, seats_copied_query, seats_copied_means, entries_copied_query, entries_copied_means, heads_emptied_means, seats_emptied_means, entries_emptied_means}
-use Rattle.sql_making.proofs.Changes.{IsElsewhere, copies, filled, empties, emptied}
+use Rattle.sql_making.proofs.Changes.{IsElsewhere, Fills, Clears, fills, clears}
 
 -- a head with the column that was added
 abbrev pub new_head_row : Head → Row
@@ -27,53 +27,43 @@ entries_shown db xs stored rise rows answer =
     sym (map-id rows) ∙ answer_by_keys entries_copied_query (overlay db []) [] source (λ _. true) (λ x. refl) (λ (r : Row). r) entry_row (λ x. refl) refl refl (λ a b. last_key (value_cmp-Int a.id b.id)) rows answer
     ∙ ap (map entry_row) (all_kept xs)
 
--- an empty table has these records after the statement, where another holds them
-abbrev pub Fills : {X : Type 0} → (X → ℤ) → (X → Row) → (X → Row) → ℕ → ℕ → Trees → Trees → Type 0
-Fills {X} key from_row to_row from tree db next = (xs : List X) → db from ≡ map from_row xs → IsKeyedBy key xs → db tree ≡ [] → next tree ≡ map to_row xs
-
--- a table has no row after the statement, where it held records in order
-abbrev pub Clears : {X : Type 0} → (X → ℤ) → (X → Row) → ℕ → Trees → Trees → Type 0
-Clears {X} key to_row tree db next = (xs : List X) → db tree ≡ map to_row xs → IsKeyedBy key xs → next tree ≡ []
-
 module _ (old new : State) (count : ℕ) (has : old.now.schema ≡ book_schema Moved) where
-  pub copies_heads : ExecutesIn true heads_copied_part [] old new (Ok count) → IsElsewhere 13 old.now new.now × Fills (λ (x : Head). x.no) old_head_row new_head_row 1 13 old.now.trees new.now.trees
+  pub copies_heads : ExecutesIn true heads_copied_part [] old new (Ok count)
+      → IsElsewhere 13 old.now new.now × Fills (λ (x : Head). x.no) old_head_row new_head_row 1 13 old.now.trees new.now.trees
   copies_heads h =
-      let it = copies (matter_place Moved) (matter_table Moved) refl refl refl heads_copied_query heads_copied_part heads_copied_means old new count has h in (
-        it.elsewhere_kept,
-        λ xs stored rise empty.
-            filled (matter_place Moved) (matter_table Moved) refl refl refl heads_copied_query heads_copied_part heads_copied_means old new count has h (λ (x : Head). x.no) new_head_row (λ x. refl) (λ h. row_kept (matter_table Moved) (Int h.no) (Null ∷ head_shown (record h { purged = pos 0 })) refl refl) xs it
-            empty (heads_shown old.now.trees xs stored rise it.rows it.answer) rise,
-      )
+      fills (matter_place Moved) (matter_table Moved) refl refl refl heads_copied_query heads_copied_part heads_copied_means
+      old new count has h (λ (x : Head). x.no) old_head_row new_head_row 1 (λ _. refl)
+      (λ h. row_kept (matter_table Moved) (Int h.no) (Null ∷ head_shown (record h { purged = pos 0 })) refl refl)
+      (heads_shown old.now.trees)
 
-  pub copies_seats : ExecutesIn true seats_copied_part [] old new (Ok count) → IsElsewhere 14 old.now new.now × Fills (λ (x : Seat). x.id) seat_row seat_row 2 14 old.now.trees new.now.trees
+  pub copies_seats : ExecutesIn true seats_copied_part [] old new (Ok count)
+      → IsElsewhere 14 old.now new.now × Fills (λ (x : Seat). x.id) seat_row seat_row 2 14 old.now.trees new.now.trees
   copies_seats h =
-      let it = copies (seat_place Moved) (seat_table Moved) refl refl refl seats_copied_query seats_copied_part seats_copied_means old new count has h in (
-        it.elsewhere_kept,
-        λ xs stored rise empty.
-            filled (seat_place Moved) (seat_table Moved) refl refl refl seats_copied_query seats_copied_part seats_copied_means old new count has h (λ (x : Seat). x.id) seat_row (λ x. refl) (λ x. row_kept (seat_table Moved) (Int x.id) (seat_values x) refl refl) xs it
-            empty (seats_shown old.now.trees xs stored rise it.rows it.answer) rise,
-      )
+      fills (seat_place Moved) (seat_table Moved) refl refl refl seats_copied_query seats_copied_part seats_copied_means
+      old new count has h (λ (x : Seat). x.id) seat_row seat_row 2 (λ _. refl)
+      (λ x. row_kept (seat_table Moved) (Int x.id) (seat_values x) refl refl) (seats_shown old.now.trees)
 
-  pub copies_entries : ExecutesIn true entries_copied_part [] old new (Ok count) → IsElsewhere 16 old.now new.now × Fills (λ (x : Entry). x.id) entry_row entry_row 4 16 old.now.trees new.now.trees
+  pub copies_entries : ExecutesIn true entries_copied_part [] old new (Ok count)
+      → IsElsewhere 16 old.now new.now × Fills (λ (x : Entry). x.id) entry_row entry_row 4 16 old.now.trees new.now.trees
   copies_entries h =
-      let it = copies (entry_place Moved) (entry_table Moved) refl refl refl entries_copied_query entries_copied_part entries_copied_means old new count has h in (
-        it.elsewhere_kept,
-        λ xs stored rise empty.
-            filled (entry_place Moved) (entry_table Moved) refl refl refl entries_copied_query entries_copied_part entries_copied_means old new count has h (λ (x : Entry). x.id) entry_row (λ x. refl) (λ x. row_kept (entry_table Moved) (Int x.id) (entry_values x) refl refl) xs it
-            empty (entries_shown old.now.trees xs stored rise it.rows it.answer) rise,
-      )
+      fills (entry_place Moved) (entry_table Moved) refl refl refl entries_copied_query entries_copied_part entries_copied_means
+      old new count has h (λ (x : Entry). x.id) entry_row entry_row 4 (λ _. refl)
+      (λ x. row_kept (entry_table Moved) (Int x.id) (entry_values x) refl refl) (entries_shown old.now.trees)
 
-  pub empties_entries : ExecutesIn true entries_emptied_part [] old new (Ok count) → IsElsewhere 4 old.now new.now × Clears (λ (x : Entry). x.id) entry_row 4 old.now.trees new.now.trees
+  pub empties_entries : ExecutesIn true entries_emptied_part [] old new (Ok count)
+      → IsElsewhere 4 old.now new.now × Clears (λ (x : Entry). x.id) entry_row 4 old.now.trees new.now.trees
   empties_entries h =
-      let it = empties 3 old_entry_table refl refl refl entries_emptied_part entries_emptied_means old new count has h in
-      (it.elsewhere_kept, λ xs stored rise. emptied 3 old_entry_table refl refl refl entries_emptied_part entries_emptied_means old new count has h (λ (x : Entry). x.id) entry_row (λ x. refl) xs rise stored it)
+      clears 3 old_entry_table refl refl refl entries_emptied_part entries_emptied_means old new count has h
+      (λ (x : Entry). x.id) entry_row (λ _. refl)
 
-  pub empties_seats : ExecutesIn true seats_emptied_part [] old new (Ok count) → IsElsewhere 2 old.now new.now × Clears (λ (x : Seat). x.id) seat_row 2 old.now.trees new.now.trees
+  pub empties_seats : ExecutesIn true seats_emptied_part [] old new (Ok count)
+      → IsElsewhere 2 old.now new.now × Clears (λ (x : Seat). x.id) seat_row 2 old.now.trees new.now.trees
   empties_seats h =
-      let it = empties 2 old_seat_table refl refl refl seats_emptied_part seats_emptied_means old new count has h in
-      (it.elsewhere_kept, λ xs stored rise. emptied 2 old_seat_table refl refl refl seats_emptied_part seats_emptied_means old new count has h (λ (x : Seat). x.id) seat_row (λ x. refl) xs rise stored it)
+      clears 2 old_seat_table refl refl refl seats_emptied_part seats_emptied_means old new count has h
+      (λ (x : Seat). x.id) seat_row (λ _. refl)
 
-  pub empties_heads : ExecutesIn true heads_emptied_part [] old new (Ok count) → IsElsewhere 1 old.now new.now × Clears (λ (x : Head). x.no) old_head_row 1 old.now.trees new.now.trees
+  pub empties_heads : ExecutesIn true heads_emptied_part [] old new (Ok count)
+      → IsElsewhere 1 old.now new.now × Clears (λ (x : Head). x.no) old_head_row 1 old.now.trees new.now.trees
   empties_heads h =
-      let it = empties 1 old_matter_table refl refl refl heads_emptied_part heads_emptied_means old new count has h in
-      (it.elsewhere_kept, λ xs stored rise. emptied 1 old_matter_table refl refl refl heads_emptied_part heads_emptied_means old new count has h (λ (x : Head). x.no) old_head_row (λ x. refl) xs rise stored it)
+      clears 1 old_matter_table refl refl refl heads_emptied_part heads_emptied_means old new count has h
+      (λ (x : Head). x.no) old_head_row (λ _. refl)

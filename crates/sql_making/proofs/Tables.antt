@@ -36,18 +36,21 @@ twelve db = record {
   entries = db 16;
 }
 
-pub others_kept : (tree : ℕ) (old new : Database) → IsElsewhere tree old new → twelve new.trees ≡ twelve (with_rows old.trees tree (new.trees tree))
-others_kept tree old new it = λ i. record {
-  book = one_kept 0 tree old.trees new.trees it.others.0 i;
-  old_heads = one_kept 1 tree old.trees new.trees it.others.1.0 i;
-  old_seats = one_kept 2 tree old.trees new.trees it.others.1.1.0 i;
-  old_entries = one_kept 4 tree old.trees new.trees it.others.1.1.1.0 i;
-  movements = one_kept 6 tree old.trees new.trees it.others.1.1.1.1.0 i;
-  counts = one_kept 7 tree old.trees new.trees it.others.1.1.1.1.1.0 i;
-  firm_lines = one_kept 8 tree old.trees new.trees it.others.1.1.1.1.1.1.0 i;
-  exceptions = one_kept 9 tree old.trees new.trees it.others.1.1.1.1.1.1.1.0 i;
-  balances = one_kept 11 tree old.trees new.trees it.others.1.1.1.1.1.1.1.1.0 i;
-  heads = one_kept 13 tree old.trees new.trees it.others.1.1.1.1.1.1.1.1.1.0 i;
-  seats = one_kept 14 tree old.trees new.trees it.others.1.1.1.1.1.1.1.1.1.1.0 i;
-  entries = one_kept 16 tree old.trees new.trees it.others.1.1.1.1.1.1.1.1.1.1.1.0 i;
-}
+pub others_kept : (tree : ℕ) (old new : Database) → IsElsewhere tree old new
+    → twelve new.trees ≡ twelve (with_rows old.trees tree (new.trees tree))
+others_kept tree old new it =
+    let at = λ (t : ℕ). one_kept t tree old.trees new.trees in
+    let o = it.others in λ i. record {
+      book = at 0 o.0 i;
+      old_heads = at 1 o.1.0 i;
+      old_seats = at 2 o.1.1.0 i;
+      old_entries = at 4 o.1.1.1.0 i;
+      movements = at 6 o.1.1.1.1.0 i;
+      counts = at 7 o.1.1.1.1.1.0 i;
+      firm_lines = at 8 o.1.1.1.1.1.1.0 i;
+      exceptions = at 9 o.1.1.1.1.1.1.1.0 i;
+      balances = at 11 o.1.1.1.1.1.1.1.1.0 i;
+      heads = at 13 o.1.1.1.1.1.1.1.1.1.0 i;
+      seats = at 14 o.1.1.1.1.1.1.1.1.1.1.0 i;
+      entries = at 16 o.1.1.1.1.1.1.1.1.1.1.1.0 i;
+    }

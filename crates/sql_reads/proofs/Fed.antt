@@ -1,5 +1,5 @@
 -- Rows that were handed over.
-use Rattle.sql_reads.proofs.Names.{◌≡◌, ℕ, ◌+◌, List, [], ◌∷◌, ◌++◌, map, fold, length, Result, Ok, Err, OnOk, IfOk, IsErr, refl, sym, ap, ◌∙◌, subst, append-nil, arith, length-append, length-map, map-append, IfOk-weaker, on_ok_weaker, HandedOver, FoldsFront, begun, one_more, all_more, some_more, ended, AreCounted}
+use Rattle.sql_reads.proofs.Names.{◌≡◌, ℕ, List, [], ◌∷◌, map, fold, Result, Ok, Err, IsErr, refl, sym, ap, ◌∙◌, length-map, map-append, IfOk-weaker, on_ok_weaker, AreCounted}
 
 module _ {S A B : Type 0} (step : S → A → S) (f : B → A) where
   fold_mapped : (s : S) (xs : List B) → fold (λ t x. step t (f x)) s xs ≡ fold step s (map f xs)
@@ -26,65 +26,3 @@ module _ {S A B : Type 0} (step : S → A → S) (f : B → A) where
 pub of_err : {T E : Type 0} (P : Result T E → Type 0) → ((e : E) → P (Err e)) → (r : Result T E) → IsErr r → P r
 of_err P at (Ok x) is = absurd (let e = is in cc)
 of_err P at (Err e) is = at e
-
--- One row, and then those of two lists.
-module _ {S A : Type 0} (step : S → A → S) (x : A) (ys zs : List A) (s : S) where
-  abbrev rows : List A
-  rows = x ∷ (ys ++ zs)
-
-  -- not even the first
-  pub none_counted : {E : Type 0} (r : Result ℕ E) → IsErr r → (t : S) → t ≡ s → AreCounted step rows r s t
-  none_counted r is t same =
-      of_err (λ r. AreCounted step rows r s t)
-      (λ e. record {
-        all = tt;
-        some = (rows, subst (HandedOver step s rows rows) (sym same) (begun step s rows));
-        count = tt;
-      }) r is
-
-  module _ (t : S) (first : t ≡ step s x) where
-    first_done : HandedOver step s rows (ys ++ zs) t
-    first_done = one_more step s s t rows x (ys ++ zs) (begun step s rows) first
-
-    -- some of the first list
-    pub first_counted : {E : Type 0} (r : Result ℕ E) → IsErr r → (u : S) → FoldsFront step t ys u
-        → AreCounted step rows r s u
-    first_counted r is u part =
-        of_err (λ r. AreCounted step rows r s u)
-        (λ e. record {
-          all = tt;
-          some = (part.0 ++ zs, some_more step s t u rows ys part.0 zs first_done part.1);
-          count = tt;
-        }) r is
-
-    module _ (u : S) (second : u ≡ fold step t ys) where
-      second_done : HandedOver step s rows (zs ++ []) u
-      second_done =
-          subst (λ ws. HandedOver step s rows ws u) (sym (append-nil zs))
-          (all_more step s t u rows ys zs first_done second)
-
-      -- some of the second
-      pub second_counted : {E : Type 0} (r : Result ℕ E) → IsErr r → (v : S) → FoldsFront step u zs v
-          → AreCounted step rows r s v
-      second_counted r is v part =
-          of_err (λ r. AreCounted step rows r s v)
-          (λ e. record {
-            all = tt;
-            some = (part.0 ++ [], some_more step s u v rows zs part.0 [] second_done part.1);
-            count = tt;
-          }) r is
-
-      -- all of both
-      pub all_counted : {E : Type 0} (v : S) → v ≡ fold step u zs → (m n : ℕ) → m ≡ length ys → n ≡ length zs
-          → (r : Result ℕ E) → IfOk r (λ count. count ≡ m + n + 1) → AreCounted step rows r s v
-      all_counted {E} v third m n ms ns r counts =
-          let done : HandedOver step s rows [] v = all_more step s u v rows zs [] second_done third in
-          record {
-            all = on_ok r (ended step s v rows done);
-            some = ([], done);
-            count = IfOk-weaker r _ _ (λ count is. omega (arith, is, ms, ns, length-append ys zs)) counts;
-          }
-        where
-          on_ok : {P : Type 0} (r : Result ℕ E) → P → OnOk r P
-          on_ok (Ok n) p = p
-          on_ok (Err e) p = tt

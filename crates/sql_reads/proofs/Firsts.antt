@@ -5,7 +5,7 @@ first_shown : {X : Type 0} (shown : X → Row) (xs : List X) → slice_get (map 
 first_shown shown [] = refl
 first_shown shown (x ∷ xs) = refl
 
-none_shown : {X : Type 0} (shown : X → Row) (o : Option X) → None ≡ option_map shown o → o ≡ None
+pub none_shown : {X : Type 0} (shown : X → Row) (o : Option X) → None ≡ option_map shown o → o ≡ None
 none_shown shown None e = refl
 none_shown shown (Some x) e = absurd (let f = e in cc)
 
@@ -15,7 +15,7 @@ pub record Finds {X : Type 0} (shown : X → Row) (found : Option X) (row : Row)
   pub found_one : found ≡ Some one
   pub shows : row ≡ shown one
 
-some_shown : {X : Type 0} (shown : X → Row) (o : Option X) (r : Row) → Some r ≡ option_map shown o → Finds shown o r
+pub some_shown : {X : Type 0} (shown : X → Row) (o : Option X) (r : Row) → Some r ≡ option_map shown o → Finds shown o r
 some_shown shown None r e = absurd (let f = e in cc)
 some_shown shown (Some x) r e = let shows : r ≡ shown x = cc in record { one = x; found_one = refl; shows = shows }
 

@@ -1,6 +1,7 @@
 -- Calls that read, one behind another.
-use Rattle.sql_reads.proofs.Names.{◌≡◌, inl, Result, Ok, Err, refl, ◌∙◌, State, HasCleanDisk, StoreFault, Store, LeavesAll, leaves_on, leaves_then}
+use Rattle.sql_reads.proofs.Names.{◌≡◌, inl, Result, Ok, Err, IsOk, IsErr, refl, sym, subst, ◌∙◌, State, HasCleanDisk, StoreFault, Store, LeavesAll, leaves_on, leaves_then}
 use Rattle.sql_reads.proofs.Calls.{kept_by}
+use Rattle.sql_reads.proofs.Fed.{of_err}
 
 -- reads so far left all as it was, whether the connection was open as they began or not
 pub record GoesOn (old new : State) : Type 0 where
@@ -34,3 +35,14 @@ goes_then a b c r x is on left = record {
 
 abbrev pub AllLeft : State → State → Type 0
 AllLeft = LeavesAll {T = Unit {0}} {E = StoreFault} (Ok tt)
+
+pub all_then : {T : Type 0} (a b c : State) (r : Result T StoreFault) (x : T) → r ≡ Ok x → AllLeft a b
+    → LeavesAll r b c → AllLeft a c
+all_then a b c r x is left more =
+    leaves_then (Ok tt) (Ok tt) a b c left (leaves_on r (Ok tt) b c (λ _. subst IsOk (sym is) refl) more)
+
+-- at an error, whatever the last call returned
+pub left_at_err : {T U E F : Type 0} (r : Result U F) (q : Result T E) (a b : State) → IsErr q → LeavesAll r a b
+    → LeavesAll q a b
+left_at_err r q a b is left =
+    of_err (λ q. LeavesAll q a b) (λ e. leaves_on r (Err e) a b (λ f. absurd (let g = f in cc)) left) q is

@@ -14,7 +14,6 @@ pub mod Handed
 pub mod MatterRows
 pub mod Shown
 pub mod RowLists
-pub mod Steps
 pub mod Streams
 pub mod Walk
 mod Names

@@ -58,7 +58,6 @@ pub use Rattle.trust_store.specs.Calls.{AreHanded}
 pub use Rattle.trust_store.specs.Kept.{IsKeptWhole, firm_of, joined, kept_pairs, rows_in, rows_kept}
 pub use Rattle.trust_store.specs.Named.{IsPartFor}
 pub use Rattle.sql_reads.specs.Fed.{AreCounted, IsFed}
-pub use Rattle.sql_reads.specs.Parts.{KeepsAlso, KeepsOnly, PartsAreWhole, figures_at, figures_found, is_named_by, numbered_at, part_at, part_of, totals_of, with_totals_at, with_totals_from, without_matters}
+pub use Rattle.sql_reads.specs.Parts.{PartsAreWhole, drawn_by, figures_at, figures_found, numbered_at, part_at, part_of, totals_of, with_totals_at, with_totals_from, without_matters}
 pub use Rattle.sql_reads.specs.Shown.{AreNumbersOf, balance_at, entry_rows, exception_at, firm_line_at, kept_at, movement_at, next_at, numbered_from, rows_at, seat_at, seat_rows}
 pub use Rattle.sql_reads.specs.declared.matter.HeadWithTotals.{HeadWithTotals}
-pub use Rattle.sql_reads.specs.declared.matter.NumberedHead.{NumberedHead}

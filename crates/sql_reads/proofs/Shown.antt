@@ -1,8 +1,13 @@
 -- What a row shows is what it stands for.
-use Rattle.sql_reads.proofs.Names.{◌≡◌, ℕ, ℤ, pos, nat_abs, Bool, List, [], ◌∷◌, map, filter, find, take, slice_get, Option, Some, None, option_map, inl, inr, refl, sym, ap, ◌∙◌, rules, SFits, to_z, of_z, w64, cases_Bool, Int, Null, Text, Row, column, bytes, SeatRow, EntryRow, seat_pairs, kept_pairs, HasHead, IsHead, head_from, kept_from, seat_from, NumberedHead, kept_at, next_at, numbered_from, seat_at}
+use Rattle.sql_reads.proofs.Names.{◌≡◌, ℕ, ℤ, pos, nat_abs, Bool, List, [], ◌∷◌, map, filter, find, take, slice_get, Option, Some, None, option_map, inl, inr, refl, sym, ap, subst, ◌∙◌, rules, SFits, to_z, of_z, w64, cases_Bool, Int, Null, Text, Row, column, bytes, State, Shown, Database, Layout, heads_in, is_past, Stands, answers, next_head_asks, next_head_answer, SeatRow, EntryRow, seat_pairs, kept_pairs, HasHead, IsHead, head_from, kept_from, seat_from, kept_at, next_at, numbered_from, seat_at}
 use Rattle.sqlite_value.specs.declared.value.Value.{Value}
 use Rattle.matter_rows.specs.declared.head.Head.{Head}
+use Rattle.matter_parts.specs.declared.kept.Kept.{Kept}
 use Rattle.sql_tables.specs.Rows as table
+use Rattle.sql_rows.specs.Entries.{entry_columns}
+use Rattle.sql_rows.proofs.Back.{entries_back}
+use Rattle.sql_tables.specs.Texts.{next_head_text}
+use Rattle.sql_reads.proofs.Firsts.{none_shown, some_shown}
 use Rattle.sql_reads.proofs.HeadsRead.{head_back}
 
 -- Single values.
@@ -20,48 +25,52 @@ text_read r at t is = sym (ap bytes is)
 -- The head behind a number.
 
 pub numbered_back : (r : Row) (m : ℕ) (h : Head) (columns : table.Head) → column r 12 ≡ Int (pos m)
-    → columns ≡ table.head_in (Int (pos m) ∷ Null ∷ r) → IsHead h → HasHead h columns
-    → record { matter = m; head = h } ≡ next_at r
+    → columns ≡ table.head_in (Int (pos m) ∷ Null ∷ r) → IsHead h → HasHead h columns → (m, h) ≡ next_at r
 numbered_back r m h columns at given is has =
     let number : m ≡ nat_abs (number_of (column r 12)) = sym (ap (λ v. nat_abs (number_of v)) at) in
     let own : h ≡ head_from (table.head_in (column r 12 ∷ Null ∷ r)) =
     head_back h columns is has ∙ ap head_from given ∙ ap (λ v. head_from (table.head_in (v ∷ Null ∷ r))) (sym at) in
-    λ i. record { matter = number i; head = own i }
+    λ i. (number i, own i)
 
-module _ (p : table.Head → Bool) where
-  first_next : (hs : List table.Head)
-      → slice_get (take 1 (map table.next_shown (filter p hs))) 0 ≡ option_map table.next_shown (find p hs)
-  first_next [] = refl
-  first_next (h ∷ hs) = elim (cases_Bool (p h)) [ inl b ↦ rw b refl | inr b ↦ rw b (first_next hs) ]
+first_next : (p : table.Head → Bool) (hs : List table.Head)
+    → slice_get (take 1 (map table.next_shown (filter p hs))) 0 ≡ option_map table.next_shown (find p hs)
+first_next p [] = refl
+first_next p (h ∷ hs) = elim (cases_Bool (p h)) [ inl b ↦ rw b refl | inr b ↦ rw b (first_next p hs) ]
 
-none_next : (o : Option table.Head) → None ≡ option_map table.next_shown o → None ≡ option_map numbered_from o
-none_next None e = refl
-none_next (Some h) e = absurd (let f = e in cc)
+-- the head of the next matter: that it is found, and that it and its number were read
+pub record Next (p : table.Head → Bool) (hs : List table.Head) (n : ℕ × Head) : Type 0 where
+  pub head : table.Head
+  pub found : find p hs ≡ Some head
+  pub is : n ≡ numbered_from head
 
-some_next : (o : Option table.Head) (r : Row) → Some r ≡ option_map table.next_shown o
-    → Some (next_at r) ≡ option_map numbered_from o
-some_next None r e = absurd (let f = e in cc)
-some_next (Some h) r e = let shows : r ≡ table.next_shown h = cc in ap (λ x. Some (next_at x)) shows
+module _ (l : Layout) (was : Database) (stands : Stands l was) (old new : State) (same : old.now ≡ was) (after z : ℤ)
+    (at : z ≡ after) (rows : List Row) (shown : Shown next_head_text (Int z ∷ []) old new rows) where
+  first_is : slice_get rows 0 ≡ option_map table.next_shown (find (is_past after) (heads_in l was.trees))
+  first_is =
+      let still = subst (Stands l) (sym same) stands in
+      ap (λ xs. slice_get xs 0)
+      (next_head_answer l old.now z still rows (answers (next_head_asks l) (Int z ∷ []) old new still.schema rows shown)
+      ∙ (λ i. take 1 (map table.next_shown (filter (is_past (at i)) (heads_in l (same i).trees)))))
+      ∙ first_next (is_past after) (heads_in l was.trees)
 
-module _ (p : table.Head → Bool) (hs : List table.Head) (rows : List Row)
-    (are : rows ≡ take 1 (map table.next_shown (filter p hs))) where
-  pub none_found : slice_get rows 0 ≡ None → None ≡ option_map numbered_from (find p hs)
-  none_found none = none_next (find p hs) (sym none ∙ ap (λ l. slice_get l 0) are ∙ first_next p hs)
+  pub no_next : slice_get rows 0 ≡ None → find (is_past after) (heads_in l was.trees) ≡ None
+  no_next none = none_shown table.next_shown _ (sym none ∙ first_is)
 
-  pub some_found : (r : Row) → slice_get rows 0 ≡ Some r → Some (next_at r) ≡ option_map numbered_from (find p hs)
-  some_found r there = some_next (find p hs) r (sym there ∙ ap (λ l. slice_get l 0) are ∙ first_next p hs)
-
--- a head was found, or none was
-pub none_left : (o : Option table.Head) → None ≡ option_map numbered_from o → o ≡ None
-none_left None e = refl
-none_left (Some h) e = absurd (let f = e in cc)
-
-pub some_left : (o : Option table.Head) (n : NumberedHead) → Some n ≡ option_map numbered_from o
-    → (h : table.Head) × (o ≡ Some h) × (n ≡ numbered_from h)
-some_left None n e = absurd (let f = e in cc)
-some_left (Some h) n e = let same : n ≡ numbered_from h = cc in (h, refl, same)
+  pub next : (r : Row) → slice_get rows 0 ≡ Some r → (n : ℕ × Head) → n ≡ next_at r
+      → Next (is_past after) (heads_in l was.trees) n
+  next r there n read =
+      let one = some_shown table.next_shown _ r (sym there ∙ first_is) in
+      record { head = one.one; found = one.found_one; is = read ∙ ap next_at one.shows }
 
 -- Rows of a matter.
+
+-- the entry of the columns of a row is the one that the row shows
+pub entry_shown : (m : ℕ) (z : ℤ) (k : Kept) (columns : table.Entry) (r : Row) → z ≡ pos m
+    → entry_columns m k.number k.left k.entry ≡ columns → columns ≡ table.entry_in (Int (pos 0) ∷ Int z ∷ r)
+    → k ≡ kept_at m r
+entry_shown m z k columns r own has given =
+    sym (entries_back m k.number k.left k.entry) ∙ ap kept_from (has ∙ given)
+    ∙ ap (λ n. kept_from (table.entry_in (Int (pos 0) ∷ Int n ∷ r))) own
 
 pub seats_shown : (m : ℕ) (ss : List table.Seat)
     → map (λ r. (m, SeatRow (seat_at m r))) (map table.seat_shown ss) ≡ seat_pairs m (map seat_from ss)

@@ -1,9 +1,11 @@
 -- The matters of a book, one behind another.
-use Rattle.sql_reads.proofs.Names.{◌≡◌, inl, inr, ℕ, ℤ, pos, nat_abs, ◌+◌, ◌≤◌, ◌<ℤ◌, int_lt, Bool, true, false, List, [], ◌∷◌, ◌++◌, map, filter, find, length, fold, Some, None, Result, Ok, IsErr, sym, ap, ◌∙◌, subst, arith, length-append, AllByRecursion, ints, cases_Bool, IsKeyedBy, all_unmap, all_weaker, entries_kept, IsRowInRange, MOST_ROWS, HeadRow, pairs, seat_pairs, entry_pairs, HandedOver, FoldsFront, AreHanded, IsKeptWhole, joined, kept_pairs, rows_kept, joined-ranged, begun, all_more, some_more, ended, kept-numbered, Lists, is_past, AreSound, IsWrittenHead, head_from, kept_from, matter_from, matters_from, part_from, seat_from, all-find, entry_rows, numbered_from, rows_at, found_passes, filter_none, is_some, any_is_found, none_from_any, filter_all}
+use Rattle.sql_reads.proofs.Names.{◌≡◌, inl, inr, ℕ, ℤ, pos, nat_abs, ◌+◌, ◌≤◌, ◌<ℤ◌, int_lt, Bool, true, false, List, [], ◌∷◌, ◌++◌, map, filter, find, length, fold, Some, None, Result, Ok, IsErr, sym, ap, ◌∙◌, subst, arith, append_assoc, length-append, AllByRecursion, ints, cases_Bool, IsKeyedBy, all_unmap, all_weaker, entries_kept, IsRowInRange, MOST_ROWS, HeadRow, pairs, seat_pairs, entry_pairs, HandedOver, FoldsFront, AreHanded, IsKeptWhole, joined, kept_pairs, rows_kept, joined-ranged, begun, one_more, all_more, some_more, ended, kept-numbered, Lists, is_past, AreSound, IsWrittenHead, head_from, kept_from, matter_from, matters_from, part_from, seat_from, all-find, entry_rows, numbered_from, rows_at, seat_rows, found_passes, filter_none, is_some, any_is_found, none_from_any, filter_all}
 use Rattle.firm_rows.specs.Firm.{Row}
+use Rattle.matter_rows.specs.declared.head.Head.{Head}
 use Rattle.trust_store.specs.declared.plain.KeptMatter.{KeptMatter}
 use Rattle.sql_tables.specs.Rows as table
 use Rattle.sql_reads.proofs.Fed.{of_err}
+use Rattle.sql_reads.proofs.Shown.{Next}
 
 -- Heads behind a number.
 
@@ -98,43 +100,71 @@ module _ {K : Type 0} (step : K → ℕ × Row → K) (a : Lists) (sound : AreSo
     pub stopped : FoldsFront step old all now
     stopped = (joined (past a after), so_far.handed)
 
-    module _ (h : table.Head) (found : find (is_past after) a.heads ≡ Some h) where
-      own_rows : rows_at a (numbered_from h) ≡ pairs (nat_abs h.no) (rows_kept (part_from a h))
+    -- the rows of the next matter are the first of those that are left
+    module _ (n : ℕ × Head) (it : Next (is_past after) a.heads n) where
+      abbrev row : ℕ × Row
+      row = (n.0, HeadRow n.1)
+
+      abbrev seats : List (ℕ × Row)
+      seats = seat_rows a n.0
+
+      abbrev entries : List (ℕ × Row)
+      entries = entry_rows a n.0
+
+      abbrev rest : List (ℕ × Row)
+      rest = joined (past a it.head.no)
+
+      written : IsWrittenHead it.head
+      written = all-find IsWrittenHead (is_past after) a.heads it.head sound.meant.written.heads it.found
+
+      own_rows : rows_at a (numbered_from it.head) ≡ pairs (nat_abs it.head.no) (rows_kept (part_from a it.head))
       own_rows =
           let whole = all_unmap IsKeptWhole (matter_from a) a.heads sound.meant.matters.whole in
-          rows_are a h (all-find IsWrittenHead (is_past after) a.heads h sound.meant.written.heads found)
-          (all-find (λ x. IsKeptWhole (matter_from a x)) (is_past after) a.heads h whole found)
+          rows_are a it.head written
+          (all-find (λ x. IsKeptWhole (matter_from a x)) (is_past after) a.heads it.head whole it.found)
 
-      from : joined (past a after) ≡ rows_at a (numbered_from h) ++ joined (past a h.no)
+      from : joined (past a after) ≡ row ∷ (seats ++ (entries ++ rest))
       from =
-          ap (λ hs. joined (map (matter_from a) hs)) (next_past after a.heads h sound.keyed.heads found)
-          ∙ ap (λ rows. rows ++ joined (past a h.no)) (sym own_rows)
+          ap (λ hs. joined (map (matter_from a) hs)) (next_past after a.heads it.head sound.keyed.heads it.found)
+          ∙ ap (λ rows. rows ++ rest) (sym own_rows ∙ ap (rows_at a) (sym it.is))
+          ∙ ap (λ xs. row ∷ xs) (append_assoc seats entries rest)
 
-      so : HandedOver step old all (rows_at a (numbered_from h) ++ joined (past a h.no)) now
-      so = subst (λ xs. HandedOver step old all xs now) from so_far.handed
+      module _ (t : K) (first : t ≡ step now row) where
+        head_done : HandedOver step old all (seats ++ (entries ++ rest)) t
+        head_done =
+            one_more step old now t all row (seats ++ (entries ++ rest))
+            (subst (λ xs. HandedOver step old all xs now) from so_far.handed) first
 
-      number : pos (nat_abs h.no) ≡ h.no
-      number = sym (all-find IsWrittenHead (is_past after) a.heads h sound.meant.written.heads found).0
+        pub seats_stopped : (u : K) → FoldsFront step t seats u → FoldsFront step old all u
+        seats_stopped u part =
+            (part.0 ++ (entries ++ rest), some_more step old t u all seats part.0 (entries ++ rest) head_done part.1)
 
-      -- the next matter
-      pub reached : (new : K) (rows : ℕ) → new ≡ fold step now (rows_at a (numbered_from h))
-          → rows ≡ length (rows_at a (numbered_from h)) → IsReached step a (pos (nat_abs h.no)) (count + rows) old new
-      reached new rows is counts =
-          let own = rows_at a (numbered_from h) in
-          let others = joined (past a h.no) in
-          subst (λ z. IsReached step a z (count + rows) old new) (sym number)
-          (record {
-            handed = all_more step old now new all own others so is;
-            counted = omega (arith, counts, so_far.counted, ap length from, length-append own others);
-          })
+        module _ (u : K) (second : u ≡ fold step t seats) (v : K) where
+          seats_done : HandedOver step old all (entries ++ rest) u
+          seats_done = all_more step old t u all seats (entries ++ rest) head_done second
 
-      -- some of it
-      pub stopped_within : (new : K) → FoldsFront step now (rows_at a (numbered_from h)) new
-          → FoldsFront step old all new
-      stopped_within new part =
-          let own = rows_at a (numbered_from h) in
-          let others = joined (past a h.no) in
-          (part.0 ++ others, some_more step old now new all own part.0 others so part.1)
+          pub entries_stopped : FoldsFront step u entries v → FoldsFront step old all v
+          entries_stopped part = (part.0 ++ rest, some_more step old u v all entries part.0 rest seats_done part.1)
+
+          pub reached : v ≡ fold step u entries → (i j total : ℕ) → i ≡ length seats → j ≡ length entries
+              → total ≡ count + (i + j + 1) → (z : ℤ) → z ≡ pos n.0 → IsReached step a z total old v
+          reached third i j total is js sums z number =
+              let own : it.head.no ≡ z =
+              written.0 ∙ ap (λ (k : ℕ × Head). pos k.0) (sym it.is) ∙ sym number in
+              subst (λ k. IsReached step a k total old v) own (record {
+                handed = all_more step old u v all entries rest seats_done third;
+                counted =
+                    omega (
+                      arith,
+                      is,
+                      js,
+                      sums,
+                      so_far.counted,
+                      ap length from,
+                      length-append seats (entries ++ rest),
+                      length-append entries rest,
+                    );
+              })
 
     -- the end
     pub at_end : {E : Type 0} → find (is_past after) a.heads ≡ None → count ≤ MOST_ROWS

@@ -1,9 +1,10 @@
 -- What the tables hold of one matter, column by column.
-use Rattle.std.specs.Prelude.{◌≡◌, ℕ, pos, ◌==◌, ◌||◌, Bool, cond, List, [], map, find, Option, Some, None, option_map}
+use Rattle.std.specs.Prelude.{◌≡◌, ℕ, pos, List, [], map, find, Option, Some, None, option_map}
 use Rattle.matter_rows.specs.declared.seat.Seat.{Seat}
 use Rattle.matter_parts.specs.declared.figures.Figures.{Figures}
 use Rattle.matter_parts.specs.declared.kept.Kept.{Kept}
-use Rattle.matter_parts.specs.Parts.{Part, IsWhole, is_it, kept_in, no_figures, target_by}
+use Rattle.matter_rows.specs.Shares.{target_in}
+use Rattle.matter_parts.specs.Parts.{Part, IsWhole, entry_in, kept_in, no_figures}
 use Rattle.firm_rows.specs.Firm.{Firm, of}
 use Rattle.trust_store.specs.declared.plain.KeptMatter.{KeptMatter}
 use Rattle.sql_tables.specs.Lists.{Lists}
@@ -64,15 +65,7 @@ without_matters firm = record firm { rows = [] }
 abbrev pub PartsAreWhole : Type 0
 PartsAreWhole = (m : ℕ) (a : Lists) → AreSound a → IsWhole (part_at m a) (of m (firm_from a))
 
--- the number is that of the named entry, or of the entry that it draws on
-abbrev pub is_named_by : Part → Option ℕ → ℕ → Bool
-is_named_by m named n = is_it named n || n == target_by m named
-
--- exactly the entries with these numbers are kept, of all entries of a matter
-abbrev pub KeepsOnly : (ℕ → Bool) → List Kept → List Kept → Type 0
-KeepsOnly has all kept = (n : ℕ) → kept_in kept n ≡ cond (has n) (kept_in all n) None
-
--- if only entries with some numbers were kept before, now those with these numbers are kept too, and no others
-abbrev pub KeepsAlso : (ℕ → Bool) → List Kept → List Kept → List Kept → Type 0
-KeepsAlso more all old new =
-    (has : ℕ → Bool) → KeepsOnly has all old → KeepsOnly (λ n. has n || more n) all new
+-- the number of the entry that the named one draws on, by the entries that are kept; 0 for none
+abbrev pub drawn_by : List Kept → Option ℕ → ℕ
+drawn_by ks None = 0
+drawn_by ks (Some n) = target_in (entry_in (kept_in ks n))

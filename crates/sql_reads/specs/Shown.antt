@@ -3,6 +3,7 @@ use Rattle.std.specs.Prelude.{◌≡◌, ℕ, pos, nat_abs, List, ◌∷◌, ◌
 use Rattle.sqlite_value.specs.declared.value.Value.TheVariants.{Int, Null}
 use Rattle.sqlite_value.specs.Order.{Row, column}
 use Rattle.trust_base.specs.declared.line.Line.{Line}
+use Rattle.matter_rows.specs.declared.head.Head.{Head}
 use Rattle.matter_rows.specs.declared.seat.Seat.{Seat}
 use Rattle.matter_parts.specs.declared.kept.Kept.{Kept}
 use Rattle.firm_rows.specs.declared.movement.Movement.{Movement}
@@ -14,7 +15,6 @@ use Rattle.sql_tables.specs.Lists.{Lists}
 use Rattle.sql_tables.specs.Rows as table
 use Rattle.sql_rows.specs.Meaning.{head_from, kept_from, seat_from}
 use Rattle.sql_rows.specs.Meaning.{movement_from, firm_line_from, exception_from, balance_from}
-use Rattle.sql_reads.specs.declared.matter.NumberedHead.{NumberedHead}
 
 -- the seat that a row of a matter shows
 abbrev pub seat_at : ℕ → Row → Seat
@@ -25,11 +25,11 @@ abbrev pub kept_at : ℕ → Row → Kept
 kept_at m r = kept_from (table.entry_in (Int (pos 0) ∷ Int (pos m) ∷ r))
 
 -- a head with its number
-abbrev pub numbered_from : table.Head → NumberedHead
-numbered_from h = record { matter = nat_abs h.no; head = head_from h }
+abbrev pub numbered_from : table.Head → ℕ × Head
+numbered_from h = (nat_abs h.no, head_from h)
 
 -- the head that a row shows before its number
-abbrev pub next_at : Row → NumberedHead
+abbrev pub next_at : Row → ℕ × Head
 next_at r = numbered_from (table.head_in (column r 12 ∷ Null ∷ r))
 
 -- the numbers are those of the heads, in order
@@ -44,8 +44,8 @@ abbrev pub entry_rows : Lists → ℕ → List (ℕ × FirmRow)
 entry_rows a m = kept_pairs m (map kept_from (table.entries_of (pos m) a.entries))
 
 -- the rows of a matter: its head, its seats and its entries
-abbrev pub rows_at : Lists → NumberedHead → List (ℕ × FirmRow)
-rows_at a n = (n.matter, HeadRow n.head) ∷ (seat_rows a n.matter ++ entry_rows a n.matter)
+abbrev pub rows_at : Lists → ℕ × Head → List (ℕ × FirmRow)
+rows_at a n = (n.0, HeadRow n.1) ∷ (seat_rows a n.0 ++ entry_rows a n.0)
 
 -- the movement that a row of the journal shows
 abbrev pub movement_at : Row → Movement

@@ -1,11 +1,12 @@
 // Matters: one with all its entries, or with the named ones; and all of them, one after the other, each with its rows.
 
-ghost use Rattle.std.specs.Prelude.{◌≡◌, ◌+◌, ◌==◌, false, pos, List, find, map, option_map, IsTrue, IfOk, OnOk};
+ghost use Rattle.std.specs.Prelude.{◌≡◌, ◌+◌, false, pos, List, map, IfOk};
 ghost use Rattle.std.specs.Option.{option_copied};
 ghost use Rattle.sqlite_value.specs.declared.value.Value.TheVariants.{Int};
 ghost use Rattle.sqlite_value.specs.Order.{column};
 ghost use Rattle.sqlite.specs.Held.{state};
 ghost use Rattle.sqlite.specs.State.{HasCleanDisk};
+ghost use Rattle.matter_rows.specs.Shares.{number_or_none};
 ghost use Rattle.matter_parts.specs.Parts.{IsWhole, kept_in};
 ghost use Rattle.matter_parts.specs.Audit.{IsSoundWhole};
 ghost use Rattle.firm_rows.specs.Countable.{IsRowInRange};
@@ -15,12 +16,11 @@ ghost use Rattle.trust_store.specs.Named.{IsPartFor};
 ghost use Rattle.sql_schema.specs.declared.layout.Layout.{Layout};
 ghost use Rattle.sql_tables.specs.Lists.{lists_in};
 ghost use Rattle.sql_tables.specs.Reading.{LeavesAll};
-ghost use Rattle.sql_tables.specs.Rows.{Head as HeadRow, heads_in, is_past, no_shown};
+ghost use Rattle.sql_tables.specs.Rows.{Head as HeadRow, heads_in, no_shown};
 ghost use Rattle.sql_tables.specs.Standing.{Stands};
 ghost use Rattle.sql_rows.specs.Standing.{StandsSound, firm_in};
-ghost use Rattle.sql_reads.specs.Fed.{AreCounted};
-ghost use Rattle.sql_reads.specs.Parts.{KeepsAlso, is_named_by, part_at, part_of, with_totals_at};
-ghost use Rattle.sql_reads.specs.Shown.{AreNumbersOf, kept_at as shown_at, numbered_from, rows_at, seat_at};
+ghost use Rattle.sql_reads.specs.Parts.{drawn_by, part_at, part_of, with_totals_at};
+ghost use Rattle.sql_reads.specs.Shown.{AreNumbersOf, seat_at};
 
 use crate::columns::{entry_in, head_in, number_at, seat_in};
 use crate::query::{RowTaking, hand_rows, rows_of};
@@ -46,33 +46,22 @@ const ENTRIES: &str =
     "SELECT no, kind, day, amount, state, fund, of_no, text_a, text_b, text_c, day_done, \
     day_undone, day_bank, bank_ref, part, left_now FROM entry_v2 WHERE matter = ?1 ORDER BY no, rowid";
 
+// An entry of a matter.
+const ENTRY: &str =
+    "SELECT no, kind, day, amount, state, fund, of_no, text_a, text_b, text_c, day_done, \
+    day_undone, day_bank, bank_ref, part, left_now FROM entry_v2 WHERE matter = ?1 AND no = ?2 \
+    ORDER BY rowid";
+
+// The head of the first matter behind a number, and its number.
+const NEXT_HEAD: &str =
+    "SELECT client, opened, closed, last, entries, held, available, disputed, fees, claims, \
+    pending, purged, no FROM matter_v2 WHERE no > ?1 ORDER BY no LIMIT 1";
+
 // The head of a matter, and its stored totals.
 #[derive(Drop)]
 struct HeadWithTotals {
     head: Head,
     figures: Figures,
-}
-
-// Returns the head of a matter with its totals, or `None` if it was never opened.
-fn head_with_totals<S: Alter>(
-    conn: &mut Connection<S>,
-    alloc: Global,
-    matter: MatterNo,
-) -> Result<Option<HeadWithTotals>, StoreFault>
-    requires { conn.old.in_transaction ≡ false }
-    ensures mode { conn.new.in_transaction ≡ false }
-    ensures found { (l : Layout) → HasCleanDisk (state S.Store conn.new) → Stands l (state S.Store conn.old).now
-        → IfOk result (λ head. head ≡ with_totals_at matter (lists_in l (state S.Store conn.old).now.trees)) }
-    ensures left { LeavesAll result (state S.Store conn.old) (state S.Store conn.new) }
-{
-    let rows = rows_of(conn, HEAD, &[ValueRef::Int(matter.get() as i64)])?;
-    let Some(row) = rows.first() else {
-        return Ok(None);
-    };
-    let columns = head_in(matter.get() as i64, row)?;
-    let figures = totals_of(columns)?;
-    let head = head_of(alloc, columns)?;
-    Ok(Some(HeadWithTotals { head, figures }))
 }
 
 // Reads a seat of a matter from a row.
@@ -83,34 +72,37 @@ fn read_seat(alloc: Global, matter: MatterNo, row: &Row) -> Result<Seat, StoreFa
     seat_of(alloc, matter, columns)
 }
 
-// Returns the seats of a matter, by person in byte order.
-fn seats_of<S: Alter>(
+// Returns the head of a matter with its totals, or `None` if it was never opened, and its seats, by person in byte
+// order.
+fn head_and_seats<S: Alter>(
     conn: &mut Connection<S>,
     alloc: Global,
     matter: MatterNo,
-) -> Result<Vec<Seat>, StoreFault>
+) -> Result<(Option<HeadWithTotals>, Vec<Seat>), StoreFault>
     requires { conn.old.in_transaction ≡ false }
     ensures mode { conn.new.in_transaction ≡ false }
-    ensures found { (l : Layout) → HasCleanDisk (state S.Store conn.new) → Stands l (state S.Store conn.old).now
-        → IfOk result (λ seats. seats.items
+    ensures head { (l : Layout) → HasCleanDisk (state S.Store conn.new) → Stands l (state S.Store conn.old).now
+        → IfOk result (λ r. r.0 ≡ with_totals_at matter (lists_in l (state S.Store conn.old).now.trees)) }
+    ensures seats { (l : Layout) → HasCleanDisk (state S.Store conn.new) → Stands l (state S.Store conn.old).now
+        → IfOk result (λ r. r.1.items
         ≡ (part_at matter (lists_in l (state S.Store conn.old).now.trees)).seats) }
     ensures left { LeavesAll result (state S.Store conn.old) (state S.Store conn.new) }
 {
-    let rows = rows_of(conn, SEATS, &[ValueRef::Int(matter.get() as i64)])?;
+    let key = [ValueRef::Int(matter.get() as i64)];
+    let heads = rows_of(conn, HEAD, &key)?;
+    let rows = rows_of(conn, SEATS, &key)?;
     let mut seats = Vec::new(alloc);
     'each: for row in &rows {
         let seat = read_seat(alloc, matter, row)?;
         seats.push(seat)?;
     }
-    Ok(seats)
-}
-
-// Reads an entry of a matter from a row that shows its number first.
-fn kept_in(alloc: Global, matter: MatterNo, row: &Row) -> Result<Kept, StoreFault>
-    ensures { IfOk result (λ k. k ≡ shown_at matter row.now) }
-{
-    let columns = entry_in(matter.get() as i64, row)?;
-    entry_of(alloc, matter, columns)
+    let Some(row) = heads.first() else {
+        return Ok((None, seats));
+    };
+    let columns = head_in(matter.get() as i64, row)?;
+    let figures = totals_of(columns)?;
+    let head = head_of(alloc, columns)?;
+    Ok((Some(HeadWithTotals { head, figures }), seats))
 }
 
 // Returns the entries of a matter by number, each with what is left of it.
@@ -128,7 +120,8 @@ fn entries_of<S: Alter>(
     let rows = rows_of(conn, ENTRIES, &[ValueRef::Int(matter.get() as i64)])?;
     let mut kept = Vec::new(alloc);
     'each: for row in &rows {
-        let entry = kept_in(alloc, matter, row)?;
+        let columns = entry_in(matter.get() as i64, row)?;
+        let entry = entry_of(alloc, matter, columns)?;
         kept.push(entry)?;
     }
     Ok(kept)
@@ -142,69 +135,31 @@ fn found(kept: &[Kept], number: EntryNo) -> Option<&Kept>
     kept.iter().find(|k| k.number.get() == number)
 }
 
-// Keeps the entry of this number, if it exists and is not kept already.
-fn keep_entry<S: Alter>(
-    conn: &mut Connection<S>,
-    alloc: Global,
-    matter: MatterNo,
-    number: EntryNo,
-    kept: &mut Vec<Kept>,
-) -> Result<(), StoreFault>
-    requires mode { conn.old.in_transaction ≡ false }
-    requires serves { HasCleanDisk (state S.Store conn.old) → IsTrue (state S.Store conn.old).is_open }
-    ensures mode { conn.new.in_transaction ≡ false }
-    ensures kept { (l : Layout) → HasCleanDisk (state S.Store conn.new) → StandsSound l (state S.Store conn.old).now
-        → OnOk result (KeepsAlso (λ n. n == number)
-        (part_at matter (lists_in l (state S.Store conn.old).now.trees)).kept kept.old.items kept.new.items) }
-    ensures left { LeavesAll result (state S.Store conn.old) (state S.Store conn.new) }
+// Returns the number of the entry that the named one draws on, if one is named, is kept, and draws on one.
+fn drawn_on(kept: &[Kept], named: Option<EntryNo>) -> Option<EntryNo>
+    ensures { number_or_none result ≡ drawn_by kept.now named }
 {
-    if found(kept, number).is_some() {
-        return Ok(());
-    }
-    let rows = rows_of(
-        conn,
-        "SELECT no, kind, day, amount, state, fund, of_no, text_a, text_b, text_c, day_done, \
-         day_undone, day_bank, bank_ref, part, left_now FROM entry_v2 WHERE matter = ?1 AND no = ?2 \
-         ORDER BY rowid",
-        &[
-            ValueRef::Int(matter.get() as i64),
-            ValueRef::Int(number.get() as i64),
-        ],
-    )?;
-    let Some(row) = rows.first() else {
-        return Ok(());
-    };
-    let entry = kept_in(alloc, matter, row)?;
-    kept.push(entry)?;
-    Ok(())
+    found(kept, named?)?.entry.target()
 }
 
-// Keeps the named entry, if one is named, and the entry that it draws on. Reads no other entry.
-fn keep_named<S: Alter>(
-    conn: &mut Connection<S>,
-    alloc: Global,
-    matter: MatterNo,
-    named: Option<EntryNo>,
-    kept: &mut Vec<Kept>,
-) -> Result<(), StoreFault>
-    requires mode { conn.old.in_transaction ≡ false }
-    requires serves { HasCleanDisk (state S.Store conn.old) → IsTrue (state S.Store conn.old).is_open }
-    ensures mode { conn.new.in_transaction ≡ false }
-    ensures kept { (l : Layout) → HasCleanDisk (state S.Store conn.new) → StandsSound l (state S.Store conn.old).now
-        → OnOk result (KeepsAlso (is_named_by (part_at matter (lists_in l (state S.Store conn.old).now.trees)) named)
-        (part_at matter (lists_in l (state S.Store conn.old).now.trees)).kept kept.old.items kept.new.items) }
-    ensures left { LeavesAll result (state S.Store conn.old) (state S.Store conn.new) }
+// Returns the number of the entry that is read at a turn: those of the two named ones, and then of those that they
+// draw on.
+fn wanted_at(
+    turn: usize,
+    entry: Option<EntryNo>,
+    other: Option<EntryNo>,
+    kept: &[Kept],
+) -> Option<EntryNo>
+    ensures first { turn ≡ 0 → result ≡ entry }
+    ensures second { turn ≡ 1 → result ≡ other }
+    ensures third { turn ≡ 2 → number_or_none result ≡ drawn_by kept.now entry }
+    ensures fourth { turn ≡ 3 → number_or_none result ≡ drawn_by kept.now other }
 {
-    let Some(named) = named else {
-        return Ok(());
-    };
-    keep_entry(conn, alloc, matter, named, kept)?;
-    let Some(entry) = found(kept, named) else {
-        return Ok(());
-    };
-    match entry.entry.target() {
-        None => Ok(()),
-        Some(target) => keep_entry(conn, alloc, matter, target, kept),
+    match turn {
+        0 => entry,
+        1 => other,
+        2 => drawn_on(kept, entry),
+        _ => drawn_on(kept, other),
     }
 }
 
@@ -241,8 +196,7 @@ pub fn whole_matter<S: Alter>(
         → IfOk result (λ part. IsWhole part (of matter (firm_in l (state S.Store conn.old).now.trees))) }
     ensures left { LeavesAll result (state S.Store conn.old) (state S.Store conn.new) }
 {
-    let opened = head_with_totals(conn, alloc, matter)?;
-    let seats = seats_of(conn, alloc, matter)?;
+    let (opened, seats) = head_and_seats(conn, alloc, matter)?;
     let kept = entries_of(conn, alloc, matter)?;
     let found = matter_of(opened, seats, kept)?;
     if !is_sound_whole(alloc, &found)? {
@@ -267,21 +221,31 @@ pub fn matter_for<S: Alter>(
         → IfOk result (λ part. IsPartFor (of matter (firm_in l (state S.Store conn.old).now.trees)) entry other part) }
     ensures left { LeavesAll result (state S.Store conn.old) (state S.Store conn.new) }
 {
-    let Some(opened) = head_with_totals(conn, alloc, matter)? else {
+    let (opened, seats) = head_and_seats(conn, alloc, matter)?;
+    let Some(opened) = opened else {
         return Ok(Matter::unopened(alloc));
     };
-    let seats = seats_of(conn, alloc, matter)?;
+    // The named entries, and then those that they draw on.
     let mut kept = Vec::new(alloc);
-    keep_named(conn, alloc, matter, entry, &mut kept)?;
-    keep_named(conn, alloc, matter, other, &mut kept)?;
+    'turns: for turn in 0..4usize {
+        let Some(number) = wanted_at(turn, entry, other, &kept) else {
+            continue;
+        };
+        if found(&kept, number).is_some() {
+            continue;
+        }
+        let key = [
+            ValueRef::Int(matter.get() as i64),
+            ValueRef::Int(number.get() as i64),
+        ];
+        let rows = rows_of(conn, ENTRY, &key)?;
+        let Some(row) = rows.first() else {
+            continue;
+        };
+        let columns = entry_in(matter.get() as i64, row)?;
+        kept.push(entry_of(alloc, matter, columns)?)?;
+    }
     Matter::of_part(Some(opened.head), seats, opened.figures, kept)
-}
-
-// A head with the number of its matter.
-#[derive(Drop)]
-struct NumberedHead {
-    matter: MatterNo,
-    head: Head,
 }
 
 // Reads the number of a head from a column. Returns `Store` if no matter can have it.
@@ -293,34 +257,6 @@ fn matter_at(row: &Row, at: usize) -> Result<MatterNo, StoreFault>
         return Err(StoreFault::Store);
     }
     MatterNo::from_number(number as u32).ok_or(StoreFault::Store)
-}
-
-// Returns the first head with a number greater than `after`, or `None` if there is none.
-fn next_head<S: Alter>(
-    conn: &mut Connection<S>,
-    alloc: Global,
-    after: i64,
-) -> Result<Option<NumberedHead>, StoreFault>
-    requires { conn.old.in_transaction ≡ false }
-    ensures mode { conn.new.in_transaction ≡ false }
-    ensures found { (l : Layout) → HasCleanDisk (state S.Store conn.new) → Stands l (state S.Store conn.old).now
-        → IfOk result (λ next. next
-        ≡ option_map numbered_from (find (is_past after) (heads_in l (state S.Store conn.old).now.trees))) }
-    ensures left { LeavesAll result (state S.Store conn.old) (state S.Store conn.new) }
-{
-    let rows = rows_of(
-        conn,
-        "SELECT client, opened, closed, last, entries, held, available, disputed, fees, claims, \
-         pending, purged, no FROM matter_v2 WHERE no > ?1 ORDER BY no LIMIT 1",
-        &[ValueRef::Int(after)],
-    )?;
-    let Some(row) = rows.first() else {
-        return Ok(None);
-    };
-    let matter = matter_at(row, 12)?;
-    let columns = head_in(matter.get() as i64, row)?;
-    let head = head_of(alloc, columns)?;
-    Ok(Some(NumberedHead { matter, head }))
 }
 
 // Reads the numbers of rows that have one each.
@@ -389,7 +325,8 @@ impl<K: RowSink> RowTaking<K> for EntryTaking {
     ghost fits = { λ _ _. Unit {0} };
 
     fn take(&self, row: &Row, sink: &mut K) -> Result<(), StoreFault> {
-        let kept = kept_in(self.alloc, self.matter, row)?;
+        let columns = entry_in(self.matter.get() as i64, row)?;
+        let kept = entry_of(self.alloc, self.matter, columns)?;
         sink.entry(self.matter, kept.number, &kept.entry)?;
         Ok(())
     }
@@ -401,39 +338,6 @@ fn row_count(seats: u64, entries: u64) -> Result<u64, StoreFault>
 {
     let others = seats.checked_add(entries).ok_or(StoreFault::Store)?;
     others.checked_add(1).ok_or(StoreFault::Store)
-}
-
-// Passes a matter to the sink: its head, its seats by person and its entries by number. Returns the number of rows.
-fn hand_matter<S: Alter, K: RowSink>(
-    conn: &mut Connection<S>,
-    alloc: Global,
-    next: &NumberedHead,
-    sink: &mut K,
-) -> Result<u64, StoreFault>
-    requires { conn.old.in_transaction ≡ false }
-    ensures mode { conn.new.in_transaction ≡ false }
-    ensures handed { (l : Layout) → HasCleanDisk (state S.Store conn.new) → Stands l (state S.Store conn.old).now
-        → AreCounted K.stepped (rows_at (lists_in l (state S.Store conn.old).now.trees) next.now)
-        result sink.old sink.new }
-    ensures left { LeavesAll result (state S.Store conn.old) (state S.Store conn.new) }
-{
-    sink.head(next.matter, &next.head)?;
-    let matter = next.matter;
-    let seats = hand_rows(
-        conn,
-        SEATS,
-        &[ValueRef::Int(matter.get() as i64)],
-        &SeatTaking { alloc, matter },
-        sink,
-    )?;
-    let entries = hand_rows(
-        conn,
-        ENTRIES,
-        &[ValueRef::Int(matter.get() as i64)],
-        &EntryTaking { alloc, matter },
-        sink,
-    )?;
-    row_count(seats, entries)
 }
 
 /// Passes each row of each matter to the sink: matters by number, and in each the head, the seats by person and the
@@ -459,12 +363,21 @@ pub fn each_row<S: Alter, K: RowSink>(
     let mut after = i64::MIN;
     let mut count: u64 = 0;
     'matters: for _ in 0..u64::MAX {
-        let Some(next) = next_head(conn, alloc, after)? else {
+        let heads = rows_of(conn, NEXT_HEAD, &[ValueRef::Int(after)])?;
+        let Some(row) = heads.first() else {
             return Ok(());
         };
-        let rows = hand_matter(conn, alloc, &next, sink)?;
+        let matter = matter_at(row, 12)?;
+        let number = matter.get() as i64;
+        let columns = head_in(number, row)?;
+        let found = head_of(alloc, columns)?;
+        sink.head(matter, &found)?;
+        let key = [ValueRef::Int(number)];
+        let seats = hand_rows(conn, SEATS, &key, &SeatTaking { alloc, matter }, sink)?;
+        let entries = hand_rows(conn, ENTRIES, &key, &EntryTaking { alloc, matter }, sink)?;
+        let rows = row_count(seats, entries)?;
         count = count.checked_add(rows).ok_or(StoreFault::Store)?;
-        after = next.matter.get() as i64;
+        after = number;
     }
     Err(StoreFault::Store)
 }

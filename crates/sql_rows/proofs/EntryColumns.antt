@@ -1,5 +1,9 @@
 -- The columns of an entry have what its kind and state want.
-use Rattle.sql_rows.proofs.Names.{◌≡◌, ℕ, pos, refl, ap, subst, ◌∙◌, Deposit, DepositState, Payment, PaymentState, Claim, ClaimState, Against, Entry, Kept, parts_of, entry_columns, HasEntry, rules}
+use Rattle.sql_rows.proofs.Names.{◌≡◌, ℕ, pos, refl, sym, ap, subst, ◌∙◌, arith, ints, Result, Deposit, DepositState, Payment, PaymentState, Claim, ClaimState, Against, Entry, Kept, parts_of, entry_columns, HasEntry, rules}
+use Rattle.trust_base.specs.declared.refusal.StoreFault.{StoreFault}
+use Rattle.matter_rows.specs.declared.fee.Fee.{Fee}
+use Rattle.sql_rows.specs.Columns.{GivesBack}
+use Rattle.sql_rows.specs.Entries.{HasForm, IsDeposit, IsPayment, IsFee, IsClaim, HasDeposit, HasPayment, HasFee, HasClaim}
 use Rattle.matter_rows.specs.declared.deposit.DepositState.TheVariants as deposit
 use Rattle.matter_rows.specs.declared.payment.PaymentState.TheVariants as payment
 use Rattle.matter_rows.specs.declared.claim.ClaimState.TheVariants as claim
@@ -75,3 +79,35 @@ pub same_columns :
     → entry_columns m n left e ≡ t
 same_columns m n left e k t is numbered lefts same =
     ap (λ (x : Kept). entry_columns m x.number x.left x.entry) (same_kept m n left e k t is numbered lefts same) ∙ is
+
+-- What is read of a row by its kind: the entry that it has, unless memory runs out.
+abbrev pub Reads : table.Entry → ℕ → ℕ → Result Entry StoreFault → Type 0
+Reads t day amount r = (e : Entry) → HasForm e → HasEntry e day amount t → GivesBack e r
+
+module _ (t : table.Entry) (day amount : ℕ) (r : Result Entry StoreFault) where
+  pub reads_deposit : t.kind ≡ pos 1 → ((d : Deposit) → IsDeposit d → HasDeposit d day amount t → GivesBack (entry.Deposit d) r)
+      → Reads t day amount r
+  reads_deposit kind gives (entry.Deposit d) form has = gives d form has.1
+  reads_deposit kind gives _ form has = absurd (omega (arith, ints, kind, has.0))
+
+  pub reads_payment : t.kind ≡ pos 2 → ((p : Payment) → IsPayment p → HasPayment p day amount t → GivesBack (entry.Payment p) r)
+      → Reads t day amount r
+  reads_payment kind gives (entry.Payment p) form has = gives p form has.1
+  reads_payment kind gives _ form has = absurd (omega (arith, ints, kind, has.0))
+
+  pub reads_fee : t.kind ≡ pos 3 → ((f : Fee) → IsFee f → HasFee f day amount t → GivesBack (entry.Fee f) r)
+      → Reads t day amount r
+  reads_fee kind gives (entry.Fee f) form has = gives f form has.1
+  reads_fee kind gives _ form has = absurd (omega (arith, ints, kind, has.0))
+
+  pub reads_claim : t.kind ≡ pos 4 → ((c : Claim) → IsClaim c → HasClaim c day amount t → GivesBack (entry.Claim c) r)
+      → Reads t day amount r
+  reads_claim kind gives (entry.Claim c) form has = gives c form has.1
+  reads_claim kind gives _ form has = absurd (omega (arith, ints, kind, has.0))
+
+  pub reads_none : (t.kind ≡ pos 1 → ⊥) → (t.kind ≡ pos 2 → ⊥) → (t.kind ≡ pos 3 → ⊥) → (t.kind ≡ pos 4 → ⊥)
+      → Reads t day amount r
+  reads_none one two three four (entry.Deposit d) form has = absurd (one (sym has.0))
+  reads_none one two three four (entry.Payment p) form has = absurd (two (sym has.0))
+  reads_none one two three four (entry.Fee f) form has = absurd (three (sym has.0))
+  reads_none one two three four (entry.Claim c) form has = absurd (four (sym has.0))

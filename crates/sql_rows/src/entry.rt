@@ -5,21 +5,21 @@ ghost use Rattle.matter_rows.specs.declared.limits.TheConstants.{MAX_TOTAL};
 ghost use Rattle.sql_tables.specs.Given.{entry_given};
 ghost use Rattle.matter_rows.specs.declared.clearing.Clearing.{Clearing as Told};
 ghost use Rattle.matter_rows.specs.declared.deposit.Deposit.{Deposit as Received};
-ghost use Rattle.matter_rows.specs.declared.deposit.DepositState.{DepositState as ReceivedState};
+ghost use Rattle.matter_rows.specs.declared.deposit.ReturnedDeposit.{ReturnedDeposit as Returned};
+ghost use Rattle.matter_rows.specs.declared.payment.ClearedPayment.{ClearedPayment as Cleared};
+ghost use Rattle.matter_rows.specs.declared.payment.VoidedPayment.{VoidedPayment as Voided};
 ghost use Rattle.matter_rows.specs.declared.payment.Fund.{Fund as Source};
 ghost use Rattle.matter_rows.specs.declared.payment.Payment.{Payment as Paid};
-ghost use Rattle.matter_rows.specs.declared.payment.PaymentState.{PaymentState as PaidState};
+ghost use Rattle.matter_rows.specs.declared.fee.Fee.{Fee as Earned};
 ghost use Rattle.matter_rows.specs.declared.claim.Against.{Against as On};
 ghost use Rattle.matter_rows.specs.declared.claim.Claim.{Claim as Claimed};
 ghost use Rattle.matter_rows.specs.declared.claim.ClaimState.{ClaimState as ClaimedState};
-ghost use Rattle.matter_rows.specs.declared.entry.Entry.{Entry as Made};
 ghost use Rattle.matter_parts.specs.declared.kept.Kept.{Kept as KeptEntry};
 ghost use Rattle.sql_rows.specs.Columns.{GivesBack};
-ghost use Rattle.sql_rows.specs.Entries.{IsClearing, IsDepositState, IsDeposit, IsFund};
-ghost use Rattle.sql_rows.specs.Entries.{IsPaymentState, IsPayment};
-ghost use Rattle.sql_rows.specs.Entries.{IsAgainst, IsClaimState, IsClaim, HasForm, IsKept};
-ghost use Rattle.sql_rows.specs.Entries.{HasClearing, HasDepositState, HasDeposit, HasFund};
-ghost use Rattle.sql_rows.specs.Entries.{HasPaymentState, HasPayment, HasAgainst, HasClaimState, HasClaim, HasEntry};
+ghost use Rattle.sql_rows.specs.Entries.{IsClearing, IsReturn, IsDeposit, IsFund, IsPaymentState, IsPayment, IsFee};
+ghost use Rattle.sql_rows.specs.Entries.{IsAgainst, IsClaimState, IsClaim, IsKept};
+ghost use Rattle.sql_rows.specs.Entries.{HasClearing, HasReturn, HasDeposit, HasFund, HasPayment, HasFee};
+ghost use Rattle.sql_rows.specs.Entries.{HasAgainst, HasClaimState, HasClaim};
 ghost use Rattle.sql_rows.specs.Entries.{entry_columns, BeginsEntry};
 ghost use Rattle.sql_rows.specs.Entries.{HasSamePlace, HasSameMoney, HasSameDays, HasSameTexts};
 ghost use Rattle.sql_rows.specs.Entries.{deposit_parts, payment_parts, plain_parts, claim_on_parts, fund_kind};
@@ -68,68 +68,37 @@ fn blank_columns<'a>(
     }
 }
 
-fn deposit_columns<'a>(matter: MatterNo, no: EntryNo, d: &'a Deposit, left: u64) -> EntryColumns<'a>
-    requires { left ≤ MAX_TOTAL }
-    ensures { entry_given result ≡ as_columns matter no left
-        (deposit_parts d.now.state d.now.book d.now.amount d.now.source d.now.description) }
+// The day and the reference of what the bank reported.
+fn clearing_columns(c: &Clearing) -> (i64, &[u8])
+    ensures day { result.0 ≡ pos c.now.bank_day }
+    ensures reference { result.1.now ≡ c.now.bank_ref }
 {
-    let mut columns = blank_columns(matter, no, left, 1, d.book, d.amount);
-    columns.text_a = d.source.as_slice();
-    columns.text_b = d.description.as_slice();
-    match &d.state {
-        DepositState::Held => columns.state = 1,
-        DepositState::Cleared(c) => {
-            columns.state = 2;
-            columns.day_bank = c.bank_day.get() as i64;
-            columns.bank_ref = c.bank_ref.as_slice();
-        }
-        DepositState::Cancelled(day) => {
-            columns.state = 3;
-            columns.day_undone = day.get() as i64;
-        }
-        DepositState::Returned(back) => {
-            columns.state = 4;
-            columns.day_bank = back.clearing.bank_day.get() as i64;
-            columns.bank_ref = back.clearing.bank_ref.as_slice();
-            columns.day_done = back.returning.bank_day.get() as i64;
-            columns.text_c = back.returning.bank_ref.as_slice();
-            columns.day_undone = back.undone.get() as i64;
-        }
-    }
-    columns
+    (c.bank_day.get() as i64, c.bank_ref.as_slice())
 }
 
-fn payment_columns<'a>(matter: MatterNo, no: EntryNo, p: &'a Payment, left: u64) -> EntryColumns<'a>
-    requires { left ≤ MAX_TOTAL }
-    ensures { entry_given result ≡ as_columns matter no left
-        (payment_parts p.now.state p.now.book p.now.amount (fund_kind p.now.fund) (fund_of p.now.fund) p.now.payee
-        p.now.purpose p.now.instrument) }
+// The code of the state of a deposit.
+fn deposit_code(state: &DepositState) -> i64
+    ensures { result ≡ pos (deposit_parts state.now 0 0 [] []).state }
 {
-    let mut columns = blank_columns(matter, no, left, 2, p.book, p.amount);
-    (columns.fund, columns.of_no) = fund_code(&p.fund);
-    columns.text_a = p.payee.as_slice();
-    columns.text_b = p.purpose.as_slice();
-    columns.text_c = p.instrument.as_slice();
-    match &p.state {
-        PaymentState::Proposed => columns.state = 1,
-        PaymentState::Declined => columns.state = 2,
-        PaymentState::Issued(day) => {
-            columns.state = 3;
-            columns.day_done = day.get() as i64;
-        }
-        PaymentState::Cleared(c) => {
-            columns.state = 4;
-            columns.day_done = c.issued.get() as i64;
-            columns.day_bank = c.clearing.bank_day.get() as i64;
-            columns.bank_ref = c.clearing.bank_ref.as_slice();
-        }
-        PaymentState::Voided(v) => {
-            columns.state = 5;
-            columns.day_done = v.issued.get() as i64;
-            columns.day_undone = v.undone.get() as i64;
-        }
+    match state {
+        DepositState::Held => 1,
+        DepositState::Cleared(_) => 2,
+        DepositState::Cancelled(_) => 3,
+        DepositState::Returned(_) => 4,
     }
-    columns
+}
+
+// The code of the state of a payment.
+fn payment_code(state: &PaymentState) -> i64
+    ensures { result ≡ pos (payment_parts state.now 0 0 0 0 [] [] []).state }
+{
+    match state {
+        PaymentState::Proposed => 1,
+        PaymentState::Declined => 2,
+        PaymentState::Issued(_) => 3,
+        PaymentState::Cleared(_) => 4,
+        PaymentState::Voided(_) => 5,
+    }
 }
 
 fn fund_code(fund: &Fund) -> (i64, i64)
@@ -183,8 +152,44 @@ pub fn entry_columns<'a>(
     ensures { entry_given result ≡ entry_columns matter no left entry.now }
 {
     match entry {
-        Entry::Deposit(d) => deposit_columns(matter, no, d, left),
-        Entry::Payment(p) => payment_columns(matter, no, p, left),
+        Entry::Deposit(d) => {
+            let mut columns = blank_columns(matter, no, left, 1, d.book, d.amount);
+            columns.state = deposit_code(&d.state);
+            (columns.text_a, columns.text_b) = (d.source.as_slice(), d.description.as_slice());
+            match &d.state {
+                DepositState::Held => {}
+                DepositState::Cleared(c) => {
+                    (columns.day_bank, columns.bank_ref) = clearing_columns(c);
+                }
+                DepositState::Cancelled(day) => columns.day_undone = day.get() as i64,
+                DepositState::Returned(back) => {
+                    (columns.day_bank, columns.bank_ref) = clearing_columns(&back.clearing);
+                    (columns.day_done, columns.text_c) = clearing_columns(&back.returning);
+                    columns.day_undone = back.undone.get() as i64;
+                }
+            }
+            columns
+        }
+        Entry::Payment(p) => {
+            let mut columns = blank_columns(matter, no, left, 2, p.book, p.amount);
+            columns.state = payment_code(&p.state);
+            (columns.fund, columns.of_no) = fund_code(&p.fund);
+            (columns.text_a, columns.text_b) = (p.payee.as_slice(), p.purpose.as_slice());
+            columns.text_c = p.instrument.as_slice();
+            match &p.state {
+                PaymentState::Proposed | PaymentState::Declined => {}
+                PaymentState::Issued(day) => columns.day_done = day.get() as i64,
+                PaymentState::Cleared(c) => {
+                    columns.day_done = c.issued.get() as i64;
+                    (columns.day_bank, columns.bank_ref) = clearing_columns(&c.clearing);
+                }
+                PaymentState::Voided(v) => {
+                    columns.day_done = v.issued.get() as i64;
+                    columns.day_undone = v.undone.get() as i64;
+                }
+            }
+            columns
+        }
         Entry::Fee(f) => EntryColumns {
             text_a: f.description.as_slice(),
             ..blank_columns(matter, no, left, 3, f.book, f.amount)
@@ -203,29 +208,15 @@ fn clearing_in(alloc: Global, day: i64, reference: &[u8]) -> Result<Clearing, St
     })
 }
 
-fn deposit_state_in(alloc: Global, columns: EntryColumns<'_>) -> Result<DepositState, StoreFault>
-    ensures { (s : ReceivedState) → IsDepositState s → HasDepositState s (entry_given columns.entry)
-        → GivesBack s result }
+// Reads both bank lines of a returned deposit, and the day of its return.
+fn returned_in(alloc: Global, columns: EntryColumns<'_>) -> Result<ReturnedDeposit, StoreFault>
+    ensures { (r : Returned) → IsReturn r → HasReturn r (entry_given columns.entry) → GivesBack r result }
 {
-    match columns.state {
-        1 => Ok(DepositState::Held),
-        2 => {
-            let clearing = clearing_in(alloc, columns.day_bank, columns.bank_ref)?;
-            Ok(DepositState::Cleared(clearing))
-        }
-        3 => Ok(DepositState::Cancelled(day_in(columns.day_undone)?)),
-        4 => {
-            let undone = day_in(columns.day_undone)?;
-            let clearing = clearing_in(alloc, columns.day_bank, columns.bank_ref)?;
-            let returning = clearing_in(alloc, columns.day_done, columns.text_c)?;
-            Ok(DepositState::Returned(ReturnedDeposit {
-                clearing,
-                returning,
-                undone,
-            }))
-        }
-        _ => Err(StoreFault::Store),
-    }
+    Ok(ReturnedDeposit {
+        clearing: clearing_in(alloc, columns.day_bank, columns.bank_ref)?,
+        returning: clearing_in(alloc, columns.day_done, columns.text_c)?,
+        undone: day_in(columns.day_undone)?,
+    })
 }
 
 fn deposit_in(
@@ -233,17 +224,34 @@ fn deposit_in(
     book: Day,
     amount: Cents,
     columns: EntryColumns<'_>,
-) -> Result<Deposit, StoreFault>
+) -> Result<Entry, StoreFault>
     ensures { (d : Received) → IsDeposit d → HasDeposit d book amount (entry_given columns.entry)
-        → GivesBack d result }
+        → GivesBack (Entry.Deposit d) result }
 {
-    Ok(Deposit {
-        state: deposit_state_in(alloc, columns)?,
+    let held = Deposit {
+        state: DepositState::Held,
         source: label_in(alloc, columns.text_a)?,
         description: label_in(alloc, columns.text_b)?,
         book,
         amount,
-    })
+    };
+    match columns.state {
+        1 => Ok(Entry::Deposit(held)),
+        2 => {
+            let clearing = clearing_in(alloc, columns.day_bank, columns.bank_ref)?;
+            let state = DepositState::Cleared(clearing);
+            Ok(Entry::Deposit(Deposit { state, ..held }))
+        }
+        3 => {
+            let state = DepositState::Cancelled(day_in(columns.day_undone)?);
+            Ok(Entry::Deposit(Deposit { state, ..held }))
+        }
+        4 => {
+            let state = DepositState::Returned(returned_in(alloc, columns)?);
+            Ok(Entry::Deposit(Deposit { state, ..held }))
+        }
+        _ => Err(StoreFault::Store),
+    }
 }
 
 // Reads where a payment takes its money from.
@@ -259,26 +267,27 @@ fn fund_in(fund: i64, of_no: i64) -> Result<Fund, StoreFault>
     }
 }
 
-fn payment_state_in(alloc: Global, columns: EntryColumns<'_>) -> Result<PaymentState, StoreFault>
-    ensures { (s : PaidState) → IsPaymentState s → HasPaymentState s (entry_given columns.entry)
-        → GivesBack s result }
+// Reads the day on which a payment was issued, and its bank line.
+fn cleared_in(alloc: Global, columns: EntryColumns<'_>) -> Result<ClearedPayment, StoreFault>
+    ensures { (s : Cleared) → IsPaymentState (PaymentState.Cleared s) → pos s.issued ≡ columns.entry.day_done
+        → HasClearing s.clearing columns.entry.day_bank columns.entry.bank_ref.now → GivesBack s result }
 {
-    match columns.state {
-        1 => Ok(PaymentState::Proposed),
-        2 => Ok(PaymentState::Declined),
-        3 => Ok(PaymentState::Issued(day_in(columns.day_done)?)),
-        4 => {
-            let issued = day_in(columns.day_done)?;
-            let clearing = clearing_in(alloc, columns.day_bank, columns.bank_ref)?;
-            Ok(PaymentState::Cleared(ClearedPayment { issued, clearing }))
-        }
-        5 => {
-            let issued = day_in(columns.day_done)?;
-            let undone = day_in(columns.day_undone)?;
-            Ok(PaymentState::Voided(VoidedPayment { issued, undone }))
-        }
-        _ => Err(StoreFault::Store),
-    }
+    Ok(ClearedPayment {
+        issued: day_in(columns.day_done)?,
+        clearing: clearing_in(alloc, columns.day_bank, columns.bank_ref)?,
+    })
+}
+
+// Reads the days on which a payment was issued and voided.
+fn voided_in(columns: EntryColumns<'_>) -> Result<VoidedPayment, StoreFault>
+    ensures back { (s : Voided) → IsPaymentState (PaymentState.Voided s) → pos s.issued ≡ columns.entry.day_done
+        → pos s.undone ≡ columns.entry.day_undone → result ≡ Ok s }
+    ensures store { IfErr result (λ e. e ≡ StoreFault.Store) }
+{
+    Ok(VoidedPayment {
+        issued: day_in(columns.day_done)?,
+        undone: day_in(columns.day_undone)?,
+    })
 }
 
 fn payment_in(
@@ -286,18 +295,39 @@ fn payment_in(
     book: Day,
     amount: Cents,
     columns: EntryColumns<'_>,
-) -> Result<Payment, StoreFault>
-    ensures { (p : Paid) → IsPayment p → HasPayment p book amount (entry_given columns.entry) → GivesBack p result }
+) -> Result<Entry, StoreFault>
+    ensures { (p : Paid) → IsPayment p → HasPayment p book amount (entry_given columns.entry)
+        → GivesBack (Entry.Payment p) result }
 {
-    Ok(Payment {
+    let proposed = Payment {
         fund: fund_in(columns.fund, columns.of_no)?,
-        state: payment_state_in(alloc, columns)?,
+        state: PaymentState::Proposed,
         payee: label_in(alloc, columns.text_a)?,
         purpose: label_in(alloc, columns.text_b)?,
         instrument: label_in(alloc, columns.text_c)?,
         book,
         amount,
-    })
+    };
+    match columns.state {
+        1 => Ok(Entry::Payment(proposed)),
+        2 => {
+            let state = PaymentState::Declined;
+            Ok(Entry::Payment(Payment { state, ..proposed }))
+        }
+        3 => {
+            let state = PaymentState::Issued(day_in(columns.day_done)?);
+            Ok(Entry::Payment(Payment { state, ..proposed }))
+        }
+        4 => {
+            let state = PaymentState::Cleared(cleared_in(alloc, columns)?);
+            Ok(Entry::Payment(Payment { state, ..proposed }))
+        }
+        5 => {
+            let state = PaymentState::Voided(voided_in(columns)?);
+            Ok(Entry::Payment(Payment { state, ..proposed }))
+        }
+        _ => Err(StoreFault::Store),
+    }
 }
 
 // Reads what a claim is made on: available money, by the named claimant, or a fee.
@@ -333,41 +363,34 @@ fn claim_in(
     book: Day,
     amount: Cents,
     columns: EntryColumns<'_>,
-) -> Result<Claim, StoreFault>
-    ensures { (c : Claimed) → IsClaim c → HasClaim c book amount (entry_given columns.entry) → GivesBack c result }
+) -> Result<Entry, StoreFault>
+    ensures { (c : Claimed) → IsClaim c → HasClaim c book amount (entry_given columns.entry)
+        → GivesBack (Entry.Claim c) result }
 {
-    Ok(Claim {
+    Ok(Entry::Claim(Claim {
         state: claim_state_in(columns)?,
         against: against_in(alloc, columns)?,
         reason: label_in(alloc, columns.text_b)?,
         book,
         amount,
-    })
+    }))
 }
 
-// Reads an entry of its kind, from the columns that its kind and state use. The other columns are not read.
-fn of_kind(
+fn fee_in(
     alloc: Global,
     book: Day,
     amount: Cents,
     columns: EntryColumns<'_>,
 ) -> Result<Entry, StoreFault>
-    ensures { (e : Made) → HasForm e → HasEntry e book amount (entry_given columns.entry) → GivesBack e result }
+    ensures { (f : Earned) → IsFee f → HasFee f book amount (entry_given columns.entry)
+        → GivesBack (Entry.Fee f) result }
 {
-    match columns.kind {
-        1 => Ok(Entry::Deposit(deposit_in(alloc, book, amount, columns)?)),
-        2 => Ok(Entry::Payment(payment_in(alloc, book, amount, columns)?)),
-        3 => {
-            let description = label_in(alloc, columns.text_a)?;
-            Ok(Entry::Fee(Fee {
-                book,
-                amount,
-                description,
-            }))
-        }
-        4 => Ok(Entry::Claim(claim_in(alloc, book, amount, columns)?)),
-        _ => Err(StoreFault::Store),
-    }
+    let description = label_in(alloc, columns.text_a)?;
+    Ok(Entry::Fee(Fee {
+        book,
+        amount,
+        description,
+    }))
 }
 
 // Whether both have the same matter, number, kind, state and amount left.
@@ -433,7 +456,15 @@ pub fn entry_of(
     let left = number_in(columns.left_now, MAX_TOTAL)?;
     let book = day_in(columns.day)?;
     let amount = amount_in(columns.amount)?;
-    let entry = of_kind(alloc, book, amount, columns)?;
+    // Reads the columns that its kind and state use; the others are compared below.
+    let read = match columns.kind {
+        1 => deposit_in(alloc, book, amount, columns),
+        2 => payment_in(alloc, book, amount, columns),
+        3 => fee_in(alloc, book, amount, columns),
+        4 => claim_in(alloc, book, amount, columns),
+        _ => Err(StoreFault::Store),
+    };
+    let entry = read?;
     let written = entry_columns(matter, number, left, &entry);
     if !are_same(written, columns) {
         return Err(StoreFault::Store);

@@ -56,14 +56,6 @@ pub below_next : {X : Type 0} (key : X → ℤ) (xs : List X) → IsKeyedBy key 
 below_next key [] up = tt
 below_next key (x ∷ xs) up = above_all key xs x up
 
-pub weaker : {X : Type 0} (P Q : X → Type 0) → ((x : X) → P x → Q x) → (xs : List X) → AllByRecursion P xs → AllByRecursion Q xs
-weaker P Q f [] h = tt
-weaker P Q f (x ∷ xs) h = (f x h.0, weaker P Q f xs h.1)
-
-pub all_of : {X : Type 0} (P : X → Type 0) → ((x : X) → P x) → (xs : List X) → AllByRecursion P xs
-all_of P f [] = tt
-all_of P f (x ∷ xs) = (f x, all_of P f xs)
-
 -- a key above all goes to the end
 pub goes_last : {X : Type 0} (key : X → ℤ) (xs : List X) (new : X) → AllByRecursion (λ x. key x <ℤ key new) xs → insert_by key xs new ≡ xs ++ new ∷ []
 goes_last key [] new low = refl

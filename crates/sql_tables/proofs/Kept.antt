@@ -1,5 +1,5 @@
 -- The rows that a write takes out and puts in, as a list of records in the order of their rowids.
-use Rattle.sql_tables.proofs.Names.{◌≡◌, inl, inr, ℤ, ◌<ℤ◌, Bool, true, false, not, cond, ◌&&◌, ◌||◌, List, [], ◌∷◌, map, filter, fold, drop, None, refl, sym, ap, ap₂, subst, ◌∙◌, arith, int_eq, Less, true≢false, ordering_reverse, AllByRecursion, list_any, ints, Int, Row, value_cmp, value_cmp_total, value_cmp-Int, rowid, put_row, IsAscending, IsTable, Table, Has, ids_of, AreConflicts, conflicts, Given, id_in, without_all, put_all, numbered, are_fresh, IsKeyedBy, insert_by, without_key, update_where, delete_where, same_int, Less-from_lt, IsKeyedBy-update_where, IsKeyedBy-delete_where, all_has, some_has, some_from, has_kept, has_filtered, has_contained, contains_had, map-map, map_same, ascending-map, ascending_weaker, IsPermutation, list_any-IsPermutation, Contains-permutation, IsPermutation-map, IsPermutation-sym}
+use Rattle.sql_tables.proofs.Names.{all_from, unfiltered, ◌≡◌, inl, inr, ℤ, ◌<ℤ◌, Bool, true, false, not, cond, ◌&&◌, ◌||◌, List, [], ◌∷◌, map, filter, fold, drop, None, refl, sym, ap, ap₂, subst, ◌∙◌, arith, int_eq, Less, true≢false, ordering_reverse, AllByRecursion, list_any, ints, Int, Row, value_cmp, value_cmp_total, value_cmp-Int, rowid, put_row, IsAscending, IsTable, Table, Has, ids_of, AreConflicts, conflicts, Given, id_in, without_all, put_all, numbered, are_fresh, IsKeyedBy, insert_by, without_key, update_where, delete_where, same_int, Less-from_lt, IsKeyedBy-update_where, IsKeyedBy-delete_where, all_has, some_has, some_from, has_kept, has_filtered, has_contained, contains_had, map-map, map_same, ascending-map, ascending_weaker, IsPermutation, list_any-IsPermutation, Contains-permutation, IsPermutation-map, IsPermutation-sym}
 use Rattle.std.proofs.lemmas.Bool.{cases_Bool, false_from_ne_true}
 use Rattle.sqlite_trees.proofs.TreeLemmas.{IsTable-put_row}
 use Rattle.sqlite_schema.specs.declared.schema.Index.{Index}
@@ -15,16 +15,11 @@ both p q r is (x ∷ xs) = elim (cases_Bool (q x)) [
 ]
 
 pub all_kept : {X : Type 0} (xs : List X) → filter (λ _. true) xs ≡ xs
-all_kept [] = refl
-all_kept (x ∷ xs) = ap (λ l. x ∷ l) (all_kept xs)
+all_kept xs = unfiltered xs refl
 
 same_on : {X : Type 0} (p q : X → Bool) (xs : List X) → AllByRecursion (λ x. p x ≡ q x) xs → filter p xs ≡ filter q xs
 same_on p q [] h = refl
 same_on p q (x ∷ xs) h = rw h.0 (ap (λ l. cond (q x) (x ∷ l) l) (same_on p q xs h.1))
-
-has_all : {X : Type 0} (P : X → Type 0) (xs : List X) → ((x : X) → Has xs x → P x) → AllByRecursion P xs
-has_all P [] h = tt
-has_all P (x ∷ xs) h = (h x (inl refl), has_all P xs (λ y k. h y (inr k)))
 
 self : (n : ℤ) → int_eq n n ≡ true
 self n = grind (arith, ints)
@@ -102,7 +97,7 @@ module _ {X : Type 0} (key : X → ℤ) where
     conflicts_gone =
         deletes-map key to_row keyed (ids_of found) xs
         ∙ ap (map to_row) (removes_if (ids_of found) xs
-        ∙ same_on _ _ xs (has_all _ xs (λ x h. elim (cases_Bool (p x)) [
+        ∙ same_on _ _ xs (all_from _ xs (λ x h. elim (cases_Bool (p x)) [
           | inl met_it ↦ rw (meets x h met_it, met_it)
           | inr lacks ↦ let lost : is_found x ≡ false = false_from_ne_true _ (λ met_it. true≢false (sym (met x h met_it) ∙ lacks)) in rw (lost, lacks)
         ])))
@@ -128,7 +123,7 @@ module _ {X : Type 0} (key : X → ℤ) where
     pub ids_gone : without_all (map to_row xs) ids ≡ map to_row (delete_where p xs)
     ids_gone =
         deletes-map key to_row keyed ids xs
-        ∙ ap (map to_row) (removes_if ids xs ∙ same_on _ _ xs (has_all _ xs (λ x h. ap not (sym (list_any-IsPermutation (λ i. int_eq (key x) i) _ _ are) ∙ passing x h))))
+        ∙ ap (map to_row) (removes_if ids xs ∙ same_on _ _ xs (all_from _ xs (λ x h. ap not (sym (list_any-IsPermutation (λ i. int_eq (key x) i) _ _ are) ∙ passing x h))))
 
   -- the rowids of rows that begin with those of the elements
   pub ids_shown : (show : X → Row) → ((x : X) → id_in (rowid (show x)) ≡ key x) → (ys : List X) (rows : List Row) → IsPermutation (map show ys) rows → IsPermutation (map key ys) (ids_of rows)

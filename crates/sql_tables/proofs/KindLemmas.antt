@@ -1,5 +1,5 @@
 -- What a statement of each kind makes of the list that its table holds.
-use Rattle.sql_tables.proofs.Names.{refl, flat_map, filter_map, ◌==◌, parent_key, Work, work_by, deed_of, pairs, Holds, call_of, IsKeyedBy-delete_where, IsKeyedBy-update_where, IsKeyedBy-insert_by, ◌≡◌, ◌≢◌, ℕ, ℤ, pos, ◌<ℤ◌, ◌/◌, Bool, true, false, cond, List, [], ◌∷◌, ◌++◌, map, filter, length, drop, slice_get, None, Ok, Some, sym, ap, ap₂, subst, subst₂, ◌∙◌, arith, AllByRecursion, list_all, list_any, IsPermutation, ints, IsPermutation-map, Null, Int, Row, Trees, rowid, put_row, Term, col, eval_all, holds, IsAnswer, Output, output, overlay, Table, Program, Enforced, Ignore, Replace, Values, Insert, InsertOr, Update, Delete, Chosen, Above, Given, works, ids_of, cast_row, at_least, are_fresh, edit_of, next_rowid, numbered, put_all, with_rowid, without_all, AreConflicts, conflicts, Has, is_present, passes_checks, IsKeyedBy, insert_by, next_key, update_where, delete_where, map-map, map_same, at_end, last_table, matches_are, Database, IsDatabase, value_rows, sequence, stamped, mended, State, Executes, runs_as, Layout, book_schema, sequence_table, sequence_tree, changing, picked, Changed, Counted}
+use Rattle.sql_tables.proofs.Names.{all_of, all_weaker, refl, flat_map, filter_map, ◌==◌, parent_key, Work, work_by, deed_of, pairs, Holds, call_of, IsKeyedBy-delete_where, IsKeyedBy-update_where, IsKeyedBy-insert_by, ◌≡◌, ◌≢◌, ℕ, ℤ, pos, ◌<ℤ◌, ◌/◌, Bool, true, false, cond, List, [], ◌∷◌, ◌++◌, map, filter, length, drop, slice_get, None, Ok, Some, sym, ap, ap₂, subst, subst₂, ◌∙◌, arith, AllByRecursion, list_all, list_any, IsPermutation, ints, IsPermutation-map, Null, Int, Row, Trees, rowid, put_row, Term, col, eval_all, holds, IsAnswer, Output, output, overlay, Table, Program, Enforced, Ignore, Replace, Values, Insert, InsertOr, Update, Delete, Chosen, Above, Given, works, ids_of, cast_row, at_least, are_fresh, edit_of, next_rowid, numbered, put_all, with_rowid, without_all, AreConflicts, conflicts, Has, is_present, passes_checks, IsKeyedBy, insert_by, next_key, update_where, delete_where, map-map, map_same, at_end, last_table, matches_are, Database, IsDatabase, value_rows, sequence, stamped, mended, State, Executes, runs_as, Layout, book_schema, sequence_table, sequence_tree, changing, picked, Changed, Counted}
 use Rattle.std.proofs.lemmas.Bool.Decides.{nat_tests}
 use Rattle.sqlite_schema.specs.declared.schema.Reference.{Reference}
 use Rattle.sql_tables.specs.declared.statements.Statement.{Statement}
@@ -8,7 +8,7 @@ use Rattle.sql_tables.proofs.CountedUp as up
 use Rattle.sql_schema.specs.declared.layout.Layout.TheVariants.{Made, Moved}
 use Rattle.sql_tables.proofs.Calls.{no_lets, IsCommand}
 use Rattle.sql_tables.proofs.Kept.{conflicts_gone, none_found, some_found, row_put, rows_changed, rows_gone}
-use Rattle.sql_tables.proofs.Casts.{are_fit, row_kept, weaker, all_of, next_is, below_next, goes_last, rise_last}
+use Rattle.sql_tables.proofs.Casts.{are_fit, row_kept, next_is, below_next, goes_last, rise_last}
 
 -- no key acts, since each reference is refused and not followed
 
@@ -72,7 +72,7 @@ module _ {l : Layout} {s : Statement} {old new : State} (r : Ran l s old new) (a
     changed = record {
       schema = ap (λ (d : Database). d.schema) is;
       rows = ap (λ (d : Database). d.trees table.tree) is ∙ rows;
-      others = weaker (λ t. t.tree ≢ table.tree → trees t.tree ≡ old.now.trees t.tree) (λ t. t.tree ≢ table.tree → t.tree ≢ sequence_tree l → new.now.trees t.tree ≡ old.now.trees t.tree)
+      others = all_weaker (λ t. t.tree ≢ table.tree → trees t.tree ≡ old.now.trees t.tree) (λ t. t.tree ≢ table.tree → t.tree ≢ sequence_tree l → new.now.trees t.tree ≡ old.now.trees t.tree)
           (λ t same other apart. ap (λ (d : Database). d.trees t.tree) is ∙ same other) (book_schema l).tables others;
       listed = sound;
     };
@@ -140,7 +140,7 @@ module _ {l : Layout} {s : Statement} {old new : State} (r : Ran l s old new) (a
     kept = row_kept table Null cells refl fits
 
     low : AllByRecursion (λ x. key x <ℤ key last) xs
-    low = weaker (λ x. key x <ℤ next_key key xs) (λ x. key x <ℤ key last) (λ x h. subst (λ k. key x <ℤ k) (sym (made_key (next_key key xs))) h) xs (below_next key xs held.rise)
+    low = all_weaker (λ x. key x <ℤ next_key key xs) (λ x. key x <ℤ key last) (λ x h. subst (λ k. key x <ℤ k) (sym (made_key (next_key key xs))) h) xs (below_next key xs held.rise)
 
     rise : IsKeyedBy key (xs ++ last ∷ [])
     rise = rise_last key xs last held.rise low
@@ -203,13 +203,13 @@ module _ {l : Layout} {s : Statement} {old new : State} (r : Ran l s old new) (a
           let new_row : with_rowid (Above done.0) base (cast_row table (Null ∷ cells)) ≡ to_row n =
           ap (with_rowid (Above done.0) base) kept
           ∙ ap (λ rows. Int (at_least (Above done.0) (next_rowid rows)) ∷ cells) held.stored ∙ ap (λ k. Int (at_least (Above done.0) k) ∷ cells) (next_is key to_row keyed xs (pos 1)) ∙ sym (made_row seq) in
-          let below = weaker (λ x. key x <ℤ next_key key xs) (λ x. key x <ℤ key n) (λ x h. subst (λ k. key x <ℤ k) (sym (made_key seq)) (still_low done.0 (key x) (next_key key xs) h)) xs (below_next key xs held.rise) in
+          let below = all_weaker (λ x. key x <ℤ next_key key xs) (λ x. key x <ℤ key n) (λ x h. subst (λ k. key x <ℤ k) (sym (made_key seq)) (still_low done.0 (key x) (next_key key xs) h)) xs (below_next key xs held.rise) in
           record {
             seq = seq;
             changed = record {
               schema = ap (λ (d : Database). d.schema) did.2;
               rows = ap (λ (d : Database). d.trees table.tree) did.2 ∙ done.1.rows apart ∙ ap₂ put_row new_row held.stored ∙ row_put key to_row keyed n xs ∙ ap (map to_row) (goes_last key xs n below);
-              others = weaker (λ t. t.tree ≢ table.tree → t.tree ≢ sequence_tree l → did.0.trees t.tree ≡ old.now.trees t.tree) (λ t. t.tree ≢ table.tree → t.tree ≢ sequence_tree l → new.now.trees t.tree ≡ old.now.trees t.tree)
+              others = all_weaker (λ t. t.tree ≢ table.tree → t.tree ≢ sequence_tree l → did.0.trees t.tree ≡ old.now.trees t.tree) (λ t. t.tree ≢ table.tree → t.tree ≢ sequence_tree l → new.now.trees t.tree ≡ old.now.trees t.tree)
                   (λ t same other away. ap (λ (d : Database). d.trees t.tree) did.2 ∙ same other away) (book_schema l).tables done.1.others;
               listed = does.sound;
             };

@@ -12,10 +12,10 @@ pub use Rattle.sqlite.specs.State.{Executes, ExecutesInside, FailsToShow, HasCle
 unfoldable pub use Rattle.sqlite.specs.State.{CommitsShowing, FailsToQuery, IsNotRun, Shown}
 pub use Rattle.sqlite.specs.declared.error.Error.{Error}
 pub use Rattle.sqlite_keyed.proofs.KeyedLemmas.{IsKeyedBy-delete_where, IsKeyedBy-insert_by, IsKeyedBy-update_where, Less-from_lt, above_all, same_int}
-pub use Rattle.sqlite_keyed.proofs.ListLemmas.{ascending-map, ascending_weaker, map-map, map_same}
+pub use Rattle.sqlite_keyed.proofs.ListLemmas.{all_of, all_weaker, ascending-map, ascending_weaker, map-map, map_same}
 pub use Rattle.sqlite_keyed.specs.Keyed.{IsKeyedBy, insert_by, next_key}
 pub use Rattle.sqlite_keyed.specs.Lists.{delete_where, sort_by, update_where, without_key}
-pub use Rattle.sqlite_rules.proofs.ListLemmas.{all_has, contains_had, has_contained, has_filtered, has_kept, some_from, some_has}
+pub use Rattle.sqlite_rules.proofs.ListLemmas.{all_from, all_has, contains_had, has_contained, has_filtered, has_kept, some_from, some_has}
 pub use Rattle.sqlite_rules.specs.Action.{Work, deed_of, pairs, work_by, works}
 pub use Rattle.sqlite_rules.specs.Calls.{ids_of}
 pub use Rattle.sqlite_rules.specs.Cast.{cast, cast_all, cast_row}
@@ -38,7 +38,7 @@ pub use Rattle.sqlite_sql.specs.Query.{IsAnswer, Output, Query, output}
 pub use Rattle.sqlite_sql.specs.Term.{Term, col, eval_all, holds}
 pub use Rattle.sqlite_sql.specs.declared.ops.CompareOp.TheVariants.{Eq, Gt}
 pub use Rattle.sqlite_trees.specs.Tree.{IsAscending, IsTable, Trees, put_row, rowid}
-pub use Rattle.sqlite_typed.proofs.AnswerLemmas.{answer_by_keys, answer_sorted, at_end, last_table, matches_are, no_tie, no_tie_after}
+pub use Rattle.sqlite_typed.proofs.AnswerLemmas.{unfiltered, answer_by_keys, answer_sorted, at_end, last_table, matches_are, no_tie, no_tie_after}
 pub use Rattle.sqlite_typed.proofs.TestLemmas.{at_ints, at_texts, last_key, last_term, then_key, then_term}
 pub use Rattle.sqlite_value.proofs.OrderLemmas.{value_cmp-Int, value_cmp-Text, value_cmp_total}
 pub use Rattle.sqlite_value.specs.Order.{Row}

@@ -1,17 +1,18 @@
 -- A change of one table leaves the others standing. Written by tools/book-tables.
 use Rattle.std.proofs.Common.{◌≡◌, ◌≢◌, inl, inr, ℕ, ℤ, ◌==◌, true, false, [], ◌∷◌, List, map, cond, refl, sym, ap, subst, ◌∙◌, arith}
+use Rattle.std.specs.List.{AllByRecursion}
 use Rattle.std.proofs.lemmas.Bool.{cases_Bool}
 use Rattle.std.proofs.lemmas.Bool.Decides.{nat_tests}
 use Rattle.sqlite_value.specs.declared.value.Value.TheVariants.{Int}
 use Rattle.sqlite_value.specs.Order.{Row, column}
 use Rattle.sqlite_trees.specs.Tree.{Trees}
 use Rattle.sqlite_keyed.specs.Keyed.{IsKeyedBy}
-use Rattle.sqlite_keyed.proofs.ListLemmas.{map_back}
+use Rattle.sqlite_keyed.proofs.ListLemmas.{all_weaker, map_back}
 use Rattle.sqlite.specs.Effect.{Database, IsDatabase}
 use Rattle.sql_schema.specs.declared.layout.Layout.{Layout}
 use Rattle.sql_schema.specs.declared.layout.Layout.TheVariants.{Made, Moved}
-use Rattle.sql_schema.specs.Schema.{book_schema, version_now, book_tree, matter_tree, seat_tree, entry_tree, journal_tree, firm_line_tree, exception_tree, balance_tree}
-use Rattle.sql_tables.specs.Standing.{Holds, Stands, KeepsOthers, Changed, HeadsHold, SeatsHold, EntriesHold, MovementsHold, FirmLinesHold, ExceptionsHold, BalancesHold}
+use Rattle.sql_schema.specs.Schema.{book_schema, version_now, book_tree, sequence_tree, matter_tree, seat_tree, entry_tree, journal_tree, firm_line_tree, exception_tree, balance_tree}
+use Rattle.sql_tables.specs.Standing.{Holds, Stands, KeepsOthers, Changed, versions_in, HeadsHold, SeatsHold, EntriesHold, MovementsHold, FirmLinesHold, ExceptionsHold, BalancesHold}
 use Rattle.sql_tables.specs.Rows.{Head, head_row, head_in, Seat, seat_row, seat_in, Entry, entry_row, entry_in, Movement, movement_row, movement_in, FirmLine, firm_line_row, firm_line_in, Exception, exception_row, exception_in, Balance, balance_row, balance_in}
 use Rattle.sql_tables.specs.Lists.{Lists, lists_in}
 use Rattle.sql_tables.proofs.KindLemmas.{Put}
@@ -28,10 +29,37 @@ record Seen : Type 0 where
   pub balances : List Row
 
 abbrev seen : Layout → Trees → Seen
-seen l db = record { book = db (book_tree l); heads = db (matter_tree l); seats = db (seat_tree l); entries = db (entry_tree l); movements = db (journal_tree l); firm_lines = db (firm_line_tree l); exceptions = db (exception_tree l); balances = db (balance_tree l) }
+seen l db = record {
+  book = db (book_tree l);
+  heads = db (matter_tree l);
+  seats = db (seat_tree l);
+  entries = db (entry_tree l);
+  movements = db (journal_tree l);
+  firm_lines = db (firm_line_tree l);
+  exceptions = db (exception_tree l);
+  balances = db (balance_tree l);
+}
 
 abbrev lists_of : Seen → Lists
-lists_of s = record { heads = map head_in s.heads; seats = map seat_in s.seats; entries = map entry_in s.entries; movements = map movement_in s.movements; firm_lines = map firm_line_in s.firm_lines; exceptions = map exception_in s.exceptions; balances = map balance_in s.balances }
+lists_of s = record {
+  heads = map head_in s.heads;
+  seats = map seat_in s.seats;
+  entries = map entry_in s.entries;
+  movements = map movement_in s.movements;
+  firm_lines = map firm_line_in s.firm_lines;
+  exceptions = map exception_in s.exceptions;
+  balances = map balance_in s.balances;
+}
+
+-- those of each hold the records of its kind
+record AreHeld (s : Seen) : Type 0 where
+  pub heads : HeadsHold s.heads
+  pub seats : SeatsHold s.seats
+  pub entries : EntriesHold s.entries
+  pub movements : MovementsHold s.movements
+  pub firm_lines : FirmLinesHold s.firm_lines
+  pub exceptions : ExceptionsHold s.exceptions
+  pub balances : BalancesHold s.balances
 
 -- the tables with the rows of one of them changed
 abbrev pub with_rows : Trees → ℕ → List Row → Trees
@@ -49,26 +77,34 @@ one_kept t tree db next kept = elim (cases_Bool (t == tree)) [
   | inr b ↦ rw b (kept (other_table t tree b))
 ]
 
-others_kept : (l : Layout) (tree : ℕ) (db next : Database) → KeepsOthers l tree db next → seen l next.trees ≡ seen l (with_rows db.trees tree (next.trees tree))
-others_kept Made tree db next o = λ i. record {
-  book = one_kept 0 tree db.trees next.trees (λ other. o.0 other (λ e. omega (arith, e))) i;
-  heads = one_kept 1 tree db.trees next.trees (λ other. o.1.0 other (λ e. omega (arith, e))) i;
-  seats = one_kept 2 tree db.trees next.trees (λ other. o.1.1.0 other (λ e. omega (arith, e))) i;
-  entries = one_kept 4 tree db.trees next.trees (λ other. o.1.1.1.0 other (λ e. omega (arith, e))) i;
-  movements = one_kept 6 tree db.trees next.trees (λ other. o.1.1.1.1.0 other (λ e. omega (arith, e))) i;
-  firm_lines = one_kept 8 tree db.trees next.trees (λ other. o.1.1.1.1.1.1.0 other (λ e. omega (arith, e))) i;
-  exceptions = one_kept 9 tree db.trees next.trees (λ other. o.1.1.1.1.1.1.1.0 other (λ e. omega (arith, e))) i;
-  balances = one_kept 11 tree db.trees next.trees (λ other. o.1.1.1.1.1.1.1.1.0 other (λ e. omega (arith, e))) i;
+each_kept : (l : Layout) (tree : ℕ) (db next : Database) → KeepsOthers l tree db next
+    → AllByRecursion (λ t. (t.tree == sequence_tree l) ≡ false
+    → next.trees t.tree ≡ with_rows db.trees tree (next.trees tree) t.tree) (book_schema l).tables
+each_kept l tree db next o =
+    all_weaker _ _ (λ t kept apart. one_kept t.tree tree db.trees next.trees
+    (λ other. kept other (other_table t.tree (sequence_tree l) apart))) (book_schema l).tables o
+
+others_kept : (l : Layout) (tree : ℕ) (db next : Database) → KeepsOthers l tree db next
+    → seen l next.trees ≡ seen l (with_rows db.trees tree (next.trees tree))
+others_kept Made tree db next o = let k = each_kept Made tree db next o in λ i. record {
+  book = k.0 refl i;
+  heads = k.1.0 refl i;
+  seats = k.1.1.0 refl i;
+  entries = k.1.1.1.0 refl i;
+  movements = k.1.1.1.1.0 refl i;
+  firm_lines = k.1.1.1.1.1.1.0 refl i;
+  exceptions = k.1.1.1.1.1.1.1.0 refl i;
+  balances = k.1.1.1.1.1.1.1.1.0 refl i;
 }
-others_kept Moved tree db next o = λ i. record {
-  book = one_kept 0 tree db.trees next.trees (λ other. o.0 other (λ e. omega (arith, e))) i;
-  heads = one_kept 13 tree db.trees next.trees (λ other. o.1.1.1.1.1.1.1.1.1.0 other (λ e. omega (arith, e))) i;
-  seats = one_kept 14 tree db.trees next.trees (λ other. o.1.1.1.1.1.1.1.1.1.1.0 other (λ e. omega (arith, e))) i;
-  entries = one_kept 16 tree db.trees next.trees (λ other. o.1.1.1.1.1.1.1.1.1.1.1.0 other (λ e. omega (arith, e))) i;
-  movements = one_kept 6 tree db.trees next.trees (λ other. o.1.1.1.1.0 other (λ e. omega (arith, e))) i;
-  firm_lines = one_kept 8 tree db.trees next.trees (λ other. o.1.1.1.1.1.1.0 other (λ e. omega (arith, e))) i;
-  exceptions = one_kept 9 tree db.trees next.trees (λ other. o.1.1.1.1.1.1.1.0 other (λ e. omega (arith, e))) i;
-  balances = one_kept 11 tree db.trees next.trees (λ other. o.1.1.1.1.1.1.1.1.0 other (λ e. omega (arith, e))) i;
+others_kept Moved tree db next o = let k = each_kept Moved tree db next o in λ i. record {
+  book = k.0 refl i;
+  heads = k.1.1.1.1.1.1.1.1.1.0 refl i;
+  seats = k.1.1.1.1.1.1.1.1.1.1.0 refl i;
+  entries = k.1.1.1.1.1.1.1.1.1.1.1.0 refl i;
+  movements = k.1.1.1.1.0 refl i;
+  firm_lines = k.1.1.1.1.1.1.0 refl i;
+  exceptions = k.1.1.1.1.1.1.1.0 refl i;
+  balances = k.1.1.1.1.1.1.1.1.0 refl i;
 }
 
 -- only the rows of that table are others
@@ -99,87 +135,58 @@ abbrev pub IsAlone : {X : Type 0} (l : Layout) (tree : ℕ) (to_row : X → Row)
 IsAlone l tree to_row now lists db next = Changed l tree to_row now db next × Stands l next × (lists_in l next.trees ≡ lists) × IsDatabase next
 
 module _ (l : Layout) {db next : Database} (s : Stands l db) where
-  -- all stands, if each table holds what it is to hold
-  stands_as : {now : Seen} → seen l next.trees ≡ now → next.schema ≡ book_schema l → now.book ≡ db.trees (book_tree l)
-      → HeadsHold now.heads → SeatsHold now.seats → EntriesHold now.entries → MovementsHold now.movements → FirmLinesHold now.firm_lines → ExceptionsHold now.exceptions → BalancesHold now.balances → Stands l next
-  stands_as is schema book heads seats entries movements firm_lines exceptions balances = record {
-    schema = schema;
-    version = ap (λ (s : Seen). map (λ (r : Row). column r 1) s.book) is ∙ ap (map (λ (r : Row). column r 1)) book ∙ s.version;
-    heads = subst HeadsHold (sym (ap (λ (s : Seen). s.heads) is)) heads;
-    seats = subst SeatsHold (sym (ap (λ (s : Seen). s.seats) is)) seats;
-    entries = subst EntriesHold (sym (ap (λ (s : Seen). s.entries) is)) entries;
-    movements = subst MovementsHold (sym (ap (λ (s : Seen). s.movements) is)) movements;
-    firm_lines = subst FirmLinesHold (sym (ap (λ (s : Seen). s.firm_lines) is)) firm_lines;
-    exceptions = subst ExceptionsHold (sym (ap (λ (s : Seen). s.exceptions) is)) exceptions;
-    balances = subst BalancesHold (sym (ap (λ (s : Seen). s.balances) is)) balances;
-  }
+  -- all stands, if the table that was changed holds what it is to hold
+  alone : {X : Type 0} {tree : ℕ} {to_row : X → Row} (of_row : Row → X) {key : X → ℤ} {xs : List X}
+      → ((x : X) → of_row (to_row x) ≡ x) → (lists : List X → Lists) → Put l tree to_row key xs db next
+      → {now : Seen} → seen l (with_rows db.trees tree (next.trees tree)) ≡ now → now.book ≡ db.trees (book_tree l)
+      → lists_of now ≡ lists (map of_row (next.trees tree)) → (Holds to_row of_row key (next.trees tree) → AreHeld now)
+      → IsAlone l tree to_row xs (lists xs) db next
+  alone {tree = tree} of_row {xs = xs} back lists p {now} put book are held =
+      let same = others_kept l tree db next p.changed.others ∙ put in
+      let schema = p.changed.schema in
+      let version : versions_in l next.trees ≡ Int version_now ∷ [] =
+      ap (λ (s : Seen). map (λ (r : Row). column r 1) s.book) same ∙ ap (map (λ (r : Row). column r 1)) book ∙ s.version in
+      let held = subst AreHeld (sym same) (held (now_holds back xs p.changed.rows p.rise)) in
+      (p.changed, assumption, ap lists_of same ∙ are ∙ ap lists (now_read of_row back p.changed.rows), p.changed.listed)
 
   pub heads_did : {now : List Head} → Put l (matter_tree l) head_row (λ (x : Head). x.no) now db next
       → IsAlone l (matter_tree l) head_row now (record (lists_in l db.trees) { heads = now }) db next
-  heads_did {now} p =
-      let is = others_kept l (matter_tree l) db next p.changed.others ∙ (rows_put l db.trees _).0 in
-      let stands = stands_as is p.changed.schema refl
-      (now_holds (λ _. refl) now p.changed.rows p.rise) s.seats s.entries s.movements s.firm_lines s.exceptions s.balances in
-      let lists = ap lists_of is ∙ ap (λ (xs : List Head). record (lists_in l db.trees) { heads = xs })
-      (now_read head_in (λ _. refl) p.changed.rows) in
-      (p.changed, stands, lists, p.changed.listed)
+  heads_did p =
+      alone head_in (λ _. refl) (λ xs. record (lists_in l db.trees) { heads = xs }) p
+      (rows_put l db.trees (next.trees (matter_tree l))).0 refl refl (λ held. assumption (held, s))
 
   pub seats_did : {now : List Seat} → Put l (seat_tree l) seat_row (λ (x : Seat). x.id) now db next
       → IsAlone l (seat_tree l) seat_row now (record (lists_in l db.trees) { seats = now }) db next
-  seats_did {now} p =
-      let is = others_kept l (seat_tree l) db next p.changed.others ∙ (rows_put l db.trees _).1 in
-      let stands = stands_as is p.changed.schema refl
-      s.heads (now_holds (λ _. refl) now p.changed.rows p.rise) s.entries s.movements s.firm_lines s.exceptions s.balances in
-      let lists = ap lists_of is ∙ ap (λ (xs : List Seat). record (lists_in l db.trees) { seats = xs })
-      (now_read seat_in (λ _. refl) p.changed.rows) in
-      (p.changed, stands, lists, p.changed.listed)
+  seats_did p =
+      alone seat_in (λ _. refl) (λ xs. record (lists_in l db.trees) { seats = xs }) p
+      (rows_put l db.trees (next.trees (seat_tree l))).1 refl refl (λ held. assumption (held, s))
 
   pub entries_did : {now : List Entry} → Put l (entry_tree l) entry_row (λ (x : Entry). x.id) now db next
       → IsAlone l (entry_tree l) entry_row now (record (lists_in l db.trees) { entries = now }) db next
-  entries_did {now} p =
-      let is = others_kept l (entry_tree l) db next p.changed.others ∙ (rows_put l db.trees _).2 in
-      let stands = stands_as is p.changed.schema refl
-      s.heads s.seats (now_holds (λ _. refl) now p.changed.rows p.rise) s.movements s.firm_lines s.exceptions s.balances in
-      let lists = ap lists_of is ∙ ap (λ (xs : List Entry). record (lists_in l db.trees) { entries = xs })
-      (now_read entry_in (λ _. refl) p.changed.rows) in
-      (p.changed, stands, lists, p.changed.listed)
+  entries_did p =
+      alone entry_in (λ _. refl) (λ xs. record (lists_in l db.trees) { entries = xs }) p
+      (rows_put l db.trees (next.trees (entry_tree l))).2 refl refl (λ held. assumption (held, s))
 
   pub movements_did : {now : List Movement} → Put l (journal_tree l) movement_row (λ (x : Movement). x.seq) now db next
       → IsAlone l (journal_tree l) movement_row now (record (lists_in l db.trees) { movements = now }) db next
-  movements_did {now} p =
-      let is = others_kept l (journal_tree l) db next p.changed.others ∙ (rows_put l db.trees _).3 in
-      let stands = stands_as is p.changed.schema refl
-      s.heads s.seats s.entries (now_holds (λ _. refl) now p.changed.rows p.rise) s.firm_lines s.exceptions s.balances in
-      let lists = ap lists_of is ∙ ap (λ (xs : List Movement). record (lists_in l db.trees) { movements = xs })
-      (now_read movement_in (λ _. refl) p.changed.rows) in
-      (p.changed, stands, lists, p.changed.listed)
+  movements_did p =
+      alone movement_in (λ _. refl) (λ xs. record (lists_in l db.trees) { movements = xs }) p
+      (rows_put l db.trees (next.trees (journal_tree l))).3 refl refl (λ held. assumption (held, s))
 
   pub firm_lines_did : {now : List FirmLine} → Put l (firm_line_tree l) firm_line_row (λ (x : FirmLine). x.seq) now db next
       → IsAlone l (firm_line_tree l) firm_line_row now (record (lists_in l db.trees) { firm_lines = now }) db next
-  firm_lines_did {now} p =
-      let is = others_kept l (firm_line_tree l) db next p.changed.others ∙ (rows_put l db.trees _).4 in
-      let stands = stands_as is p.changed.schema refl
-      s.heads s.seats s.entries s.movements (now_holds (λ _. refl) now p.changed.rows p.rise) s.exceptions s.balances in
-      let lists = ap lists_of is ∙ ap (λ (xs : List FirmLine). record (lists_in l db.trees) { firm_lines = xs })
-      (now_read firm_line_in (λ _. refl) p.changed.rows) in
-      (p.changed, stands, lists, p.changed.listed)
+  firm_lines_did p =
+      alone firm_line_in (λ _. refl) (λ xs. record (lists_in l db.trees) { firm_lines = xs }) p
+      (rows_put l db.trees (next.trees (firm_line_tree l))).4 refl refl (λ held. assumption (held, s))
 
   pub exceptions_did : {now : List Exception} → Put l (exception_tree l) exception_row (λ (x : Exception). x.id) now db next
       → IsAlone l (exception_tree l) exception_row now (record (lists_in l db.trees) { exceptions = now }) db next
-  exceptions_did {now} p =
-      let is = others_kept l (exception_tree l) db next p.changed.others ∙ (rows_put l db.trees _).5 in
-      let stands = stands_as is p.changed.schema refl
-      s.heads s.seats s.entries s.movements s.firm_lines (now_holds (λ _. refl) now p.changed.rows p.rise) s.balances in
-      let lists = ap lists_of is ∙ ap (λ (xs : List Exception). record (lists_in l db.trees) { exceptions = xs })
-      (now_read exception_in (λ _. refl) p.changed.rows) in
-      (p.changed, stands, lists, p.changed.listed)
+  exceptions_did p =
+      alone exception_in (λ _. refl) (λ xs. record (lists_in l db.trees) { exceptions = xs }) p
+      (rows_put l db.trees (next.trees (exception_tree l))).5 refl refl (λ held. assumption (held, s))
 
   pub balances_did : {now : List Balance} → Put l (balance_tree l) balance_row (λ (x : Balance). x.id) now db next
       → IsAlone l (balance_tree l) balance_row now (record (lists_in l db.trees) { balances = now }) db next
-  balances_did {now} p =
-      let is = others_kept l (balance_tree l) db next p.changed.others ∙ (rows_put l db.trees _).6 in
-      let stands = stands_as is p.changed.schema refl
-      s.heads s.seats s.entries s.movements s.firm_lines s.exceptions (now_holds (λ _. refl) now p.changed.rows p.rise) in
-      let lists = ap lists_of is ∙ ap (λ (xs : List Balance). record (lists_in l db.trees) { balances = xs })
-      (now_read balance_in (λ _. refl) p.changed.rows) in
-      (p.changed, stands, lists, p.changed.listed)
+  balances_did p =
+      alone balance_in (λ _. refl) (λ xs. record (lists_in l db.trees) { balances = xs }) p
+      (rows_put l db.trees (next.trees (balance_tree l))).6 refl refl (λ held. assumption (held, s))

@@ -1,5 +1,5 @@
 -- What each statement makes of the lists that the tables hold.
-use Rattle.sql_tables.proofs.Names.{◌≡◌, ℤ, ◌<ℤ◌, false, ◌∷◌, slice_get, None, Some, inl, inr, refl, ap, ◌∙◌, arith, int_eq, ints, Null, Eq, cast_row, with_rowid, Chosen, conflicts, Has, next_key, at_ints, at_texts, then_term, last_term, sequence, State, Layout, Stands, book_schema, matter_tree, matter_place, matter_table, seat_place, seat_table, entry_place, entry_table, journal_place, journal_table, firm_line_place, firm_line_table, exception_place, exception_table, balance_place, balance_table, sequence_table, Head, head_row, heads_in, is_head, with_totals, with_closing, with_purge, is_seat_of, is_seat, Entry, entry_values, entry_row, entries_in, is_entry_of, is_entry_at, is_entry, with_left, is_movement_of, Exception, exception_row, exceptions_in, is_exception, IsDatabase, Database, Does, Int, balance_values, exception_values, firm_line_values, head_shown, movement_values, seat_values}
+use Rattle.sql_tables.proofs.Names.{all_of, all_weaker, ◌≡◌, ℤ, ◌<ℤ◌, false, ◌∷◌, slice_get, None, Some, inl, inr, refl, ap, ◌∙◌, arith, int_eq, ints, Null, Eq, cast_row, with_rowid, Chosen, conflicts, Has, next_key, at_ints, at_texts, then_term, last_term, sequence, State, Layout, Stands, book_schema, matter_tree, matter_place, matter_table, seat_place, seat_table, entry_place, entry_table, journal_place, journal_table, firm_line_place, firm_line_table, exception_place, exception_table, balance_place, balance_table, sequence_table, Head, head_row, heads_in, is_head, with_totals, with_closing, with_purge, is_seat_of, is_seat, Entry, entry_values, entry_row, entries_in, is_entry_of, is_entry_at, is_entry, with_left, is_movement_of, Exception, exception_row, exceptions_in, is_exception, IsDatabase, Database, Does, Int, balance_values, exception_values, firm_line_values, head_shown, movement_values, seat_values}
 use Rattle.std.proofs.Math.Bool.{and-true, or-false}
 use Rattle.sqlite_value.specs.Keys.{first_key}
 use Rattle.sqlite_schema.specs.Names.{same_name}
@@ -8,10 +8,10 @@ use Rattle.sql_tables.specs.declared.statements.Statement.TheVariants as stateme
 use Rattle.sql_tables.specs.Given.{head_given, seat_given, entry_given, movement_given, firm_line_given, exception_given, balance_given}
 use Rattle.sql_tables.specs.Lists.{lists_in, IsStep}
 use Rattle.sql_schema.specs.declared.layout.Layout.TheVariants.{Made, Moved}
-use Rattle.sql_tables.proofs.Casts.{row_kept, below_next, weaker, all_of}
+use Rattle.sql_tables.proofs.Casts.{row_kept, below_next}
 pub use Rattle.sql_tables.proofs.KindLemmas.{idle}
 use Rattle.sql_tables.proofs.KindLemmas.{Ran, set, deleted, replaces, last_row, adds, adds_or_not, counts}
-use Rattle.sql_tables.proofs.Means.{head_write_means, totals_write_means, closed_write_means, purged_write_means, left_write_means, entry_write_means, seat_insert_means, seat_delete_means, journal_insert_means, firm_insert_means, exception_insert_means, exception_delete_means, balance_insert_means, purge_seats_means, purge_entries_means, purge_journal_means}
+use Rattle.sql_tables.proofs.Means.{means}
 use Rattle.sql_tables.proofs.Others.{heads_did, seats_did, entries_did, movements_did, firm_lines_did, exceptions_did, balances_did}
 
 -- ---- where each table stands
@@ -98,23 +98,23 @@ Did l s db next = Does l s db next × Stands l next × IsStep s (lists_in l db.t
 pub did : (l : Layout) (old new : State) → Stands l old.now → (s : Statement) → Ran l s old new → Did l s old.now new.now
 did l old new st (statement.Head h) r =
     let n = head_given h in
-    heads_did l st (replaces r (matter_place l) (matter_at l) st.heads (λ _. refl) refl refl _ _ (head_write_means l) refl
+    heads_did l st (replaces r (matter_place l) (matter_at l) st.heads (λ _. refl) refl refl _ _ (means l (statement.Head h)) refl
     (head_row n) refl n (ap (with_rowid Chosen (old.now.trees (matter_tree l))) (head_kept l n)) (head_kept l n)
     (is_head n.no) (all_of _ (λ x. head_meets l n x) (heads_in l old.now.trees)))
 did l old new st (statement.Totals t) r =
-    heads_did l st (set r (matter_place l) (matter_at l) st.heads (λ _. refl) refl refl _ _ (totals_write_means l)
+    heads_did l st (set r (matter_place l) (matter_at l) st.heads (λ _. refl) refl refl _ _ (means l (statement.Totals t))
     (is_head t.no) (λ x. last_term (at_ints false Eq x.no t.no)) (with_totals t) (λ _. refl) (λ _. refl) (head_kept l))
 did l old new st (statement.Closed c) r =
-    heads_did l st (set r (matter_place l) (matter_at l) st.heads (λ _. refl) refl refl _ _ (closed_write_means l)
+    heads_did l st (set r (matter_place l) (matter_at l) st.heads (λ _. refl) refl refl _ _ (means l (statement.Closed c))
     (is_head c.matter) (λ x. last_term (at_ints false Eq x.no c.matter)) (with_closing c.day) (λ _. refl) (λ _. refl) (head_kept l))
 did l old new st (statement.Purged c) r =
-    heads_did l st (set r (matter_place l) (matter_at l) st.heads (λ _. refl) refl refl _ _ (purged_write_means l)
+    heads_did l st (set r (matter_place l) (matter_at l) st.heads (λ _. refl) refl refl _ _ (means l (statement.Purged c))
     (is_head c.matter) (λ x. last_term (at_ints false Eq x.no c.matter)) (with_purge c.day) (λ _. refl) (λ _. refl) (head_kept l))
 did l old new st (statement.Seat s) r =
     seats_did l st (adds r (seat_place l) (seat_at l) st.seats (λ _. refl) refl refl (λ k. record (seat_given s) { id = k })
-    (seat_values (seat_given s)) (λ _. refl) (λ _. refl) refl _ _ (seat_insert_means l) refl refl)
+    (seat_values (seat_given s)) (λ _. refl) (λ _. refl) refl _ _ (means l (statement.Seat s)) refl refl)
 did l old new st (statement.SeatGone s) r =
-    seats_did l st (deleted r (seat_place l) (seat_at l) st.seats (λ _. refl) refl refl _ (seat_delete_means l)
+    seats_did l st (deleted r (seat_place l) (seat_at l) st.seats (λ _. refl) refl refl _ (means l (statement.SeatGone s))
     (is_seat s.matter s.person.now)
     (λ x. then_term (at_ints false Eq x.matter s.matter) (last_term (at_texts false Eq x.person s.person.now))))
 did l old new st (statement.Entry e) r =
@@ -123,22 +123,22 @@ did l old new st (statement.Entry e) r =
     let n : Entry = record (entry_given e) { id = next_key key xs } in
     let new_row = last_row r (entry_place l) (entry_at l) st.entries (λ _. refl) refl refl (λ k. record (entry_given e) { id = k })
     (entry_values (entry_given e)) (λ _. refl) (λ _. refl) refl in
-    entries_did l st (replaces r (entry_place l) (entry_at l) st.entries (λ _. refl) refl refl _ _ (entry_write_means l) refl
+    entries_did l st (replaces r (entry_place l) (entry_at l) st.entries (λ _. refl) refl refl _ _ (means l (statement.Entry e)) refl
     (Null ∷ entry_values n) refl n new_row (entry_kept l n) (is_entry n)
-    (weaker (λ x. x.id <ℤ n.id) (λ x. conflicts None (book_schema l).indexes (entry_table l) (entry_row n) (entry_row x) ≡ is_entry n x)
+    (all_weaker (λ x. x.id <ℤ n.id) (λ x. conflicts None (book_schema l).indexes (entry_table l) (entry_row n) (entry_row x) ≡ is_entry n x)
     (λ x low. entry_meets l n x low) xs (below_next key xs st.entries.rise)))
 did l old new st (statement.Left e) r =
-    entries_did l st (set r (entry_place l) (entry_at l) st.entries (λ _. refl) refl refl _ _ (left_write_means l) (is_entry_at e.matter e.no)
+    entries_did l st (set r (entry_place l) (entry_at l) st.entries (λ _. refl) refl refl _ _ (means l (statement.Left e)) (is_entry_at e.matter e.no)
     (λ x. then_term (at_ints false Eq x.matter e.matter) (last_term (at_ints false Eq x.no e.no)))
     (with_left e.left_now) (λ _. refl) (λ _. refl) (entry_kept l))
 did l old new st (statement.Movement m) r =
     let it = counts r (journal_place l) (journal_at l) st.movements (λ _. refl) refl refl (λ k. record (movement_given m) { seq = k })
-    (Null ∷ movement_values (movement_given m)) (λ _. refl) (λ _. refl) refl _ _ (journal_insert_means l) refl (listed l) refl (has_journal l) (λ e. omega (arith, e)) in
+    (Null ∷ movement_values (movement_given m)) (λ _. refl) (λ _. refl) refl _ _ (means l (statement.Movement m)) refl (listed l) refl (has_journal l) (λ e. omega (arith, e)) in
     let all = movements_did l st (record { changed = it.changed; rise = it.rise }) in
     (it, all.1, (it.seq, all.2), all.3)
 did l old new st (statement.FirmLine f) r =
     let it = counts r (firm_line_place l) (firm_line_at l) st.firm_lines (λ _. refl) refl refl (λ k. record (firm_line_given f) { seq = k })
-    (Null ∷ firm_line_values (firm_line_given f)) (λ _. refl) (λ _. refl) refl _ _ (firm_insert_means l) refl (listed l) refl (has_firm_line l) (λ e. omega (arith, e)) in
+    (Null ∷ firm_line_values (firm_line_given f)) (λ _. refl) (λ _. refl) refl _ _ (means l (statement.FirmLine f)) refl (listed l) refl (has_firm_line l) (λ e. omega (arith, e)) in
     let all = firm_lines_did l st (record { changed = it.changed; rise = it.rise }) in
     (it, all.1, (it.seq, all.2), all.3)
 did l old new st (statement.Exception e) r =
@@ -146,23 +146,23 @@ did l old new st (statement.Exception e) r =
     let xs = exceptions_in l old.now.trees in
     let n : Exception = record (exception_given e) { id = next_key key xs } in
     exceptions_did l st (adds_or_not r (exception_place l) (exception_at l) st.exceptions (λ _. refl) refl refl (λ k. record (exception_given e) { id = k })
-    (exception_values (exception_given e)) (λ _. refl) (λ _. refl) refl _ _ (exception_insert_means l) refl refl refl refl (row_kept (exception_table l) (Int n.id) (exception_values n) refl refl)
-    (is_exception n) (weaker (λ x. x.id <ℤ n.id) (λ x. conflicts None (book_schema l).indexes (exception_table l) (exception_row n) (exception_row x) ≡ is_exception n x)
+    (exception_values (exception_given e)) (λ _. refl) (λ _. refl) refl _ _ (means l (statement.Exception e)) refl refl refl refl (row_kept (exception_table l) (Int n.id) (exception_values n) refl refl)
+    (is_exception n) (all_weaker (λ x. x.id <ℤ n.id) (λ x. conflicts None (book_schema l).indexes (exception_table l) (exception_row n) (exception_row x) ≡ is_exception n x)
     (λ x low. exception_meets l n x low) xs (below_next key xs st.exceptions.rise)))
 did l old new st (statement.ExceptionGone e) r =
     let n = exception_given e in
-    exceptions_did l st (deleted r (exception_place l) (exception_at l) st.exceptions (λ _. refl) refl refl _ (exception_delete_means l)
+    exceptions_did l st (deleted r (exception_place l) (exception_at l) st.exceptions (λ _. refl) refl refl _ (means l (statement.ExceptionGone e))
     (is_exception n) (λ x. then_term (at_ints false Eq x.day n.day) (then_term (at_texts false Eq x.reference n.reference)
     (then_term (at_texts false Eq x.bank_ref n.bank_ref) (then_term (at_ints false Eq x.amount n.amount) (last_term (at_texts false Eq x.text n.text)))))))
 did l old new st (statement.Balance b) r =
     balances_did l st (adds r (balance_place l) (balance_at l) st.balances (λ _. refl) refl refl (λ k. record (balance_given b) { id = k })
-    (balance_values (balance_given b)) (λ _. refl) (λ _. refl) refl _ _ (balance_insert_means l) refl refl)
+    (balance_values (balance_given b)) (λ _. refl) (λ _. refl) refl _ _ (means l (statement.Balance b)) refl refl)
 did l old new st (statement.SeatsGone m) r =
-    seats_did l st (deleted r (seat_place l) (seat_at l) st.seats (λ _. refl) refl refl _ (purge_seats_means l)
+    seats_did l st (deleted r (seat_place l) (seat_at l) st.seats (λ _. refl) refl refl _ (means l (statement.SeatsGone m))
     (is_seat_of m) (λ x. last_term (at_ints false Eq x.matter m)))
 did l old new st (statement.EntriesGone m) r =
-    entries_did l st (deleted r (entry_place l) (entry_at l) st.entries (λ _. refl) refl refl _ (purge_entries_means l)
+    entries_did l st (deleted r (entry_place l) (entry_at l) st.entries (λ _. refl) refl refl _ (means l (statement.EntriesGone m))
     (is_entry_of m) (λ x. last_term (at_ints false Eq x.matter m)))
 did l old new st (statement.MovementsGone m) r =
-    movements_did l st (deleted r (journal_place l) (journal_at l) st.movements (λ _. refl) refl refl _ (purge_journal_means l)
+    movements_did l st (deleted r (journal_place l) (journal_at l) st.movements (λ _. refl) refl refl _ (means l (statement.MovementsGone m))
     (is_movement_of m) (λ x. last_term (at_ints false Eq x.matter m)))

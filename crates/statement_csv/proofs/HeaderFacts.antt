@@ -14,6 +14,4 @@ is_header_fields (a ∷ b ∷ []) = simp and-false
 is_header_fields (a ∷ b ∷ c ∷ []) = simp and-false
 is_header_fields (a ∷ b ∷ c ∷ d ∷ []) = simp and-false
 is_header_fields (a ∷ b ∷ c ∷ d ∷ e ∷ []) = simp (and_assoc, and-true)
-is_header_fields (a ∷ b ∷ c ∷ d ∷ e ∷ f ∷ rest) =
-    let more : (length (a ∷ b ∷ c ∷ d ∷ e ∷ f ∷ rest) == 5) ≡ false = grind (arith, nat_tests) in
-    rw more (simp and-false)
+is_header_fields (a ∷ b ∷ c ∷ d ∷ e ∷ f ∷ rest) = grind (arith, nat_tests, and-false)

@@ -30,8 +30,7 @@ within-end whole rest given after most end bytes is = by rest (after bytes is).0
 
 -- nothing in front of known bytes
 pub front-none : (known : Option (List ℕ)) → prepend_known [] known ≡ known
-front-none None = refl
-front-none (Some xs) = refl
+front-none known = grind (arith)
 
 -- while more bytes may come, what is left is what the reader underneath has left
 after-open : (whole rest : Option (List ℕ)) (given : ℕ) → IsReading whole rest given course.Open → IsAfter whole rest given

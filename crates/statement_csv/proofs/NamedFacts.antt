@@ -1,5 +1,5 @@
 -- The texts that name an entry.
-use Rattle.statement_csv.proofs.Names.{◌≡◌, ◌==◌, ◌&&◌, ◌+◌, ℕ, List, ◌∷◌, ◌++◌, length, drop, slice_index, slice_range, Option, Some, None, option_and_then, option_map, IfSome, refl, sym, ap, ◌∙◌, arith, inl, inr, cases_Bool, entry_of, entry_text, matter_of, matter_text, entry_named, entry_of_texts, named, reference_text}
+use Rattle.statement_csv.proofs.Names.{◌≡◌, ◌==◌, ◌&&◌, ℕ, List, ◌∷◌, ◌++◌, length, drop, slice_index, slice_range, Option, Some, None, option_and_then, option_map, IfSome, refl, sym, ap, ◌∙◌, arith, inl, inr, cases_Bool, entry_of, entry_text, matter_of, matter_text, entry_named, entry_of_texts, named, reference_text}
 use Rattle.byte_streams.specs.Digits.{fixed_digits}
 use Rattle.std.proofs.lemmas.List.{drop-drop, drop_more, length-drop, take-append-drop, take_all}
 use Rattle.trust_base.specs.Limits.{IsEntryNo, IsMatterNo}
@@ -18,26 +18,12 @@ twelve r e =
 
 -- an entry that two texts name has them as its texts
 texts-named : (mt et bs : List ℕ) → 77 ∷ (mt ++ 45 ∷ et) ≡ bs → IfSome (entry_of_texts mt et) (λ n. reference_text n.matter n.entry ≡ bs)
-texts-named mt et bs whole = by (matter_of mt) (entry_of et) (λ n f. number-text 1 1000000 matter_text mt n f) (λ n f. number-text 1 10000 entry_text et n f)
-  where
-    by : (a b : Option ℕ) → ((n : ℕ) → a ≡ Some n → matter_text n ≡ mt) → ((n : ℕ) → b ≡ Some n → entry_text n ≡ et)
-        → IfSome (option_and_then (λ m. option_map (named m) b) a) (λ n. reference_text n.matter n.entry ≡ bs)
-    by None b f g = tt
-    by (Some m) None f g = tt
-    by (Some m) (Some e) f g = rw (f m refl, g e refl) whole
+texts-named mt et bs whole = grind (arith, matter_of, entry_of, number-text, option_and_then, option_map)
 
 -- a text that names an entry is the reference of that entry
 pub named-text : (bs : List ℕ) → IfSome (entry_named bs) (λ n. reference_text n.matter n.entry ≡ bs)
 unfolding entry_named
-named-text bs = elim (cases_Bool ((length bs == 12) && (slice_index bs 0 == 77) && (slice_index bs 7 == 45))) [
-  | inl held ↦
-      let size : length bs ≡ 12 = grind arith in
-      let first : slice_index bs 0 ≡ 77 = grind arith in
-      let dash : slice_index bs 7 ≡ 45 = grind arith in
-      let whole = rw (first, dash) at (twelve bs size) in
-      rw held (texts-named (slice_range bs 1 7) (slice_range bs 8 12) bs (sym whole))
-  | inr off ↦ rw off tt
-]
+named-text bs = grind (arith, cases_Bool, twelve, texts-named)
 
 -- the reference of an entry names it
 parts-named : (m e : ℕ) → entry_named (reference_text m e) ≡ entry_of_texts (matter_text m) (entry_text e)

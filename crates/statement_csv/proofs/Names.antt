@@ -16,7 +16,7 @@ pub use Rattle.statement_csv.specs.Headers.{is_header}
 pub use Rattle.statement_csv.specs.Items.{item_by, item_of_line, items_after_header, line_in}
 unfoldable pub use Rattle.statement_csv.specs.Items.{item_of, items_from}
 pub use Rattle.statement_csv.specs.Limits.{IsAfter, IsHeldBack, IsReading, IsWithin, beyond, left_of}
-pub use Rattle.statement_csv.specs.Reading.{Gives, GivesRecord, GivesWithin, HasRead, PassesHeader, Records, Stands, items_left, records_left, unread}
+pub use Rattle.statement_csv.specs.Reading.{Gives, GivesRecord, GivesWithin, HasRead, Records, Stands, items_left, records_left, unread}
 pub use Rattle.statement_csv.specs.References.{entry_of_texts, named, reference_text}
 unfoldable pub use Rattle.statement_csv.specs.References.{entry_named, owner_of}
 pub use Rattle.statement_csv.specs.declared.item.Item.{Item}

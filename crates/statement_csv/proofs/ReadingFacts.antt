@@ -1,7 +1,10 @@
 -- What the next record of a statement gives of the items that are left.
-use Rattle.statement_csv.proofs.Names.{◌≡◌, ◌+◌, ℕ, Bool, true, false, List, [], Option, Some, None, refl, sym, subst, rows-end, rows-more, ReadRecord, Reached, default_config, source_of, is_header, item_of, items_from, left_of, Gives, GivesRecord, PassesHeader, Records, items_left, records_left, Item}
+use Rattle.statement_csv.proofs.Names.{◌≡◌, ◌+◌, ℕ, Bool, true, false, List, [], Option, Some, None, refl, sym, subst, ◌∙◌, rows-end, rows-more, ReadRecord, Reached, default_config, source_of, is_header, item_of, items_from, left_of, Gives, GivesRecord, Records, items_left, records_left, Item}
 use Rattle.std.specs.Prelude.{option_map}
 use Rattle.csv.specs.declared.parser.State.{State}
+use Rattle.statement_csv.specs.Reading.{LacksHeader, Reading}
+use Rattle.statement_csv.specs.declared.item.Stage.{Stage}
+use Rattle.statement_csv.specs.declared.item.Stage.TheVariants as stage
 use Rattle.byte_streams.proofs.CsvRecords.{rest-none, rest-reached}
 
 -- the records of a statement
@@ -36,24 +39,37 @@ unfolding items_from
 gives-end n None new after fields h = tt
 gives-end n (Some rest) new after fields h = rw h refl
 
--- a record that was found and is the header
-pub passes-header : (old new : Option Rows) (fields : List (List ℕ)) → GivesRecord old new true fields → is_header fields ≡ true → PassesHeader old new
-passes-header None new fields h header = tt
-passes-header (Some rest) None fields h header = absurd h
-passes-header (Some rest) (Some more) fields h header = (fields, h, header)
+-- a record that was found and is the header: the items are those of the records after it
+pub header-left : (n : ℕ) (old new : Option Rows) (fields : List (List ℕ)) (left : Option (List Item)) → GivesRecord old new true fields → is_header fields ≡ true
+    → option_map (items_left true n) old ≡ Some left → option_map (items_left false n) new ≡ Some left
+header-left n None new fields left h header is = cc
+header-left n (Some rest) None fields left h header is = absurd h
+header-left n (Some rest) (Some more) fields left h header is = sym (rw (h, header) refl) ∙ is
 
--- the items are those of the records after the header
-pub gives-after_header : (n : ℕ) (old mid : Option Rows) (after : Option (Option (List Item))) (found : Option Item) → PassesHeader old mid → Gives (option_map (items_left false n) mid) after found → Gives (option_map (items_left true n) old) after found
-gives-after_header n None mid after found h next = tt
-gives-after_header n (Some rest) None after found h next = absurd h
-gives-after_header n (Some rest) (Some more) after found h next =
-    let (first, here, is) = h in
-    let same : items_left true n rest ≡ items_left false n more = rw (here, is) refl in
-    subst (λ (left : Option (List Item)). Gives (Some left) after found) (sym same) next
+-- no record is left, or the first is not the header
+pub lacks-header : (n : ℕ) (old new : Option Rows) (found : Bool) (fields : List (List ℕ)) → GivesRecord old new found fields → (found ≡ true → is_header fields ≡ false)
+    → LacksHeader (option_map (items_left true n) old)
+lacks-header n None new found fields h other = tt
+lacks-header n (Some rest) None true fields h other = absurd h
+lacks-header n (Some rest) (Some more) true fields h other = rw (h, other refl) refl
+lacks-header n (Some rest) new false fields h other = rw h refl
 
--- the same, where the header was among the records that were left or not
-pub gives-begun : (awaits : Bool) (n : ℕ) (old mid : Option Rows) (after : Option (Option (List Item))) (found : Option Item)
-    → (awaits ≡ true → PassesHeader old mid) → (awaits ≡ false → mid ≡ old)
-    → Gives (option_map (items_left false n) mid) after found → Gives (option_map (items_left awaits n) old) after found
-gives-begun true n old mid after found passed kept next = gives-after_header n old mid after found (passed refl) next
-gives-begun false n old mid after found passed kept next = subst (λ (rest : Option Rows). Gives (option_map (items_left false n) rest) after found) (kept refl) next
+-- what holds of what is left holds of what was left before, if that is the same or unknown
+pub gives-follows : (old now after : Option (Option (List Item))) (found : Option Item) → ((left : Option (List Item)) → old ≡ Some left → now ≡ Some left) → Gives now after found → Gives old after found
+gives-follows None now after found same gives = tt
+gives-follows (Some left) now after found same gives = subst (λ (known : Option (Option (List Item))). Gives known after found) (same left refl) gives
+
+pub lacks-follows : (old now : Option (Option (List Item))) → ((left : Option (List Item)) → old ≡ Some left → now ≡ Some left) → LacksHeader now → LacksHeader old
+lacks-follows None now same lacks = tt
+lacks-follows (Some left) now same lacks = subst LacksHeader (same left refl) lacks
+
+-- no fault and no end came between, and what was left, if it is known, is left
+pub record Follows (old now : Reading) : Type 0 where
+  pub fault : now.fault ≡ old.fault
+  pub ended : now.is_ended ≡ old.is_ended
+  pub left : (left : Option (List Item)) → old.left ≡ Some left → now.left ≡ Some left
+
+-- how many records are read before the items come
+abbrev pub to_come : Stage → ℕ
+to_come stage.Header = 1
+to_come _ = 0

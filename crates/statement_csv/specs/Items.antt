@@ -4,9 +4,8 @@ use Rattle.csv.specs.Reading.{default_config, records, strip_bom}
 use Rattle.trust_base.specs.declared.line.Line.{Line}
 use Rattle.statement_csv.specs.Headers.{is_header}
 use Rattle.statement_csv.specs.Lines.{line_of}
-use Rattle.statement_csv.specs.References.{owner_of}
-use Rattle.statement_csv.specs.declared.item.LineOwner.{LineOwner}
-use Rattle.statement_csv.specs.declared.item.LineOwner.TheVariants as owner
+use Rattle.statement_csv.specs.References.{LineOwner, owner_of}
+use Rattle.statement_csv.specs.References as owner
 use Rattle.statement_csv.specs.declared.item.Item.{Item}
 use Rattle.statement_csv.specs.declared.item.Item.TheVariants as item
 

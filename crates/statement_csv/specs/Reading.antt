@@ -1,6 +1,6 @@
 -- What a statement that is being read has yet to return.
 use Rattle.std.specs.Prelude.{◌≡◌, ◌≤◌, ◌+◌, ℕ, Bool, true, false, List, [], ◌∷◌, ◌++◌, length, take, Option, Some, None, option_map, ⊤}
-use Rattle.csv.specs.Reading.{Reached, Ready, default_config, reader_config, reader_source, reader_state, reader_trim, source_of, strip_bom}
+use Rattle.csv.specs.Reading.{Reached, Ready, default_config, reader_config, reader_state, reader_trim, source_of, strip_bom}
 use Rattle.csv.specs.declared.parser.State.TheVariants as st
 use Rattle.csv.specs.declared.reader.Reader.{Reader}
 use Rattle.csv.specs.declared.reader.Trim.TheVariants as trim
@@ -8,7 +8,7 @@ use Rattle.byte_streams.specs.CsvRecords.{rest_records}
 use Rattle.statement_csv.specs.Headers.{is_header}
 use Rattle.trust_base.specs.declared.limits.TheConstants.{MAX_FILE_BYTES}
 use Rattle.statement_csv.specs.Items.{items, items_after_header, items_from}
-use Rattle.statement_csv.specs.Limits.{IsTooLong, IsWithin, Source, cause_of, left_of}
+use Rattle.statement_csv.specs.Limits.{IsTooLong, IsWithin, Source, left_of}
 use Rattle.statement_csv.specs.declared.item.Item.{Item}
 use Rattle.statement_csv.specs.declared.item.ReadFault.{ReadFault}
 use Rattle.statement_csv.specs.declared.item.ReadFault.TheVariants as fault
@@ -65,10 +65,6 @@ ended_in stage.Header = false
 ended_in stage.Items = false
 ended_in stage.Ended = true
 ended_in (stage.Stopped why) = false
-
--- why reading records cannot go on
-abbrev pub cause_at : Records → ReadFault
-cause_at rdr = cause_of (reader_source rdr).course
 
 -- what contracts see, from the stage and the records
 abbrev pub reading_of : Stage → ℕ → Records → Reading
@@ -138,14 +134,3 @@ Gives (Some left) new None = left ≡ Some []
 abbrev pub LacksHeader : Option (Option (List Item)) → Type 0
 LacksHeader None = ⊤
 LacksHeader (Some left) = left ≡ None
-
--- the header of a statement was the first of the remaining records
-abbrev pub PassesHeader : Option (List (List (List ℕ))) → Option (List (List (List ℕ))) → Type 0
-PassesHeader None new = ⊤
-PassesHeader (Some rest) None = ⊥
-PassesHeader (Some rest) (Some more) = (first : List (List ℕ)) × (rest ≡ first ∷ more) × (is_header first ≡ true)
-
--- the first of the remaining records is not the header of a statement, or no record is left
-abbrev pub HasNoHeader : Option (List (List (List ℕ))) → Type 0
-HasNoHeader None = ⊤
-HasNoHeader (Some rest) = (number : ℕ) → items_after_header number rest ≡ None

@@ -2,9 +2,19 @@
 use Rattle.std.specs.Prelude.{◌==◌, ◌&&◌, ℕ, List, ◌∷◌, ◌++◌, length, slice_index, slice_range, Option, Some, None, if◌then◌else◌, option_and_then, option_map, codes}
 use Rattle.std.specs.Str.{bytes_eq}
 use Rattle.trust_base.specs.Texts.{entry_of, entry_text, matter_of, matter_text}
-use Rattle.statement_csv.specs.declared.item.NamedEntry.{NamedEntry}
-use Rattle.statement_csv.specs.declared.item.LineOwner.{LineOwner}
-use Rattle.statement_csv.specs.declared.item.LineOwner.TheVariants as owner
+
+-- an entry of a matter
+pub record NamedEntry : Type 0 where
+  pub matter : ℕ
+  pub entry : ℕ
+
+-- who a line belongs to: nobody is who has another reference
+pub data LineOwner : Type 0 where
+  Opening : LineOwner
+  Closing : LineOwner
+  Firm : LineOwner
+  Entry : (named : NamedEntry) → LineOwner
+  Nobody : LineOwner
 
 -- an entry of a matter
 abbrev pub named : ℕ → ℕ → NamedEntry
@@ -23,8 +33,8 @@ entry_named reference =
 
 -- the owner, from the entry named
 abbrev pub owner_by : Option NamedEntry → LineOwner
-owner_by (Some entry) = owner.Entry entry
-owner_by None = owner.Nobody
+owner_by (Some entry) = Entry entry
+owner_by None = Nobody
 
 -- the reference that names an entry
 abbrev pub reference_text : ℕ → ℕ → List ℕ
@@ -33,7 +43,7 @@ reference_text matter entry = 77 ∷ (matter_text matter ++ 45 ∷ entry_text en
 -- who a line belongs to, by its reference
 unfoldable pub owner_of : List ℕ → LineOwner
 owner_of reference =
-    if bytes_eq reference (codes "OPEN") then owner.Opening
-    else if bytes_eq reference (codes "CLOSE") then owner.Closing
-    else if bytes_eq reference (codes "FIRM") then owner.Firm
+    if bytes_eq reference (codes "OPEN") then Opening
+    else if bytes_eq reference (codes "CLOSE") then Closing
+    else if bytes_eq reference (codes "FIRM") then Firm
     else owner_by (entry_named reference)

@@ -1,6 +1,6 @@
 // The items of a statement, one at a time, from a reader that stops at the length limit.
 
-ghost use Rattle.std.specs.Prelude.{◌≡◌, ◌≢◌, ◌↔◌, ◌+◌, ◌∷◌, ◌++◌, [], List, ℕ, Err, IfErr, IfOk, IsSome, is_none, IsTrue, None, Ok};
+ghost use Rattle.std.specs.Prelude.{◌≡◌, ◌≢◌, ◌↔◌, [], List, ℕ, Err, IfErr, IfOk, IsSome, is_none, IsTrue, None, Ok};
 ghost use Rattle.std.specs.Prelude.{OnErr, OnOk, Option, Some, get_or, option_map, option_to_list, false, true};
 ghost use Rattle.std.specs.Io.KnownBytes.{Consumes, IsAtEnd, Keeps};
 ghost use Rattle.csv.specs.Records.{fields_of};
@@ -10,9 +10,7 @@ ghost use Rattle.statement_csv.specs.Headers.{is_header};
 ghost use Rattle.statement_csv.specs.Items.{item_of, line_in};
 ghost use Rattle.statement_csv.specs.Limits.{IsTooLong, IsWithin};
 ghost use Rattle.statement_csv.specs.Lines.{line_of_texts as line_in_texts};
-ghost use Rattle.statement_csv.specs.Reading.{Gives, GivesRecord, HasRead, IsLive, LacksHeader, Stands, ToldBy, cause_at};
-ghost use Rattle.statement_csv.specs.Reading.{items_left, records_left};
-ghost use Rattle.statement_csv.specs.References.{owner_of};
+ghost use Rattle.statement_csv.specs.Reading.{Gives, LacksHeader};
 
 use csv::{ByteRecord, Reader, ReaderBuilder};
 use std::alloc::{AllocError, Global};
@@ -67,55 +65,6 @@ impl Item {
     }
 }
 
-/// An entry of a matter.
-#[derive(Clone, Copy, PartialEq, Eq, Debug)]
-pub(crate) struct NamedEntry {
-    pub(crate) matter: MatterNo,
-    pub(crate) entry: EntryNo,
-}
-
-/// Who a line belongs to.
-#[derive(Clone, Copy, PartialEq, Eq, Debug)]
-pub(crate) enum LineOwner {
-    /// The balance at the start of a day.
-    Opening,
-    /// The balance at the end of a day.
-    Closing,
-    /// The firm's own money.
-    Firm,
-    /// An entry of a matter.
-    Entry(NamedEntry),
-    /// Nobody known here.
-    Nobody,
-}
-
-// Who a line with this reference belongs to. An entry's reference is `M`, the six digits of the matter, `-`, and the four
-// digits of the entry.
-#[tactic(auto, unfolding(crate::specs::References::owner_of, crate::specs::References::entry_named))]
-fn read_owner(reference: &[u8]) -> LineOwner
-    ensures { result ≡ owner_of reference.now }
-{
-    if reference == b"OPEN".as_slice() {
-        return LineOwner::Opening;
-    }
-    if reference == b"CLOSE".as_slice() {
-        return LineOwner::Closing;
-    }
-    if reference == b"FIRM".as_slice() {
-        return LineOwner::Firm;
-    }
-    if reference.len() != 12 || reference[0] != b'M' || reference[7] != b'-' {
-        return LineOwner::Nobody;
-    }
-    let Some(matter) = MatterNo::read(&reference[1..7]) else {
-        return LineOwner::Nobody;
-    };
-    match EntryNo::read(&reference[8..12]) {
-        Some(entry) => LineOwner::Entry(NamedEntry { matter, entry }),
-        None => LineOwner::Nobody,
-    }
-}
-
 /// The field at this index; empty if there is none.
 #[tactic(auto, unfolding(csv::specs::Records::field_at), using(crate::proofs::FieldFacts::field_steps))]
 pub fn field(row: &ByteRecord, place: usize) -> &[u8]
@@ -164,7 +113,7 @@ pub fn line_of_texts(
 }
 
 /// The item of record `number`. The only error is out of memory.
-#[tactic(auto, unfolding(crate::specs::Items::item_of))]
+#[tactic(auto, unfolding(crate::specs::Items::item_of, crate::specs::References::owner_of, crate::specs::References::entry_named,),)]
 pub fn read_item(alloc: Global, row: &ByteRecord, number: u64) -> Result<Item, AllocError>
     ensures { IfOk result (λ item. item ≡ item_of number (fields_of row.now)) }
 {
@@ -182,18 +131,34 @@ pub fn read_item(alloc: Global, row: &ByteRecord, number: u64) -> Result<Item, A
     let Some(line) = read else {
         return Ok(Item::Unreadable(number));
     };
-    Ok(match read_owner(line.reference.as_slice()) {
-        LineOwner::Opening => Item::Opening(line),
-        LineOwner::Closing => Item::Closing(line),
-        _ if line.bank_ref.as_slice().is_empty() => Item::Unreadable(number),
-        LineOwner::Firm => Item::OfFirm(line),
-        LineOwner::Entry(NamedEntry { matter, entry }) => Item::OfMatter(BankLine {
+    let reference = line.reference.as_slice();
+    if reference == b"OPEN".as_slice() {
+        return Ok(Item::Opening(line));
+    }
+    if reference == b"CLOSE".as_slice() {
+        return Ok(Item::Closing(line));
+    }
+    if line.bank_ref.as_slice().is_empty() {
+        return Ok(Item::Unreadable(number));
+    }
+    if reference == b"FIRM".as_slice() {
+        return Ok(Item::OfFirm(line));
+    }
+    // An entry's reference is `M`, the six digits of the matter, `-`, and the four digits of the entry.
+    if reference.len() != 12 || reference[0] != b'M' || reference[7] != b'-' {
+        return Ok(Item::Stray(line));
+    }
+    match (
+        MatterNo::read(&reference[1..7]),
+        EntryNo::read(&reference[8..12]),
+    ) {
+        (Some(matter), Some(entry)) => Ok(Item::OfMatter(BankLine {
             matter,
             entry,
             line,
-        }),
-        LineOwner::Nobody => Item::Stray(line),
-    })
+        })),
+        _ => Ok(Item::Stray(line)),
+    }
 }
 
 /// Why no item was returned.
@@ -273,7 +238,7 @@ fn next_byte<R: Read>(inner: &mut R) -> io::Result<Option<u8>>
 
 impl<R: Read, K: Whole> Limited<R, K> {
     ghost use Rattle.statement_csv.specs.Limits.{IsHeldBack, IsTooLong, IsWithin, cause_of};
-    ghost use Rattle.statement_csv.specs.declared.item.ReadFault.TheVariants.{Limit};
+    ghost use Rattle.statement_csv.specs.declared.item.ReadFault.TheVariants.{BadHeader, Limit};
     ghost use Rattle.statement_csv.specs.declared.item.Course.TheVariants.{Ended, Open};
 
     /// A reader of a statement from its start.
@@ -303,6 +268,7 @@ impl<R: Read, K: Whole> Limited<R, K> {
     pub(crate) fn cause(&self) -> ReadFault
         ensures value { result ≡ cause_of self.now.course }
         ensures limit { (result ≡ Limit) → IsTooLong K.bytes }
+        ensures header { result ≢ BadHeader }
     {
         match self.course {
             Course::Longer(_) => ReadFault::Limit,
@@ -409,31 +375,6 @@ impl<R: Read + Drop, K: Whole> Drop for Lines<R, K> {
     }
 }
 
-// Reads the next record. Returns whether there was one.
-fn read_row<R: Read, K: Whole>(
-    records: &mut Reader<Limited<R, K>>,
-    row: &mut ByteRecord,
-) -> Result<bool, ReadFault>
-    requires { IsLive records.old }
-    ensures live { IfOk result (λ found. IsTrue found → IsLive records.new) }
-    ensures gives { IfOk result
-        (λ found. GivesRecord (records_left records.old) (records_left records.new) found (fields_of row.new)) }
-    ensures end { (result ≡ Ok false) → IsWithin K.bytes }
-    ensures read { IfOk result (λ found. IsTrue found → (rows : List (List (List ℕ)))
-        → HasRead K.bytes rows records.old → HasRead K.bytes (rows ++ fields_of row.new ∷ []) records.new) }
-    ensures told { IfErr result (λ fault. ToldBy K.bytes fault) }
-    ensures cause { IfErr result (λ fault. fault ≡ cause_at records.new) }
-{
-    let Ok(found) = records.read_byte_record(row) else {
-        return Err(records.get_ref().cause());
-    };
-    // `csv` finds no record only if its reader ended, but its contract does not say so.
-    if !records.get_ref().has_ended() && !found {
-        return Err(records.get_ref().cause());
-    }
-    Ok(found)
-}
-
 // Whether a record is the header of a statement.
 #[tactic(auto, using(crate::proofs::HeaderFacts::is_header_fields))]
 fn is_header(row: &ByteRecord) -> bool
@@ -445,45 +386,6 @@ fn is_header(row: &ByteRecord) -> bool
         & (field(row, 2) == b"bank_ref".as_slice())
         & (field(row, 3) == b"amount".as_slice())
         & (field(row, 4) == b"text".as_slice())
-}
-
-// Reads the next item, which has this number. The header is read first if it is still to come.
-fn read_next<R: Read, K: Whole>(
-    alloc: Global,
-    records: &mut Reader<Limited<R, K>>,
-    row: &mut ByteRecord,
-    awaits_header: bool,
-    number: u64,
-) -> Result<Option<Item>, ReadFault>
-    requires live { IsLive records.old }
-    requires stands { Stands K.bytes awaits_header number records.old }
-    ensures live { IfOk result (λ found. IsSome found → IsLive records.new) }
-    ensures stands { IfOk result (λ found. IsSome found → Stands K.bytes false (number + 1) records.new) }
-    ensures gives { IfOk result
-        (λ found. Gives (option_map (items_left awaits_header number) (records_left records.old))
-        (option_map (items_left false (number + 1)) (records_left records.new)) found) }
-    ensures end { (result ≡ Ok None) → IsWithin K.bytes }
-    ensures told { IfErr result (λ fault. ToldBy K.bytes fault) }
-    ensures cause { IfErr result (λ fault. fault ≢ BadHeader → fault ≡ cause_at records.new) }
-    ensures header { (result ≡ Err BadHeader)
-        → LacksHeader (option_map (items_left awaits_header number) (records_left records.old)) }
-{
-    if awaits_header {
-        let is_given = read_row(records, row)?;
-        if !is_given {
-            return Err(ReadFault::BadHeader);
-        }
-        if !is_header(row) {
-            return Err(ReadFault::BadHeader);
-        }
-    }
-    if !read_row(records, row)? {
-        return Ok(None);
-    }
-    match read_item(alloc, row, number) {
-        Ok(item) => Ok(Some(item)),
-        Err(_) => Err(records.get_ref().cause()),
-    }
 }
 
 impl<R: Read> Lines<R> {
@@ -541,39 +443,46 @@ impl<R: Read, K: Whole> Lines<R, K> {
         ensures header { (result ≡ Err BadHeader) → LacksHeader self.old.left }
         ensures limit { (result ≡ Err Limit) → IsTooLong K.bytes }
     {
-        let awaits_header = match self.stage {
-            Stage::Header => true,
-            Stage::Items => false,
-            Stage::Ended => return Ok(None),
-            Stage::Stopped(fault) => return Err(fault),
-        };
-        match read_next(
-            self.alloc,
-            &mut self.records,
-            &mut self.row,
-            awaits_header,
-            self.number,
-        ) {
-            Ok(Some(item)) => match self.number.checked_add(1) {
-                Some(number) => {
-                    self.number = number;
-                    self.stage = Stage::Items;
-                    Ok(Some(item))
+        loop {
+            let awaits_header = match self.stage {
+                Stage::Header => true,
+                Stage::Items => false,
+                Stage::Ended => return Ok(None),
+                Stage::Stopped(fault) => return Err(fault),
+            };
+            let read = self.records.read_byte_record(&mut self.row);
+            let ended = self.records.get_ref().has_ended();
+            let fault = match read {
+                Ok(true) if awaits_header => {
+                    if is_header(&self.row) {
+                        self.stage = Stage::Items;
+                        continue;
+                    }
+                    ReadFault::BadHeader
                 }
-                // Cannot happen: a statement has fewer records than bytes.
-                None => {
-                    self.stage = Stage::Stopped(ReadFault::Memory);
-                    Err(ReadFault::Memory)
+                Ok(true) => match read_item(self.alloc, &self.row, self.number) {
+                    Ok(item) => {
+                        // Never overflows: a statement has fewer records than bytes.
+                        if let Some(number) = self.number.checked_add(1) {
+                            self.number = number;
+                            return Ok(Some(item));
+                        }
+                        ReadFault::Memory
+                    }
+                    Err(_) => self.records.get_ref().cause(),
+                },
+                // `csv` finds no record only if its reader ended, but its contract does not say so.
+                Ok(false) if ended => {
+                    if !awaits_header {
+                        self.stage = Stage::Ended;
+                        return Ok(None);
+                    }
+                    ReadFault::BadHeader
                 }
-            },
-            Ok(None) => {
-                self.stage = Stage::Ended;
-                Ok(None)
-            }
-            Err(fault) => {
-                self.stage = Stage::Stopped(fault);
-                Err(fault)
-            }
+                _ => self.records.get_ref().cause(),
+            };
+            self.stage = Stage::Stopped(fault);
+            return Err(fault);
         }
     }
 }

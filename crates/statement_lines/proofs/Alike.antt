@@ -6,12 +6,7 @@ use Rattle.statement_lines.specs.Bookings.{booking_of, is_beside, is_same_bookin
 use Rattle.statement_lines.proofs.Found.{Narrows}
 
 beside_key : (a b : Booking) → is_beside a b ≡ true → (booking_key b == booking_key a) ≡ true
-beside_key a b is =
-    let parts = and_parts (a.date == b.date) (bytes_eq a.bank_ref b.bank_ref) is in
-    let date = eqb-true a.date b.date parts.0 in
-    let reference = (bytes_eq-Decides a.bank_ref b.bank_ref).0 parts.1 in
-    eq-eqb (booking_key b) (booking_key a)
-    (ap (λ d. text_key d b.bank_ref) (sym date) ∙ ap (λ r. text_key a.date r) (sym reference))
+beside_key a b is = grind (arith, and_parts, eqb-true, bytes_eq-Decides, eq-eqb)
 
 pub beside_narrows : (line : Line) → Narrows (is_beside (booking_of line)) (λ b. booking_key b == line_key line)
 beside_narrows line b is = beside_key (booking_of line) b is
@@ -36,25 +31,18 @@ named_like_narrows line x is =
 -- a line has the amount of an entry that it fits
 fit_key : (today : ℕ) (line : Line) (w : Waiting) → fits today line w ≡ true → line.amount ≡ w.amount
 unfolding fits
-fit_key today line w is =
-    let amount : int_eq line.amount w.amount ≡ true = grind (arith, is) in
-    (Decides-int_eq line.amount w.amount).0 amount
+fit_key today line w is = grind (arith, int_eq)
 
 pub fits_narrows : (today : ℕ) (line : Line) → Narrows (fits today line) (λ w. waiting_key w == amount_key line)
-fits_narrows today line w is =
-    eq-eqb (waiting_key w) (amount_key line) (ap unsigned_abs (sym (fit_key today line w is)))
+fits_narrows today line w is = grind (arith, eq-eqb, unsigned_abs, fit_key)
 
 pub open_fit_narrows : (today : ℕ) (w : Waiting) → Narrows (is_open_fit today w) (λ x. amount_key x == waiting_key w)
-open_fit_narrows today w x is =
-    eq-eqb (amount_key x) (waiting_key w)
-    (ap unsigned_abs (fit_key today x w (and_parts (is_open x) (fits today x w) is).1))
+open_fit_narrows today w x is = grind (arith, eq-eqb, unsigned_abs, fit_key, and_parts)
 
 pub claims_narrows : (exceptions : List Line) (reference : List ℕ)
     → Narrows (λ x. bytes_eq (claimed_reference exceptions x) reference)
     (λ x. claim_key exceptions x == text_key 0 reference)
-claims_narrows exceptions reference x is =
-    eq-eqb (claim_key exceptions x) (text_key 0 reference)
-    (ap (text_key 0) ((bytes_eq-Decides (claimed_reference exceptions x) reference).0 is))
+claims_narrows exceptions reference x is = grind (arith, eq-eqb, bytes_eq-Decides)
 
 -- the reference that a record has by itself, where its exception is found
 pub claimed_closed : (exceptions : List Line) (line : Line) → is_open line ≡ false

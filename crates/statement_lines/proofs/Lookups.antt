@@ -54,18 +54,7 @@ between {T} xs key start count low high in_list in_rest =
         ap (λ (y : ℕ × T). nat_lt y.0 key) (get_or-drop start xs k d) ∙ low.1 (start + k) d (omega arith) within
 
 tie_is : (n key : ℕ) → (n == key) ≡ (not (is_lt (nat_cmp key n)) && not (is_lt (nat_cmp n key)))
-tie_is n key = cases (nat_lt key n) (nat_lt n key) (key == n) (n == key) refl refl refl refl
-  where
-    cases : (a b c d : Bool) → nat_lt key n ≡ a → nat_lt n key ≡ b → (key == n) ≡ c → (n == key) ≡ d
-        → d ≡ (not (is_lt (cond a Less (cond c Equal Greater))) && not (is_lt (cond b Less (cond d Equal Greater))))
-    cases true b c true ea eb ec ed = absurd (grind (arith, nat_tests, ea, ed))
-    cases true b c false ea eb ec ed = refl
-    cases false true c true ea eb ec ed = absurd (grind (arith, nat_tests, eb, ed))
-    cases false true true false ea eb ec ed = refl
-    cases false true false false ea eb ec ed = refl
-    cases false false true true ea eb ec ed = refl
-    cases false false false true ea eb ec ed = refl
-    cases false false c false ea eb ec ed = absurd (grind (arith, nat_tests, ea, eb, ed))
+tie_is n key = grind (arith, nat_tests)
 
 -- a stable sort by the number leaves those with one in their order
 pub kept_by_sort : {T : Type 0} (xs ys : List (ℕ × T)) → length ys ≡ length xs
@@ -88,15 +77,7 @@ pub looked_up : {T : Type 0} (key : T → ℕ) (all : List T) (entries : List (�
 looked_up key [] [] same k = refl
 looked_up key [] (e ∷ entries) same k = absurd (cc)
 looked_up key (x ∷ all) [] same k = absurd (cc)
-looked_up {T} key (x ∷ all) (e ∷ entries) same k =
-    let number : e.0 ≡ key x = ap (λ (es : List (ℕ × T)). (get_or es 0 (key x, x)).0) same in
-    let element : e.1.now ≡ x = ap (λ (es : List (ℕ × T)). (get_or es 0 (key x, x)).1) same in
-    let rest : IsKeyed key all entries = ap (λ (es : List (ℕ × T)). drop 1 es) same in
-    let more = looked_up key all entries rest k in
-    elim (cases_Bool (key x == k)) [
-      | inl t ↦ rw (number, t, element, more) refl
-      | inr f ↦ rw (number, f) more
-    ]
+looked_up {T} key (x ∷ all) (e ∷ entries) same k = grind (arith, nat_tests, cases_Bool, (looked_up key all entries))
 
 -- one more element, with its number
 pub keyed_more : {T : Type 0} (key : T → ℕ) (all : List T) (i : ℕ) (entries new : List (ℕ × Bor T)) (x : Bor T) (n : ℕ)

@@ -1,5 +1,6 @@
 -- What is among the elements of lists that are made of others.
-use Rattle.statement_lines.proofs.Names.{◌≡◌, ◌∙◌, sym, ap, subst, zero, suc, Bool, true, false, cond, List, [], ◌∷◌, map, Some, refl, inl, inr, arith, cases_Bool, Contains, filter, find, flat_map, Contains-append_cases, Contains-append_left, Contains-append_right}
+use Rattle.statement_lines.proofs.Names.{◌≡◌, ◌∙◌, sym, ap, subst, zero, suc, Bool, true, List, [], ◌∷◌, map, Some, refl, inl, inr, arith, cases_Bool, Contains, filter, find, flat_map, Contains-append_cases, Contains-append_left, Contains-append_right}
+use Rattle.std.proofs.lemmas.List.Elements.{All-contains, All-contains_itself, All-filter, filter_passes}
 
 pub later : {A : Type 0} (x y : A) (xs : List A) → Contains xs y → Contains (x ∷ xs) y
 later x y xs (k, lt, is) = (suc k, omega arith, is)
@@ -7,8 +8,7 @@ later x y xs (k, lt, is) = (suc k, omega arith, is)
 pub filter_has : {A : Type 0} (p : A → Bool) (xs : List A) (y : A) → p y ≡ true → Contains xs y
     → Contains (filter p xs) y
 filter_has p [] y hit (k, lt, is) = absurd (omega arith)
-filter_has p (x ∷ xs) y hit (zero, lt, is) =
-    let first : p x ≡ true = ap p is ∙ hit in rw first (zero, omega arith, is)
+filter_has p (x ∷ xs) y hit (zero, lt, is) = grind (arith)
 filter_has p (x ∷ xs) y hit (suc k, lt, is) =
     let more = filter_has p xs y hit (k, omega arith, is) in
     elim (cases_Bool (p x)) [
@@ -45,20 +45,14 @@ pub map_from : {A B : Type 0} (f : A → B) (xs : List A) (z : B) → Contains (
     → (y : A) × Contains xs y × (f y ≡ z)
 map_from f [] z (k, lt, is) = absurd (omega arith)
 map_from f (x ∷ xs) z (zero, lt, is) = (x, (zero, omega arith, refl), is)
-map_from f (x ∷ xs) z (suc k, lt, is) =
-    let found = map_from f xs z (k, omega arith, is) in (found.0, later x found.0 xs found.1, found.2)
+map_from f (x ∷ xs) z (suc k, lt, is) = grind (arith, later, (map_from f xs z))
 
 pub filter_from : {A : Type 0} (p : A → Bool) (xs : List A) (y : A) → Contains (filter p xs) y
     → (p y ≡ true) × Contains xs y
-filter_from p [] y (k, lt, is) = absurd (omega arith)
-filter_from {A} p (x ∷ xs) y there = cases (p x) refl there (filter_from p xs y)
-  where
-    cases : (b : Bool) → p x ≡ b → Contains (cond b (x ∷ filter p xs) (filter p xs)) y
-        → (Contains (filter p xs) y → (p y ≡ true) × Contains xs y) → (p y ≡ true) × Contains (x ∷ xs) y
-    cases true hit (zero, lt, is) more = (ap p (sym is) ∙ hit, (zero, omega arith, is))
-    cases true hit (suc k, lt, is) more =
-        let rest = more (k, omega arith, is) in (rest.0, later x y xs rest.1)
-    cases false miss h more = let rest = more h in (rest.0, later x y xs rest.1)
+filter_from p xs y there = (
+  All-contains (λ x. p x ≡ true) (filter p xs) y (filter_passes p xs) there,
+  All-contains (Contains xs) (filter p xs) y (All-filter p (Contains xs) xs (All-contains_itself xs)) there,
+)
 
 -- where one is there that passes, one is found
 pub find_has : {A : Type 0} (p : A → Bool) (xs : List A) (y : A) → Contains xs y → p y ≡ true

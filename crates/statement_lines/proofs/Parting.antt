@@ -39,8 +39,7 @@ pub tokens_more : (second last : ℕ) (text : List ℕ) (i : ℕ) (found : List 
     → found ++ tokens_behind second last (drop i text)
     ≡ (found ++ token_in_front (rest_of text i) ∷ []) ++ tokens_behind last (get_or text i 0) (drop (i + 1) text)
 unfolding tokens_behind
-tokens_more second last text i found lt hit =
-    rw (append_assoc, take_rest text i, drop_more text i 0 lt, hit) refl
+tokens_more second last text i found lt hit = grind (arith, append_assoc, take_rest, drop_more)
 
 pub tokens_none : (second last : ℕ) (text : List ℕ) (i : ℕ) → i < length text
     → begins second last (get_or text i 0) ≡ false
@@ -60,8 +59,7 @@ pub telling_more : (second last : List ℕ) (tokens : List (List ℕ)) (i : ℕ)
     → found ++ telling_behind second last (drop i tokens)
     ≡ (found ++ without_zeros (get_or tokens i d) ∷ []) ++ telling_behind last (get_or tokens i d) (drop (i + 1) tokens)
 unfolding telling_behind
-telling_more second last tokens i d found lt hit =
-    rw (append_assoc, drop_more tokens i d lt, hit) refl
+telling_more second last tokens i d found lt hit = grind (arith, append_assoc, drop_more)
 
 pub telling_none : (second last : List ℕ) (tokens : List (List ℕ)) (i : ℕ) (d : List ℕ)
     → i < length tokens → is_telling second last (get_or tokens i d) ≡ false

@@ -23,16 +23,7 @@ drop-next (y ∷ xs) (suc i) x rest e = drop-next xs i x rest e
 later : (number k : ℕ) (rows : Rows) → k < number → slice_get (numbers_from number rows) 0 ≡ Some k → ⊥
 unfolding numbers_from
 later number k [] less e = cc
-later number k (fields ∷ rest) less e =
-    by (line_at number fields) refl (λ more. later (number + 1) k rest (omega arith) more)
-  where
-    by : (found : Option Line) → line_at number fields ≡ found
-        → (slice_get (numbers_from (number + 1) rest) 0 ≡ Some k → ⊥) → ⊥
-    by None is more = more (rw is at e)
-    by (Some line) is more =
-        let first : Some number ≡ Some k = rw is at e in
-        let same : number ≡ k = cc in
-        omega arith
+later number k (fields ∷ rest) less e = grind (arith, nat_tests, line_at, (later (number + 1) k rest))
 
 -- behind so many records, the next lines are those of the records that are left, and so much is written
 pub record IsMet (outcome_of : Line → Outcome) (numbers : List ℕ) (outcomes : List Outcome) (all : Rows)
@@ -53,11 +44,7 @@ met-start outcome_of numbers outcomes all n o = record { ahead = n; next = o; pa
 
 not-here : (known : Option ℕ) (number : ℕ) (next : Option Outcome) → (known ≡ Some number → ⊥)
     → outcome_if known number next ≡ None
-not-here None number next never = refl
-not-here (Some line) number next never = elim (cases_Bool (line == number)) [
-  | inl t ↦ absurd (never (ap (λ n. Some n) (grind (arith, nat_tests))))
-  | inr t ↦ rw t refl
-]
+not-here known number next never = grind (arith, nat_tests, cases_Bool)
 
 here : (number : ℕ) (next : Option Outcome) → outcome_if (Some number) number next ≡ next
 here number next = let same : (number == number) ≡ true = grind (arith, nat_tests) in rw same refl
@@ -105,22 +92,18 @@ pub met-all : (outcome_of : Line → Outcome) (numbers : List ℕ) (outcomes : L
     (number place : ℕ) (left done : Rows)
     → IsMet outcome_of numbers outcomes all number place left done → left ≡ [] → rows_by outcome_of 1 all ≡ done
 unfolding rows_by
-met-all outcome_of numbers outcomes all number place left done met none =
-    (rw none at met.parts) ∙ append-nil done
+met-all outcome_of numbers outcomes all number place left done met none = grind (arith, nat_tests, append-nil)
 
 -- The place behind a record, by whether that was a line.
 
 pub place-some : (found : Option (Bor Outcome)) (place : ℕ) → is_some found ≡ true
     → place + 1 ≡ place_behind place (option_copied found)
-place-some None place e = cc
-place-some (Some o) place e = refl
+place-some found place e = grind (arith, nat_tests)
 
 pub place-none : (found : Option (Bor Outcome)) (place : ℕ) → is_some found ≡ false
     → place ≡ place_behind place (option_copied found)
-place-none None place e = refl
-place-none (Some o) place e = cc
+place-none found place e = grind (arith, nat_tests)
 
 pub place-within : (place number : ℕ) (found : Option Outcome) → place ≤ number
     → place_behind place found ≤ number + 1
-place-within place number None le = omega arith
-place-within place number (Some o) le = omega arith
+place-within place number found le = grind (arith, nat_tests)

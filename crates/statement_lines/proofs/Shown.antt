@@ -26,18 +26,13 @@ rise_from n (p ∷ ps) first pairs = (
 rise_above : (n : ℕ) (ps : List ℕ) (m : ℕ) → Rise n ps → Contains ps m → n ≤ m
 rise_above n [] m rise (k, lt, is) = absurd (omega (arith, lt))
 rise_above n (p ∷ ps) m rise (zero, lt, is) = let above = rise.0 in omega (arith, is, above)
-rise_above n (p ∷ ps) m rise (suc k, lt, is) =
-    let above = rise.0 in
-    let more = rise_above (p + 1) ps m rise.1 (k, omega (arith, lt), is) in omega (arith, above, more)
+rise_above n (p ∷ ps) m rise (suc k, lt, is) = grind (arith, nat_tests, (rise_above (p + 1) ps m rise.1))
 
 -- nothing is there past the end
 none_there : {X : Type 0} (f : ℕ → List X) (n : ℕ) (ps : List ℕ) → ((m : ℕ) → n ≤ m → f m ≡ []) → Rise n ps
     → flat_map f ps ≡ []
 none_there f n [] none rise = refl
-none_there {X} f n (p ∷ ps) none rise =
-    let above = rise.0 in
-    ap (λ (xs : List X). xs ++ flat_map f ps) (none p above)
-    ∙ none_there f (p + 1) ps (λ m l. none m (omega (arith, above, l))) rise.1
+none_there {X} f n (p ∷ ps) none rise = grind (arith, nat_tests, (none_there f (p + 1) ps))
 
 none_passes : {X : Type 0} (q : X → Bool) (xs : List X)
     → ((i : ℕ) (d : X) → i < length xs → q (get_or xs i d) ≡ true → ⊥) → filter q xs ≡ []
@@ -145,12 +140,7 @@ number_shared line w hit =
 mark_shared : (line : Line) (w : Waiting) → shows line w ≡ true
     → (k : ℕ) × Contains (line_marks line) k × Contains (entry_marks w) k
 unfolding shows
-mark_shared line w hit = elim (cases_Bool (list_any (is_among w.numbers) (line_numbers line))) [
-  | inl number ↦ number_shared line w number
-  | inr none ↦
-      let reference : has_reference w.reference line.text ≡ true = cc in
-      (reference_mark w.reference, reference_shared line w reference, (zero, omega arith, refl))
-]
+mark_shared line w hit = grind (arith, nat_tests, cases_Bool, number_shared, reference_shared)
 
 -- The places found.
 

@@ -3,8 +3,6 @@
 ghost use Rattle.std.specs.Prelude.{◌≡◌, IfOk, find, option_copied, option_map};
 ghost use Rattle.std.specs.List.{count_by};
 ghost use Rattle.std.specs.Str.{bytes_eq};
-ghost use Rattle.statement_lines.specs.Keys.{line_key as key_of_line};
-ghost use Rattle.statement_lines.specs.Lookups.{IsLookup};
 ghost use Rattle.statement_lines.specs.OpenLines.{claimed_reference as reference_claimed, is_named_like};
 
 use crate::key::line_key;
@@ -36,13 +34,6 @@ impl<'a> Model for Exceptions<'a> {
     ghost invariant = { λ e. IsLookup line_key e.all.now e.found.sorted.items };
 }
 
-// Looks up exceptions by date and bank reference.
-fn by_reference<'a>(alloc: Global, all: &'a [Line]) -> Result<Lookup<'a, Line>, AllocError>
-    ensures { IfOk result (λ found. IsLookup key_of_line all.now found.sorted.items) }
-{
-    Lookup::of(alloc, all, |line| line_key(line))
-}
-
 // Returns the first of the given exceptions that is the line with a reference.
 fn named_among<'a>(found: &[(u64, &'a Line)], line: &StatementLine) -> Option<&'a Line>
     ensures { option_copied result
@@ -69,7 +60,7 @@ impl<'a> Exceptions<'a> {
     pub(crate) fn of(alloc: Global, all: &'a [Line]) -> Result<Exceptions<'a>, AllocError>
         ensures { IfOk result (λ exceptions. exceptions ≡ all.now) }
     {
-        let found = by_reference(alloc, all)?;
+        let found = Lookup::of(alloc, all, |line| line_key(line))?;
         Ok(Exceptions { all, found })
     }
 

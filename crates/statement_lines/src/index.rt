@@ -3,9 +3,9 @@
 ghost use Rattle.std.specs.Prelude.{◌≡◌, ◌==◌, IfOk};
 ghost use Rattle.std.specs.List.{filter, list_any};
 ghost use Rattle.std.specs.Str.{bytes_eq};
-ghost use Rattle.statement_lines.specs.Keys.{amount_key, booking_key, claim_key as key_of_claim};
+ghost use Rattle.statement_lines.specs.Keys.{amount_key, booking_key};
 ghost use Rattle.statement_lines.specs.Keys.{line_key as key_of_line, waiting_key};
-ghost use Rattle.statement_lines.specs.Lookups.{IsLookup, elements};
+ghost use Rattle.statement_lines.specs.Lookups.{elements};
 ghost use Rattle.statement_lines.specs.OpenLines.{claimed_reference, is_claimed as is_claimed_reference};
 
 use crate::book_entry::WaitingEntry;
@@ -46,61 +46,6 @@ impl<'a> Model for Index<'a> {
         i.exceptions i.beside.sorted.items i.amounts.sorted.items i.claims.sorted.items };
 }
 
-// Looks up waiting entries by amount.
-fn waiting_by_amount<'a>(
-    alloc: Global,
-    waiting: &'a [WaitingEntry],
-) -> Result<Lookup<'a, WaitingEntry>, AllocError>
-    ensures { IfOk result (λ found. IsLookup waiting_key waiting.now found.sorted.items) }
-{
-    Lookup::of(alloc, waiting, |entry| entry.amount.unsigned_abs())
-}
-
-// Looks up bookings by date and bank reference.
-fn bookings_by_reference<'a>(
-    alloc: Global,
-    bookings: &'a [Booking],
-) -> Result<Lookup<'a, Booking>, AllocError>
-    ensures { IfOk result (λ found. IsLookup booking_key bookings.now found.sorted.items) }
-{
-    Lookup::of(alloc, bookings, |booking| booking.key())
-}
-
-// Looks up lines by date and bank reference.
-fn lines_by_reference<'a>(
-    alloc: Global,
-    lines: &'a [StatementLine],
-) -> Result<Lookup<'a, StatementLine>, AllocError>
-    ensures { IfOk result (λ found. IsLookup key_of_line lines.now found.sorted.items) }
-{
-    Lookup::of(alloc, lines, |line| line_key(line.line()))
-}
-
-// Looks up lines by amount.
-fn lines_by_amount<'a>(
-    alloc: Global,
-    lines: &'a [StatementLine],
-) -> Result<Lookup<'a, StatementLine>, AllocError>
-    ensures { IfOk result (λ found. IsLookup amount_key lines.now found.sorted.items) }
-{
-    Lookup::of(alloc, lines, |line| line.line().amount.get().unsigned_abs())
-}
-
-// Looks up lines by the reference that they claim.
-fn lines_by_claim<'a>(
-    alloc: Global,
-    exceptions: &Exceptions,
-    lines: &'a [StatementLine],
-) -> Result<Lookup<'a, StatementLine>, AllocError>
-    ensures { IfOk result (λ found. IsLookup (key_of_claim exceptions.now) lines.now found.sorted.items) }
-{
-    Lookup::of(
-        alloc,
-        lines,
-        |line| text_key(0, exceptions.claimed_reference(line)),
-    )
-}
-
 // Whether one of the given lines claims this reference.
 fn is_claimed_among(
     found: &[(u64, &StatementLine)],
@@ -124,15 +69,23 @@ impl<'a> Index<'a> {
         ensures { IfOk result (λ index. index ≡ record { held = held.now; lines = lines.now }) }
     {
         let exceptions = Exceptions::of(alloc, &held.exceptions)?;
-        let claims = lines_by_claim(alloc, &exceptions, lines)?;
+        let waiting = Lookup::of(alloc, &held.waiting, |entry| entry.amount.unsigned_abs())?;
+        let bookings = Lookup::of(alloc, &held.bookings, |booking| booking.key())?;
+        let beside = Lookup::of(alloc, lines, |line| line_key(line.line()))?;
+        let amounts = Lookup::of(alloc, lines, |line| line.line().amount.get().unsigned_abs())?;
+        let claims = Lookup::of(
+            alloc,
+            lines,
+            |line| text_key(0, exceptions.claimed_reference(line)),
+        )?;
         Ok(Index {
             held,
             lines,
-            waiting: waiting_by_amount(alloc, &held.waiting)?,
-            bookings: bookings_by_reference(alloc, &held.bookings)?,
+            waiting,
+            bookings,
             exceptions,
-            beside: lines_by_reference(alloc, lines)?,
-            amounts: lines_by_amount(alloc, lines)?,
+            beside,
+            amounts,
             claims,
         })
     }

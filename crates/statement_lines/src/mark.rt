@@ -49,6 +49,7 @@ fn window(text: &[u8]) -> &[u8]
 }
 
 // Adds the marks of a text, which may contain references.
+#[tactic(auto, using(crate::proofs::Marked::window_steps))]
 fn add_windows(marks: &mut Vec<u64>, text: &[u8]) -> Result<(), AllocError>
     ensures { OnOk result (marks.new.items ≡ marks.old.items ++ window_marks text.now) }
 {
@@ -87,8 +88,8 @@ fn add_entry_at(marks: &mut Vec<Mark>, place: usize, entry: &BookEntry) -> Resul
     add_entry(marks, place, &entry.entry)
 }
 
-#[tactic(auto, using(crate::proofs::Marked::marks_more))]
 /// Returns the marks of entries. The only error is out of memory.
+#[tactic(auto, using(crate::proofs::Marked::marks_more))]
 pub fn marks_of(alloc: Global, entries: &[BookEntry]) -> Result<Vec<Mark>, AllocError>
     ensures { IfOk result (λ marks. marks.items ≡ marks_from 0 entries.now) }
 {

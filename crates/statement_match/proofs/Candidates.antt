@@ -62,41 +62,29 @@ narrows relation.OfAnotherAmount today line e is =
 
 -- The entries found.
 
-kept : (r : Relation) (today : ℕ) (line : Line) (entries : List BookEntry) (found : List (ℕ × Bor BookEntry))
-    → elements found ≡ filter (among r line) entries
-    → filter (stands r today line) (elements found) ≡ filter (stands r today line) entries
-kept r today line entries found same =
-    filtered (stands r today line) (among r line) (narrows r today line) found entries same
+module _ (r : Relation) (today : ℕ) (line : Line) (entries : List BookEntry) (found : List (ℕ × Bor BookEntry)) where
+  -- all that stand so are among those found
+  abbrev Kept : Type 0
+  Kept = filter (stands r today line) (elements found) ≡ filter (stands r today line) entries
 
-pub amount_kept : (r : Relation) (today : ℕ) (line : Line) (entries : List BookEntry) (found : List (ℕ × Bor BookEntry))
-    → (r ≡ relation.OfItsAmount) ⊎ (r ≡ relation.MaybeReturned)
-    → elements found ≡ filter (λ e. entry_key e == amount_key line) entries
-    → filter (stands r today line) (elements found) ≡ filter (stands r today line) entries
-amount_kept r today line entries found is same =
-    kept r today line entries found (elim is [ inl a ↦ rw a same | inr a ↦ rw a same ])
+  kept : elements found ≡ filter (among r line) entries → Kept
+  kept same = filtered (stands r today line) (among r line) (narrows r today line) found entries same
 
-pub named_kept : (r : Relation) (today : ℕ) (line : Line) (entries : List BookEntry) (found : List (ℕ × Bor BookEntry))
-    → (r ≡ relation.Named) ⊎ (r ≡ relation.NamedOfAnotherAmount)
-    → elements found ≡ filter (λ e. reference_key e == text_key 0 line.reference) entries
-    → filter (stands r today line) (elements found) ≡ filter (stands r today line) entries
-named_kept r today line entries found is same =
-    kept r today line entries found (elim is [ inl a ↦ rw a same | inr a ↦ rw a same ])
+  pub amount_kept : (r ≡ relation.OfItsAmount) ⊎ (r ≡ relation.MaybeReturned)
+      → elements found ≡ filter (λ e. entry_key e == amount_key line) entries → Kept
+  amount_kept is same = kept (elim is [ inl a ↦ rw a same | inr a ↦ rw a same ])
 
-pub shown_kept : (r : Relation) (today : ℕ) (line : Line) (entries : List BookEntry) (found : List (ℕ × Bor BookEntry))
-    → (r ≡ relation.Fitted) ⊎ ((r ≡ relation.NotWaiting) ⊎ ((r ≡ relation.IssuedAfter) ⊎ (r ≡ relation.OfAnotherAmount)))
-    → filter (is_shown line) (elements found) ≡ filter (is_shown line) entries
-    → filter (stands r today line) (elements found) ≡ filter (stands r today line) entries
-shown_kept r today line entries found is same =
-    filtered_kept (stands r today line) (among r line) (narrows r today line) found entries (elim is [
-      | inl a ↦ rw a same
-      | inr b ↦ elim b [
-        | inl a ↦ rw a same
-        | inr c ↦ elim c [ inl a ↦ rw a same | inr a ↦ rw a same ]
-      ]
-    ])
+  pub named_kept : (r ≡ relation.Named) ⊎ (r ≡ relation.NamedOfAnotherAmount)
+      → elements found ≡ filter (λ e. reference_key e == text_key 0 line.reference) entries → Kept
+  named_kept is same = kept (elim is [ inl a ↦ rw a same | inr a ↦ rw a same ])
 
-pub held_kept : (r : Relation) (day today : ℕ) (line : Line) (entries : List BookEntry) (found : List (ℕ × Bor BookEntry))
-    → r ≡ relation.HeldOn day
-    → elements found ≡ filter (λ e. day_key e == day) entries
-    → filter (stands r today line) (elements found) ≡ filter (stands r today line) entries
-held_kept r day today line entries found is same = kept r today line entries found (rw is same)
+  pub shown_kept : (r ≡ relation.Fitted) ⊎ ((r ≡ relation.NotWaiting) ⊎ ((r ≡ relation.IssuedAfter)
+      ⊎ (r ≡ relation.OfAnotherAmount)))
+      → filter (is_shown line) (elements found) ≡ filter (is_shown line) entries → Kept
+  shown_kept is same = filtered_kept (stands r today line) (among r line) (narrows r today line) found entries (elim is [
+    | inl a ↦ rw a same
+    | inr b ↦ elim b [ inl a ↦ rw a same | inr c ↦ elim c [ inl a ↦ rw a same | inr a ↦ rw a same ] ]
+  ])
+
+  pub held_kept : (day : ℕ) → r ≡ relation.HeldOn day → elements found ≡ filter (λ e. day_key e == day) entries → Kept
+  held_kept day is same = kept (rw is same)

@@ -10,12 +10,14 @@ use Rattle.statement_match.proofs.Picks.{found_is_there, found_passes, is_counte
 part_count : {A : Type 0} (p : A → Bool) (some all : List A) → IsPart some all → count_by p some ≤ count_by p all
 part_count p _ _ NoneOf = omega arith
 part_count p _ _ (With x some all rest) =
-    let a = sum_by-cons (λ y. cond (p y) 1 0) x some in
-    let b = sum_by-cons (λ y. cond (p y) 1 0) x all in
-    let ih = part_count p some all rest in omega (arith, a, b, ih)
+    omega (
+      arith,
+      sum_by-cons (λ y. cond (p y) 1 0) x some,
+      sum_by-cons (λ y. cond (p y) 1 0) x all,
+      part_count p some all rest,
+    )
 part_count p _ _ (Without x some all rest) =
-    let b = sum_by-cons (λ y. cond (p y) 1 0) x all in
-    let ih = part_count p some all rest in omega (arith, b, ih)
+    omega (arith, sum_by-cons (λ y. cond (p y) 1 0) x all, part_count p some all rest)
 
 part_any : {A : Type 0} (p : A → Bool) (some all : List A) → IsPart some all → list_any p all ≡ false
     → list_any p some ≡ false

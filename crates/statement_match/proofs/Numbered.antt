@@ -1,5 +1,5 @@
 -- The lines with their numbers.
-use Rattle.statement_match.proofs.Names.{◌≡◌, ◌∙◌, sym, ap, ℕ, ◌+◌, ◌<◌, ◌≤◌, ◌==◌, Bool, true, false, cond, List, [], ◌∷◌, ◌++◌, length, get_or, drop, map, append_assoc, append-nil, refl, filter, at_drop_more, drop_all, map-append, Line, amount_key, waiting_key, elements, is_open_fit, Waiting, open_fit_narrows, filter_among, numbered, numbered_key, plain_pairs, fit_numbers, Bor}
+use Rattle.statement_match.proofs.Names.{◌≡◌, ◌∙◌, ap, ℕ, ◌+◌, ◌<◌, ◌≤◌, ◌==◌, Bool, true, false, cond, List, [], ◌∷◌, ◌++◌, length, get_or, drop, map, append_assoc, append-nil, refl, filter, at_drop_more, drop_all, map-append, Line, amount_key, waiting_key, elements, is_open_fit, Waiting, open_fit_narrows, filter_among, numbered, numbered_key, plain_pairs, fit_numbers, Bor}
 
 pub numbered_more : (numbers : List ℕ) (lines : List Line) (i number : ℕ) (line : Bor Line) (found new : List (ℕ × Bor Line))
     → i < length lines → number ≡ get_or numbers i 0 → line.now ≡ get_or lines i line.now
@@ -8,15 +8,14 @@ pub numbered_more : (numbers : List ℕ) (lines : List Line) (i number : ℕ) (l
     ≡ plain_pairs new ++ numbered numbers (i + 1) (drop (i + 1) lines)
 unfolding numbered
 numbered_more numbers lines i number line found new lt number_is line_is added =
-    let rest = numbered numbers (i + 1) (drop (i + 1) lines) in
-    ap (λ (ps : List (ℕ × Line)). plain_pairs found ++ ps)
-    (at_drop_more (numbered numbers i) lines i line.now lt
-    ∙ ap (λ (n : ℕ). (n, get_or lines i line.now) ∷ rest) (sym number_is)
-    ∙ ap (λ (l : Line). (number, l) ∷ rest) (sym line_is))
-    ∙ sym (append_assoc (plain_pairs found) ((number, line.now) ∷ []) rest)
-    ∙ ap (λ (ps : List (ℕ × Line)). ps ++ rest)
-    (sym (map-append {A = ℕ × Bor Line} {B = ℕ × Line} (λ pair. (pair.0, pair.1.now)) found ((number, line) ∷ [])))
-    ∙ ap (λ (ps : List (ℕ × Bor Line)). plain_pairs ps ++ rest) (sym added)
+    ap (λ (ps : List (ℕ × Line)). plain_pairs found ++ ps) (at_drop_more (numbered numbers i) lines i line.now lt)
+    ∙ rw (
+      ← number_is,
+      ← line_is,
+      added,
+      map-append {A = ℕ × Bor Line} {B = ℕ × Line} (λ pair. (pair.0, pair.1.now)) found ((number, line) ∷ []),
+      append_assoc,
+    ) refl
 
 pub numbered_done : (numbers : List ℕ) (lines : List Line) (i : ℕ) (found : List (ℕ × Bor Line)) → length lines ≤ i
     → plain_pairs found ++ numbered numbers i (drop i lines) ≡ plain_pairs found

@@ -1,5 +1,5 @@
 -- The steps of the loops over the records of a statement.
-use Rattle.statement_match.proofs.Names.{◌≡◌, ◌∙◌, sym, ap, ℕ, suc, ◌+◌, ◌-◌, ◌<◌, ◌≤◌, List, [], ◌∷◌, ◌++◌, length, get_or, drop, append_assoc, append-nil, arith, at_drop_more, drop_all, get_or-map, Line, Records, Known, Outcome, becomes, outcomes, reason_for, told_by, told_from, told_of_line, told_unreadable, unreadable_line}
+use Rattle.statement_match.proofs.Names.{◌≡◌, ◌∙◌, sym, ap, ℕ, suc, ◌+◌, ◌-◌, ◌<◌, ◌≤◌, List, [], ◌∷◌, ◌++◌, length, get_or, drop, append_assoc, append-nil, refl, arith, at_drop_more, drop_all, get_or-map, Line, Records, Known, Outcome, becomes, outcomes, reason_for, told_by, told_from, told_of_line, told_unreadable, unreadable_line}
 
 -- Unreadable records.
 
@@ -56,16 +56,8 @@ pub told_step : (today : ℕ) (known : Known) (records : Records) (os : List Out
     ≡ new ++ told_from today known records number (i + 1) (drop (i + 1) records.lines)
 told_step today known records os before i number line o told new lt same number_is line_is o_is new_is =
     let f = becomes today known.held records.lines in
-    let rest = told_from today known records number (i + 1) (drop (i + 1) records.lines) in
-    let front = told ++ told_unreadable before (number - 1 - before) in
     let now : o ≡ f line =
     o_is ∙ ap (λ (xs : List Outcome). get_or xs i o) same
     ∙ get_or-map f records.lines i line o lt ∙ ap f (sym line_is) in
     told_more today known records before i records.lines line told lt
-    ∙ ap (λ (n : ℕ). ((told ++ told_unreadable before (n - 1 - before))
-    ++ told_of_line today known records n (get_or records.lines i line))
-    ++ told_from today known records n (i + 1) (drop (i + 1) records.lines)) (sym number_is)
-    ∙ ap (λ (l : Line). (front ++ told_of_line today known records number l) ++ rest) (sym line_is)
-    ∙ ap (λ (b : Outcome). (front
-    ++ told_by today known records number line (reason_for today known records.lines line b)) ++ rest) (sym now)
-    ∙ ap (λ (ts : List (List ℕ)). ts ++ rest) (sym new_is)
+    ∙ rw (← number_is, ← line_is, ← now, ← new_is) refl

@@ -4,8 +4,8 @@ ghost use Rattle.std.specs.Prelude.{◌≡◌, ◌==◌, ◌++◌, ℕ, ℤ, map
 ghost use Rattle.std.specs.List.{Contains, filter};
 ghost use Rattle.std.specs.List.Sorted.{IsStrictlyIncreasing};
 ghost use Rattle.statement_lines.specs.Keys.{amount_key, day_key, entry_key, reference_key, text_key as key_of_text};
-ghost use Rattle.statement_lines.specs.Lookups.{IsLookup, elements};
-ghost use Rattle.statement_lines.specs.Marks.{is_shown, mark_of, marks_from};
+ghost use Rattle.statement_lines.specs.Lookups.{elements};
+ghost use Rattle.statement_lines.specs.Marks.{is_shown, marks_from};
 ghost use Rattle.statement_lines.specs.Places.{places_with};
 ghost use Rattle.statement_match.specs.DaySums.{day_sums, day_with, first_day, same_day as same_day_of, together_on};
 
@@ -39,44 +39,6 @@ impl<'a, 'b> Model for EntryIndex<'a, 'b> {
 
     ghost invariant = { λ i. AreEntriesFound i.entries.now i.amounts.sorted.items i.references.sorted.items
         i.days.sorted.items i.marks.sorted.items };
-}
-
-// Looks up entries by amount.
-fn by_amount<'a>(
-    alloc: Global,
-    entries: &'a [BookEntry],
-) -> Result<Lookup<'a, BookEntry>, AllocError>
-    ensures { IfOk result (λ found. IsLookup entry_key entries.now found.sorted.items) }
-{
-    Lookup::of(alloc, entries, |entry| entry.entry.amount.unsigned_abs())
-}
-
-// Looks up entries by reference.
-fn by_reference<'a>(
-    alloc: Global,
-    entries: &'a [BookEntry],
-) -> Result<Lookup<'a, BookEntry>, AllocError>
-    ensures { IfOk result (λ found. IsLookup reference_key entries.now found.sorted.items) }
-{
-    Lookup::of(
-        alloc,
-        entries,
-        |entry| text_key(0, entry.entry.reference.as_slice()),
-    )
-}
-
-// Looks up entries by day.
-fn by_day<'a>(alloc: Global, entries: &'a [BookEntry]) -> Result<Lookup<'a, BookEntry>, AllocError>
-    ensures { IfOk result (λ found. IsLookup day_key entries.now found.sorted.items) }
-{
-    Lookup::of(alloc, entries, |entry| u64::from(entry.day.get()))
-}
-
-// Looks up places by the marks of the entries there.
-fn by_mark<'a>(alloc: Global, marks: &'a [Mark]) -> Result<Lookup<'a, Mark>, AllocError>
-    ensures { IfOk result (λ found. IsLookup mark_of marks.now found.sorted.items) }
-{
-    Lookup::of(alloc, marks, |mark| mark.0)
 }
 
 // Adds the places of the given marks.
@@ -139,12 +101,20 @@ impl<'a, 'b> EntryIndex<'a, 'b> {
         requires { marks.now ≡ marks_from 0 entries.now }
         ensures { IfOk result (λ index. index ≡ entries.now) }
     {
+        let amounts = Lookup::of(alloc, entries, |entry| entry.entry.amount.unsigned_abs())?;
+        let references = Lookup::of(
+            alloc,
+            entries,
+            |entry| text_key(0, entry.entry.reference.as_slice()),
+        )?;
+        let days = Lookup::of(alloc, entries, |entry| u64::from(entry.day.get()))?;
+        let marks = Lookup::of(alloc, marks, |mark| mark.0)?;
         Ok(EntryIndex {
             entries,
-            amounts: by_amount(alloc, entries)?,
-            references: by_reference(alloc, entries)?,
-            days: by_day(alloc, entries)?,
-            marks: by_mark(alloc, marks)?,
+            amounts,
+            references,
+            days,
+            marks,
         })
     }
 

@@ -3,10 +3,10 @@
 ghost use Rattle.std.specs.Prelude.{◌≡◌, ◌==◌, ℕ, IfOk};
 ghost use Rattle.std.specs.List.{filter};
 ghost use Rattle.statement_lines.specs.Keys.{amount_key, day_key, waiting_key};
-ghost use Rattle.statement_lines.specs.Lookups.{IsLookup, elements};
+ghost use Rattle.statement_lines.specs.Lookups.{elements};
 ghost use Rattle.statement_lines.specs.Marks.{marks_from};
 ghost use Rattle.statement_match.specs.DaySums.{first_day as first_day_of};
-ghost use Rattle.statement_match.specs.Grounds.{AreCandidates, AreNumbered, numbered as with_numbers, numbered_key};
+ghost use Rattle.statement_match.specs.Grounds.{AreCandidates, AreNumbered, numbered as with_numbers};
 ghost use Rattle.statement_match.specs.Grounds.{plain_pairs};
 
 use crate::day_sums::{DaySum, day_of_sum};
@@ -91,20 +91,6 @@ pub(crate) fn numbered_lines<'a>(
     Ok(found)
 }
 
-// Looks up lines by amount.
-fn by_amount<'a, 'b>(
-    alloc: Global,
-    lines: &'b [Numbered<'a>],
-) -> Result<Lookup<'b, Numbered<'a>>, AllocError>
-    ensures { IfOk result (λ found. IsLookup numbered_key lines.now found.sorted.items) }
-{
-    Lookup::of(
-        alloc,
-        lines,
-        |pair| pair.1.line().amount.get().unsigned_abs(),
-    )
-}
-
 impl<'a, 'b> Grounds<'a, 'b> {
     /// Makes the grounds from what is known of a book, the records, the index of the rule, the numbered lines, and the
     /// marks of the entries. The only error is out of memory.
@@ -122,7 +108,11 @@ impl<'a, 'b> Grounds<'a, 'b> {
         ensures { IfOk result (λ grounds. grounds ≡ record { known = known.now; records = records.now }) }
     {
         let entries = EntryIndex::of(alloc, &known.entries, marks)?;
-        let amounts = by_amount(alloc, numbered)?;
+        let amounts = Lookup::of(
+            alloc,
+            numbered,
+            |pair| pair.1.line().amount.get().unsigned_abs(),
+        )?;
         let sums = entries.sums_by_day(alloc)?;
         Ok(Grounds {
             known,

@@ -258,13 +258,11 @@ fn fit_numbers_among(
     ensures { IfOk result (λ numbers. numbers.items
         ≡ map (λ e. e.1.now.0) (filter (λ e. is_open_fit today entry.now e.1.now.1.now) found.now)) }
 {
-    let mut numbers = Vec::new(alloc);
-    for line in found {
-        if line.1.1.is_open_fit(today, entry) {
-            numbers.push(line.1.0)?;
-        }
-    }
-    Ok(numbers)
+    found
+        .iter()
+        .filter(|line| line.1.1.is_open_fit(today, entry))
+        .map(|line| line.1.0)
+        .collect(alloc)
 }
 
 // Returns the numbers of the open lines that fit an entry.

@@ -4,4 +4,4 @@
 pub mod laws;
 mod system_stores;
 
-pub use system_stores::{FileWith, SystemFile, SystemStores, book_at, put};
+pub use system_stores::{FileWith, SystemFile, SystemStores, book_at, copied};

@@ -27,8 +27,8 @@ pub type FileWith<T> = FileStore<FileFrom<T>>;
 /// A database file of the system whose contents are not known.
 pub type SystemFile = FileWith<Unknown>;
 
-/// The books of the system, each in the database file at its path. Its calls are `book_at` and `put`, which promise
-/// what `Stores` requires, whatever the files hold; here the contents are not known.
+/// The books of the system, each in the database file at its path. Its calls are `book_at` and `copied`, which
+/// promise what `Stores` requires, whatever the files hold; here the contents are not known.
 ///
 /// A missing or empty file gets a book without rows; a file that holds a book gives that book. While a book is in use
 /// its file is locked, and another run over it gets a fault of the store. A book that was put back is in its file
@@ -94,8 +94,9 @@ pub fn book_at<T: Start>(
     }
 }
 
-// Copies the log of a connection into its database file and gives the files back. No transaction may be open.
-fn copied<D: Disk + Drop>(conn: Connection<FileStore<D>>) -> Result<Files<D>, Error>
+/// Copies the log of a connection into its database file and gives the files back. No transaction may be open. So a book
+/// whose connection it is was put back: it is in the database file alone.
+pub fn copied<D: Disk + Drop>(conn: Connection<FileStore<D>>) -> Result<Files<D>, Error>
     requires { conn.in_transaction ≡ false }
     ensures copied { IfOk result (λ files. AreClean D.Disk files.log files.db → IsCopied conn files) }
     ensures settled { IsTrue (file_state conn).is_open → (file_state conn).now ≡ (file_state conn).committed }
@@ -107,17 +108,6 @@ fn copied<D: Disk + Drop>(conn: Connection<FileStore<D>>) -> Result<Files<D>, Er
     match conn.close_files() {
         Ok(files) => Ok(files),
         Err((error, _)) => Err(error),
-    }
-}
-
-/// Gives a book back to its files: on `Ok` it is in the database file alone. Returns `Store` if it could not be written
-/// there, and `Memory` if memory runs out.
-pub fn put<T: Start>(book: SqlBook<FileWith<T>>) -> Result<(), StoreFault>
-    ensures { OnOk result (IsPutBack book) }
-{
-    match copied(book.release()) {
-        Ok(_files) => Ok(()),
-        Err(error) => Err(fault_of(error)),
     }
 }
 
@@ -156,7 +146,10 @@ impl Stores for SystemStores<'_> {
     }
 
     fn put_back(&self, book: SqlBook<SystemFile>) -> Result<(), StoreFault> {
-        put(book)
+        match copied(book.release()) {
+            Ok(_files) => Ok(()),
+            Err(error) => Err(fault_of(error)),
+        }
     }
 
     fn why_none(&self, alloc: Global, path: &str) -> NoBook {

@@ -84,3 +84,5 @@ runs-covered day firm new [] [] sound run = (run, covered firm sound)
 runs-covered day firm new (h ∷ hs) (reply ∷ replies) sound run =
     (run.0, run.1, covered-in day firm (kind_of h) sound, runs-covered day run.0 new hs replies run.2 run.3)
 runs-covered day firm new _ _ sound run = absurd run
+
+pub ruleset covered_laws = (runs-covered, always-covered)

@@ -23,6 +23,19 @@ refused-steps day firm new h r why same = cases (is_fault r) refl
     cases true is = steps-fault day firm new h r is (subst (λ (f : Firm). Stopped day firm h f) (sym same) (nothing-done day firm h))
     cases false is = elim why [ inl fault ↦ absurd (cc) | inr step ↦ steps-plain day firm new h (refused r) is step.0 (same ∙ step.1) ]
 
+-- a fault of a read is answered, and nothing changes
+pub unread-answered : {B T : Type 0} {firm : B → Firm} {clean sure stands lasts : B → Type 0} {leaves : B → Firm → Type 0} {refusals : B → ℕ} {old new : B} (day : ℕ) (h : Heard) (fault : StoreFault)
+    → IsRead {T = T} firm clean sure stands lasts leaves refusals (Err fault) old new
+    → IsAnswered firm clean sure stands lasts leaves refusals day h (Err (refused_by fault)) old new
+unread-answered {firm} {refusals} {old} {new} day h fault read = record {
+  step = λ served stood.
+      refused-steps day (firm old) (firm new) h (refused_by fault) (inl (fault-told fault)) (read.same served stood);
+  plain = tt;
+  kept = kept-as (λ is stood. fault-counted fault (refusals old)) (read-kept read);
+  crash = λ is stood before.
+      leave-failed (λ fine. false≢true (sym fine ∙ fault-told fault)) (λ found made. made) (read-leaves read is stood);
+}
+
 -- An ask of a matter.
 
 -- what was decided makes its step

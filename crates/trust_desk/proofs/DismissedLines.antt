@@ -40,3 +40,5 @@ pub dismissed-once : DismissedOnce
 dismissed-once day firm line fit =
     ap (λ o. dismiss_refusal Cashier line (dismissed_unless o line firm)) fit
     ∙ ap (λ b. first ((false, refusals.NotAllowed rule.Firm) ∷ (not b, refusals.NoEntry) ∷ [])) (none-left line firm.exceptions)
+
+pub ruleset dismissed_laws = (dismissing-moves-nothing)

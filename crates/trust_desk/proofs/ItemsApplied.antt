@@ -1,10 +1,11 @@
 -- How an item is applied, by what is decided of it and by the calls of the book.
-use Rattle.trust_desk.proofs.Names.{◌≡◌, ◌∙◌, ℕ, Ok, Err, refl, ap, sym, false≢true, Line, StoreFault, BankLine, LineEffect, Rows, LineDecides, BalanceKind, Verdict, Firm, FirmChange, of, after, by_balance, by_line, Item, counted, counted_fault, IsRead, IsWrite, Counted, IsItemApplied, after_item, after_told, balance_item, balance_on, counted_as, counted_by, counted_of, counted_verdict}
+use Rattle.trust_desk.proofs.Names.{◌≡◌, ◌≤◌, ◌∙◌, ℕ, true, None, Some, Ok, Err, Result, Sound, Part, IsPart, holds_for_line, line-held, refl, ap, sym, false≢true, Line, StoreFault, BankLine, LineEffect, Rows, LineDecides, BalanceKind, Verdict, Firm, FirmChange, of, after, by_balance, by_line, Item, counted, counted_fault, IsRead, IsWrite, Counted, IsItemApplied, after_item, after_told, balance_item, balance_on, counted_as, counted_by, counted_of, counted_verdict}
 use Rattle.trust_base.specs.declared.refusal.StoreFault.TheVariants as faults
 use Rattle.trust_matter.specs.declared.line_verdict.LineVerdict.{LineVerdict}
 use Rattle.trust_matter.specs.declared.line_verdict.LineVerdict.TheVariants as verdict
 use Rattle.firm_rows.specs.declared.ledger.BalanceKind.TheVariants as kind
 use Rattle.statement_csv.specs.declared.item.Item.TheVariants as item
+use Rattle.trust_store.specs.Named.{IsPartFor}
 use Rattle.trust_desk.proofs.Calls.{kept-as, kept-then, read-kept, write-kept}
 use Rattle.trust_desk.proofs.Crashes.{leave-failed, read-leaves, written-leaves}
 
@@ -16,6 +17,14 @@ pub verdict-tells : (day : ℕ) (firm : Firm) (l : BankLine) (v : LineVerdict) �
 verdict-tells day firm l (verdict.Applied c) d = (sym (ap counted_as d.applied), sym (ap (λ (e : LineEffect). after_told l e firm) d.applied))
 verdict-tells day firm l verdict.Repeat d = (sym (ap counted_as d), sym (ap (λ (e : LineEffect). after_told l e firm) d))
 verdict-tells day firm l (verdict.Unmatched r) d = (sym (ap counted_as d), sym (ap (λ (e : LineEffect). after_told l e firm) d))
+
+-- what was read for a line is enough to decide it
+pub line-decided : (rows : Rows) (l : BankLine) (day : ℕ) (part : Part) (result : Result LineVerdict StoreFault) → 1 ≤ l.entry
+    → Sound rows → IsPartFor rows (Some l.entry) None part
+    → (holds_for_line part l.entry ≡ true → (rows : Rows) → Sound rows → IsPart part rows → LineDecides rows l day result)
+    → LineDecides rows l day result
+line-decided rows l day part result some sound is decided =
+    decided (line-held rows l.entry None part some is) rows sound is.is_part
 
 -- a fault of the decision is no fault of the store
 pub decision-uncounted : (rows : Rows) (l : BankLine) (day : ℕ) (fault : StoreFault) (n : ℕ) → LineDecides rows l day (Err fault) → counted_fault fault n ≡ n

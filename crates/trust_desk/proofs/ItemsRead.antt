@@ -1,9 +1,24 @@
 -- A statement that is read and applied item by item.
-use Rattle.trust_desk.proofs.Names.{◌≡◌, ◌∙◌, ◌+◌, ◌≤◌, ◌++◌, ◌∷◌, [], ℕ, false, List, Some, None, refl, sym, ap, subst, append_assoc, arith, list_any, Firm, of, FirmSound, Gives, LacksHeader, Item, ImportReply, Counted, ImportEnd, ImportStop, AreBelow, AreFirst, AreRead, Imports, IsAmid, IsUnnamed, KeepsAllUnnamed, TakesOne, Told, after_item, after_items, count_item, counted_of, counts_after, names_item, none_counted}
+use Rattle.trust_desk.proofs.Names.{◌≡◌, ◌∙◌, ◌+◌, ◌≤◌, ◌++◌, ◌∷◌, [], ℕ, false, List, Option, Some, None, Ok, Err, inl, inr, refl, sym, ap, subst, append_assoc, arith, list_any, ⊤, false≢true, refused_by, StoreFault, Line, Firm, FirmLine, of, FirmSound, Gives, LacksHeader, Item, ImportReply, Counted, ImportEnd, ImportStop, AreBelow, AreFirst, AreFront, AreRead, Imports, IsAfterFirst, IsAppliedBeside, IsStop, IsUnnamed, KeepsAllUnnamed, KeepsBeside, MayLeave, StandsBeside, Told, after_item, after_items, count_item, counted_of, counts_after, is_stopped, names_item, none_counted}
+use Rattle.trust_base.specs.declared.refusal.Field.TheVariants as field
+use Rattle.trust_base.specs.declared.refusal.Refusal.TheVariants as refusal
+use Rattle.trust_base.specs.declared.refusal.StoreFault.TheVariants as faults
+use Rattle.std.specs.Option.{option_or}
+use Rattle.statement_csv.specs.Limits.{IsTooLong, IsWithin}
+use Rattle.statement_csv.specs.declared.item.Item.TheVariants as item
+use Rattle.statement_csv.specs.declared.item.ReadFault.{ReadFault}
+use Rattle.statement_csv.specs.declared.item.ReadFault.TheVariants as reading
+use Rattle.trust_desk.specs.Applied.{IsImported}
+use Rattle.trust_desk.specs.Imports.{counted_stop, stop_at}
+use Rattle.trust_desk.specs.ItemStep.{statement_day}
 use Rattle.trust_desk.specs.declared.importing.Counted.TheVariants as counted
 use Rattle.trust_desk.specs.declared.importing.ImportStop.TheVariants as stop
 use Rattle.trust_desk.proofs.AlwaysCovered.{always-sound}
+use Rattle.trust_desk.proofs.Beside.{kept-alone}
+use Rattle.trust_desk.proofs.Calls.{kept-as, kept-still, kept-then}
+use Rattle.trust_desk.proofs.Crashes.{leave-as, leave-failed, leave-still, leave-then}
 use Rattle.trust_desk.proofs.OwnItems.{none-front, of-after_items, unnamed-items}
+use Rattle.trust_desk.proofs.Refused.{fault-counted, fault-told}
 
 -- What was read.
 
@@ -32,64 +47,25 @@ read-more (Some (Some items)) left more front it read gives =
     let rest : read.0 ≡ it ∷ one.0 = cc in
     (one.0, append_assoc front (it ∷ []) one.0 ∙ (ap (λ l. front ++ l) (sym rest) ∙ read.1), one.2)
 
+read-front : (told left : Told) (front : List Item) → AreRead told front left → AreFront told front
+read-front None left front read = tt
+read-front (Some None) left front read = read.0
+read-front (Some (Some items)) left front read = (read.0, read.1)
+
+read-none : (told : Told) → AreRead told [] told
+read-none None = tt
+read-none (Some None) = (refl, refl)
+read-none (Some (Some items)) = (items, refl, refl)
+
 -- What was applied.
 
 pub after_items-push : (day : ℕ) (firm : Firm) (front : List Item) (it : Item) → after_items day firm (front ++ it ∷ []) ≡ after_item day (after_items day firm front) it
 after_items-push day firm [] it = refl
 after_items-push day firm (x ∷ front) it = after_items-push day (after_item day firm x) front it
 
-counts_after-push : (day : ℕ) (firm : Firm) (front : List Item) (it : Item) (c : ImportReply) → counts_after day firm (front ++ it ∷ []) c ≡ count_item it (counted_of day (after_items day firm front) it) (counts_after day firm front c)
+pub counts_after-push : (day : ℕ) (firm : Firm) (front : List Item) (it : Item) (c : ImportReply) → counts_after day firm (front ++ it ∷ []) c ≡ count_item it (counted_of day (after_items day firm front) it) (counts_after day firm front c)
 counts_after-push day firm [] it c = refl
 counts_after-push day firm (x ∷ front) it c = counts_after-push day (after_item day firm x) front it (count_item x (counted_of day firm x) c)
-
--- before the first item
-pub amid-none : (day : ℕ) (clean : Type 0) (firm : Firm) (told left : Told) (counts : ImportReply) → left ≡ told → counts ≡ none_counted → IsAmid day clean firm firm told left counts
-amid-none day clean firm told left counts whole none = record {
-  front = [];
-  read = subst (λ (x : Told). AreRead told [] x) (sym whole) (cases told);
-  step = λ is. (none, refl);
-}
-  where
-    cases : (t : Told) → AreRead t [] t
-    cases None = tt
-    cases (Some None) = (refl, refl)
-    cases (Some (Some items)) = (items, refl, refl)
-
-pub room-none : (counts : ImportReply) → counts ≡ none_counted → AreBelow 1 counts
-room-none counts none = let one : AreBelow 1 none_counted = record { applied = omega arith; repeated = omega arith; exceptions = omega arith; unreadable = omega arith } in subst (AreBelow 1) (sym none) one
-
--- with one more item; what is said of it holds where `at` does
-pub amid-more : (day : ℕ) (was at clean : Type 0) (first now next : Firm) (told left more : Told) (before after : ImportReply)
-    → (clean → was) → (clean → at) → IsAmid day was first now told left before → TakesOne day at now next left more before after → IsAmid day clean first next told more after
-amid-more day was at clean first now next told left more before after was_clean is_at amid takes = record {
-  front = amid.front ++ takes.item ∷ [];
-  read = read-more told left more amid.front takes.item amid.read takes.gives;
-  step = λ is.
-      let so_far = amid.step (was_clean is) in
-      let step = takes.counted.step (is_at is) in
-      let kind = takes.counted.kind in
-      let it = takes.item in (
-        takes.counted.counts
-            ∙ ((λ i. count_item it (step.0 i) (so_far.0 i))
-            ∙ (ap (λ (f : Firm). count_item it (counted_of day f it) (counts_after day first amid.front none_counted)) so_far.1
-            ∙ sym (counts_after-push day first amid.front it none_counted))),
-        step.1 ∙ (ap (λ (f : Firm). after_item day f it) so_far.1 ∙ sym (after_items-push day first amid.front it)),
-      );
-}
-
--- the end of it
-pub amid-imports : (day : ℕ) (clean : Type 0) (first now new : Firm) (told left more : Told) (counts : ImportReply) (result : ImportEnd)
-    → clean → FirmSound first → IsAmid day clean first now told left counts → result.reply ≡ counts → new ≡ now → (result.end ≡ stop.Done → Gives left more None) → Imports day first told result new
-amid-imports day clean first now new told left more counts result is sound amid reply same done =
-    let so_far = amid.step is in
-    record {
-      front = amid.front;
-      first = read-first told left more amid.front result.end amid.read done;
-      leaves = same ∙ so_far.1;
-      counts = reply ∙ so_far.0;
-      own = λ m. ap (of m) (same ∙ so_far.1) ∙ of-after_items m day first amid.front;
-      sound = always-sound day first amid.front sound;
-    }
 
 -- The counts have room.
 
@@ -100,6 +76,29 @@ below-more n m it kind before after below is more = subst (AreBelow m) (sym is) 
     cases counted.Applied = record { applied = omega (arith, below.applied, more); repeated = omega (arith, below.repeated, more); exceptions = omega (arith, below.exceptions, more); unreadable = omega (arith, below.unreadable, more) }
     cases _ = record { applied = omega (arith, below.applied, more); repeated = omega (arith, below.repeated, more); exceptions = omega (arith, below.exceptions, more); unreadable = omega (arith, below.unreadable, more) }
 
+-- How an item is counted.
+
+-- the day of a closing balance
+abbrev pub closing_of : Item → Option ℕ
+closing_of (item.Closing line) = Some line.date
+closing_of _ = None
+
+pub no-closing : (it : Item) → ((line : Line) → it ≡ item.Closing line → ⊥) → closing_of it ≡ None
+no-closing (item.Closing line) none = absurd (none line refl)
+no-closing _ none = refl
+
+-- it is noted if the balance is on file
+pub on-file : (it : Item) (before closing : Option ℕ) → closing ≡ closing_of it
+    → (option_or closing before ≡ statement_day it counted.Applied before)
+    × (option_or closing before ≡ statement_day it counted.Repeated before)
+on-file (item.Closing line) before closing is = let same = ap (λ o. option_or o before) is in (same, same)
+on-file _ before closing is = let same = ap (λ o. option_or o before) is in (same, same)
+
+pub not-on-file : (it : Item) (before : Option ℕ)
+    → (before ≡ statement_day it counted.Exception before) × (before ≡ statement_day it counted.Unreadable before)
+not-on-file (item.Closing line) before = (refl, refl)
+not-on-file _ before = (refl, refl)
+
 -- What matters see of it.
 
 front-unnamed : (m : ℕ) (told : Told) (front : List Item) (end : ImportStop) → AreFirst told front end → IsUnnamed m told → list_any (names_item m) front ≡ false
@@ -109,3 +108,162 @@ front-unnamed m (Some (Some items)) front end first none = none-front m front fi
 
 pub imports-others : (day : ℕ) (firm new : Firm) (told : Told) (result : ImportEnd) → Imports day firm told result new → KeepsAllUnnamed told firm new
 imports-others day firm new told result is m none = ap (of m) is.leaves ∙ unnamed-items m day firm is.front (front-unnamed m told is.front result.end is.first none)
+
+-- The course of an import.
+
+-- the items so far were read, applied and counted, and none was stopped
+pub record IsSoFar {B : Type 0} (firm : B → Firm) (clean sure stands lasts : B → Type 0) (leaves : B → Firm → Type 0)
+    (refusals : B → ℕ) (day : ℕ) (told : Told) (old : B) (turn : ℕ) (left : Told) (counts : ImportReply)
+    (now : B) (own : Option (List FirmLine)) : Type 0 where
+  pub front : List Item
+  pub read : AreRead told front left
+  pub step : clean now → stands old
+      → (counts ≡ counts_after day (firm old) front none_counted) × (firm now ≡ after_items day (firm old) front)
+  pub room : AreBelow (turn + 1) counts
+  pub kept : KeepsBeside firm clean sure stands lasts refusals (λ n. n) old None now own
+  pub crash : sure now → clean old → stands old
+      → MayLeave clean leaves ⊤ (IsAfterFirst day (firm old) told) (firm old) (firm now) old now
+
+not-header : (f : StoreFault) → stop.Refused (refused_by f) ≡ stop.Refused (refusal.BadField field.Header) → ⊥
+not-header faults.Store is = cc
+not-header faults.Memory is = cc
+
+module _ {B : Type 0} {firm : B → Firm} {clean sure stands lasts : B → Type 0} {leaves : B → Firm → Type 0}
+    {refusals : B → ℕ} {day : ℕ} {told : Told} {old : B} where
+  pub none-so_far : (left : Told) → left ≡ told
+      → IsSoFar firm clean sure stands lasts leaves refusals day told old 0 left none_counted old None
+  none-so_far left whole = record {
+    front = [];
+    read = subst (λ (x : Told). AreRead told [] x) (sym whole) (read-none told);
+    step = λ served stood. (refl, refl);
+    room = record { applied = omega arith; repeated = omega arith; exceptions = omega arith; unreadable = omega arith };
+    kept = kept-still (old, None);
+    crash = λ is served stood. leave-still (firm old) old;
+  }
+
+  module _ {turn : ℕ} {left : Told} {counts : ImportReply} {now : B} {own : Option (List FirmLine)}
+      (so : IsSoFar firm clean sure stands lasts leaves refusals day told old turn left counts now own) where
+    -- the next item is read: what it leaves is left after a front of the statement
+    next-front : (more : Told) (it : Item) (found : Firm) → Gives left more (Some it) → clean now → stands old
+        → found ≡ after_item day (firm now) it → IsAfterFirst day (firm old) told found
+    next-front more it found gives served stood made = record {
+      front = so.front ++ it ∷ [];
+      first = read-front told more (so.front ++ it ∷ []) (read-more told left more so.front it so.read gives);
+      leaves = made
+          ∙ (ap (λ (f : Firm). after_item day f it) (so.step served stood).1
+          ∙ sym (after_items-push day (firm old) so.front it));
+    }
+
+    -- and applied, and counted
+    pub more-so_far : {more : Told} {next : ImportReply} {new : B} {known : Option (List FirmLine)} (it : Item) (k : Counted)
+        → Gives left more (Some it)
+        → IsAppliedBeside firm clean sure stands lasts leaves refusals day it (Ok k) now own new known
+        → next ≡ count_item it k counts
+        → IsSoFar firm clean sure stands lasts leaves refusals day told old (turn + 1) more next new known
+    more-so_far {more} {next} {new} {known} it k gives a counted = record {
+      front = so.front ++ it ∷ [];
+      read = read-more told left more so.front it so.read gives;
+      step = λ served stood.
+          let was = a.kept.was_clean served in
+          let before = so.step was stood in
+          let step = a.step served (so.kept.still_stands was (stood, tt)) in (
+            counted
+                ∙ ((λ i. count_item it (step.0 i) (before.0 i))
+                ∙ (ap (λ (f : Firm). count_item it (counted_of day f it) (counts_after day (firm old) so.front none_counted)) before.1
+                ∙ sym (counts_after-push day (firm old) so.front it none_counted))),
+            step.1
+                ∙ (ap (λ (f : Firm). after_item day f it) before.1 ∙ sym (after_items-push day (firm old) so.front it)),
+          );
+      room = below-more (turn + 1) (turn + 1 + 1) it k counts next so.room counted (omega arith);
+      kept = kept-then so.kept a.kept;
+      crash = λ is served stood.
+          let before = so.crash (a.kept.was_sure is) served stood in
+          let still = before.serves served tt in
+          let stood_still = so.kept.still_stands still (stood, tt) in
+          let made = a.crash is stood_still in
+          leave-then (λ found was. was) (λ found made. next-front more it found gives still stood made) tt before
+          (leave-as (λ fine. refl) (λ found is. is) (λ fine. (a.step (made.serves still refl) stood_still).1) made);
+    }
+
+    -- the import ends, and nothing more is applied
+    pub ended-so_far : {bytes : Option (List ℕ)} {new : B} {known : Option (List FirmLine)} (more : Told) (e : ImportEnd)
+        → e.reply ≡ counts → (stands old → FirmSound (firm old)) → IsStop e.end → (e.end ≡ stop.Done → Gives left more None)
+        → (e.end ≡ stop.Refused (refusal.BadField field.Header) → LacksHeader left)
+        → (e.end ≡ stop.Limit → IsTooLong bytes) → (e.end ≡ stop.Done → IsWithin bytes)
+        → KeepsBeside firm clean sure stands lasts refusals (counted_stop e.end) now own new known
+        → (clean new → StandsBeside firm stands now own → firm new ≡ firm now)
+        → (sure new → clean now → stands old → StandsBeside firm stands now own
+        → MayLeave clean leaves (is_stopped e.end ≡ false) (IsAfterFirst day (firm old) told) (firm now) (firm new) now new)
+        → IsImported firm clean sure stands lasts leaves refusals day told bytes e old new
+    ended-so_far {bytes} {new} {known} more e reply sound stops done lacks limit within kept same crash = record {
+      front = λ served stood.
+          let was = kept.was_clean served in
+          imports was stood (firm new) (same served (so.kept.still_stands was (stood, tt)));
+      stops = stops;
+      header = λ is. read-lacks told left so.front so.read (lacks is);
+      limit = limit;
+      within = within;
+      kept = kept-alone firm clean sure stands lasts refusals (kept-then so.kept kept);
+      crash = λ is served stood.
+          let before = so.crash (kept.was_sure is) served stood in
+          let still = before.serves served tt in
+          leave-then (λ found was. was) (λ found was. was) tt before
+          (crash is still stood (so.kept.still_stands still (stood, tt)));
+      shut = λ is served stood.
+          (firm now, imports ((so.crash (kept.was_sure is) served stood).serves served tt) stood (firm now) refl);
+    }
+      where
+        imports : clean now → stands old → (f : Firm) → f ≡ firm now → Imports day (firm old) told e f
+        imports served stood f is =
+            let step = so.step served stood in
+            record {
+              front = so.front;
+              first = read-first told left more so.front e.end so.read done;
+              leaves = is ∙ step.1;
+              counts = reply ∙ step.0;
+              own = λ m. ap (of m) (is ∙ step.1) ∙ of-after_items m day (firm old) so.front;
+              sound = always-sound day (firm old) so.front (sound stood);
+            }
+
+    -- before another item is read
+    pub ended-here : {bytes : Option (List ℕ)} (more : Told) (e : ImportEnd) → e.reply ≡ counts
+        → (stands old → FirmSound (firm old)) → ((n : ℕ) → n ≡ counted_stop e.end n) → IsStop e.end
+        → (e.end ≡ stop.Done → Gives left more None)
+        → (e.end ≡ stop.Refused (refusal.BadField field.Header) → LacksHeader left)
+        → (e.end ≡ stop.Limit → IsTooLong bytes) → (e.end ≡ stop.Done → IsWithin bytes)
+        → IsImported firm clean sure stands lasts leaves refusals day told bytes e old now
+    ended-here more e reply sound none stops done lacks limit within =
+        ended-so_far more e reply sound stops done lacks limit within
+        (kept-as (λ is stood. none (refusals now)) (kept-still (now, own))) (λ served stood. refl)
+        (λ is served stood beside. leave-still (firm now) now)
+
+    -- by a fault of the reading, or for want of memory
+    pub unread-so_far : {bytes : Option (List ℕ)} (f : ReadFault) → (stands old → FirmSound (firm old))
+        → (f ≡ reading.BadHeader → LacksHeader left) → (f ≡ reading.Limit → IsTooLong bytes)
+        → IsImported firm clean sure stands lasts leaves refusals day told bytes (record { reply = counts; end = stop_at f }) old now
+    unread-so_far reading.BadHeader sound lacks limit =
+        ended-here left (record { reply = counts; end = stop.Refused (refusal.BadField field.Header) }) refl sound (λ n. refl) (inl refl)
+        (λ is. absurd (cc)) (λ is. lacks refl) (λ is. absurd (cc)) (λ is. absurd (cc))
+    unread-so_far reading.Limit sound lacks limit =
+        ended-here left (record { reply = counts; end = stop.Limit }) refl sound (λ n. refl) tt
+        (λ is. absurd (cc)) (λ is. absurd (cc)) (λ is. limit refl) (λ is. absurd (cc))
+    unread-so_far reading.Reader sound lacks limit =
+        ended-here left (record { reply = counts; end = stop.ReadFault }) refl sound (λ n. refl) tt
+        (λ is. absurd (cc)) (λ is. absurd (cc)) (λ is. absurd (cc)) (λ is. absurd (cc))
+    unread-so_far reading.Memory sound lacks limit =
+        ended-here left (record { reply = counts; end = stop.Refused refusal.Memory }) refl sound (λ n. refl) (inr refl)
+        (λ is. absurd (cc)) (λ is. absurd (cc)) (λ is. absurd (cc)) (λ is. absurd (cc))
+
+    -- by a fault of the book, at the next item
+    pub unapplied-so_far : {bytes : Option (List ℕ)} {new : B} {known : Option (List FirmLine)} (more : Told) (it : Item)
+        (f : StoreFault) → (stands old → FirmSound (firm old)) → Gives left more (Some it)
+        → IsAppliedBeside firm clean sure stands lasts leaves refusals day it (Err f) now own new known
+        → IsImported firm clean sure stands lasts leaves refusals day told bytes
+        (record { reply = counts; end = stop.Refused (refused_by f) }) old new
+    unapplied-so_far more it f sound gives a =
+        ended-so_far more (record { reply = counts; end = stop.Refused (refused_by f) }) refl sound (inr (fault-told f))
+        (λ is. absurd (cc)) (λ is. absurd (not-header f is)) (λ is. absurd (cc)) (λ is. absurd (cc))
+        (kept-as (λ is stood. fault-counted f (refusals now)) a.kept) a.err
+        (λ is served stood beside.
+        leave-failed (λ fine. false≢true (sym fine ∙ fault-told f))
+        (λ found made. next-front more it found gives served stood made) (a.crash is beside))

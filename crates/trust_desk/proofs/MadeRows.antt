@@ -1,21 +1,7 @@
 -- What rows an import and a run make while they go on, and the replies before a fault.
-use Rattle.trust_desk.proofs.Names.{append-nil, cond_both, ◌≡◌, inl, inr, ◌∙◌, ℕ, false, List, [], ◌∷◌, ◌++◌, Option, Some, None, length, take, sym, ap, subst, unwrap_or, Firm, Item, Request, Reply, AreFront, AreNoFaults, AreNoFaultsButLast, IsAfterFirst, IsAfterNext, IsMade, IsMadeInRun, before_fault, RunsSoundly, Steps, firm_step, Heard, heard, IsAfterFront, AreRead, Told, after_item, after_items, is_fault_reply}
-use Rattle.trust_desk.proofs.ItemsRead.{after_items-push, read-more}
+use Rattle.trust_desk.proofs.Names.{append-nil, cond_both, ◌≡◌, inl, inr, ◌∙◌, ℕ, false, List, [], ◌∷◌, ◌++◌, Option, Some, None, length, take, sym, subst, unwrap_or, Firm, Item, Request, Reply, AreNoFaults, AreNoFaultsButLast, IsAfterFirst, IsMade, IsMadeInRun, before_fault, RunsSoundly, Steps, firm_step, Heard, heard, IsAfterFront, is_fault_reply}
 
 -- An import.
-
-read-front : (told left : Told) (front : List Item) → AreRead told front left → AreFront told front
-read-front None left front read = tt
-read-front (Some None) left front read = read.0
-read-front (Some (Some items)) left front read = (read.0, read.1)
-
--- the next item ends a front of the statement
-pub next-is-front : (day : ℕ) (first now found : Firm) (told left : Told) (front : List Item) → AreRead told front left → now ≡ after_items day first front → IsAfterNext day now left found → IsAfterFirst day first told found
-next-is-front day first now found told left front read is next = record {
-  front = front ++ next.item ∷ [];
-  first = read-front told next.more (front ++ next.item ∷ []) (read-more told left next.more front next.item read next.gives);
-  leaves = next.leaves ∙ (ap (λ (f : Firm). after_item day f next.item) is ∙ sym (after_items-push day first front next.item));
-}
 
 -- of the items of a statement
 pub front-of-items : (o : Option (List Item)) (day : ℕ) (firm found : Firm) → IsAfterFirst day firm (Some o) found → (rest : List Item) × IsAfterFront day firm (unwrap_or o []) rest found

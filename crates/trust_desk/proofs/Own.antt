@@ -167,3 +167,5 @@ own-run m day firm new requests i replies all same long run =
 -- a single step
 pub own-once : (m day : ℕ) (firm new : Firm) (h : Heard) (reply : Reply) → is_fault_reply reply ≡ false → Steps day firm h reply new → IsOwn m day firm (h ∷ []) (reply ∷ []) new
 own-once m day firm new h reply fine step = each-own m day firm (h ∷ []) (reply ∷ []) new ((λ concerned. fine), tt) (new, step, refl)
+
+pub ruleset own_laws = (each-own, same-for_the_matter)

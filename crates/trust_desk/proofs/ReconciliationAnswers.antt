@@ -1,10 +1,13 @@
 -- What is answered by what was kept of a firm's rows is the firm's reconciliation.
-use Rattle.trust_desk.proofs.Names.{◌≡◌, ℕ, Bool, Option, Some, None, refl, sym, ap, ◌∙◌, subst, is_none, Firm, FirmSound, ReconciliationKept, ReconciliationTold, kept_told, reconciled, reconciliation_on, IsReconciled, has_no_statement, reconciliation_report}
+use Rattle.trust_desk.proofs.Names.{◌≡◌, ℕ, Ok, Bool, Option, Some, None, refl, AreHanded, IsRead, fold, StoreFault, sym, ap, ◌∙◌, subst, is_none, Firm, FirmSound, ReconciliationKept, ReconciliationTold, kept_told, reconciled, reconciliation_on, IsReconciled, has_no_statement, reconciliation_report}
 use Rattle.std.specs.Option.{option_map}
 use Rattle.trust_reports.specs.Figures.{closing_on, figures, figures_on}
+use Rattle.firm_rows.specs.Countable.{IsBalanceInRange, IsFirmLineInRange, IsLineInRange, IsMovementInRange, IsRowInRange}
 use Rattle.trust_reports.specs.Openings.{AreClosings}
 use Rattle.trust_reports.specs.Purged.{is_period_purged}
+use Rattle.firm_figures.specs.Reconciliations.{nothing_kept, with_balance_noted, with_exception_kept, with_movement_kept, with_own_kept, with_row_kept}
 use Rattle.trust_reports.proofs.ReconciliationRows.{reconciliation-kept}
+use Rattle.trust_desk.proofs.ReportTexts.{handed-before}
 use Rattle.trust_desk.specs.Kept.{IsAnswer, IsKeptOf}
 use Rattle.trust_desk.specs.declared.desk.Reconciled.{Reconciled}
 use Rattle.trust_desk.specs.declared.desk.Reconciled.TheVariants as answer
@@ -33,3 +36,47 @@ answer-told day firm kept a sound is given =
     let told : kept_told kept ≡ reconciliation_on day firm = ap kept_told is.all ∙ law.told in
     let purged : kept.period.purged ≡ is_period_purged day firm = ap (λ (k : ReconciliationKept). k.period.purged) is.all ∙ law.purged in
     of-firm day firm a (subst (λ (o : Option ReconciliationTold). IsAnswer day o (is_period_purged day firm) a) told (subst (λ (b : Bool). IsAnswer day (kept_told kept) b a) purged given))
+
+-- The rows are handed over one kind after the other.
+
+pub rows-kept : {B T : Type 0} {firm : B → Firm} {clean sure stands lasts : B → Type 0} {leaves : B → Firm → Type 0} {refusals : B → ℕ} {a b c d e f : B} {x y z v w : T}
+    {s1 s2 s3 s4 s5 : ReconciliationKept} (day : ℕ) (s0 : ReconciliationKept) → s0 ≡ nothing_kept day
+    → IsRead firm clean sure stands lasts leaves refusals (Ok x) a b → (clean b → stands a → AreHanded {E = StoreFault} with_row_kept IsRowInRange (firm a).rows (Ok x) s0 s1)
+    → IsRead firm clean sure stands lasts leaves refusals (Ok y) b c → (clean c → stands b → AreHanded {E = StoreFault} with_movement_kept IsMovementInRange (firm b).movements (Ok y) s1 s2)
+    → IsRead firm clean sure stands lasts leaves refusals (Ok z) c d → (clean d → stands c → AreHanded {E = StoreFault} with_own_kept IsFirmLineInRange (firm c).firm_lines (Ok z) s2 s3)
+    → IsRead firm clean sure stands lasts leaves refusals (Ok v) d e → (clean e → stands d → AreHanded {E = StoreFault} with_exception_kept IsLineInRange (firm d).exceptions (Ok v) s3 s4)
+    → IsRead firm clean sure stands lasts leaves refusals (Ok w) e f → (clean f → stands e → AreHanded {E = StoreFault} with_balance_noted IsBalanceInRange (firm e).balances (Ok w) s4 s5)
+    → clean f → stands a → IsKeptOf day (firm a) s5
+rows-kept {firm} {a} day s0 none r1 h1 r2 h2 r3 h3 r4 h4 r5 h5 c5 st0 =
+    let c4 = r5.was_clean c5 in
+    let c3 = r4.was_clean c4 in
+    let c2 = r3.was_clean c3 in
+    let c1 = r2.was_clean c2 in
+    let st1 = r1.still_stands c1 st0 in
+    let st2 = r2.still_stands c2 st1 in
+    let st3 = r3.still_stands c3 st2 in
+    let st4 = r4.still_stands c4 st3 in
+    let same1 = r1.same c1 st0 in
+    let same2 = r2.same c2 st1 ∙ same1 in
+    let same3 = r3.same c3 st2 ∙ same2 in
+    let same4 = r4.same c4 st3 ∙ same3 in
+    let rows = h1 c1 st0 in
+    let movements = handed-before (λ (f : Firm). f.movements) same1 (h2 c2 st1) in
+    let lines = handed-before (λ (f : Firm). f.firm_lines) same2 (h3 c3 st2) in
+    let exceptions = handed-before (λ (f : Firm). f.exceptions) same3 (h4 c4 st3) in
+    let balances = handed-before (λ (f : Firm). f.balances) same4 (h5 c5 st4) in
+    record {
+      all = balances.all
+          ∙ ap (λ s. fold with_balance_noted s (firm a).balances) (exceptions.all
+          ∙ ap (λ s. fold with_exception_kept s (firm a).exceptions) (lines.all
+          ∙ ap (λ s. fold with_own_kept s (firm a).firm_lines) (movements.all
+          ∙ ap (λ s. fold with_movement_kept s (firm a).movements) (rows.all
+          ∙ ap (λ s. fold with_row_kept s (firm a).rows) none))));
+      countable = record {
+        rows = rows.countable;
+        movements = movements.countable;
+        firm_lines = lines.countable;
+        exceptions = exceptions.countable;
+        balances = balances.countable;
+      };
+    }

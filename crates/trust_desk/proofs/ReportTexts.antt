@@ -1,5 +1,5 @@
 -- The texts of what the sinks kept are the reports.
-use Rattle.trust_desk.proofs.Names.{◌≡◌, ℕ, List, [], ◌∷◌, ◌++◌, fold, sym, ap, ◌∙◌, append_assoc, append-nil, codes, Firm, FirmSound, JournalKept, TrialKept, no_journal, trial_kept, trial_of, trial_sum, with_moved, Retained, none_retained, with_row_retained, exception_line, exceptions_text, journal_text, retention_text, trial_text, exceptions_report, journal_report, retention_report, trial_report}
+use Rattle.trust_desk.proofs.Names.{◌≡◌, ℕ, Result, StoreFault, AreHanded, subst, List, [], ◌∷◌, ◌++◌, fold, sym, ap, ◌∙◌, append_assoc, append-nil, codes, Firm, FirmSound, JournalKept, TrialKept, no_journal, trial_kept, trial_of, trial_sum, with_moved, Retained, none_retained, with_row_retained, exception_line, exceptions_text, journal_text, retention_text, trial_text, exceptions_report, journal_report, retention_report, trial_report}
 use Rattle.std.proofs.Common.{flat_map}
 use Rattle.firm_rows.specs.Countable.{AreCountable, IsFirmLineInRange, IsMovementInRange, IsRowInRange}
 use Rattle.trust_reports.proofs.Lists.{journal-kept}
@@ -32,3 +32,8 @@ unfolding exceptions_report
 exceptions-told today firm text is =
     is
     ∙ (lines-written exception_line (exceptions_text today []) firm.exceptions ∙ ap (λ begun. begun ++ flat_map exception_line firm.exceptions) (append-nil (heading (codes "EXCEPTIONS") today)))
+
+-- what a later read hands over is of the rows that were there before the first
+pub handed-before : {S A T : Type 0} {step : S → A → S} {IsInRange : A → Type 0} {result : Result T StoreFault} {s t : S} {now old : Firm} (part : Firm → List A)
+    → now ≡ old → AreHanded step IsInRange (part now) result s t → AreHanded step IsInRange (part old) result s t
+handed-before {step} {IsInRange} {result} {s} {t} part same handed = subst (λ (f : Firm). AreHanded step IsInRange (part f) result s t) same handed

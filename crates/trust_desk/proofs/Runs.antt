@@ -35,3 +35,5 @@ run-more day first now next requests i request replies after reply lt at run ste
 pub counted-push : (rs : List Reply) (r : Reply) (n : ℕ) → counted_replies (rs ++ r ∷ []) n ≡ counted_reply r (counted_replies rs n)
 counted-push [] r n = refl
 counted-push (s ∷ rs) r n = counted-push rs r (counted_reply s n)
+
+pub ruleset run_laws = (sound-runs-are-runs)

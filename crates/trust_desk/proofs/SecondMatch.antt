@@ -1,5 +1,5 @@
 -- A second match, behind the import of what the first wrote, fills nothing.
-use Rattle.trust_desk.proofs.Names.{◌≡◌, ◌≢◌, ◌∙◌, sym, ap, subst, ℕ, zero, ◌+◌, Bool, false, List, [], ◌∷◌, ◌++◌, map, get_or, append_assoc, append-nil, Some, refl, arith, Contains, filter, flat_map, list_any, bytes_eq, cond-false, or_from, or_parts, Contains-append_right, Contains-get_or, filter-append, Line, Deposit, Payment, Entry, cleared_payment, deposit_by, Edit, changed_by, LineEffect, last_by, line_facts, line_on, told_by, Firm, of, put, FirmSound, IsInOrder, item_of_line, booking_of, is_beside, Waiting, fits, deposit_bookings, deposit_waiting, entry_bookings, entry_waiting, held_of, own_booking, payment_bookings, payment_waiting, row_bookings, row_waiting, HasMatterNumbers, with_reference, written, entry_once, wait_apart, filled_if_sure, sure_of, front_apart, stems, later, by_waiting, after_item, after_items, after_told, AreNameless, SecondMatchFillsNothing, items_of}
+use Rattle.trust_desk.proofs.Names.{◌≡◌, ◌≢◌, ◌∙◌, sym, ap, subst, ℕ, zero, Bool, false, List, [], ◌∷◌, ◌++◌, map, get_or, append_assoc, append-nil, Some, refl, arith, Contains, filter, flat_map, list_any, bytes_eq, cond-false, or_from, or_parts, Contains-append_right, Contains-get_or, filter-append, Line, Entry, cleared_payment, deposit_by, Edit, changed_by, LineEffect, last_by, line_facts, line_on, told_by, Firm, of, put, FirmSound, IsInOrder, item_of_line, booking_of, is_beside, Waiting, fits, deposit_bookings, deposit_waiting, entry_bookings, entry_waiting, held_of, own_booking, payment_bookings, payment_waiting, row_bookings, row_waiting, HasMatterNumbers, with_reference, written, entry_once, wait_apart, filled_if_sure, sure_of, front_apart, stems, later, by_waiting, after_item, after_items, after_told, AreNameless, SecondMatchFillsNothing, items_of}
 use Rattle.std.proofs.lemmas.List.Folds.{list_any-append}
 use Rattle.matter_rows.specs.declared.entry.Entry.TheVariants as entry
 use Rattle.matter_parts.specs.declared.edit.Edit.TheVariants as edit

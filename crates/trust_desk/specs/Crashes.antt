@@ -1,10 +1,9 @@
 -- What a crash may leave after each call of the desk.
-use Rattle.std.specs.Prelude.{◌≡◌, ◌⊎◌, ℕ, Bool, false, List, [], ◌∷◌, ◌++◌, Option, Some, None, Result, Ok, Err, if◌then◌else◌, ⊤}
+use Rattle.std.specs.Prelude.{◌≡◌, ◌⊎◌, ℕ, Bool, false, List, [], ◌∷◌, ◌++◌, Some, None, Result, Ok, Err, if◌then◌else◌, ⊤}
 use Rattle.trust_base.specs.Refusals.{is_fault}
 use Rattle.trust_base.specs.declared.refusal.Refusal.{Refusal}
 use Rattle.firm_rows.specs.Firm.{Firm}
 use Rattle.trust_store.specs.Crashes.{LeavesAlone}
-use Rattle.statement_csv.specs.Reading.{Gives}
 use Rattle.statement_csv.specs.declared.item.Item.{Item}
 use Rattle.trust_desk.specs.declared.importing.ImportStop.{ImportStop}
 use Rattle.trust_desk.specs.declared.importing.ImportStop.TheVariants as stop
@@ -12,7 +11,7 @@ use Rattle.trust_desk.specs.declared.requests.Reply.{Reply}
 use Rattle.trust_desk.specs.declared.requests.Request.{Request}
 use Rattle.trust_desk.specs.Heard.{Heard, Asks, Kind, OfMatter, OfItems, Dismisses, OnlyTold, NotRead, kind_of, asked_on}
 use Rattle.trust_desk.specs.Replies.{is_fault_reply}
-use Rattle.trust_desk.specs.ItemStep.{after_item, after_items}
+use Rattle.trust_desk.specs.ItemStep.{after_items}
 use Rattle.trust_desk.specs.ImportStep.{IsAfterFront}
 use Rattle.trust_desk.specs.Imports.{Told}
 use Rattle.trust_desk.specs.Dismissing.{after_dismissing}
@@ -47,24 +46,12 @@ pub record IsAfterFirst (day : ℕ) (firm : Firm) (told : Told) (found : Firm) :
   pub first : AreFront told front
   pub leaves : found ≡ after_items day firm front
 
--- the rows after the next remaining item of the statement
-pub record IsAfterNext (day : ℕ) (firm : Firm) (left : Told) (found : Firm) : Type 0 where
-  pub item : Item
-  pub more : Told
-  pub gives : Gives left more (Some item)
-  pub leaves : found ≡ after_item day firm item
-
 -- the store or lack of memory ended it
 abbrev pub is_stopped : ImportStop → Bool
 is_stopped stop.Done = false
 is_stopped (stop.Refused r) = is_fault r
 is_stopped stop.Limit = false
 is_stopped stop.ReadFault = false
-
--- an import goes on, or ended for another reason
-abbrev pub IsNotStopped : Option ImportStop → Type 0
-IsNotStopped None = ⊤
-IsNotStopped (Some end) = is_stopped end ≡ false
 
 -- the store or lack of memory stopped something that has no reply yet
 abbrev pub is_fault_end : {T : Type 0} → Result T Refusal → Bool

@@ -17,7 +17,7 @@ use Rattle.trust_desk.specs.declared.requests.MatchText.TheVariants as texts
 use Rattle.trust_desk.specs.declared.requests.Reply.{Reply}
 use Rattle.trust_desk.specs.ItemStep.{names_item}
 use Rattle.trust_desk.specs.ImportStep.{import_refusal, imported}
-use Rattle.trust_desk.specs.ReportStep.{report_for}
+use Rattle.trust_desk.specs.ReportStep.{reconciliation_for, report_for}
 use Rattle.trust_desk.specs.MatchStep.{match_text}
 
 -- a request, or a message that was refused before it became one; such a message may name a matter
@@ -57,7 +57,7 @@ kind_of (Asks (Unmatched caller statement)) = OnlyTold (match_text texts.Unmatch
 kind_of (Asks (Exceptions caller)) = OnlyTold (report_for caller report.Exceptions)
 kind_of (Asks (Trial caller)) = OnlyTold (report_for caller report.Trial)
 kind_of (Asks (Journal caller)) = OnlyTold (report_for caller report.Journal)
-kind_of (Asks (Reconcile caller day)) = OnlyTold (report_for caller (report.Reconciliation day))
+kind_of (Asks (Reconcile caller day)) = OnlyTold (reconciliation_for caller day)
 kind_of (Asks (Retention caller)) = OnlyTold (report_for caller report.Retention)
 kind_of (Asks (OwnLedger caller)) = OnlyTold (report_for caller report.OwnLedger)
 kind_of (Unread named refusal) = NotRead named refusal

@@ -1,10 +1,9 @@
 -- Why an import of a statement is refused, what its items are, and its reply.
-use Rattle.std.specs.Prelude.{◌≡◌, ◌⊎◌, ℕ, Bool, true, not, nat_lt, List, [], ◌∷◌, ◌++◌, length, Option, Some, None, is_none, unwrap_or, Result, Ok, Err}
+use Rattle.std.specs.Prelude.{◌≡◌, ◌⊎◌, ℕ, Bool, not, nat_lt, List, [], ◌∷◌, ◌++◌, length, Option, Some, None, is_none, unwrap_or, Result, Ok, Err}
 use Rattle.trust_base.specs.declared.refusal.Field.TheVariants as field
 use Rattle.trust_base.specs.declared.refusal.Rule.TheVariants as rule
 use Rattle.trust_base.specs.declared.refusal.Refusal.{Refusal}
 use Rattle.trust_base.specs.declared.refusal.Refusal.TheVariants as refusals
-use Rattle.trust_base.specs.Refusals.{is_fault}
 use Rattle.trust_matter.specs.declared.ask.Caller.{Caller}
 use Rattle.trust_matter.specs.Policy.{allows}
 use Rattle.trust_matter.specs.Step.{first}
@@ -16,7 +15,7 @@ use Rattle.matter_bodies.specs.declared.bodies.ImportReply.{ImportReply}
 use Rattle.trust_desk.specs.declared.requests.Reply.{Reply}
 use Rattle.trust_desk.specs.declared.requests.Body.TheVariants.{Json}
 use Rattle.matter_bodies.specs.Bodies.{import_body}
-use Rattle.trust_desk.specs.ItemStep.{after_items, counts_after, none_counted}
+use Rattle.trust_desk.specs.ItemStep.{after_items}
 use Rattle.trust_desk.specs.Replies.{refused}
 
 -- the caller may not ask for what concerns the firm, where no matter's seats count
@@ -67,9 +66,3 @@ pub record IsAfterFront (day : ℕ) (firm : Firm) (all rest : List Item) (new : 
   pub front : List Item
   pub parts : front ++ rest ≡ all
   pub leaves : new ≡ after_items day firm front
-
--- the counts of all items; or the store or memory stopped the import after some first items
-abbrev pub EndsItems : ℕ → Firm → List Item → Firm → Result ImportReply Refusal → Type 0
-EndsItems day firm all new (Ok counts) =
-    (counts ≡ counts_after day firm all none_counted) × (new ≡ after_items day firm all)
-EndsItems day firm all new (Err r) = (is_fault r ≡ true) × (rest : List Item) × IsAfterFront day firm all rest new

@@ -6,15 +6,15 @@ use Rattle.trust_base.specs.declared.refusal.Field.TheVariants as field
 use Rattle.trust_base.specs.declared.refusal.Refusal.TheVariants as refusal
 use Rattle.firm_rows.specs.Firm.{Firm, of}
 use Rattle.firm_rows.specs.FirmSound.{FirmSound}
-use Rattle.statement_csv.specs.Reading.{Gives}
 use Rattle.statement_csv.specs.declared.item.Item.{Item}
+use Rattle.statement_csv.specs.declared.item.ReadFault.{ReadFault}
+use Rattle.statement_csv.specs.declared.item.ReadFault.TheVariants as fault
 use Rattle.matter_bodies.specs.declared.bodies.ImportReply.{ImportReply}
-use Rattle.trust_desk.specs.declared.importing.Counted.{Counted}
 use Rattle.trust_desk.specs.declared.importing.ImportEnd.{ImportEnd}
 use Rattle.trust_desk.specs.declared.importing.ImportStop.{ImportStop}
 use Rattle.trust_desk.specs.declared.importing.ImportStop.TheVariants as stop
 use Rattle.trust_desk.specs.Counts.{counted_refusal}
-use Rattle.trust_desk.specs.ItemStep.{after_item, after_items, counted_of, count_item, counts_after, names_item, none_counted}
+use Rattle.trust_desk.specs.ItemStep.{after_item, after_items, counts_after, names_item, none_counted}
 use Rattle.trust_desk.specs.Heard.{own_of_items}
 use Rattle.trust_desk.specs.Solo.{solo_rows}
 
@@ -39,10 +39,12 @@ counted_stop (stop.Refused r) n = counted_refusal r n
 counted_stop stop.Limit n = n
 counted_stop stop.ReadFault n = n
 
--- the same if the import may go on
-abbrev pub counted_if : Option ImportStop → ℕ → ℕ
-counted_if None n = n
-counted_if (Some end) n = counted_stop end n
+-- how an import ends for a fault of the reading
+abbrev pub stop_at : ReadFault → ImportStop
+stop_at fault.BadHeader = stop.Refused (refusal.BadField field.Header)
+stop_at fault.Limit = stop.Limit
+stop_at fault.Reader = stop.ReadFault
+stop_at fault.Memory = stop.Refused refusal.Memory
 
 -- What it has done.
 
@@ -89,28 +91,8 @@ pub record AreBelow (n : ℕ) (counts : ImportReply) : Type 0 where
   pub exceptions : counts.exceptions < n
   pub unreadable : counts.unreadable < n
 
--- the item was applied and counted accordingly; the claims about the firm hold if the store is clean
-pub record CountsOne (day : ℕ) (clean : Type 0) (firm new : Firm) (it : Item)
-    (before after : ImportReply) : Type 0 where
-  pub kind : Counted
-  pub counts : after ≡ count_item it kind before
-  pub step : clean → (kind ≡ counted_of day firm it) × (new ≡ after_item day firm it)
-
--- one more item was read, applied and counted
-pub record TakesOne (day : ℕ) (clean : Type 0) (firm new : Firm) (left more : Told)
-    (before after : ImportReply) : Type 0 where
-  pub item : Item
-  pub gives : Gives left more (Some item)
-  pub counted : CountsOne day clean firm new item before after
-
 -- these items of the statement were read, and the others are left
 abbrev pub AreRead : Told → List Item → Told → Type 0
 AreRead None front left = ⊤
 AreRead (Some None) front left = (front ≡ []) × (left ≡ Some None)
 AreRead (Some (Some items)) front left = (rest : List Item) × (front ++ rest ≡ items) × (left ≡ Some (Some rest))
-
--- these items were read, applied and counted
-pub record IsAmid (day : ℕ) (clean : Type 0) (firm new : Firm) (told left : Told) (counts : ImportReply) : Type 0 where
-  pub front : List Item
-  pub read : AreRead told front left
-  pub step : clean → (counts ≡ counts_after day firm front none_counted) × (new ≡ after_items day firm front)

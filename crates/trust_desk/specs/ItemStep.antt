@@ -1,16 +1,11 @@
 -- What the items of a statement do to the firm.
-use Rattle.std.specs.Prelude.{◌≡◌, ℕ, ◌+◌, ◌==◌, Bool, false, List, [], ◌∷◌, length, Option, Some, None, Result}
+use Rattle.std.specs.Prelude.{◌≡◌, ℕ, ◌+◌, ◌==◌, Bool, false, List, [], ◌∷◌, length, Option, Some, None}
 use Rattle.trust_matter.specs.declared.bank_line.BankLine.{BankLine}
 use Rattle.trust_matter.specs.declared.line_verdict.LineEffect.{LineEffect}
 use Rattle.trust_matter.specs.declared.line_verdict.LineEffect.TheVariants as told
 use Rattle.trust_matter.specs.declared.line_verdict.LineVerdict.{LineVerdict}
 use Rattle.trust_matter.specs.declared.line_verdict.LineVerdict.TheVariants as verdict
-use Rattle.trust_matter.specs.LineStep.{LineDecides, line_on}
-use Rattle.matter_parts.specs.Parts.{Part}
-use Rattle.matter_rows.specs.Rows.{Rows}
-use Rattle.matter_rows.specs.Sound.{Sound}
-use Rattle.trust_base.specs.declared.refusal.StoreFault.{StoreFault}
-use Rattle.trust_store.specs.Named.{IsPartFor}
+use Rattle.trust_matter.specs.LineStep.{line_on}
 use Rattle.trust_base.specs.declared.line.Line.{Line}
 use Rattle.firm_rows.specs.declared.ledger.BalanceKind.{BalanceKind}
 use Rattle.firm_rows.specs.declared.ledger.BalanceKind.TheVariants as kind
@@ -84,11 +79,6 @@ abbrev pub counted_verdict : LineVerdict → Counted
 counted_verdict (verdict.Applied c) = counted.Applied
 counted_verdict verdict.Repeat = counted.Repeated
 counted_verdict (verdict.Unmatched r) = counted.Exception
-
--- the verdict on a line is that of all sound rows of its matter of which this was read, or a fault
-abbrev pub DecidesLine : Part → BankLine → ℕ → Result LineVerdict StoreFault → Type 0
-DecidesLine part l day result =
-    (rows : Rows) → Sound rows → IsPartFor rows (Some l.entry) None part → LineDecides rows l day result
 
 -- How an item relates to a matter.
 

@@ -1,5 +1,6 @@
 -- What is made for an ask before anything is written.
-use Rattle.std.specs.Prelude.{ℕ, ◌≡◌, true, List}
+use Rattle.std.specs.Prelude.{ℕ, ◌≡◌, true, List, Result, IfOk}
+use Rattle.trust_base.specs.declared.refusal.StoreFault.{StoreFault}
 use Rattle.trust_matter.specs.declared.ask.Ask.{Ask}
 use Rattle.matter_parts.specs.declared.edit.Edit.{Edit}
 use Rattle.matter_parts.specs.declared.edit.Edit.TheVariants as edit
@@ -9,6 +10,8 @@ use Rattle.matter_rows.specs.Sound.{Sound}
 use Rattle.trust_matter.specs.Conditions.{is_accounting}
 use Rattle.trust_matter.specs.Facts.{number_named}
 use Rattle.trust_matter.specs.KeptFacts.{holds_for}
+use Rattle.firm_rows.specs.Firm.{Firm, of}
+use Rattle.trust_store.specs.Calls.{IsRead}
 use Rattle.trust_desk.specs.Replies.{body_of}
 
 -- for a ledger card the part has all entries loaded
@@ -28,6 +31,12 @@ pub record IsReadFor (rows : Rows) (ask : Ask) (part : Part) : Type 0 where
   pub is_part : IsPart part rows
   pub held : holds_for part ask ≡ true
   pub whole : IsWholeForCard ask part rows
+
+-- how a read for an ask ends: the book was read, and if that is answered Ok, with what the ask needs
+pub record IsReadOf {B : Type 0} (firm : B → Firm) (clean sure stands lasts : B → Type 0) (leaves : B → Firm → Type 0)
+    (refusals : B → ℕ) (m : ℕ) (ask : Ask) (result : Result Part StoreFault) (old new : B) : Type 0 where
+  pub found : clean new → stands old → IfOk result (λ part. IsReadFor (of m (firm old)) ask part)
+  pub read : IsRead firm clean sure stands lasts leaves refusals result old new
 
 -- the status of the reply to an ask with this edit: 201 if something is made
 abbrev pub status_of_edit : Edit → ℕ

@@ -2,8 +2,7 @@
 
 ghost use Rattle.std.specs.Prelude.{◌≡◌, ℕ, IfOk, length, take, ◌<◌, ◌∷◌, [], false};
 ghost use Rattle.firm_rows.specs.Firm.{Firm, of};
-ghost use Rattle.trust_desk.specs.Kept.{IsKeptOf};
-ghost use Rattle.trust_desk.specs.Plan.{IsBodyOf, IsReadFor};
+ghost use Rattle.trust_desk.specs.Plan.{IsBodyOf};
 ghost use Rattle.trust_desk.specs.Crashes.{AreNoFaults, AreNoFaultsButLast, IsImport, IsMade, IsMadeInRun, MayLeave, before_fault};
 ghost use Rattle.trust_desk.specs.Counts.{counted_reply, counted_replies};
 ghost use Rattle.trust_desk.specs.FirmStep.{Steps, RunsSoundly, IsUnstopped, firm_step};
@@ -12,7 +11,7 @@ ghost use Rattle.trust_desk.specs.Heard.{Asks, Dismisses, Heard, OfItems, OfMatt
 ghost use Rattle.trust_store.specs.Calls.{IsRead};
 ghost use Rattle.trust_desk.specs.Isolation.{IsOwn, KeepsOthers};
 ghost use Rattle.trust_desk.specs.Replies.{is_fault_reply};
-ghost use Rattle.trust_desk.specs.ReportStep.{found_text, report_for};
+ghost use Rattle.trust_desk.specs.ReportStep.{reconciliation_for, report_for, report_text};
 ghost use Rattle.trust_desk.specs.Answered.{IsAnswered};
 ghost use Rattle.trust_desk.specs.Calls.{KeepsBook};
 ghost use Rattle.trust_desk.specs.Reports.{IsReconciled};
@@ -27,30 +26,12 @@ use matter_bodies::{entry_body, import_body, matter_body, purge_body, receipt_bo
 use std::alloc::{AllocError, Global};
 use std::marker::Model;
 use trust_base::{Day, Line, MatterNo, OwnedBytes, Refusal, Rule, StoreFault};
-use trust_matter::{Ask, Caller, Edit, Matter, decide, holds_for};
+use trust_matter::{Ask, Caller, Edit, Matter, decide};
 use trust_reports::{
     JournalSink, ReconciliationSink, RetentionSink, TrialSink, journal_text, ledger_card,
     own_card_text, reconciliation_text, retention_text, trial_text,
 };
 use trust_store::Book;
-
-// Loads what an ask needs of a matter: for a ledger card the whole matter, and for any other ask the named entries.
-fn read_for<B: Book>(
-    alloc: Global,
-    book: &mut B,
-    no: MatterNo,
-    ask: &Ask,
-) -> Result<Matter, StoreFault>
-    ensures found { B.clean book.new → B.stands book.old
-        → IfOk result (λ part. IsReadFor (of no (B.firm book.old)) ask.now part) }
-    ensures read { IsRead B.firm B.clean B.sure B.stands B.lasts B.leaves B.refusals result book.old book.new }
-{
-    if ask.is_accounting() {
-        book.matter(alloc, no)
-    } else {
-        book.matter_for(alloc, no, ask.number(), ask.fund_number())
-    }
-}
 
 // Writes the text for the reply to an ask, by the matter with the ask's change made. The entry that the ask names is
 // loaded or does not exist; if it does not, the text is empty. For a ledger card all entries are loaded.
@@ -105,10 +86,13 @@ fn answer_ask<B: Book>(
     ensures { (h : Heard) → kind_of h ≡ OfMatter no caller.now ask.now
         → IsAnswered B.firm B.clean B.sure B.stands B.lasts B.leaves B.refusals day h result book.old book.new }
 {
-    let mut matter = read_for(alloc, book, no, ask)?;
-    if !holds_for(&matter, ask) {
-        return Err(Refusal::Store);
-    }
+    // A ledger card is made of the whole matter, and any other reply of the entries that the ask names.
+    let read = if ask.is_accounting() {
+        book.matter(alloc, no)
+    } else {
+        book.matter_for(alloc, no, ask.number(), ask.fund_number())
+    };
+    let mut matter = read?;
     let change = decide(&matter, caller, ask, day)?;
     matter.apply(&change)?;
     let text = OwnedBytes::new(body_after(alloc, no, &matter, ask)?);
@@ -128,7 +112,7 @@ fn answer_ask<B: Book>(
     Ok(reply)
 }
 
-// The answer to a request for a report. Only a reconciliation can have no text.
+// Why there is no reconciliation of a day, or its text.
 #[derive(Drop)]
 enum Reconciled {
     // No closing balance of the day is on file.
@@ -139,25 +123,7 @@ enum Reconciled {
     Text(Vec<u8>),
 }
 
-// Passes all rows of a firm to the sink of a reconciliation.
-fn rows_kept<B: Book>(
-    alloc: Global,
-    day: Day,
-    book: &mut B,
-) -> Result<ReconciliationSink, StoreFault>
-    ensures kept { B.clean book.new → B.stands book.old → IfOk result (IsKeptOf day (B.firm book.old)) }
-    ensures read { IsRead B.firm B.clean B.sure B.stands B.lasts B.leaves B.refusals result book.old book.new }
-{
-    let mut sink = ReconciliationSink::new(alloc, day);
-    book.each_row(&mut sink)?;
-    book.each_movement(&mut sink)?;
-    book.each_firm_line(&mut sink)?;
-    book.each_exception(&mut sink)?;
-    book.each_balance(&mut sink)?;
-    Ok(sink)
-}
-
-// Writes the three-way reconciliation as of any day.
+// Passes all rows of a firm to a sink, and writes the three-way reconciliation as of any day.
 fn reconciliation_report<B: Book>(
     alloc: Global,
     book: &mut B,
@@ -166,7 +132,12 @@ fn reconciliation_report<B: Book>(
     ensures told { B.clean book.new → B.stands book.old → IfOk result (IsReconciled day (B.firm book.old)) }
     ensures read { IsRead B.firm B.clean B.sure B.stands B.lasts B.leaves B.refusals result book.old book.new }
 {
-    let sink = rows_kept(alloc, day, book)?;
+    let mut sink = ReconciliationSink::new(alloc, day);
+    book.each_row(&mut sink)?;
+    book.each_movement(&mut sink)?;
+    book.each_firm_line(&mut sink)?;
+    book.each_exception(&mut sink)?;
+    book.each_balance(&mut sink)?;
     let is_purged = sink.is_period_purged();
     let Some(reconciliation) = sink.finish(alloc)? else {
         return Ok(Reconciled::NoStatement);
@@ -179,7 +150,7 @@ fn reconciliation_report<B: Book>(
     Ok(Reconciled::Text(text))
 }
 
-// Returns the text of a report on a business day, or why there is none.
+// Returns the text of a report on a business day.
 //
 // Returns `Store` if the book's store failed, and `Memory` if memory ran out.
 fn find_report<B: Book>(
@@ -187,9 +158,9 @@ fn find_report<B: Book>(
     book: &mut B,
     report: Report,
     today: Day,
-) -> Result<Reconciled, StoreFault>
+) -> Result<Vec<u8>, StoreFault>
     ensures told { B.clean book.new → B.stands book.old
-        → IfOk result (λ found. found_text found ≡ report_for Caller.Cashier report today (B.firm book.old)) }
+        → IfOk result (λ text. text.items ≡ report_text report today (B.firm book.old)) }
     ensures read { IsRead B.firm B.clean B.sure B.stands B.lasts B.leaves B.refusals result book.old book.new }
 {
     let mut text = Vec::new(alloc);
@@ -197,7 +168,7 @@ fn find_report<B: Book>(
         Report::Exceptions => {
             let mut exceptions = ExceptionsSink::new(alloc, today)?;
             book.each_exception(&mut exceptions)?;
-            Ok(Reconciled::Text(exceptions.finish()))
+            Ok(exceptions.finish())
         }
         Report::Trial => {
             let mut trial = TrialSink::new(alloc);
@@ -205,25 +176,24 @@ fn find_report<B: Book>(
             book.each_firm_line(&mut trial)?;
             let balance = trial.finish();
             trial_text(today, &balance.lines, balance.own, balance.total, &mut text)?;
-            Ok(Reconciled::Text(text))
+            Ok(text)
         }
         Report::Journal => {
             let mut journal = JournalSink::new(alloc);
             book.each_movement(&mut journal)?;
             journal_text(today, &journal.finish(), &mut text)?;
-            Ok(Reconciled::Text(text))
+            Ok(text)
         }
-        Report::Reconciliation(as_of) => reconciliation_report(alloc, book, as_of),
         Report::Retention => {
             let mut retention = RetentionSink::new(alloc, today);
             book.each_row(&mut retention)?;
             retention_text(today, &retention.finish(), &mut text)?;
-            Ok(Reconciled::Text(text))
+            Ok(text)
         }
         Report::OwnLedger => {
             let ledger = book.firm(alloc)?;
             own_card_text(today, &ledger, &mut text)?;
-            Ok(Reconciled::Text(text))
+            Ok(text)
         }
     }
 }
@@ -299,16 +269,14 @@ impl<B: Book> Desk<B> {
             Request::Exceptions(caller) => self.answer_told(alloc, caller, Report::Exceptions, day),
             Request::Trial(caller) => self.answer_told(alloc, caller, Report::Trial, day),
             Request::Journal(caller) => self.answer_told(alloc, caller, Report::Journal, day),
-            Request::Reconcile(caller, as_of) => {
-                self.answer_told(alloc, caller, Report::Reconciliation(*as_of), day)
-            }
+            Request::Reconcile(caller, as_of) => self.answer_reconciliation(alloc, caller, *as_of),
             Request::Retention(caller) => self.answer_told(alloc, caller, Report::Retention, day),
             Request::OwnLedger(caller) => self.answer_told(alloc, caller, Report::OwnLedger, day),
         };
         answered.unwrap_or_else(Reply::refused)
     }
 
-    // Answers with a report of the firm, or says why it is refused. Nothing changes.
+    // Answers with a report of the firm on a business day, or says why it is refused. Nothing changes.
     fn answer_told(
         &mut self,
         alloc: Global,
@@ -322,7 +290,27 @@ impl<B: Book> Desk<B> {
         if is_not_of_firm(caller) {
             return Err(Refusal::NotAllowed(Rule::Firm));
         }
-        match find_report(alloc, &mut self.book, report, day)? {
+        let text = find_report(alloc, &mut self.book, report, day)?;
+        Ok(Reply {
+            status: 200,
+            body: Body::Text(OwnedBytes::new(text)),
+        })
+    }
+
+    // Answers with the three-way reconciliation as of a day, or says why it is refused. Nothing changes.
+    fn answer_reconciliation(
+        &mut self,
+        alloc: Global,
+        caller: &Caller,
+        as_of: Day,
+    ) -> Result<Reply, Refusal>
+        ensures { (day : ℕ) (h : Heard) → kind_of h ≡ OnlyTold (reconciliation_for caller.now as_of)
+            → IsAnswered B.firm B.clean B.sure B.stands B.lasts B.leaves B.refusals day h result self.old self.new }
+    {
+        if is_not_of_firm(caller) {
+            return Err(Refusal::NotAllowed(Rule::Firm));
+        }
+        match reconciliation_report(alloc, &mut self.book, as_of)? {
             Reconciled::Text(text) => Ok(Reply {
                 status: 200,
                 body: Body::Text(OwnedBytes::new(text)),

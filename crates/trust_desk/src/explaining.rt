@@ -4,9 +4,7 @@ ghost use Rattle.std.specs.Prelude.{◌++◌, ◌∷◌, []};
 ghost use Rattle.trust_store.specs.Calls.{IsRead};
 
 use crate::desk::Desk;
-use crate::importing::{
-    Counted, counted_by, counted_line, line_verdict, tell_of_balance, tell_of_firm_line,
-};
+use crate::importing::{Counted, counted_by, counted_line, tell_of_balance, tell_of_firm_line};
 use crate::watching::{At, ItemWatch, NotApplied};
 use csv::ByteRecord;
 use firm_rows::{BalanceKind, ExceptionSink, FirmLedger, decide_balance, decide_firm_line};
@@ -14,6 +12,7 @@ use statement_csv::{Item, read_item};
 use std::alloc::{AllocError, Global};
 use std::marker::Model;
 use trust_base::{Day, Line, StoreFault, write_amount};
+use trust_matter::decide_line;
 use trust_store::Book;
 
 // Collects the exceptions that it receives.
@@ -86,7 +85,7 @@ fn explain_item<B: Book, V: ItemWatch>(
         Item::OfMatter(line) => {
             let matter = book.matter_for(alloc, line.matter, Some(line.entry), None)?;
             // The entry is loaded, so only memory can run out.
-            let Ok(verdict) = line_verdict(&matter, line, day) else {
+            let Ok(verdict) = decide_line(&matter, line, day) else {
                 return Err(StoreFault::Memory);
             };
             let counted = counted_line(at, line, &matter, &verdict);

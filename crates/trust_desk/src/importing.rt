@@ -1,20 +1,20 @@
 //! Imports statements of the bank, item by item.
 
-ghost use Rattle.std.specs.Prelude.{◌≡◌, ◌-◌, ◌^◌, ℕ, IfNone, IfSome, None, Some, false, option_map};
+ghost use Rattle.std.specs.Prelude.{◌≡◌, ℕ, IfSome, None, Some, false, option_map};
 ghost use Rattle.std.specs.Io.KnownBytes.{Keeps};
 ghost use Rattle.trust_base.specs.declared.refusal.Field.TheVariants as field;
 ghost use Rattle.trust_base.specs.declared.refusal.Refusal.TheVariants as refusal;
 ghost use Rattle.statement_csv.specs.Items.{items};
 ghost use Rattle.statement_csv.specs.Limits.{IsTooLong, IsWithin};
-ghost use Rattle.statement_csv.specs.Reading.{Gives, LacksHeader};
+ghost use Rattle.statement_csv.specs.Reading.{LacksHeader};
 ghost use Rattle.firm_rows.specs.Firm.{Firm};
 ghost use Rattle.firm_rows.specs.FirmLines.{firm_verdict};
 ghost use Rattle.trust_desk.specs.Calls.{KeepsBook};
-ghost use Rattle.trust_desk.specs.Crashes.{IsAfterFirst, IsAfterNext, IsNotStopped, MayLeave, is_stopped};
-ghost use Rattle.trust_desk.specs.Imports.{AreBelow, Imports, IsStop, KeepsAllUnnamed, TakesOne, counted_if, counted_stop};
+ghost use Rattle.trust_desk.specs.Crashes.{IsAfterFirst, MayLeave, is_stopped};
+ghost use Rattle.trust_desk.specs.Imports.{Imports, IsStop, KeepsAllUnnamed, counted_stop, stop_at};
 ghost use Rattle.trust_desk.specs.Applied.{IsImported, IsItemApplied};
-ghost use Rattle.trust_desk.specs.Beside.{IsAppliedBeside, KeepsBeside, StandsBeside, lines_after};
-ghost use Rattle.trust_desk.specs.ItemStep.{DecidesLine, balance_item, count_item, counted_by, counted_verdict};
+ghost use Rattle.trust_desk.specs.Beside.{IsAppliedBeside, lines_after};
+ghost use Rattle.trust_desk.specs.ItemStep.{balance_item, counted_by, counted_verdict};
 
 use crate::desk::Desk;
 use crate::watching::{At, ItemWatch, NotApplied};
@@ -25,7 +25,7 @@ use std::alloc::Global;
 use std::io::Read;
 use std::marker::Brand;
 use trust_base::{Day, Field, Line, Refusal, StoreFault};
-use trust_matter::{BankLine, LineVerdict, Matter, decide_line, holds_for_line};
+use trust_matter::{BankLine, LineVerdict, Matter, decide_line};
 use trust_store::Book;
 
 /// How an item of a statement is counted.
@@ -59,47 +59,6 @@ pub enum ImportStop {
 pub struct ImportEnd {
     pub reply: ImportReply,
     pub end: ImportStop,
-}
-
-/// Decides on a line with what was loaded of its matter. Returns `Store` if the entry exists but is not loaded.
-pub(crate) fn line_verdict(
-    matter: &Matter,
-    line: &BankLine,
-    day: Day,
-) -> Result<LineVerdict, StoreFault>
-    ensures { DecidesLine matter.now line.now day result }
-{
-    // Entries are numbered from 1.
-    prove!(line.entry.get() > 0);
-    if holds_for_line(matter, line) {
-        decide_line(matter, line, day)
-    } else {
-        Err(StoreFault::Store)
-    }
-}
-
-// Counts an item. Notes the day of a closing balance that was applied or repeated.
-fn count_item(reply: &mut ImportReply, item: &Item, counted: Counted)
-    requires { AreBelow (2 ^ 64 - 1) reply.old }
-    ensures { reply.new ≡ count_item item.now counted reply.old }
-{
-    match counted {
-        Counted::Applied => reply.applied += 1,
-        Counted::Repeated => reply.repeated += 1,
-        Counted::Exception => reply.exceptions += 1,
-        Counted::Unreadable => reply.unreadable += 1,
-    }
-    match item {
-        Item::Closing(line) => match counted {
-            Counted::Applied | Counted::Repeated => reply.statement = Some(line.date),
-            Counted::Exception | Counted::Unreadable => (),
-        },
-        Item::Opening(_)
-        | Item::OfMatter(_)
-        | Item::OfFirm(_)
-        | Item::Stray(_)
-        | Item::Unreadable(_) => (),
-    }
 }
 
 /// How a line of the firm's own, or a balance, with this verdict is counted.
@@ -210,7 +169,9 @@ fn apply_item<B: Book, V: ItemWatch>(
     match item {
         Item::OfMatter(line) => {
             let matter = book.matter_for(alloc, line.matter, Some(line.entry), None)?;
-            let verdict = line_verdict(&matter, line, day)?;
+            // Entries are numbered from 1.
+            prove!(line.entry.get() > 0);
+            let verdict = decide_line(&matter, line, day)?;
             book.write_line(alloc, line, &verdict)?;
             Ok(counted_line(at, line, &matter, &verdict))
         }
@@ -290,50 +251,22 @@ fn apply_balance<B: Book, V: ItemWatch>(
     Ok(counted_by(verdict))
 }
 
-// Applies and counts the next item of a statement, or returns how the import ends. `own` is the firm's own ledger,
-// if an earlier item read it.
-fn import_next<B: Book, R: Read, V: ItemWatch, K: Whole>(
-    alloc: Global,
-    book: &mut B,
-    own: &mut Option<FirmLedger>,
-    lines: &mut Lines<R, K>,
-    day: Day,
-    at: &At<'_, V>,
-    reply: &mut ImportReply,
-) -> Option<ImportStop>
-    requires room { AreBelow (2 ^ 64 - 1) reply.old }
-    ensures takes { IfNone result
-        (TakesOne day (B.clean book.new × StandsBeside B.firm B.stands book.old own.old) (B.firm book.old)
-        (B.firm book.new) lines.old.left lines.new.left reply.old reply.new) }
-    ensures keeps { IfSome result (λ end. (reply.new ≡ reply.old)
-        × (B.clean book.new → StandsBeside B.firm B.stands book.old own.old → B.firm book.new ≡ B.firm book.old)) }
-    ensures stops { IfSome result IsStop }
-    ensures done { result ≡ Some ImportStop.Done → Gives lines.old.left lines.new.left None }
-    ensures header { result ≡ Some (ImportStop.Refused (refusal.BadField field.Header))
-        → LacksHeader lines.old.left }
-    ensures limit { result ≡ Some ImportStop.Limit → IsTooLong K.bytes }
-    ensures within { result ≡ Some ImportStop.Done → IsWithin K.bytes }
-    ensures kept { KeepsBeside B.firm B.clean B.sure B.stands B.lasts B.refusals (counted_if result)
-        book.old own.old book.new own.new }
-    ensures crash { B.sure book.new → B.clean book.old → StandsBeside B.firm B.stands book.old own.old
-        → MayLeave B.clean B.leaves
-        (IsNotStopped result) (IsAfterNext day (B.firm book.old) lines.old.left) (B.firm book.old) (B.firm book.new)
-        book.old book.new }
+// The end of an import with these counts.
+fn ended(reply: ImportReply, end: ImportStop) -> ImportEnd
+    ensures { result ≡ record { reply = reply; end = end } }
 {
-    match lines.next() {
-        Ok(Some(item)) => match apply_item(alloc, book, own, &item, day, at) {
-            Ok(counted) => {
-                count_item(reply, &item, counted);
-                tell_of_applied(at, &item, counted);
-                None
-            }
-            Err(fault) => Some(ImportStop::Refused(fault.into())),
-        },
-        Ok(None) => Some(ImportStop::Done),
-        Err(ReadFault::BadHeader) => { Some(ImportStop::Refused(Refusal::BadField(Field::Header))) }
-        Err(ReadFault::Limit) => Some(ImportStop::Limit),
-        Err(ReadFault::Reader) => Some(ImportStop::ReadFault),
-        Err(ReadFault::Memory) => Some(ImportStop::Refused(Refusal::Memory)),
+    ImportEnd { reply, end }
+}
+
+// How an import ends for a fault of the reading.
+fn stop_at(fault: ReadFault) -> ImportStop
+    ensures { result ≡ stop_at fault }
+{
+    match fault {
+        ReadFault::BadHeader => ImportStop::Refused(Refusal::BadField(Field::Header)),
+        ReadFault::Limit => ImportStop::Limit,
+        ReadFault::Reader => ImportStop::ReadFault,
+        ReadFault::Memory => ImportStop::Refused(Refusal::Memory),
     }
 }
 
@@ -362,14 +295,35 @@ fn import_whole<B: Book, R: Read + Drop, V: ItemWatch, K: Whole>(
     for turn in 0..u64::MAX {
         let number = turn.saturating_add(1);
         let at = At { number, watch };
-        if let Some(end) = import_next(alloc, book, &mut own, &mut lines, day, &at, &mut reply) {
-            return ImportEnd { reply, end };
+        let item = match lines.next() {
+            Ok(Some(item)) => item,
+            Ok(None) => return ended(reply, ImportStop::Done),
+            Err(fault) => return ended(reply, stop_at(fault)),
+        };
+        let counted = match apply_item(alloc, book, &mut own, &item, day, &at) {
+            Ok(counted) => counted,
+            Err(fault) => return ended(reply, ImportStop::Refused(fault.into())),
+        };
+        // A closing balance that is on file now has its day told.
+        let closing = match &item {
+            Item::Closing(line) => Some(line.date),
+            _ => None,
+        };
+        match counted {
+            Counted::Applied => {
+                reply.applied += 1;
+                reply.statement = closing.or(reply.statement);
+            }
+            Counted::Repeated => {
+                reply.repeated += 1;
+                reply.statement = closing.or(reply.statement);
+            }
+            Counted::Exception => reply.exceptions += 1,
+            Counted::Unreadable => reply.unreadable += 1,
         }
+        tell_of_applied(&at, &item, counted);
     }
-    ImportEnd {
-        reply,
-        end: ImportStop::Refused(Refusal::Memory),
-    }
+    ended(reply, ImportStop::Refused(Refusal::Memory))
 }
 
 impl<B: Book> Desk<B> {

@@ -10,12 +10,14 @@ ghost use Rattle.trust_desk.specs.OnceOnly.{BalanceOnce, FirmLineOnce, LineOnceO
 ghost use Rattle.trust_desk.specs.Purging.{PurgingChangesNoFigure};
 
 /// In every run, each matter's replies and its rows afterwards are those of its own machine.
+#[tactic(auto, using(crate::proofs::Own::own_laws))]
 pub fn own_machine()
     ensures { EachMatterOwn }
 {}
 
 /// Two firms with the same rows of a matter, which hear the same for it, give it the same replies and leave it with the
 /// same rows, whatever else they have and hear.
+#[tactic(auto, using(crate::proofs::Own::own_laws))]
 pub fn two_firms()
     ensures { SameForTheMatter }
 {}
@@ -23,12 +25,14 @@ pub fn two_firms()
 /// A sound firm is sound after every step and every item of an import, and no matter's ledger is ever below zero. This
 /// holds in each run of the desk, whatever amounts are asked for and whatever stopped its steps, and in the firm's own
 /// steps.
+#[tactic(auto, using(crate::proofs::AlwaysCovered::covered_laws))]
 pub fn never_below_zero()
     ensures runs { RunsNeverBelowZero }
     ensures steps { NeverBelowZero }
 {}
 
 /// A run in which the firm is sound after each step is a run, so the other laws apply to it.
+#[tactic(auto, using(crate::proofs::Runs::run_laws))]
 pub fn sound_runs_are_runs()
     ensures { SoundRunsAreRuns }
 {}
@@ -69,6 +73,7 @@ pub fn purging_changes_no_figure()
 
 /// Dismissing a line from the exceptions moves nothing: the rows of all matters, the journal, the firm's own lines and
 /// the balances are unchanged, whether it is dismissed or refused.
+#[tactic(auto, using(crate::proofs::DismissedLines::dismissed_laws))]
 pub fn dismissing_moves_nothing()
     ensures { DismissingMovesNothing }
 {}
@@ -80,18 +85,21 @@ pub fn dismissed_once()
 
 /// Each line that a match fills is applied if the output is imported on the same day into the sound firm over which it
 /// was filled, whatever was written before it and whatever became of that.
+#[tactic(auto, using(crate::proofs::FilledLines::filled_lines_are_applied))]
 pub fn filled_lines_are_applied()
     ensures { FilledLinesAreApplied }
 {}
 
 /// A line that a match fills is in the book already if the same lines are matched again after that import, on any day.
 /// It is neither filled nor written a second time.
+#[tactic(auto, using(crate::proofs::MatchedAgain::filled_lines_are_in_book))]
 pub fn filled_lines_are_in_book()
     ensures { FilledLinesAreInBook }
 {}
 
 /// If no line has a reference or is an exception under one, a second match of the same lines after that import, on the
 /// same day, fills nothing.
+#[tactic(auto, using(crate::proofs::SecondMatch::second_match_fills_nothing))]
 pub fn second_match_fills_nothing()
     ensures { SecondMatchFillsNothing }
 {}

@@ -114,7 +114,7 @@ pub(crate) fn check_import(alloc: Global, caller: &Caller, bytes: &[u8]) -> Resu
     Ok(())
 }
 
-/// A report on the whole firm.
+/// A report on the whole firm on a business day.
 #[derive(Clone, Copy)]
 pub(crate) enum Report {
     /// The unmatched bank lines.
@@ -123,8 +123,6 @@ pub(crate) enum Report {
     Trial,
     /// The journal.
     Journal,
-    /// The three-way reconciliation as of a day.
-    Reconciliation(Day),
     /// The retention list.
     Retention,
     /// The ledger card of the firm's own money.

@@ -1,6 +1,5 @@
 -- Fees and claims, as steps.
 use Rattle.trust_matter.proofs.Names.{Against, AreBacked, Ask, Caller, ClaimAsk, ClaimState, Entry, FeeAsk, HasAmount, Head, IsAmount, IsBy, IsRanged, IsRising, List, MayAdd, MayTake, None, Numbered, Option, Seat, Some, Sound, [], against_left, against_no, all-at, arith, available, available_share, claim_of, days_of, differs_from_offer, draw, edit_of, entry_at, events_of, exceeds, exceeds_claim, facts_of, false, false≢true, fee_of, has_settled, inl, inr, ints, is_another_offer, is_claim_settled, is_claim_without_offer, is_fee, is_general, is_no_claim, is_no_fee, is_none, is_offered_state, is_on_fee, is_settled, le_refl, left-drawn, left-moved, left_in, left_of, length, made-before, names, nat_tests, not, number_named, of_kind, off_fee, on_fee, on_general, other_of, part_of, pos, refl, rows-of, settled, subst, sym, target-apart, target_in, to_claimant, to_client, total-undrawn, true, with_claim, within, worth, ℕ, ◌&&◌, ◌-ℤ◌, ◌<◌, ◌∙◌, ◌≡◌, ◌≤ℤ◌, ◌≤◌}
-use Rattle.std.specs.Prelude.{◌==◌}
 use Rattle.matter_rows.specs.declared.claim.Against.TheVariants as against
 use Rattle.matter_rows.specs.declared.claim.Claim.{Claim}
 use Rattle.matter_rows.specs.declared.claim.ClaimState.TheVariants as claim
@@ -16,14 +15,7 @@ use Rattle.trust_matter.proofs.Table.{Passes}
 
 fee-may : (es : List Entry) (f : Fee) → AreBacked es → length es < 9_999 → IsAmount f.amount → pos f.amount ≤ℤ available es → MayAdd es (entry.Fee f)
 unfolding names draw worth available_share
-fee-may es f s room few enough = record {
-  room = room;
-  ranged = record { amount = few; part = tt };
-  named = refl;
-  available = omega (arith, ints, enough);
-  worth = omega (arith, ints);
-  left = left-drawn es (entry.Fee f) (λ e h. let l = s.left 0 e h in omega (arith, ints, l)) s.left;
-}
+fee-may es f s room few enough = grind (arith, ints, nat_tests, worth, left-drawn)
 
 pub step-fee : (h : Head) (seats : List Seat) (es : List Entry) (c : Caller) (a : FeeAsk) (day : ℕ) → Sound (rows-of (Some h) seats es) → HasAmount (ask.EarnFee a) → h.closed ≡ None → h.last ≤ day → Passes (facts_of (rows-of (Some h) seats es) (ask.EarnFee a)) (asked c (ask.EarnFee a) day) → Stepped (Some h) seats es (asked c (ask.EarnFee a) day) (edit_of (ask.EarnFee a) (entry_at es a.number) day)
 unfolding events_of days_of
@@ -43,20 +35,8 @@ open-claim book amount on reason = entry.Claim (record { book = book; amount = a
 
 fee-claim-may : (es : List Entry) (book amount k : ℕ) (reason : List ℕ) (o : Option Entry) → entry_at es k ≡ o → AreBacked es → length es < 9_999 → IsAmount amount → is_none o ≡ false → is_no_fee o ≡ false → exceeds amount (left_in es k o) ≡ false → MayAdd es (open-claim book amount (against.Fee k) reason)
 unfolding names draw worth available_share
-fee-claim-may es book amount k reason None at s room few there kind enough = absurd (cc)
-fee-claim-may es book amount k reason (Some x) at s room few there kind enough =
-    let fee : is_fee x ≡ true = not-false (is_fee x) kind in
-    record {
-      room = room;
-      ranged = record { amount = few; part = omega arith };
-      named = rw at fee;
-      available = let a = s.available in omega (arith, ints, a);
-      worth = omega (arith, ints);
-      left = left-drawn es (open-claim book amount (against.Fee k) reason)
-          (λ e h. let same : x ≡ e = cc in
-          let P : Entry → Type 0 = λ v. pos amount ≤ℤ left_of es k v in
-          let l = subst P same (within-left amount (left_of es k x) enough) in omega (arith, ints, l)) s.left;
-    }
+fee-claim-may es book amount k reason o at s room few there kind enough =
+    grind (arith, ints, nat_tests, is_fee, not-false, worth, left-drawn, left_of, within-left)
 
 claim-may : (es : List Entry) (book amount : ℕ) (on : Against) (reason : List ℕ) → AreBacked es → length es < 9_999 → IsAmount amount → (is_on_fee on && is_none (entry_at es (against_no on))) ≡ false → (is_on_fee on && is_no_fee (entry_at es (against_no on))) ≡ false → exceeds amount (against_left on (available es) (left_in es (against_no on) (entry_at es (against_no on)))) ≡ false → MayAdd es (open-claim book amount on reason)
 unfolding names draw worth available_share
@@ -70,8 +50,7 @@ claim-may es book amount (against.General who) reason s room few there kind enou
       worth = omega (arith, ints);
       left = left-drawn es (open-claim book amount (against.General who) reason) (λ e h. let l = s.left 0 e h in omega (arith, ints, l)) s.left;
     }
-claim-may es book amount (against.Fee k) reason s room few there kind enough =
-    fee-claim-may es book amount k reason (entry_at es k) refl s room few there kind enough
+claim-may es book amount (against.Fee k) reason s room few there kind enough = search (fee-claim-may)
 
 pub step-claim : (h : Head) (seats : List Seat) (es : List Entry) (c : Caller) (a : ClaimAsk) (day : ℕ) → Sound (rows-of (Some h) seats es) → HasAmount (ask.RaiseClaim a) → h.closed ≡ None → h.last ≤ day → Passes (facts_of (rows-of (Some h) seats es) (ask.RaiseClaim a)) (asked c (ask.RaiseClaim a) day) → Stepped (Some h) seats es (asked c (ask.RaiseClaim a) day) (edit_of (ask.RaiseClaim a) (entry_at es a.number) day)
 unfolding events_of days_of
@@ -86,38 +65,29 @@ step-claim h seats es c a day s amount unclosed later p =
 
 open-is : (s : ClaimState) (amount : ℕ) → has_settled s ≡ false
     → (to_client s ≡ pos 0) × (to_claimant s amount ≡ pos amount) × (off_fee s amount ≡ pos amount)
-open-is (claim.Settled t) amount h = absurd (cc)
-open-is s amount h = (refl, refl, omega (arith, ints))
+open-is s amount h = grind (arith, ints, nat_tests)
 
 open-unsettled : (on : Against) (s : ClaimState) → has_settled s ≡ false → (is_general on && has_settled s) ≡ false
-open-unsettled (against.General who) s h = h
-open-unsettled (against.Fee k) s h = refl
+open-unsettled on s h = grind (arith, ints, nat_tests)
 
 -- a claim with at most its amount to the client
 parts-are : (s : ClaimState) (amount : ℕ) → part_of s ≤ amount
     → (pos 0 ≤ℤ to_client s) × (to_claimant s amount ≤ℤ pos amount) × (pos 0 ≤ℤ to_claimant s amount) × (off_fee s
     amount ≤ℤ pos amount)
-parts-are claim.Open amount le = (omega (arith, ints), omega (arith, ints), omega (arith, ints), omega (arith, ints))
-parts-are s amount le = (omega (arith, ints), omega (arith, ints), omega (arith, ints, le), omega (arith, ints, le))
+parts-are s amount le = grind (arith, ints, nat_tests)
 
 -- Another state of an open claim gives no less to what is available, and takes no more from its fee.
 
 available-rises : (on : Against) (s next : ClaimState) (amount : ℕ) → has_settled s ≡ false → part_of next ≤ amount
     → (on_fee on (to_client s) -ℤ on_general on (to_claimant s amount)) ≤ℤ
     (on_fee on (to_client next) -ℤ on_general on (to_claimant next amount))
-available-rises (against.General who) s next amount h le =
-    omega (arith, ints, (open-is s amount h).1, (parts-are next amount le).1)
-available-rises (against.Fee k) s next amount h le =
-    omega (arith, ints, (open-is s amount h).0, (parts-are next amount le).0)
+available-rises on s next amount h le = grind (arith, ints, nat_tests, open-is, parts-are)
 
 draw-falls : (on : Against) (s next : ClaimState) (amount : ℕ) → has_settled s ≡ false → part_of next ≤ amount → on_fee on (off_fee next amount) ≤ℤ on_fee on (off_fee s amount)
-draw-falls (against.General who) s next amount h le = omega (arith, ints)
-draw-falls (against.Fee k) s next amount h le =
-    omega (arith, ints, (open-is s amount h).2, (parts-are next amount le).3)
+draw-falls on s next amount h le = grind (arith, ints, nat_tests, open-is, parts-are)
 
 worth-some : (on : Against) (next : ClaimState) (amount : ℕ) → part_of next ≤ amount → pos 0 ≤ℤ on_general on (to_claimant next amount)
-worth-some (against.General who) next amount le = (parts-are next amount le).2
-worth-some (against.Fee k) next amount le = omega (arith, ints)
+worth-some on next amount le = grind (arith, ints, nat_tests, parts-are)
 
 abbrev with-state : Claim → ClaimState → Entry
 with-state d state = entry.Claim (record d { state = state })
@@ -175,17 +145,13 @@ step-split h seats es c q n day d next number other at s unclosed later unsettle
 
 pub step-unsettled : (h : Head) (seats : List Seat) (es : List Entry) (c : Caller) (q : Ask) (n day : ℕ) (next : ClaimState) (o : Option Entry) → number_named q ≡ n → ((e : Option Entry) → other_of q e ≡ target_in e) → AreDays day next → entry_at es n ≡ o → Sound (rows-of (Some h) seats es) → h.closed ≡ None → h.last ≤ day → is_none o ≡ false → is_no_claim o ≡ false → is_claim_settled o ≡ false → exceeds_claim o (part_of next) ≡ false → Stepped (Some h) seats es (asked c q day) (with_claim n o next)
 step-unsettled h seats es c q n day next (Some (entry.Claim d)) number other days at s unclosed later there kind state split =
-    step-split h seats es c q n day d next number other at s unclosed later state
-    (not-before d.amount (part_of next) split) days
+    search (step-split, not-before)
 step-unsettled h seats es c q n day next o number other days at s unclosed later there kind state split = absurd (cc)
 
 -- An offer that is accepted: its part is that of the claim.
 
 offered-is : (s : ClaimState) (part : ℕ) → not (is_offered_state s) ≡ false → is_another_offer s part ≡ false → s ≡ claim.Offered part
-offered-is (claim.Offered offered) part h g =
-    let yes : (offered == part) ≡ true = not-false (offered == part) g in
-    let same : offered ≡ part = grind (arith, nat_tests) in rw same refl
-offered-is s part h g = absurd (cc)
+offered-is s part h g = grind (arith, ints, nat_tests, not-false)
 
 pub step-accept : (h : Head) (seats : List Seat) (es : List Entry) (c : Caller) (a : SplitAsk) (day : ℕ) (o : Option Entry) → entry_at es a.number ≡ o → Sound (rows-of (Some h) seats es) → h.closed ≡ None → h.last ≤ day → is_none o ≡ false → is_no_claim o ≡ false → is_claim_without_offer o ≡ false → differs_from_offer o a.to_client ≡ false → Stepped (Some h) seats es (asked c (ask.Accept a) day) (with_claim a.number o (settled day a.to_client))
 step-accept h seats es c a day (Some (entry.Claim d)) at s unclosed later there kind state split =

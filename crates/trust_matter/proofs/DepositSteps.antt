@@ -1,5 +1,5 @@
 -- Deposits, as steps.
-use Rattle.trust_matter.proofs.Names.{AllByRecursion, AreBacked, Caller, Deposit, DepositAsk, DepositState, Entry, HasAmount, Head, IsBy, IsRanged, List, MayTake, MovesWithin, None, Numbered, Option, ReturnedDeposit, Seat, Some, Sound, [], all-at, ap, arith, available, available_share, cancelled, cleared_deposit, days_of, deposit-may, deposit_bank, deposit_days, deposit_of, draw, entry_at, events_of, false, inl, ints, is_deposit_not_held, is_fee, is_no_deposit, is_none, is_settled, le_refl, left-moved, length, made-before, names, of_kind, paid_out, pos, refl, rows-of, subst, target-apart, total-undrawn, within, worth, ℕ, ◌++◌, ◌+ℤ◌, ◌+◌, ◌-ℤ◌, ◌<◌, ◌∷◌, ◌≡◌, ◌≤ℤ◌, ◌≤◌}
+use Rattle.trust_matter.proofs.Names.{AreBacked, Caller, Deposit, DepositAsk, DepositState, Entry, HasAmount, Head, IsBy, IsRanged, List, MayTake, MovesWithin, None, Numbered, Option, ReturnedDeposit, Seat, Some, Sound, [], all-at, arith, available, available_share, cancelled, cleared_deposit, days_of, deposit-may, deposit_bank, deposit_days, deposit_of, draw, entry_at, events_of, false, inl, ints, is_deposit_not_held, is_fee, is_no_deposit, is_none, is_settled, le_refl, left-moved, length, made-before, names, of_kind, paid_out, pos, refl, rows-of, target-apart, total-undrawn, within, worth, ℕ, ◌+ℤ◌, ◌+◌, ◌-ℤ◌, ◌<◌, ◌∷◌, ◌≡◌, ◌≤ℤ◌, ◌≤◌}
 use Rattle.matter_rows.specs.declared.clearing.Clearing.{Clearing}
 use Rattle.matter_rows.specs.declared.deposit.DepositState.TheVariants as deposit
 use Rattle.matter_rows.specs.declared.entry.Entry.TheVariants as entry
@@ -23,8 +23,7 @@ abbrev with-state : Deposit → DepositState → Entry
 with-state d state = entry.Deposit (record d { state = state })
 
 cleared-some : (s : DepositState) (amount : ℕ) → pos 0 ≤ℤ cleared_deposit s amount
-cleared-some deposit.Held amount = omega (arith, ints)
-cleared-some s amount = omega (arith, ints)
+cleared-some s amount = grind (arith, ints)
 
 -- it may be in a state that leaves what is available above zero
 other-may : (es : List Entry) (n : ℕ) (d : Deposit) (state : DepositState) → AreBacked es → entry_at es n ≡ Some (entry.Deposit d) → pos 0 ≤ℤ ((available es -ℤ cleared_deposit d.state d.amount) +ℤ cleared_deposit state d.amount) → MayTake es n (entry.Deposit d) (with-state d state)
@@ -58,20 +57,12 @@ returned-may es n d c r s at cleared covered = other-may es n d (deposit.Returne
 -- a return takes the amount out again
 pub returning-moves : (es : List Entry) (n last : ℕ) (d : Deposit) (c : Clearing) (r : ReturnedDeposit) → entry_at es n ≡ Some (entry.Deposit d) → d.state ≡ deposit.Cleared c → last ≤ r.undone → MovesWithin es (edit.Exchange (record { number = n; entry = with-state d (deposit.Returned r) })) last r.undone
 unfolding events_of
-returning-moves es n last d c r at cleared later =
-    exchange-moves es (record { number = n; entry = with-state d (deposit.Returned r) }) last r.undone
-    (paid_out r.undone d.amount ∷ []) (rw (at, cleared) refl) (later, le_refl r.undone)
+returning-moves es n last d c r at cleared later = grind (arith, ints, exchange-moves, paid_out, le_refl)
 
 -- the days of a deposit that is taken back
 pub returned-by : (d : Deposit) (c : Clearing) (r : ReturnedDeposit) (last : ℕ) → d.state ≡ deposit.Cleared c → r.clearing ≡ c → IsBy last (entry.Deposit d) → last ≤ r.undone → r.returning.bank_day ≤ r.undone → IsBy r.undone (with-state d (deposit.Returned r))
 unfolding days_of
-returned-by d c r last cleared same by later back =
-    let P : DepositState → Type 0 = λ s. AllByRecursion (λ i. i ≤ last) (d.book ∷ (deposit_days s ++ deposit_bank s)) in
-    let days : (d.book ≤ last) × ((c.bank_day ≤ last) × Unit {0}) = subst P cleared by in
-    let book = days.0 in
-    let cleared_on = days.1.0 in
-    let bank : r.clearing.bank_day ≡ c.bank_day = ap (λ (x : Clearing). x.bank_day) same in
-    (omega (arith, book, later), (omega arith, (omega (arith, cleared_on, bank, later), (back, tt))))
+returned-by d c r last cleared same by later back = grind (arith, ints, deposit_days, deposit_bank)
 
 pub step-cancel : (h : Head) (seats : List Seat) (es : List Entry) (c : Caller) (n day : ℕ) (o : Option Entry) → entry_at es n ≡ o → Sound (rows-of (Some h) seats es) → h.closed ≡ None → h.last ≤ day → is_none o ≡ false → is_no_deposit o ≡ false → is_deposit_not_held o ≡ false → Stepped (Some h) seats es (asked c (ask.CancelDeposit n) day) (cancelled n o day)
 unfolding events_of days_of

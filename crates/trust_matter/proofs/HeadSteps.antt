@@ -29,12 +29,7 @@ apart-seats (s ∷ ss) p order none =
     ] refl
 
 seat-more : (ss : List Seat) (new : Seat) → AreInOrder ss → role_in ss new.person ≡ None → HasOneMore ss new (seats_with ss new)
-seat-more ss new order none = record {
-  before = filter (λ s. comes_before s.person new.person) ss;
-  behind = filter (λ s. comes_before new.person s.person) ss;
-  were = apart-seats ss new.person order none;
-  are = refl;
-}
+seat-more ss new order none = search ((apart-seats ss new.person order none))
 
 -- One seat less.
 
@@ -56,9 +51,7 @@ another p q h =
 none-dropped : (ss : List Seat) (p q : List ℕ) → bytes_eq p q ≡ true → AllByRecursion (λ t. comes_before p t.person ≡ true) ss → seats_without ss q ≡ ss
 none-dropped [] p q same h = refl
 none-dropped (s ∷ ss) p q same h =
-    let P : List ℕ → Type 0 = λ r. bytes_eq s.person r ≡ false in
-    let no : bytes_eq s.person q ≡ false = subst P (same-person p q same) (another p s.person h.0) in
-    rw no (ap (λ l. s ∷ l) (none-dropped ss p q same h.1))
+    search ((same-person p q same), (another p s.person h.0), (none-dropped ss p q same h.1))
 
 -- the seat of a person, among the others
 record IsAmong (ss : List Seat) (p : List ℕ) : Type 0 where

@@ -1,5 +1,5 @@
 -- Behind the last number no entry is made.
-use Rattle.trust_matter.proofs.Names.{is_some, ◌≡◌, ℕ, Bool, true, false, cond, List, [], ◌∷◌, length, refl, sym, ◌∙◌, rules, Option, Some, None, false≢true, Refusal, next_number, is_repeat, misses, number_made, Asked, Facts, facts_of, TellsNoNumber, FullTakesNone, first, conditions, early_conditions}
+use Rattle.trust_matter.proofs.Names.{is_some, ◌≡◌, ℕ, Bool, true, false, cond, List, [], ◌∷◌, refl, sym, rules, Option, Some, None, false≢true, Refusal, next_number, is_repeat, misses, number_made, Asked, Facts, facts_of, TellsNoNumber, FullTakesNone, first, conditions, early_conditions}
 use Rattle.trust_matter.proofs.Table.{passes}
 
 -- none of these tells a number
@@ -19,16 +19,10 @@ table-tells : (f : Facts) (a : Asked) → next_number f.count ≡ None → TellN
 table-tells f a h = search (rules, h)
 
 missed : (next : Option ℕ) (o : Option ℕ) → next ≡ None → is_some o ≡ true → misses next o ≡ true
-missed next None h g = absurd (false≢true g)
-missed next (Some n) h g = rw h refl
+missed next o h g = search (rules, false≢true)
 
 tells : (b : Bool) (f : Facts) (a : Asked) → b ≡ false → next_number f.count ≡ None → is_some (number_made a.ask) ≡ true → TellsNoNumber (first (cond b (early_conditions f a) (conditions f a)))
-tells true f a h none makes = absurd (false≢true (sym h))
-tells false f a h none makes =
-    first-tells (conditions f a) (table-tells f a none)
-    (λ g. false≢true (sym (passes f a g).next ∙ missed (next_number f.count) (number_made a.ask) none makes))
+tells b f a h none makes = grind (rules, false≢true, first-tells, table-tells, passes, missed)
 
 pub full-takes-none : FullTakesNone
-full-takes-none rows a full makes new =
-    let f = facts_of rows a.ask in
-    tells (is_repeat f a) f a new (none-next (length rows.entries) full) makes
+full-takes-none rows a full makes new = search (rules, facts_of, tells, is_repeat, none-next)

@@ -38,9 +38,7 @@ early-first false false true false rule ys r h = let P : Refusal → Type 0 = λ
 -- what the early conditions refuse is refused
 pub early-refused : (m : Part) (c : Caller) (a : Ask) (day : ℕ) (r : Refusal) → first (early_conditions (kept_facts m a) (asked c a 0)) ≡ Some r → AnswersBy (kept_facts m a) (asked c a day) (Err r)
 early-refused m c a day r h =
-    let f = kept_facts m a in
-    let q = asked c a day in
-    early-first (has_no_seat f q) (was_purged f q) (is_not_allowed f q) (is_repeat f q) (rule_of a) (later_conditions f q) r h
+    search (early-first, has_no_seat, was_purged, is_not_allowed, is_repeat, rule_of, later_conditions)
 
 -- what an error hands up
 pub handed-up : {T E : Type 0} (P : Result T E → Type 0) (r : Result T E) (x : E) → IsErr r → IsErrAnd r (λ y. y ≡ x) → P (Err x) → P r

@@ -1,5 +1,5 @@
 -- What is decided of a line on what is kept is decided on the rows.
-use Rattle.trust_matter.proofs.Names.{AreSmallTotals, BankLine, DatedEdit, EditMoved, Entry, Head, IsApplied, IsLineDecided, IsMade, IsPart, LineEffect, LineFacts, MatterChange, None, Option, Part, Reason, Rows, Some, Sound, TotalsAfter, ap, arith, common_steps, dated_by, entry_at, entry_in, false, first_reason, held-entry, holds_for_line, is_held, is_held_or_none, is_line_again, kept_at, kept_line_facts, line_effect, line_on, never-store, pos, reasons, refl, subst, sym, target, target_in, true, ℕ, ℤ, ◌∙◌, ◌≡◌}
+use Rattle.trust_matter.proofs.Names.{AreSmallTotals, BankLine, DatedEdit, EditMoved, Entry, Head, IsApplied, IsLineDecided, IsMade, IsPart, LineEffect, LineFacts, MatterChange, None, Option, Part, Reason, Rows, Some, Sound, TotalsAfter, ap, arith, common_steps, dated_by, entry_at, entry_in, false, first_reason, held-entry, holds_for_line, is_held, is_held_or_none, is_line_again, kept_at, kept_line_facts, line_effect, line_on, never-store, reasons, refl, subst, sym, target_in, true, ℕ, ℤ, ◌∙◌, ◌≡◌}
 use Rattle.trust_matter.specs.declared.line_verdict.LineEffect.TheVariants as told
 use Rattle.trust_matter.proofs.LineSteps.{applied-step}
 use Rattle.trust_matter.proofs.Parts.{both, made-is}
@@ -10,9 +10,7 @@ kept_edit m l today = line_effect (kept_line_facts m l today)
 
 -- the number is held, or is none
 held-or-none : (m : Part) (l : BankLine) → holds_for_line m l.entry ≡ true → is_held_or_none m l.entry ≡ true
-held-or-none m l h =
-    let held = (both (is_held m l.entry) (is_held_or_none m (target_in (entry_in (kept_at m l.entry)))) h).0 in
-    grind (arith, common_steps, held)
+held-or-none m l h = grind (arith, common_steps, both, is_held, target_in)
 
 -- the entry by what is kept is that of the rows
 entry-same : (m : Part) (rows : Rows) (l : BankLine) → holds_for_line m l.entry ≡ true → IsPart m rows → entry_in (kept_at m l.entry) ≡ entry_at rows.entries l.entry
@@ -24,11 +22,7 @@ facts-of head l today e a = record { head = head; number = l.entry; entry = e; a
 -- what becomes of the line by what is kept is what becomes of it by the rows
 line-same : (m : Part) (rows : Rows) (l : BankLine) (today : ℕ) → holds_for_line m l.entry ≡ true → IsPart m rows
     → kept_edit m l today ≡ line_on rows l today
-line-same m rows l today h p =
-    let a : ℤ = pos m.figures.available in
-    ap (λ (head : Option Head). line_effect (facts-of head l today (entry_in (kept_at m l.entry)) a)) p.head
-    ∙ ap (λ (e : Option Entry). line_effect (facts-of rows.head l today e a)) (entry-same m rows l h p)
-    ∙ ap (λ (z : ℤ). line_effect (facts-of rows.head l today (entry_at rows.entries l.entry) z)) p.figures.available
+line-same m rows l today h p = grind (arith, line_effect, entry-same)
 
 -- the change made of an applied line is one of the rows
 pub line-made : (m : Part) (l : BankLine) (today : ℕ) (d : DatedEdit) (c : MatterChange) → holds_for_line m l.entry ≡ true → told.Applied d ≡ kept_edit m l today → IsMade m d.edit d.last c → (rows : Rows) → Sound rows → IsPart m rows → IsLineDecided rows l today c

@@ -30,9 +30,7 @@ pub record IsMatched (f : LineFacts) : Type 0 where
   pub covered : is_uncovered f ≡ false
 
 applied-is : (b : Bool) (r : Option Reason) (e f : DatedEdit) → cond b told.Repeat (matched r e) ≡ told.Applied f → (b ≡ false) × (r ≡ None) × (e ≡ f)
-applied-is true r e f h = absurd (cc)
-applied-is false (Some r) e f h = absurd (cc)
-applied-is false None e f h = (refl, refl, let same : told.Applied e ≡ told.Applied f = h in cc)
+applied-is b r e f h = grind (arith, ints)
 
 -- what is known where a line is applied
 pub applied-matched : (f : LineFacts) (d : DatedEdit) → line_effect f ≡ told.Applied d → IsMatched f × (dated_by f ≡ d)
@@ -45,13 +43,11 @@ applied-matched f d h =
 
 held-least : (e : Entry) → pos 0 ≤ℤ held_share e
 unfolding held_share
-held-least (entry.Deposit d) = elim d.state as (λ s. pos 0 ≤ℤ held_deposit s d.amount) [ deposit.Held ↦ omega (arith, ints) | _ ↦ omega (arith, ints) ]
-held-least e = omega (arith, ints)
+held-least e = grind (arith, ints, held_deposit)
 
 pending-least : (e : Entry) → pos 0 ≤ℤ pending_share e
 unfolding pending_share
-pending-least (entry.Payment p) = elim p.state as (λ s. pos 0 ≤ℤ pending_payment s) [ payment.Proposed ↦ omega (arith, ints) | _ ↦ omega (arith, ints) ]
-pending-least e = omega (arith, ints)
+pending-least e = grind (arith, ints, pending_payment)
 
 -- money that is held, or a payment that waits
 abbrev Waits : Entry → Type 0
@@ -61,24 +57,17 @@ Waits e = (pos 1 ≤ℤ held_share e) ⊎ (pos 1 ≤ℤ pending_share e)
 waits-unclosed : (h : Head) (closed : Option ℕ) (es : List Entry) (n : ℕ) (e : Entry) → AreBacked es → entry_at es n ≡ Some e → Waits e → IsAtRestIfClosed h closed es → closed ≡ None
 waits-unclosed h None es n e s at waits rest = refl
 waits-unclosed h (Some day) es n e s at (inl some) rest =
-    let in_hold = total-within held_share es n e held-least at in
-    let total = (sound-covered es s).total in
-    absurd (omega (arith, ints, some, in_hold, total, rest.empty))
+    grind (arith, ints, (total-within held_share es n e held-least), held-least, (sound-covered es s))
 waits-unclosed h (Some day) es n e s at (inr some) rest =
-    let in_all = total-within pending_share es n e pending-least at in
-    absurd (omega (arith, ints, some, in_all, rest.none_waits))
+    grind (arith, ints, (total-within pending_share es n e pending-least), pending-least)
 
 held-waits : (es : List Entry) (n : ℕ) (d : Deposit) → AreBacked es → entry_at es n ≡ Some (entry.Deposit d) → d.state ≡ deposit.Held → Waits (entry.Deposit d)
 unfolding held_share
-held-waits es n d s at held =
-    let a = (all-at IsRanged es n (entry.Deposit d) s.ranged at).amount in
-    inl (rw held (omega (arith, ints, a)))
+held-waits es n d s at held = grind (arith, ints, all-at)
 
 issued-waits : (p : Payment) → is_issued_state p.state ≡ true → Waits (entry.Payment p)
 unfolding pending_share
-issued-waits p h =
-    inr (elim p.state as (λ s. is_issued_state s ≡ true → pos 1 ≤ℤ pending_payment s)
-    [ payment.Issued day ↦ λ _. omega (arith, ints) | _ ↦ λ g. absurd (false≢true g) ] h)
+issued-waits p h = grind (arith, ints, pending_payment, false≢true)
 
 -- A payment that a line has cleared.
 
@@ -88,8 +77,7 @@ cleared-by-line line p = entry.Payment (record p { state = cleared_payment line 
 cleared-same : (line : Line) (s : PaymentState) (a : ℕ)
     → (paid (cleared_payment line s) a ≡ paid s a) × (payments (cleared_payment line s) a ≡ payments s
     a) × (payment_days (cleared_payment line s) ≡ payment_days s)
-cleared-same line payment.Proposed a = (refl, refl, refl)
-cleared-same line s a = (refl, refl, refl)
+cleared-same line s a = grind (arith, ints)
 
 -- a payment may be cleared
 payment-may : (es : List Entry) (n : ℕ) (line : Line) (p : Payment) → AreBacked es → entry_at es n ≡ Some (entry.Payment p) → MayTake es n (entry.Payment p) (cleared-by-line line p)
@@ -109,9 +97,7 @@ clearing-moves es n last day old new at same =
     exchange-moves es (record { number = n; entry = new }) last day [] none tt
 
 later-by : (line : Line) (s : PaymentState) (a b : ℕ) → a ≤ b → line.date ≤ b → AllByRecursion (λ d. d ≤ a) (payment_days s ++ payment_bank s) → AllByRecursion (λ d. d ≤ b) (payment_days (cleared_payment line s) ++ payment_bank (cleared_payment line s))
-later-by line payment.Proposed a b later seen h = tt
-later-by line (payment.Issued day) a b later seen h = (let i = h.0 in omega (arith, later, i), (seen, tt))
-later-by line s a b later seen h = up-to a b (payment_days s ++ payment_bank s) later h
+later-by line s a b later seen h = grind (arith, ints, up-to)
 
 -- what is known of the line of a cleared deposit
 record IsTakenBack (h : Head) (es : List Entry) (d : Deposit) (line : Line) (today : ℕ) : Type 0 where
@@ -120,23 +106,11 @@ record IsTakenBack (h : Head) (es : List Entry) (d : Deposit) (line : Line) (tod
   covered : pos d.amount ≤ℤ available es
 
 taken-back : (h : Head) (es : List Entry) (d : Deposit) (line : Line) (today : ℕ) (b : Bool) → has_amount_back d line ≡ b → not b ≡ false → (b && (nat_lt today h.last || exceeds d.amount (available es))) ≡ false → IsTakenBack h es d line today
-taken-back h es d line today false is state covered = absurd (cc)
-taken-back h es d line today true is state covered =
-    let both = either-false (nat_lt today h.last) (exceeds d.amount (available es)) covered in
-    record { back = is; later = not-before today h.last both.0; covered = within-left d.amount (available es) both.1 }
+taken-back h es d line today b is state covered = grind (arith, ints, either-false, not-before, within-left)
 
 -- a matter in which something is available is not closed
 available-unclosed : (h : Head) (closed : Option ℕ) (es : List Entry) → AreBacked es → pos 1 ≤ℤ available es → IsAtRestIfClosed h closed es → closed ≡ None
-available-unclosed h None es s some rest = refl
-available-unclosed h (Some day) es s some rest =
-    let c = sound-covered es s in
-    let sum = c.sum in
-    let held = c.held in
-    let disputed = c.disputed in
-    let fees = c.fees in
-    let claims = c.claims in
-    let empty = rest.empty in
-    absurd (omega (arith, ints, some, sum, held, disputed, fees, claims, empty))
+available-unclosed h closed es s some rest = grind (arith, ints, sound-covered)
 
 -- the step of a deposit in a state
 abbrev DepositStep : Head → List Seat → List Entry → BankLine → ℕ → Deposit → DepositState → Type 0

@@ -1,13 +1,12 @@
 -- What a part of rows is decided on is what the rows are.
-use Rattle.trust_matter.proofs.Names.{AllByRecursion, AreFigures, Ask, Bool, Edit, Entry, Facts, Head, IsMade, IsPart, IsStepOf, List, MatterChange, Option, Part, Rows, Seat, Sound, ap, arith, change-is, entry_at, entry_in, facts_of, false, first, held-entry, holds_for, ints, is_held_or_none, kept_at, kept_facts, ledger, left_in, names, number_named, other_of, pos, refl, total-covered, total_kept, true, ℕ, ℤ, ◌&&◌, ◌+◌, ◌∙◌, ◌≡◌}
+use Rattle.trust_matter.proofs.Names.{AllByRecursion, AreFigures, Ask, Bool, Edit, Entry, Facts, Head, IsMade, IsPart, IsStepOf, List, MatterChange, Option, Part, Rows, Seat, Sound, ap, arith, change-is, entry_at, entry_in, facts_of, false, held-entry, holds_for, ints, is_held_or_none, kept_at, kept_facts, ledger, left_in, names, number_named, other_of, pos, refl, total-covered, total_kept, true, ℕ, ℤ, ◌&&◌, ◌+◌, ◌∙◌, ◌≡◌}
 use Rattle.matter_parts.specs.Changes.{IsChange}
 
 abbrev facts : Option Head → List Seat → ℕ → ℤ → ℤ → ℤ → Option Entry → Option Entry → ℤ → Facts
 facts h s n a b w e o l = record { head = h; seats = s; count = n; available = a; ledger = b; pending = w; entry = e; other = o; left = l }
 
 pub both : (a b : Bool) → (a && b) ≡ true → (a ≡ true) × (b ≡ true)
-both true b h = (refl, h)
-both false b h = cc
+both a b h = grind (arith, ints)
 
 facts-alike : (h h' : Option Head) (s s' : List Seat) (n n' : ℕ) (a a' b b' w w' : ℤ) (e e' : Option Entry) (o o' : Option Entry) (l l' : ℤ) →
     h ≡ h' → s ≡ s' → n ≡ n' → a ≡ a' → b ≡ b' → w ≡ w' → e ≡ e' → o ≡ o' → l ≡ l' →
@@ -17,15 +16,11 @@ facts-alike h h' s s' n n' a a' b b' w w' e e' o o' l l' p1 p2 p3 p4 p5 p6 p7 p8
 -- a change that is made of an edit of the rows is one of them
 pub made-is : (m : Part) (rows : Rows) (t n last : ℕ) (e : Edit) (c : MatterChange) → IsPart m rows → Sound rows
     → IsStepOf rows t n e last → IsMade m e last c → IsChange rows c
-made-is m rows t n last e c p s step made =
-    change-is m rows t n c p s (rw (made.of_edit, made.on_day) step) (rw made.of_edit made.moved)
-    (rw made.of_edit made.movement)
+made-is m rows t n last e c p s step made = grind (arith, ints, (change-is m rows t n c p s))
 
 -- the ledger by the totals is the ledger added up anew
 ledger-same : (m : Part) (es : List Entry) → AllByRecursion (λ e. names es e ≡ true) es → AreFigures m.figures es → pos (total_kept m.figures + m.figures.held) ≡ ledger es
-ledger-same m es named f =
-    let t = total-covered es named in
-    omega (arith, ints, t, f.held, f.available, f.disputed, f.fees, f.claims)
+ledger-same m es named f = grind (arith, ints, total-covered)
 
 -- the facts by what is kept are the facts by the rows
 pub facts-same : (m : Part) (rows : Rows) (ask : Ask) → AllByRecursion (λ e. names rows.entries e ≡ true) rows.entries → IsPart m rows → holds_for m ask ≡ true → kept_facts m ask ≡ facts_of rows ask

@@ -1,5 +1,5 @@
 -- Payments, as steps.
-use Rattle.trust_matter.proofs.Names.{AllByRecursion, AreBacked, AreDated, AreRising, Caller, Entry, Event, Fund, HasAmount, Head, IsAmount, IsBy, IsRanged, IsRising, List, MayAdd, MayTake, MovesWithin, None, Numbered, Option, Payment, PaymentAsk, PaymentState, Seat, Some, Sound, [], all-at, ap, arith, available, available_share, days_of, draw, edit_of, entry_at, events_in, events_of, exceeds, facts_of, false, from_general, fund_left, fund_no, funds, has_settled, inr, ints, is_an_entry, is_fee, is_general, is_issued_state, is_no_fund, is_no_fund_yet, is_no_payment, is_none, is_payment_not_issued, is_payment_not_proposed, is_proposed_state, is_settled, is_short_payment, le_refl, left-drawn, left-moved, left_in, left_of, length, made-before, names, nat_tests, negsuc, not, of_kind, paid, paid_out, payment_bank, payment_days, payment_of, payments, pos, received, refl, rows-of, subst, sym, target-apart, target_in, total-undrawn, true, voided, with_payment, within, worth, ℕ, ℤ, ◌&&◌, ◌++◌, ◌+ℤ◌, ◌-ℤ◌, ◌<◌, ◌∷◌, ◌≡◌, ◌≤ℤ◌, ◌≤◌}
+use Rattle.trust_matter.proofs.Names.{AreBacked, AreDated, Caller, Entry, Event, Fund, HasAmount, Head, IsAmount, IsBy, IsRanged, IsRising, List, MayAdd, MayTake, MovesWithin, None, Numbered, Option, Payment, PaymentAsk, PaymentState, Seat, Some, Sound, [], all-at, ap, arith, available, available_share, days_of, draw, edit_of, entry_at, events_in, events_of, exceeds, facts_of, false, from_general, fund_left, fund_no, funds, has_settled, inr, ints, is_an_entry, is_fee, is_general, is_issued_state, is_no_fund, is_no_fund_yet, is_no_payment, is_none, is_payment_not_issued, is_payment_not_proposed, is_proposed_state, is_settled, is_short_payment, le_refl, left-drawn, left-moved, left_in, left_of, length, made-before, names, nat_tests, negsuc, not, of_kind, paid, paid_out, payment_bank, payment_days, payment_of, payments, pos, received, refl, rows-of, subst, sym, target-apart, target_in, total-undrawn, true, voided, with_payment, within, worth, ℕ, ℤ, ◌&&◌, ◌++◌, ◌+ℤ◌, ◌-ℤ◌, ◌<◌, ◌∷◌, ◌≡◌, ◌≤ℤ◌, ◌≤◌}
 use Rattle.matter_rows.specs.declared.entry.Entry.TheVariants as entry
 use Rattle.matter_rows.specs.declared.payment.Fund.TheVariants as fund
 use Rattle.matter_rows.specs.declared.payment.PaymentState.TheVariants as payment
@@ -10,38 +10,24 @@ use Rattle.trust_matter.proofs.Table.{Passes}
 
 -- what does not exceed is at most what is left
 pub within-left : (a : ℕ) (z : ℤ) → exceeds a z ≡ false → pos a ≤ℤ z
-within-left a (pos n) h = let le : a ≤ n = grind (arith, nat_tests) in omega (arith, ints, le)
-within-left a (negsuc n) h = absurd (cc)
+within-left a z h = grind (arith, ints, nat_tests)
 
 from-zero : (f : Fund) → from_general f (pos 0) ≡ pos 0
-from-zero fund.General = refl
-from-zero f = refl
+from-zero f = grind (arith, ints, nat_tests)
 
 from-some : (f : Fund) (a : ℕ) → pos 0 ≤ℤ from_general f (pos a)
-from-some fund.General a = omega (arith, ints)
-from-some f a = omega (arith, ints)
+from-some f a = grind (arith, ints, nat_tests)
 
 -- A proposal.
 
 -- the fund that passes the table is a fee, or a settled claim on the general fund
 funded : (es : List Entry) (f : Fund) (o : Option Entry) → entry_at es (fund_no f) ≡ o → (is_an_entry f && is_none o) ≡ false → is_no_fund f o ≡ false → is_no_fund_yet f o ≡ false → funds es f ≡ true
-funded es fund.General o at there kind state = refl
-funded es (fund.Fee k) (Some e) at there kind state = rw at (not-false (is_fee e) kind)
-funded es (fund.Claim k) (Some (entry.Claim c)) at there kind state =
-    rw at (rw (not-false (is_general c.against) kind) (not-false (has_settled c.state) state))
-funded es f o at there kind state = absurd (cc)
+funded es f o at there kind state = grind (arith, ints, nat_tests, not-false, is_fee, is_general, has_settled)
 
 -- it draws nothing yet
 proposed-may : (es : List Entry) (a : PaymentAsk) (day : ℕ) → AreBacked es → length es < 9_999 → IsAmount a.amount → funds es a.fund ≡ true → MayAdd es (payment_of a day)
 unfolding names draw worth available_share
-proposed-may es a day s room amount there = record {
-  room = room;
-  ranged = record { amount = amount; part = tt };
-  named = there;
-  available = let b = s.available in omega (arith, ints, b, from-zero a.fund);
-  worth = omega (arith, ints);
-  left = left-drawn es (payment_of a day) (λ e h. let l = s.left (fund_no a.fund) e h in omega (arith, ints, l)) s.left;
-}
+proposed-may es a day s room amount there = grind (arith, ints, nat_tests, from-zero, worth, left-drawn)
 
 pub step-propose : (h : Head) (seats : List Seat) (es : List Entry) (c : Caller) (a : PaymentAsk) (day : ℕ) → Sound (rows-of (Some h) seats es) → HasAmount (ask.Propose a) → h.closed ≡ None → h.last ≤ day → Passes (facts_of (rows-of (Some h) seats es) (ask.Propose a)) (asked c (ask.Propose a) day) → Stepped (Some h) seats es (asked c (ask.Propose a) day) (edit_of (ask.Propose a) (entry_at es a.number) day)
 unfolding events_of days_of
@@ -87,27 +73,18 @@ restating-moves : (es : List Entry) (n last day : ℕ) (p : Payment) (state : Pa
     → MovesWithin es (edit.Exchange (record { number = n; entry = with-state p state })) last day
 unfolding events_of
 restating-moves es n last day p state more at is within =
-    let was : events_in (entry_at es n) ≡ payments p.state p.amount = rw at refl in
-    exchange-moves es (record { number = n; entry = with-state p state }) last day more (rw was is) within
+    grind (arith, ints, nat_tests, events_in, exchange-moves, within)
 
 -- An approval.
 
 paid-general : (es : List Entry) (f : Fund) (a : ℕ) (left : ℤ) → exceeds a (fund_left f (available es) left) ≡ false → pos 0 ≤ℤ available es → pos 0 ≤ℤ (available es -ℤ from_general f (pos a))
-paid-general es fund.General a left h s = let w = within-left a (available es) h in omega (arith, ints, w)
-paid-general es f a left h s = omega (arith, ints, s)
+paid-general es f a left h s = grind (arith, ints, nat_tests, within-left)
 
 paid-left : (es : List Entry) (f : Fund) (a : ℕ) → exceeds a (fund_left f (available es) (left_in es (fund_no f) (entry_at es (fund_no f)))) ≡ false → (e : Entry) → entry_at es (fund_no f) ≡ Some e → pos a ≤ℤ left_of es (fund_no f) e
-paid-left es fund.General a h e g = absurd (let some = within es 0 e g in omega (arith, some))
-paid-left es (fund.Fee k) a h e g =
-    let l = within-left a (left_in es k (entry_at es k)) h in
-    let m : pos a ≤ℤ left_in es k (Some e) = rw g at l in m
-paid-left es (fund.Claim k) a h e g =
-    let l = within-left a (left_in es k (entry_at es k)) h in
-    let m : pos a ≤ℤ left_in es k (Some e) = rw g at l in m
+paid-left es f a h e g = grind (arith, ints, nat_tests, within, within-left)
 
 proposed-is : (s : PaymentState) → not (is_proposed_state s) ≡ false → s ≡ payment.Proposed
-proposed-is payment.Proposed h = refl
-proposed-is s h = absurd (cc)
+proposed-is s h = grind (arith, ints, nat_tests)
 
 pub step-approve : (h : Head) (seats : List Seat) (es : List Entry) (c : Caller) (n day : ℕ) (o : Option Entry) → entry_at es n ≡ o → Sound (rows-of (Some h) seats es) → h.closed ≡ None → h.last ≤ day → is_none o ≡ false → is_no_payment o ≡ false → is_payment_not_proposed o ≡ false → is_short_payment o (available es) (left_in es (target_in o) (entry_at es (target_in o))) ≡ false → Stepped (Some h) seats es (asked c (ask.Approve n) day) (with_payment n o (λ _. payment.Issued day))
 unfolding days_of
@@ -148,14 +125,10 @@ taken-back issued day = payment.Voided (record { issued = issued; undone = day }
 -- an issued payment was issued between its making and the last day
 issued-within : (h : Head) (p : Payment) (issued : ℕ) → p.state ≡ payment.Issued issued → IsBy h.last (entry.Payment p) → IsRising (entry.Payment p) → (p.book ≤ issued) × (issued ≤ h.last)
 unfolding days_of
-issued-within h p issued was by rising =
-    let Q : PaymentState → Type 0 = λ s. AreRising p.book (payment_days s) in
-    let P : PaymentState → Type 0 = λ s. AllByRecursion (λ d. d ≤ h.last) (p.book ∷ (payment_days s ++ payment_bank s)) in
-    ((subst Q was rising).0, (subst P was by).1.0)
+issued-within h p issued was by rising = grind (arith, ints, nat_tests, payment_days, payment_bank)
 
 issued-is : (s : PaymentState) → not (is_issued_state s) ≡ false → (issued : ℕ) × (s ≡ payment.Issued issued)
-issued-is (payment.Issued day) h = (day, refl)
-issued-is s h = absurd (cc)
+issued-is s h = grind (arith, ints, nat_tests)
 
 void-issued : (h : Head) (seats : List Seat) (es : List Entry) (c : Caller) (n day issued : ℕ) (p : Payment) → entry_at es n ≡ Some (entry.Payment p) → Sound (rows-of (Some h) seats es) → h.closed ≡ None → h.last ≤ day → p.state ≡ payment.Issued issued → Stepped (Some h) seats es (asked c (ask.VoidPayment n) day) (edit.Exchange (record { number = n; entry = with-state p (taken-back issued day) }))
 unfolding days_of

@@ -23,11 +23,7 @@ first-is ((false, q) ∷ cs) r h =
     record { before = (false, q) ∷ rest.before; behind = rest.behind; table = ap (λ ds. (false, q) ∷ ds) rest.table; none_before = (refl, rest.none_before) }
 
 pub first-reason : FirstReason
-first-reason rows l today r h =
-    let f = line_facts rows l today in
-    first-is (reasons f) r (told-is (is_line_again f.entry f.line) (first_reason (reasons f)) (dated_by f) r h)
+first-reason rows l today r h = search (line_facts, first-is, reasons, told-is, is_line_again, dated_by)
 
 pub no-reason : NoReason
-no-reason rows l today h =
-    let f = line_facts rows l today in
-    none-hold (reasons f) (none-told (is_line_again f.entry f.line) (first_reason (reasons f)) (dated_by f) h)
+no-reason rows l today h = search (line_facts, none-hold, reasons, none-told, is_line_again, dated_by)

@@ -1,5 +1,5 @@
 -- What was made stays, and what a line cleared stays cleared, so that an ask that comes again is a repeat.
-use Rattle.trust_matter.proofs.Names.{ALine, Against, AnAsk, Ask, Asked, BankLine, Bool, Caller, DatedEdit, Deposit, DepositState, Doing, Edit, Entry, Fund, Grows, Head, IsExchange, Line, LineEffect, LinesLeaveMade, List, MadeStays, MadeStaysOrGoes, None, Option, PaymentState, Refusal, Rows, Some, [], after, after_doing, after_line_effect, ap, append-nil, append_assoc, arith, as_made, bytes_eq, bytes_eq-Decides, changed_by, claim_of, cleared_payment, comes_again, common_steps, cond, conditions, deposit_by, deposit_of, early_conditions, edit_of, edit_on, entry_at, entry_at-append, entry_at-with, eqb, facts_of, false, false≢true, fee_of, first, has_amount_back, has_its_amount, head_after, inl, inr, is_deposit_cleared_by, is_deposit_returned_by, is_held_state, is_in_another_state_for, is_issued_state, is_line_again, is_not_yet_closed_for, is_payment_cleared_by, is_proposed_state, is_purged, is_purging, is_repeat, is_same_against, is_same_fund, is_some, last_after, last_by, length, line_facts, line_on, made_in, map, map-with, misses, nat_tests, next_number, none-past, not, number_made, number_named, option_map, payment_of, refl, refusal, rows_after, subst, sym, told_by, true, with_entry, ℕ, ⊎_elim, ◌&&◌, ◌++◌, ◌+◌, ◌-◌, ◌<◌, ◌==◌, ◌||◌, ◌∙◌, ◌∷◌, ◌≡◌, ◌⊎◌}
+use Rattle.trust_matter.proofs.Names.{ALine, Against, AnAsk, Ask, Asked, BankLine, Bool, Caller, DatedEdit, Deposit, DepositState, Doing, Edit, Entry, Fund, Grows, Head, IsExchange, Line, LineEffect, LinesLeaveMade, List, MadeStays, MadeStaysOrGoes, None, Option, PaymentState, Refusal, Rows, Some, [], after, after_doing, after_line_effect, ap, append-nil, append_assoc, arith, as_made, bytes_eq, bytes_eq-Decides, changed_by, claim_of, cleared_payment, comes_again, common_steps, cond, conditions, deposit_by, deposit_of, early_conditions, edit_of, edit_on, entry_at, entry_at-append, entry_at-with, eqb, facts_of, false, false≢true, fee_of, first, has_amount_back, has_its_amount, head_after, inl, is_deposit_cleared_by, is_deposit_returned_by, is_held_state, is_in_another_state_for, is_issued_state, is_line_again, is_not_yet_closed_for, is_payment_cleared_by, is_proposed_state, is_purged, is_purging, is_repeat, is_same_against, is_same_fund, is_some, last_after, last_by, length, line_facts, line_on, made_in, map, map-with, misses, nat_tests, next_number, none-past, not, number_made, number_named, option_map, payment_of, refl, refusal, rows_after, subst, sym, told_by, true, with_entry, ℕ, ◌&&◌, ◌++◌, ◌+◌, ◌-◌, ◌==◌, ◌||◌, ◌∙◌, ◌∷◌, ◌≡◌, ◌⊎◌}
 use Rattle.std.proofs.lemmas.List.{map-append}
 use Rattle.matter_rows.specs.declared.claim.Against.TheVariants as against
 use Rattle.matter_rows.specs.declared.deposit.DepositState.TheVariants as deposit
@@ -22,46 +22,21 @@ pub record Leaves (rows later : Rows) : Type 0 where
       → is_line_again (entry_at later.entries n) line ≡ true
 
 pub same-leaves : (rows later : Rows) → later.entries ≡ rows.entries → Leaves rows later
-same-leaves rows later same = record {
-  grows = ([], ap (λ es. map as_made es) same ∙ sym (append-nil (made_in rows)));
-  cleared = λ line n h. ap (λ es. is_line_again (entry_at es n) line) same ∙ h;
-}
+same-leaves rows later same = grind (arith, nat_tests, append-nil, made_in)
 
 pub further : (a b c : Rows) → Leaves a b → Leaves b c → Leaves a c
-further a b c g h =
-    let front = ap (λ xs. xs ++ h.grows.0) g.grows.1 ∙ append_assoc (made_in a) g.grows.0 h.grows.0 in
-    record {
-      grows = (g.grows.0 ++ h.grows.0, h.grows.1 ∙ front);
-      cleared = λ line n is. h.cleared line n (g.cleared line n is);
-    }
+further a b c g h = grind (arith, nat_tests, append_assoc, made_in)
 
 -- all is left, or the matter was purged
 abbrev pub LeavesOrGoes : Rows → Rows → Type 0
 LeavesOrGoes rows later = Leaves rows later ⊎ (is_purged later.head ≡ true)
 
 append-keeps : (line : Line) (es : List Entry) (x : Entry) (n : ℕ) → is_line_again (entry_at es n) line ≡ true → is_line_again (entry_at (es ++ x ∷ []) n) line ≡ true
-append-keeps line es x n h =
-    rw (entry_at-append es x n)
-    (elim (eqb n (length es + 1)) as (λ b. eqb n (length es + 1) ≡ b → is_line_again (cond b (Some x) (entry_at es n)) line ≡ true) [
-      | true ↦ λ s.
-          let past : length es < n = grind (arith, nat_tests) in
-          let g : is_line_again None line ≡ true = rw (none-past es n past) at h in
-          absurd (false≢true g)
-      | false ↦ λ s. h
-    ] refl)
+append-keeps line es x n h = grind (arith, nat_tests, entry_at-append, eqb, none-past, false≢true)
 
 -- an entry may be exchanged for one of which the line is a repeat where it was one of the old
 with-keeps : (line : Line) (es : List Entry) (k : ℕ) (old new : Entry) → entry_at es k ≡ Some old → (is_line_again (Some old) line ≡ true → is_line_again (Some new) line ≡ true) → (n : ℕ) → is_line_again (entry_at es n) line ≡ true → is_line_again (entry_at (with_entry es k new) n) line ≡ true
-with-keeps line es k old new at keeps n h =
-    rw (entry_at-with es k old new n at)
-    (elim (eqb n k) as (λ b. eqb n k ≡ b → is_line_again (cond b (Some new) (entry_at es n)) line ≡ true) [
-      | true ↦ λ s.
-          let same : n ≡ k = grind (arith, nat_tests) in
-          let P : ℕ → Type 0 = λ i. is_line_again (entry_at es i) line ≡ true in
-          let g : is_line_again (entry_at es k) line ≡ true = subst P same h in
-          keeps (sym (ap (λ o. is_line_again o line) at) ∙ g)
-      | false ↦ λ s. h
-    ] refl)
+with-keeps line es k old new at keeps n h = grind (arith, nat_tests, (entry_at-with es k old new n), (eqb n k))
 
 -- the edit takes no entry away; an exchanged one was made as before, and the lines that were repeats of it still are
 abbrev LeavesIn : List Entry → Edit → Type 0
@@ -72,10 +47,8 @@ LeavesIn es (edit.Clear day) = ⊥
 LeavesIn es _ = Unit {0}
 
 edit-leaves : (rows : Rows) (e : Edit) (last : ℕ) → LeavesIn rows.entries e → Leaves rows (changed_by e last rows)
-edit-leaves rows (edit.Append x) last is = record {
-  grows = (as_made x.entry ∷ [], map-append as_made rows.entries (x.entry ∷ []));
-  cleared = λ line n h. append-keeps line rows.entries x.entry n h;
-}
+edit-leaves rows (edit.Append x) last is =
+    grind (arith, nat_tests, (map-append as_made rows.entries (x.entry ∷ [])), append-keeps)
 edit-leaves rows (edit.Exchange x) last is =
     let same = map-with as_made rows.entries x.number is.0 x.entry is.1.there is.1.same in
     record {
@@ -91,36 +64,28 @@ again-in d line s = (is_deposit_cleared_by s line && has_its_amount (entry.Depos
 
 -- of what is not cleared no line is a repeat
 held-not : (d : Deposit) (line : Line) (s : DepositState) (c : Bool) → not (is_held_state s) ≡ false → again-in d line s ≡ true → c ≡ true
-held-not d line deposit.Held c h g = absurd (false≢true g)
-held-not d line s c h g = absurd (false≢true (sym h))
+held-not d line s c h g = grind (arith, nat_tests, false≢true)
 
 proposed-not : (line : Line) (s : PaymentState) (a c : Bool) → not (is_proposed_state s) ≡ false
     → (is_payment_cleared_by s line && a) ≡ true → c ≡ true
-proposed-not line payment.Proposed a c h g = absurd (false≢true g)
-proposed-not line s a c h g = absurd (false≢true (sym h))
+proposed-not line s a c h g = grind (arith, nat_tests, false≢true)
 
 issued-not : (line : Line) (s : PaymentState) (a c : Bool) → not (is_issued_state s) ≡ false
     → (is_payment_cleared_by s line && a) ≡ true → c ≡ true
-issued-not line (payment.Issued day) a c h g = absurd (false≢true g)
-issued-not line s a c h g = absurd (false≢true (sym h))
+issued-not line s a c h g = grind (arith, nat_tests, false≢true)
 
 -- an ask that finds its entry in the state that it needs
 ask-leaves : (es : List Entry) (a : Ask) (o other : Option Entry) (day : ℕ) → entry_at es (number_named a) ≡ o
     → is_purging a ≡ false → is_in_another_state_for a o other ≡ false → LeavesIn es (edit_of a o day)
 ask-leaves es (ask.CancelDeposit n) (Some (entry.Deposit d)) other day at stays state =
     (entry.Deposit d, record { there = at; same = refl }, λ line. held-not d line d.state _ state)
-ask-leaves es (ask.Approve n) (Some (entry.Payment p)) other day at stays state =
-    (entry.Payment p, record { there = at; same = refl }, λ line. proposed-not line p.state _ _ state)
-ask-leaves es (ask.Decline n) (Some (entry.Payment p)) other day at stays state =
-    (entry.Payment p, record { there = at; same = refl }, λ line. proposed-not line p.state _ _ state)
+ask-leaves es (ask.Approve n) (Some (entry.Payment p)) other day at stays state = grind (arith, nat_tests, proposed-not)
+ask-leaves es (ask.Decline n) (Some (entry.Payment p)) other day at stays state = grind (arith, nat_tests, proposed-not)
 ask-leaves es (ask.VoidPayment n) (Some (entry.Payment p)) other day at stays state =
     (entry.Payment p, record { there = at; same = refl }, λ line. issued-not line p.state _ _ state)
-ask-leaves es (ask.Offer a) (Some (entry.Claim c)) other day at stays state =
-    (entry.Claim c, record { there = at; same = refl }, λ line h. h)
-ask-leaves es (ask.Accept a) (Some (entry.Claim c)) other day at stays state =
-    (entry.Claim c, record { there = at; same = refl }, λ line h. h)
-ask-leaves es (ask.Award a) (Some (entry.Claim c)) other day at stays state =
-    (entry.Claim c, record { there = at; same = refl }, λ line h. h)
+ask-leaves es (ask.Offer a) (Some (entry.Claim c)) other day at stays state = grind (arith, nat_tests)
+ask-leaves es (ask.Accept a) (Some (entry.Claim c)) other day at stays state = grind (arith, nat_tests)
+ask-leaves es (ask.Award a) (Some (entry.Claim c)) other day at stays state = grind (arith, nat_tests)
 ask-leaves es a o other day at stays state = first_of (assumption, cc)
 
 -- no ask but the purging takes an entry away
@@ -138,9 +103,7 @@ decided-leaves rows a false stays none =
 after-leaves : (rows : Rows) (a : Asked) (r : Option Refusal) → refusal rows a ≡ r → is_purging a.ask ≡ false
     → Leaves rows (after r (edit_on rows a) a.day rows)
 after-leaves rows a (Some r) is stays = same-leaves rows rows refl
-after-leaves rows a None is stays =
-    edit-leaves rows (edit_on rows a) (last_after rows.head (edit_on rows a) a.day)
-    (decided-leaves rows a (is_repeat (facts_of rows a.ask) a) stays is)
+after-leaves rows a None is stays = search (edit-leaves, last_after, decided-leaves)
 
 pub made-stays : MadeStays
 made-stays rows a stays = (after-leaves rows a (refusal rows a) refl stays).grows
@@ -148,57 +111,36 @@ made-stays rows a stays = (after-leaves rows a (refusal rows a) refl stays).grow
 -- What purges.
 
 purging-goes : (a : Ask) (e : Option Entry) (day last : ℕ) (o : Option Head) → is_purging a ≡ true → is_not_yet_closed_for a o ≡ false → is_purged (head_after o (edit_of a e day) last) ≡ true
-purging-goes ask.Purge e day last None is closed = absurd (false≢true (sym closed))
-purging-goes ask.Purge e day last (Some h) is closed = refl
-purging-goes a e day last head is closed = absurd (false≢true is)
+purging-goes a e day last o is closed = grind (arith, nat_tests, false≢true)
 
 either-goes : (b : Bool) (rows : Rows) (a : Asked) (last : ℕ) → is_purging a.ask ≡ true
     → first (cond b (early_conditions (facts_of rows a.ask) a) (conditions (facts_of rows a.ask) a)) ≡ None
     → LeavesOrGoes rows (changed_by (cond b edit.Nothing (edit_of a.ask (entry_at rows.entries (number_named a.ask))
     a.day)) last rows)
 either-goes true rows a last is none = inl (same-leaves rows rows refl)
-either-goes false rows a last is none =
-    let f = facts_of rows a.ask in
-    inr (purging-goes a.ask f.entry a.day last rows.head is (either-false (is_not_yet_closed_for a.ask rows.head)
-    (is_in_another_state_for a.ask f.entry f.other) (passes f a none).state).0)
+either-goes false rows a last is none = grind (arith, nat_tests, purging-goes, either-false, passes)
 
 after-goes : (rows : Rows) (a : Asked) (r : Option Refusal) (b : Bool) → refusal rows a ≡ r → is_purging a.ask ≡ b
     → LeavesOrGoes rows (after r (edit_on rows a) a.day rows)
 after-goes rows a r false none is = inl (after-leaves rows a r none is)
 after-goes rows a (Some r) true none is = inl (same-leaves rows rows refl)
-after-goes rows a None true none is =
-    either-goes (is_repeat (facts_of rows a.ask) a) rows a (last_after rows.head (edit_on rows a) a.day) is none
+after-goes rows a None true none is = grind (arith, nat_tests, either-goes, last_after)
 
 pub made-stays-or-goes : MadeStaysOrGoes
-made-stays-or-goes rows a =
-    ⊎_elim
-    (λ (l : Leaves rows (rows_after rows a)). inl l.grows)
-    (λ (gone : is_purged (rows_after rows a).head ≡ true). inr gone)
-    (after-goes rows a (refusal rows a) (is_purging a.ask) refl refl)
+made-stays-or-goes rows a = grind (arith, nat_tests, after-goes)
 
 -- Lines.
 
 -- a deposit that is taken back keeps its clearing
 deposit-keeps : (line by : Line) (today : ℕ) (d : Deposit) (s : DepositState) → again-in d line s ≡ true → again-in d line (deposit_by by today s) ≡ true
-deposit-keeps line by today d deposit.Held h = absurd (false≢true h)
-deposit-keeps line by today d (deposit.Cleared c) h = grind (arith, common_steps)
-deposit-keeps line by today d s h = h
+deposit-keeps line by today d s h = grind (arith, nat_tests, common_steps, false≢true)
 
 paid-keeps : (line by : Line) (a : Bool) (s : PaymentState) → (is_payment_cleared_by s line && a) ≡ true → (is_payment_cleared_by (cleared_payment by s) line && a) ≡ true
-paid-keeps line by a (payment.Issued day) h = absurd (false≢true h)
-paid-keeps line by a s h = h
+paid-keeps line by a s h = grind (arith, nat_tests, false≢true)
 
 told-leaves : (es : List Entry) (n : ℕ) (by : Line) (today : ℕ) (o : Option Entry) → entry_at es n ≡ o
     → LeavesIn es (told_by n o by today)
-told-leaves es n by today (Some (entry.Deposit d)) at =
-    (entry.Deposit d, record { there = at; same = refl }, λ line. deposit-keeps line by today d d.state)
-told-leaves es n by today (Some (entry.Payment p)) at = (
-  entry.Payment p,
-  record { there = at; same = refl },
-  λ line. paid-keeps line by
-      (has_its_amount (entry.Payment p) line) p.state,
-)
-told-leaves es n by today o at = tt
+told-leaves es n by today o at = grind (arith, nat_tests, deposit-keeps, paid-keeps, has_its_amount)
 
 line-leaves : (rows : Rows) (l : BankLine) (today : ℕ) (e : LineEffect) → line_on rows l today ≡ e
     → Leaves rows (after_line_effect e rows)
@@ -220,25 +162,15 @@ doing-leaves rows (ALine l today) = inl (line-leaves rows l today (line_on rows 
 
 entry_at-map : (f : Entry → Entry) (es : List Entry) (n : ℕ) → entry_at (map f es) n ≡ option_map f (entry_at es n)
 entry_at-map f [] n = refl
-entry_at-map f (e ∷ es) n =
-    elim (eqb n 1) as (λ b. cond b (Some (f e)) (entry_at (map f es) (n - 1)) ≡ option_map f (cond b (Some e) (entry_at es (n - 1)))) [
-      | true ↦ refl
-      | false ↦ entry_at-map f es (n - 1)
-    ]
+entry_at-map f (e ∷ es) n = grind (arith, nat_tests, eqb, (entry_at-map f es (n - 1)))
 
 -- what is as asked is told by what was made
 
 asked-none : (q : Ask) → comes_again q None ≡ false
-asked-none (ask.Deposit a) = refl
-asked-none q = refl
+asked-none q = grind (arith, nat_tests)
 
 asked-made : (q : Ask) (o : Option Entry) → comes_again q (option_map as_made o) ≡ comes_again q o
-asked-made q None = refl
-asked-made (ask.Deposit a) (Some (entry.Deposit d)) = refl
-asked-made (ask.Propose a) (Some (entry.Payment p)) = refl
-asked-made (ask.EarnFee a) (Some (entry.Fee f)) = refl
-asked-made (ask.RaiseClaim a) (Some (entry.Claim c)) = refl
-asked-made q (Some e) = refl
+asked-made q o = grind (arith, nat_tests)
 
 asked-by : (q : Ask) (es : List Entry) (n : ℕ)
     → comes_again q (entry_at (map as_made es) n) ≡ comes_again q (entry_at es n)
@@ -247,11 +179,7 @@ asked-by q es n = ap (comes_again q) (entry_at-map as_made es n) ∙ asked-made 
 asked-front : (q : Ask) (xs ys : List Entry) (n : ℕ) → comes_again q (entry_at xs n) ≡ true
     → comes_again q (entry_at (xs ++ ys) n) ≡ true
 asked-front q [] ys n h = absurd (false≢true (sym (asked-none q) ∙ h))
-asked-front q (x ∷ xs) ys n h =
-    elim (eqb n 1) as (λ b. comes_again q (cond b (Some x) (entry_at xs (n - 1))) ≡ true → comes_again q (cond b (Some x) (entry_at (xs ++ ys) (n - 1))) ≡ true) [
-      | true ↦ λ g. g
-      | false ↦ λ g. asked-front q xs ys (n - 1) g
-    ] h
+asked-front q (x ∷ xs) ys n h = grind (arith, nat_tests, eqb, (asked-front q xs ys (n - 1)))
 
 asked-stays : (q : Ask) (rows later : Rows) (n : ℕ) → Grows rows later → comes_again q (entry_at rows.entries n) ≡ true
     → comes_again q (entry_at later.entries n) ≡ true
@@ -273,13 +201,10 @@ pub same-bytes : (bs : List ℕ) → bytes_eq bs bs ≡ true
 same-bytes bs = (bytes_eq-Decides bs bs).1 refl
 
 same-fund : (f : Fund) → is_same_fund f f ≡ true
-same-fund fund.General = refl
-same-fund (fund.Fee k) = same-amount k
-same-fund (fund.Claim k) = same-amount k
+same-fund f = grind (arith, nat_tests, same-amount)
 
 same-against : (g : Against) → is_same_against g g ≡ true
-same-against (against.General who) = same-bytes who
-same-against (against.Fee k) = same-amount k
+same-against g = grind (arith, nat_tests, same-bytes, same-amount)
 
 makes : (q : Ask) (day : ℕ) → is_some (number_made q) ≡ true → Makes q day
 makes (ask.Deposit a) day some =

@@ -1,6 +1,5 @@
 -- Sound rows stay sound at every accepted ask.
-use Rattle.trust_matter.proofs.Names.{Ask, Asked, Bool, Caller, Entry, HasAmount, Head, List, None, Option, Refusal, Rows, Seat, Some, Sound, SoundForEver, after, comes_again, cond, conditions, early_conditions, edit_of, edit_on, entry_at, facts_of, false, false≢true, first, is_opening, is_repeat, is_some, last_after, length, number_named, refl, refusal, role_in, rows-of, settled, sym, true, ℕ, ◌≡◌}
-use Rattle.matter_rows.specs.declared.claim.ClaimState.TheVariants as claim
+use Rattle.trust_matter.proofs.Names.{Ask, Asked, Bool, Caller, Entry, HasAmount, Head, List, None, Option, Refusal, Rows, Seat, Some, Sound, SoundForEver, after, comes_again, cond, conditions, early_conditions, edit_of, edit_on, entry_at, facts_of, false, false≢true, first, is_opening, is_repeat, is_some, last_after, number_named, refl, refusal, role_in, rows-of, settled, sym, true, ℕ, ◌≡◌}
 use Rattle.matter_parts.specs.declared.edit.Edit.TheVariants as edit
 use Rattle.trust_matter.specs.declared.ask.Ask.TheVariants as ask
 use Rattle.trust_matter.proofs.Table.{Passes, passes}
@@ -14,14 +13,11 @@ step-made : (head : Option Head) (seats : List Seat) (es : List Entry) (c : Call
 step-made None seats es c (ask.OpenMatter o) day s amount p = step-unclosed seats es c o day s
 step-made None seats es c a day s amount p = absurd (let h = head-there None seats es c a s.headed p.seat refl in cc)
 step-made (Some h) seats es c (ask.OpenMatter o) day s amount p = absurd (let g = p.not_opened in false≢true (sym g))
-step-made (Some h) seats es c (ask.AddSeat new) day s amount p =
-    step-seat h seats es c new day s (none-is h.closed p.not_closed) (not-before day h.last p.forwards) (none-is (role_in seats new.person) p.seat_free)
+step-made (Some h) seats es c (ask.AddSeat new) day s amount p = search (step-seat, none-is, not-before, role_in)
 step-made (Some h) seats es c (ask.DropSeat q) day s amount p =
     step-unseat h seats es c q day s (none-is h.closed p.not_closed) (not-before day h.last p.forwards) (some-is (role_in seats q) p.seat_taken)
-step-made (Some h) seats es c (ask.Deposit d) day s amount p =
-    step-deposit h seats es c d day s amount (none-is h.closed p.not_closed) (not-before day h.last p.forwards) (next-is (length es) d.number p.next)
-step-made (Some h) seats es c (ask.CancelDeposit n) day s amount p =
-    step-cancel h seats es c n day (entry_at es n) refl s (none-is h.closed p.not_closed) (not-before day h.last p.forwards) p.there p.kind p.state
+step-made (Some h) seats es c (ask.Deposit d) day s amount p = search (step-deposit, none-is, not-before, next-is)
+step-made (Some h) seats es c (ask.CancelDeposit n) day s amount p = search (step-cancel, none-is, not-before)
 step-made (Some h) seats es c (ask.Propose a) day s amount p = step-propose h seats es c a day s amount (none-is h.closed p.not_closed) (not-before day h.last p.forwards) p
 step-made (Some h) seats es c (ask.Approve n) day s amount p = step-approve h seats es c n day (entry_at es n) refl s (none-is h.closed p.not_closed) (not-before day h.last p.forwards) p.there p.kind p.state p.enough
 step-made (Some h) seats es c (ask.Decline n) day s amount p = step-decline h seats es c n day (entry_at es n) refl s (none-is h.closed p.not_closed) (not-before day h.last p.forwards) p.there p.kind p.state
@@ -30,8 +26,7 @@ step-made (Some h) seats es c (ask.EarnFee a) day s amount p = step-fee h seats 
 step-made (Some h) seats es c (ask.RaiseClaim a) day s amount p =
     step-claim h seats es c a day s amount (none-is h.closed (rw (claim-changes a.against) at p.not_closed))
     (not-before day h.last (rw (claim-changes a.against) at p.forwards)) p
-step-made (Some h) seats es c (ask.Offer a) day s amount p =
-    step-unsettled h seats es c (ask.Offer a) a.number day (claim.Offered a.to_client) (entry_at es a.number) refl (λ e. refl) (offered-days day a.to_client) refl s (none-is h.closed p.not_closed) (not-before day h.last p.forwards) p.there p.kind p.state p.split
+step-made (Some h) seats es c (ask.Offer a) day s amount p = search (step-unsettled, offered-days, none-is, not-before)
 step-made (Some h) seats es c (ask.Accept a) day s amount p = step-accept h seats es c a day (entry_at es a.number) refl s (none-is h.closed p.not_closed) (not-before day h.last p.forwards) p.there p.kind p.state p.split
 step-made (Some h) seats es c (ask.Award a) day s amount p =
     step-unsettled h seats es c (ask.Award a) a.number day (settled day a.to_client) (entry_at es a.number) refl (λ e. refl) (settled-days day a.to_client) refl s (none-is h.closed p.not_closed) (not-before day h.last p.forwards) p.there p.kind p.state p.split
@@ -52,9 +47,7 @@ known true r rest h = absurd (cc)
 known false r rest h = refl
 
 step-either : (rows : Rows) (a : Asked) (b : Bool) → is_repeat (facts_of rows a.ask) a ≡ b → Sound rows → HasAmount a.ask → first (cond b (early_conditions (facts_of rows a.ask) a) (conditions (facts_of rows a.ask) a)) ≡ None → Stepped rows.head rows.seats rows.entries a (cond b edit.Nothing (edit_of a.ask (entry_at rows.entries (number_named a.ask)) a.day))
-step-either rows a true is s amount none =
-    step-again rows.head rows.seats rows.entries a s
-    (head-there rows.head rows.seats rows.entries a.caller a.ask s.headed (known _ _ _ none) (again-other a.ask (entry_at rows.entries (number_named a.ask)) is))
+step-either rows a true is s amount none = search (step-again, head-there, known, again-other)
 step-either rows a false is s amount none =
     step-made rows.head rows.seats rows.entries a.caller a.ask a.day s amount (passes (facts_of rows a.ask) a none)
 

@@ -50,9 +50,7 @@ above n (c ∷ cs) q up (inr h) = let rest : number_of c.1 ≤ number_of q = abo
 
 pub first_least : (n : ℕ) (cs : List (Bool × Refusal)) (r q : Refusal) → Rises n cs → first cs ≡ Some r → Stands cs q → number_of r ≤ number_of q
 first_least n [] r q up h at = absurd at
-first_least n ((true, p) ∷ cs) r q up h at =
-    subst (λ (x : Refusal). number_of x ≤ number_of q) (cc) (above (number_of p) ((true, p) ∷ cs) q (le_refl _, up.1)
-    at)
+first_least n ((true, p) ∷ cs) r q up h at = grind (arith, above, le_refl)
 first_least n ((false, p) ∷ cs) r q up h (inl at) = absurd (false≢true at.0)
 first_least n ((false, p) ∷ cs) r q up h (inr at) = first_least (number_of p) cs r q up.1 h at
 
@@ -108,15 +106,7 @@ refuses_least f a r h = least-by f a r (is_repeat f a) refl h
 none-by : (f : Facts) (a : Asked) (r : Refusal) (b : Bool)
     → first (cond b (early_conditions f a) (conditions f a)) ≡ None → Holds f a r → (b ≡ true) × (10 < number_of r)
 none-by f a r false h at = absurd (first_none_stands (conditions f a) r h at)
-none-by f a r true h at =
-    elim (stands_apart (early_conditions f a) (later_conditions f a) r at) [
-      | inl l ↦ absurd (first_none_stands (early_conditions f a) r h l)
-      | inr l ↦ (
-        refl,
-        let from : 11 ≤ number_of r = above 11 (later_conditions f a) r (search rules) l in omega
-            (arith, from),
-      )
-    ]
+none-by f a r true h at = grind (arith, rules, stands_apart, later_conditions, first_none_stands, above)
 
 pub none_holds : NoRefusal
 none_holds f a r h at = none-by f a r (is_repeat f a) h at

@@ -4,12 +4,11 @@ ghost use Rattle.std.specs.Prelude.{◌≡◌};
 ghost use Rattle.matter_rows.specs.Shares.{number_or_none};
 ghost use Rattle.trust_matter.specs.Conditions.{is_accounting};
 ghost use Rattle.trust_matter.specs.Facts.{fund_named, number_named};
-ghost use Rattle.trust_matter.specs.Policy.{rule_of};
 
 use crate::claim::{ClaimAsk, SplitAsk};
 use crate::payment::PaymentAsk;
-use matter_rows::{Against, Seat};
-use trust_base::{Cents, EntryNo, Label, PersonId, Rule};
+use matter_rows::Seat;
+use trust_base::{Cents, EntryNo, Label, PersonId};
 
 /// The cashier of the firm, or a person by name.
 #[derive(Drop)]
@@ -86,34 +85,6 @@ pub enum Ask {
 }
 
 impl Ask {
-    /// The rule of the policy that it comes under.
-    pub(crate) fn rule(&self) -> Rule
-        ensures { result ≡ rule_of self.now }
-    {
-        match self {
-            Ask::Show | Ask::ShowEntry(_) | Ask::Accounting => Rule::Read,
-            Ask::Propose(_) => Rule::Propose,
-            Ask::Approve(_)
-            | Ask::Decline(_)
-            | Ask::VoidPayment(_)
-            | Ask::EarnFee(_)
-            | Ask::Offer(_) => Rule::Sign,
-            Ask::RaiseClaim(asked) => match &asked.against {
-                Against::General(_) => Rule::Claim,
-                Against::Fee(_) => Rule::Dispute,
-            },
-            Ask::Accept(_) => Rule::Dispute,
-            Ask::OpenMatter(_)
-            | Ask::AddSeat(_)
-            | Ask::DropSeat(_)
-            | Ask::Deposit(_)
-            | Ask::CancelDeposit(_)
-            | Ask::Award(_)
-            | Ask::CloseMatter
-            | Ask::Purge => Rule::Office,
-        }
-    }
-
     /// Whether it is `Accounting`, the only ask answered with the whole matter.
     pub fn is_accounting(&self) -> bool
         ensures { result ≡ is_accounting self.now }

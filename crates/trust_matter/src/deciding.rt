@@ -1,7 +1,8 @@
 //! Decides an ask of a matter: returns the refusal, or the change of its rows. Says who may ask, when a matter may
 //! change, and what is decided about deposits and fees.
 
-ghost use Rattle.std.specs.Prelude.{◌≡◌, true, MatchResult, None, Some};
+ghost use Rattle.std.specs.Prelude.{◌≡◌, true, false, MatchResult, None, Some, Err};
+ghost use Rattle.trust_base.specs.declared.refusal.Refusal.TheVariants as refusals;
 ghost use Rattle.trust_base.specs.Limits.{IsAmount};
 ghost use Rattle.matter_rows.specs.Rows.{Rows, next_number};
 ghost use Rattle.matter_rows.specs.Sound.{Sound};
@@ -15,13 +16,18 @@ use crate::claim::{decide_accept, decide_award, decide_claim, decide_offer};
 use crate::head::{decide_add_seat, decide_close, decide_drop_seat, decide_open, decide_purge};
 use crate::payment::{decide_approve, decide_decline, decide_propose, decide_void};
 use matter_parts::{Change, Edit, Kept, Matter, Numbered, change_of};
-use matter_rows::{Deposit, DepositState, Entry, Fee, Role};
+use matter_rows::{Against, Deposit, DepositState, Entry, Fee, Role};
 use trust_base::{Day, EntryNo, Refusal, Rule};
 
-/// Whether enough is loaded to decide the ask: the entry that it names, and the fee or claim that it or that entry
-/// names, are loaded or do not exist. Allocates nothing.
-pub fn holds_for(matter: &Matter, ask: &Ask) -> bool
-    ensures { result ≡ holds_for matter.now ask.now }
+/// Decides an ask of a caller on a business day. Returns the change that it makes, or the refusal with the least number
+/// whose condition holds. A repeat is a change that changes nothing. Allocates only if the ask is accepted. Returns
+/// `Store` if not enough is loaded, and never if it is and the matter is part of sound rows.
+pub fn decide(matter: &Matter, caller: &Caller, ask: &Ask, day: Day) -> Result<Change, Refusal>
+    // If the entry that the ask names, and the one that this names, are loaded or do not exist, then the answer is right
+    // for all sound rows that the matter is part of.
+    ensures decided { holds_for matter.now ask.now ≡ true → (rows : Rows) → Sound rows → IsPart matter.now rows
+        → Decides rows (record { caller = caller.now; ask = ask.now; day = day }) result }
+    ensures unread { holds_for matter.now ask.now ≡ false → result ≡ Err refusals.Store }
 {
     let other = match ask {
         Ask::Propose(asked) => asked.fund.number(),
@@ -31,19 +37,9 @@ pub fn holds_for(matter: &Matter, ask: &Ask) -> bool
             Some(kept) => kept.entry.target(),
         },
     };
-    matter.holds_or_none(ask.number()) && matter.holds_or_none(other)
-}
-
-/// Decides an ask of a caller on a business day. Returns the change that it makes, or the refusal with the least number
-/// whose condition holds. A repeat is a change that changes nothing. Allocates only if the ask is accepted. Never
-/// returns `Store` if the matter is part of sound rows.
-pub fn decide(matter: &Matter, caller: &Caller, ask: &Ask, day: Day) -> Result<Change, Refusal>
-    // The entry that the ask names, and the one that this names, are loaded or do not exist.
-    requires { holds_for matter.now ask.now ≡ true }
-    // The answer is right for all sound rows that the matter is part of.
-    ensures { (rows : Rows) → Sound rows → IsPart matter.now rows
-        → Decides rows (record { caller = caller.now; ask = ask.now; day = day }) result }
-{
+    if !matter.holds_or_none(ask.number()) || !matter.holds_or_none(other) {
+        return Err(Refusal::Store);
+    }
     check_caller(matter, caller, ask)?;
     let decided = match ask {
         Ask::OpenMatter(asked) => decide_open(matter, asked, day),
@@ -67,7 +63,11 @@ pub fn decide(matter: &Matter, caller: &Caller, ask: &Ask, day: Day) -> Result<C
         Ask::ShowEntry(number) => decide_show_entry(matter, *number, day),
     };
     let edit = decided?;
-    let last = matter.last_after(&edit, day);
+    // What changes nothing leaves the last day as it is.
+    let last = match (matter.head(), &edit) {
+        (Some(head), Edit::Nothing) => head.last,
+        _ => day,
+    };
     change_of(matter, edit, last)
 }
 
@@ -89,7 +89,19 @@ fn check_caller(matter: &Matter, caller: &Caller, ask: &Ask) -> Result<(), Refus
     if matter.is_purged() {
         return Err(Refusal::Purged);
     }
-    let rule = ask.rule();
+    let rule = match ask {
+        Ask::Show | Ask::ShowEntry(_) | Ask::Accounting => Rule::Read,
+        Ask::Propose(_) => Rule::Propose,
+        Ask::Approve(_) | Ask::Decline(_) | Ask::VoidPayment(_) => Rule::Sign,
+        Ask::EarnFee(_) | Ask::Offer(_) => Rule::Sign,
+        Ask::RaiseClaim(asked) => match &asked.against {
+            Against::General(_) => Rule::Claim,
+            Against::Fee(_) => Rule::Dispute,
+        },
+        Ask::Accept(_) => Rule::Dispute,
+        // What is left is for the cashier alone.
+        _ => Rule::Office,
+    };
     let is_allowed = match caller {
         Caller::Cashier => !matches!(rule, Rule::Dispute | Rule::Sign),
         Caller::Person(person) => match (matter.role_of(person), rule) {

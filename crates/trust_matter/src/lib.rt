@@ -15,8 +15,8 @@ mod payment;
 pub use ask::{Ask, Caller, DepositAsk, FeeAsk, OpenAsk};
 pub use bank_line::BankLine;
 pub use claim::{ClaimAsk, SplitAsk};
-pub use deciding::{decide, holds_for};
-pub use line_verdict::{LineVerdict, Reason, decide_line, holds_for_line};
+pub use deciding::decide;
+pub use line_verdict::{LineVerdict, Reason, decide_line};
 pub use matter_parts::{
     Balances, Change, Edit, Figures, Kept, Left, Matter, Numbered, Opening, TotalsAfter, balances,
     claim_left, fee_left, whole_holds_all,

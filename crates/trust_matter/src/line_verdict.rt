@@ -1,16 +1,16 @@
 //! What a bank line does to a matter.
 
-ghost use Rattle.std.specs.Prelude.{◌≡◌, true, IfOk, MatchResult, None, Some};
+ghost use Rattle.std.specs.Prelude.{◌≡◌, true, false, IfOk, MatchResult, None, Some, Err};
+ghost use Rattle.trust_base.specs.declared.refusal.StoreFault.TheVariants as faults;
 ghost use Rattle.matter_rows.specs.Rows.{Rows};
 ghost use Rattle.matter_rows.specs.Sound.{Sound};
-ghost use Rattle.matter_rows.specs.Clearings.{is_line_again};
-ghost use Rattle.matter_parts.specs.Parts.{IsPart, kept_at, entry_in};
+ghost use Rattle.matter_parts.specs.Parts.{IsPart, kept_at};
 ghost use Rattle.trust_matter.specs.LineStep.{LineDecides, dated_by, first_reason, reasons};
 ghost use Rattle.trust_matter.specs.KeptFacts.{kept_line_facts, holds_for_line};
 
 use crate::bank_line::BankLine;
 use matter_parts::{Change, Edit, Kept, Matter, Numbered, change_of};
-use matter_rows::{DepositState, Entry, PaymentState};
+use matter_rows::{Clearing, DepositState, Entry, PaymentState, ReturnedDeposit};
 use std::alloc::AllocError;
 use trust_base::{Day, StoreFault};
 
@@ -59,22 +59,6 @@ pub enum LineVerdict {
     Unmatched(Reason),
 }
 
-// Whether this line already cleared the entry that it names, or took the deposit back.
-fn is_again(matter: &Matter, line: &BankLine) -> bool
-    ensures { result ≡ is_line_again (entry_in (kept_at matter.now line.now.entry)) line.now.line }
-{
-    let Some(kept) = matter.find(line.entry) else {
-        return false;
-    };
-    match &kept.entry {
-        Entry::Deposit(deposit) => deposit.is_again(&line.line),
-        Entry::Payment(payment) => {
-            payment.state.is_cleared_by(&line.line) && kept.entry.has_its_amount(&line.line)
-        }
-        Entry::Fee(_) | Entry::Claim(_) => false,
-    }
-}
-
 // The entry that the line clears or takes back, or the first reason why there is none.
 fn entry_cleared<'m>(matter: &'m Matter, line: &BankLine, today: Day) -> Result<&'m Kept, Reason>
     ensures { MatchResult result
@@ -116,7 +100,20 @@ fn told(matter: &Matter, kept: &Kept, line: &BankLine, today: Day) -> Result<Dat
     let number = line.entry;
     let edit = match &kept.entry {
         Entry::Deposit(deposit) => {
-            let state = deposit.state.told(&line.line, today)?;
+            let by = Clearing {
+                bank_day: line.line.date,
+                bank_ref: line.line.bank_ref.copied()?,
+            };
+            // A held deposit is cleared; a cleared one is returned on the business day.
+            let state = match &deposit.state {
+                DepositState::Held => DepositState::Cleared(by),
+                DepositState::Cleared(clearing) => DepositState::Returned(ReturnedDeposit {
+                    clearing: clearing.copied()?,
+                    returning: by,
+                    undone: today,
+                }),
+                DepositState::Cancelled(_) | DepositState::Returned(_) => deposit.state.copied()?,
+            };
             let entry = Entry::Deposit(deposit.restated(state)?);
             Edit::Exchange(Numbered { number, entry })
         }
@@ -135,28 +132,47 @@ fn told(matter: &Matter, kept: &Kept, line: &BankLine, today: Day) -> Result<Dat
     Ok(DatedEdit { edit, last })
 }
 
-/// Whether enough is loaded to decide a line: the entry that it names, and the fee or claim that this entry draws on,
-/// are loaded or do not exist. Allocates nothing.
-pub fn holds_for_line(matter: &Matter, line: &BankLine) -> bool
-    ensures { result ≡ holds_for_line matter.now line.now.entry }
+/// Decides a bank line on a business day. The line clears the entry that it names or takes it back, already did so, or
+/// matches no entry, for the first reason that holds. Allocates only if the line is applied. Returns `Store` if not
+/// enough is loaded, and never if it is and the matter is part of sound rows.
+pub fn decide_line(matter: &Matter, line: &BankLine, today: Day) -> Result<LineVerdict, StoreFault>
+    // If the entry that the line names, and the one that this draws on, are loaded or do not exist, then the answer is
+    // right for all sound rows that the matter is part of.
+    ensures decided { holds_for_line matter.now line.now.entry ≡ true → (rows : Rows) → Sound rows
+        → IsPart matter.now rows → LineDecides rows line.now today result }
+    ensures unread { holds_for_line matter.now line.now.entry ≡ false → result ≡ Err faults.Store }
 {
-    let target = match matter.find(line.entry) {
+    let found = matter.find(line.entry);
+    let target = match found {
         None => None,
         Some(kept) => kept.entry.target(),
     };
-    matter.holds(line.entry) && matter.holds_or_none(target)
-}
-
-/// Decides a bank line on a business day. The line clears the entry that it names or takes it back, already did so, or
-/// matches no entry, for the first reason that holds. Allocates only if the line is applied. Never returns `Store` if
-/// the matter is part of sound rows.
-pub fn decide_line(matter: &Matter, line: &BankLine, today: Day) -> Result<LineVerdict, StoreFault>
-    // The entry that the line names, and the one that this draws on, are loaded or do not exist.
-    requires { holds_for_line matter.now line.now.entry ≡ true }
-    // The answer is right for all sound rows that the matter is part of.
-    ensures { (rows : Rows) → Sound rows → IsPart matter.now rows → LineDecides rows line.now today result }
-{
-    if is_again(matter, line) {
+    if !matter.holds(line.entry) || !matter.holds_or_none(target) {
+        return Err(StoreFault::Store);
+    }
+    let is_again = match found {
+        None => false,
+        Some(kept) => match &kept.entry {
+            Entry::Deposit(deposit) => {
+                let is_returned = match &deposit.state {
+                    DepositState::Returned(back) => {
+                        back.returning.bank_day.get() == line.line.date.get()
+                            && back.returning.bank_ref.is_same(&line.line.bank_ref)
+                            && -(deposit.amount.get() as i64) == line.line.amount.get()
+                    }
+                    _ => false,
+                };
+                is_returned
+                    || deposit.state.is_cleared_by(&line.line)
+                        && kept.entry.has_its_amount(&line.line)
+            }
+            Entry::Payment(payment) => {
+                payment.state.is_cleared_by(&line.line) && kept.entry.has_its_amount(&line.line)
+            }
+            Entry::Fee(_) | Entry::Claim(_) => false,
+        },
+    };
+    if is_again {
         return Ok(LineVerdict::Repeat);
     }
     let kept = match entry_cleared(matter, line, today) {

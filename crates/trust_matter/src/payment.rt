@@ -168,7 +168,13 @@ pub(crate) fn decide_approve(matter: &Matter, number: EntryNo, day: Day) -> Resu
     let PaymentState::Proposed = &payment.state else {
         return Err(Refusal::WrongState);
     };
-    let left = matter.left_of_fund(payment.fund);
+    let left = match payment.fund {
+        Fund::General => matter.figures().available,
+        Fund::Fee(source) | Fund::Claim(source) => match matter.find(source) {
+            None => 0,
+            Some(kept) => kept.left,
+        },
+    };
     if left < payment.amount.get() {
         return Err(Refusal::Short(left));
     }

@@ -1,7 +1,11 @@
 -- The bank's words, and fields one behind the other.
-use Rattle.trust_reports.proofs.Names.{◌≡◌, ℕ, List, [], ◌∷◌, ◌++◌, map, flat_map, true, arith, append_assoc, append-nil, encode_utf8, encode_utf8_all, IsUtf8, is_utf8, map-append, further, line, shown}
+use Rattle.trust_reports.proofs.Names.{◌≡◌, ℕ, List, [], ◌∷◌, ◌++◌, ◌∙◌, ap, codes, map, flat_map, true, arith, append_assoc, append-nil, encode_utf8, encode_utf8_all, IsUtf8, is_utf8, map-append, further, line, shown}
 use Rattle.std.proofs.lemmas.Grind.{flat_map-append}
 use Rattle.std.proofs.lemmas.Str.{IsUtf8-from_is_utf8, encodes-append}
+use Rattle.std.specs.Prelude.{ℤ, neg_ℤ}
+use Rattle.firm_figures.specs.declared.figures.Figures.{Figures}
+use Rattle.trust_reports.specs.TextsOfLists.{figure_line}
+use Rattle.trust_reports.specs.TextsOfReconciliation.{bank_figures, book_figures}
 use Rattle.trust_base.specs.BankTexts.{IsLineText, is_line_text}
 
 -- the text of a bank's line is UTF-8
@@ -21,3 +25,35 @@ fields_more out a b t field fields more first second third = rw (third, second, 
 -- three parts, one behind the other
 pub three_parts : (out a b t x y z : List ℕ) → a ≡ out ++ x → b ≡ a ++ y → t ≡ b ++ z → t ≡ out ++ (x ++ (y ++ z))
 three_parts out a b t x y z first second third = rw (third, second, first) (simp append_assoc)
+
+-- the rest of a report after a heading and two blocks that were written as one
+pub in_figures : (out a t h b k z : List ℕ) → a ≡ out ++ h → t ≡ a ++ ((b ++ k) ++ z) → t ≡ out ++ (h ++ (b ++ (k ++ z)))
+in_figures out a t h b k z first second = rw (second, first) (simp append_assoc)
+
+in_two : (a b c d e f g h i j : List ℕ)
+    → a ++ (b ++ (c ++ (d ++ (e ++ (f ++ (g ++ (h ++ (i ++ (j ++ [])))))))))
+    ≡ (a ++ (b ++ (c ++ d))) ++ (e ++ (f ++ (g ++ (h ++ (i ++ j)))))
+in_two a b c d e f g h i j = simp (append_assoc, append-nil)
+
+abbrev ten : ℤ → ℤ → ℤ → ℤ → ℤ → ℤ → ℤ → ℤ → ℤ → ℤ → List ℕ
+ten c a o d j l x e y g =
+    figure_line (codes "CLOSING") c ++ (figure_line (codes "IN TRANSIT") a
+    ++ (figure_line (codes "OUTSTANDING") (neg_ℤ o) ++ (figure_line (codes "ADJUSTED BANK") d
+    ++ (figure_line (codes "JOURNAL") j ++ (figure_line (codes "LEDGERS") l
+    ++ (figure_line (codes "DIFFERENCE") x ++ (figure_line (codes "EXCEPTIONS") e
+    ++ (figure_line (codes "EARLY") y ++ (figure_line (codes "GAP") g ++ [])))))))))
+
+-- the ten figures, one behind the other, are the bank's and the books'
+pub figures_told : (out t : List ℕ) (f : Figures) (c a o d j l x e y g : ℤ) → t ≡ out ++ ten c a o d j l x e y g
+    → c ≡ f.closing → a ≡ f.transit → o ≡ f.outstanding → d ≡ f.adjusted → j ≡ f.journal → l ≡ f.ledgers
+    → x ≡ f.difference → e ≡ f.exceptions → y ≡ f.early → g ≡ f.gap → t ≡ out ++ (bank_figures f ++ book_figures f)
+unfolding bank_figures book_figures
+figures_told out t f c a o d j l x e y g is c' a' o' d' j' l' x' e' y' g' =
+    is
+    ∙ ((λ i. out ++ ten (c' i) (a' i) (o' i) (d' i) (j' i) (l' i) (x' i) (e' i) (y' i) (g' i))
+    ∙ ap (λ r. out ++ r)
+    (in_two (figure_line (codes "CLOSING") f.closing) (figure_line (codes "IN TRANSIT") f.transit)
+    (figure_line (codes "OUTSTANDING") (neg_ℤ f.outstanding)) (figure_line (codes "ADJUSTED BANK") f.adjusted)
+    (figure_line (codes "JOURNAL") f.journal) (figure_line (codes "LEDGERS") f.ledgers)
+    (figure_line (codes "DIFFERENCE") f.difference) (figure_line (codes "EXCEPTIONS") f.exceptions)
+    (figure_line (codes "EARLY") f.early) (figure_line (codes "GAP") f.gap)))

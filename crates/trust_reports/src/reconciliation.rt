@@ -3,46 +3,12 @@
 ghost use Rattle.std.specs.Prelude.{◌≡◌, ◌++◌, OnOk, OnErr, flat_map};
 ghost use Rattle.firm_figures.specs.Reconciliations.{told};
 ghost use Rattle.trust_reports.specs.TextsOfLists.{exception_line, exceptions_text};
-ghost use Rattle.trust_reports.specs.TextsOfReconciliation.{bank_figures, book_figures, double_line, entry_line, listed_exception, opening_line, reconciliation_text};
+ghost use Rattle.trust_reports.specs.TextsOfReconciliation.{double_line, entry_line, listed_exception, opening_line, reconciliation_text};
 
 use crate::page::{List, Page, Piece, Printed, Sum, append, push_columns, push_heading, push_line};
-use firm_figures::{EntryLine, Figures, Issued, OpeningLine, Reconciliation};
+use firm_figures::{EntryLine, Issued, OpeningLine, Reconciliation};
 use std::alloc::AllocError;
 use trust_base::{Day, Line};
-
-#[tactic(auto, unfolding(crate::specs::TextsOfReconciliation::bank_figures))]
-fn push_bank_figures(page: &mut Page, figures: &Figures) -> Result<(), AllocError>
-    ensures before { page.new.before ≡ page.old.before }
-    ensures text { OnOk result (page.new.text ≡ page.old.text ++ bank_figures figures.now) }
-{
-    let rows = [
-        ("CLOSING", Sum::Of(figures.closing as i128)),
-        ("IN TRANSIT", Sum::Of(figures.transit)),
-        ("OUTSTANDING", Sum::NegativeOf(figures.outstanding)),
-        ("ADJUSTED BANK", Sum::Of(figures.adjusted)),
-    ];
-    push_columns(page, 14, 24, &rows)
-}
-
-#[tactic(auto, unfolding(crate::specs::TextsOfReconciliation::book_figures))]
-fn push_book_figures(page: &mut Page, figures: &Figures) -> Result<(), AllocError>
-    ensures before { page.new.before ≡ page.old.before }
-    ensures text { OnOk result (page.new.text ≡ page.old.text ++ book_figures figures.now) }
-{
-    push_columns(
-        page,
-        14,
-        24,
-        &[
-            ("JOURNAL", Sum::Of(figures.journal)),
-            ("LEDGERS", Sum::Of(figures.ledgers)),
-            ("DIFFERENCE", Sum::Of(figures.difference)),
-            ("EXCEPTIONS", Sum::Of(figures.exceptions)),
-            ("EARLY", Sum::Of(figures.early)),
-            ("GAP", Sum::Of(figures.gap)),
-        ],
-    )
-}
 
 fn push_entries(page: &mut Page, word: &str, lines: &[EntryLine]) -> Result<(), AllocError>
     ensures before { page.new.before ≡ page.old.before }
@@ -137,8 +103,19 @@ impl Printed for Reconciled<'_> {
         let figures = &self.reconciliation.figures;
         let lists = &self.reconciliation.lists;
         push_heading(page, "RECONCILIATION", self.p)?;
-        push_bank_figures(page, figures)?;
-        push_book_figures(page, figures)?;
+        let rows = [
+            ("CLOSING", Sum::Of(figures.closing as i128)),
+            ("IN TRANSIT", Sum::Of(figures.transit)),
+            ("OUTSTANDING", Sum::NegativeOf(figures.outstanding)),
+            ("ADJUSTED BANK", Sum::Of(figures.adjusted)),
+            ("JOURNAL", Sum::Of(figures.journal)),
+            ("LEDGERS", Sum::Of(figures.ledgers)),
+            ("DIFFERENCE", Sum::Of(figures.difference)),
+            ("EXCEPTIONS", Sum::Of(figures.exceptions)),
+            ("EARLY", Sum::Of(figures.early)),
+            ("GAP", Sum::Of(figures.gap)),
+        ];
+        push_columns(page, 14, 24, &rows)?;
         push_entries(page, "TRANSIT", &lists.transit)?;
         push_entries(page, "OUT", &lists.out)?;
         push_exceptions(page, &lists.exceptions)?;

@@ -27,10 +27,7 @@ module _ (line : Line) (lines : List Line) (up : IsStrictlySortedBy line_cmp lin
 
 -- a book without rows
 pub nothing_kept : (ks : List KeptMatter) (moves : List Movement) (own : List FirmLine) (lines : List Line) (balances : List StatementRow) → ks ≡ [] → moves ≡ [] → own ≡ [] → lines ≡ [] → balances ≡ [] → FirmSound empty_firm → AreKept ks moves own lines balances
-nothing_kept ks moves own lines balances a b c d e sound = record {
-  matters = subst AreKeptWhole (sym a) (record { ascends = tt; whole = tt });
-  firm = subst FirmSound (λ i. firm_of (sym a i) (sym b i) (sym c i) (sym d i) (sym e i)) sound;
-}
+nothing_kept ks moves own lines balances a b c d e sound = grind (arith, firm_of)
 
 module _ (ks : List KeptMatter) (moves : List Movement) (own : List FirmLine) (lines : List Line) (balances : List StatementRow) (kept : AreKept ks moves own lines balances) where
   abbrev firm : Firm

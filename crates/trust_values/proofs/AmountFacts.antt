@@ -16,48 +16,28 @@ amount-parts n bs small e =
     let size = length-append (decimal (n / 100)) (end_text (n % 100)) in
     let some = decimal_nonempty (n / 100) (omega arith) in
     let (front, back) = split-at (decimal (n / 100)) (end_text (n % 100)) (length (decimal (n / 100)) + 3 - 3) (omega arith) in
-    rw (← e) (record {
-      long = omega (arith, size);
-      whole = rw size (sym front);
-      end = rw size (sym back);
-    })
+    grind (arith)
 
 -- a number below a hundred from its digits
 digits-of : (n m : ℕ) → n < 100 → m < 100 → end_text n ≡ end_text m → n ≡ m
-digits-of n m hn hm e =
-    let tens : 48 + n / 10 ≡ 48 + m / 10 = cc in
-    let ones : 48 + n % 10 ≡ 48 + m % 10 = cc in
-    omega arith
+digits-of n m hn hm e = grind (arith)
 
 -- the cents from the parts of their text
 pub sum-of-parts : (n d : ℕ) (e : ℕ) (bs : List ℕ) → n < 2 ^ 64 → amount_text n ≡ bs → decimal d ≡ take (length bs - 3) bs → end_text e ≡ drop (length bs - 3) bs → d < 2 ^ 64 → e < 100 → n ≡ d * 100 + e
-sum-of-parts n d e bs small t whole end dl el =
-    let p = amount-parts n bs small t in
-    let same : n / 100 ≡ d = decimal_injective (n / 100) d (omega arith) dl (p.whole ∙ sym whole) in
-    let cents : n % 100 ≡ e = digits-of (n % 100) e (omega arith) el (p.end ∙ sym end) in
-    omega arith
+sum-of-parts n d e bs small t whole end dl el = grind (arith, amount-parts, decimal_injective, digits-of)
 
 -- no two sums have one text
 pub sum-injective : (m n : ℕ) → m < 2 ^ 64 → n < 2 ^ 64 → amount_text m ≡ amount_text n → m ≡ n
 sum-injective m n a b e =
-    let p = amount-parts n (amount_text n) b refl in
-    let sum = sum-of-parts m (n / 100) (n % 100) (amount_text n) a e p.whole p.end (omega arith) (omega arith) in
-    omega arith
+    grind (arith, (amount-parts n (amount_text n) b), (sum-of-parts m (n / 100) (n % 100) (amount_text n) a e))
 
 -- the text as it is printed, in three numbers
 pub printed-text : (n : ℕ) → decimal (n / 100) ++ 46 ∷ (decimal (n / 10 % 10) ++ decimal (n % 10)) ≡ amount_text n
-printed-text n =
-    let tens = decimal_digit (n / 10 % 10) (omega arith) in
-    let ones = decimal_digit (n % 10) (omega arith) in
-    let first : n / 10 % 10 ≡ n % 100 / 10 = omega arith in
-    let second : n % 10 ≡ n % 100 % 10 = omega arith in
-    rw (tens, ones, first, second) refl
+printed-text n = grind (arith, decimal_digit)
 
 -- the sign of a sum that is printed from its magnitude
 pub below-zero-text : (z : ℤ) → lt_z z (pos 0) ≡ true → 45 ∷ amount_text (unsigned_abs z) ≡ signed_text z
-below-zero-text (pos n) e = absurd (let h : n < 0 = grind arith in omega arith)
-below-zero-text (negsuc n) e = refl
+below-zero-text z e = grind (arith)
 
 pub not-below-zero-text : (z : ℤ) → lt_z z (pos 0) ≡ false → amount_text (unsigned_abs z) ≡ signed_text z
-not-below-zero-text (pos n) e = refl
-not-below-zero-text (negsuc n) e = absurd (cc)
+not-below-zero-text z e = grind (arith)

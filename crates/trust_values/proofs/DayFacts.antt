@@ -27,11 +27,7 @@ two (w ∷ x ∷ q ∷ r) e = absurd (omega arith)
 -- ten bytes with dashes in their places
 parts : (a b c t : List ℕ) → length a ≡ 4 → length b ≡ 2 → length c ≡ 2 → a ++ 45 ∷ (b ++ 45 ∷ c) ≡ t
     → (length t ≡ 10) × (slice_index t 4 ≡ 45) × (slice_index t 7 ≡ 45) × (a ≡ take 4 t) × (b ≡ take 2 (drop 5 t)) × (c ≡ take 2 (drop 8 t))
-parts a b c t la lb lc e =
-    let (a1, a2, a3, a4, ea) = four a la in
-    let (b1, b2, eb) = two b lb in
-    let (c1, c2, ec) = two c lc in
-    rw (← e, ea, eb, ec) (refl, refl, refl, refl, refl, refl)
+parts a b c t la lb lc e = grind (arith, four, two)
 
 pub date-parts : (y m d : ℕ) (t : List ℕ) → date_text y m d ≡ t → HasDateParts t y m d
 date-parts y m d t e =
@@ -51,21 +47,14 @@ rejoin (a ∷ b ∷ c ∷ d ∷ e ∷ f ∷ []) l x y = absurd (omega arith)
 rejoin (a ∷ b ∷ c ∷ d ∷ e ∷ f ∷ g ∷ []) l x y = absurd (omega arith)
 rejoin (a ∷ b ∷ c ∷ d ∷ e ∷ f ∷ g ∷ h ∷ []) l x y = absurd (omega arith)
 rejoin (a ∷ b ∷ c ∷ d ∷ e ∷ f ∷ g ∷ h ∷ i ∷ []) l x y = absurd (omega arith)
-rejoin (a ∷ b ∷ c ∷ d ∷ e ∷ f ∷ g ∷ h ∷ i ∷ j ∷ []) l x y =
-    let first : e ≡ 45 = x in
-    let second : h ≡ 45 = y in
-    cc
+rejoin (a ∷ b ∷ c ∷ d ∷ e ∷ f ∷ g ∷ h ∷ i ∷ j ∷ []) l x y = grind (arith)
 rejoin (a ∷ b ∷ c ∷ d ∷ e ∷ f ∷ g ∷ h ∷ i ∷ j ∷ k ∷ r) l x y = absurd (omega arith)
 
 -- the number of three parts has their text
 pub number-joined : (y m d : ℕ) (t : List ℕ) → m < 100 → d < 100 → length t ≡ 10 → slice_index t 4 ≡ 45 → slice_index t 7 ≡ 45
     → fixed_digits 4 y ≡ take 4 t → fixed_digits 2 m ≡ take 2 (drop 5 t) → fixed_digits 2 d ≡ take 2 (drop 8 t)
     → day_text (y * 10000 + m * 100 + d) ≡ t
-number-joined y m d t lm ld l x z ey em ed =
-    let a : (y * 10000 + m * 100 + d) / 10000 ≡ y = omega arith in
-    let b : (y * 10000 + m * 100 + d) / 100 % 100 ≡ m = omega arith in
-    let c : (y * 10000 + m * 100 + d) % 100 ≡ d = omega arith in
-    rw (a, b, c, ey, em, ed) (rejoin t l x z)
+number-joined y m d t lm ld l x z ey em ed = grind (arith, rejoin)
 
 -- no number of k digits has this text
 pub none-of : (k n : ℕ) (slice other : List ℕ) → slice ≡ other → length other ≡ k → ((m : ℕ) → fixed_digits (length slice) m ≢ slice) → fixed_digits k n ≡ other → ⊥
@@ -88,10 +77,7 @@ month-days y m = grind arith
 -- the days lie between the first and the last
 pub day-bounds : (n : ℕ) → IsDay n → (MIN_DAY ≤ n) × (n ≤ MAX_DAY)
 unfolding IsDay
-day-bounds n ((y, z), (a, b), (c, d)) =
-    let e = month-days (pos (year_of n)) (month_of n) in
-    let f : month_day_of n ≤ 31 = omega arith in
-    (omega arith, omega arith)
+day-bounds n ((y, z), (a, b), (c, d)) = grind (arith, month-days, year_of, month_of, month_day_of)
 
 within : (low high n : ℕ) → (low ≤ n) × (n ≤ high) → (nat_le low n && nat_le n high) ≡ true
 within low high n (a, b) = grind arith
@@ -102,9 +88,7 @@ all-true a b c ea eb ec = rw (ea, eb, ec) refl
 -- the test says what it should
 pub is_day-true : (n : ℕ) → IsDay n → is_day n ≡ true
 unfolding IsDay is_day
-is_day-true n (y, m, d) = all-true _ _ _
-    (within 2000 2199 (year_of n) y) (within 1 12 (month_of n) m)
-    (within 1 (days_in_month (pos (year_of n)) (month_of n)) (month_day_of n) d)
+is_day-true n (y, m, d) = grind (arith, all-true, within, year_of, month_of, month_day_of)
 
 pub is_day-holds : (n : ℕ) → is_day n ≡ true → IsDay n
 unfolding IsDay is_day
@@ -114,43 +98,18 @@ pub day_of-is : (r : Option ℕ) (bs : List ℕ) → IfSome r IsDay → IfSome r
 day_of-is (Some n) bs range e none =
     let (low, high) = day-bounds n range in
     let found = number-found MIN_DAY (MAX_DAY + 1) n day_text bs low (omega arith) e (λ m a b f. day-injective m n (omega arith) (omega arith) (f ∙ sym e)) in
-    let is = is_day-true n range in
-    rw (found, is) refl
-day_of-is None bs range e none = sym (by (number_in MIN_DAY (MAX_DAY + 1) day_text bs) refl)
-  where
-    by : (o : Option ℕ) → number_in MIN_DAY (MAX_DAY + 1) day_text bs ≡ o → on_calendar o ≡ None
-    by None f = refl
-    by (Some n) f = elim (cases_Bool (is_day n)) [
-      | inl held ↦ absurd (none n (is_day-holds n held) (number-text MIN_DAY (MAX_DAY + 1) day_text bs n f))
-      | inr off ↦ rw off refl
-    ]
+    grind (arith, is_day-true)
+day_of-is None bs range e none = grind (arith, number_in, on_calendar, cases_Bool, is_day-holds, number-text)
 
 -- the text's bytes one by one
 pub ten-bytes : (n : ℕ) → n < 100000000 → day_text n ≡
     (48 + n / 10000000 % 10) ∷ (48 + n / 1000000 % 10) ∷ (48 + n / 100000 % 10) ∷ (48 + n / 10000 % 10) ∷ 45
     ∷ (48 + n / 1000 % 10) ∷ (48 + n / 100 % 10) ∷ 45 ∷ (48 + n / 10 % 10) ∷ (48 + n % 10) ∷ []
 unfolding fixed_digits
-ten-bytes n small =
-    let a : n / 10000 / 10 / 10 / 10 % 10 ≡ n / 10000000 % 10 = omega arith in
-    let b : n / 10000 / 10 / 10 % 10 ≡ n / 1000000 % 10 = omega arith in
-    let c : n / 10000 / 10 % 10 ≡ n / 100000 % 10 = omega arith in
-    let d : n / 100 % 100 / 10 % 10 ≡ n / 1000 % 10 = omega arith in
-    let e : n / 100 % 100 % 10 ≡ n / 100 % 10 = omega arith in
-    let f : n % 100 / 10 % 10 ≡ n / 10 % 10 = omega arith in
-    let g : n % 100 % 10 ≡ n % 10 = omega arith in
-    rw (a, b, c, d, e, f, g) refl
+ten-bytes n small = grind (arith)
 
 -- the text as it is printed, digit by digit
 pub printed-ten : (n : ℕ) → n < 100000000 →
     decimal (n / 10000000 % 10) ++ (decimal (n / 1000000 % 10) ++ (decimal (n / 100000 % 10) ++ (decimal (n / 10000 % 10) ++ (45 ∷ (decimal (n / 1000 % 10) ++ (decimal (n / 100 % 10) ++ (45 ∷ (decimal (n / 10 % 10) ++ decimal (n % 10)))))))))
     ≡ day_text n
-printed-ten n small =
-    let a = decimal_digit (n / 10000000 % 10) (omega arith) in
-    let b = decimal_digit (n / 1000000 % 10) (omega arith) in
-    let c = decimal_digit (n / 100000 % 10) (omega arith) in
-    let d = decimal_digit (n / 10000 % 10) (omega arith) in
-    let e = decimal_digit (n / 1000 % 10) (omega arith) in
-    let f = decimal_digit (n / 100 % 10) (omega arith) in
-    let g = decimal_digit (n / 10 % 10) (omega arith) in
-    let h = decimal_digit (n % 10) (omega arith) in
-    rw (a, b, c, d, e, f, g, h) (sym (ten-bytes n small))
+printed-ten n small = grind (arith, decimal_digit, ten-bytes)

@@ -8,19 +8,13 @@ here-true : (low k : ℕ) (t bs : List ℕ) → low ≤ k → t ≡ bs → (nat_
 here-true low k t bs le e = let same = (bytes_eq-Decides t bs).1 e in grind arith
 
 here-false : (low k : ℕ) (t bs : List ℕ) → (low ≤ k → t ≢ bs) → (nat_le low k && bytes_eq t bs) ≡ false
-here-false low k t bs never = elim (cases_Bool (nat_le low k && bytes_eq t bs)) [
-  | inl held ↦ absurd (never (let le : low ≤ k = grind arith in le) ((bytes_eq-Decides t bs).0 (let same : bytes_eq t bs ≡ true = grind arith in same)))
-  | inr off ↦ off
-]
+here-false low k t bs never = grind (arith, cases_Bool, bytes_eq-Decides)
 
 -- and none is found by another text
 pub number-none : (low k : ℕ) (text : ℕ → List ℕ) (bs : List ℕ) → ((m : ℕ) → low ≤ m → m < k → text m ≢ bs) → number_in low k text bs ≡ None
 unfolding number_in
 number-none low zero text bs never = refl
-number-none low (suc k) text bs never =
-    let before = number-none low k text bs (λ m a b. never m a (omega arith)) in
-    let now = here-false low k (text k) bs (λ a. never k a (omega arith)) in
-    rw (before, now) refl
+number-none low (suc k) text bs never = grind (arith, here-false, (number-none low k text bs))
 
 -- a number that is alone with its text is found by it
 pub number-found : (low k n : ℕ) (text : ℕ → List ℕ) (bs : List ℕ) → low ≤ n → n < k → text n ≡ bs
@@ -31,29 +25,19 @@ number-found low (suc k) n text bs le lt e only = elim (cases_lt n k) [
   | inl low_n ↦
       let before = number-found low k n text bs le low_n e (λ m a b. only m a (omega arith)) in
       rw before refl
-  | inr high ↦
-      let same : n ≡ k = omega arith in
-      let before = number-none low k text bs (λ m a b f. let eq = only m a (omega arith) f in absurd (omega arith)) in
-      let now = here-true low k (text k) bs (omega arith) (rw same at e) in
-      rw (before, now, same) refl
+  | inr high ↦ grind (arith, number-none, here-true)
 ]
 
 -- what is found has the text
 pub number-text : (low k : ℕ) (text : ℕ → List ℕ) (bs : List ℕ) (n : ℕ) → number_in low k text bs ≡ Some n → text n ≡ bs
 unfolding number_in
 number-text low zero text bs n e = absurd (cc)
-number-text low (suc k) text bs n e = by (number_in low k text bs) (nat_le low k && bytes_eq (text k) bs) (λ f. number-text low k text bs n f) (λ f. (bytes_eq-Decides (text k) bs).0 (grind arith)) e
-  where
-    by : (o : Option ℕ) (test : Bool) → (o ≡ Some n → text n ≡ bs) → (test ≡ true → text k ≡ bs) → or_here o test k ≡ Some n → text n ≡ bs
-    by (Some m) test before here f = before f
-    by None true before here f = let same : k ≡ n = cc in rw (← same) (here refl)
-    by None false before here f = absurd (cc)
+number-text low (suc k) text bs n e = grind (arith, bytes_eq-Decides, or_here, (number-text low k text bs n))
 
 -- where the one number that could have the text is out of range, no number in range has it
 pub none-in-range : (r : Option ℕ) (k : ℕ) (text : ℕ → List ℕ) (bs : List ℕ) (P : ℕ → Type 0) → IfNone r (P k → ⊥)
     → ((n : ℕ) → P n → text n ≡ bs → n ≡ k) → IfNone r ((n : ℕ) → P n → text n ≢ bs)
-none-in-range (Some x) k text bs P never only = tt
-none-in-range None k text bs P never only = λ n range e. never (subst P (only n range e) range)
+none-in-range r k text bs P never only = grind (arith)
 
 pub amount_of-is : (r : Option ℕ) (bs : List ℕ) → IfSome r IsAmount → IfSome r (λ n. amount_text n ≡ bs) → IfNone r ((n : ℕ) → IsAmount n → amount_text n ≢ bs) → r ≡ amount_of bs
 amount_of-is (Some n) bs range e none = sym (number-found 1 100000000000 n amount_text bs range.0 (omega arith) e

@@ -7,31 +7,22 @@ use Rattle.trust_values.proofs.ReadFacts.{number-found, number-none}
 
 -- a text without a sign begins with a digit
 pub unsigned-first : (n : ℕ) → n < 2 ^ 64 → 48 ≤ get_or (amount_text n) 0 0
-unsigned-first n small =
-    let numeral = (decimal_is_IsNumeral (n / 100) (omega arith)).0 in
-    let first = digit_at (decimal (n / 100)) 0 numeral.1 numeral.0 in
-    rw (get_or-append (decimal (n / 100)) (end_text (n % 100)) 0 0 numeral.0) (omega arith)
+unsigned-first n small = grind (arith, decimal_is_IsNumeral, digit_at, decimal, get_or-append, end_text)
 
 pub unsigned-no_minus : (n : ℕ) (t : List ℕ) → n < 2 ^ 64 → amount_text n ≡ 45 ∷ t → ⊥
-unsigned-no_minus n t small e =
-    let digit = unsigned-first n small in
-    let minus : get_or (amount_text n) 0 0 ≡ 45 = ap (λ (bs : List ℕ). get_or bs 0 0) e in
-    omega arith
+unsigned-no_minus n t small e = grind (arith, (unsigned-first n small))
 
 -- a text behind a minus sign is that of no amount, where what follows is of none
 pub negative-none : (size : List ℕ) → ((n : ℕ) → 1 ≤ n → n ≤ MAX_BANK_AMOUNT → amount_text n ≢ size) → (z : ℤ) → IsBankAmount z → signed_text z ≢ 45 ∷ size
-negative-none size none (pos n) le e = unsigned-no_minus n size (omega arith) e
-negative-none size none (negsuc n) le e = none (suc n) (omega arith) le (cc)
+negative-none size none z le e = grind (arith, unsigned-no_minus)
 
 -- the same where the text is not behind a minus sign by its form but by an equation
 pub if-negative-none : (r : Option ℤ) (bs size : List ℕ) → bs ≡ 45 ∷ size → IfNone r ((n : ℕ) → 1 ≤ n → n ≤ MAX_BANK_AMOUNT → amount_text n ≢ size) → IfNone r ((z : ℤ) → IsBankAmount z → signed_text z ≢ bs)
-if-negative-none (Some z) bs size is none = none
-if-negative-none None bs size is none = λ z le e. negative-none size none z le (e ∙ is)
+if-negative-none r bs size is none = grind (arith, negative-none)
 
 -- where the one size that could have the text is zero, no size above zero has it
 pub if-zero-none : (r : Option ℤ) (k : ℕ) (size : List ℕ) → k < 2 ^ 64 → amount_text k ≡ size → IfNone r (k ≡ 0) → IfNone r ((n : ℕ) → 1 ≤ n → n ≤ MAX_BANK_AMOUNT → amount_text n ≢ size)
-if-zero-none (Some z) k size small is none = none
-if-zero-none None k size small is none = λ n some few e. let same = sum-injective n k (omega arith) small (e ∙ sym is) in omega arith
+if-zero-none r k size small is none = grind (arith, sum-injective)
 
 -- no size below zero has the text
 negative-sizes : (bs : List ℕ) → ((z : ℤ) → IsBankAmount z → signed_text z ≢ bs) → (m : ℕ) → 1 ≤ m → m < 1000000000000000000 → negative_text m ≢ bs
@@ -40,8 +31,7 @@ negative-sizes bs none (suc k) some few e = none (negsuc k) (omega arith) e
 
 pub bank_amount_of-is : (r : Option ℤ) (bs : List ℕ) → IfSome r IsBankAmount → IfSome r (λ z. signed_text z ≡ bs) → IfNone r ((z : ℤ) → IsBankAmount z → signed_text z ≢ bs) → r ≡ bank_amount_of bs
 bank_amount_of-is (Some (pos n)) bs range e none =
-    let found = number-found 0 1000000000000000000 n amount_text bs (omega arith) (omega arith) e (λ m a b f. sum-injective m n (omega arith) (omega arith) (f ∙ sym e)) in
-    rw found refl
+    grind (arith, (number-found 0 1000000000000000000 n amount_text bs), sum-injective)
 bank_amount_of-is (Some (negsuc n)) bs range e none =
     let above = number-none 0 1000000000000000000 amount_text bs (λ m a b f. unsigned-no_minus m (amount_text (suc n)) (omega arith) (f ∙ sym e)) in
     let found = number-found 1 1000000000000000000 (suc n) negative_text bs (omega arith) (omega arith) e (λ m a b f. sum-injective m (suc n) (omega arith) (omega arith) (let h : negative_text m ≡ negative_text (suc n) = f ∙ sym e in cc)) in

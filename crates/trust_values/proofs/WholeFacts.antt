@@ -16,11 +16,7 @@ pub record IsWholeText (bs : List ℕ) (n : ℕ) : Type 0 where
   pub value : digits_value 10 bs ≡ n
 
 lone : (n : ℕ) → n < 2 ^ 64 → get_or (decimal n) 0 0 ≡ 48 → length (decimal n) ≡ 1
-lone n small e = by n refl
-  where
-    by : (m : ℕ) → n ≡ m → length (decimal n) ≡ 1
-    by zero z = rw (z, decimal_digit 0 (omega arith)) refl
-    by (suc m) z = let up : 0 < n = omega arith in let first = first_decimal n up small in absurd (omega arith)
+lone n small e = grind (arith, decimal_digit, first_decimal)
 
 pub decimal-shape : (n : ℕ) (bs : List ℕ) → n < 2 ^ 64 → decimal n ≡ bs → IsWholeText bs n
 decimal-shape n bs le e =
@@ -41,10 +37,7 @@ pub plain-facts : (bs : List ℕ) → starts_plainly bs ≡ true → (0 < length
 plain-facts bs e = grind arith
 
 pub plain-test : (n : ℕ) (bs : List ℕ) → n < 2 ^ 64 → decimal n ≡ bs → starts_plainly bs ≡ true
-plain-test n bs le e = let w = decimal-shape n bs le e in by w.nonempty w.no_sign w.lone_zero
-  where
-    by : 0 < length bs → get_or bs 0 0 ≢ 43 → (get_or bs 0 0 ≡ 48 → length bs ≡ 1) → starts_plainly bs ≡ true
-    by a b z = grind arith
+plain-test n bs le e = grind (arith, decimal-shape)
 
 -- a text that parses is that of its value
 pub parsed-text : {E : Type 0} (bs : List ℕ) (r : Result ℕ E) (v : ℕ) → ParsesUnsigned 64 10 bs r → r ≡ Ok v → starts_plainly bs ≡ true → decimal v ≡ bs

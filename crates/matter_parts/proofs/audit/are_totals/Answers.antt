@@ -1,18 +1,8 @@
-use Rattle.matter_parts.proofs.Names.{sym, ◌∙◌, arith, false≢true, ints, fees-by_share, claims-by_share}
+use Rattle.matter_parts.proofs.Names.{arith, false≢true, ints, fees-by_share, claims-by_share}
 use Rattle.matter_parts.proofs.audit.are_totals.Goals as goal
 
 pub returns-then-not-are_counts : goal.returns-then-not-are_counts
-returns-then-not-are_counts c = (
-  λ h. absurd (false≢true h),
-  λ a.
-      let sums = c.sums_of-sums.ensures in
-      let entries = a.entries in
-      absurd (false≢true (sym c.if-not-are_counts.true ∙ c.are_counts.ensures.1 (
-        omega (arith, entries),
-        omega (arith, ints, a.pending, sums.pending, sums.small.pending.low, sums.small.pending.high),
-        omega (arith, ints, a.held, sums.held, sums.small.held.low, sums.small.held.high),
-      ))),
-)
+returns-then-not-are_counts c = grind (arith, ints, false≢true)
 
 pub returns : goal.returns
 returns c =

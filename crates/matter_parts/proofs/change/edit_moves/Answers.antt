@@ -1,5 +1,5 @@
-use Rattle.matter_parts.proofs.Names.{◌≡◌, ◌+◌, ap, arith, of_z, pos, sym, to_z, w64, ints, Shares, draw, worth, Before, Figures}
-use Rattle.matter_parts.proofs.Moving.{written-same, append-written, exchange-written, written-exchange}
+use Rattle.matter_parts.proofs.Names.{◌≡◌, ◌+◌, ◌∙◌, is_some, ap, arith, of_z, pos, sym, to_z, w64, ints, Shares, draw, worth, Before, Figures}
+use Rattle.matter_parts.proofs.Moving.{events-counted, written-same, append-written, exchange-written, written-exchange}
 use Rattle.matter_parts.proofs.change.edit_moves.Goals as goal
 
 pub returns-in_err-moves-in-Append-clause-none : goal.returns-in_err-moves-in-Append-clause-none
@@ -34,3 +34,10 @@ returns-in_ok-moves-in-Exchange-clause-some c =
           (ap (λ (f : Figures). f.entries) c.figures-figures.ensures.is)
           (λ i. record { shares = c.shares.ensures.is i; left = k.left; worth = worth_is i; draw = draw_is i })),
     )
+
+pub returns-in_ok-moves-in-Exchange-clause-movement : goal.returns-in_ok-moves-in-Exchange-clause-movement
+returns-in_ok-moves-in-Exchange-clause-movement c =
+    let before = events-counted _ _ _ _
+    (c.is_some-first.ensures ∙ ap is_some c.event-in-Exchange.ensures)
+    (c.is_some-second.ensures ∙ ap is_some c.event-in-Exchange-2.ensures) in
+    rw c.in-Exchange.is (rw (← c.in_ok-kept-in-Exchange.ensures.is) (rw before at c.event-in-Exchange-3.ensures))

@@ -1,21 +1,34 @@
-use Rattle.matter_parts.proofs.Names.{refl}
-use Rattle.matter_parts.proofs.Existence.{figures-summed, available-summed, none-summed}
+use Rattle.matter_parts.proofs.Names.{refl, arith, ints, fees-by_share, claims-by_share}
+use Rattle.matter_parts.proofs.Existence.{summed}
 use Rattle.matter_parts.proofs.figures.figures_of.Goals as goal
 
+pub returns-in_err-moved-clause-none : goal.returns-in_err-moved-clause-none
+returns-in_err-moved-clause-none c = grind (arith, ints, summed)
+
+pub returns-in_err-moved-2-clause-none : goal.returns-in_err-moved-2-clause-none
+returns-in_err-moved-2-clause-none c = grind (arith, ints, summed)
+
+pub returns-in_err-moved-3-clause-none : goal.returns-in_err-moved-3-clause-none
+returns-in_err-moved-3-clause-none c = grind (arith, ints, summed)
+
+pub returns-in_err-moved-4-clause-none : goal.returns-in_err-moved-4-clause-none
+returns-in_err-moved-4-clause-none c = grind (arith, ints, summed)
+
+pub returns-in_err-moved-5-clause-none : goal.returns-in_err-moved-5-clause-none
+returns-in_err-moved-5-clause-none c = grind (arith, ints, summed)
+
+pub returns-in_err-moved-6-clause-none : goal.returns-in_err-moved-6-clause-none
+returns-in_err-moved-6-clause-none c = grind (arith, ints, summed)
+
 pub returns-clause-some : goal.returns-clause-some
-returns-clause-some c =
+returns-clause-some c = λ backed.
     let sums = c.sums_of-sums.ensures in
-    figures-summed c.args.entries.now _ c.none.result c.no_shares.result c.sums_of-sums.result refl c.none.ensures c.no_shares.ensures.is
-    (record { held = sums.held; available = sums.available; disputed = sums.disputed; fees = sums.fees; claims = sums.claims; pending = sums.pending }) c.figures_after.result c.figures_after.ensures.some
-
-pub returns-clause-available : goal.returns-clause-available
-returns-clause-available c =
-    let sums = c.sums_of-sums.ensures in
-    available-summed c.args.entries.now _ c.none.result c.no_shares.result c.sums_of-sums.result refl c.none.ensures c.no_shares.ensures.is
-    (record { held = sums.held; available = sums.available; disputed = sums.disputed; fees = sums.fees; claims = sums.claims; pending = sums.pending }) c.figures_after.result c.figures_after.ensures.some
-
-pub returns-clause-none : goal.returns-clause-none
-returns-clause-none c =
-    let sums = c.sums_of-sums.ensures in
-    none-summed c.args.entries.now _ c.none.result c.no_shares.result c.sums_of-sums.result refl c.none.ensures c.no_shares.ensures.is
-    (record { held = sums.held; available = sums.available; disputed = sums.disputed; fees = sums.fees; claims = sums.claims; pending = sums.pending }) c.figures_after.result c.figures_after.ensures.none
+    record {
+      entries = refl;
+      pending = omega (arith, ints, c.in_ok-moved.ensures.some.1, sums.pending);
+      held = omega (arith, ints, c.in_ok-moved-2.ensures.some.1, sums.held);
+      available = omega (arith, ints, c.in_ok-moved-3.ensures.some.1, sums.available);
+      disputed = omega (arith, ints, c.in_ok-moved-4.ensures.some.1, sums.disputed);
+      fees = omega (arith, ints, c.in_ok-moved-5.ensures.some.1, sums.fees, fees-by_share _ backed.named);
+      claims = omega (arith, ints, c.in_ok-moved-6.ensures.some.1, sums.claims, claims-by_share _ backed.named);
+    }

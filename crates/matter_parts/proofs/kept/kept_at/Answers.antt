@@ -3,14 +3,10 @@ use Rattle.matter_parts.proofs.Collected.{no-total, left-is, kept-of}
 use Rattle.matter_parts.proofs.kept.kept_at.Goals as goal
 
 pub moved-requires-clause-out : goal.moved-requires-clause-out
-moved-requires-clause-out c =
-    let drawn = c.drawn_on.ensures.small in
-    record { low = omega (arith, ints, drawn.low, drawn.high); high = omega (arith, ints, drawn.low, drawn.high) }
+moved-requires-clause-out c = grind (arith, ints)
 
 pub moved-requires-clause-share : goal.moved-requires-clause-share
-moved-requires-clause-share c =
-    let own = c.worth.ensures.small in
-    record { low = omega (arith, ints, own.low, own.high); high = omega (arith, ints, own.low, own.high) }
+moved-requires-clause-share c = grind (arith, ints)
 
 pub returns-in_default-moved-clause-err : goal.returns-in_default-moved-clause-err
 returns-in_default-moved-clause-err c = λ _ backed.

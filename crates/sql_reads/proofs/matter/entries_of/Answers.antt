@@ -1,5 +1,6 @@
 use Rattle.sql_reads.proofs.Names.{rules, ◌≡◌, ◌≤◌, pos, [], ◌∷◌, length, map, IsOk, refl, sym, ap, subst, ◌∙◌, to_z, w64, Int, state, entries_in, entries_of, numbered_shown, answers, leaves_on, entries_read_asks, entries_read_selects, entries_read_answer, kept_from, kept_at}
 use Rattle.sql_reads.proofs.Gathered.{all_taken, one_more}
+use Rattle.sql_reads.proofs.Shown.{entry_shown}
 use Rattle.sql_reads.proofs.matter.entries_of.Goals as goal
 
 pub rows_of-requires-clause-select : goal.rows_of-requires-clause-select
@@ -7,8 +8,10 @@ rows_of-requires-clause-select g c = entries_read_selects
 
 pub each-preserved : goal.each-preserved
 each-preserved g c xs is =
+    let own : to_z w64 c.get-in-each.result ≡ pos c.args.matter = search rules in
+    let shows = entry_shown c.args.matter _ c.in_ok-entry.entry _ c.row-item.result own c.in_ok-entry.ensures.ok c.in_ok-columns.ensures.ok in
     c.in_ok-push.ensures.items
-    ∙ one_more numbered_shown kept_from c.row-item.result c.in_ok-entry.entry (λ x e. c.in_ok-entry.ensures ∙ ap (kept_at c.args.matter) e) xs _ c.each.row-index c.each.kept.items is (search rules) c.row-item.is (c.each.invariant xs is)
+    ∙ one_more numbered_shown kept_from c.row-item.result c.in_ok-entry.entry (λ x e. shows ∙ ap (kept_at c.args.matter) e) xs _ c.each.row-index c.each.kept.items is (search rules) c.row-item.is (c.each.invariant xs is)
 
 pub returns-in_err-push-clause-left : goal.returns-in_err-push-clause-left
 returns-in_err-push-clause-left g c =

@@ -7,9 +7,7 @@ use Rattle.statement_lines.proofs.writing.write_rows.Goals.{then-is_some, else-i
 
 pub returns-in_default : goal.returns-in_default
 unfolding rows_by
-returns-in_default g c = λ outcome_of n o.
-    let none = rw c.in_default.is at c.in_ok-rows.ensures in
-    rw none (adds-none g.W.Write.contents c.args.writer.now)
+returns-in_default g c = grind (arith, adds-none)
 
 pub loop-row-init : goal.loop-row-init
 loop-row-init g c =
@@ -29,9 +27,7 @@ loop-row-init g c =
     })
 
 pub overflow_add-place : goal.overflow_add-place
-overflow_add-place g c =
-    let behind = c.loop-row.invariant.behind in
-    omega (arith, c.in-Some-checked_add.ensures)
+overflow_add-place g c = grind (arith)
 
 pub loop-row-preserved : goal.loop-row-preserved
 loop-row-preserved g c =

@@ -1,4 +1,4 @@
-use Rattle.statement_match.proofs.Names.{◌≡◌, ◌∙◌, ap, fold, Firm, Known, know_exception, know_own_line, know_row, none_known}
+use Rattle.statement_match.proofs.Names.{◌∙◌, Firm}
 use Rattle.statement_match.proofs.AllKnown.{all_known}
 use Rattle.statement_match.proofs.knowing.known_in.Goals as goal
 
@@ -15,12 +15,7 @@ returns-clause-known g c =
     let stands_own = own.read.still_stands clean_own stands_rows in
     let same_rows = rows.read.same clean_rows stands in
     let same_own = own.read.same clean_own stands_rows ∙ same_rows in
-    let first : c.each_row.new.sink ≡ fold know_row none_known firm.rows =
-    (rows.handed clean_rows stands).all ∙ ap (λ (h : Known). fold know_row h firm.rows) c.new-collector.ensures in
-    let second : c.each_firm_line.new.sink ≡ fold know_own_line c.each_row.new.sink firm.firm_lines =
-    (own.handed clean_own stands_rows).all
-    ∙ ap (λ (f : Firm). fold know_own_line c.each_row.new.sink f.firm_lines) same_rows in
-    let third : c.each_exception.new.sink ≡ fold know_exception c.each_firm_line.new.sink firm.exceptions =
-    (last.handed clean stands_own).all
-    ∙ ap (λ (f : Firm). fold know_exception c.each_firm_line.new.sink f.exceptions) same_own in
+    let first = rw c.new-collector.ensures at (rows.handed clean_rows stands).all in
+    let second = rw same_rows at (own.handed clean_own stands_rows).all in
+    let third = rw same_own at (last.handed clean stands_own).all in
     c.finish.ensures ∙ all_known firm _ _ _ first second third

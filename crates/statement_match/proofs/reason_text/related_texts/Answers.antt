@@ -1,4 +1,4 @@
-use Rattle.statement_match.proofs.Names.{◌≡◌, ◌∙◌, sym, ap, ◌<◌, ◌++◌, List, ℕ, length, get_or, take, arith, get_or-map, length-map, length-take, BookEntry, elements, stands, related_entry_text, text_if}
+use Rattle.statement_match.proofs.Names.{◌≡◌, ◌∙◌, sym, ap, ◌<◌, ◌++◌, length, get_or, arith, get_or-map, length-map, length-take, elements, stands, related_entry_text, text_if}
 use Rattle.statement_match.proofs.Listed.{listed_more}
 use Rattle.statement_match.proofs.reason_text.related_texts.Goals as goal
 
@@ -20,10 +20,6 @@ loop-entry-preserved c =
     let many = ap length told in
     let few = length-take 5 (before ++ text_if (p entry) (f entry)) in
     record {
-      first = told
-          ∙ ap (λ (e : BookEntry). take 5 (before ++ text_if (p e) (f e))) is
-          ∙ ap (λ (ts : List (List ℕ)). take 5 (ts ++ text_if (p (get_or entries i entry)) (f (get_or entries i entry))))
-          c.loop-entry.invariant.first
-          ∙ listed_more f p 5 entries i entry within;
+      first = (rw (is, c.loop-entry.invariant.first) at told) ∙ listed_more f p 5 entries i entry within;
       few = omega (arith, many, few);
     }

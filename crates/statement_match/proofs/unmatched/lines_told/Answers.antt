@@ -1,4 +1,4 @@
-use Rattle.statement_match.proofs.Names.{◌∙◌, ap, ◌<◌, ◌-◌, ◌++◌, length, arith, common_steps, Records, reason_for, told_by, told_unreadable}
+use Rattle.statement_match.proofs.Names.{◌∙◌, ◌<◌, length, arith, common_steps}
 use Rattle.statement_match.proofs.Telling.{told_step}
 use Rattle.statement_match.proofs.unmatched.lines_told.Goals as goal
 
@@ -17,6 +17,4 @@ loop-place-preserved c =
     c.loop-place.invariant
     ∙ told_step today known c.args.records.now c.args.outcomes.now before c.loop-place.place number line outcome lines _
     within c.requires.outcomes c.number_of-number.ensures c.line_at-line.ensures c.index-outcomes-place.is
-    (c.in_ok-add_record.ensures
-    ∙ ap (λ (records : Records). (lines ++ told_unreadable before (number - 1 - before))
-    ++ told_by today known records number line (reason_for today known records.lines line outcome)) c.requires.same)
+    (rw c.requires.same at c.in_ok-add_record.ensures)

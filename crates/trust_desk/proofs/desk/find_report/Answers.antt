@@ -1,11 +1,6 @@
-use Rattle.trust_desk.proofs.Names.{◌≡◌, ℕ, List, [], ◌++◌, Ok, Result, subst, StoreFault, AreHanded, fold, ap, rules, ◌∙◌, Firm, JournalKept, no_journal, trial_kept, with_moved, with_trial_own, with_trial_row, Retained, none_retained, with_row_retained, own_card_text, exception_line, exceptions_text, journal_text, retention_text, trial_text, own_card_report}
-use Rattle.trust_desk.proofs.ReportTexts.{exceptions-told, journal-told, retention-told, trial-told}
+use Rattle.trust_desk.proofs.Names.{◌≡◌, ℕ, List, [], ◌++◌, fold, ap, rules, ◌∙◌, Firm, JournalKept, no_journal, trial_kept, with_moved, with_trial_own, with_trial_row, Retained, none_retained, with_row_retained, own_card_text, exception_line, exceptions_text, journal_text, retention_text, trial_text, own_card_report}
+use Rattle.trust_desk.proofs.ReportTexts.{exceptions-told, handed-before, journal-told, retention-told, trial-told}
 use Rattle.trust_desk.proofs.desk.find_report.Goals as goal
-
--- what a later read hands over is of the rows that were there before the first
-handed-before : {S A T : Type 0} {step : S → A → S} {IsInRange : A → Type 0} {result : Result T StoreFault} {s t : S} {now old : Firm} (part : Firm → List A)
-    → now ≡ old → AreHanded step IsInRange (part now) result s t → AreHanded step IsInRange (part old) result s t
-handed-before {step} {IsInRange} {result} {s} {t} part same handed = subst (λ (f : Firm). AreHanded step IsInRange (part f) result s t) same handed
 
 pub returns-in_ok-each_exception-in-Exceptions-clause-told : goal.returns-in_ok-each_exception-in-Exceptions-clause-told
 returns-in_ok-each_exception-in-Exceptions-clause-told g c =
@@ -15,7 +10,7 @@ returns-in_ok-each_exception-in-Exceptions-clause-told g c =
     let kept : c.each_exception.new.sink ≡ fold (λ text line. text ++ exception_line line) (exceptions_text c.args.today []) firm.exceptions =
     read.all ∙ ap (λ (text : List ℕ). fold (λ text line. text ++ exception_line line) text firm.exceptions) c.in_ok-exceptions-in-Exceptions.ensures in
     let told = c.finish.ensures ∙ exceptions-told c.args.today firm c.each_exception.new.sink kept in
-    rw c.in-Exceptions.is (λ i. Ok (told i))
+    rw c.in-Exceptions.is told
 
 pub returns-in_ok-trial_text-in-Trial-clause-told : goal.returns-in_ok-trial_text-in-Trial-clause-told
 returns-in_ok-trial_text-in-Trial-clause-told g c =
@@ -35,7 +30,7 @@ returns-in_ok-trial_text-in-Trial-clause-told g c =
     written
     ∙ ((λ i. trial_text c.args.today (balance.lines i) (balance.own i) (balance.total i))
     ∙ trial-told c.args.today firm c.each_firm_line.new.sink (B.sound c.args.book.now stands) rows.countable lines.countable kept) in
-    rw c.in-Trial.is (λ i. Ok (told i))
+    rw c.in-Trial.is told
 
 pub returns-in_ok-journal_text-in-Journal-clause-told : goal.returns-in_ok-journal_text-in-Journal-clause-told
 returns-in_ok-journal_text-in-Journal-clause-told g c =
@@ -48,7 +43,7 @@ returns-in_ok-journal_text-in-Journal-clause-told g c =
     c.in_ok-journal_text-in-Journal.ensures.ok
     ∙ ((λ i. c.new-text.ensures.items i ++ journal_text c.args.today ((c.deref-in-Journal.ensures.value ∙ c.finish-in-Journal.ensures) i))
     ∙ journal-told c.args.today firm c.each_movement.new.sink read.countable kept) in
-    rw c.in-Journal.is (λ i. Ok (told i))
+    rw c.in-Journal.is told
 
 pub returns-in_ok-retention_text-in-Retention-clause-told : goal.returns-in_ok-retention_text-in-Retention-clause-told
 returns-in_ok-retention_text-in-Retention-clause-told g c =
@@ -61,7 +56,7 @@ returns-in_ok-retention_text-in-Retention-clause-told g c =
     c.in_ok-retention_text-in-Retention.ensures.ok
     ∙ ((λ i. c.new-text.ensures.items i ++ retention_text c.args.today ((c.deref-in-Retention.ensures.value ∙ c.finish-in-Retention.ensures) i))
     ∙ retention-told c.args.today firm c.each_row-in-Retention.new.sink kept) in
-    rw c.in-Retention.is (λ i. Ok (told i))
+    rw c.in-Retention.is told
 
 pub returns-in_ok-own_card_text-in-OwnLedger-clause-told : goal.returns-in_ok-own_card_text-in-OwnLedger-clause-told
 unfolding own_card_report
@@ -70,4 +65,4 @@ returns-in_ok-own_card_text-in-OwnLedger-clause-told g c =
     let told =
     c.in_ok-own_card_text-in-OwnLedger.ensures.ok
     ∙ (λ i. c.new-text.ensures.items i ++ own_card_text c.args.today (c.in_ok-ledger-in-OwnLedger.ensures.found clean stands i)) in
-    rw c.in-OwnLedger.is (λ i. Ok (told i))
+    rw c.in-OwnLedger.is told

@@ -1,8 +1,8 @@
-use Rattle.trust_desk.proofs.Names.{◌∙◌, Ok, refl, subst, sym, err_from_is_err_and, Stray, LineDecides, Firm, of, counted_verdict}
+use Rattle.trust_desk.proofs.Names.{◌∙◌, arith, Err, Ok, refl, subst, sym, err_from_is_err_and, Stray, LineDecides, Firm, of, counted_verdict}
 use Rattle.statement_csv.specs.declared.item.Item.TheVariants.{OfMatter}
 use Rattle.trust_desk.specs.declared.importing.Counted.TheVariants.{Exception}
 use Rattle.trust_desk.proofs.Beside.{beside-unread, beside-unwritten, beside-written, item-apart}
-use Rattle.trust_desk.proofs.ItemsApplied.{decision-uncounted, item-undecided, item-unwritten, item-written, verdict-tells}
+use Rattle.trust_desk.proofs.ItemsApplied.{decision-uncounted, line-decided, item-undecided, item-unwritten, item-written, verdict-tells}
 use Rattle.trust_desk.proofs.importing.apply_item.Goals as goal
 
 pub write_line-requires : goal.write_line-requires
@@ -14,7 +14,7 @@ write_line-requires g c =
     let found = c.in_ok-matter-in-OfMatter.ensures in
     let stood = found.read.stood clean stands in
     let F : Firm → Type 0 = λ f. LineDecides (of l.matter f) l c.args.day (Ok c.in_ok-verdict-in-OfMatter.verdict) in
-    (c.args.day, subst F (sym (found.read.same clean stood)) (c.in_ok-verdict-in-OfMatter.ensures (of l.matter (B.firm old)) ((B.sound old stood).matters l.matter) (found.found clean stood)))
+    (c.args.day, subst F (sym (found.read.same clean stood)) (line-decided (of l.matter (B.firm old)) l c.args.day c.in_ok-matter-in-OfMatter.matter (Ok c.in_ok-verdict-in-OfMatter.verdict) (omega (arith, c.get.ensures.value)) ((B.sound old stood).matters l.matter) (found.found clean stood) c.in_ok-verdict-in-OfMatter.ensures.decided))
 
 pub returns-in_err-matter-in-OfMatter : goal.returns-in_err-matter-in-OfMatter
 returns-in_err-matter-in-OfMatter g c =
@@ -33,7 +33,7 @@ returns-in_err-verdict-in-OfMatter g c =
     let none = λ (sure : B.sure c.matter_for.new.self) (stands : B.clean old → B.stands old).
     let clean = found.read.serves sure in
     let stood = stands (found.read.was_clean clean) in
-    decision-uncounted rows l c.args.day fault (B.refusals old) (c.in_err-verdict-in-OfMatter.ensures rows ((B.sound old stood).matters l.matter) (found.found clean stood)) in
+    decision-uncounted rows l c.args.day fault (B.refusals old) (line-decided rows l c.args.day c.in_ok-matter-in-OfMatter.matter (Err fault) (omega (arith, c.get.ensures.value)) ((B.sound old stood).matters l.matter) (found.found clean stood) c.in_err-verdict-in-OfMatter.ensures.decided) in
     let p = err_from_is_err_and c.from_residual-in_err-verdict-in-OfMatter.result c.from_residual-in_err-verdict-in-OfMatter.ensures.1 in
     rw (p.1, p.2, c.in-OfMatter.is) (item-apart c.args.own.now tt (item-undecided c.args.day (OfMatter l) fault found.read none))
 
@@ -48,7 +48,7 @@ returns-in_err-write_line-in-OfMatter g c =
     rw (p.1, p.2, c.in-OfMatter.is)
     (item-apart c.args.own.now tt
     (item-unwritten c.args.day (OfMatter l) (counted_verdict v) c.in_err-write_line-in-OfMatter.field-0.0 found.read c.in_err-write_line-in-OfMatter.ensures.written
-    (λ served stood. verdict-tells c.args.day (B.firm old) l v (c.in_ok-verdict-in-OfMatter.ensures (of l.matter (B.firm old)) ((B.sound old stood).matters l.matter) (found.found served stood)))))
+    (λ served stood. verdict-tells c.args.day (B.firm old) l v (line-decided (of l.matter (B.firm old)) l c.args.day c.in_ok-matter-in-OfMatter.matter (Ok c.in_ok-verdict-in-OfMatter.verdict) (omega (arith, c.get.ensures.value)) ((B.sound old stood).matters l.matter) (found.found served stood) c.in_ok-verdict-in-OfMatter.ensures.decided))))
 
 pub returns-in_ok-write_line-in-OfMatter : goal.returns-in_ok-write_line-in-OfMatter
 returns-in_ok-write_line-in-OfMatter g c =
@@ -60,7 +60,7 @@ returns-in_ok-write_line-in-OfMatter g c =
     (item-apart c.args.own.now tt
     (item-written c.args.day (OfMatter l) c.counted_line.result found.read c.in_ok-write_line-in-OfMatter.ensures.written
     (λ served stood.
-    let told = verdict-tells c.args.day (B.firm old) l c.in_ok-verdict-in-OfMatter.verdict (c.in_ok-verdict-in-OfMatter.ensures (of l.matter (B.firm old)) ((B.sound old stood).matters l.matter) (found.found served stood)) in
+    let told = verdict-tells c.args.day (B.firm old) l c.in_ok-verdict-in-OfMatter.verdict (line-decided (of l.matter (B.firm old)) l c.args.day c.in_ok-matter-in-OfMatter.matter (Ok c.in_ok-verdict-in-OfMatter.verdict) (omega (arith, c.get.ensures.value)) ((B.sound old stood).matters l.matter) (found.found served stood) c.in_ok-verdict-in-OfMatter.ensures.decided) in
     (c.counted_line.ensures ∙ told.0, told.1))))
 
 pub returns-in-Opening : goal.returns-in-Opening

@@ -1,87 +1,52 @@
-use Rattle.trust_desk.proofs.Names.{◌≡◌, ◌+◌, None, Some, ap, inr, refl, arith, sym, option_map, items, Firm, ImportEnd, none_counted, false≢true}
-use Rattle.trust_base.specs.declared.refusal.Refusal.TheVariants as refusal
+use Rattle.trust_desk.proofs.Names.{◌≡◌, ◌+◌, ◌∙◌, ap, refl, rules, sym, count_item}
+use Rattle.statement_csv.specs.declared.item.ReadFault.TheVariants as fault
 use Rattle.trust_desk.specs.declared.importing.ImportStop.TheVariants as stop
-use Rattle.trust_desk.proofs.Beside.{kept-alone}
-use Rattle.trust_desk.proofs.Calls.{kept-still, kept-then}
-use Rattle.trust_desk.proofs.ItemsRead.{amid-none, room-none, amid-imports, amid-more, below-more, read-lacks}
-use Rattle.trust_desk.proofs.Crashes.{leave-failed, leave-still, leave-then}
-use Rattle.trust_desk.proofs.MadeRows.{next-is-front}
+use Rattle.trust_desk.proofs.ItemsRead.{closing_of, ended-here, more-so_far, no-closing, none-so_far, not-on-file, on-file, unapplied-so_far, unread-so_far}
 use Rattle.trust_desk.proofs.importing.import_whole.Goals as goal
+use Rattle.trust_desk.proofs.importing.import_whole.Goals.{in-Applied, in-Closing, in-Exception, in-Repeated, in-Unreadable, in_default}
 
 pub loop-turn-init : goal.loop-turn-init
-loop-turn-init g c = record {
-  amid = amid-none c.args.day (g.B.Book.clean c.args.book.now × g.B.Book.stands c.args.book.now) (g.B.Book.firm c.args.book.now) (option_map items (g.R.Read.remaining c.args.reader)) c.of_whole-lines.result.left none_counted c.of_whole-lines.ensures.left refl;
-  room = room-none none_counted refl;
-  kept = kept-still (c.args.book.now, None);
-  crash = λ sure clean stands. leave-still (g.B.Book.firm c.args.book.now) c.args.book.now;
-  day = refl;
-}
+loop-turn-init g c = none-so_far c.of_whole-lines.result.left c.of_whole-lines.ensures.left
 
 pub loop-turn-preserved : goal.loop-turn-preserved
 loop-turn-preserved g c =
-    let firm = g.B.Book.firm in
-    let B = g.B.Book in
-    let i = c.loop-turn.invariant in
-    let next = c.in_default.ensures in
-    let takes = next.takes in
-    record {
-      amid = amid-more c.args.day (B.clean c.loop-turn.book × B.stands c.args.book.now) _ (B.clean c.import_next.new.book × B.stands c.args.book.now) (firm c.args.book.now) (firm c.loop-turn.book) (firm c.import_next.new.book) (option_map items (g.R.Read.remaining c.args.reader)) c.loop-turn.lines.left c.import_next.new.lines.left c.loop-turn.reply c.import_next.new.reply (λ p. (next.kept.was_clean p.0, p.1)) (λ p. (p.0, i.kept.still_stands (next.kept.was_clean p.0) (p.1, tt))) i.amid takes;
-      room = below-more (c.loop-turn.turn + 1) (c.loop-turn.turn + 1 + 1) takes.item takes.counted.kind c.loop-turn.reply c.import_next.new.reply i.room takes.counted.counts (omega arith);
-      kept = kept-then i.kept next.kept;
-      crash = λ sure clean stands.
-          let so_far = i.crash (next.kept.was_sure sure) clean stands in
-          let served = so_far.serves clean tt in
-          let stood = i.kept.still_stands served (stands, tt) in
-          let told = option_map items (g.R.Read.remaining c.args.reader) in
-          leave-then (λ found made. made) (λ found made. next-is-front c.args.day (firm c.args.book.now) (firm c.loop-turn.book) found told c.loop-turn.lines.left i.amid.front i.amid.read (i.amid.step (served, stands)).1 made) tt so_far (next.crash sure served stood);
-      day = refl;
-    }
+    let it = c.in-Ok-Some.item in
+    let r = c.loop-turn.reply in
+    let closing : c.match-item.closing ≡ closing_of it = elim c.match-item.branch [
+      | in-Closing w ↦ w.closing-is ∙ sym (ap closing_of w.in-Closing.is)
+      | in_default w ↦ w.closing-is ∙ sym (no-closing it w.in_default.not-Closing)
+    ] in
+    let day = on-file it r.statement c.match-item.closing closing in
+    let before = not-on-file it r.statement in
+    let counts : c.match-counted.reply ≡ count_item it c.in-Ok.counted r = elim c.match-counted.branch [
+      | in-Applied w ↦ rw w.in-Applied.is (w.reply-is ∙ ap (λ s. record r { applied = r.applied + 1; statement = s }) (w.or-reply.ensures ∙ day.0))
+      | in-Repeated w ↦ rw w.in-Repeated.is (w.reply-is ∙ ap (λ s. record r { repeated = r.repeated + 1; statement = s }) (w.or-reply-in-Repeated.ensures ∙ day.1))
+      | in-Exception w ↦ rw w.in-Exception.is (w.reply-is ∙ ap (λ s. record r { exceptions = r.exceptions + 1; statement = s }) before.0)
+      | in-Unreadable w ↦ rw w.in-Unreadable.is (w.reply-is ∙ ap (λ s. record r { unreadable = r.unreadable + 1; statement = s }) before.1)
+    ] in
+    more-so_far c.loop-turn.invariant it c.in-Ok.counted (rw c.in-Ok-Some.field-0-is at c.in-Ok-Some.ensures.next) c.in-Ok.ensures counts
 
-pub returns-in-Some : goal.returns-in-Some
-returns-in-Some g c =
-    let firm = g.B.Book.firm in
-    let B = g.B.Book in
-    let day = c.args.day in
-    let old = c.args.book.now in
-    let now = c.loop-turn.book in
-    let told = option_map items (g.R.Read.remaining c.args.reader) in
-    let i = c.loop-turn.invariant in
-    let next = c.in-Some.ensures in
-    let result : ImportEnd = record { reply = c.import_next.new.reply; end = c.in-Some.end } in
-    let fronts = λ (is : B.clean now) (stands : B.stands old) (new : Firm) (same : new ≡ firm now).
-    amid-imports day (B.clean now × B.stands old) (firm old) (firm now) new told c.loop-turn.lines.left c.import_next.new.lines.left c.loop-turn.reply result (is, stands) (B.sound old stands) i.amid next.keeps.0 same (λ done. next.done (ap Some done)) in
-    record {
-      front = λ is stands. let was = next.kept.was_clean is in fronts was stands (firm c.import_next.new.book) (next.keeps.1 is (i.kept.still_stands was (stands, tt)));
-      stops = next.stops;
-      header = λ other. read-lacks told c.loop-turn.lines.left i.amid.front i.amid.read (next.header (ap Some other));
-      limit = λ is. next.limit (ap Some is);
-      within = λ is. next.within (ap Some is);
-      kept = kept-alone firm B.clean B.sure B.stands B.lasts B.refusals (kept-then i.kept next.kept);
-      crash = λ sure clean stands.
-          let so_far = i.crash (next.kept.was_sure sure) clean stands in
-          let served = so_far.serves clean tt in
-          leave-then (λ found made. made) (λ found made. next-is-front day (firm old) (firm now) found told c.loop-turn.lines.left i.amid.front i.amid.read (i.amid.step (served, stands)).1 made) tt so_far (next.crash sure served (i.kept.still_stands served (stands, tt)));
-      shut = λ sure clean stands. (firm now, fronts ((i.crash (next.kept.was_sure sure) clean stands).serves clean tt) stands (firm now) refl);
-    }
+pub returns-in-Ok-None : goal.returns-in-Ok-None
+returns-in-Ok-None g c =
+    let next = rw c.in-Ok-None.field-0-is at c.in-Ok-None.ensures.next in
+    rw c.ended.ensures
+    (ended-here c.loop-turn.invariant c.next.new.self.left (record { reply = c.loop-turn.reply; end = stop.Done }) refl
+    (λ stood. g.B.Book.sound c.args.book.now stood) (λ n. refl) tt (λ done. next) (λ is. absurd (cc)) (λ is. absurd (cc))
+    (λ done. c.next.ensures.within (search rules)))
+
+pub returns-in-Err : goal.returns-in-Err
+returns-in-Err g c =
+    rw (c.ended-in-Err.ensures, c.stop_at.ensures)
+    (unread-so_far c.loop-turn.invariant c.in-Err.fault (λ stood. g.B.Book.sound c.args.book.now stood)
+    (λ is. c.next.ensures.header (search rules)) (λ is. c.next.ensures.limit (search rules)))
+
+pub returns-in-Err-apply_item : goal.returns-in-Err-apply_item
+returns-in-Err-apply_item g c =
+    rw (c.ended-in-Err-apply_item.ensures, c.into.ensures)
+    (unapplied-so_far c.loop-turn.invariant c.next.new.self.left c.in-Ok-Some.item c.in-Err-apply_item.fault
+    (λ stood. g.B.Book.sound c.args.book.now stood) (rw c.in-Ok-Some.field-0-is at c.in-Ok-Some.ensures.next) c.in-Err-apply_item.ensures)
 
 pub returns : goal.returns
 returns g c =
-    let firm = g.B.Book.firm in
-    let B = g.B.Book in
-    let old = c.args.book.now in
-    let now = c.loop-turn.book in
-    let told = option_map items (g.R.Read.remaining c.args.reader) in
-    let i = c.loop-turn.invariant in
-    let result : ImportEnd = record { reply = c.loop-turn.reply; end = stop.Refused refusal.Memory } in
-    let fronts = λ (is : B.clean now) (stands : B.stands old).
-    amid-imports c.args.day (B.clean now × B.stands old) (firm old) (firm now) (firm now) told c.loop-turn.lines.left c.loop-turn.lines.left c.loop-turn.reply result (is, stands) (B.sound old stands) i.amid refl refl (λ done. absurd (cc)) in
-    record {
-      front = fronts;
-      stops = inr refl;
-      header = λ is. absurd (cc);
-      limit = λ is. absurd (cc);
-      within = λ is. absurd (cc);
-      kept = kept-alone firm B.clean B.sure B.stands B.lasts B.refusals i.kept;
-      crash = λ sure clean stands. leave-failed (λ fine. false≢true (sym fine)) (λ found made. made) (i.crash sure clean stands);
-      shut = λ sure clean stands. (firm now, fronts ((i.crash sure clean stands).serves clean tt) stands);
-    }
+    rw c.ended-2.ensures
+    (unread-so_far c.loop-turn.invariant fault.Memory (λ stood. g.B.Book.sound c.args.book.now stood) (λ is. absurd (cc)) (λ is. absurd (cc)))

@@ -1,24 +1,24 @@
-use Rattle.trust_matter.proofs.Names.{AnswersBy, Edit, HasAmount, IfOk, IsMade, Refusal, Result, kept_facts, refl, subst, ℕ}
+use Rattle.trust_matter.proofs.Names.{AnswersBy, Edit, HasAmount, IfOk, IsMade, Refusal, Result, kept_facts, arith, common_steps, last_after, refl, rules, subst, ℕ, ◌≡◌}
 use Rattle.trust_matter.proofs.Decided.{DecidesAll, decided-made, decided-refused}
 use Rattle.trust_matter.proofs.Late.{early-refused, gives-asked, handed-up}
 use Rattle.trust_matter.proofs.StepForms.{asked}
-use Rattle.trust_matter.proofs.deciding.decide.Goals.{Joined-ask, in-OpenMatter, in-AddSeat, in-DropSeat, in-Deposit, in-CancelDeposit, in-Propose, in-Approve, in-Decline, in-VoidPayment, in-EarnFee, in-RaiseClaim, in-Offer, in-Accept, in-Award, in-CloseMatter, in-Purge, in-ShowEntry, in-Show, in-Accounting}
+use Rattle.trust_matter.proofs.deciding.decide.Goals.{Joined-ask-2, in-OpenMatter, in-AddSeat, in-DropSeat, in-Deposit, in-CancelDeposit, in-Propose-ask, in-Approve, in-Decline, in-VoidPayment, in-EarnFee, in-RaiseClaim-ask, in-Offer, in-Accept, in-Award, in-CloseMatter, in-Purge, in-ShowEntry, in-Show, in-Accounting}
 use Rattle.trust_matter.proofs.deciding.decide.Goals as goal
 
 -- what is decided of the ask, whatever it is, and that its amount is one
-given : (c : Joined-ask) → AnswersBy (kept_facts c.args.matter.now c.args.ask.now) (asked c.args.caller.now c.args.ask.now c.args.day) c.match-ask.decided × HasAmount c.args.ask.now
-given c = elim c.match-ask.branch [
+given : (c : Joined-ask-2) → AnswersBy (kept_facts c.args.matter.now c.args.ask.now) (asked c.args.caller.now c.args.ask.now c.args.day) c.match-ask-2.decided × HasAmount c.args.ask.now
+given c = elim c.match-ask-2.branch [
   | in-OpenMatter w ↦ gives-asked c.args.matter.now c.args.caller.now c.args.ask.now _ c.args.day _ _ w.in-OpenMatter.is w.decided-is c.in_ok-check_caller.ensures tt w.decide_open-decided.ensures
   | in-AddSeat w ↦ gives-asked c.args.matter.now c.args.caller.now c.args.ask.now _ c.args.day _ _ w.in-AddSeat.is w.decided-is c.in_ok-check_caller.ensures tt w.decide_add_seat-decided.ensures
   | in-DropSeat w ↦ gives-asked c.args.matter.now c.args.caller.now c.args.ask.now _ c.args.day _ _ w.in-DropSeat.is w.decided-is c.in_ok-check_caller.ensures tt w.decide_drop_seat-decided.ensures
   | in-Deposit w ↦ gives-asked c.args.matter.now c.args.caller.now c.args.ask.now _ c.args.day _ _ w.in-Deposit.is w.decided-is c.in_ok-check_caller.ensures w.decide_deposit-decided.ensures.amount w.decide_deposit-decided.ensures.answer
   | in-CancelDeposit w ↦ gives-asked c.args.matter.now c.args.caller.now c.args.ask.now _ c.args.day _ _ w.in-CancelDeposit.is w.decided-is c.in_ok-check_caller.ensures tt w.decide_cancel-decided.ensures
-  | in-Propose w ↦ gives-asked c.args.matter.now c.args.caller.now c.args.ask.now _ c.args.day _ _ w.in-Propose.is w.decided-is c.in_ok-check_caller.ensures w.decide_propose-decided.ensures.amount w.decide_propose-decided.ensures.answer
+  | in-Propose-ask w ↦ gives-asked c.args.matter.now c.args.caller.now c.args.ask.now _ c.args.day _ _ w.in-Propose-ask.is w.decided-is c.in_ok-check_caller.ensures w.decide_propose-decided.ensures.amount w.decide_propose-decided.ensures.answer
   | in-Approve w ↦ gives-asked c.args.matter.now c.args.caller.now c.args.ask.now _ c.args.day _ _ w.in-Approve.is w.decided-is c.in_ok-check_caller.ensures tt w.decide_approve-decided.ensures
   | in-Decline w ↦ gives-asked c.args.matter.now c.args.caller.now c.args.ask.now _ c.args.day _ _ w.in-Decline.is w.decided-is c.in_ok-check_caller.ensures tt w.decide_decline-decided.ensures
   | in-VoidPayment w ↦ gives-asked c.args.matter.now c.args.caller.now c.args.ask.now _ c.args.day _ _ w.in-VoidPayment.is w.decided-is c.in_ok-check_caller.ensures tt w.decide_void-decided.ensures
   | in-EarnFee w ↦ gives-asked c.args.matter.now c.args.caller.now c.args.ask.now _ c.args.day _ _ w.in-EarnFee.is w.decided-is c.in_ok-check_caller.ensures w.decide_fee-decided.ensures.amount w.decide_fee-decided.ensures.answer
-  | in-RaiseClaim w ↦ gives-asked c.args.matter.now c.args.caller.now c.args.ask.now _ c.args.day _ _ w.in-RaiseClaim.is w.decided-is c.in_ok-check_caller.ensures w.decide_claim-decided.ensures.amount w.decide_claim-decided.ensures.answer
+  | in-RaiseClaim-ask w ↦ gives-asked c.args.matter.now c.args.caller.now c.args.ask.now _ c.args.day _ _ w.in-RaiseClaim-ask.is w.decided-is c.in_ok-check_caller.ensures w.decide_claim-decided.ensures.amount w.decide_claim-decided.ensures.answer
   | in-Offer w ↦ gives-asked c.args.matter.now c.args.caller.now c.args.ask.now _ c.args.day _ _ w.in-Offer.is w.decided-is c.in_ok-check_caller.ensures tt w.decide_offer-decided.ensures
   | in-Accept w ↦ gives-asked c.args.matter.now c.args.caller.now c.args.ask.now _ c.args.day _ _ w.in-Accept.is w.decided-is c.in_ok-check_caller.ensures tt w.decide_accept-decided.ensures
   | in-Award w ↦ gives-asked c.args.matter.now c.args.caller.now c.args.ask.now _ c.args.day _ _ w.in-Award.is w.decided-is c.in_ok-check_caller.ensures tt w.decide_award-decided.ensures
@@ -29,34 +29,37 @@ given c = elim c.match-ask.branch [
   | in-Accounting w ↦ gives-asked c.args.matter.now c.args.caller.now c.args.ask.now _ c.args.day _ _ w.in-Accounting.is w.decided-is c.in_ok-check_caller.ensures tt (λ c'. (refl, refl))
 ]
 
-pub returns-in_err-check_caller : goal.returns-in_err-check_caller
-returns-in_err-check_caller c =
+pub returns-in_err-check_caller-clause-decided : goal.returns-in_err-check_caller-clause-decided
+returns-in_err-check_caller-clause-decided c =
+    λ held.
     let m = c.args.matter.now in
     let q = asked c.args.caller.now c.args.ask.now c.args.day in
     let early = early-refused m c.args.caller.now c.args.ask.now c.args.day _ c.in_err-check_caller.ensures in
     handed-up (DecidesAll m q) c.from_residual.result c.in_err-check_caller.field-0.0 c.from_residual.ensures.0
     c.from_residual.ensures.1
-    (decided-refused m q _ c.requires early)
+    (decided-refused m q _ held early)
 
-pub returns-in_err-edit : goal.returns-in_err-edit
-returns-in_err-edit c =
+pub returns-in_err-edit-clause-decided : goal.returns-in_err-edit-clause-decided
+returns-in_err-edit-clause-decided c =
+    λ held.
     let m = c.args.matter.now in
     let q = asked c.args.caller.now c.args.ask.now c.args.day in
-    let told = given (goal.at.returns-in_err-edit c).Joined-ask in
+    let told = given (goal.at.returns-in_err-edit-clause-decided c).Joined-ask-2 in
     let late =
     subst (λ (r : Result Edit Refusal). AnswersBy (kept_facts m c.args.ask.now) q r) c.in_err-edit.was told.0 in
     handed-up (DecidesAll m q) c.from_residual-in_err-edit.result c.in_err-edit.field-0.0
     c.from_residual-in_err-edit.ensures.0 c.from_residual-in_err-edit.ensures.1
-    (decided-refused m q _ c.requires late)
+    (decided-refused m q _ held late)
 
-pub returns : goal.returns
-returns c =
+pub returns-clause-decided : goal.returns-clause-decided
+returns-clause-decided c =
+    λ held.
     let m = c.args.matter.now in
     let q = asked c.args.caller.now c.args.ask.now c.args.day in
-    let told = given (goal.at.returns c).Joined-ask in
+    let told = given (goal.at.returns-clause-decided c).Joined-ask-2 in
     let late =
     subst (λ (r : Result Edit Refusal). AnswersBy (kept_facts m c.args.ask.now) q r) c.in_ok-edit.was told.0 in
+    let last : c.match-head.last ≡ last_after m.head c.in_ok-edit.edit c.args.day = first_of (search rules, grind (arith, common_steps)) in
     let made =
-    subst (λ (n : ℕ). IfOk c.change_of.result (λ x. IsMade m c.in_ok-edit.edit n x)) c.last_after-last.ensures
-    c.change_of.ensures.ok in
-    decided-made m q c.in_ok-edit.edit c.change_of.result c.requires told.1 late made c.change_of.ensures.store
+    subst (λ (n : ℕ). IfOk c.change_of.result (λ x. IsMade m c.in_ok-edit.edit n x)) last c.change_of.ensures.ok in
+    decided-made m q c.in_ok-edit.edit c.change_of.result held told.1 late made c.change_of.ensures.store

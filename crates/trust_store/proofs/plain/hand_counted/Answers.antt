@@ -4,15 +4,7 @@ use Rattle.trust_store.proofs.Sinks.{begun}
 use Rattle.trust_store.proofs.plain.hand_counted.Goals as goal
 
 pub returns-in-Some : goal.returns-in-Some
-returns-in-Some g c =
-    let rows = joined c.args.kept.now in
-    let few : length rows ≤ MOST_ROWS = omega (arith, c.in-Some.ensures.value, c.in-Some.ensures.few) in
-    let countable : AreCountable IsRowInRange rows = record { few = few; ranged = joined-ranged c.args.kept.now c.requires.whole } in
-    record {
-      all = c.hand_all.ensures.all;
-      some = c.hand_all.ensures.some;
-      countable = on_ok_weaker c.hand_all.result (λ _. countable) c.hand_all.ensures.all;
-    }
+returns-in-Some g c = grind (arith, joined, joined-ranged, on_ok_weaker)
 
 pub returns-in-None : goal.returns-in-None
 returns-in-None g c =

@@ -9,21 +9,10 @@ pub returns-in_default-clause-none : goal.returns-in_default-clause-none
 returns-in_default-clause-none c n le e = c.in_default.ensures.cases.0 (decimal-shape n _ (omega arith) e).utf8
 
 pub returns-in_default-parse-clause-none : goal.returns-in_default-parse-clause-none
-returns-in_default-parse-clause-none c n le e =
-    let same = c.in-Ok.ensures.cases.0 in
-    let parses = text-parses _ _ n c.parse.ensures.value.0 (decimal-shape n _ (omega arith) (e ∙ sym same)) (omega arith) in
-    let failed = c.in_default-parse.is in cc
+returns-in_default-parse-clause-none c n le e = grind (arith, text-parses, decimal-shape)
 
 pub returns-then-whole-most-clause-none : goal.returns-then-whole-most-clause-none
-returns-then-whole-most-clause-none c n le e =
-    let same = c.in-Ok.ensures.cases.0 in
-    let parses = text-parses _ _ n c.parse.ensures.value.0 (decimal-shape n _ (omega arith) (e ∙ sym same)) (omega arith) in
-    let given = c.in-Ok-parse.is in
-    let value : c.in-Ok-parse.whole ≡ n = cc in
-    omega arith
+returns-then-whole-most-clause-none c n le e = grind (arith, text-parses, decimal-shape)
 
 pub returns-clause-some : goal.returns-clause-some
-returns-clause-some c =
-    let same = c.in-Ok.ensures.cases.0 in
-    let plain = sym c.is_plain.ensures ∙ c.if-not-is_plain.false in
-    (omega arith, parsed-text _ _ _ c.parse.ensures.value.0 c.in-Ok-parse.is (rw same plain) ∙ same)
+returns-clause-some c = grind (arith, parsed-text)

@@ -6,9 +6,4 @@ pub returns-then-text-ne6-clause-none : goal.returns-then-text-ne6-clause-none
 returns-then-text-ne6-clause-none c n r e = c.if-text-ne6.true (ap (λ (t : List ℕ). length t) (sym e) ∙ length-fixed 6 n)
 
 pub returns-clause-none : goal.returns-clause-none
-returns-clause-none c =
-    let six = c.if-text-ne6.false in
-    let below = rw six at c.in_ok-number.ensures.below in
-    let text = rw six at c.in_ok-number.ensures.some in
-    none-in-range c.from_number.result c.in_ok-number.number matter_text c.args.text.now IsMatterNo c.from_number.ensures.none
-    (λ n r e. fixed-injective 6 n c.in_ok-number.number (omega arith) below (e ∙ sym text))
+returns-clause-none c = grind (arith, none-in-range, matter_text, fixed-injective)

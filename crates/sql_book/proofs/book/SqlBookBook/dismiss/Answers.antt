@@ -1,10 +1,12 @@
-use Rattle.sql_book.proofs.Names.{[], ◌∷◌, ap, Repeated, ExceptionGone, fit_write}
+use Rattle.sql_book.proofs.Names.{[], ◌∷◌, ap, rules, Repeated, ExceptionGone, fit_write}
+use Rattle.sql_tables.specs.declared.statements.Statement.TheVariants as statement
+use Rattle.sql_book.proofs.Written.{wrote}
 use Rattle.sql_book.proofs.book.SqlBookBook.dismiss.Goals as goal
 
 pub returns : goal.returns
-returns g c =
-    let line = c.args.line.now in
-    record {
-      written = fit_write (λ _ _. tt) (c.write.ensures (Repeated line) tt
-          (ap (λ e. ExceptionGone e ∷ []) c.exception_columns.ensures));
-    }
+returns g c = record {
+  written = fit_write (λ _ _. tt) (wrote g.S.Store (Repeated c.args.line.now) (statement.ExceptionGone c.exception_columns.result ∷ [])
+      c.self.view_is c.written.ensures.alike c.written.ensures.count
+      c.written.ensures.meant (search (rules, c.write.ensures)) (λ e. cc) tt
+      (ap (λ e. ExceptionGone e ∷ []) c.exception_columns.ensures));
+}

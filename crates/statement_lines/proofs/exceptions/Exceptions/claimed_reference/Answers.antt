@@ -4,13 +4,7 @@ use Rattle.statement_lines.proofs.Alike.{claimed_named, claimed_none}
 use Rattle.statement_lines.proofs.exceptions.Exceptions.claimed_reference.Goals as goal
 
 pub returns-in-Some : goal.returns-in-Some
-returns-in-Some c =
-    let opened : is_open c.args.line.now ≡ true = search rules in
-    c.as_slice-in-Some.ensures.value
-    ∙ sym (claimed_named c.args.self.now c.args.line.now c.in-Some.exception.now opened
-    (sym c.named_like.ensures ∙ ap option_copied c.in-Some.is))
+returns-in-Some c = search (rules, is_open, claimed_named, option_copied)
 
 pub returns-in-None : goal.returns-in-None
-returns-in-None c =
-    let opened : is_open c.args.line.now ≡ true = search rules in
-    sym (claimed_none c.args.self.now c.args.line.now opened (sym c.named_like.ensures ∙ ap option_copied c.in-None.is))
+returns-in-None c = search (rules, is_open, claimed_none, option_copied)

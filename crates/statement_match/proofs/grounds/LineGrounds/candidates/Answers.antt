@@ -29,5 +29,5 @@ pub returns-in-HeldOn : goal.returns-in-HeldOn
 returns-in-HeldOn c = λ today.
     let inside = c.self.inside in
     rw (← c.self.view_is)
-    (held_kept c.args.relation c.in-HeldOn.day today inside.line.now inside.grounds.now.known.entries
-    c.of_day.result.now c.in-HeldOn.is c.of_day.ensures)
+    (held_kept c.args.relation today inside.line.now inside.grounds.now.known.entries c.of_day.result.now
+    c.in-HeldOn.day c.in-HeldOn.is c.of_day.ensures)

@@ -30,7 +30,7 @@ returns g c =
       | in-Exceptions w ↦ rw (w.self-is, w.answered-is) (w.answer_told-answered.ensures h (kind w.in-Exceptions.is))
       | in-Trial w ↦ rw (w.self-is, w.answered-is) (w.answer_told-answered-in-Trial.ensures h (kind w.in-Trial.is))
       | in-Journal w ↦ rw (w.self-is, w.answered-is) (w.answer_told-answered-in-Journal.ensures h (kind w.in-Journal.is))
-      | in-Reconcile w ↦ rw (w.self-is, w.answered-is) (w.answer_told-answered-in-Reconcile.ensures h (kind w.in-Reconcile.is))
+      | in-Reconcile w ↦ rw (w.self-is, w.answered-is) (w.answer_reconciliation-answered.ensures day h (kind w.in-Reconcile.is))
       | in-Retention w ↦ rw (w.self-is, w.answered-is) (w.answer_told-answered-in-Retention.ensures h (kind w.in-Retention.is))
       | in-OwnLedger w ↦ rw (w.self-is, w.answered-is) (w.answer_told-answered-in-OwnLedger.ensures h (kind w.in-OwnLedger.is))
     ] in

@@ -3,9 +3,7 @@ use Rattle.trust_store.proofs.Places.{kept_with_own}
 use Rattle.trust_store.proofs.plain.PlainBook.book.Goals as goal
 
 pub book_line-requires : goal.book_line-requires
-book_line-requires c =
-    let same : to_z w64 (of_z w64 c.balance.result) ≡ c.balance.result = search rules in
-    subst (λ (z : ℤ). IsOwnBalance (z +ℤ c.args.line.now.amount)) (same ∙ c.balance.ensures.value) (c.if-not-may_own.ensures.0 refl)
+book_line-requires c = search (rules, to_z, w64, of_z)
 
 pub invariant_of-self-2 : goal.invariant_of-self-2
 invariant_of-self-2 c =

@@ -3,10 +3,7 @@ use Rattle.trust_store.proofs.KeptMatters.{change_in, kept-whole, written_firm}
 use Rattle.trust_store.proofs.plain.PlainBook.change.Goals as goal
 
 pub write_kept-requires : goal.write_kept-requires
-write_kept-requires c = record {
-  whole = c.self.invariant.matters;
-  change = change_in c.args.matter c.self.inside.matters.items c.self.inside.movements.items c.self.inside.own c.self.inside.exceptions.items c.self.inside.balances.items c.args.self.now c.args.change.now c.self.invariant.matters.ascends c.self.view_is c.requires;
-}
+write_kept-requires c = search (change_in)
 
 pub invariant_of-self-2 : goal.invariant_of-self-2
 invariant_of-self-2 c =

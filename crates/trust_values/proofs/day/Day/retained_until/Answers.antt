@@ -5,25 +5,14 @@ use Rattle.trust_values.proofs.day.Day.retained_until.Goals as goal
 use Rattle.trust_values.proofs.day.Day.retained_until.Goals.{then-number-eq229, else-number-eq229}
 
 pub overflow_add-kept : goal.overflow_add-kept
-overflow_add-kept c =
-    let (low, high) = day-bounds c.get-number.result c.get-number.ensures.range in
-    elim c.if-number-eq229.branch [ then-number-eq229 w ↦ omega arith | else-number-eq229 w ↦ omega arith ]
+overflow_add-kept c = grind (arith, day-bounds, then-number-eq229, else-number-eq229)
 
 pub unreachable-requires : goal.unreachable-requires
-unreachable-requires c =
-    let P : ℕ → Type 0 = λ k. IsCivilDay (k + 50000) in
-    c.in_default.ensures.none (elim c.if-number-eq229.branch [
-      | then-number-eq229 w ↦ subst P (sym w.kept-is) (retained-civil-leap c.get-number.result c.get-number.ensures.range (omega arith))
-      | else-number-eq229 w ↦ subst P (sym w.kept-is) (retained-civil-other c.get-number.result c.get-number.ensures.range (λ q. omega arith))
-    ])
+unreachable-requires c = grind (arith, then-number-eq229, retained-civil-leap, else-number-eq229, retained-civil-other)
 
 pub returns-clause-value : goal.returns-clause-value
 returns-clause-value c =
-    let made : c.if-number-eq229.kept + 50000 ≡ retained_until c.get-number.result = elim c.if-number-eq229.branch [
-      | then-number-eq229 w ↦ ap (λ k. k + 50000) w.kept-is ∙ sym (retained-leap c.get-number.result (omega arith))
-      | else-number-eq229 w ↦ ap (λ k. k + 50000) w.kept-is ∙ sym (retained-other c.get-number.result (λ q. omega arith))
-    ] in
-    c.in-Some.ensures.some.0 ∙ made ∙ ap retained_until c.get-number.ensures.value
+    grind (arith, retained_until, then-number-eq229, retained-leap, else-number-eq229, retained-other)
 
 pub returns-clause-range : goal.returns-clause-range
 returns-clause-range c =
