@@ -29,12 +29,23 @@ pub struct TotalsAfter {
 
 /// A change of a matter: the edit, the matter's last day after it, the totals after it, and its movement in the
 /// journal.
-#[derive(Drop)]
 pub struct Change {
     edit: Edit,
     last: Day,
     moves: TotalsAfter,
     movement: Option<EntryMovement>,
+}
+
+// Written by hand, so that a function that holds a change makes one call at each exit.
+impl Drop for Change {
+    fn drop(self) {
+        let Change {
+            edit: _edit,
+            last: _last,
+            moves: _moves,
+            movement: _movement,
+        } = self;
+    }
 }
 
 impl Model for Change {

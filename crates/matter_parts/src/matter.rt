@@ -31,12 +31,23 @@ use trust_base::{Day, EntryNo, MAX_ENTRY, PersonId, StoreFault};
 /// A matter, with its head, its seats, its totals and its loaded entries.
 ///
 /// Contracts see it as a part of its rows.
-#[derive(Drop)]
 pub struct Matter {
     head: Option<Head>,
     seats: Vec<Seat>,
     figures: Figures,
     kept: KeptEntries,
+}
+
+// Written by hand, so that a function that holds a matter makes one call at each exit.
+impl Drop for Matter {
+    fn drop(self) {
+        let Matter {
+            head: _head,
+            seats: _seats,
+            figures: _figures,
+            kept: _kept,
+        } = self;
+    }
 }
 
 impl Model for Matter {

@@ -52,11 +52,21 @@ pub enum LineEffect {
 
 /// The verdict on a line: the change that clears the entry or takes the deposit back, a repeat, or why the line matches
 /// no entry.
-#[derive(Drop)]
 pub enum LineVerdict {
     Applied(Change),
     Repeat,
     Unmatched(Reason),
+}
+
+// Written by hand, so that a function that holds a verdict makes one call at each exit.
+impl Drop for LineVerdict {
+    fn drop(self) {
+        match self {
+            LineVerdict::Applied(_change) => (),
+            LineVerdict::Repeat => (),
+            LineVerdict::Unmatched(_reason) => (),
+        }
+    }
 }
 
 // The entry that the line clears or takes back, or the first reason why there is none.
