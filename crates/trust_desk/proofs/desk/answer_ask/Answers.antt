@@ -5,7 +5,7 @@ use Rattle.trust_desk.proofs.OfRows.{held-on, other-status, replied-so}
 use Rattle.trust_desk.proofs.Refused.{named-for, refused-by, whole-for}
 use Rattle.trust_desk.specs.Plan.{IsReadOf}
 use Rattle.trust_desk.proofs.desk.answer_ask.Goals as goal
-use Rattle.trust_desk.proofs.desk.answer_ask.Goals.{Joined-is_accounting, else-is_accounting, else-is_accounting-2, in-Open, in-Open-22, in_default, then-is_accounting, then-is_accounting-2}
+use Rattle.trust_desk.proofs.desk.answer_ask.Goals.{Joined-is_accounting, else-is_accounting, else-is_accounting-2, in-Open, in-Open-2, in_default, then-is_accounting, then-is_accounting-2}
 
 -- what was read
 loaded : (g : _) (c : Joined-is_accounting g) → IsReadOf g.B.Book.firm g.B.Book.clean g.B.Book.sure g.B.Book.stands g.B.Book.lasts g.B.Book.leaves g.B.Book.refusals c.args.no c.args.ask.now c.if-is_accounting.read c.args.book.now c.if-is_accounting.book
@@ -106,7 +106,7 @@ returns g c =
     ] in
     let status : c.match-edit.reply ≡ status_of_edit c.edit.result.now = elim c.match-edit.branch [
       | in-Open w ↦ search rules
-      | in-Open-22 w ↦ search rules
+      | in-Open-2 w ↦ search rules
       | in_default w ↦ w.reply-is ∙ sym (other-status c.edit.result.now w.in_default.not-Open w.in_default.not-Append)
     ] in
     ask-written c.args.day h no c.args.caller.now ask kind (record { status = c.match-edit.reply; body = c.if-is_accounting-2.reply }) plain found.read c.in_ok-write_change.ensures.written
